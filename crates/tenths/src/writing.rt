@@ -1,0 +1,58 @@
+//! Texts, written to a sink.
+
+ghost use Rattle.std.specs.Prelude.{◌≡◌, ◌+◌, ◌<◌, ◌≤◌, ℕ, List, length};
+ghost use Rattle.std.specs.List.{flat_map};
+ghost use Rattle.tenths.specs.Sink.{WritesText, FailsOnErr};
+ghost use Rattle.tenths.specs.Text.{tenths_text};
+
+use crate::sink::Sink;
+use crate::value::Tenths;
+use itoa::Buffer;
+
+/// A sink failed while a text was written.
+#[derive(Clone, Copy, Debug, PartialEq, Eq)]
+pub struct Device;
+
+/// Writes all of a text. `Device` where the sink failed: then it took a beginning of the text.
+pub fn write_text<W: Sink>(text: &[u8], sink: &mut W) -> Result<(), Device>
+    ensures bytes { WritesText (W.taken sink.old) (W.taken sink.new) result text.now }
+    ensures failures { FailsOnErr (W.failures sink.old) (W.failures sink.new) result }
+{
+    let mut rest = text;
+    while !rest.is_empty() {
+        match sink.write(rest) {
+            Ok(count) => rest = rest.split_at(count).1,
+            Err(_) => return Err(Device),
+        }
+    }
+    Ok(())
+}
+
+/// Writes the pieces of a text, one after another. `Device` as for `write_text`.
+pub fn write_pieces<W: Sink>(pieces: &[&[u8]], sink: &mut W) -> Result<(), Device>
+    ensures bytes { WritesText (W.taken sink.old) (W.taken sink.new) result (flat_map (λ piece. piece.now) pieces.now) }
+    ensures failures { FailsOnErr (W.failures sink.old) (W.failures sink.new) result }
+{
+    for piece in pieces {
+        write_text(piece, sink)?;
+    }
+    Ok(())
+}
+
+/// Writes a number of tenths as its whole part, a point and one digit. `Device` as for `write_text`.
+pub fn write_tenths<W: Sink>(tenths: Tenths, sink: &mut W) -> Result<(), Device>
+    ensures bytes { WritesText (W.taken sink.old) (W.taken sink.new) result (tenths_text tenths) }
+    ensures failures { FailsOnErr (W.failures sink.old) (W.failures sink.new) result }
+{
+    let count = tenths.get();
+    let mut whole = Buffer::new();
+    let mut digit = Buffer::new();
+    write_pieces(
+        &[
+            whole.format(count / 10).as_bytes(),
+            b".",
+            digit.format(count % 10).as_bytes(),
+        ],
+        sink,
+    )
+}
