@@ -3,8 +3,11 @@
 ghost use Rattle.std.specs.Prelude.{◌≡◌, ◌+◌, ◌<◌, ◌≤◌, ℕ, List, length, Option, IfOk, OnErr, OnOk};
 ghost use Rattle.std.specs.Io.KnownBytes.{WriteAppends};
 
+use thiserror::Error;
+
 /// A write that failed.
-#[derive(Clone, Copy, Debug, PartialEq, Eq)]
+#[derive(Clone, Copy, Debug, PartialEq, Eq, Error)]
+#[error("a write failed")]
 pub struct SinkFault;
 
 /// Where bytes are written. Its meaning is the bytes taken so far, where the sink tells them, and

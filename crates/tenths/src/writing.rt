@@ -8,9 +8,11 @@ ghost use Rattle.tenths.specs.Text.{tenths_text};
 use crate::sink::Sink;
 use crate::value::Tenths;
 use itoa::Buffer;
+use thiserror::Error;
 
 /// A sink failed while a text was written.
-#[derive(Clone, Copy, Debug, PartialEq, Eq)]
+#[derive(Clone, Copy, Debug, PartialEq, Eq, Error)]
+#[error("a sink failed")]
 pub struct Device;
 
 /// Writes all of a text. `Device` where the sink failed: then it took a beginning of the text.

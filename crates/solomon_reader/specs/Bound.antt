@@ -1,0 +1,56 @@
+-- The value of a leaf, the ceiling of an instance, and the bound of a tree.
+use Rattle.std.specs.Prelude.{◌≡◌, ℕ, ◌+◌, ◌*◌, ◌≤◌, max, min, List, [], ◌∷◌, map, length, ℤ, pos, ◌+ℤ◌, ◌*ℤ◌, ◌≤ℤ◌}
+use Rattle.std.specs.List.{flat_map, range_with_len}
+use Rattle.solomon_reader.specs.Problem.{Problem, customer_count}
+use Rattle.solomon_reader.specs.Distance.{distance}
+use Rattle.solomon_reader.specs.Plan.{Arc}
+use Rattle.solomon_reader.specs.Region.{Region, IsUndecided, used_child, unused_child, root_region}
+use Rattle.solomon_reader.specs.Relaxed.{IsLeastWithZero, int_sum}
+
+-- which rule gives the value of a leaf
+pub data Version : Type 0 where
+  version_1 : Version
+
+-- v is the least whole number of tenths that covers z grains, so 0 where z is negative
+pub record IsRoundedUp (z : ℤ) (v : ℕ) : Type 0 where
+  pub covers : z ≤ℤ pos (1000 * v)
+  pub least : (w : ℕ) → z ≤ℤ pos (1000 * w) → v ≤ w
+
+-- in grains: the prices, less what each vehicle may win back by the least reduced cost
+abbrev pub grains_of : Version → Problem → List ℤ → ℤ → ℤ
+grains_of version_1 p prices least = int_sum prices +ℤ (pos p.fleet *ℤ least)
+
+-- the value of a leaf, in tenths
+pub record IsLeafValue (version : Version) (p : Problem) (g : Region) (k : ℕ) (prices : List ℤ) (v : ℕ) : Type 0 where
+  pub priced : length prices ≡ customer_count p
+  pub least : ℤ
+  pub is_least : IsLeastWithZero p g k prices least
+  pub rounded : IsRoundedUp (grains_of version p prices least) v
+
+abbrev pub greatest_of : List ℕ → ℕ
+greatest_of [] = 0
+greatest_of (x ∷ xs) = max x (greatest_of xs)
+
+-- the greatest distance between two rows
+abbrev pub greatest_distance : Problem → ℕ
+greatest_distance p =
+    let rows = range_with_len 0 (length p.rows) in
+    greatest_of (flat_map (λ i. map (λ j. distance p i j) rows) rows)
+
+-- every plan costs at most this
+abbrev pub ceiling_of : Problem → ℕ
+ceiling_of p = 2 * customer_count p * greatest_distance p
+
+-- a tree of branchings: prices at a leaf, or an arc with the tree where it is used and the tree where it isn't
+pub data Tree : Type 0 where
+  leaf : List ℤ → Tree
+  split : Arc → Tree → Tree → Tree
+
+-- b is the least of the ceiling plus one and the values of the tree's leaves, where the tree stands at the region g
+abbrev pub HasBound : Version → Problem → ℕ → Region → Tree → ℕ → Type 0
+HasBound version p k g (leaf prices) b = (v : ℕ) × IsLeafValue version p g k prices v × (b ≡ min (ceiling_of p + 1) v)
+HasBound version p k g (split a used unused) b =
+    IsUndecided g a × ((x : ℕ) × ((y : ℕ) × (HasBound version p k (used_child g a) used x × HasBound version p k (unused_child g a) unused y × (b ≡ min x y))))
+
+abbrev pub IsTreeBound : Version → Problem → ℕ → Tree → ℕ → Type 0
+IsTreeBound version p k tree b = HasBound version p k (root_region (customer_count p)) tree b

@@ -1,0 +1,3 @@
+pub mod Settings
+pub mod Commands
+pub mod Jobs
