@@ -1,0 +1,67 @@
+-- Small instances, and what the definitions give on them, each computed by hand.
+use Rattle.std.specs.Prelude.{◌≡◌, ℕ, ◌+◌, ◌*◌, List, [], ◌∷◌, ◌++◌, codes, ℤ, pos, neg_ℤ}
+use Rattle.solomon_reader.specs.declared.row.Row.{Row}
+use Rattle.solomon_reader.specs.Words.{words, Word, Foreign}
+use Rattle.solomon_reader.specs.Problem.{Problem}
+use Rattle.solomon_reader.specs.Distance.{distance}
+use Rattle.solomon_reader.specs.Plan.{route_cost, plan_cost, Finishes, IsPlan}
+use Rattle.solomon_reader.specs.Relaxed.{reduced_cost, IsRelaxed}
+use Rattle.solomon_reader.specs.Region.{root_region}
+use Rattle.solomon_reader.specs.Bound.{ceiling_of, version_1, leaf, split, IsRoundedUp, IsTreeBound}
+use Rattle.solomon_reader.specs.SolutionText.{solution_text}
+use Rattle.solomon_reader.specs.CertificateText.{certificate_text}
+
+-- demand 1, window 0 to 1000, no service
+abbrev pub open_row : ℕ → ℕ → Row
+open_row x y = record { x = x; y = y; demand = 1; ready = 0; due = 1000; service = 0 }
+
+abbrev pub depot_row : Row
+depot_row = record { x = 0; y = 0; demand = 0; ready = 0; due = 1000; service = 0 }
+
+abbrev pub problem : ℕ → ℕ → List Row → Problem
+problem fleet capacity rows = record { name = codes "T"; fleet = fleet; capacity = capacity; rows = rows }
+
+-- one customer at (3,4)
+abbrev pub one_customer : Problem
+one_customer = problem 1 1 (depot_row ∷ open_row 3 4 ∷ [])
+
+-- customers whose truncated distances break the triangle inequality
+abbrev pub slanted : Problem
+slanted = problem 1 2 (depot_row ∷ open_row 1 3 ∷ open_row 2 6 ∷ [])
+
+-- two customers on a line, which one vehicle can serve
+abbrev pub in_line : Problem
+in_line = problem 2 2 (depot_row ∷ open_row 3 4 ∷ open_row 6 8 ∷ [])
+
+-- the same, with a vehicle for each
+abbrev pub narrow : Problem
+narrow = problem 2 1 (depot_row ∷ open_row 3 4 ∷ open_row 6 8 ∷ [])
+
+-- two customers close to each other, far from the depot
+abbrev pub revisits : Problem
+revisits = problem 1 3 (depot_row ∷ open_row 30 40 ∷ open_row 33 44 ∷ [])
+
+pub record WorkedRows : Type 0 where
+  pub words_cut : words (codes "T \n\t12") ≡ Word 1 (codes "T") ∷ Word 2 (codes "12") ∷ []
+  pub foreign_byte : words (codes "T" ++ 200 ∷ []) ≡ Foreign 1 ∷ []
+  pub one : plan_cost one_customer ((1 ∷ []) ∷ []) ≡ 100
+  pub back : Finishes one_customer (1 ∷ []) 100
+  pub truncated : distance slanted 0 1 ≡ 31
+  pub rounded_once : plan_cost slanted ((1 ∷ []) ∷ []) ≡ 62
+  pub detour : distance slanted 0 2 ≡ 63
+  pub both : route_cost slanted (1 ∷ 2 ∷ []) ≡ 125
+  pub far_alone : route_cost slanted (2 ∷ []) ≡ 126
+  pub together : plan_cost in_line ((1 ∷ 2 ∷ []) ∷ []) ≡ 200
+  pub apart : plan_cost in_line ((2 ∷ []) ∷ (1 ∷ []) ∷ []) ≡ 300
+  pub ceiling : ceiling_of in_line ≡ 400
+  pub cycle : route_cost revisits (2 ∷ 1 ∷ 2 ∷ []) ≡ 1200
+  pub cycle_reduced : reduced_cost revisits (pos 0 ∷ pos 1100000 ∷ []) (2 ∷ 1 ∷ 2 ∷ []) ≡ neg_ℤ (pos 1000000)
+  pub cycle_relaxed : IsRelaxed revisits (root_region 2) 0 (2 ∷ 1 ∷ 2 ∷ [])
+  pub rounded : IsRoundedUp (pos 99001) 100
+  pub solution : solution_text ((1 ∷ []) ∷ []) 100 ≡ codes "Route #1: 1\nCost 10.0\n"
+  pub certificate : certificate_text (record { version = version_1; name = codes "T"; size = 1; neighbours = 8; bound = 100; tree = leaf (pos 100000 ∷ []) })
+      ≡ codes "VRPTW-CERT 1\nINSTANCE T\nCUSTOMERS 1\nNEIGHBOURS 8\nBOUND 10.0\nTREE\nP 100000\nEND\n"
+
+pub record WorkedBounds : Type 0 where
+  pub split_tree : IsTreeBound version_1 narrow 8 (split (0, 1) (leaf (pos 100000 ∷ pos 301000 ∷ [])) (leaf (pos 401000 ∷ pos 0 ∷ []))) 199
+  pub remembered : ¬ IsRelaxed revisits (root_region 2) 1 (2 ∷ 1 ∷ 2 ∷ [])

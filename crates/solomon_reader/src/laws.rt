@@ -1,0 +1,19 @@
+//! Laws of the definitions, and the definitions at small instances.
+
+ghost use Rattle.solomon_reader.specs.Laws.{LeastWithZero};
+ghost use Rattle.solomon_reader.specs.Rows.{WorkedBounds, WorkedRows};
+
+/// What the definitions give on small instances: distances, costs, walks, and both texts.
+pub fn worked_rows()
+    ensures { WorkedRows }
+{}
+
+/// The bound of a tree with two leaves, and a list that comes back too soon to be a relaxed route.
+pub fn worked_bounds()
+    ensures { WorkedBounds }
+{}
+
+/// The least of zero and the reduced costs is the lesser of zero and the least reduced cost.
+pub fn least_with_zero()
+    ensures { LeastWithZero }
+{}
