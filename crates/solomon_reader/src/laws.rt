@@ -1,6 +1,6 @@
 //! Laws of the definitions, and the definitions at small instances.
 
-ghost use Rattle.solomon_reader.specs.Laws.{LeastWithZero};
+ghost use Rattle.solomon_reader.specs.Laws.{FirstFaultStays, LeastWithZero};
 ghost use Rattle.solomon_reader.specs.Rows.{WorkedBounds, WorkedRows};
 
 /// What the definitions give on small instances: distances, costs, walks, and both texts.
@@ -16,4 +16,9 @@ pub fn worked_bounds()
 /// The least of zero and the reduced costs is the lesser of zero and the least reduced cost.
 pub fn least_with_zero()
     ensures { LeastWithZero }
+{}
+
+/// The fault of a list of words is the first from the left.
+pub fn first_fault()
+    ensures { FirstFaultStays }
 {}

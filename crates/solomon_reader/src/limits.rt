@@ -25,10 +25,13 @@ pub const MOST_DEMAND: u16 = 10_000;
 pub const MOST_TIME: u32 = 1_000_000;
 
 /// The most neighbours of a customer in relaxed routes.
-pub const MOST_NEIGHBOURS: u16 = 15;
+pub const MOST_NEIGHBOURS: u32 = 15;
 
 /// The greatest price of a customer, and the greatest below zero, in grains.
 pub const MOST_PRICE: u64 = 1_000_000_000_000;
+
+/// The most events of a history.
+pub const MOST_EVENTS: usize = 1_000_000;
 
 /// The most leaves of a tree.
 pub const MOST_LEAVES: u32 = 100_000;

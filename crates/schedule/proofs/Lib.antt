@@ -1,0 +1,3 @@
+pub mod StepLemmas
+pub mod Counting
+pub mod Planning

@@ -1,0 +1,3 @@
+pub mod Steps
+pub mod Faults
+pub mod Solution

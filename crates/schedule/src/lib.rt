@@ -1,0 +1,13 @@
+//! Walks of routes, and the plans of an instance.
+#![tactic(auto)]
+
+mod fault;
+mod plan;
+mod search;
+mod summary;
+mod walking;
+
+pub use fault::PlanFault;
+pub use plan::Feasible;
+pub use summary::Walk;
+pub use walking::walk;

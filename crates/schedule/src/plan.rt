@@ -1,0 +1,98 @@
+//! Plans of an instance.
+
+ghost use Rattle.std.specs.Prelude.{◌≡◌, ℕ, List, IfOk, IfErr};
+ghost use Rattle.solomon_reader.specs.Plan.{IsPlan};
+ghost use Rattle.solomon_reader.specs.Lists.{lists};
+ghost use Rattle.schedule.specs.Faults.{IsLowestFault};
+ghost use Rattle.schedule.specs.Solution.{IsSolution};
+
+use crate::fault::PlanFault;
+use crate::search::{fault_of, total_cost};
+use solomon_reader::Instance;
+use std::alloc::AllocError;
+use std::marker::Model;
+use tenths::Tenths;
+
+/// A plan of its instance, at its exact cost. Contracts see the instance, the routes as lists and
+/// the cost.
+#[derive(Debug, Drop)]
+pub struct Feasible<'i> {
+    instance: &'i Instance,
+    routes: Vec<Vec<u16>>,
+    cost: Tenths,
+}
+
+impl<'i> Model for Feasible<'i> {
+    ghost use Rattle.schedule.specs.Solution.{Solution, IsSolution};
+    ghost use Rattle.solomon_reader.specs.Lists.{lists};
+
+    ghost Value = { Solution };
+
+    ghost view = { λ f. record { problem = f.instance.now; routes = lists f.routes.items; cost = f.cost } };
+
+    ghost invariant = { λ f. IsSolution (record {
+      problem = f.instance.now;
+      routes = lists f.routes.items;
+      cost = f.cost;
+    }) };
+}
+
+impl<'i> Feasible<'i> {
+    /// The plan of these routes, or the routes again and the first fault that they have in the
+    /// order of `PlanFault`.
+    pub fn check(
+        instance: &'i Instance,
+        routes: Vec<Vec<u16>>,
+    ) -> Result<Feasible<'i>, (Vec<Vec<u16>>, PlanFault)>
+        ensures problem { IfOk result (λ f. f.problem ≡ instance.now) }
+        ensures routes { IfOk result (λ f. f.routes ≡ lists routes.items) }
+        ensures solution { IfOk result (λ f. IsSolution f) }
+        ensures refused { IfErr result (λ _. ¬ IsPlan instance.now (lists routes.items)) }
+        ensures back { IfErr result (λ e. e.0 ≡ routes) }
+        ensures fault { IfErr result (λ e. IsLowestFault instance.now (lists routes.items) e.1) }
+    {
+        if let Some(fault) = fault_of(instance, routes.as_slice()) {
+            return Err((routes, fault));
+        }
+        let cost = total_cost(instance, routes.as_slice());
+        Ok(Feasible {
+            instance,
+            routes,
+            cost,
+        })
+    }
+
+    /// The sum of the routes' costs, in tenths.
+    pub fn cost(&self) -> Tenths
+        ensures is { result ≡ self.now.cost }
+        ensures solution { IsSolution self.now }
+    {
+        self.cost
+    }
+
+    /// The instance whose plan this is.
+    pub fn instance(&self) -> &'i Instance
+        ensures { result.now ≡ self.now.problem }
+    {
+        self.instance
+    }
+
+    /// The routes, each the customers that one vehicle serves, in order.
+    pub fn routes(&self) -> &[Vec<u16>]
+        ensures { lists result.now ≡ self.now.routes }
+    {
+        self.routes.as_slice()
+    }
+
+    /// A copy, unless memory runs out.
+    pub fn try_clone(&self) -> Result<Feasible<'i>, AllocError>
+        ensures { IfOk result (λ f. f ≡ self.now) }
+    {
+        let routes = self.routes.clone()?;
+        Ok(Feasible {
+            instance: self.instance,
+            routes,
+            cost: self.cost,
+        })
+    }
+}
