@@ -129,10 +129,10 @@ row_stays : (k : ℕ) → Stays words_longer pair_longer (row_at k)
 unfolding row_at
 row_stays k = then words_longer pair_longer pair_longer (head_at k) _ (head_stays k)
     (on pair_longer (λ place ts. demand_at k ts >>= λ demand. window_at demand.1 >>= λ window. service_at k window.1 >>= λ service.
-        Ok (record { x = place.0; y = place.1; demand = demand.0; ready = window.0.0; due = window.0.1; service = service.0 }, service.1)) (λ place.
+    Ok (record { x = place.0; y = place.1; demand = demand.0; ready = window.0.0; due = window.0.1; service = service.0 }, service.1)) (λ place.
     then words_longer pair_longer pair_longer (demand_at k) _ (demand_stays k)
     (on pair_longer (λ demand ts. window_at ts >>= λ window. service_at k window.1 >>= λ service.
-        Ok (record { x = place.0; y = place.1; demand = demand; ready = window.0.0; due = window.0.1; service = service.0 }, service.1)) (λ demand.
+    Ok (record { x = place.0; y = place.1; demand = demand; ready = window.0.0; due = window.0.1; service = service.0 }, service.1)) (λ demand.
     then words_longer pair_longer pair_longer window_at _ window_stays
     (on pair_longer (λ window ts. service_at k ts >>= λ service. Ok (record { x = place.0; y = place.1; demand = demand; ready = window.0; due = window.1; service = service.0 }, service.1)) (λ window.
     then words_longer pair_longer pair_longer (service_at k) _ (service_stays k) (record { told = λ service more. inr refl })))))))
@@ -210,7 +210,7 @@ rows_stay left k = record { told = by_cases left k }
     by_cases (suc left) k (Word line w ∷ ts) more e is =
         (faults_then words_longer pair_longer (row_at k) _ (row_stays k)
         (faults_on (λ first ts. rows_at left (k + 1) ts >>= λ others. Ok (first ∷ others)) (λ first. record {
-          told = λ ts more e is. only_made (λ others. first ∷ others) (rows_at left (k + 1) ts) (rows_at left (k + 1) (ts ++ more)) e is (λ is. by_cases left (k + 1) ts more e is)
+          told = λ ts more e is. only_made (λ others. first ∷ others) (rows_at left (k + 1) ts) (rows_at left (k + 1) (ts ++ more)) e is (λ is. by_cases left (k + 1) ts more e is);
         }))).told (Word line w ∷ ts) more e is
 
 pub reading_stays : (front back : List Token) (e : ReadFault) → reading front ≡ Err e → ¬ IsEnd e → reading (front ++ back) ≡ Err e
@@ -221,7 +221,9 @@ reading_stays front back e is not_end =
     all : FaultsStay words_longer reading
     all = faults_then words_longer pair_longer header_at _ header_stays
         (faults_on (λ header ts. all_fixed_at customer_words ts >>= λ a. rows_at (MOST_CUSTOMERS + 1) 0 a >>= λ rows.
-            Ok (record { name = header.0; fleet = header.1.0; capacity = header.1.1; rows = rows })) (λ header.
+        Ok (record { name = header.0; fleet = header.1.0; capacity = header.1.1; rows = rows })) (λ header.
         faults_then words_longer words_longer (all_fixed_at customer_words) _ (all_fixed_stays customer_words)
-        (record { told = λ ts more e is. only_made (λ rows. record { name = header.0; fleet = header.1.0; capacity = header.1.1; rows = rows }) (rows_at (MOST_CUSTOMERS + 1) 0 ts) (rows_at (MOST_CUSTOMERS + 1) 0 (ts ++ more)) e is
-          (λ is. (rows_stay (MOST_CUSTOMERS + 1) 0).told ts more e is) })))
+        (record {
+          told = λ ts more e is. only_made (λ rows. record { name = header.0; fleet = header.1.0; capacity = header.1.1; rows = rows }) (rows_at (MOST_CUSTOMERS + 1) 0 ts) (rows_at (MOST_CUSTOMERS + 1) 0 (ts ++ more)) e is
+              (λ is. (rows_stay (MOST_CUSTOMERS + 1) 0).told ts more e is);
+        })))

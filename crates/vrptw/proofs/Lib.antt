@@ -1,0 +1,5 @@
+mod Refusals
+mod Steps
+pub mod ZeroPrices
+pub mod SingleRoutes
+pub mod Answering

@@ -1,0 +1,17 @@
+use Rattle.std.proofs.Common.{rules, codes}
+use Rattle.std.proofs.lemmas.Result.{IfOk-weaker}
+use Rattle.clap.specs.Words.{new_app}
+use Rattle.vrptw.specs.Commands.{HasShape, path_rule}
+use Rattle.vrptw.proofs.Steps.{adds_rule}
+use Rattle.vrptw.proofs.commands.solve_command.Goals as goal
+
+pub returns : goal.returns
+returns c =
+    let new : HasShape (new_app (codes "solve")) c.about.result = search rules in
+    let one = adds_rule _ _ _ _ (path_rule (codes "INSTANCE")) new
+    c.in_ok-arg.ensures c.path.ensures.rule c.path.ensures.own in
+    let two = adds_rule _ _ _ _ (path_rule (codes "SOLUTION")) one
+    c.in_ok-arg-2.ensures c.path-2.ensures.rule c.path-2.ensures.own in
+    IfOk-weaker c.arg-3.result _ _ (λ made step.
+    adds_rule _ made _ _ (path_rule (codes "CERTIFICATE")) two
+    step c.path-3.ensures.rule c.path-3.ensures.own) c.arg-3.ensures

@@ -1,0 +1,20 @@
+use Rattle.std.proofs.Common.{◌≡◌, [], codes, rules, true}
+use Rattle.std.proofs.lemmas.Result.{IfOk-weaker}
+use Rattle.clap.specs.Words.{App, app_of, new_app}
+use Rattle.vrptw.specs.Commands.{solve_shape}
+use Rattle.vrptw.proofs.Steps.{adds_shape}
+use Rattle.vrptw.proofs.commands.vrptw_command.Goals as goal
+
+-- the program before it has commands
+alone : App
+alone = record {
+  top = record (new_app (codes "vrptw")).top { no_binary_name = true; subcommand_required = true };
+  subs = [];
+}
+
+pub returns : goal.returns
+unfolding alone
+returns c =
+    let bare : app_of c.subcommand_required.result ≡ alone = search rules in
+    IfOk-weaker c.subcommand.result _ _ (λ made step.
+    adds_shape _ made _ _ solve_shape bare c.in_ok-solve_command.ensures step) c.subcommand.ensures

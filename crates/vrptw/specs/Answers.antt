@@ -1,0 +1,91 @@
+-- What the solver answers, and what both sinks hold then.
+use Rattle.std.specs.Prelude.{◌≡◌, ◌≢◌, ℕ, ◌+◌, ◌<◌, ◌≤◌, List, Option, Result, Ok, Err, ◌⊎◌}
+use Rattle.std.specs.Io.KnownBytes.{Appends}
+use Rattle.tenths.specs.Sink.{AppendsBeginning}
+use Rattle.solomon_reader.specs.Words.{words}
+use Rattle.solomon_reader.specs.Problem.{Problem}
+use Rattle.solomon_reader.specs.Layout.{IsInstance}
+use Rattle.solomon_reader.specs.Reading.{reading}
+use Rattle.solomon_reader.specs.Plan.{IsPlan, plan_cost}
+use Rattle.solomon_reader.specs.Bound.{ceiling_of}
+use Rattle.solomon_reader.specs.SolutionText.{solution_text}
+use Rattle.solomon_reader.specs.CertificateText.{IsAccepted}
+use Rattle.solomon_reader.specs.declared.fault.ReadFault.{ReadFault}
+use Rattle.solomon_reader.specs.declared.fault.ReadFault.TheVariants as read
+use Rattle.vrptw.specs.declared.answer.Answer.{Answer}
+use Rattle.vrptw.specs.declared.answer.Answer.TheVariants.{Best, Gap, NoPlan, Open}
+use Rattle.vrptw.specs.declared.answer.SolveFault.{SolveFault}
+use Rattle.vrptw.specs.declared.answer.SolveFault.TheVariants as fault
+use Rattle.vrptw.specs.declared.settings.Settings.{Settings}
+use Rattle.vrptw.specs.Settings.{IsWithin}
+use Rattle.vrptw.specs.Opening.{IsServedAlone}
+
+-- the text is that of a plan and its exact cost
+pub record IsPlanText (p : Problem) (cost : ℕ) (text : List ℕ) : Type 0 where
+  pub routes : List (List ℕ)
+  pub plan : IsPlan p routes
+  pub exact : plan_cost p routes ≡ cost
+  pub spelled : text ≡ solution_text routes cost
+
+-- the instance accepts the text with this bound, and every plan costs at least the bound
+pub record IsBoundText (p : Problem) (bound : ℕ) (text : List ℕ) : Type 0 where
+  pub accepted : IsAccepted p text
+  pub printed : accepted.certificate.bound ≡ bound
+  pub holds : (routes : List (List ℕ)) → IsPlan p routes → bound ≤ plan_cost p routes
+
+-- a sink as contracts see it: the bytes taken, where it tells them, and the number of failures
+pub record Held : Type 0 where
+  pub taken : Option (List ℕ)
+  pub failures : ℕ
+
+-- the sink took a text of this kind, and nothing failed
+pub record Took (old new : Held) (Is : List ℕ → Type 0) : Type 0 where
+  pub text : List ℕ
+  pub is : Is text
+  pub bytes : Appends old.taken new.taken text
+  pub fine : new.failures ≡ old.failures
+
+-- the sink failed, and took a beginning of a text of this kind
+pub record Broke (old new : Held) (Is : List ℕ → Type 0) : Type 0 where
+  pub text : List ℕ
+  pub is : Is text
+  pub bytes : AppendsBeginning old.taken new.taken text
+  pub failed : old.failures < new.failures
+
+-- what becomes of a text of this kind that is written to a sink
+abbrev pub Writes : (List ℕ → Type 0) → Held → Held → Result (Unit {0}) SolveFault → Type 0
+Writes Is old new (Ok u) = Took old new Is
+Writes Is old new (Err e) = (e ≡ fault.Device) × Broke old new Is
+
+-- The answer, with the first sink's plan and the second sink's bound.
+abbrev pub Answers : Problem → Held → Held → Held → Held → Answer → Type 0
+Answers p s s' c c' (Best cost) = Took s s' (IsPlanText p cost) × Took c c' (IsBoundText p cost)
+Answers p s s' c c' (Gap cost bound) = Took s s' (IsPlanText p cost) × Took c c' (IsBoundText p bound) × (cost ≢ bound)
+Answers p s s' c c' NoPlan = (s' ≡ s) × Took c c' (IsBoundText p (ceiling_of p + 1)) × ((routes : List (List ℕ)) → ¬ IsPlan p routes)
+Answers p s s' c c' (Open bound) = (s' ≡ s) × Took c c' (IsBoundText p bound) × (bound ≤ ceiling_of p) × (¬ IsServedAlone p)
+
+-- A sink failed: the first, and the second took nothing; or the second, after the first took all or nothing was for it.
+abbrev pub Breaks : Problem → Held → Held → Held → Held → Type 0
+Breaks p s s' c c' =
+    ((cost : ℕ) × Broke s s' (IsPlanText p cost) × (c' ≡ c))
+    ⊎ (((s' ≡ s) ⊎ ((cost : ℕ) × Took s s' (IsPlanText p cost))) × ((bound : ℕ) × Broke c c' (IsBoundText p bound)))
+
+-- what becomes of the two texts of an outcome
+abbrev pub WritesBoth : Problem → Held → Held → Held → Held → Result Answer SolveFault → Type 0
+WritesBoth p s s' c c' (Ok answer) = Answers p s s' c c' answer
+WritesBoth p s s' c c' (Err e) = (e ≡ fault.Device) × Breaks p s s' c c'
+
+-- why a text gives no instance: it has this fault, or memory was refused
+abbrev pub RefusesText : List ℕ → SolveFault → Type 0
+RefusesText text fault.Memory = Unit {0}
+RefusesText text (fault.Instance f) = (reading (words text) ≡ Err f) × (f ≢ read.Memory)
+RefusesText text fault.BadSettings = ⊥
+RefusesText text fault.Device = ⊥
+
+-- What the solver does with the text of an instance, within the settings: each refusal is the first that holds, and all but the last come before the first write.
+abbrev pub Solves : List ℕ → Settings → Held → Held → Held → Held → Result Answer SolveFault → Type 0
+Solves text settings s s' c c' (Ok answer) = (p : Problem) × IsInstance text p × IsWithin settings × Answers p s s' c c' answer
+Solves text settings s s' c c' (Err fault.Memory) = (s' ≡ s) × (c' ≡ c)
+Solves text settings s s' c c' (Err (fault.Instance f)) = (reading (words text) ≡ Err f) × (f ≢ read.Memory) × (s' ≡ s) × (c' ≡ c)
+Solves text settings s s' c c' (Err fault.BadSettings) = ((p : Problem) × IsInstance text p) × (¬ IsWithin settings) × (s' ≡ s) × (c' ≡ c)
+Solves text settings s s' c c' (Err fault.Device) = (p : Problem) × IsInstance text p × IsWithin settings × Breaks p s s' c c'

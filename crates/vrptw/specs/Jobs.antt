@@ -1,0 +1,50 @@
+-- Which job the words give.
+use Rattle.std.specs.Prelude.{◌≡◌, ◌≢◌, List, [], Option, Some, None, codes}
+use Rattle.clap.specs.Words.{Row, Text, first_of, fault_of, kind_of, subcommand_of}
+use Rattle.clap.specs.declared.Error.{Error}
+use Rattle.clap.specs.declared.error.ErrorKind.TheVariants.{OutOfMemory}
+use Rattle.vrptw.specs.Commands.{program}
+use Rattle.vrptw.specs.Settings.{default_settings}
+use Rattle.vrptw.specs.declared.jobs.Job.{Job}
+use Rattle.vrptw.specs.declared.jobs.Job.TheVariants.{Solve}
+use Rattle.vrptw.specs.declared.jobs.UsageFault.{UsageFault}
+use Rattle.vrptw.specs.declared.jobs.UsageFault.TheVariants.{Memory, Usage}
+use Rattle.vrptw.specs.declared.settings.Settings.{Settings}
+
+-- the rows of the arguments of `solve` have these paths, and the settings are the default ones
+pub record SaysSolve (rows : List Row) (instance solution certificate : Text)
+    (settings : Settings) : Type 0 where
+  pub instance_path : first_of (codes "INSTANCE") rows ≡ Some instance
+  pub solution_path : first_of (codes "SOLUTION") rows ≡ Some solution
+  pub certificate_path : first_of (codes "CERTIFICATE") rows ≡ Some certificate
+  pub settings_are : settings ≡ default_settings
+
+-- the command's name and the rows of its arguments are the job's
+abbrev pub Says : Text → List Row → Job → Type 0
+Says name rows (Solve instance solution certificate settings) =
+    (name ≡ codes "solve") × SaysSolve rows instance.now solution.now certificate.now settings
+
+abbrev pub SaysAny : Option (Text × List Row) → Job → Type 0
+SaysAny None job = ⊥
+SaysAny (Some named) job = Says named.0 named.1 job
+
+-- clap takes the words, and the matches of the command that they name are the job's
+abbrev pub Gives : List Text → Job → Type 0
+Gives words job = (fault_of program words ≡ []) × SaysAny (subcommand_of program words) job
+
+-- the words give no job; where there is no memory, nothing is said of them
+abbrev pub IsRefused : List Text → UsageFault → Type 0
+IsRefused words Memory = Unit {0}
+IsRefused words (Usage error) = (job : Job) → Gives words job → ⊥
+
+-- what the caller is told of clap's error
+abbrev pub IsFaultOf : Error → UsageFault → Type 0
+IsFaultOf error Memory = kind_of error ≡ OutOfMemory
+IsFaultOf error (Usage told) = (told ≡ error) × (kind_of error ≢ OutOfMemory)
+
+-- two jobs with the same paths, as texts, and the same settings
+abbrev pub IsSameJob : Job → Job → Type 0
+IsSameJob (Solve instance solution certificate settings)
+    (Solve second_instance second_solution second_certificate second_settings) =
+    (instance.now ≡ second_instance.now) × (solution.now ≡ second_solution.now)
+    × (certificate.now ≡ second_certificate.now) × (settings ≡ second_settings)

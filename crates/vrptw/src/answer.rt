@@ -1,0 +1,74 @@
+//! What the solver answers.
+
+ghost use Rattle.std.specs.Prelude.{◌≡◌};
+ghost use Rattle.vrptw.specs.declared.answer.SolveFault.TheVariants as fault;
+
+use incumbent_book::OpenFault;
+use sol_writer::WriteFault;
+use solomon_reader::ReadFault;
+use std::alloc::AllocError;
+use tenths::{Device, Tenths};
+use thiserror::Error;
+
+/// The answer for an instance; costs and bounds are tenths of a unit.
+#[derive(Clone, Copy, Debug, PartialEq, Eq)]
+pub enum Answer {
+    /// A plan whose cost equals the bound: no plan is cheaper.
+    Best { cost: Tenths },
+    /// A plan, and a lower bound of every plan's cost that isn't its cost.
+    Gap { cost: Tenths, bound: Tenths },
+    /// The bound is above what any plan can cost, so there is no plan.
+    NoPlan,
+    /// No plan was found.
+    Open { bound: Tenths },
+}
+
+/// Why the solver gives no answer.
+#[derive(Clone, Copy, Debug, PartialEq, Eq, Error)]
+pub enum SolveFault {
+    /// Memory was refused; nothing was written.
+    #[error("Memory")]
+    Memory,
+    /// The text is no instance; nothing was written.
+    #[error("Instance: {0}")]
+    Instance(ReadFault),
+    /// A setting is outside its range; nothing was written.
+    #[error("BadSettings")]
+    BadSettings,
+    /// A sink failed: the first holds a beginning and the second nothing, or the first all and the
+    /// second a beginning.
+    #[error("Device")]
+    Device,
+}
+
+impl From<AllocError> for SolveFault {
+    ghost from_gives = { λ _ e. e ≡ fault.Memory };
+
+    fn from(_e: AllocError) -> SolveFault {
+        SolveFault::Memory
+    }
+}
+
+impl From<OpenFault> for SolveFault {
+    ghost from_gives = { λ _ e. e ≡ fault.Memory };
+
+    fn from(_e: OpenFault) -> SolveFault {
+        SolveFault::Memory
+    }
+}
+
+impl From<Device> for SolveFault {
+    ghost from_gives = { λ _ e. e ≡ fault.Device };
+
+    fn from(_e: Device) -> SolveFault {
+        SolveFault::Device
+    }
+}
+
+impl From<WriteFault> for SolveFault {
+    ghost from_gives = { λ _ e. e ≡ fault.Device };
+
+    fn from(_e: WriteFault) -> SolveFault {
+        SolveFault::Device
+    }
+}

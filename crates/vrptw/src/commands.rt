@@ -1,0 +1,111 @@
+//! The commands of the program, and the job that the words give.
+ghost use Rattle.std.specs.Prelude.{◌≡◌, [], false, map, codes, option_map};
+ghost use Rattle.std.specs.Prelude.{IfOk, IfErr, MatchOption};
+ghost use Rattle.clap.specs.Words.{app_of, rule_of, rows_of, found_of, first_of};
+ghost use Rattle.clap.specs.Words.{subcommand_rows_of};
+ghost use Rattle.vrptw.specs.Commands.{HasShape, path_rule, program, solve_shape};
+ghost use Rattle.vrptw.specs.Jobs.{Gives, IsRefused, IsSameJob, Says, SaysAny};
+
+use crate::jobs::{Job, UsageFault};
+use crate::settings::Settings;
+use clap::error::ErrorKind;
+use clap::{Arg, ArgMatches, Command};
+use std::alloc::{AllocError, Global};
+
+const PROGRAM: &str = "vrptw";
+
+/// A path that has to be given.
+fn path<'a>(alloc: Global, id: &'a str, help: &'a str) -> Arg<'a>
+    ensures rule { rule_of result ≡ path_rule id.entry.now }
+    ensures own { result.global ≡ false }
+{
+    Arg::new(alloc, id).required(true).help(help)
+}
+
+fn solve_command<'a>(alloc: Global) -> Result<Command<'a>, AllocError>
+    ensures { IfOk result (HasShape (record { top = solve_shape; subs = [] })) }
+{
+    Command::new(alloc, "solve")
+        .about("Finds a plan and a certificate of a lower bound on every plan's cost")
+        .arg(path(alloc, "INSTANCE", "The file to read the instance from"))?
+        .arg(path(alloc, "SOLUTION", "The file to write the plan to"))?
+        .arg(path(alloc, "CERTIFICATE", "The file to write the certificate to"))
+}
+
+fn vrptw_command<'a>(alloc: Global) -> Result<Command<'a>, AllocError>
+    ensures { IfOk result (λ c. app_of c ≡ program) }
+{
+    Command::new(alloc, PROGRAM)
+        .bin_name(PROGRAM)?
+        .about("Plans routes for vehicles with time windows, and proves how good they are")
+        .no_binary_name(true)
+        .subcommand_required(true)
+        .subcommand(solve_command(alloc)?)
+}
+
+/// The text that a parse has for an argument.
+fn text_of<'a>(found: &ArgMatches<'a>, id: &str) -> Option<&'a str>
+    ensures { option_map (λ s. s.now) result ≡ first_of id.now (rows_of (found_of found.now)) }
+{
+    found.get_str(id)
+}
+
+/// The job that the arguments of `solve` give.
+fn solve_job<'a>(found: &ArgMatches<'a>) -> Option<Job<'a>>
+    ensures { let says = Says (codes "solve") (rows_of (found_of found.now)) in
+        MatchOption result ((other : _) → says other → ⊥) says }
+{
+    Some(Job::Solve {
+        instance: text_of(found, "INSTANCE")?,
+        solution: text_of(found, "SOLUTION")?,
+        certificate: text_of(found, "CERTIFICATE")?,
+        settings: Settings::default(),
+    })
+}
+
+/// The job that the arguments of a command give.
+fn job_named<'a>(name: &str, found: &ArgMatches<'a>) -> Option<Job<'a>>
+    ensures { let says = Says name.now (rows_of (found_of found.now)) in
+        MatchOption result ((other : _) → says other → ⊥) says }
+{
+    if name == "solve" {
+        return solve_job(found);
+    }
+    None
+}
+
+/// The job that the matches of a parse give.
+fn job_found<'a>(matches: &ArgMatches<'a>) -> Option<Job<'a>>
+    ensures { let says = SaysAny (subcommand_rows_of matches.now) in
+        MatchOption result ((other : _) → says other → ⊥) says }
+{
+    let (name, found) = matches.subcommand()?;
+    job_named(name, found)
+}
+
+/// What is said where a parse names no command of the program.
+fn refusal(alloc: Global) -> UsageFault {
+    match Command::new(alloc, PROGRAM).error(ErrorKind::InvalidSubcommand, "no such command") {
+        Ok(error) => UsageFault::Usage(error),
+        Err(_) => UsageFault::Memory,
+    }
+}
+
+/// The job that the words after the program's name ask for.
+///
+/// `Usage` says that the words give no job: they are wrong, or ask for help. `Memory` says that
+/// there was no memory to find out.
+pub fn job<'a>(alloc: Global, words: &'a [&'a str]) -> Result<Job<'a>, UsageFault>
+    ensures ok { IfOk result (Gives (map (λ s. s.now) words.now)) }
+    ensures err { IfErr result (IsRefused (map (λ s. s.now) words.now)) }
+
+    // The words give one job and no other.
+    ensures single { IfOk result (λ found. (other : _)
+        → Gives (map (λ s. s.now) words.now) other → IsSameJob found other) }
+{
+    let matches = vrptw_command(alloc)?.try_get_matches_from(words)?;
+    match job_found(&matches) {
+        Some(job) => Ok(job),
+        None => Err(refusal(alloc)),
+    }
+}

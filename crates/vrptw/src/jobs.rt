@@ -1,0 +1,56 @@
+//! What the words ask for, and why they ask for nothing.
+ghost use Rattle.std.specs.Prelude.{◌≡◌};
+
+use crate::settings::Settings;
+use std::alloc::AllocError;
+use thiserror::Error;
+
+/// What the program is asked to do.
+#[derive(Drop)]
+pub enum Job<'a> {
+    /// To find a plan and a bound for an instance.
+    Solve {
+        /// The path of the instance.
+        instance: &'a str,
+        /// The path that the plan is written to.
+        solution: &'a str,
+        /// The path that the certificate of the bound is written to.
+        certificate: &'a str,
+        /// How much work to put into it.
+        settings: Settings,
+    },
+}
+
+/// Why the words give no job.
+#[derive(Debug, Drop, Error)]
+pub enum UsageFault {
+    /// There was no memory, so nothing is said of the words.
+    #[error("out of memory")]
+    Memory,
+    /// The words are wrong, or ask for help: the error says which, and has the text to print.
+    #[error(transparent)]
+    Usage(clap::Error),
+}
+
+impl From<AllocError> for UsageFault {
+    ghost use Rattle.vrptw.specs.declared.jobs.UsageFault.TheVariants.{Memory};
+
+    ghost from_gives = { λ _ fault. fault ≡ Memory };
+
+    fn from(_error: AllocError) -> UsageFault {
+        UsageFault::Memory
+    }
+}
+
+impl From<clap::Error> for UsageFault {
+    ghost use Rattle.vrptw.specs.Jobs.{IsFaultOf};
+
+    ghost from_gives = { IsFaultOf };
+
+    fn from(error: clap::Error) -> UsageFault {
+        if error.kind() == clap::error::ErrorKind::OutOfMemory {
+            return UsageFault::Memory;
+        }
+        UsageFault::Usage(error)
+    }
+}

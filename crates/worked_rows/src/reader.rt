@@ -1,0 +1,119 @@
+//! What is read, and the first fault of what isn't.
+
+use super::texts::{DEPOT, instance_text, one_customer};
+use solomon_reader::{ReadFault, Row, read};
+use std::alloc::{AllocError, Global};
+use std::test::Fail;
+
+#[test]
+fn an_instance_is_read(rt: HostRuntime) -> Result<(), Fail> {
+    let text = one_customer(rt.alloc())?;
+    let instance = read(rt.alloc(), text.as_bytes())?;
+    assert_eq!(rt; instance.name(), b"T".as_slice());
+    assert_eq!(rt; instance.fleet(), 1);
+    assert_eq!(rt; instance.capacity(), 1);
+    assert_eq!(rt; instance.customer_count(), 1);
+    let customer = Row {
+        x: 3,
+        y: 4,
+        demand: 1,
+        ready: 0,
+        due: 1000,
+        service: 0,
+    };
+    assert_eq!(rt; instance.rows().last().copied(), Some(customer));
+    let again = read(rt.alloc(), text.as_bytes())?;
+    assert!(rt; instance == again);
+    let other = instance_text(rt.alloc(), 2, 1, DEPOT, "1 3 4 1 0 1000 0\n")?;
+    let other = read(rt.alloc(), other.as_bytes())?;
+    assert!(rt; instance != other);
+    Ok(())
+}
+
+#[test]
+fn a_demand_above_the_capacity_is_read(rt: HostRuntime) -> Result<(), Fail> {
+    let text = instance_text(rt.alloc(), 1, 1, DEPOT, "1 3 4 2 0 1000 0\n")?;
+    assert!(rt; read(rt.alloc(), text.as_bytes()).is_ok());
+    Ok(())
+}
+
+/// The fault of an instance with this depot and these customers.
+fn fault_of(alloc: Global, depot: &str, customers: &str) -> Result<Option<ReadFault>, AllocError> {
+    let text = instance_text(alloc, 1, 1, depot, customers)?;
+    Ok(read(alloc, text.as_bytes()).err())
+}
+
+#[test]
+fn each_fault_is_told(rt: HostRuntime) -> Result<(), Fail> {
+    let rows: [(&str, &str, ReadFault); 9] = [
+        (
+            DEPOT,
+            "1 3 4 0 0 1000 0\n",
+            ReadFault::DemandZero { line: 8 },
+        ),
+        (
+            DEPOT,
+            "1 3 4 1 9 8 0\n",
+            ReadFault::WindowReversed { line: 8 },
+        ),
+        (
+            DEPOT,
+            "2 3 4 1 0 1000 0\n",
+            ReadFault::OutOfOrder { line: 8 },
+        ),
+        (DEPOT, "1 3 4\n", ReadFault::Truncated),
+        (DEPOT, "", ReadFault::NoCustomers),
+        (
+            "0 0 0 1 0 1000 0\n",
+            "1 3 4 1 0 1000 0\n",
+            ReadFault::BadDepot,
+        ),
+        (
+            DEPOT,
+            "1 -3 4 1 0 1000 0\n",
+            ReadFault::BadNumber { line: 8 },
+        ),
+        (
+            DEPOT,
+            "1 10001 4 1 0 1000 0\n",
+            ReadFault::OutOfRange { line: 8 },
+        ),
+        ("", "", ReadFault::Truncated),
+    ];
+    for (depot, customers, fault) in rows {
+        let told = fault_of(rt.alloc(), depot, customers)?;
+        assert_eq!(rt; told, Some(fault), "{depot}{customers}");
+    }
+    assert_eq!(rt; read(rt.alloc(), b"").err(), Some(ReadFault::Truncated));
+    assert_eq!(rt;
+        read(rt.alloc(), b"\x80").err(),
+        Some(ReadFault::NotAscii { offset: 0 })
+    );
+    assert_eq!(rt;
+        read(rt.alloc(), b"T\nVEHICLES").err(),
+        Some(ReadFault::BadWord { line: 2 })
+    );
+    Ok(())
+}
+
+/// Customers 1 to `count`, all at (3,4).
+fn many_customers(alloc: Global, count: u32) -> Result<String, AllocError> {
+    let mut customers = String::new(alloc);
+    for number in 1..=count {
+        let line = format!(in alloc; "{number} 3 4 1 0 1000 0\n")?;
+        customers.push_str(line.as_str())?;
+    }
+    Ok(customers)
+}
+
+#[test]
+fn a_hundred_customers_are_the_most(rt: HostRuntime) -> Result<(), Fail> {
+    let hundred = many_customers(rt.alloc(), 100)?;
+    assert_eq!(rt; fault_of(rt.alloc(), DEPOT, hundred.as_str())?, None);
+    let more = many_customers(rt.alloc(), 101)?;
+    assert_eq!(rt;
+        fault_of(rt.alloc(), DEPOT, more.as_str())?,
+        Some(ReadFault::TooManyCustomers)
+    );
+    Ok(())
+}

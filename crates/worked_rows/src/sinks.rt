@@ -1,0 +1,156 @@
+//! Sinks that fail, and sinks that take little at a time.
+
+ghost use Rattle.std.specs.Prelude.{◌+◌, length, Some};
+
+use super::texts::two_in_line;
+use http_server::Log;
+use std::alloc::Global;
+use std::test::Fail;
+use tenths::{MemorySink, Sink, SinkFault};
+use vrptw::{NoGate, Settings, SolveFault, solve};
+
+/// A sink that takes a number of writes, and then fails.
+#[derive(Drop)]
+struct FailingSink {
+    inner: MemorySink,
+    left: usize,
+    failed: Log<(), ()>,
+}
+
+impl FailingSink {
+    fn new(alloc: Global, left: usize) -> FailingSink {
+        FailingSink {
+            inner: MemorySink::new(alloc),
+            left,
+            failed: Log::new(),
+        }
+    }
+}
+
+impl Sink for FailingSink {
+    ghost taken = { λ s. Some s.inner.0 };
+
+    ghost failures = { λ s. s.inner.1 + length s.failed.items };
+
+    fn write(&mut self, bytes: &[u8]) -> Result<usize, SinkFault> {
+        if self.left == 0 {
+            self.failed = self.failed.and(&(), &());
+            return Err(SinkFault);
+        }
+        self.left -= 1;
+        self.inner.write(bytes)
+    }
+}
+
+/// A sink that takes one byte at a time.
+#[derive(Drop)]
+struct DrippingSink {
+    inner: MemorySink,
+}
+
+impl Sink for DrippingSink {
+    ghost taken = { λ s. Some s.inner.0 };
+
+    ghost failures = { λ s. s.inner.1 };
+
+    fn write(&mut self, bytes: &[u8]) -> Result<usize, SinkFault> {
+        if bytes.len() > 1 {
+            return self.inner.write(&bytes[..1]);
+        }
+        self.inner.write(bytes)
+    }
+}
+
+const SOLUTION: &[u8] = b"Route #1: 2\nRoute #2: 1\nCost 30.0\n";
+
+#[test]
+fn a_first_sink_that_fails_leaves_the_second_empty(rt: HostRuntime) -> Result<(), Fail> {
+    let text = two_in_line(rt.alloc())?;
+    let settings = Settings::default();
+    for left in 0..3 {
+        let mut solution = FailingSink::new(rt.alloc(), left);
+        let mut certificate = MemorySink::new(rt.alloc());
+        let bytes = text.as_bytes();
+        let answer = solve(
+            &rt,
+            rt.alloc(),
+            bytes,
+            &settings,
+            &NoGate,
+            &mut solution,
+            &mut certificate,
+        );
+        assert_eq!(rt; answer, Err(SolveFault::Device));
+        let written = solution.inner.as_slice();
+        assert!(rt; SOLUTION.starts_with(written) && written.len() < SOLUTION.len());
+        assert!(rt; certificate.as_slice().is_empty());
+    }
+    Ok(())
+}
+
+#[test]
+fn a_second_sink_that_fails_holds_a_beginning(rt: HostRuntime) -> Result<(), Fail> {
+    let text = two_in_line(rt.alloc())?;
+    let settings = Settings::default();
+    let mut whole = MemorySink::new(rt.alloc());
+    let mut solution = MemorySink::new(rt.alloc());
+    let bytes = text.as_bytes();
+    let answer = solve(
+        &rt,
+        rt.alloc(),
+        bytes,
+        &settings,
+        &NoGate,
+        &mut solution,
+        &mut whole,
+    );
+    assert!(rt; answer.is_ok());
+    for left in 0..3 {
+        let mut solution = MemorySink::new(rt.alloc());
+        let mut certificate = FailingSink::new(rt.alloc(), left);
+        let answer = solve(
+            &rt,
+            rt.alloc(),
+            bytes,
+            &settings,
+            &NoGate,
+            &mut solution,
+            &mut certificate,
+        );
+        assert_eq!(rt; answer, Err(SolveFault::Device));
+        assert_eq!(rt; solution.as_slice(), SOLUTION);
+        let written = certificate.inner.as_slice();
+        assert!(rt; whole.as_slice().starts_with(written));
+        assert!(rt; written.len() < whole.as_slice().len());
+    }
+    Ok(())
+}
+
+#[test]
+fn bytes_taken_one_at_a_time_are_the_same(rt: HostRuntime) -> Result<(), Fail> {
+    let text = two_in_line(rt.alloc())?;
+    let settings = Settings::default();
+    let mut solution = DrippingSink {
+        inner: MemorySink::new(rt.alloc()),
+    };
+    let mut certificate = DrippingSink {
+        inner: MemorySink::new(rt.alloc()),
+    };
+    let bytes = text.as_bytes();
+    let answer = solve(
+        &rt,
+        rt.alloc(),
+        bytes,
+        &settings,
+        &NoGate,
+        &mut solution,
+        &mut certificate,
+    );
+    assert!(rt; answer.is_ok());
+    assert_eq!(rt; solution.inner.as_slice(), SOLUTION);
+    assert_eq!(rt;
+        certificate.inner.as_slice(),
+        b"VRPTW-CERT 1\nINSTANCE T\nCUSTOMERS 2\nNEIGHBOURS 8\nBOUND 0.0\nTREE\nP 0 0\nEND\n".as_slice()
+    );
+    Ok(())
+}

@@ -1,0 +1,138 @@
+//! The solver's answers, and what both sinks hold.
+
+use super::texts::{DEPOT, instance_text, one_customer, three_apart, two_in_line};
+use std::process::Abort;
+use std::test::Fail;
+use tenths::{MemorySink, Tenths};
+use vrptw::{Answer, NoGate, Settings, SolveFault, solve};
+
+/// A text to solve, and what is answered and written.
+#[derive(Drop)]
+struct Case {
+    text: String,
+    answer: Answer,
+    solution: &'static str,
+    certificate: &'static str,
+}
+
+fn check<R: Abort + AllocGlobal>(rt: &R, case: &Case) {
+    let mut solution = MemorySink::new(rt.alloc());
+    let mut certificate = MemorySink::new(rt.alloc());
+    let settings = Settings::default();
+    let text = case.text.as_bytes();
+    let answer = solve(
+        rt,
+        rt.alloc(),
+        text,
+        &settings,
+        &NoGate,
+        &mut solution,
+        &mut certificate,
+    );
+    assert_eq!(rt; answer, Ok(case.answer));
+    assert_eq!(rt; solution.as_slice(), case.solution.as_bytes());
+    assert_eq!(rt; certificate.as_slice(), case.certificate.as_bytes());
+}
+
+#[test]
+fn one_customer_has_one_route(rt: HostRuntime) -> Result<(), Fail> {
+    let case = Case {
+        text: one_customer(rt.alloc())?,
+        answer: Answer::Gap {
+            cost: Tenths::from(100),
+            bound: Tenths::from(0),
+        },
+        solution: "Route #1: 1\nCost 10.0\n",
+        certificate: "VRPTW-CERT 1\nINSTANCE T\nCUSTOMERS 1\nNEIGHBOURS 8\nBOUND 0.0\nTREE\nP 0\nEND\n",
+    };
+    check(&rt, &case);
+    Ok(())
+}
+
+#[test]
+fn the_farthest_customer_comes_first(rt: HostRuntime) -> Result<(), Fail> {
+    let case = Case {
+        text: two_in_line(rt.alloc())?,
+        answer: Answer::Gap {
+            cost: Tenths::from(300),
+            bound: Tenths::from(0),
+        },
+        solution: "Route #1: 2\nRoute #2: 1\nCost 30.0\n",
+        certificate: "VRPTW-CERT 1\nINSTANCE T\nCUSTOMERS 2\nNEIGHBOURS 8\nBOUND 0.0\nTREE\nP 0 0\nEND\n",
+    };
+    check(&rt, &case);
+    Ok(())
+}
+
+#[test]
+fn ties_go_to_the_lower_number(rt: HostRuntime) -> Result<(), Fail> {
+    let customers = "1 3 4 1 0 1000 0\n2 0 5 1 0 1000 0\n3 5 0 1 0 1000 0\n";
+    let case = Case {
+        text: instance_text(rt.alloc(), 3, 1, DEPOT, customers)?,
+        answer: Answer::Gap {
+            cost: Tenths::from(300),
+            bound: Tenths::from(0),
+        },
+        solution: "Route #1: 1\nRoute #2: 2\nRoute #3: 3\nCost 30.0\n",
+        certificate: "VRPTW-CERT 1\nINSTANCE T\nCUSTOMERS 3\nNEIGHBOURS 8\nBOUND 0.0\nTREE\nP 0 0 0\nEND\n",
+    };
+    check(&rt, &case);
+    Ok(())
+}
+
+#[test]
+fn a_plan_that_costs_nothing_is_best(rt: HostRuntime) -> Result<(), Fail> {
+    let case = Case {
+        text: instance_text(rt.alloc(), 1, 1, DEPOT, "1 0 0 1 0 1000 0\n")?,
+        answer: Answer::Best {
+            cost: Tenths::from(0),
+        },
+        solution: "Route #1: 1\nCost 0.0\n",
+        certificate: "VRPTW-CERT 1\nINSTANCE T\nCUSTOMERS 1\nNEIGHBOURS 8\nBOUND 0.0\nTREE\nP 0\nEND\n",
+    };
+    check(&rt, &case);
+    Ok(())
+}
+
+#[test]
+fn too_few_vehicles_leave_it_open(rt: HostRuntime) -> Result<(), Fail> {
+    let open = Answer::Open {
+        bound: Tenths::from(0),
+    };
+    let few = Case {
+        text: three_apart(rt.alloc())?,
+        answer: open,
+        solution: "",
+        certificate: "VRPTW-CERT 1\nINSTANCE T\nCUSTOMERS 3\nNEIGHBOURS 8\nBOUND 0.0\nTREE\nP 0 0 0\nEND\n",
+    };
+    check(&rt, &few);
+    let heavy = Case {
+        text: instance_text(rt.alloc(), 1, 1, DEPOT, "1 3 4 2 0 1000 0\n")?,
+        answer: open,
+        solution: "",
+        certificate: "VRPTW-CERT 1\nINSTANCE T\nCUSTOMERS 1\nNEIGHBOURS 8\nBOUND 0.0\nTREE\nP 0\nEND\n",
+    };
+    check(&rt, &heavy);
+    Ok(())
+}
+
+#[test]
+fn settings_have_ranges(rt: HostRuntime) -> Result<(), Fail> {
+    let text = one_customer(rt.alloc())?;
+    let mut settings = Settings::default();
+    settings.neighbours = 16;
+    let mut solution = MemorySink::new(rt.alloc());
+    let mut certificate = MemorySink::new(rt.alloc());
+    let answer = solve(
+        &rt,
+        rt.alloc(),
+        text.as_bytes(),
+        &settings,
+        &NoGate,
+        &mut solution,
+        &mut certificate,
+    );
+    assert_eq!(rt; answer, Err(SolveFault::BadSettings));
+    assert!(rt; solution.as_slice().is_empty() && certificate.as_slice().is_empty());
+    Ok(())
+}
