@@ -11,7 +11,7 @@ use Rattle.solomon_reader.specs.Bound.{ceiling_of, version_1, leaf, split, IsRou
 use Rattle.solomon_reader.specs.SolutionText.{solution_text}
 use Rattle.solomon_reader.specs.CertificateText.{certificate_text}
 
--- demand 1, window 0 to 1000, no service
+-- a unit of demand, open from 0 to 1000, no service
 abbrev pub open_row : ℕ → ℕ → Row
 open_row x y = record { x = x; y = y; demand = 1; ready = 0; due = 1000; service = 0 }
 

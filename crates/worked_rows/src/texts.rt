@@ -3,10 +3,10 @@
 use std::alloc::{AllocError, Global};
 
 /// The depot at (0,0), open from 0 to 1000.
-pub const DEPOT: &str = "0 0 0 0 0 1000 0\n";
+pub(super) const DEPOT: &str = "0 0 0 0 0 1000 0\n";
 
 /// The text of an instance named `T`.
-pub fn instance_text(
+pub(super) fn instance_text(
     alloc: Global,
     fleet: u32,
     capacity: u32,
@@ -19,17 +19,17 @@ pub fn instance_text(
 }
 
 /// One customer at (3,4), with one vehicle of capacity 1.
-pub fn one_customer(alloc: Global) -> Result<String, AllocError> {
+pub(super) fn one_customer(alloc: Global) -> Result<String, AllocError> {
     instance_text(alloc, 1, 1, DEPOT, "1 3 4 1 0 1000 0\n")
 }
 
 /// Two customers on a line from the depot, with two vehicles of capacity 1.
-pub fn two_in_line(alloc: Global) -> Result<String, AllocError> {
+pub(super) fn two_in_line(alloc: Global) -> Result<String, AllocError> {
     instance_text(alloc, 2, 1, DEPOT, "1 3 4 1 0 1000 0\n2 6 8 1 0 1000 0\n")
 }
 
 /// Three customers close to each other, with two vehicles of capacity 2.
-pub fn three_apart(alloc: Global) -> Result<String, AllocError> {
+pub(super) fn three_apart(alloc: Global) -> Result<String, AllocError> {
     instance_text(
         alloc,
         2,
