@@ -1,5 +1,4 @@
 mod Refusals
 mod Steps
 pub mod ZeroPrices
-pub mod SingleRoutes
 pub mod Answering

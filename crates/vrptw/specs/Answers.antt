@@ -18,7 +18,7 @@ use Rattle.vrptw.specs.declared.answer.SolveFault.{SolveFault}
 use Rattle.vrptw.specs.declared.answer.SolveFault.TheVariants as fault
 use Rattle.vrptw.specs.declared.settings.Settings.{Settings}
 use Rattle.vrptw.specs.Settings.{IsWithin}
-use Rattle.vrptw.specs.Opening.{IsServedAlone}
+use Rattle.insertion.specs.Building.{IsServedAlone}
 
 -- the text is that of a plan and its exact cost
 pub record IsPlanText (p : Problem) (cost : ℕ) (text : List ℕ) : Type 0 where

@@ -2,5 +2,4 @@ pub mod Settings
 pub mod Commands
 pub mod Jobs
 pub mod Leaf
-pub mod Opening
 pub mod Answers

@@ -5,14 +5,14 @@ ghost use Rattle.solomon_reader.specs.Problem.{customer_count};
 ghost use Rattle.solomon_reader.specs.Layout.{IsInstance, IsWithinLimits};
 ghost use Rattle.solomon_reader.specs.declared.limits.TheConstants.{MOST_NEIGHBOURS};
 ghost use Rattle.vrptw.specs.Leaf.{AreZero};
-ghost use Rattle.vrptw.specs.Opening.{IsServedAlone};
+ghost use Rattle.insertion.specs.Building.{IsServedAlone};
 ghost use Rattle.vrptw.specs.Answers.{Solves, RefusesText, Writes, WritesBoth, IsPlanText, IsBoundText};
 ghost use Rattle.vrptw.specs.declared.answer.SolveFault.TheVariants.{Memory};
 
 use crate::answer::{Answer, SolveFault};
 use crate::certificate_text::write_certificate;
 use crate::gate::Gate;
-use crate::opening::one_route_each;
+use crate::opening::first_plan;
 use crate::settings::Settings;
 use incumbent_book::{Book, BookFault, Outcome};
 use schedule::Feasible;
@@ -44,14 +44,14 @@ fn no_prices(alloc: Global, instance: &Instance) -> Result<Vec<i64>, AllocError>
     Ok(vec![in alloc; 0; count as usize]?)
 }
 
-/// The outcome of a book that was offered the plan with one route for each customer.
+/// The outcome of a book that was offered the first plan.
 fn outcome_of<'i>(alloc: Global, instance: &'i Instance) -> Result<Outcome<'i>, SolveFault>
     ensures problem { IfOk result (λ o. o.problem ≡ instance.now) }
     ensures served { IfOk result (λ o. IsServedAlone instance.now → o.incumbent ≢ None) }
     ensures memory { IfErr result (λ e. e ≡ Memory) }
 {
     let mut book = Book::of_offers(alloc, instance)?;
-    if let Some(plan) = one_route_each(alloc, instance)? {
+    if let Some(plan) = first_plan(alloc, instance)? {
         match book.offer(FIRST_WORKER, plan) {
             Ok(_) => {}
             Err((_, BookFault::Memory)) => return Err(SolveFault::Memory),

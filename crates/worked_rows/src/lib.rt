@@ -4,12 +4,17 @@
 
 #[cfg(test)]
 mod calls;
+pub mod few;
+#[cfg(test)]
+mod insertions;
 #[cfg(test)]
 mod program;
 #[cfg(test)]
 mod reader;
 #[cfg(test)]
 mod routes;
+#[cfg(test)]
+mod segments_joined;
 #[cfg(test)]
 mod sinks;
 #[cfg(test)]

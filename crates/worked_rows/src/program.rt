@@ -50,7 +50,26 @@ fn plans_and_certificates_are_written(rt: HostRuntime) -> Result<(), Fail> {
             "2",
             "P 0 0",
         ),
-        (three_apart(rt.alloc())?, "OPEN 0.0\n", "", "3", "P 0 0 0"),
+        (
+            instance_text(
+                rt.alloc(),
+                2,
+                2,
+                DEPOT,
+                "1 3 4 1 0 1000 0\n2 6 8 1 0 1000 0\n",
+            )?,
+            "GAP 20.0 0.0\n",
+            "Route #1: 1 2\nCost 20.0\n",
+            "2",
+            "P 0 0",
+        ),
+        (
+            three_apart(rt.alloc())?,
+            "GAP 401.0 0.0\n",
+            "Route #1: 2 1\nRoute #2: 3\nCost 401.0\n",
+            "3",
+            "P 0 0 0",
+        ),
         (
             instance_text(rt.alloc(), 1, 1, DEPOT, "1 3 4 2 0 1000 0\n")?,
             "OPEN 0.0\n",

@@ -65,6 +65,32 @@ fn the_farthest_customer_comes_first(rt: HostRuntime) -> Result<(), Fail> {
 }
 
 #[test]
+fn one_vehicle_serves_what_it_can(rt: HostRuntime) -> Result<(), Fail> {
+    let customers = "1 3 4 1 0 1000 0\n2 6 8 1 0 1000 0\n";
+    let one = Case {
+        text: instance_text(rt.alloc(), 2, 2, DEPOT, customers)?,
+        answer: Answer::Gap {
+            cost: Tenths::from(200),
+            bound: Tenths::from(0),
+        },
+        solution: "Route #1: 1 2\nCost 20.0\n",
+        certificate: "VRPTW-CERT 1\nINSTANCE T\nCUSTOMERS 2\nNEIGHBOURS 8\nBOUND 0.0\nTREE\nP 0 0\nEND\n",
+    };
+    check(&rt, &one);
+    let two = Case {
+        text: three_apart(rt.alloc())?,
+        answer: Answer::Gap {
+            cost: Tenths::from(4010),
+            bound: Tenths::from(0),
+        },
+        solution: "Route #1: 2 1\nRoute #2: 3\nCost 401.0\n",
+        certificate: "VRPTW-CERT 1\nINSTANCE T\nCUSTOMERS 3\nNEIGHBOURS 8\nBOUND 0.0\nTREE\nP 0 0 0\nEND\n",
+    };
+    check(&rt, &two);
+    Ok(())
+}
+
+#[test]
 fn ties_go_to_the_lower_number(rt: HostRuntime) -> Result<(), Fail> {
     let customers = "1 3 4 1 0 1000 0\n2 0 5 1 0 1000 0\n3 5 0 1 0 1000 0\n";
     let case = Case {
@@ -99,11 +125,12 @@ fn too_few_vehicles_leave_it_open(rt: HostRuntime) -> Result<(), Fail> {
     let open = Answer::Open {
         bound: Tenths::from(0),
     };
+    let customers = "1 3 4 1 0 1000 0\n2 6 8 1 0 1000 0\n";
     let few = Case {
-        text: three_apart(rt.alloc())?,
+        text: instance_text(rt.alloc(), 1, 1, DEPOT, customers)?,
         answer: open,
         solution: "",
-        certificate: "VRPTW-CERT 1\nINSTANCE T\nCUSTOMERS 3\nNEIGHBOURS 8\nBOUND 0.0\nTREE\nP 0 0 0\nEND\n",
+        certificate: "VRPTW-CERT 1\nINSTANCE T\nCUSTOMERS 2\nNEIGHBOURS 8\nBOUND 0.0\nTREE\nP 0 0\nEND\n",
     };
     check(&rt, &few);
     let heavy = Case {

@@ -1,0 +1,4 @@
+pub mod Weighing
+pub mod Gaps
+pub mod Routing
+pub mod Building

@@ -1,0 +1,16 @@
+//! Plans built by sequential insertion (Solomon 1987, heuristic I1).
+#![tactic(auto)]
+
+mod building;
+mod built;
+mod fault;
+mod gap;
+mod opening;
+mod proposal;
+mod route;
+mod weights;
+
+pub use building::build;
+pub use built::Built;
+pub use fault::InsertFault;
+pub use weights::Weights;

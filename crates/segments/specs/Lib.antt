@@ -1,0 +1,9 @@
+pub mod Linked
+pub mod Segments
+pub mod Joining
+pub mod Closing
+pub mod Chains
+pub mod Trees
+pub mod PlanTrees
+pub mod RouteLending
+pub mod Statements
