@@ -1,5 +1,6 @@
 //! The program with its words and files: the lines that it prints and its statuses.
 
+use super::reader::many_customers;
 use super::texts::{DEPOT, instance_text, one_customer, three_apart, two_in_line};
 use std::fs;
 use std::process::Abort;
@@ -99,6 +100,62 @@ fn plans_and_certificates_are_written(rt: HostRuntime) -> Result<(), Fail> {
             "VRPTW-CERT 1\nINSTANCE T\nCUSTOMERS {customers}\nNEIGHBOURS 8\nBOUND 0.0\nTREE\n{leaf}\nEND\n"
         )?;
         assert_file(&rt, "rows_certificate", certificate.as_str())?;
+    }
+    Ok(())
+}
+
+#[test]
+fn windows_and_closing_times_decide_the_line(rt: HostRuntime) -> Result<(), Fail> {
+    let rows: [(&str, &str, &str); 6] = [
+        (DEPOT, "1 1 3 1 0 1000 0\n", "GAP 6.2 0.0\n"),
+        (DEPOT, "1 3 4 1 0 5 0\n", "GAP 10.0 0.0\n"),
+        (DEPOT, "1 3 4 1 0 4 0\n", "OPEN 0.0\n"),
+        ("0 0 0 0 0 10 0\n", "1 3 4 1 0 1000 0\n", "GAP 10.0 0.0\n"),
+        ("0 0 0 0 0 9 0\n", "1 3 4 1 0 1000 0\n", "OPEN 0.0\n"),
+        ("0 0 0 0 0 65 0\n", "1 3 4 1 50 55 10\n", "GAP 10.0 0.0\n"),
+    ];
+    for (depot, customer, line) in rows {
+        let text = instance_text(rt.alloc(), 1, 1, depot, customer)?;
+        fs::write(&rt, "window_instance", text.as_bytes())?;
+        check(
+            &rt,
+            &Run {
+                words: [
+                    "solve",
+                    "window_instance",
+                    "window_solution",
+                    "window_certificate",
+                ],
+                out: line,
+                errors: "",
+                status: 1,
+            },
+        );
+    }
+    Ok(())
+}
+
+#[test]
+fn an_empty_file_and_too_many_customers_are_refused(rt: HostRuntime) -> Result<(), Fail> {
+    let customers = many_customers(rt.alloc(), 101)?;
+    let many = instance_text(rt.alloc(), 1, 1, DEPOT, customers.as_str())?;
+    let rows: [(&str, &str); 2] = [
+        ("", "vrptw: instance: Truncated\n"),
+        (many.as_str(), "vrptw: instance: TooManyCustomers\n"),
+    ];
+    for (text, errors) in rows {
+        fs::write(&rt, "odd_instance", text.as_bytes())?;
+        check(
+            &rt,
+            &Run {
+                words: ["solve", "odd_instance", "odd_solution", "odd_certificate"],
+                out: "",
+                errors,
+                status: 3,
+            },
+        );
+        assert_file(&rt, "odd_solution", "")?;
+        assert_file(&rt, "odd_certificate", "")?;
     }
     Ok(())
 }

@@ -97,7 +97,7 @@ fn each_fault_is_told(rt: HostRuntime) -> Result<(), Fail> {
 }
 
 /// Customers 1 to `count`, all at (3,4).
-fn many_customers(alloc: Global, count: u32) -> Result<String, AllocError> {
+pub(super) fn many_customers(alloc: Global, count: u32) -> Result<String, AllocError> {
     let mut customers = String::new(alloc);
     for number in 1..=count {
         let line = format!(in alloc; "{number} 3 4 1 0 1000 0\n")?;
