@@ -69,6 +69,7 @@ fn lists_are_joined_up_to_eight_numbers(rt: HostRuntime) -> Result<(), Fail> {
     }
     let mut tree = RouteTree::new(rt.alloc(), &(), items)?;
     assert_eq!(rt; tree.whole().map(|list| list.len()), Some(8));
+    assert_eq!(rt; tree.len(), 8);
     tree.splice(&(), 3, 3, &[Few::one(9)])?;
     assert!(rt; tree.whole().is_none());
     assert_eq!(rt; tree.len(), 9);
