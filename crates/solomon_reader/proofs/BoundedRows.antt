@@ -1,14 +1,13 @@
 -- What the limits say of a row, by its number.
-use Rattle.std.proofs.Common.{◌≡◌, ℕ, zero, suc, ◌+◌, ◌-◌, ◌≤◌, ◌<◌, List, [], ◌∷◌, length, get_or, arith, refl, ap, ◌∙◌}
+use Rattle.std.proofs.Common.{◌≡◌, ℕ, zero, suc, ◌-◌, ◌≤◌, ◌<◌, List, [], ◌∷◌, length, get_or, arith, refl, ap, ◌∙◌}
 use Rattle.std.specs.List.{AllByRecursion}
-use Rattle.tenths.specs.declared.places.Point.{Point}
 use Rattle.tenths.specs.Distance.{point_at, distance_of}
 use Rattle.tenths.proofs.Roots.{distance_of-le}
 use Rattle.solomon_reader.specs.declared.limits.TheConstants.{MOST_DEMAND, MOST_DISTANCE}
 use Rattle.solomon_reader.specs.Distance.{point_of, points, distance}
 use Rattle.solomon_reader.specs.declared.row.Row.{Row}
-use Rattle.solomon_reader.specs.Problem.{Problem, row, customer_count, IsCustomer}
-use Rattle.solomon_reader.specs.Layout.{IsRow, IsDepotRow, IsCustomerRow, AreRows, IsWithinLimits}
+use Rattle.solomon_reader.specs.Problem.{Problem, row, IsCustomer}
+use Rattle.solomon_reader.specs.Layout.{IsRow, IsCustomerRow, AreRows, IsWithinLimits}
 
 abbrev pub blank : Row
 blank = record { x = 0; y = 0; demand = 0; ready = 0; due = 0; service = 0 }

@@ -1,17 +1,15 @@
 -- A fault of the words that isn't their end stays, however the words go on.
-use Rattle.std.proofs.Common.{◌≡◌, ℕ, zero, suc, ◌+◌, ◌≤◌, Bool, true, false, cond, List, [], ◌∷◌, ◌++◌, length, Result, Ok, Err, refl, sym, ap, ◌∙◌, ◌⊎◌, inl, inr, subst}
+use Rattle.std.proofs.Common.{◌≡◌, ℕ, zero, suc, ◌+◌, Bool, true, false, cond, List, [], ◌∷◌, ◌++◌, length, Result, Ok, Err, refl, sym, ap, ◌⊎◌, inl, inr}
 use Rattle.std.specs.Prelude.{nat_le, ◌==◌, ◌&&◌}
 use Rattle.std.specs.Str.{bytes_eq}
 use Rattle.std.specs.Str.Parse.{digits_value}
 use Rattle.solomon_reader.specs.declared.limits.TheConstants.{MOST_NAME, MOST_FLEET, MOST_CAPACITY, MOST_CUSTOMERS, MOST_COORDINATE, MOST_DEMAND, MOST_TIME}
-use Rattle.solomon_reader.specs.declared.row.Row.{Row}
 use Rattle.solomon_reader.specs.declared.fault.ReadFault.{ReadFault}
 use Rattle.solomon_reader.specs.declared.fault.ReadFault.TheVariants.{Truncated, NoCustomers, BadNumber, BadWord, OutOfRange, OutOfOrder, BadDepot, DemandZero, WindowReversed}
 use Rattle.solomon_reader.specs.Words.{Token, Word, Foreign}
-use Rattle.solomon_reader.specs.Problem.{Problem}
 use Rattle.solomon_reader.specs.Layout.{is_number, vehicle_words, customer_words}
 use Rattle.solomon_reader.specs.Laws.{IsEnd}
-use Rattle.solomon_reader.specs.Reading.{◌>>=◌, check, word_at, fixed_at, all_fixed_at, number_at, within_at, order_at, demand_at, due_at, service_at, head_at, window_at, row_at, rows_at, end_before, name_at, fleet_at, header_at, reading}
+use Rattle.solomon_reader.specs.Reading.{◌>>=◌, check, fixed_at, all_fixed_at, number_at, within_at, order_at, demand_at, due_at, service_at, head_at, window_at, row_at, rows_at, end_before, name_at, fleet_at, header_at, reading}
 
 -- what is left may be longer
 abbrev Longer : Type 0 → Type 0

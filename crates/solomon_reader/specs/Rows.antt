@@ -1,13 +1,14 @@
 -- Small instances, and what the definitions give on them, each computed by hand.
-use Rattle.std.specs.Prelude.{◌≡◌, ℕ, ◌+◌, ◌*◌, List, [], ◌∷◌, ◌++◌, codes, ℤ, pos, neg_ℤ}
+use Rattle.std.specs.Prelude.{◌≡◌, ℕ, List, [], ◌∷◌, ◌++◌, codes, pos, neg_ℤ}
 use Rattle.solomon_reader.specs.declared.row.Row.{Row}
 use Rattle.solomon_reader.specs.Words.{words, Word, Foreign}
 use Rattle.solomon_reader.specs.Problem.{Problem}
 use Rattle.solomon_reader.specs.Distance.{distance}
-use Rattle.solomon_reader.specs.Plan.{route_cost, plan_cost, Finishes, IsPlan}
+use Rattle.solomon_reader.specs.Plan.{route_cost, plan_cost, Finishes}
 use Rattle.solomon_reader.specs.Relaxed.{reduced_cost, IsRelaxed}
 use Rattle.solomon_reader.specs.Region.{root_region}
 use Rattle.solomon_reader.specs.Bound.{ceiling_of, version_1, leaf, split, IsRoundedUp, IsTreeBound}
+use Rattle.solomon_reader.specs.Moves.{after_relocate, after_exchange, after_or_opt, after_two_opt_star, after_cross}
 use Rattle.solomon_reader.specs.SolutionText.{solution_text}
 use Rattle.solomon_reader.specs.CertificateText.{certificate_text}
 
@@ -65,3 +66,15 @@ pub record WorkedRows : Type 0 where
 pub record WorkedBounds : Type 0 where
   pub split_tree : IsTreeBound version_1 narrow 8 (split (0, 1) (leaf (pos 100000 ∷ pos 301000 ∷ [])) (leaf (pos 401000 ∷ pos 0 ∷ []))) 199
   pub remembered : ¬ IsRelaxed revisits (root_region 2) 1 (2 ∷ 1 ∷ 2 ∷ [])
+
+-- Each kind of move on small routes.
+pub record WorkedMoves : Type 0 where
+  pub relocate : after_relocate ((2 ∷ []) ∷ (1 ∷ []) ∷ []) 0 0 1 0 ≡ (2 ∷ 1 ∷ []) ∷ []
+  pub relocate_within : after_relocate ((1 ∷ 2 ∷ 3 ∷ []) ∷ []) 0 0 0 2 ≡ (2 ∷ 3 ∷ 1 ∷ []) ∷ []
+  pub relocate_to_new : after_relocate ((1 ∷ 2 ∷ []) ∷ []) 0 1 1 0 ≡ (1 ∷ []) ∷ (2 ∷ []) ∷ []
+  pub exchange : after_exchange ((1 ∷ 4 ∷ []) ∷ (3 ∷ 2 ∷ []) ∷ []) 0 1 1 1 ≡ (1 ∷ 2 ∷ []) ∷ (3 ∷ 4 ∷ []) ∷ []
+  pub exchange_within : after_exchange ((1 ∷ 2 ∷ 3 ∷ []) ∷ []) 0 0 0 2 ≡ (3 ∷ 2 ∷ 1 ∷ []) ∷ []
+  pub chain : after_or_opt ((1 ∷ 4 ∷ []) ∷ (3 ∷ 2 ∷ []) ∷ []) 0 0 2 1 0 ≡ (1 ∷ 4 ∷ 3 ∷ 2 ∷ []) ∷ []
+  pub chain_within : after_or_opt ((1 ∷ 2 ∷ 3 ∷ 4 ∷ []) ∷ []) 0 1 2 0 2 ≡ (1 ∷ 4 ∷ 2 ∷ 3 ∷ []) ∷ []
+  pub ends : after_two_opt_star ((1 ∷ 4 ∷ []) ∷ (3 ∷ 2 ∷ []) ∷ []) 0 1 1 1 ≡ (1 ∷ 2 ∷ []) ∷ (3 ∷ 4 ∷ []) ∷ []
+  pub chains : after_cross ((1 ∷ 2 ∷ 3 ∷ []) ∷ (4 ∷ 5 ∷ []) ∷ []) 0 0 2 1 1 1 ≡ (5 ∷ 3 ∷ []) ∷ (4 ∷ 1 ∷ 2 ∷ []) ∷ []

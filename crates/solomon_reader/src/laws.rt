@@ -1,7 +1,7 @@
 //! Laws of the definitions, and the definitions at small instances.
 
 ghost use Rattle.solomon_reader.specs.Laws.{FirstFaultStays, LeastWithZero};
-ghost use Rattle.solomon_reader.specs.Rows.{WorkedBounds, WorkedRows};
+ghost use Rattle.solomon_reader.specs.Rows.{WorkedBounds, WorkedMoves, WorkedRows};
 
 /// What the definitions give on small instances: distances, costs, walks, and both texts.
 pub fn worked_rows()
@@ -11,6 +11,11 @@ pub fn worked_rows()
 /// The bound of a tree with two leaves, and a list that comes back too soon to be a relaxed route.
 pub fn worked_bounds()
     ensures { WorkedBounds }
+{}
+
+/// The routes that each kind of move leaves.
+pub fn worked_moves()
+    ensures { WorkedMoves }
 {}
 
 /// The least of zero and the reduced costs is the lesser of zero and the least reduced cost.

@@ -1,10 +1,8 @@
-use Rattle.std.proofs.Common.{◌≡◌, ℕ, List, arith, inl, inr, subst}
+use Rattle.std.proofs.Common.{◌≡◌, arith, subst}
 use Rattle.std.specs.Prelude.{ℤ, pos, ◌≤ℤ◌}
 use Rattle.std.specs.Int.{int_min}
 use Rattle.std.proofs.lemmas.Int.{ints, clamps}
-use Rattle.solomon_reader.specs.Problem.{Problem}
-use Rattle.solomon_reader.specs.Region.{Region}
-use Rattle.solomon_reader.specs.Relaxed.{IsRelaxed, IsLeast, IsLeastWithZero, reduced_cost}
+use Rattle.solomon_reader.specs.Relaxed.{reduced_cost}
 use Rattle.solomon_reader.proofs.laws.least_with_zero.Goals as goal
 
 lesser : (m w : ℤ) → w ≤ℤ pos 0 → w ≤ℤ m → w ≤ℤ int_min (pos 0) m

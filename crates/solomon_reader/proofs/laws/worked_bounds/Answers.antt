@@ -1,18 +1,17 @@
-use Rattle.std.proofs.Common.{refl, arith, ◌≡◌, ◌≢◌, ℕ, zero, suc, ◌+◌, ◌<◌, ◌≤◌, List, [], ◌∷◌, ◌++◌, inl, inr, ◌⊎◌, ap, length, length-append, sym, ◌∙◌}
-use Rattle.std.specs.Prelude.{ℤ, pos, neg_ℤ, ◌≤ℤ◌, ◌+ℤ◌, ◌*ℤ◌}
-use Rattle.std.specs.Int.{int_min}
+use Rattle.std.proofs.Common.{refl, arith, ◌≡◌, ℕ, zero, suc, List, [], ◌∷◌, ◌++◌, inl, inr, ◌⊎◌, ap, length, length-append}
+use Rattle.std.specs.Prelude.{pos, neg_ℤ, ◌≤ℤ◌}
 use Rattle.std.proofs.lemmas.Int.{ints}
 use Rattle.std.proofs.lemmas.List.Sums.{sum_by-cons}
-use Rattle.std.specs.FinSet.{contains-insert, insert}
+use Rattle.std.specs.FinSet.{contains-insert}
 use Rattle.solomon_reader.specs.Distance.{distance}
 use Rattle.tenths.specs.Root.{root_of, root_below}
 use Rattle.tenths.specs.Distance.{distance_of}
 use Rattle.solomon_reader.specs.Problem.{IsCustomer, demand}
-use Rattle.solomon_reader.specs.Plan.{IsFitting, arcs, Arc}
-use Rattle.solomon_reader.specs.Region.{Among, IsAllowed, Region, root_region, IsArc, used_child, unused_child, IsUndecided, arc_cmp, Holds, ArcSet}
-use Rattle.solomon_reader.specs.Relaxed.{IsRelaxed, IsNeighbour, rank, reduced_cost, IsLeastWithZero}
+use Rattle.solomon_reader.specs.Plan.{IsFitting, Arc}
+use Rattle.solomon_reader.specs.Region.{Among, Region, root_region, used_child, unused_child, IsUndecided, Holds}
+use Rattle.solomon_reader.specs.Relaxed.{IsRelaxed, IsNeighbour, rank, reduced_cost}
 use Rattle.solomon_reader.specs.ArcOrder.{inserted, none_in_empty, arc_cmp_total}
-use Rattle.solomon_reader.specs.Bound.{ceiling_of, IsRoundedUp, IsLeafValue, version_1}
+use Rattle.solomon_reader.specs.Bound.{ceiling_of, IsLeafValue, version_1}
 use Rattle.solomon_reader.specs.Rows.{narrow, revisits}
 use Rattle.solomon_reader.proofs.laws.worked_bounds.Goals as goal
 

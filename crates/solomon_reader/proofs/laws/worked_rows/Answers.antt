@@ -1,14 +1,13 @@
-use Rattle.std.proofs.Common.{refl, arith, ◌≡◌, ◌≢◌, ℕ, ◌+◌, ◌<◌, ◌≤◌, List, [], ◌∷◌, ◌++◌, inl, inr, ap, length, length-append, ◌⊎◌}
-use Rattle.std.specs.Prelude.{pos, ◌≤ℤ◌}
+use Rattle.std.proofs.Common.{refl, arith, ◌≡◌, ◌≢◌, ℕ, ◌≤◌, List, [], ◌∷◌, ◌++◌, inl, inr, ap, length, length-append}
+use Rattle.std.specs.Prelude.{pos}
 use Rattle.std.proofs.lemmas.Int.{ints}
 use Rattle.std.specs.Fmt.{digits}
 use Rattle.solomon_reader.specs.Distance.{distance}
 use Rattle.tenths.specs.Root.{root_of, root_below}
 use Rattle.tenths.specs.Distance.{distance_of}
-use Rattle.solomon_reader.specs.Problem.{IsCustomer}
-use Rattle.solomon_reader.specs.Plan.{IsFitting, arcs, Arc}
+use Rattle.solomon_reader.specs.Plan.{Arc}
 use Rattle.solomon_reader.specs.Region.{Among, IsAllowed, root_region, IsArc}
-use Rattle.solomon_reader.specs.Relaxed.{IsRelaxed, IsNeighbour, rank}
+use Rattle.solomon_reader.specs.Relaxed.{IsNeighbour}
 use Rattle.solomon_reader.specs.ArcOrder.{none_in_empty}
 use Rattle.solomon_reader.specs.Bound.{IsRoundedUp}
 use Rattle.solomon_reader.specs.Words.{words_from}

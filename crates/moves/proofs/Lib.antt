@@ -1,0 +1,9 @@
+pub mod RouteLengths
+pub mod Searching
+pub mod Rebuilding
+pub mod Swaps
+pub mod Chains
+pub mod ChangedRoutes
+pub mod JoinedStops
+pub mod ExactValues
+pub mod PlanStops

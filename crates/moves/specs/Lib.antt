@@ -1,0 +1,6 @@
+pub mod Values
+pub mod Order
+pub mod Trees
+pub mod Changes
+pub mod Costs
+pub mod Search

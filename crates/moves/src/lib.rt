@@ -1,0 +1,21 @@
+//! Five kinds of moves of a plan, what they change of its cost, and the best of a kind.
+#![tactic(auto)]
+
+mod applying;
+mod candidate;
+mod change;
+mod changing;
+mod choosing;
+mod costing;
+mod fault;
+mod plan;
+mod ranges;
+mod sizes;
+mod valuing;
+
+pub use applying::apply;
+pub use candidate::{Chain, Kind, Move, Place};
+pub use choosing::best;
+pub use fault::MoveFault;
+pub use plan::trees_of;
+pub use valuing::value;
