@@ -7,6 +7,7 @@ use Rattle.solomon_reader.specs.Problem.{Problem}
 use Rattle.solomon_reader.specs.Layout.{IsInstance}
 use Rattle.solomon_reader.specs.Reading.{reading}
 use Rattle.solomon_reader.specs.Plan.{IsPlan, plan_cost}
+use Rattle.solomon_reader.specs.Moves.{IsLocalOptimum}
 use Rattle.solomon_reader.specs.Bound.{ceiling_of}
 use Rattle.solomon_reader.specs.SolutionText.{solution_text}
 use Rattle.solomon_reader.specs.CertificateText.{IsAccepted}
@@ -20,10 +21,11 @@ use Rattle.vrptw.specs.declared.settings.Settings.{Settings}
 use Rattle.vrptw.specs.Settings.{IsWithin}
 use Rattle.insertion.specs.Building.{IsServedAlone}
 
--- the text is that of a plan and its exact cost
+-- the text is that of a plan, which no single move makes cheaper, and of its exact cost
 pub record IsPlanText (p : Problem) (cost : ℕ) (text : List ℕ) : Type 0 where
   pub routes : List (List ℕ)
   pub plan : IsPlan p routes
+  pub optimum : IsLocalOptimum p routes
   pub exact : plan_cost p routes ≡ cost
   pub spelled : text ≡ solution_text routes cost
 

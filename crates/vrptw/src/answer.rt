@@ -4,6 +4,7 @@ ghost use Rattle.std.specs.Prelude.{◌≡◌};
 ghost use Rattle.vrptw.specs.declared.answer.SolveFault.TheVariants as fault;
 
 use incumbent_book::OpenFault;
+use search::SearchFault;
 use sol_writer::WriteFault;
 use solomon_reader::ReadFault;
 use std::alloc::AllocError;
@@ -53,6 +54,14 @@ impl From<OpenFault> for SolveFault {
     ghost from_gives = { λ _ e. e ≡ fault.Memory };
 
     fn from(_e: OpenFault) -> SolveFault {
+        SolveFault::Memory
+    }
+}
+
+impl From<SearchFault> for SolveFault {
+    ghost from_gives = { λ _ e. e ≡ fault.Memory };
+
+    fn from(_e: SearchFault) -> SolveFault {
         SolveFault::Memory
     }
 }

@@ -1,9 +1,10 @@
 //! From the bytes of an instance to a plan and a certificate.
 
-ghost use Rattle.std.specs.Prelude.{◌≡◌, ◌≢◌, ◌≤◌, None, IfOk, IfErr, vec_len, length};
+ghost use Rattle.std.specs.Prelude.{◌≡◌, ◌≢◌, ◌+◌, ◌<◌, ◌≤◌, None, IfOk, IfErr, OnOk, MatchOption, length};
 ghost use Rattle.solomon_reader.specs.Problem.{customer_count};
 ghost use Rattle.solomon_reader.specs.Layout.{IsInstance, IsWithinLimits};
-ghost use Rattle.solomon_reader.specs.declared.limits.TheConstants.{MOST_NEIGHBOURS};
+ghost use Rattle.solomon_reader.specs.Moves.{IsLocalOptimum};
+ghost use Rattle.solomon_reader.specs.declared.limits.TheConstants.{MOST_EVENTS, MOST_NEIGHBOURS};
 ghost use Rattle.vrptw.specs.Leaf.{AreZero};
 ghost use Rattle.insertion.specs.Building.{IsServedAlone};
 ghost use Rattle.vrptw.specs.Answers.{Solves, RefusesText, Writes, WritesBoth, IsPlanText, IsBoundText};
@@ -15,7 +16,10 @@ use crate::gate::Gate;
 use crate::opening::first_plan;
 use crate::settings::Settings;
 use incumbent_book::{Book, BookFault, Outcome};
+use rand_core::SeedableRng;
+use rand_xoshiro::Xoshiro256PlusPlus;
 use schedule::Feasible;
+use search::Searcher;
 use solomon_reader::{Instance, ReadFault, read};
 use std::alloc::{AllocError, Global};
 use tenths::{Sink, Tenths};
@@ -44,25 +48,83 @@ fn no_prices(alloc: Global, instance: &Instance) -> Result<Vec<i64>, AllocError>
     Ok(vec![in alloc; 0; count as usize]?)
 }
 
-/// The outcome of a book that was offered the first plan.
-fn outcome_of<'i>(alloc: Global, instance: &'i Instance) -> Result<Outcome<'i>, SolveFault>
+/// Offers a plan to a book that has room for it.
+fn offer<'i>(book: &mut Book<'i>, plan: Feasible<'i>) -> Result<(), SolveFault>
+    requires problem { plan.problem ≡ book.old.problem }
+    requires room { length book.old.history < MOST_EVENTS }
+    ensures problem { book.new.problem ≡ book.old.problem }
+    ensures event { OnOk result (length book.new.history ≡ length book.old.history + 1) }
+    ensures served { OnOk result (book.new.incumbent ≢ None) }
+    ensures memory { IfErr result (λ e. e ≡ Memory) }
+{
+    match book.offer(FIRST_WORKER, plan) {
+        Ok(_) => Ok(()),
+        Err((_, BookFault::Memory)) => Err(SolveFault::Memory),
+        Err(_) => unreachable!(),
+    }
+}
+
+/// The plan that a descent leads to.
+fn descended<'i>(
+    alloc: Global,
+    plan: Feasible<'i>,
+    seed: u32,
+) -> Result<Feasible<'i>, SolveFault>
+    ensures problem { IfOk result (λ f. f.problem ≡ plan.entry.problem) }
+    ensures cost { IfOk result (λ f. f.cost ≤ plan.entry.cost) }
+    ensures optimum { IfOk result (λ f. IsLocalOptimum f.problem f.routes) }
+    ensures memory { IfErr result (λ e. e ≡ Memory) }
+{
+    let random = Xoshiro256PlusPlus::seed_from_u64(u64::from(seed));
+    let mut searcher = Searcher::new(alloc, plan, random);
+    searcher.descend()?;
+    Ok(searcher.into_plan())
+}
+
+/// The outcome of a book that was offered the first plan, and what a descent makes of it where that
+/// is cheaper.
+fn outcome_of<'i>(
+    alloc: Global,
+    instance: &'i Instance,
+    seed: u32,
+) -> Result<Outcome<'i>, SolveFault>
     ensures problem { IfOk result (λ o. o.problem ≡ instance.now) }
     ensures served { IfOk result (λ o. IsServedAlone instance.now → o.incumbent ≢ None) }
     ensures memory { IfErr result (λ e. e ≡ Memory) }
 {
     let mut book = Book::of_offers(alloc, instance)?;
     if let Some(plan) = first_plan(alloc, instance)? {
-        match book.offer(FIRST_WORKER, plan) {
-            Ok(_) => {}
-            Err((_, BookFault::Memory)) => return Err(SolveFault::Memory),
-            Err(_) => unreachable!(),
+        let cost = plan.cost();
+        let copy = plan.try_clone()?;
+        offer(&mut book, plan)?;
+        let lower = descended(alloc, copy, seed)?;
+        if lower.cost().get() < cost.get() {
+            offer(&mut book, lower)?;
         }
     }
     Ok(book.finish())
 }
 
+/// The plan of an outcome, if it has one, descended once more.
+fn last_plan<'i>(
+    alloc: Global,
+    outcome: &Outcome<'i>,
+    seed: u32,
+) -> Result<Option<Feasible<'i>>, SolveFault>
+    ensures plan { IfOk result (λ plan. MatchOption plan (outcome.now.incumbent ≡ None)
+        (λ f. (f.problem ≡ outcome.now.problem) × IsLocalOptimum f.problem f.routes)) }
+    ensures memory { IfErr result (λ e. e ≡ Memory) }
+{
+    let Some(plan) = outcome.plan() else {
+        return Ok(None);
+    };
+    let lower = descended(alloc, plan.try_clone()?, seed)?;
+    Ok(Some(lower))
+}
+
 /// Writes the text of a plan.
 fn write_plan<X: Sink>(plan: &Feasible<'_>, solution: &mut X) -> Result<(), SolveFault>
+    requires { IsLocalOptimum plan.now.problem plan.now.routes }
     ensures { Writes (IsPlanText plan.now.problem plan.now.cost)
         (record { taken = X.taken solution.old; failures = X.failures solution.old })
         (record { taken = X.taken solution.new; failures = X.failures solution.new }) result }
@@ -94,31 +156,32 @@ fn write_bound<Y: Sink>(
     }
 }
 
-/// Writes the plan of an outcome, if it has one, and then the certificate with prices of zero.
-fn write_outcome<X: Sink, Y: Sink>(
-    outcome: &Outcome<'_>,
+/// Writes the plan, if there is one, and then the certificate with prices of zero.
+fn write_both<X: Sink, Y: Sink>(
+    instance: &Instance,
+    plan: Option<&Feasible<'_>>,
     neighbours: u32,
     prices: &[i64],
     solution: &mut X,
     certificate: &mut Y,
 ) -> Result<Answer, SolveFault>
+    requires plan { MatchOption plan (¬ IsServedAlone instance.now) (λ f. (f.now.problem ≡ instance.now) × IsLocalOptimum f.now.problem f.now.routes) }
     requires few { neighbours ≤ MOST_NEIGHBOURS }
-    requires len { length prices.now ≡ customer_count outcome.now.problem }
+    requires len { length prices.now ≡ customer_count instance.now }
     requires zero { AreZero prices.now }
-    requires served { IsServedAlone outcome.now.problem → outcome.now.incumbent ≢ None }
-    ensures { WritesBoth outcome.now.problem
+    ensures { WritesBoth instance.now
         (record { taken = X.taken solution.old; failures = X.failures solution.old })
         (record { taken = X.taken solution.new; failures = X.failures solution.new })
         (record { taken = Y.taken certificate.old; failures = Y.failures certificate.old })
         (record { taken = Y.taken certificate.new; failures = Y.failures certificate.new }) result }
 {
     let bound = Tenths::from(0);
-    let Some(plan) = outcome.plan() else {
-        write_bound(outcome.instance(), neighbours, prices, certificate)?;
+    let Some(plan) = plan else {
+        write_bound(instance, neighbours, prices, certificate)?;
         return Ok(Answer::Open { bound });
     };
     write_plan(plan, solution)?;
-    write_bound(outcome.instance(), neighbours, prices, certificate)?;
+    write_bound(instance, neighbours, prices, certificate)?;
     let cost = plan.cost();
     if cost.get() == 0 {
         return Ok(Answer::Best { cost });
@@ -127,7 +190,8 @@ fn write_outcome<X: Sink, Y: Sink>(
 }
 
 /// Solves the instance of a text: writes a plan to the first sink, if one was found, and then to
-/// the second the certificate of a lower bound on the cost of every plan.
+/// the second the certificate of a lower bound on the cost of every plan. No single move of the five
+/// kinds makes the plan cheaper.
 ///
 /// The first refusal that holds is told: `Instance` with the text's first fault, `BadSettings`,
 /// and `Memory` where a growth was refused; these come before the first write. `Device` where a
@@ -153,10 +217,12 @@ pub fn solve<R, G: Gate, X: Sink, Y: Sink>(
     if !settings.is_within() {
         return Err(SolveFault::BadSettings);
     }
-    let outcome = outcome_of(alloc, &instance)?;
+    let outcome = outcome_of(alloc, &instance, settings.seed)?;
+    let plan = last_plan(alloc, &outcome, settings.seed)?;
     let prices = no_prices(alloc, &instance)?;
-    write_outcome(
-        &outcome,
+    write_both(
+        &instance,
+        plan.as_ref(),
         settings.neighbours,
         &prices,
         solution,
