@@ -1,8 +1,9 @@
 //! From the bytes of an instance to a plan and a certificate.
 
-ghost use Rattle.std.specs.Prelude.{◌≡◌, ◌≢◌, ◌+◌, ◌<◌, ◌≤◌, None, IfOk, IfErr, OnOk, MatchOption, length};
+ghost use Rattle.std.specs.Prelude.{◌≡◌, ◌≢◌, ◌+◌, ◌<◌, ◌≤◌, None, IfOk, IfErr, OnOk, MatchOption, ◌⊎◌, length};
 ghost use Rattle.solomon_reader.specs.Problem.{customer_count};
 ghost use Rattle.solomon_reader.specs.Layout.{IsInstance, IsWithinLimits};
+ghost use Rattle.solomon_reader.specs.History.{IsCheaper};
 ghost use Rattle.solomon_reader.specs.Moves.{IsLocalOptimum};
 ghost use Rattle.solomon_reader.specs.declared.limits.TheConstants.{MOST_EVENTS, MOST_NEIGHBOURS};
 ghost use Rattle.vrptw.specs.Leaf.{AreZero};
@@ -54,7 +55,7 @@ fn offer<'i>(book: &mut Book<'i>, plan: Feasible<'i>) -> Result<(), SolveFault>
     requires room { length book.old.history < MOST_EVENTS }
     ensures problem { book.new.problem ≡ book.old.problem }
     ensures event { OnOk result (length book.new.history ≡ length book.old.history + 1) }
-    ensures served { OnOk result (book.new.incumbent ≢ None) }
+    ensures served { OnOk result (IsCheaper book.old.history plan.entry.cost ⊎ (book.old.incumbent ≢ None) → book.new.incumbent ≢ None) }
     ensures memory { IfErr result (λ e. e ≡ Memory) }
 {
     match book.offer(FIRST_WORKER, plan) {

@@ -6,4 +6,4 @@ use Rattle.vrptw.proofs.solving.solve.Goals as goal
 pub returns : goal.returns
 returns g c =
     let within : IsWithin c.args.settings.now = search rules in
-    solved c.args.text.now c.args.settings.now c.in_ok-instance.instance _ _ _ _ c.write_outcome.result c.in_ok-instance.ensures.found within (rw c.in_ok-outcome.ensures.problem at c.write_outcome.ensures)
+    solved c.args.text.now c.args.settings.now c.in_ok-instance.instance _ _ _ _ c.write_both.result c.in_ok-instance.ensures.found within c.write_both.ensures

@@ -11,6 +11,7 @@ returns-in-Err g c = (
     is = record {
       routes = c.args.plan.now.routes;
       plan = c.cost.ensures.solution.plan;
+      optimum = c.requires;
       exact = sym c.cost.ensures.solution.exact;
       spelled = rw (c.routes.ensures, c.cost.ensures.is) refl;
     };
