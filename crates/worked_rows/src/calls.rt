@@ -57,7 +57,7 @@ fn tenths_have_one_text(rt: HostRuntime) -> Result<(), Fail> {
 }
 
 /// The plan with these routes.
-fn plan_of<'i>(
+pub(super) fn plan_of<'i>(
     alloc: Global,
     instance: &'i Instance,
     routes: &[&[u16]],
