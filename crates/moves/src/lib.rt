@@ -14,8 +14,9 @@ mod sizes;
 mod valuing;
 
 pub use applying::apply;
-pub use candidate::{Chain, Kind, Move, Place};
+pub use candidate::{Chain, KINDS, Kind, Move, Place};
 pub use choosing::best;
 pub use fault::MoveFault;
 pub use plan::trees_of;
+pub use sizes::MOST_CHAIN;
 pub use valuing::value;

@@ -8,19 +8,10 @@ ghost use Rattle.solomon_reader.specs.Moves.{IsLocalOptimum};
 ghost use Rattle.search.specs.Searching.{IsGain, HasNoGain, IsBestGain, IsFirstGain, Descends};
 
 use crate::fault::SearchFault;
-use moves::{Kind, Move, MoveFault, apply, best, trees_of};
+use moves::{KINDS, Kind, Move, MoveFault, apply, best, trees_of};
 use schedule::Feasible;
 use segments::PlanTrees;
 use std::alloc::Global;
-
-/// The kinds of moves, in the order in which they are tried.
-const KINDS: [Kind; 5] = [
-    Kind::Relocate,
-    Kind::Exchange,
-    Kind::OrOpt,
-    Kind::TwoOptStar,
-    Kind::Cross,
-];
 
 /// The best move of a kind where it makes the plan cheaper, or `None` where no move of the kind
 /// does.

@@ -3,7 +3,7 @@
 
 use super::calls::plan_of;
 use super::texts::{DEPOT, instance_text};
-use moves::{Chain, Kind, Move, MoveFault, Place, apply, best, trees_of, value};
+use moves::{Chain, KINDS, Kind, Move, MoveFault, Place, apply, best, trees_of, value};
 use rand_core::SeedableRng;
 use rand_xoshiro::Xoshiro256PlusPlus;
 use schedule::Feasible;
@@ -329,15 +329,6 @@ fn a_route_is_back_before_the_depot_closes(rt: HostRuntime) -> Result<(), Fail> 
     }
     Ok(())
 }
-
-/// The kinds of moves, in the order of a descent.
-const KINDS: [Kind; 5] = [
-    Kind::Relocate,
-    Kind::Exchange,
-    Kind::OrOpt,
-    Kind::TwoOptStar,
-    Kind::Cross,
-];
 
 /// Checks the best value of each kind, and the cost at which a descent ends.
 fn check_best(alloc: Global, row: &Row, expected: [i64; 5], end: u32) -> Result<(), Fail> {
