@@ -1,7 +1,7 @@
 //! Public calls that no other row makes, each once where it succeeds.
 
-use super::texts::two_in_line;
 use incumbent_book::{Book, Event, Offered};
+use row_texts::two_in_line;
 use schedule::Feasible;
 use solomon_reader::{Instance, read};
 use std::alloc::Global;
@@ -131,7 +131,7 @@ fn a_book_keeps_the_cheapest_plan(rt: HostRuntime) -> Result<(), Fail> {
 fn a_plan_of_another_instance_is_refused(rt: HostRuntime) -> Result<(), Fail> {
     let text = two_in_line(rt.alloc())?;
     let instance = read(rt.alloc(), text.as_bytes())?;
-    let text = super::texts::one_customer(rt.alloc())?;
+    let text = row_texts::one_customer(rt.alloc())?;
     let other = read(rt.alloc(), text.as_bytes())?;
     assert!(rt; !takes_foreign(rt.alloc(), &instance, &other)?);
     Ok(())

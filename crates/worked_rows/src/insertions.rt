@@ -1,7 +1,7 @@
 //! Plans that insertion builds.
 
-use super::texts::{DEPOT, instance_text, three_apart, two_in_line};
 use insertion::{Built, Weights, build};
+use row_texts::{DEPOT, instance_text, three_apart, two_in_line};
 use solomon_reader::read;
 use std::alloc::Global;
 use std::test::Fail;

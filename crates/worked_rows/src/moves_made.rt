@@ -2,10 +2,10 @@
 //! computed by hand, or by a plain program that makes the lists of each move and walks them.
 
 use super::calls::plan_of;
-use super::texts::{DEPOT, instance_text};
 use moves::{Chain, KINDS, Kind, Move, MoveFault, Place, apply, best, trees_of, value};
 use rand_core::SeedableRng;
 use rand_xoshiro::Xoshiro256PlusPlus;
+use row_texts::{DEPOT, instance_text};
 use schedule::Feasible;
 use search::Searcher;
 use solomon_reader::read;

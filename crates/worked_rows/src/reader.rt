@@ -1,6 +1,6 @@
 //! What is read, and the first fault of what isn't.
 
-use super::texts::{DEPOT, instance_text, one_customer};
+use row_texts::{DEPOT, instance_text, many_customers, one_customer};
 use solomon_reader::{ReadFault, Row, read};
 use std::alloc::{AllocError, Global};
 use std::test::Fail;
@@ -94,16 +94,6 @@ fn each_fault_is_told(rt: HostRuntime) -> Result<(), Fail> {
         Some(ReadFault::BadWord { line: 2 })
     );
     Ok(())
-}
-
-/// Customers 1 to `count`, all at (3,4).
-pub(super) fn many_customers(alloc: Global, count: u32) -> Result<String, AllocError> {
-    let mut customers = String::new(alloc);
-    for number in 1..=count {
-        let line = format!(in alloc; "{number} 3 4 1 0 1000 0\n")?;
-        customers.push_str(line.as_str())?;
-    }
-    Ok(customers)
 }
 
 #[test]

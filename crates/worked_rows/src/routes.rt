@@ -1,6 +1,6 @@
 //! Distances, walks and plans.
 
-use super::texts::{DEPOT, instance_text, one_customer, two_in_line};
+use row_texts::{DEPOT, instance_text, one_customer, two_in_line};
 use schedule::{Feasible, PlanFault, Walk, walk};
 use solomon_reader::read;
 use std::alloc::{AllocError, Global};

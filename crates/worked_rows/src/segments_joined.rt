@@ -1,7 +1,7 @@
 //! Segments of routes, joined.
 
 use super::few::Few;
-use super::texts::{DEPOT, instance_text};
+use row_texts::{DEPOT, instance_text};
 use schedule::Feasible;
 use segments::{Linked, PlanTrees, RouteTree, Segment};
 use solomon_reader::read;
@@ -45,7 +45,7 @@ fn a_stop_that_is_reached_too_late_is_not_joined(rt: HostRuntime) -> Result<(), 
 
 #[test]
 fn a_plan_has_a_tree_for_each_route(rt: HostRuntime) -> Result<(), Fail> {
-    let text = super::texts::two_in_line(rt.alloc())?;
+    let text = row_texts::two_in_line(rt.alloc())?;
     let instance = read(rt.alloc(), text.as_bytes())?;
     let mut routes = Vec::new(rt.alloc());
     routes.push(vec![in rt.alloc(); 2]?)?;

@@ -1,7 +1,6 @@
 //! The program with its words and files: the lines that it prints and its statuses.
 
-use super::reader::many_customers;
-use super::texts::{DEPOT, instance_text, one_customer, three_apart, two_in_line};
+use row_texts::{DEPOT, instance_text, many_customers, one_customer, three_apart, two_in_line};
 use std::fs;
 use std::process::Abort;
 use std::rt::Files;

@@ -2,8 +2,8 @@
 
 ghost use Rattle.std.specs.Prelude.{◌+◌, length, Some};
 
-use super::texts::two_in_line;
 use http_server::Log;
+use row_texts::two_in_line;
 use std::alloc::Global;
 use std::test::Fail;
 use tenths::{MemorySink, Sink, SinkFault};

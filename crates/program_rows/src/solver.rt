@@ -1,6 +1,6 @@
 //! The solver's answers, and what both sinks hold.
 
-use super::texts::{DEPOT, instance_text, one_customer, three_apart, two_in_line};
+use row_texts::{DEPOT, instance_text, one_customer, three_apart, two_in_line};
 use std::process::Abort;
 use std::test::Fail;
 use tenths::{MemorySink, Tenths};

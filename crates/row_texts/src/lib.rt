@@ -1,12 +1,14 @@
-//! Instance texts in the usual layout: each line of its own, ended by a line feed.
+//! Instance texts of the worked rows, in the usual layout: each line of its own, ended by a line
+//! feed. Nothing is claimed of them: a row shows what its text is, by what becomes of it.
+#![tactic(auto)]
 
 use std::alloc::{AllocError, Global};
 
 /// The depot at (0,0), open from 0 to 1000.
-pub(super) const DEPOT: &str = "0 0 0 0 0 1000 0\n";
+pub const DEPOT: &str = "0 0 0 0 0 1000 0\n";
 
 /// The text of an instance named `T`.
-pub(super) fn instance_text(
+pub fn instance_text(
     alloc: Global,
     fleet: u32,
     capacity: u32,
@@ -19,17 +21,17 @@ pub(super) fn instance_text(
 }
 
 /// One customer at (3,4), with one vehicle of capacity 1.
-pub(super) fn one_customer(alloc: Global) -> Result<String, AllocError> {
+pub fn one_customer(alloc: Global) -> Result<String, AllocError> {
     instance_text(alloc, 1, 1, DEPOT, "1 3 4 1 0 1000 0\n")
 }
 
 /// Two customers on a line from the depot, with two vehicles of capacity 1.
-pub(super) fn two_in_line(alloc: Global) -> Result<String, AllocError> {
+pub fn two_in_line(alloc: Global) -> Result<String, AllocError> {
     instance_text(alloc, 2, 1, DEPOT, "1 3 4 1 0 1000 0\n2 6 8 1 0 1000 0\n")
 }
 
 /// Three customers close to each other, with two vehicles of capacity 2.
-pub(super) fn three_apart(alloc: Global) -> Result<String, AllocError> {
+pub fn three_apart(alloc: Global) -> Result<String, AllocError> {
     instance_text(
         alloc,
         2,
@@ -37,4 +39,14 @@ pub(super) fn three_apart(alloc: Global) -> Result<String, AllocError> {
         "0 0 1 0 0 1000 0\n",
         "1 100 1 1 0 1000 0\n2 100 2 1 0 1000 0\n3 100 0 1 0 1000 0\n",
     )
+}
+
+/// Customers 1 to `count`, all at (3,4).
+pub fn many_customers(alloc: Global, count: u32) -> Result<String, AllocError> {
+    let mut customers = String::new(alloc);
+    for number in 1..=count {
+        let line = format!(in alloc; "{number} 3 4 1 0 1000 0\n")?;
+        customers.push_str(line.as_str())?;
+    }
+    Ok(customers)
 }
