@@ -66,11 +66,7 @@ fn offer<'i>(book: &mut Book<'i>, plan: Feasible<'i>) -> Result<(), SolveFault>
 }
 
 /// The plan that a descent leads to.
-fn descended<'i>(
-    alloc: Global,
-    plan: Feasible<'i>,
-    seed: u32,
-) -> Result<Feasible<'i>, SolveFault>
+fn descended<'i>(alloc: Global, plan: Feasible<'i>, seed: u32) -> Result<Feasible<'i>, SolveFault>
     ensures problem { IfOk result (λ f. f.problem ≡ plan.entry.problem) }
     ensures cost { IfOk result (λ f. f.cost ≤ plan.entry.cost) }
     ensures optimum { IfOk result (λ f. IsLocalOptimum f.problem f.routes) }
