@@ -98,8 +98,8 @@ fn check_value(
     }
     let change = match apply(alloc, plan, &candidate) {
         Ok(after) => Some(after.cost().get() as i64 - i64::from(row.cost)),
-        Err((_, MoveFault::NotFeasible)) => None,
-        Err((_, MoveFault::Memory)) => return Err(Fail::from("memory")),
+        Err((_same, MoveFault::NotFeasible)) => None,
+        Err((_same, MoveFault::Memory)) => return Err(Fail::from("memory")),
     };
     if change != expected {
         return Err(Fail::from("another plan"));
