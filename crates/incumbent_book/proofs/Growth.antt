@@ -1,12 +1,11 @@
 -- A book stays a book when an offer is taken.
-use Rattle.std.proofs.Common.{◌≡◌, ℕ, ◌+◌, ◌<◌, ◌≤◌, true, false, List, [], ◌∷◌, ◌++◌, Option, Some, None, length, length-append, refl, arith, ◌⊎◌, inl, inr}
-use Rattle.std.specs.Prelude.{IsTrue, option_map}
+use Rattle.std.proofs.Common.{◌≡◌, ℕ, ◌<◌, true, false, List, [], ◌∷◌, ◌++◌, Option, Some, None, length, length-append, refl, arith, inl, inr}
+use Rattle.std.specs.Prelude.{option_map}
 use Rattle.std.proofs.lemmas.Bool.{cases_lt}
 use Rattle.solomon_reader.specs.declared.limits.TheConstants.{MOST_EVENTS}
-use Rattle.solomon_reader.specs.Problem.{Problem}
-use Rattle.solomon_reader.specs.History.{Event, offered, costs_of, IsBestCost, IsCheaper, IsLegal}
+use Rattle.solomon_reader.specs.History.{Event, offered, IsBestCost, IsCheaper}
 use Rattle.schedule.specs.Solution.{Solution, IsSolution}
-use Rattle.incumbent_book.specs.Contents.{Contents, IsBook, IsOfProblem}
+use Rattle.incumbent_book.specs.Contents.{Contents, IsBook}
 use Rattle.incumbent_book.specs.Replies.{kept, replaced}
 use Rattle.incumbent_book.proofs.Histories.{legal-more, first-cheaper, below-cheaper, best-better, best-kept}
 

@@ -1,8 +1,9 @@
 -- How a history grows by an offer.
-use Rattle.std.proofs.Common.{◌≡◌, ℕ, ◌+◌, ◌<◌, ◌≤◌, Bool, true, false, List, [], ◌∷◌, ◌++◌, Option, Some, None, IsTrue, ◌↔◌, refl, sym, ap, ◌∙◌, append_assoc, arith, ◌⊎◌, inl, inr}
+use Rattle.std.proofs.Common.{◌≡◌, ℕ, ◌<◌, ◌≤◌, true, false, List, [], ◌∷◌, ◌++◌, Some, None, refl, ap, append_assoc, arith, inl, inr}
 use Rattle.std.specs.List.{AllByRecursion}
 use Rattle.std.proofs.lemmas.List.{append-nil}
 use Rattle.solomon_reader.specs.Region.{Among}
+use Rattle.solomon_reader.specs.AmongLaws.{weaker, among_all, among_append_left}
 use Rattle.solomon_reader.specs.History.{Event, offered, costs_of, IsBestCost, IsCheaper, IsLegalEvent, IsLegalAfter, IsLegal}
 
 pub costs_of-append : (xs ys : List Event) → costs_of (xs ++ ys) ≡ costs_of xs ++ costs_of ys
@@ -20,27 +21,13 @@ legal_after-more earlier (first ∷ events) event legal here =
 pub legal-more : (events : List Event) (event : Event) → IsLegal events → IsLegalEvent events event → IsLegal (events ++ event ∷ [])
 legal-more events event legal here = legal_after-more [] events event legal here
 
-weaker : (P Q : ℕ → Type 0) → ((c : ℕ) → P c → Q c) → (cs : List ℕ) → AllByRecursion P cs → AllByRecursion Q cs
-weaker P Q f [] all = tt
-weaker P Q f (c ∷ cs) all = (f c all.0, weaker P Q f cs all.1)
-
 all-append : (P : ℕ → Type 0) (xs ys : List ℕ) → AllByRecursion P xs → AllByRecursion P ys → AllByRecursion P (xs ++ ys)
 all-append P [] ys p q = q
 all-append P (x ∷ xs) ys p q = (p.0, all-append P xs ys p.1 q)
 
-among-left : (c : ℕ) (xs ys : List ℕ) → Among c xs → Among c (xs ++ ys)
-among-left c [] ys h = absurd h
-among-left c (x ∷ xs) ys (inl e) = inl e
-among-left c (x ∷ xs) ys (inr h) = inr (among-left c xs ys h)
-
 among-last : (c : ℕ) (xs : List ℕ) → Among c (xs ++ c ∷ [])
 among-last c [] = inl refl
 among-last c (x ∷ xs) = inr (among-last c xs)
-
-among-all : (P : ℕ → Type 0) (c : ℕ) (cs : List ℕ) → Among c cs → AllByRecursion P cs → P c
-among-all P c [] h all = absurd h
-among-all P c (d ∷ cs) (inl e) all = rw (← e) all.0
-among-all P c (d ∷ cs) (inr h) all = among-all P c cs h all.1
 
 -- where nothing was offered, every cost is cheaper
 pub first-cheaper : (events : List Event) (cost : ℕ) → IsBestCost events None → IsCheaper events cost
@@ -50,7 +37,7 @@ pub below-cheaper : (events : List Event) (cost best : ℕ) → IsBestCost event
 below-cheaper events cost best is h = weaker (λ other. best ≤ other) (λ other. cost < other) (λ other le. omega arith) (costs_of events) is.1
 
 pub not-cheaper : (events : List Event) (cost best : ℕ) → IsBestCost events (Some best) → best ≤ cost → ¬ IsCheaper events cost
-not-cheaper events cost best is h cheaper = omega (arith, among-all (λ other. cost < other) best (costs_of events) is.0 cheaper)
+not-cheaper events cost best is h cheaper = omega (arith, among_all (λ other. cost < other) (costs_of events) cheaper best is.0)
 
 -- the best cost after an offer
 pub best-better : (events : List Event) (worker cost : ℕ) → IsCheaper events cost → IsBestCost (events ++ offered worker cost true ∷ []) (Some cost)
@@ -61,4 +48,4 @@ best-better events worker cost cheaper =
 pub best-kept : (events : List Event) (worker cost best : ℕ) → IsBestCost events (Some best) → best ≤ cost → IsBestCost (events ++ offered worker cost false ∷ []) (Some best)
 best-kept events worker cost best is h =
     rw (costs_of-append events (offered worker cost false ∷ []))
-    (among-left best (costs_of events) (cost ∷ []) is.0, all-append (λ other. best ≤ other) (costs_of events) (cost ∷ []) is.1 (h, tt))
+    (among_append_left best (costs_of events) (cost ∷ []) is.0, all-append (λ other. best ≤ other) (costs_of events) (cost ∷ []) is.1 (h, tt))

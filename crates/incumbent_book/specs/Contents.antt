@@ -1,5 +1,5 @@
 -- What a book holds.
-use Rattle.std.specs.Prelude.{◌≡◌, ℕ, ◌≤◌, List, [], length, Option, MatchOption, option_map}
+use Rattle.std.specs.Prelude.{◌≡◌, ◌≤◌, List, length, Option, MatchOption, option_map}
 use Rattle.solomon_reader.specs.declared.limits.TheConstants.{MOST_EVENTS}
 use Rattle.solomon_reader.specs.Problem.{Problem}
 use Rattle.solomon_reader.specs.History.{IsLegal, IsBestCost, offered}

@@ -1,3 +1,2 @@
 pub mod StepLemmas
-pub mod Counting
 pub mod Planning

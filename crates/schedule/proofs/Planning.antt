@@ -9,12 +9,12 @@ use Rattle.std.proofs.lemmas.List.Sorted.{sum_by-IsPermutation}
 use Rattle.std.proofs.lemmas.Bool.{cases_lt, cases_eq}
 use Rattle.std.specs.List.{Any, All, AllByRecursion, AllZip}
 use Rattle.solomon_reader.specs.Problem.{Problem, IsCustomer, customers, customer_count}
-use Rattle.solomon_reader.specs.Plan.{IsFitting, IsPlan, HasWalk, load_of}
+use Rattle.solomon_reader.specs.Plan.{IsFitting, IsPlan, HasWalk, load_of, count_of}
 use Rattle.schedule.specs.declared.fault.PlanFault.{PlanFault}
 use Rattle.schedule.specs.declared.fault.PlanFault.TheVariants.{EmptyRoute, UnknownCustomer, Twice, Missing, OverCapacity, Late, FleetExceeded}
 use Rattle.solomon_reader.specs.Lists.{lists}
-use Rattle.schedule.specs.Faults.{visits, count_of, HasFault, rank_of, IsClearBelow, IsLowestFault}
-use Rattle.schedule.proofs.Counting.{permutation_from_counts, count-range_below, count-range_above, count-range_within, count_none, All-flat, count_positive}
+use Rattle.schedule.specs.Faults.{visits, HasFault, rank_of, IsClearBelow, IsLowestFault}
+use Rattle.solomon_reader.specs.CountLaws.{at_most_once, permutation_from_counts, count-range_below, count-range_above, count-range_within, count_none, All-flat, count_positive}
 
 pub Any-map : {X Y : Type 0} (P : X → Type 0) (f : Y → X) (ys : List Y) → Any (λ y. P (f y)) ys → Any P (map f ys)
 Any-map P f ys a =
@@ -141,21 +141,11 @@ module _ (p : Problem) (routes : List (List ℕ)) (plan : IsPlan p routes) where
   same_count : (i : ℕ) → count_of i (visits routes) ≡ count_of i (customers p)
   same_count i = sum_by-IsPermutation (λ x. cond (x == i) 1 0) (customers p) (visits routes) plan.each_once
 
-  once_at_most : (i : ℕ) → count_of i (customers p) ≤ 1
-  once_at_most i =
-      elim (cases_lt i 1) [
-        | inl low ↦ omega (arith, count-range_below i 1 (customer_count p) low)
-        | inr above ↦ elim (cases_lt (customer_count p) i) [
-          | inl high ↦ omega (arith, count-range_above i 1 (customer_count p) (omega arith))
-          | inr within ↦ omega (arith, count-range_within i 1 (customer_count p) (omega arith) (omega arith))
-        ]
-      ]
-
   no_fault : (f : PlanFault) → ¬ HasFault p routes f
   no_fault EmptyRoute h = none_of (λ r. length r ≡ 0) (λ r fit e. omega (arith, fit.some)) h
   no_fault UnknownCustomer h = none_of (λ r. Any (λ i. ¬ IsCustomer p i) r)
       (λ r fit a. no_any (IsCustomer p) (λ i. ¬ IsCustomer p i) r (All-from_recursion (IsCustomer p) r fit.known) (λ i y n. n y) a) h
-  no_fault Twice h = omega (arith, h.1, same_count h.0, once_at_most h.0)
+  no_fault Twice h = omega (arith, h.1, at_most_once p routes plan h.0)
   no_fault Missing h = omega (arith, h.2, same_count h.0, count-range_within h.0 1 (customer_count p) h.1.0 (omega (arith, h.1.1)))
   no_fault OverCapacity h = none_of (λ r. p.capacity < load_of p r) (λ r fit e. omega (arith, fit.load)) h
   no_fault Late h = none_of (λ r. ¬ HasWalk p r) (λ r fit e. e fit.walk) h

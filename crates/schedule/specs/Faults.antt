@@ -1,18 +1,14 @@
 -- What may be wrong with a list of routes.
-use Rattle.std.specs.Prelude.{◌≡◌, ℕ, ◌<◌, ◌≤◌, List, length, ◌==◌}
-use Rattle.std.specs.List.{Any, count_by, flat_map}
+use Rattle.std.specs.Prelude.{◌≡◌, ℕ, ◌<◌, ◌≤◌, List, length}
+use Rattle.std.specs.List.{Any, flat_map}
 use Rattle.solomon_reader.specs.Problem.{Problem, IsCustomer}
-use Rattle.solomon_reader.specs.Plan.{HasWalk, load_of}
+use Rattle.solomon_reader.specs.Plan.{HasWalk, load_of, count_of}
 use Rattle.schedule.specs.declared.fault.PlanFault.{PlanFault}
 use Rattle.schedule.specs.declared.fault.PlanFault.TheVariants.{EmptyRoute, UnknownCustomer, Twice, Missing, OverCapacity, Late, FleetExceeded}
 
 -- the visits of all routes
 abbrev pub visits : List (List ℕ) → List ℕ
 visits routes = flat_map (λ r. r) routes
-
--- how often i stands in the list
-abbrev pub count_of : ℕ → List ℕ → ℕ
-count_of i xs = count_by (λ x. x == i) xs
 
 -- the fault holds somewhere in the routes
 abbrev pub HasFault : Problem → List (List ℕ) → PlanFault → Type 0

@@ -4,9 +4,9 @@ ghost use Rattle.std.specs.Prelude.{◌≡◌, ℕ, ◌+◌, ◌*◌, ◌<◌, �
 ghost use Rattle.std.specs.List.{Any, All};
 ghost use Rattle.solomon_reader.specs.declared.limits.TheConstants.{MOST_FLEET, MOST_TIME};
 ghost use Rattle.solomon_reader.specs.Problem.{IsCustomer};
-ghost use Rattle.solomon_reader.specs.Plan.{IsPlan, IsFitting, HasWalk, load_of, route_cost, plan_cost};
+ghost use Rattle.solomon_reader.specs.Plan.{IsPlan, IsFitting, HasWalk, load_of, route_cost, plan_cost, count_of};
 ghost use Rattle.solomon_reader.specs.Lists.{lists};
-ghost use Rattle.schedule.specs.Faults.{visits, count_of, IsLowestFault};
+ghost use Rattle.schedule.specs.Faults.{visits, IsLowestFault};
 
 use crate::fault::PlanFault;
 use crate::walking::{are_customers, walk};

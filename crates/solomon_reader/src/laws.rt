@@ -1,5 +1,6 @@
 //! Laws of the definitions, and the definitions at small instances.
 
+ghost use Rattle.solomon_reader.specs.Duality.{CeilingHolds, NoPlanAbove, TreeBoundHolds, WeakDuality};
 ghost use Rattle.solomon_reader.specs.Laws.{FirstFaultStays, LeastWithZero};
 ghost use Rattle.solomon_reader.specs.Rows.{WorkedBounds, WorkedMoves, WorkedRows};
 
@@ -26,4 +27,17 @@ pub fn least_with_zero()
 /// The fault of a list of words is the first from the left.
 pub fn first_fault()
     ensures { FirstFaultStays }
+{}
+
+/// A plan that obeys the region of a leaf costs at least the leaf's value.
+pub fn weak_duality()
+    ensures { WeakDuality }
+{}
+
+/// A plan costs at most the ceiling, and at least the bound of a tree; where that is above the
+/// ceiling, there is no plan.
+pub fn bounds_hold()
+    ensures ceiling { CeilingHolds }
+    ensures tree { TreeBoundHolds }
+    ensures no_plan { NoPlanAbove }
 {}

@@ -1,5 +1,5 @@
 use Rattle.std.proofs.Common.{◌≡◌, ◌+◌, min, take}
-use Rattle.schedule.specs.Faults.{count_of}
+use Rattle.solomon_reader.specs.Plan.{count_of}
 use Rattle.schedule.proofs.search.count_in.Given as goal
 
 abbrev pub invariant-loop-visit : goal.invariant-loop-visit

@@ -1,6 +1,7 @@
 use Rattle.std.proofs.Common.{ℕ, ◌≤◌, arith, below_more}
 use Rattle.solomon_reader.specs.Lists.{lists}
-use Rattle.schedule.specs.Faults.{count_of, visits}
+use Rattle.solomon_reader.specs.Plan.{count_of}
+use Rattle.schedule.specs.Faults.{visits}
 use Rattle.schedule.proofs.search.has_missing.Goals as goal
 
 pub loop-customer-preserved : goal.loop-customer-preserved

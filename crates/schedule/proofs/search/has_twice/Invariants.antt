@@ -1,6 +1,7 @@
 use Rattle.std.proofs.Common.{ℕ, ◌<◌, ◌≤◌}
 use Rattle.solomon_reader.specs.Lists.{lists}
-use Rattle.schedule.specs.Faults.{count_of, visits}
+use Rattle.solomon_reader.specs.Plan.{count_of}
+use Rattle.schedule.specs.Faults.{visits}
 use Rattle.schedule.proofs.search.has_twice.Given as goal
 
 abbrev pub invariant-loop-customer : goal.invariant-loop-customer
