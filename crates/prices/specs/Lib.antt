@@ -1,0 +1,4 @@
+pub mod Faults
+pub mod Pricing
+pub mod Steps
+pub mod Walks

@@ -1,0 +1,200 @@
+//! Prices with their value.
+
+ghost use Rattle.std.specs.Prelude.{◌≡◌, ◌≢◌, ◌≤◌, ◌↔◌, length, pos, IfOk, IfErr, None};
+ghost use Rattle.std.specs.List.{AllByRecursion};
+ghost use Rattle.solomon_reader.specs.Problem.{customer_count};
+ghost use Rattle.solomon_reader.specs.CertificateText.{IsPrice};
+ghost use Rattle.solomon_reader.specs.declared.limits.TheConstants.{MOST_NEIGHBOURS};
+ghost use Rattle.labelling.specs.declared.fault.LabelFault.TheVariants as label;
+ghost use Rattle.prices.specs.Pricing.{IsPricing};
+ghost use Rattle.prices.specs.Steps.{IsGuide};
+ghost use Rattle.prices.specs.declared.fault.PriceFault.TheVariants.{LabelLimit, PriceRange};
+
+use crate::fault::PriceFault;
+use crate::range::are_prices;
+use crate::valuing::{or_zero, sum_of, value_of};
+use branching::Region;
+use labelling::{LabelFault, least};
+use solomon_reader::{Instance, least_with_zero};
+use std::alloc::{AllocError, Global};
+use std::marker::Model;
+
+/// A price for each customer at a region of an instance, and the value that they give: every plan
+/// that obeys the region costs at least the value. Contracts see all five. Beside them stands the
+/// route that a step of the prices goes by.
+#[derive(Debug, Drop)]
+pub struct Priced<'i> {
+    instance: &'i Instance,
+    region: Region,
+    neighbours: u32,
+    prices: Vec<i64>,
+    value: u128,
+    guide: Vec<u16>,
+}
+
+impl<'i> Model for Priced<'i> {
+    ghost use Rattle.std.specs.Coded.{codes};
+    ghost use Rattle.solomon_reader.specs.Region.{region_code};
+    ghost use Rattle.prices.specs.Pricing.{Pricing, IsPricing};
+    ghost use Rattle.prices.specs.Steps.{IsGuide};
+
+    ghost Value = { Pricing };
+
+    ghost coded = { Prim.hlevel (codes, region_code) };
+
+    ghost view = { λ f. record { problem = f.instance.now; region = f.region; neighbours = f.neighbours; prices = f.prices.items; value = f.value } };
+
+    ghost invariant = { λ f. IsPricing (record {
+      problem = f.instance.now;
+      region = f.region;
+      neighbours = f.neighbours;
+      prices = f.prices.items;
+      value = f.value;
+    }) × IsGuide f.instance.now f.region f.neighbours f.prices.items f.guide.items };
+}
+
+/// The value of the prices in tenths, and the route that a step from them goes by.
+fn valued(
+    alloc: Global,
+    instance: &Instance,
+    region: &Region,
+    neighbours: u32,
+    prices: &[i64],
+    limit: Option<usize>,
+) -> Result<(u128, Vec<u16>), LabelFault>
+    requires size { region.now.size ≡ customer_count instance.now }
+    requires count { length prices.now ≡ customer_count instance.now }
+    requires priced { AllByRecursion IsPrice prices.now }
+    requires few { neighbours ≤ MOST_NEIGHBOURS }
+    ensures value { IfOk result (λ v. IsPricing (record { problem = instance.now; region = region.now; neighbours = neighbours; prices = prices.now; value = v.0 })) }
+    ensures guide { IfOk result (λ v. IsGuide instance.now region.now neighbours prices.now v.1.items) }
+    ensures unlimited { IfErr result (λ e. e ≡ label.LabelLimit → limit ≢ None) }
+{
+    let _limits = instance.customer_count();
+    least_with_zero();
+    let found = least(alloc, instance, region, prices, neighbours, limit)?;
+    let least = or_zero(found.value);
+    let value = value_of(instance.fleet(), sum_of(prices), least);
+    let guide = if least < 0 {
+        found.route
+    } else {
+        Vec::new(alloc)
+    };
+    Ok((value, guide))
+}
+
+impl<'i> Priced<'i> {
+    /// These prices, in grains, with their value; `prices[i - 1]` is that of customer i. Each
+    /// customer has this many neighbours, at most 15. `PriceRange` where a price is outside its
+    /// range, which is looked for first; `LabelLimit` where as many labels stand as `limit` allows;
+    /// `Memory`. A refusal gives region and prices back.
+    pub fn of(
+        alloc: Global,
+        instance: &'i Instance,
+        region: Region,
+        neighbours: u32,
+        prices: Vec<i64>,
+        limit: Option<usize>,
+    ) -> Result<Priced<'i>, (Region, Vec<i64>, PriceFault)>
+        requires size { region.size ≡ customer_count instance.now }
+        requires count { length prices.items ≡ customer_count instance.now }
+        requires few { neighbours ≤ MOST_NEIGHBOURS }
+        ensures problem { IfOk result (λ f. f.problem ≡ instance.now) }
+        ensures region { IfOk result (λ f. f.region ≡ region) }
+        ensures neighbours { IfOk result (λ f. f.neighbours ≡ neighbours) }
+        ensures prices { IfOk result (λ f. f.prices ≡ prices.items) }
+        ensures valued { IfOk result (λ f. IsPricing f) }
+        ensures in_range { IfOk result (λ f. AllByRecursion IsPrice prices.items) }
+        ensures out_of_range { IfErr result (λ e. e.2 ≡ PriceRange ↔ (¬ AllByRecursion IsPrice prices.items)) }
+        ensures unlimited { IfErr result (λ e. e.2 ≡ LabelLimit → limit ≢ None) }
+        ensures region_back { IfErr result (λ e. e.0 ≡ region) }
+        ensures prices_back { IfErr result (λ e. e.1 ≡ prices) }
+    {
+        if !are_prices(prices.as_slice()) {
+            return Err((region, prices, PriceFault::PriceRange));
+        }
+        match valued(
+            alloc,
+            instance,
+            &region,
+            neighbours,
+            prices.as_slice(),
+            limit,
+        ) {
+            Ok((value, guide)) => Ok(Priced {
+                instance,
+                region,
+                neighbours,
+                prices,
+                value,
+                guide,
+            }),
+            Err(fault) => Err((region, prices, PriceFault::from(fault))),
+        }
+    }
+
+    /// The instance.
+    pub fn instance(&self) -> &'i Instance
+        ensures { result.now ≡ self.now.problem }
+    {
+        self.instance
+    }
+
+    /// The region.
+    pub fn region(&self) -> &Region
+        ensures value { result.now ≡ self.now.region }
+        ensures size { self.now.region.size ≡ customer_count self.now.problem }
+    {
+        &self.region
+    }
+
+    /// How many neighbours each customer has in relaxed routes.
+    pub fn neighbours(&self) -> u32
+        ensures value { result ≡ self.now.neighbours }
+        ensures bound { result ≤ MOST_NEIGHBOURS }
+    {
+        self.neighbours
+    }
+
+    /// The prices in grains; that of customer i stands at i - 1.
+    pub fn prices(&self) -> &[i64]
+        ensures value { result.now ≡ self.now.prices }
+        ensures count { length self.now.prices ≡ customer_count self.now.problem }
+    {
+        self.prices.as_slice()
+    }
+
+    /// The value in tenths: the prices, and for each vehicle what the least reduced cost below zero
+    /// takes back, rounded up and not below zero.
+    pub fn value(&self) -> i128
+        ensures is { result ≡ pos self.now.value }
+        ensures valued { IsPricing self.now }
+    {
+        self.value as i128
+    }
+
+    /// The route that a step goes by: one of the least reduced cost where that is below zero, else the
+    /// empty one.
+    pub(crate) fn guide(&self) -> &[u16]
+        ensures { IsGuide self.now.problem self.now.region self.now.neighbours self.now.prices result.now }
+    {
+        self.guide.as_slice()
+    }
+
+    /// A copy, unless memory runs out.
+    pub fn try_clone(&self) -> Result<Priced<'i>, AllocError>
+        ensures { IfOk result (λ f. f ≡ self.now) }
+    {
+        let region = self.region.try_clone()?;
+        let prices = self.prices.clone()?;
+        let guide = self.guide.clone()?;
+        Ok(Priced {
+            instance: self.instance,
+            region,
+            neighbours: self.neighbours,
+            prices,
+            value: self.value,
+            guide,
+        })
+    }
+}
