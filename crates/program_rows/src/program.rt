@@ -33,53 +33,91 @@ fn assert_file<R: Abort + Files + AllocGlobal>(rt: &R, path: &str, text: &str) -
     Ok(())
 }
 
+/// A text to solve, and what is printed and written.
+#[derive(Drop)]
+struct Row {
+    text: String,
+    line: &'static str,
+    status: u8,
+    solution: &'static str,
+    customers: u8,
+    bound: &'static str,
+    leaf: &'static str,
+}
+
 #[test]
 fn plans_and_certificates_are_written(rt: HostRuntime) -> Result<(), Fail> {
     let rows = [
-        (
-            one_customer(rt.alloc())?,
-            "GAP 10.0 0.0\n",
-            "Route #1: 1\nCost 10.0\n",
-            "1",
-            "P 0",
-        ),
-        (
-            two_in_line(rt.alloc())?,
-            "GAP 30.0 0.0\n",
-            "Route #1: 2\nRoute #2: 1\nCost 30.0\n",
-            "2",
-            "P 0 0",
-        ),
-        (
-            instance_text(
+        Row {
+            text: one_customer(rt.alloc())?,
+            line: "BEST 10.0\n",
+            status: 0,
+            solution: "Route #1: 1\nCost 10.0\n",
+            customers: 1,
+            bound: "10.0",
+            leaf: "P 112000",
+        },
+        Row {
+            text: two_in_line(rt.alloc())?,
+            line: "GAP 30.0 21.5\n",
+            status: 1,
+            solution: "Route #1: 2\nRoute #2: 1\nCost 30.0\n",
+            customers: 2,
+            bound: "21.5",
+            leaf: "P 112000 127000",
+        },
+        Row {
+            text: instance_text(
                 rt.alloc(),
                 2,
                 2,
                 DEPOT,
                 "1 3 4 1 0 1000 0\n2 6 8 1 0 1000 0\n",
             )?,
-            "GAP 20.0 0.0\n",
-            "Route #1: 1 2\nCost 20.0\n",
-            "2",
-            "P 0 0",
-        ),
-        (
-            three_apart(rt.alloc())?,
-            "GAP 401.0 0.0\n",
-            "Route #1: 2 1\nRoute #2: 3\nCost 401.0\n",
-            "3",
-            "P 0 0 0",
-        ),
-        (
-            instance_text(rt.alloc(), 1, 1, DEPOT, "1 3 4 2 0 1000 0\n")?,
-            "OPEN 0.0\n",
-            "",
-            "1",
-            "P 0",
-        ),
+            line: "GAP 20.0 19.2\n",
+            status: 1,
+            solution: "Route #1: 1 2\nCost 20.0\n",
+            customers: 2,
+            bound: "19.2",
+            leaf: "P 96000 96000",
+        },
+        Row {
+            text: three_apart(rt.alloc())?,
+            line: "GAP 401.0 38.1\n",
+            status: 1,
+            solution: "Route #1: 2 1\nRoute #2: 3\nCost 401.0\n",
+            customers: 3,
+            bound: "38.1",
+            leaf: "P 127000 127000 127000",
+        },
+        Row {
+            text: instance_text(
+                rt.alloc(),
+                1,
+                1,
+                DEPOT,
+                "1 3 4 1 0 1000 0\n2 6 8 1 0 1000 0\n",
+            )?,
+            line: "OPEN 22.7\n",
+            status: 1,
+            solution: "",
+            customers: 2,
+            bound: "22.7",
+            leaf: "P 112000 127000",
+        },
+        Row {
+            // Nobody is there before the due date.
+            text: instance_text(rt.alloc(), 1, 1, DEPOT, "1 3 4 1 0 4 0\n")?,
+            line: "NO PLAN\n",
+            status: 0,
+            solution: "",
+            customers: 1,
+            bound: "10.1",
+            leaf: "P 127000",
+        },
     ];
-    for (text, line, solution, customers, leaf) in &rows {
-        fs::write(&rt, "rows_instance", text.as_bytes())?;
+    for row in &rows {
+        fs::write(&rt, "rows_instance", row.text.as_bytes())?;
         check(
             &rt,
             &Run {
@@ -89,14 +127,17 @@ fn plans_and_certificates_are_written(rt: HostRuntime) -> Result<(), Fail> {
                     "rows_solution",
                     "rows_certificate",
                 ],
-                out: line,
+                out: row.line,
                 errors: "",
-                status: 1,
+                status: row.status,
             },
         );
-        assert_file(&rt, "rows_solution", solution)?;
+        assert_file(&rt, "rows_solution", row.solution)?;
+        let customers = row.customers;
+        let bound = row.bound;
+        let leaf = row.leaf;
         let certificate = format!(in rt.alloc();
-            "VRPTW-CERT 1\nINSTANCE T\nCUSTOMERS {customers}\nNEIGHBOURS 8\nBOUND 0.0\nTREE\n{leaf}\nEND\n"
+            "VRPTW-CERT 1\nINSTANCE T\nCUSTOMERS {customers}\nNEIGHBOURS 8\nBOUND {bound}\nTREE\n{leaf}\nEND\n"
         )?;
         assert_file(&rt, "rows_certificate", certificate.as_str())?;
     }
@@ -105,13 +146,12 @@ fn plans_and_certificates_are_written(rt: HostRuntime) -> Result<(), Fail> {
 
 #[test]
 fn windows_and_closing_times_decide_the_line(rt: HostRuntime) -> Result<(), Fail> {
-    let rows: [(&str, &str, &str); 6] = [
-        (DEPOT, "1 1 3 1 0 1000 0\n", "GAP 6.2 0.0\n"),
-        (DEPOT, "1 3 4 1 0 5 0\n", "GAP 10.0 0.0\n"),
-        (DEPOT, "1 3 4 1 0 4 0\n", "OPEN 0.0\n"),
-        ("0 0 0 0 0 10 0\n", "1 3 4 1 0 1000 0\n", "GAP 10.0 0.0\n"),
-        ("0 0 0 0 0 9 0\n", "1 3 4 1 0 1000 0\n", "OPEN 0.0\n"),
-        ("0 0 0 0 0 65 0\n", "1 3 4 1 50 55 10\n", "GAP 10.0 0.0\n"),
+    let rows: [(&str, &str, &str); 5] = [
+        (DEPOT, "1 1 3 1 0 1000 0\n", "BEST 6.2\n"),
+        (DEPOT, "1 3 4 1 0 5 0\n", "BEST 10.0\n"),
+        ("0 0 0 0 0 10 0\n", "1 3 4 1 0 1000 0\n", "BEST 10.0\n"),
+        ("0 0 0 0 0 9 0\n", "1 3 4 1 0 1000 0\n", "NO PLAN\n"),
+        ("0 0 0 0 0 65 0\n", "1 3 4 1 50 55 10\n", "BEST 10.0\n"),
     ];
     for (depot, customer, line) in rows {
         let text = instance_text(rt.alloc(), 1, 1, depot, customer)?;
@@ -127,7 +167,7 @@ fn windows_and_closing_times_decide_the_line(rt: HostRuntime) -> Result<(), Fail
                 ],
                 out: line,
                 errors: "",
-                status: 1,
+                status: 0,
             },
         );
     }

@@ -150,7 +150,7 @@ fn bytes_taken_one_at_a_time_are_the_same(rt: HostRuntime) -> Result<(), Fail> {
     assert_eq!(rt; solution.inner.as_slice(), SOLUTION);
     assert_eq!(rt;
         certificate.inner.as_slice(),
-        b"VRPTW-CERT 1\nINSTANCE T\nCUSTOMERS 2\nNEIGHBOURS 8\nBOUND 0.0\nTREE\nP 0 0\nEND\n".as_slice()
+        b"VRPTW-CERT 1\nINSTANCE T\nCUSTOMERS 2\nNEIGHBOURS 8\nBOUND 21.5\nTREE\nP 112000 127000\nEND\n".as_slice()
     );
     Ok(())
 }

@@ -1,5 +1,5 @@
 //! Instance texts of the worked rows, in the usual layout: each line of its own, ended by a line
-//! feed. Nothing is claimed of them: a row shows what its text is, by what becomes of it.
+//! feed.
 #![tactic(auto)]
 
 use std::alloc::{AllocError, Global};
@@ -7,7 +7,8 @@ use std::alloc::{AllocError, Global};
 /// The depot at (0,0), open from 0 to 1000.
 pub const DEPOT: &str = "0 0 0 0 0 1000 0\n";
 
-/// The text of an instance named `T`.
+/// The text of an instance named `T`. No clause says which, here and below: a row shows what its text
+/// is by what becomes of it.
 pub fn instance_text(
     alloc: Global,
     fleet: u32,

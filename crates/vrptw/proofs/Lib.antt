@@ -1,4 +1,4 @@
 mod Refusals
 mod Steps
-pub mod ZeroPrices
+pub mod LeafBound
 pub mod Answering

@@ -11,7 +11,6 @@ use Rattle.solomon_reader.specs.Moves.{IsLocalOptimum}
 use Rattle.solomon_reader.specs.Bound.{ceiling_of}
 use Rattle.solomon_reader.specs.SolutionText.{solution_text}
 use Rattle.solomon_reader.specs.CertificateText.{IsAccepted}
-use Rattle.solomon_reader.specs.declared.fault.ReadFault.{ReadFault}
 use Rattle.solomon_reader.specs.declared.fault.ReadFault.TheVariants as read
 use Rattle.vrptw.specs.declared.answer.Answer.{Answer}
 use Rattle.vrptw.specs.declared.answer.Answer.TheVariants.{Best, Gap, NoPlan, Open}
@@ -82,6 +81,7 @@ abbrev pub RefusesText : List ℕ → SolveFault → Type 0
 RefusesText text fault.Memory = Unit {0}
 RefusesText text (fault.Instance f) = (reading (words text) ≡ Err f) × (f ≢ read.Memory)
 RefusesText text fault.BadSettings = ⊥
+RefusesText text fault.LabelLimit = ⊥
 RefusesText text fault.Device = ⊥
 
 -- What the solver does with the text of an instance, within the settings: each refusal is the first that holds, and all but the last come before the first write.
@@ -90,4 +90,5 @@ Solves text settings s s' c c' (Ok answer) = (p : Problem) × IsInstance text p 
 Solves text settings s s' c c' (Err fault.Memory) = (s' ≡ s) × (c' ≡ c)
 Solves text settings s s' c c' (Err (fault.Instance f)) = (reading (words text) ≡ Err f) × (f ≢ read.Memory) × (s' ≡ s) × (c' ≡ c)
 Solves text settings s s' c c' (Err fault.BadSettings) = ((p : Problem) × IsInstance text p) × (¬ IsWithin settings) × (s' ≡ s) × (c' ≡ c)
+Solves text settings s s' c c' (Err fault.LabelLimit) = ((p : Problem) × IsInstance text p) × IsWithin settings × (s' ≡ s) × (c' ≡ c)
 Solves text settings s s' c c' (Err fault.Device) = (p : Problem) × IsInstance text p × IsWithin settings × Breaks p s s' c c'

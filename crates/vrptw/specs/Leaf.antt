@@ -1,10 +1,11 @@
 -- A certificate without splits.
-use Rattle.std.specs.Prelude.{ℕ, List, ◌++◌, ℤ, codes, decimal, ◌≡◌, pos}
-use Rattle.std.specs.List.{AllByRecursion}
+use Rattle.std.specs.Prelude.{◌≡◌, ℕ, ◌+◌, min, List, ◌++◌, ℤ, codes, decimal}
 use Rattle.solomon_reader.specs.Problem.{Problem, customer_count}
-use Rattle.solomon_reader.specs.Bound.{version_1, leaf}
+use Rattle.solomon_reader.specs.Region.{root_region}
+use Rattle.solomon_reader.specs.Bound.{version_1, leaf, ceiling_of}
 use Rattle.solomon_reader.specs.SolutionText.{line}
 use Rattle.solomon_reader.specs.CertificateText.{Certificate}
+use Rattle.prices.specs.Pricing.{Pricing}
 
 -- the certificate whose tree is one leaf
 abbrev pub leaf_certificate : Problem → ℕ → List ℤ → ℕ → Certificate
@@ -22,6 +23,12 @@ abbrev pub name_lines : Problem → ℕ → List ℕ
 name_lines p neighbours = line (codes "VRPTW-CERT 1") ++ line (codes "INSTANCE " ++ p.name) ++ line (codes "CUSTOMERS " ++ decimal (customer_count p))
     ++ line (codes "NEIGHBOURS " ++ decimal neighbours)
 
--- prices of zero
-abbrev pub AreZero : List ℤ → Type 0
-AreZero prices = AllByRecursion (λ z. z ≡ pos 0) prices
+-- a leaf at the root of the instance, with so many neighbours a customer
+pub record IsRootLeaf (p : Problem) (k : ℕ) (f : Pricing) : Type 0 where
+  pub problem : f.problem ≡ p
+  pub root : f.region ≡ root_region (customer_count p)
+  pub neighbours : f.neighbours ≡ k
+
+-- the bound of the tree that is this leaf alone
+abbrev pub leaf_bound : Pricing → ℕ
+leaf_bound f = min (ceiling_of f.problem + 1) f.value

@@ -36,6 +36,10 @@ pub enum SolveFault {
     /// A setting is outside its range; nothing was written.
     #[error("BadSettings")]
     BadSettings,
+    /// As many labels stand as the settings allow, before a first bound was found; nothing was
+    /// written.
+    #[error("LabelLimit")]
+    LabelLimit,
     /// A sink failed: the first holds a beginning and the second nothing, or the first all and the
     /// second a beginning.
     #[error("Device")]

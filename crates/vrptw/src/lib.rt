@@ -3,6 +3,7 @@
 #![tactic(auto)]
 
 mod answer;
+mod bounding;
 mod certificate_text;
 mod commands;
 mod gate;

@@ -26,6 +26,8 @@ const MEMORY: u8 = 4;
 
 const FILE: u8 = 6;
 
+const LIMIT: u8 = 7;
+
 /// Writes a line on standard error, and answers the status that goes with it.
 fn fail<Y: Sink>(errors: &mut Y, line: &str, status: u8) -> u8
     ensures { result ≡ status }
@@ -82,6 +84,7 @@ fn solve_fault<Y: Sink>(alloc: Global, fault: SolveFault, errors: &mut Y) -> u8 
     match fault {
         SolveFault::Memory => memory_fault(errors),
         SolveFault::BadSettings => fail(errors, "vrptw: settings\n", USAGE),
+        SolveFault::LabelLimit => fail(errors, "vrptw: limit: LabelLimit\n", LIMIT),
         SolveFault::Device => file_fault(errors),
         SolveFault::Instance(fault) => match format!(in alloc; "vrptw: instance: {fault}\n") {
             Ok(line) => fail(errors, line.as_str(), INSTANCE),
@@ -173,8 +176,8 @@ fn solve_files<R: Files + AllocGlobal, X: Sink, Y: Sink>(
 /// Does what the program does with the words after its name and the files that they name: prints
 /// to `out` in place of standard output and to `errors` in place of standard error, and answers
 /// the status: 0 for `BEST`, `NO PLAN` and help, 1 for `GAP` and `OPEN`, 2 for wrong words, 3 for a
-/// refused instance, 4 where memory was refused, 6 where a file or a stream failed. What files
-/// hold no contract can say.
+/// refused instance, 4 where memory was refused, 6 where a file or a stream failed, 7 where the labels
+/// don't suffice. What files hold no contract can say.
 pub fn run_words<R: Files + AllocGlobal, X: Sink, Y: Sink>(
     rt: &R,
     alloc: Global,

@@ -1,29 +1,30 @@
 //! From the bytes of an instance to a plan and a certificate.
 
 ghost use Rattle.std.specs.Prelude.{◌≡◌, ◌≢◌, ◌+◌, ◌<◌, ◌≤◌, None, IfOk, IfErr, OnOk, MatchOption, ◌⊎◌, length};
-ghost use Rattle.solomon_reader.specs.Problem.{customer_count};
-ghost use Rattle.solomon_reader.specs.Layout.{IsInstance, IsWithinLimits};
+ghost use Rattle.solomon_reader.specs.Layout.{IsInstance};
 ghost use Rattle.solomon_reader.specs.History.{IsCheaper};
 ghost use Rattle.solomon_reader.specs.Moves.{IsLocalOptimum};
-ghost use Rattle.solomon_reader.specs.declared.limits.TheConstants.{MOST_EVENTS, MOST_NEIGHBOURS};
-ghost use Rattle.vrptw.specs.Leaf.{AreZero};
+ghost use Rattle.solomon_reader.specs.declared.limits.TheConstants.{MOST_EVENTS};
+ghost use Rattle.vrptw.specs.Leaf.{IsRootLeaf, leaf_bound};
 ghost use Rattle.insertion.specs.Building.{IsServedAlone};
 ghost use Rattle.vrptw.specs.Answers.{Solves, RefusesText, Writes, WritesBoth, IsPlanText, IsBoundText};
 ghost use Rattle.vrptw.specs.declared.answer.SolveFault.TheVariants.{Memory};
 
 use crate::answer::{Answer, SolveFault};
+use crate::bounding::{bound_of, root_leaf};
 use crate::certificate_text::write_certificate;
 use crate::gate::Gate;
 use crate::opening::first_plan;
 use crate::settings::Settings;
 use incumbent_book::{Book, BookFault, Outcome};
+use prices::Priced;
 use rand_core::SeedableRng;
 use rand_xoshiro::Xoshiro256PlusPlus;
 use schedule::Feasible;
 use search::Searcher;
 use solomon_reader::{Instance, ReadFault, read};
-use std::alloc::{AllocError, Global};
-use tenths::{Sink, Tenths};
+use std::alloc::Global;
+use tenths::Sink;
 
 /// The worker that offers the first plan.
 const FIRST_WORKER: u16 = 0;
@@ -38,15 +39,6 @@ fn instance_of(alloc: Global, text: &[u8]) -> Result<Instance, SolveFault>
         Err(ReadFault::Memory) => Err(SolveFault::Memory),
         Err(fault) => Err(SolveFault::Instance(fault)),
     }
-}
-
-/// A price of zero for each customer.
-fn no_prices(alloc: Global, instance: &Instance) -> Result<Vec<i64>, AllocError>
-    ensures len { IfOk result (λ prices. length prices.items ≡ customer_count instance.now) }
-    ensures zero { IfOk result (λ prices. AreZero prices.items) }
-{
-    let count = instance.customer_count();
-    Ok(vec![in alloc; 0; count as usize]?)
 }
 
 /// Offers a plan to a book that has room for it.
@@ -132,55 +124,57 @@ fn write_plan<X: Sink>(plan: &Feasible<'_>, solution: &mut X) -> Result<(), Solv
     }
 }
 
-/// Writes the certificate with prices of zero, whose bound is zero.
-fn write_bound<Y: Sink>(
-    instance: &Instance,
-    neighbours: u32,
-    prices: &[i64],
-    certificate: &mut Y,
-) -> Result<(), SolveFault>
-    requires few { neighbours ≤ MOST_NEIGHBOURS }
-    requires len { length prices.now ≡ customer_count instance.now }
-    requires zero { AreZero prices.now }
-    ensures { Writes (IsBoundText instance.now 0)
+/// Writes the certificate of the leaf at the root.
+fn write_bound<Y: Sink>(leaf: &Priced<'_>, certificate: &mut Y) -> Result<(), SolveFault>
+    requires { IsRootLeaf leaf.now.problem leaf.now.neighbours leaf.now }
+    ensures { Writes (IsBoundText leaf.now.problem (leaf_bound leaf.now))
         (record { taken = Y.taken certificate.old; failures = Y.failures certificate.old })
         (record { taken = Y.taken certificate.new; failures = Y.failures certificate.new }) result }
 {
+    let instance = leaf.instance();
     let _limits = instance.customer_count();
-    match write_certificate(instance, neighbours, prices, Tenths::from(0), certificate) {
+    let _most = instance.ceiling();
+    let _value = leaf.value();
+    let bound = bound_of(leaf);
+    match write_certificate(
+        instance,
+        leaf.neighbours(),
+        leaf.prices(),
+        bound,
+        certificate,
+    ) {
         Ok(()) => Ok(()),
         Err(_) => Err(SolveFault::Device),
     }
 }
 
-/// Writes the plan, if there is one, and then the certificate with prices of zero.
+/// Writes the plan, if there is one, and then the certificate of the leaf at the root.
 fn write_both<X: Sink, Y: Sink>(
-    instance: &Instance,
     plan: Option<&Feasible<'_>>,
-    neighbours: u32,
-    prices: &[i64],
+    leaf: &Priced<'_>,
     solution: &mut X,
     certificate: &mut Y,
 ) -> Result<Answer, SolveFault>
-    requires plan { MatchOption plan (¬ IsServedAlone instance.now) (λ f. (f.now.problem ≡ instance.now) × IsLocalOptimum f.now.problem f.now.routes) }
-    requires few { neighbours ≤ MOST_NEIGHBOURS }
-    requires len { length prices.now ≡ customer_count instance.now }
-    requires zero { AreZero prices.now }
-    ensures { WritesBoth instance.now
+    requires plan { MatchOption plan (¬ IsServedAlone leaf.now.problem) (λ f. (f.now.problem ≡ leaf.now.problem) × IsLocalOptimum f.now.problem f.now.routes) }
+    requires root { IsRootLeaf leaf.now.problem leaf.now.neighbours leaf.now }
+    ensures { WritesBoth leaf.now.problem
         (record { taken = X.taken solution.old; failures = X.failures solution.old })
         (record { taken = X.taken solution.new; failures = X.failures solution.new })
         (record { taken = Y.taken certificate.old; failures = Y.failures certificate.old })
         (record { taken = Y.taken certificate.new; failures = Y.failures certificate.new }) result }
 {
-    let bound = Tenths::from(0);
+    let bound = bound_of(leaf);
     let Some(plan) = plan else {
-        write_bound(instance, neighbours, prices, certificate)?;
+        write_bound(leaf, certificate)?;
+        if bound.get() > leaf.instance().ceiling().get() {
+            return Ok(Answer::NoPlan);
+        }
         return Ok(Answer::Open { bound });
     };
     write_plan(plan, solution)?;
-    write_bound(instance, neighbours, prices, certificate)?;
+    write_bound(leaf, certificate)?;
     let cost = plan.cost();
-    if cost.get() == 0 {
+    if cost == bound {
         return Ok(Answer::Best { cost });
     }
     Ok(Answer::Gap { cost, bound })
@@ -191,9 +185,10 @@ fn write_both<X: Sink, Y: Sink>(
 /// kinds makes the plan cheaper.
 ///
 /// The first refusal that holds is told: `Instance` with the text's first fault, `BadSettings`,
-/// and `Memory` where a growth was refused; these come before the first write. `Device` where a
-/// sink failed: the first then holds a beginning and the second nothing, or the first all and the
-/// second a beginning.
+/// `LabelLimit` where as many labels stand as the settings allow before there is a first bound, and
+/// `Memory` where a growth was refused; these come before the first write. `Device` where a sink
+/// failed: the first then holds a beginning and the second nothing, or the first all and the second
+/// a beginning.
 pub fn solve<R, G: Gate, X: Sink, Y: Sink>(
     _rt: &R,
     alloc: Global,
@@ -214,15 +209,8 @@ pub fn solve<R, G: Gate, X: Sink, Y: Sink>(
     if !settings.is_within() {
         return Err(SolveFault::BadSettings);
     }
+    let leaf = root_leaf(alloc, &instance, settings.neighbours, settings.labels)?;
     let outcome = outcome_of(alloc, &instance, settings.seed)?;
     let plan = last_plan(alloc, &outcome, settings.seed)?;
-    let prices = no_prices(alloc, &instance)?;
-    write_both(
-        &instance,
-        plan.as_ref(),
-        settings.neighbours,
-        &prices,
-        solution,
-        certificate,
-    )
+    write_both(plan.as_ref(), &leaf, solution, certificate)
 }
