@@ -1,0 +1,10 @@
+//! Worked rows of the labeller and of prices: small instances with values that were computed by hand,
+//! and the two bodies of the labeller side by side.
+#![tactic(auto)]
+
+#[cfg(test)]
+mod labels;
+#[cfg(test)]
+mod leaves;
+#[cfg(test)]
+mod shared;
