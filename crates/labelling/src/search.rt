@@ -29,22 +29,22 @@ use std::alloc::{AllocError, Global};
 
 /// Where labels are looked up, and how many stand, the empty beginning not counted.
 #[derive(Drop)]
-struct Book {
+struct Index {
     shelves: Vec<Shelf>,
     queue: Queue,
     live: usize,
 }
 
-impl Book {
-    /// The book with a shelf for each row, and the label of the empty beginning alone.
-    fn new(alloc: Global, instance: &Instance) -> Result<Book, AllocError> {
+impl Index {
+    /// The index with a shelf for each row, and the label of the empty beginning alone.
+    fn new(alloc: Global, instance: &Instance) -> Result<Index, AllocError> {
         let mut shelves = Vec::new(alloc);
         for _ in 0..instance.customer_count() + 1 {
             shelves.push(Shelf::new(alloc))?;
         }
         let mut queue = Queue::new(alloc, instance.capacity())?;
         queue.add(0, 0)?;
-        Ok(Book {
+        Ok(Index {
             shelves,
             queue,
             live: 0,
@@ -89,20 +89,20 @@ impl Book {
 fn keep(
     task: &Task<'_>,
     labels: &mut Vec<Label>,
-    book: &mut Book,
+    index: &mut Index,
     x: &Label,
 ) -> Result<(), LabelFault>
     ensures kept { IfOk result (λ _. IsKept labels.old.items labels.new.items x.now) }
     ensures unlimited { IfErr result (λ e. e ≡ LabelLimit → task.now.limit ≢ None) }
 {
-    if book.beats(labels.as_slice(), x) {
+    if index.beats(labels.as_slice(), x) {
         return Ok(());
     }
-    book.drop_beaten(labels.as_mut_slice(), x);
-    if is_full(task.limit, book.live) {
+    index.drop_beaten(labels.as_mut_slice(), x);
+    if is_full(task.limit, index.live) {
         return Err(LabelFault::LabelLimit);
     }
-    book.add(task.alloc, x, labels.len())?;
+    index.add(task.alloc, x, labels.len())?;
     labels.push(*x)?;
     Ok(())
 }
@@ -134,7 +134,7 @@ fn extended(task: &Task<'_>, label: &Label, place: usize, j: u16) -> Label
     let list = task.near[j as usize];
     Label {
         front: label.front.after(task.instance, task.prices, j),
-        memory: remembered(task.instance, task.neighbours, label.memory, list, j),
+        memory: remembered(label.memory, list, j),
         parent: place,
         stops: label.stops + 1,
         alive: true,
@@ -146,7 +146,7 @@ fn extended(task: &Task<'_>, label: &Label, place: usize, j: u16) -> Label
 fn take_step(
     task: &Task<'_>,
     labels: &mut Vec<Label>,
-    book: &mut Book,
+    index: &mut Index,
     label: &Label,
     place: usize,
     allowed: u128,
@@ -164,7 +164,7 @@ fn take_step(
         return Ok(());
     }
     let x = extended(task, label, place, j);
-    keep(task, labels, book, &x)?;
+    keep(task, labels, index, &x)?;
     Ok(())
 }
 
@@ -172,7 +172,7 @@ fn take_step(
 fn spread(
     task: &Task<'_>,
     labels: &mut Vec<Label>,
-    book: &mut Book,
+    index: &mut Index,
     label: &Label,
     place: usize,
     allowed: u128,
@@ -186,7 +186,7 @@ fn spread(
 {
     let count = task.instance.customer_count();
     for j in 1..count + 1 {
-        take_step(task, labels, book, label, place, allowed, j)?;
+        take_step(task, labels, index, label, place, allowed, j)?;
     }
     Ok(())
 }
@@ -239,7 +239,7 @@ fn is_waiting(labels: &[Label], place: usize) -> bool
 fn worked(
     task: &Task<'_>,
     labels: &mut Vec<Label>,
-    book: &mut Book,
+    index: &mut Index,
     place: usize,
     found: Found,
 ) -> Result<Found, LabelFault>
@@ -254,7 +254,7 @@ fn worked(
     let label = labels[place];
     let allowed = task.allowed[label.front.customer as usize];
     let after = settled(task, allowed, &label, place, found);
-    spread(task, labels, book, &label, place, allowed)?;
+    spread(task, labels, index, &label, place, allowed)?;
     labels[place].worked = true;
     Ok(after)
 }
@@ -263,7 +263,7 @@ fn worked(
 fn worked_at(
     task: &Task<'_>,
     labels: &mut Vec<Label>,
-    book: &mut Book,
+    index: &mut Index,
     load: u32,
     found: Found,
 ) -> Result<Found, LabelFault>
@@ -272,13 +272,13 @@ fn worked_at(
     ensures unlimited { IfErr result (λ e. e ≡ LabelLimit → task.now.limit ≢ None) }
 {
     let mut found = found;
-    let mut next = book.queue.first(load);
+    let mut next = index.queue.first(load);
     for _turn in 0..labels.len() {
         let Some(place) = next else {
             break;
         };
-        found = worked(task, labels, book, place, found)?;
-        next = book.queue.after(place);
+        found = worked(task, labels, index, place, found)?;
+        next = index.queue.after(place);
     }
     Ok(found)
 }
@@ -287,7 +287,7 @@ fn worked_at(
 fn worked_by_load(
     task: &Task<'_>,
     labels: &mut Vec<Label>,
-    book: &mut Book,
+    index: &mut Index,
     found: Found,
 ) -> Result<Found, LabelFault>
     requires { IsSearched task.now.instance.now task.now.region.now task.now.neighbours task.now.prices.now labels.old.items found }
@@ -296,7 +296,7 @@ fn worked_by_load(
 {
     let mut found = found;
     for load in 0..u32::from(task.instance.capacity()) + 1 {
-        found = worked_at(task, labels, book, load, found)?;
+        found = worked_at(task, labels, index, load, found)?;
     }
     Ok(found)
 }
@@ -305,7 +305,7 @@ fn worked_by_load(
 fn worked_out(
     task: &Task<'_>,
     labels: &mut Vec<Label>,
-    book: &mut Book,
+    index: &mut Index,
     found: Found,
 ) -> Result<Found, LabelFault>
     requires { IsSearched task.now.instance.now task.now.region.now task.now.neighbours task.now.prices.now labels.old.items found }
@@ -318,7 +318,7 @@ fn worked_out(
         if place >= labels.len() {
             break;
         }
-        found = worked(task, labels, book, place, found)?;
+        found = worked(task, labels, index, place, found)?;
     }
     Ok(found)
 }
@@ -394,13 +394,13 @@ pub fn least(
     let _count = instance.customer_count();
     let task = Task::new(alloc, instance, region, prices, neighbours, limit)?;
     let mut labels = first(alloc, instance)?;
-    let mut book = Book::new(alloc, instance)?;
+    let mut index = Index::new(alloc, instance)?;
     let found = Found {
         value: None,
         place: 0,
     };
-    let found = worked_by_load(&task, &mut labels, &mut book, found)?;
-    let found = worked_out(&task, &mut labels, &mut book, found)?;
+    let found = worked_by_load(&task, &mut labels, &mut index, found)?;
+    let found = worked_out(&task, &mut labels, &mut index, found)?;
     let least = answer(alloc, labels.as_slice(), found)?;
     Ok(least)
 }

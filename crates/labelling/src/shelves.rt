@@ -9,21 +9,21 @@ use std::alloc::{AllocError, Global};
 
 /// A label, by what it beats others of its customer with.
 #[derive(Clone, Copy, Debug)]
-struct Step {
+struct Entry {
     time: u64,
     cost: i64,
     place: usize,
 }
 
-/// How many steps are earlier than a time; they stand in order of time.
-fn earlier(steps: &[Step], time: u64) -> usize
-    ensures { result ≤ length steps.now }
+/// How many entries are earlier than a time; they stand in order of time.
+fn earlier(entries: &[Entry], time: u64) -> usize
+    ensures { result ≤ length entries.now }
 {
     let mut low = 0;
-    let mut high = steps.len();
+    let mut high = entries.len();
     while low < high {
         let middle = low + (high - low) / 2;
-        if steps[middle].time < time {
+        if entries[middle].time < time {
             low = middle + 1;
         } else {
             high = middle;
@@ -32,16 +32,16 @@ fn earlier(steps: &[Step], time: u64) -> usize
     low
 }
 
-/// Takes out the steps from a place on that cost no less.
-fn take_out(steps: &mut Vec<Step>, at: usize, cost: i64)
-    requires { at ≤ length steps.old.items }
-    ensures { at ≤ length steps.new.items }
+/// Takes out the entries from a place on that cost no less.
+fn take_out(entries: &mut Vec<Entry>, at: usize, cost: i64)
+    requires { at ≤ length entries.old.items }
+    ensures { at ≤ length entries.new.items }
 {
-    for _turn in at..steps.len() {
-        if at >= steps.len() || steps[at].cost < cost {
+    for _turn in at..entries.len() {
+        if at >= entries.len() || entries[at].cost < cost {
             break;
         }
-        steps.remove(at);
+        entries.remove(at);
     }
 }
 
@@ -51,10 +51,10 @@ fn take_out(steps: &mut Vec<Step>, at: usize, cost: i64)
 #[derive(Drop)]
 struct Group {
     memory: u128,
-    /// The least time and the least cost of a step.
+    /// The least time and the least cost of an entry.
     first: u64,
     least: i64,
-    steps: Vec<Step>,
+    entries: Vec<Entry>,
 }
 
 impl Group {
@@ -64,7 +64,7 @@ impl Group {
             memory: x.memory,
             first: x.front.time,
             least: x.front.cost,
-            steps: Vec::new(alloc),
+            entries: Vec::new(alloc),
         }
     }
 
@@ -76,30 +76,30 @@ impl Group {
         if self.first > x.front.time || self.least > x.front.cost {
             return None;
         }
-        let steps = self.steps.as_slice();
-        let count = earlier(steps, x.front.time.saturating_add(1));
+        let entries = self.entries.as_slice();
+        let count = earlier(entries, x.front.time.saturating_add(1));
         if count == 0 {
             return None;
         }
-        let step = steps[count - 1];
-        if step.cost > x.front.cost {
+        let entry = entries[count - 1];
+        if entry.cost > x.front.cost {
             return None;
         }
-        Some(step.place)
+        Some(entry.place)
     }
 
     /// Puts a label in, in place of those that are later and cost no less.
     fn put(&mut self, x: &Label, place: usize) -> Result<(), AllocError> {
-        let step = Step {
+        let entry = Entry {
             time: x.front.time,
             cost: x.front.cost,
             place,
         };
-        let at = earlier(self.steps.as_slice(), step.time);
-        take_out(&mut self.steps, at, step.cost);
-        self.steps.insert(at, step)?;
-        self.first = self.first.min(step.time);
-        self.least = self.least.min(step.cost);
+        let at = earlier(self.entries.as_slice(), entry.time);
+        take_out(&mut self.entries, at, entry.cost);
+        self.entries.insert(at, entry)?;
+        self.first = self.first.min(entry.time);
+        self.least = self.least.min(entry.cost);
         Ok(())
     }
 }

@@ -4,7 +4,7 @@ use Rattle.labelling.proofs.shelves.earlier.Given as goal
 abbrev pub invariant-loop-low : goal.invariant-loop-low
 invariant-loop-low l = record {
   ordered : l.low ≤ l.high;
-  within : l.high ≤ length l.steps;
+  within : l.high ≤ length l.entries;
 }
 
 abbrev pub decreases-loop-low : goal.decreases-loop-low
