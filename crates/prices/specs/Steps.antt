@@ -1,22 +1,19 @@
--- Steps of the prices: a customer that the route visits too often becomes cheaper, one that it leaves out dearer.
-use Rattle.std.specs.Prelude.{◌≡◌, ℕ, ◌<◌, ◌≤◌, ◌==◌, List, [], ◌∷◌, ◌++◌, map, ℤ, pos, ◌+ℤ◌, ◌-ℤ◌, ◌*ℤ◌, ◌≤ℤ◌, ◌⊎◌}
+-- Steps of the prices: a customer that the route count_of often too becomes cheaper, one that it leaves out dearer.
+use Rattle.std.specs.Prelude.{◌≡◌, ℕ, ◌<◌, ◌≤◌, List, [], ◌∷◌, ◌++◌, map, ℤ, pos, ◌+ℤ◌, ◌-ℤ◌, ◌*ℤ◌, ◌≤ℤ◌, ◌⊎◌}
 use Rattle.std.specs.Int.{int_min, int_max}
-use Rattle.std.specs.List.{count_by, AllByRecursion}
+use Rattle.std.specs.List.{AllByRecursion}
 use Rattle.solomon_reader.specs.Problem.{Problem, customers}
+use Rattle.solomon_reader.specs.Plan.{count_of}
 use Rattle.solomon_reader.specs.Region.{Region}
 use Rattle.solomon_reader.specs.Relaxed.{IsRelaxed, IsLeast, IsLeastWithZero, reduced_cost, price_of}
 use Rattle.solomon_reader.specs.declared.limits.TheConstants.{MOST_PRICE}
 use Rattle.prices.specs.Pricing.{Pricing}
 
--- how often customer i stands in the route
-abbrev pub visits : List ℕ → ℕ → ℕ
-visits r i = count_by (λ j. j == i) r
-
 -- the number of the range of prices that is nearest to z
 abbrev pub cut : ℤ → ℤ
 cut z = int_max (pos 0 -ℤ pos MOST_PRICE) (int_min (pos MOST_PRICE) z)
 
--- a price after a step of s grains, where the route visits the customer so often
+-- a price after a step of s grains, where the route count_of customer the so often
 abbrev pub price_after : ℤ → ℕ → ℤ → ℤ
 price_after s count price = cut (price +ℤ (s *ℤ (pos 1 -ℤ pos count)))
 
@@ -29,7 +26,7 @@ IsGuide p g k prices r =
 -- the prices after one step
 abbrev pub IsStepped : Problem → Region → ℕ → ℤ → List ℤ → List ℤ → Type 0
 IsStepped p g k s old new =
-    (r : List ℕ) × IsGuide p g k old r × (new ≡ map (λ i. price_after s (visits r i) (price_of old i)) (customers p))
+    (r : List ℕ) × IsGuide p g k old r × (new ≡ map (λ i. price_after s (count_of i r) (price_of old i)) (customers p))
 
 -- prices with their value after one step, at the same region of the same instance
 pub record IsNext (old : Pricing) (s : ℤ) (new : Pricing) : Type 0 where

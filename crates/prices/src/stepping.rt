@@ -3,8 +3,9 @@
 ghost use Rattle.std.specs.Prelude.{◌≡◌, length, IfOk};
 ghost use Rattle.std.specs.List.{AllByRecursion};
 ghost use Rattle.solomon_reader.specs.Problem.{customer_count};
+ghost use Rattle.solomon_reader.specs.Plan.{count_of};
 ghost use Rattle.solomon_reader.specs.CertificateText.{IsPrice};
-ghost use Rattle.prices.specs.Steps.{visits, price_after, IsStepped, IsNext};
+ghost use Rattle.prices.specs.Steps.{price_after, IsStepped, IsNext};
 
 use crate::fault::PriceFault;
 use crate::priced::Priced;
@@ -13,7 +14,7 @@ use std::alloc::{AllocError, Global};
 
 /// How often a customer stands in a route.
 fn visits(route: &[u16], customer: u16) -> usize
-    ensures { result ≡ visits route.now customer }
+    ensures { result ≡ count_of customer route.now }
 {
     route.iter().filter(|stop| **stop == customer).count()
 }
