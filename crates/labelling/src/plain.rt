@@ -268,8 +268,8 @@ fn first(
     Ok(labels)
 }
 
-/// The least reduced cost over all relaxed routes of the region at these prices, and a route that
-/// has it.
+/// What the `least` of this crate answers, for the same arguments and with the same refusals: the
+/// least reduced cost over all relaxed routes in grains, and a route that has it.
 pub fn least(
     alloc: Global,
     instance: &Instance,

@@ -375,6 +375,12 @@ fn first(alloc: Global, instance: &Instance) -> Result<Vec<Label>, AllocError>
 
 /// The least reduced cost over all relaxed routes of the region at these prices, and a route that
 /// has it.
+///
+/// Prices and the answer are grains; `prices[i - 1]` is that of customer i. A relaxed route is an
+/// ng-route (Baldacci, Mingozzi and Roberti 2011) within load and windows over allowed arcs, for
+/// lists of this many neighbours, at most 15. `LabelLimit` where as many labels stand as `limit`
+/// allows, the empty beginning not counted; `Memory` where a growth was refused. A refusal leaves
+/// nothing behind.
 pub fn least(
     alloc: Global,
     instance: &Instance,

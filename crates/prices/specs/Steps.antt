@@ -1,4 +1,4 @@
--- Steps of the prices: a customer that the route count_of often too becomes cheaper, one that it leaves out dearer.
+-- Steps of the prices: the price of a customer that the route visits too often falls, that of one that it leaves out rises.
 use Rattle.std.specs.Prelude.{◌≡◌, ℕ, ◌<◌, ◌≤◌, List, [], ◌∷◌, ◌++◌, map, ℤ, pos, ◌+ℤ◌, ◌-ℤ◌, ◌*ℤ◌, ◌≤ℤ◌, ◌⊎◌}
 use Rattle.std.specs.Int.{int_min, int_max}
 use Rattle.std.specs.List.{AllByRecursion}
@@ -13,7 +13,7 @@ use Rattle.prices.specs.Pricing.{Pricing}
 abbrev pub cut : ℤ → ℤ
 cut z = int_max (pos 0 -ℤ pos MOST_PRICE) (int_min (pos MOST_PRICE) z)
 
--- a price after a step of s grains, where the route count_of customer the so often
+-- a price after a step of s grains, where the customer stands in the route so often
 abbrev pub price_after : ℤ → ℕ → ℤ → ℤ
 price_after s count price = cut (price +ℤ (s *ℤ (pos 1 -ℤ pos count)))
 

@@ -7,8 +7,7 @@ use std::alloc::{AllocError, Global};
 /// The depot at (0,0), open from 0 to 1000.
 pub const DEPOT: &str = "0 0 0 0 0 1000 0\n";
 
-/// The text of an instance named `T`. No clause says which, here and below: a row shows what its text
-/// is by what becomes of it.
+/// The text of an instance named `T`. No clause: the rows show the text, by what becomes of it.
 pub fn instance_text(
     alloc: Global,
     fleet: u32,
@@ -22,16 +21,19 @@ pub fn instance_text(
 }
 
 /// One customer at (3,4), with one vehicle of capacity 1.
+/// No clause: the rows show the text.
 pub fn one_customer(alloc: Global) -> Result<String, AllocError> {
     instance_text(alloc, 1, 1, DEPOT, "1 3 4 1 0 1000 0\n")
 }
 
 /// Two customers on a line from the depot, with two vehicles of capacity 1.
+/// No clause: the rows show the text.
 pub fn two_in_line(alloc: Global) -> Result<String, AllocError> {
     instance_text(alloc, 2, 1, DEPOT, "1 3 4 1 0 1000 0\n2 6 8 1 0 1000 0\n")
 }
 
 /// Three customers close to each other, with two vehicles of capacity 2.
+/// No clause: the rows show the text.
 pub fn three_apart(alloc: Global) -> Result<String, AllocError> {
     instance_text(
         alloc,
@@ -43,6 +45,7 @@ pub fn three_apart(alloc: Global) -> Result<String, AllocError> {
 }
 
 /// Customers 1 to `count`, all at (3,4).
+/// No clause: the rows show the text.
 pub fn many_customers(alloc: Global, count: u32) -> Result<String, AllocError> {
     let mut customers = String::new(alloc);
     for number in 1..=count {
