@@ -1,6 +1,6 @@
-pub mod Leasts
+pub mod Ascending
+pub mod LeastCosts
 pub mod Moving
 pub mod Ranges
 pub mod Stepped
 pub mod Values
-pub mod Walked

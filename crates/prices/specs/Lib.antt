@@ -1,4 +1,4 @@
 pub mod Faults
 pub mod Pricing
 pub mod Steps
-pub mod Walks
+pub mod Ascents

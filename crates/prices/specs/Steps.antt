@@ -5,7 +5,7 @@ use Rattle.std.specs.List.{AllByRecursion}
 use Rattle.solomon_reader.specs.Problem.{Problem, customers}
 use Rattle.solomon_reader.specs.Plan.{count_of}
 use Rattle.solomon_reader.specs.Region.{Region}
-use Rattle.solomon_reader.specs.Relaxed.{IsRelaxed, IsLeast, IsLeastWithZero, reduced_cost, price_of}
+use Rattle.solomon_reader.specs.Relaxed.{IsRelaxed, IsLeast, reduced_cost, price_of}
 use Rattle.solomon_reader.specs.declared.limits.TheConstants.{MOST_PRICE}
 use Rattle.prices.specs.Pricing.{Pricing}
 
@@ -21,7 +21,7 @@ price_after s count price = cut (price +ℤ (s *ℤ (pos 1 -ℤ pos count)))
 abbrev pub IsGuide : Problem → Region → ℕ → List ℤ → List ℕ → Type 0
 IsGuide p g k prices r =
     (IsRelaxed p g k r × IsLeast p g k prices (reduced_cost p prices r) × ((reduced_cost p prices r +ℤ pos 1) ≤ℤ pos 0))
-    ⊎ ((r ≡ []) × IsLeastWithZero p g k prices (pos 0))
+    ⊎ ((r ≡ []) × ((q : List ℕ) → IsRelaxed p g k q → pos 0 ≤ℤ reduced_cost p prices q))
 
 -- the prices after one step
 abbrev pub IsStepped : Problem → Region → ℕ → ℤ → List ℤ → List ℤ → Type 0

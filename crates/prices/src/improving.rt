@@ -3,12 +3,9 @@
 ghost use Rattle.std.specs.Prelude.{◌≡◌};
 ghost use Rattle.prices.specs.Steps.{Improves};
 
+use crate::ascent::Ascent;
 use crate::priced::Priced;
-use crate::walk::Walk;
 use std::alloc::Global;
-
-/// The steps that raise the prices of a root, in grains.
-pub const STEPS: [i64; 7] = [64_000, 32_000, 16_000, 8_000, 4_000, 2_000, 1_000];
 
 /// The prices after the first steps that give the greatest value, each step from the prices that the
 /// one before left. With a step of s grains each price gains `s * (1 - visits)` and is cut to the
@@ -23,12 +20,12 @@ pub fn improve<'i>(
 ) -> Priced<'i>
     ensures { Improves priced.entry steps.now result }
 {
-    let mut walk = Walk::new(priced);
+    let mut ascent = Ascent::new(priced);
     for step in steps {
-        walk = match walk.step(alloc, *step, limit) {
-            Ok(walk) => walk,
+        ascent = match ascent.step(alloc, *step, limit) {
+            Ok(ascent) => ascent,
             Err(best) => return best,
         };
     }
-    walk.into_best()
+    ascent.into_best()
 }

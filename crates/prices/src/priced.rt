@@ -8,20 +8,21 @@ ghost use Rattle.solomon_reader.specs.declared.limits.TheConstants.{MOST_NEIGHBO
 ghost use Rattle.labelling.specs.declared.fault.LabelFault.TheVariants as label;
 ghost use Rattle.prices.specs.Pricing.{IsPricing};
 ghost use Rattle.prices.specs.Steps.{IsGuide};
+ghost use Rattle.labelling.specs.Answer.{HasLeastValue, HasItsRoute};
 ghost use Rattle.prices.specs.declared.fault.PriceFault.TheVariants.{LabelLimit, PriceRange};
 
 use crate::fault::PriceFault;
 use crate::range::are_prices;
-use crate::valuing::{or_zero, sum_of, value_of};
+use crate::valuing::{least_of, sum_of, value_of};
 use branching::Region;
-use labelling::{LabelFault, least};
-use solomon_reader::{Instance, least_with_zero};
+use labelling::{LabelFault, Least, least};
+use solomon_reader::Instance;
 use std::alloc::{AllocError, Global};
 use std::marker::Model;
 
 /// A price for each customer at a region of an instance, and the value that they give: every plan
 /// that obeys the region costs at least the value. Contracts see all five. Beside them stands the
-/// route that a step of the prices goes by.
+/// least reduced cost over the relaxed routes, with its route.
 #[derive(Debug, Drop)]
 pub struct Priced<'i> {
     instance: &'i Instance,
@@ -29,14 +30,14 @@ pub struct Priced<'i> {
     neighbours: u32,
     prices: Vec<i64>,
     value: u128,
-    guide: Vec<u16>,
+    least: Least,
 }
 
 impl<'i> Model for Priced<'i> {
     ghost use Rattle.std.specs.Coded.{codes};
     ghost use Rattle.solomon_reader.specs.Region.{region_code};
     ghost use Rattle.prices.specs.Pricing.{Pricing, IsPricing};
-    ghost use Rattle.prices.specs.Steps.{IsGuide};
+    ghost use Rattle.labelling.specs.Answer.{HasLeastValue, HasItsRoute};
 
     ghost Value = { Pricing };
 
@@ -50,37 +51,48 @@ impl<'i> Model for Priced<'i> {
       neighbours = f.neighbours;
       prices = f.prices.items;
       value = f.value;
-    }) × IsGuide f.instance.now f.region f.neighbours f.prices.items f.guide.items };
+    }) × HasLeastValue f.instance.now f.region f.neighbours f.prices.items f.least
+        × HasItsRoute f.instance.now f.region f.neighbours f.prices.items f.least };
 }
 
-/// The value of the prices in tenths, and the route that a step from them goes by.
-fn valued(
+/// The value of the prices in tenths, and the least reduced cost that gives it.
+fn evaluate(
     alloc: Global,
     instance: &Instance,
     region: &Region,
     neighbours: u32,
     prices: &[i64],
     limit: Option<usize>,
-) -> Result<(u128, Vec<u16>), LabelFault>
+) -> Result<(u128, Least), LabelFault>
     requires size { region.now.size ≡ customer_count instance.now }
     requires count { length prices.now ≡ customer_count instance.now }
     requires priced { AllByRecursion IsPrice prices.now }
     requires few { neighbours ≤ MOST_NEIGHBOURS }
     ensures value { IfOk result (λ v. IsPricing (record { problem = instance.now; region = region.now; neighbours = neighbours; prices = prices.now; value = v.0 })) }
-    ensures guide { IfOk result (λ v. IsGuide instance.now region.now neighbours prices.now v.1.items) }
+    ensures least { IfOk result (λ v. HasLeastValue instance.now region.now neighbours prices.now v.1) }
+    ensures route { IfOk result (λ v. HasItsRoute instance.now region.now neighbours prices.now v.1) }
     ensures unlimited { IfErr result (λ e. e ≡ label.LabelLimit → limit ≢ None) }
 {
-    let _limits = instance.customer_count();
-    least_with_zero();
+    instance.holds();
     let found = least(alloc, instance, region, prices, neighbours, limit)?;
-    let least = or_zero(found.value);
-    let value = value_of(instance.fleet(), sum_of(prices), least);
-    let guide = if least < 0 {
-        found.route
-    } else {
-        Vec::new(alloc)
-    };
-    Ok((value, guide))
+    let value = value_of(
+        instance.fleet(),
+        instance.fewest_routes(),
+        sum_of(prices),
+        least_of(found.value),
+    );
+    Ok((value, found))
+}
+
+/// A copy of a least reduced cost with its route.
+fn copy_of(least: &Least) -> Result<Least, AllocError>
+    ensures value { IfOk result (λ l. l.value ≡ least.now.value) }
+    ensures route { IfOk result (λ l. l.route.items ≡ least.now.route.items) }
+{
+    Ok(Least {
+        value: least.value,
+        route: least.route.clone()?,
+    })
 }
 
 impl<'i> Priced<'i> {
@@ -113,7 +125,7 @@ impl<'i> Priced<'i> {
         if !are_prices(prices.as_slice()) {
             return Err((region, prices, PriceFault::PriceRange));
         }
-        match valued(
+        match evaluate(
             alloc,
             instance,
             &region,
@@ -121,13 +133,13 @@ impl<'i> Priced<'i> {
             prices.as_slice(),
             limit,
         ) {
-            Ok((value, guide)) => Ok(Priced {
+            Ok((value, least)) => Ok(Priced {
                 instance,
                 region,
                 neighbours,
                 prices,
                 value,
-                guide,
+                least,
             }),
             Err(fault) => Err((region, prices, PriceFault::from(fault))),
         }
@@ -164,8 +176,9 @@ impl<'i> Priced<'i> {
         self.prices.as_slice()
     }
 
-    /// The value in tenths: the prices, and for each vehicle what the least reduced cost below zero
-    /// takes back, rounded up and not below zero.
+    /// The value in tenths: the prices, less what each vehicle may take back where the least reduced
+    /// cost is below zero, and where it is above, what it costs each route that carries the demands;
+    /// rounded up, and not below zero.
     pub fn value(&self) -> i128
         ensures is { result ≡ pos self.now.value }
         ensures valued { IsPricing self.now }
@@ -173,12 +186,25 @@ impl<'i> Priced<'i> {
         self.value as i128
     }
 
+    /// The least reduced cost over the relaxed routes of the region at these prices, in grains, with
+    /// a route that has it.
+    pub fn least(&self) -> &Least
+        ensures value { HasLeastValue self.now.problem self.now.region self.now.neighbours self.now.prices result.now }
+        ensures route { HasItsRoute self.now.problem self.now.region self.now.neighbours self.now.prices result.now }
+    {
+        &self.least
+    }
+
     /// The route that a step goes by: one of the least reduced cost where that is below zero, else the
     /// empty one.
     pub(crate) fn guide(&self) -> &[u16]
         ensures { IsGuide self.now.problem self.now.region self.now.neighbours self.now.prices result.now }
     {
-        self.guide.as_slice()
+        let least = self.least();
+        match least.value {
+            Some(cost) if cost < 0 => least.route.as_slice(),
+            _ => &[],
+        }
     }
 
     /// A copy, unless memory runs out.
@@ -187,14 +213,14 @@ impl<'i> Priced<'i> {
     {
         let region = self.region.try_clone()?;
         let prices = self.prices.clone()?;
-        let guide = self.guide.clone()?;
+        let least = copy_of(&self.least)?;
         Ok(Priced {
             instance: self.instance,
             region,
             neighbours: self.neighbours,
             prices,
             value: self.value,
-            guide,
+            least,
         })
     }
 }

@@ -13,7 +13,7 @@ use solomon_reader::MOST_PRICE;
 use std::alloc::{AllocError, Global};
 
 /// How often a customer stands in a route.
-fn visits(route: &[u16], customer: u16) -> usize
+fn count_of(route: &[u16], customer: u16) -> usize
     ensures { result ≡ count_of customer route.now }
 {
     route.iter().filter(|stop| **stop == customer).count()
@@ -41,14 +41,14 @@ fn prices_after(alloc: Global, priced: &Priced<'_>, step: i64) -> Result<Vec<i64
     let end = priced.instance().customer_count() + 1;
     let mut prices = Vec::new(alloc);
     for customer in 1..end {
-        let count = visits(route, customer);
+        let count = count_of(route, customer);
         prices.push(price_after(step, count, old[usize::from(customer) - 1]))?;
     }
     Ok(prices)
 }
 
 /// The prices after a step of this many grains, with their value.
-pub(crate) fn stepped<'i>(
+pub(crate) fn step_from<'i>(
     alloc: Global,
     priced: &Priced<'i>,
     step: i64,

@@ -1,63 +1,77 @@
 //! The value of prices, from the least reduced cost.
 
-ghost use Rattle.std.specs.Prelude.{◌≡◌, ◌*◌, ◌≤◌, length, pos, ◌+ℤ◌, ◌-ℤ◌, ◌*ℤ◌, ◌≤ℤ◌};
+ghost use Rattle.std.specs.Prelude.{◌≡◌, ◌+◌, ◌*◌, ◌<◌, ◌≤◌, length, pos, ◌-ℤ◌};
 ghost use Rattle.std.specs.List.{AllByRecursion};
 ghost use Rattle.solomon_reader.specs.Relaxed.{int_sum};
 ghost use Rattle.solomon_reader.specs.Bound.{IsRoundedUp};
+ghost use Rattle.solomon_reader.specs.SumLaws.{up, down};
 ghost use Rattle.solomon_reader.specs.CertificateText.{IsPrice};
-ghost use Rattle.solomon_reader.specs.declared.limits.TheConstants.{MOST_CAPACITY, MOST_CUSTOMERS, MOST_FLEET, MOST_PRICE};
-ghost use Rattle.prices.specs.Pricing.{or_zero};
+ghost use Rattle.solomon_reader.specs.declared.limits.TheConstants.{MOST_CUSTOMERS, MOST_DEMAND, MOST_FLEET, MOST_PRICE};
+ghost use Rattle.prices.specs.Pricing.{or_zero, MOST_LEAST, MOST_VALUE};
 
 /// The grains of a tenth.
 const GRAINS_OF_TENTH: u128 = 1_000;
 
-/// The sum of the prices, in grains.
-pub(crate) fn sum_of(prices: &[i64]) -> i128
+/// A number of grains as the difference of two numbers that aren't negative.
+#[derive(Clone, Copy, Debug)]
+pub struct Grains {
+    pub above: u128,
+    pub below: u128,
+}
+
+/// The sum of the prices.
+pub(crate) fn sum_of(prices: &[i64]) -> Grains
     requires priced { AllByRecursion IsPrice prices.now }
     requires few { length prices.now ≤ MOST_CUSTOMERS }
-    ensures value { result ≡ int_sum prices.now }
-    ensures low { (pos 0 -ℤ pos (MOST_CUSTOMERS * MOST_PRICE)) ≤ℤ result }
-    ensures high { result ≤ℤ pos (MOST_CUSTOMERS * MOST_PRICE) }
+    ensures value { pos result.above -ℤ pos result.below ≡ int_sum prices.now }
+    ensures above { result.above ≤ MOST_CUSTOMERS * MOST_PRICE }
+    ensures below { result.below ≤ MOST_CUSTOMERS * MOST_PRICE }
 {
-    let mut sum: i128 = 0;
+    let mut above: u128 = 0;
+    let mut below: u128 = 0;
     for price in prices {
-        sum += i128::from(*price);
+        let size = u128::from(price.unsigned_abs());
+        if *price < 0 {
+            below += size;
+        } else {
+            above += size;
+        }
     }
-    sum
+    Grains { above, below }
 }
 
-/// The least reduced cost, or 0 where there is none or it is above 0.
-pub(crate) fn or_zero(least: Option<i128>) -> i128
-    ensures { result ≡ or_zero least }
+/// The least reduced cost, 0 where there is none.
+pub(crate) fn least_of(least: Option<i128>) -> Grains
+    ensures above { result.above ≡ up (or_zero least) }
+    ensures below { result.below ≡ down (or_zero least) }
 {
     match least {
-        Some(cost) if cost < 0 => cost,
-        _ => 0,
+        Some(cost) if cost < 0 => Grains {
+            above: 0,
+            below: cost.unsigned_abs(),
+        },
+        Some(cost) => Grains {
+            above: cost.unsigned_abs(),
+            below: 0,
+        },
+        None => Grains { above: 0, below: 0 },
     }
 }
 
-/// Grains in tenths, rounded up; 0 where they are below 0.
-fn rounded_up(grains: i128) -> u128
-    requires { grains ≤ℤ pos (MOST_CUSTOMERS * MOST_PRICE) }
-    ensures value { IsRoundedUp grains result }
-    ensures bound { result ≤ MOST_CUSTOMERS * MOST_PRICE }
-{
-    if grains <= 0 {
-        return 0;
-    }
-    (grains as u128).div_ceil(GRAINS_OF_TENTH)
-}
-
-/// The value in tenths of prices with this sum, where each vehicle takes back this least reduced
-/// cost, both in grains.
-pub(crate) fn value_of(fleet: u16, sum: i128, least: i128) -> u128
+/// The value in tenths of prices with this sum, where each vehicle takes back what the least reduced
+/// cost is below 0, and each of these routes costs at least what it is above. Rounded up, and 0
+/// where the grains are below 0.
+pub(crate) fn value_of(fleet: u16, routes: u32, sum: Grains, least: Grains) -> u128
     requires vehicles { fleet ≤ MOST_FLEET }
-    requires sum_low { (pos 0 -ℤ pos (MOST_CUSTOMERS * MOST_PRICE)) ≤ℤ sum }
-    requires sum_high { sum ≤ℤ pos (MOST_CUSTOMERS * MOST_PRICE) }
-    requires least_low { (pos 0 -ℤ pos (MOST_CAPACITY * MOST_PRICE)) ≤ℤ least }
-    requires least_high { least ≤ℤ pos 0 }
-    ensures value { IsRoundedUp (sum +ℤ (pos fleet *ℤ least)) result }
-    ensures bound { result ≤ MOST_CUSTOMERS * MOST_PRICE }
+    requires routes { routes ≤ MOST_CUSTOMERS * MOST_DEMAND }
+    requires sum_above { sum.above ≤ MOST_CUSTOMERS * MOST_PRICE }
+    requires sum_below { sum.below ≤ MOST_CUSTOMERS * MOST_PRICE }
+    requires least_above { least.above ≤ MOST_LEAST }
+    requires least_below { least.below ≤ MOST_LEAST }
+    ensures value { IsRoundedUp (pos (sum.above + routes * least.above) -ℤ pos (sum.below + fleet * least.below)) result }
+    ensures bound { result < MOST_VALUE }
 {
-    rounded_up(sum + i128::from(fleet) * least)
+    let above = sum.above + u128::from(routes) * least.above;
+    let below = sum.below + u128::from(fleet) * least.below;
+    above.saturating_sub(below).div_ceil(GRAINS_OF_TENTH)
 }

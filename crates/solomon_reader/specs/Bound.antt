@@ -1,30 +1,41 @@
 -- The value of a leaf, the ceiling of an instance, and the bound of a tree.
-use Rattle.std.specs.Prelude.{◌≡◌, ℕ, ◌+◌, ◌*◌, ◌≤◌, max, min, List, [], ◌∷◌, map, length, ℤ, pos, ◌+ℤ◌, ◌*ℤ◌, ◌≤ℤ◌}
-use Rattle.std.specs.List.{flat_map, range_with_len}
-use Rattle.solomon_reader.specs.Problem.{Problem, customer_count}
+use Rattle.std.specs.Prelude.{◌≡◌, ℕ, ◌+◌, ◌*◌, ◌≤◌, max, min, List, [], ◌∷◌, ◌++◌, map, length, ℤ, pos, ◌+ℤ◌, ◌*ℤ◌, ◌≤ℤ◌}
+use Rattle.std.specs.Int.{div_ceil, int_min, int_max}
+use Rattle.std.specs.List.{flat_map, range_with_len, sum_by}
+use Rattle.solomon_reader.specs.Problem.{Problem, customers, customer_count, demand}
 use Rattle.solomon_reader.specs.Distance.{distance}
 use Rattle.solomon_reader.specs.Plan.{Arc}
 use Rattle.solomon_reader.specs.Region.{Region, IsUndecided, used_child, unused_child, root_region}
-use Rattle.solomon_reader.specs.Relaxed.{IsLeastWithZero, int_sum}
+use Rattle.solomon_reader.specs.Relaxed.{IsLeastOrZero, int_sum}
 
 -- which rule gives the value of a leaf
 pub data Version : Type 0 where
   version_1 : Version
+  version_2 : Version
 
 -- v is the least whole number of tenths that covers z grains, so 0 where z is negative
 pub record IsRoundedUp (z : ℤ) (v : ℕ) : Type 0 where
   pub covers : z ≤ℤ pos (1000 * v)
   pub least : (w : ℕ) → z ≤ℤ pos (1000 * w) → v ≤ w
 
--- in grains: the prices, less what each vehicle may win back by the least reduced cost
+-- how many vehicles carry all demands, rounded up: no plan has fewer routes
+abbrev pub fewest_routes : Problem → ℕ
+fewest_routes p = div_ceil (sum_by (demand p) (customers p)) p.capacity
+
+-- how many routes a version counts on, beside those that the fleet allows
+abbrev pub routes_counted : Version → Problem → ℕ
+routes_counted version_1 p = 0
+routes_counted version_2 p = fewest_routes p
+
+-- in grains: the prices, less what each vehicle may win back where the least reduced cost is below 0, and what each route counted on costs at least where it is above
 abbrev pub grains_of : Version → Problem → List ℤ → ℤ → ℤ
-grains_of version_1 p prices least = int_sum prices +ℤ (pos p.fleet *ℤ least)
+grains_of version p prices least = (int_sum prices +ℤ (pos p.fleet *ℤ int_min (pos 0) least)) +ℤ (pos (routes_counted version p) *ℤ int_max (pos 0) least)
 
 -- the value of a leaf, in tenths
 pub record IsLeafValue (version : Version) (p : Problem) (g : Region) (k : ℕ) (prices : List ℤ) (v : ℕ) : Type 0 where
   pub priced : length prices ≡ customer_count p
   pub least : ℤ
-  pub is_least : IsLeastWithZero p g k prices least
+  pub is_least : IsLeastOrZero p g k prices least
   pub rounded : IsRoundedUp (grains_of version p prices least) v
 
 abbrev pub greatest_of : List ℕ → ℕ
@@ -45,6 +56,16 @@ ceiling_of p = 2 * customer_count p * greatest_distance p
 pub data Tree : Type 0 where
   leaf : List ℤ → Tree
   split : Arc → Tree → Tree → Tree
+
+-- one node of a tree: the prices of a leaf, or the arc of a split
+pub data Node : Type 0 where
+  leaf_node : List ℤ → Node
+  split_node : Arc → Node
+
+-- the nodes in preorder, the tree where the arc is used first
+abbrev pub preorder : Tree → List Node
+preorder (leaf prices) = leaf_node prices ∷ []
+preorder (split a used unused) = split_node a ∷ (preorder used ++ preorder unused)
 
 -- b is the least of the ceiling plus one and the values of the tree's leaves, where the tree stands at the region g
 abbrev pub HasBound : Version → Problem → ℕ → Region → Tree → ℕ → Type 0

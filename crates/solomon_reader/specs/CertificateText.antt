@@ -8,7 +8,7 @@ use Rattle.solomon_reader.specs.declared.limits.TheConstants.{MOST_CUSTOMERS, MO
 use Rattle.solomon_reader.specs.Problem.{Problem, customer_count}
 use Rattle.solomon_reader.specs.Layout.{IsName}
 use Rattle.solomon_reader.specs.Region.{Region, IsUndecided, used_child, unused_child, root_region}
-use Rattle.solomon_reader.specs.Bound.{Version, version_1, Tree, leaf, split, IsTreeBound}
+use Rattle.solomon_reader.specs.Bound.{Version, version_1, version_2, Tree, leaf, split, IsTreeBound}
 use Rattle.solomon_reader.specs.SolutionText.{line, spaced}
 
 pub record Certificate : Type 0 where
@@ -63,6 +63,7 @@ node_lines (split a used unused) = split_line a ++ node_lines used ++ node_lines
 
 abbrev pub first_line : Version → List ℕ
 first_line version_1 = line (codes "VRPTW-CERT 1")
+first_line version_2 = line (codes "VRPTW-CERT 2")
 
 -- the lines before the nodes
 abbrev pub head_lines : Certificate → List ℕ

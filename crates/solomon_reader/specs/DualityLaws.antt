@@ -1,29 +1,37 @@
 -- Weak duality, the ceiling, and the bound of a tree.
 use Rattle.std.proofs.Common.{◌≡◌, refl, ℕ, ◌*◌, ◌≤◌, List, length, arith, ◌∙◌, inl, inr}
-use Rattle.std.specs.Prelude.{pos, ◌+ℤ◌, ◌≤ℤ◌}
+use Rattle.std.specs.Prelude.{ℤ, pos, ◌+ℤ◌, ◌≤ℤ◌}
 use Rattle.std.specs.List.{flat_map}
 use Rattle.std.proofs.lemmas.Int.{ints}
 use Rattle.std.proofs.lemmas.Nat.{mul-le}
 use Rattle.solomon_reader.specs.Problem.{Problem, customers, customer_count}
 use Rattle.solomon_reader.specs.Plan.{IsPlan, plan_cost}
 use Rattle.solomon_reader.specs.Region.{Region, Obeys, used_child, unused_child, root_region}
-use Rattle.solomon_reader.specs.Relaxed.{reduced_cost, int_sum_by, int_sum, price_of}
-use Rattle.solomon_reader.specs.Bound.{Version, version_1, Tree, leaf, split, HasBound}
+use Rattle.solomon_reader.specs.Relaxed.{IsRelaxed, IsLeastOrZero, reduced_cost, int_sum_by, int_sum, price_of}
+use Rattle.solomon_reader.specs.Bound.{Version, routes_counted, Tree, leaf, split, HasBound}
 use Rattle.solomon_reader.specs.Duality.{WeakDuality, CeilingHolds, TreeBoundHolds, NoPlanAbove}
-use Rattle.solomon_reader.specs.SumLaws.{down, int_sum-least, int_sum-permutation, prices_sum, times_down}
+use Rattle.solomon_reader.specs.SumLaws.{up, down, int_sum-least, int_sum-permutation, prices_sum, times_down, times_up}
 use Rattle.solomon_reader.specs.RegionLaws.{obeys_root, obeys_child}
 use Rattle.solomon_reader.specs.RelaxedLaws.{is_relaxed, reduced_sum}
 use Rattle.solomon_reader.specs.CeilingLaws.{plan_cost-le}
+use Rattle.solomon_reader.specs.LoadLaws.{counted-le}
+
+-- no reduced cost of a relaxed route is below the least
+least_holds : (p : Problem) (g : Region) (k : ℕ) (prices : List ℤ) (m : ℤ) → IsLeastOrZero p g k prices m
+    → (r : List ℕ) → IsRelaxed p g k r → m ≤ℤ reduced_cost p prices r
+least_holds p g k prices m (inl is) r h = is.least r h
+least_holds p g k prices m (inr none) r h = absurd (none.0 r h)
 
 pub weak_duality : WeakDuality
-weak_duality version_1 p g k prices v routes size value plan obeys =
+weak_duality version p g k prices v routes size value plan obeys =
     let m = value.least in
-    let above : pos 0 ≤ℤ (int_sum_by (reduced_cost p prices) routes +ℤ pos (length routes * down m)) =
-    int_sum-least (reduced_cost p prices) m routes (λ r h. value.is_least.least r (is_relaxed p g k routes size plan obeys r h)) in
+    let above : pos (length routes * up m) ≤ℤ (int_sum_by (reduced_cost p prices) routes +ℤ pos (length routes * down m)) =
+    int_sum-least (reduced_cost p prices) m routes (λ r h. least_holds p g k prices m value.is_least r (is_relaxed p g k routes size plan obeys r h)) in
     let few : length routes * down m ≤ p.fleet * down m = mul-le (length routes) (down m) p.fleet (down m) plan.fleet (omega arith) in
+    let many : routes_counted version p * up m ≤ length routes * up m = mul-le (routes_counted version p) (up m) (length routes) (up m) (counted-le version p routes plan) (omega arith) in
     let same : int_sum_by (price_of prices) (flat_map (λ r. r) routes) ≡ int_sum prices =
     int_sum-permutation (price_of prices) (customers p) (flat_map (λ r. r) routes) plan.each_once ∙ prices_sum prices (customer_count p) value.priced in
-    value.rounded.least (plan_cost p routes) (omega (arith, ints, above, few, same, reduced_sum p prices routes, times_down p.fleet m value.is_least.at_most_zero))
+    value.rounded.least (plan_cost p routes) (omega (arith, ints, above, few, many, same, reduced_sum p prices routes, times_down p.fleet m, times_up (routes_counted version p) m))
 
 pub ceiling_holds : CeilingHolds
 ceiling_holds p routes plan = plan_cost-le p routes plan

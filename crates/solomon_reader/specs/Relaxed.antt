@@ -46,8 +46,6 @@ pub record IsLeast (p : Problem) (g : Region) (k : ℕ) (prices : List ℤ) (m :
   pub reached : (r : List ℕ) × IsRelaxed p g k r × (reduced_cost p prices r ≡ m)
   pub least : (r : List ℕ) → IsRelaxed p g k r → m ≤ℤ reduced_cost p prices r
 
--- m is the least of 0 and the reduced costs of the relaxed routes: no number above it is at most all of them
-pub record IsLeastWithZero (p : Problem) (g : Region) (k : ℕ) (prices : List ℤ) (m : ℤ) : Type 0 where
-  pub at_most_zero : m ≤ℤ pos 0
-  pub least : (r : List ℕ) → IsRelaxed p g k r → m ≤ℤ reduced_cost p prices r
-  pub greatest : (w : ℤ) → w ≤ℤ pos 0 → ((r : List ℕ) → IsRelaxed p g k r → w ≤ℤ reduced_cost p prices r) → w ≤ℤ m
+-- m is the least reduced cost, or 0 where no route is relaxed
+abbrev pub IsLeastOrZero : Problem → Region → ℕ → List ℤ → ℤ → Type 0
+IsLeastOrZero p g k prices m = IsLeast p g k prices m ⊎ (((r : List ℕ) → ¬ IsRelaxed p g k r) × (m ≡ pos 0))

@@ -6,8 +6,8 @@ use Rattle.solomon_reader.specs.Problem.{Problem}
 use Rattle.solomon_reader.specs.Distance.{distance}
 use Rattle.solomon_reader.specs.Plan.{route_cost, plan_cost, Finishes}
 use Rattle.solomon_reader.specs.Relaxed.{reduced_cost, IsRelaxed}
-use Rattle.solomon_reader.specs.Region.{root_region}
-use Rattle.solomon_reader.specs.Bound.{ceiling_of, version_1, leaf, split, IsRoundedUp, IsTreeBound}
+use Rattle.solomon_reader.specs.Region.{root_region, used_child, unused_child}
+use Rattle.solomon_reader.specs.Bound.{ceiling_of, version_1, version_2, Tree, leaf, split, IsRoundedUp, IsLeafValue, IsTreeBound}
 use Rattle.solomon_reader.specs.Moves.{after_relocate, after_exchange, after_or_opt, after_two_opt_star, after_cross}
 use Rattle.solomon_reader.specs.SolutionText.{solution_text}
 use Rattle.solomon_reader.specs.CertificateText.{certificate_text}
@@ -63,8 +63,17 @@ pub record WorkedRows : Type 0 where
   pub certificate : certificate_text (record { version = version_1; name = codes "T"; size = 1; neighbours = 8; bound = 100; tree = leaf (pos 100000 ∷ []) })
       ≡ codes "VRPTW-CERT 1\nINSTANCE T\nCUSTOMERS 1\nNEIGHBOURS 8\nBOUND 10.0\nTREE\nP 100000\nEND\n"
 
+-- a price at each leaf
+abbrev pub parted : Tree
+parted = split (0, 1) (leaf (pos 100000 ∷ pos 301000 ∷ [])) (leaf (pos 401000 ∷ pos 0 ∷ []))
+
 pub record WorkedBounds : Type 0 where
-  pub split_tree : IsTreeBound version_1 narrow 8 (split (0, 1) (leaf (pos 100000 ∷ pos 301000 ∷ [])) (leaf (pos 401000 ∷ pos 0 ∷ []))) 199
+  pub free_1 : IsTreeBound version_1 one_customer 8 (leaf (pos 0 ∷ [])) 0
+  pub free_2 : IsTreeBound version_2 one_customer 8 (leaf (pos 0 ∷ [])) 100
+  pub parted_1 : IsTreeBound version_1 narrow 8 parted 199
+  pub parted_2 : IsTreeBound version_2 narrow 8 parted 199
+  pub used_leaf : IsLeafValue version_2 narrow (used_child (root_region 2) (0, 1)) 8 (pos 100000 ∷ pos 301000 ∷ []) 199
+  pub unused_leaf : IsLeafValue version_2 narrow (unused_child (root_region 2) (0, 1)) 8 (pos 401000 ∷ pos 0 ∷ []) 801
   pub remembered : ¬ IsRelaxed revisits (root_region 2) 1 (2 ∷ 1 ∷ 2 ∷ [])
 
 -- Each kind of move on small routes.

@@ -2,7 +2,8 @@
 use Rattle.std.proofs.Common.{◌≡◌, refl, ℕ, zero, suc, ◌+◌, ◌*◌, ◌-◌, List, [], ◌∷◌, ◌++◌, length, get_or, arith, append_assoc, length-append, inl, inr}
 use Rattle.std.specs.Prelude.{ℤ, pos, negsuc, ◌+ℤ◌, ◌-ℤ◌, ◌*ℤ◌, ◌≤ℤ◌, neg_ℤ}
 use Rattle.std.proofs.Math.IntN.{*ℤ-zero}
-use Rattle.std.proofs.lemmas.Int.{ints}
+use Rattle.std.specs.Int.{int_min, int_max}
+use Rattle.std.proofs.lemmas.Int.{ints, clamps}
 use Rattle.std.specs.List.{sum_by, range_with_len}
 use Rattle.std.specs.List.Sorted.{IsPermutation}
 use Rattle.std.proofs.lemmas.List.Sums.{sum_by-cons}
@@ -11,7 +12,7 @@ use Rattle.solomon_reader.specs.Region.{Among}
 use Rattle.solomon_reader.specs.Relaxed.{int_sum_by, int_sum, price_of}
 
 -- the two parts of an integer: z ≡ up z - down z
-abbrev up : ℤ → ℕ
+abbrev pub up : ℤ → ℕ
 up (pos n) = n
 up (negsuc n) = 0
 
@@ -54,17 +55,35 @@ prices_from front (z ∷ zs) n e =
 pub prices_sum : (zs : List ℤ) (n : ℕ) → length zs ≡ n → int_sum_by (price_of zs) (range_with_len 1 n) ≡ int_sum zs
 prices_sum zs n e = rw (← e) (prices_from [] zs 1 refl)
 
--- where no term is below m, the sum isn't below the number of terms times the negative part of m
+-- where no term is below m, the sum is at least the number of terms times m
 pub int_sum-least : {X : Type 0} (f : X → ℤ) (m : ℤ) (xs : List X) → ((x : X) → Among x xs → m ≤ℤ f x)
-    → pos 0 ≤ℤ (int_sum_by f xs +ℤ pos (length xs * down m))
+    → pos (length xs * up m) ≤ℤ (int_sum_by f xs +ℤ pos (length xs * down m))
 int_sum-least f m [] h = omega (arith, ints)
 int_sum-least f m (x ∷ xs) h =
     let here : m ≤ℤ f x = h x (inl refl) in
     let rest = int_sum-least f m xs (λ y a. h y (inr a)) in
     omega (arith, ints, here, rest, parts m)
 
--- a number of times an integer that isn't positive
-pub times_down : (n : ℕ) (m : ℤ) → m ≤ℤ pos 0 → pos n *ℤ m ≡ neg_ℤ (pos (n * down m))
-times_down n (pos zero) h = rw *ℤ-zero (omega (arith, ints))
-times_down n (pos (suc m)) h = absurd (omega (arith, ints))
-times_down n (negsuc m) h = refl
+lesser : (m : ℤ) → int_min (pos 0) m ≡ neg_ℤ (pos (down m))
+lesser (pos n) = omega (arith, ints, clamps)
+lesser (negsuc n) = omega (arith, ints, clamps)
+
+greater : (m : ℤ) → int_max (pos 0) m ≡ pos (up m)
+greater (pos n) = omega (arith, ints, clamps)
+greater (negsuc n) = omega (arith, ints, clamps)
+
+times_neg : (n d : ℕ) → pos n *ℤ neg_ℤ (pos d) ≡ neg_ℤ (pos (n * d))
+times_neg n zero = rw *ℤ-zero (omega (arith, ints))
+times_neg n (suc d) = refl
+
+times_pos : (n u : ℕ) → pos n *ℤ pos u ≡ pos (n * u)
+times_pos n zero = rw *ℤ-zero (omega (arith, ints))
+times_pos n (suc u) = refl
+
+-- a number of times the part of an integer below 0
+pub times_down : (n : ℕ) (m : ℤ) → pos n *ℤ int_min (pos 0) m ≡ neg_ℤ (pos (n * down m))
+times_down n m = rw (lesser m) (times_neg n (down m))
+
+-- a number of times the part of an integer above 0
+pub times_up : (n : ℕ) (m : ℤ) → pos n *ℤ int_max (pos 0) m ≡ pos (n * up m)
+times_up n m = rw (greater m) (times_pos n (up m))

@@ -1,7 +1,7 @@
 //! Laws of the definitions, and the definitions at small instances.
 
 ghost use Rattle.solomon_reader.specs.Duality.{CeilingHolds, NoPlanAbove, TreeBoundHolds, WeakDuality};
-ghost use Rattle.solomon_reader.specs.Laws.{FirstFaultStays, LeastWithZero};
+ghost use Rattle.solomon_reader.specs.Laws.{FirstFaultStays, OneLeast};
 ghost use Rattle.solomon_reader.specs.Rows.{WorkedBounds, WorkedMoves, WorkedRows};
 
 /// What the definitions give on small instances: distances, costs, walks, and both texts.
@@ -19,9 +19,9 @@ pub fn worked_moves()
     ensures { WorkedMoves }
 {}
 
-/// The least of zero and the reduced costs is the lesser of zero and the least reduced cost.
-pub fn least_with_zero()
-    ensures { LeastWithZero }
+/// There is one least reduced cost, which is 0 where no route is relaxed.
+pub fn one_least()
+    ensures { OneLeast }
 {}
 
 /// The fault of a list of words is the first from the left.

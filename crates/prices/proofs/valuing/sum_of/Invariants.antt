@@ -1,11 +1,11 @@
-use Rattle.std.proofs.Common.{◌≡◌, ◌*◌, drop}
-use Rattle.std.specs.Prelude.{pos, ◌+ℤ◌, ◌-ℤ◌, ◌≤ℤ◌}
+use Rattle.std.proofs.Common.{◌≡◌, ◌*◌, ◌≤◌, drop}
+use Rattle.std.specs.Prelude.{pos, ◌+ℤ◌, ◌-ℤ◌}
 use Rattle.solomon_reader.specs.Relaxed.{int_sum}
 use Rattle.prices.proofs.valuing.sum_of.Given as goal
 
 abbrev pub invariant-loop-price : goal.invariant-loop-price
 invariant-loop-price l = record {
-  value : l.sum +ℤ int_sum (drop l.price-index l.prices) ≡ int_sum l.prices;
-  low : (pos 0 -ℤ pos (1000000000000 * l.price-index)) ≤ℤ l.sum;
-  high : l.sum ≤ℤ pos (1000000000000 * l.price-index);
+  value : (pos l.above -ℤ pos l.below) +ℤ int_sum (drop l.price-index l.prices) ≡ int_sum l.prices;
+  above : l.above ≤ 1000000000000 * l.price-index;
+  below : l.below ≤ 1000000000000 * l.price-index;
 }

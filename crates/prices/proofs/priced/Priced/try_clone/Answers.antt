@@ -6,8 +6,7 @@ pub invariant_of-result : goal.invariant_of-result
 invariant_of-result c =
     let region = c.in_ok-region.ensures in
     let prices : c.in_ok-prices.prices.items ≡ c.self.inside.prices.items = same_from_all_zip _ _ _ c.in_ok-prices.ensures.cases.0 (λ x y same. same) in
-    let guide : c.in_ok-guide.guide.items ≡ c.self.inside.guide.items = same_from_all_zip _ _ _ c.in_ok-guide.ensures.cases.0 (λ x y same. same) in
-    rw (region, prices, guide) c.self.invariant
+    rw (region, prices, c.in_ok-least.ensures.value, c.in_ok-least.ensures.route) c.self.invariant
 
 pub returns : goal.returns
 returns c =

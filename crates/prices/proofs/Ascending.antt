@@ -1,11 +1,11 @@
--- Walks, step by step.
+-- Ascents, step by step.
 use Rattle.std.proofs.Common.{◌≡◌, ℕ, ◌<◌, ◌≤◌, List, [], ◌∷◌, ◌++◌, arith, refl, sym, ◌∙◌, ap, subst, append_assoc, inl, inr, ◌⊎◌}
 use Rattle.std.specs.Prelude.{ℤ}
 use Rattle.std.specs.List.{AllByRecursion}
 use Rattle.prices.specs.Pricing.{Pricing}
 use Rattle.prices.specs.Steps.{IsNext, AreNext, Improves}
-use Rattle.prices.specs.Walks.{last_of, IsOneOn}
-use Rattle.prices.specs.declared.walk.Walk.{Walk}
+use Rattle.prices.specs.Ascents.{last_of, IsOneOn}
+use Rattle.prices.specs.declared.ascent.Ascent.{Ascent}
 use Rattle.prices.proofs.Ranges.{all_pushed}
 
 -- the last of the prices met
@@ -13,8 +13,8 @@ abbrev pub last_met : Pricing → List Pricing → Pricing
 last_met old [] = old
 last_met old (f ∷ met) = last_met f met
 
--- a walk that made these steps: its best prices and the last ones
-pub record IsWalk (old : Pricing) (steps : List ℤ) (best last : Pricing) : Type 0 where
+-- an ascent that made these steps: its best prices and the last ones
+pub record IsAscent (old : Pricing) (steps : List ℤ) (best last : Pricing) : Type 0 where
   pub met : List Pricing
   pub are_next : AreNext old steps met
   pub is_last : last ≡ last_met old met
@@ -24,7 +24,7 @@ pub record IsWalk (old : Pricing) (steps : List ℤ) (best last : Pricing) : Typ
   pub lower : AllByRecursion (λ f. f.value < best.value) before
   pub not_higher : AllByRecursion (λ f. f.value ≤ best.value) after
 
-pub no_step : (old best last : Pricing) → best ≡ old → last ≡ old → IsWalk old [] best last
+pub no_step : (old best last : Pricing) → best ≡ old → last ≡ old → IsAscent old [] best last
 no_step old best last is_best is_last = record {
   met = [];
   are_next = tt;
@@ -55,11 +55,11 @@ all_lower : (w : ℕ) (best : Pricing) (before after : List Pricing) → best.va
 all_lower w best [] after higher lower rest = (higher, not_higher_lower w best after higher rest)
 all_lower w best (f ∷ before) after higher lower rest = (omega (arith, lower.0), all_lower w best before after higher lower.1 rest)
 
-module _ (old : Pricing) (steps : List ℤ) (s : ℤ) (best last new : Pricing) (so_far : IsWalk old steps best last) (next : IsNext last s new) where
+module _ (old : Pricing) (steps : List ℤ) (s : ℤ) (best last new : Pricing) (so_far : IsAscent old steps best last) (next : IsNext last s new) where
   met_more : AreNext old (steps ++ s ∷ []) (so_far.met ++ new ∷ [])
   met_more = next_more old steps so_far.met s new so_far.are_next (subst (λ (f : Pricing). IsNext f s new) so_far.is_last next)
 
-  pub best_stays : new.value ≤ best.value → IsWalk old (steps ++ s ∷ []) best new
+  pub best_stays : new.value ≤ best.value → IsAscent old (steps ++ s ∷ []) best new
   best_stays not_higher = record {
     met = so_far.met ++ new ∷ [];
     are_next = met_more;
@@ -71,7 +71,7 @@ module _ (old : Pricing) (steps : List ℤ) (s : ℤ) (best last new : Pricing) 
     not_higher = all_pushed (λ (f : Pricing). f.value ≤ best.value) so_far.after new so_far.not_higher not_higher;
   }
 
-  pub new_best : best.value < new.value → IsWalk old (steps ++ s ∷ []) new new
+  pub new_best : best.value < new.value → IsAscent old (steps ++ s ∷ []) new new
   new_best higher = record {
     met = so_far.met ++ new ∷ [];
     are_next = met_more;
@@ -84,14 +84,14 @@ module _ (old : Pricing) (steps : List ℤ) (s : ℤ) (best last new : Pricing) 
   }
 
 -- One step more: what it comes to is the best, or stands behind the best.
-pub one_more : (old : Pricing) (steps more : List ℤ) (s : ℤ) (w v : Walk) → IsWalk old steps w.best (last_of w) → IsOneOn w s v → more ≡ steps ++ s ∷ [] → IsWalk old more v.best (last_of v)
+pub one_more : (old : Pricing) (steps more : List ℤ) (s : ℤ) (w v : Ascent) → IsAscent old steps w.best (last_of w) → IsOneOn w s v → more ≡ steps ++ s ∷ [] → IsAscent old more v.best (last_of v)
 one_more old steps more s w v so_far one is =
-    let walk : IsWalk old (steps ++ s ∷ []) v.best (last_of v) = elim one.best [
-      | inl stays ↦ subst (λ (f : Pricing). IsWalk old (steps ++ s ∷ []) f (last_of v)) (sym stays.0) (best_stays old steps s w.best (last_of w) (last_of v) so_far one.next stays.1)
-      | inr higher ↦ subst (λ (f : Pricing). IsWalk old (steps ++ s ∷ []) f (last_of v)) (sym higher.0)
+    let ascent : IsAscent old (steps ++ s ∷ []) v.best (last_of v) = elim one.best [
+      | inl stays ↦ subst (λ (f : Pricing). IsAscent old (steps ++ s ∷ []) f (last_of v)) (sym stays.0) (best_stays old steps s w.best (last_of w) (last_of v) so_far one.next stays.1)
+      | inr higher ↦ subst (λ (f : Pricing). IsAscent old (steps ++ s ∷ []) f (last_of v)) (sym higher.0)
           (new_best old steps s w.best (last_of w) (last_of v) so_far one.next (subst (λ (f : Pricing). w.best.value < f.value) higher.0 higher.1))
     ] in
-    subst (λ (xs : List ℤ). IsWalk old xs v.best (last_of v)) (sym is) walk
+    subst (λ (xs : List ℤ). IsAscent old xs v.best (last_of v)) (sym is) ascent
 
 -- at the same region of the same instance
 pub record IsSamePlace (old new : Pricing) : Type 0 where
@@ -121,10 +121,10 @@ improved old steps met (b ∷ before) after new are split lower =
     let higher : old.value < new.value = rw same at lower.0 in
     inr (higher, met_there old steps met before after new are rest)
 
--- the best prices of a walk by the first steps
-pub improves : (old : Pricing) (steps front back : List ℤ) (new last : Pricing) → IsWalk old front new last → steps ≡ front ++ back → Improves old steps new
-improves old steps front back new last walk is =
-    let place : (old.value ≤ new.value) × IsSamePlace old new = elim (improved old front walk.met walk.before walk.after new walk.are_next walk.split walk.lower) [
+-- the best prices of an ascent by the first steps
+pub improves : (old : Pricing) (steps front back : List ℤ) (new last : Pricing) → IsAscent old front new last → steps ≡ front ++ back → Improves old steps new
+improves old steps front back new last ascent is =
+    let place : (old.value ≤ new.value) × IsSamePlace old new = elim (improved old front ascent.met ascent.before ascent.after new ascent.are_next ascent.split ascent.lower) [
       | inl same ↦ (
         rw same (omega arith),
         record {
@@ -143,11 +143,11 @@ improves old steps front back new last walk is =
       front = front;
       back = back;
       first_steps = is;
-      met = walk.met;
-      are_next = walk.are_next;
-      before = walk.before;
-      after = walk.after;
-      among = walk.split;
-      lower = walk.lower;
-      not_higher = walk.not_higher;
+      met = ascent.met;
+      are_next = ascent.are_next;
+      before = ascent.before;
+      after = ascent.after;
+      among = ascent.split;
+      lower = ascent.lower;
+      not_higher = ascent.not_higher;
     }

@@ -1,32 +1,32 @@
 //! Steps of the prices, one after the other.
 
 ghost use Rattle.std.specs.Prelude.{◌≡◌, IfOk, IfErr};
-ghost use Rattle.prices.specs.Walks.{last_of, IsOneOn};
+ghost use Rattle.prices.specs.Ascents.{last_of, IsOneOn};
 
 use crate::priced::Priced;
-use crate::stepping::stepped;
+use crate::stepping::step_from;
 use std::alloc::Global;
 
-/// The best prices of a walk, and its last ones where they are others.
+/// The best prices of an ascent, and its last ones where they are others.
 #[derive(Drop)]
-pub(crate) struct Walk<'i> {
+pub(crate) struct Ascent<'i> {
     best: Priced<'i>,
     last: Option<Priced<'i>>,
 }
 
-impl<'i> Walk<'i> {
-    /// The walk that has made no step.
-    pub(crate) fn new(priced: Priced<'i>) -> Walk<'i>
+impl<'i> Ascent<'i> {
+    /// The ascent that has made no step.
+    pub(crate) fn new(priced: Priced<'i>) -> Ascent<'i>
         ensures best { result.best ≡ priced.entry }
         ensures last { last_of result ≡ priced.entry }
     {
-        Walk {
+        Ascent {
             best: priced,
             last: None,
         }
     }
 
-    /// The prices that the walk has come to.
+    /// The prices that the ascent has come to.
     fn last(&self) -> &Priced<'i>
         ensures { result.now ≡ last_of self.now }
     {
@@ -36,35 +36,35 @@ impl<'i> Walk<'i> {
         }
     }
 
-    /// The best prices of the walk.
+    /// The best prices of the ascent.
     pub(crate) fn into_best(self) -> Priced<'i>
         ensures { result ≡ self.entry.best }
     {
         self.best
     }
 
-    /// The walk after one more step of this many grains, or its best prices where memory or labels
+    /// The ascent after one more step of this many grains, or its best prices where memory or labels
     /// ran out. Of equal values the first stays the best.
     pub(crate) fn step(
         self,
         alloc: Global,
         step: i64,
         limit: Option<usize>,
-    ) -> Result<Walk<'i>, Priced<'i>>
-        ensures one_on { IfOk result (λ w. IsOneOn self.entry step w) }
+    ) -> Result<Ascent<'i>, Priced<'i>>
+        ensures one_on { IfOk result (λ a. IsOneOn self.entry step a) }
         ensures best { IfErr result (λ f. f ≡ self.entry.best) }
     {
-        let next = match stepped(alloc, self.last(), step, limit) {
+        let next = match step_from(alloc, self.last(), step, limit) {
             Ok(next) => next,
             Err(_) => return Err(self.best),
         };
         if next.value() > self.best.value() {
-            Ok(Walk {
+            Ok(Ascent {
                 best: next,
                 last: None,
             })
         } else {
-            Ok(Walk {
+            Ok(Ascent {
                 best: self.best,
                 last: Some(next),
             })
