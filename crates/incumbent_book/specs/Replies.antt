@@ -1,34 +1,80 @@
--- What a book replies to an offer, and what it holds then.
-use Rattle.std.specs.Prelude.{◌≡◌, ◌≢◌, ℕ, ◌<◌, [], ◌∷◌, ◌++◌, length, true, false, Some, Result, Ok, Err}
-use Rattle.solomon_reader.specs.declared.limits.TheConstants.{MOST_EVENTS}
-use Rattle.solomon_reader.specs.History.{offered, IsCheaper, IsBestCost}
+-- What a book replies, and what it holds then.
+use Rattle.std.specs.Prelude.{◌≡◌, ℕ, [], ◌∷◌, ◌++◌, slice_set, true, false, Some, None, Option, MatchOption, Result, Ok, Err}
+use Rattle.solomon_reader.specs.Plan.{Arc}
+use Rattle.solomon_reader.specs.Problem.{customer_count}
 use Rattle.schedule.specs.Solution.{Solution}
+use Rattle.prices.specs.Pricing.{Pricing}
+use Rattle.incumbent_book.specs.declared.fault.OpenFault.{OpenFault}
+use Rattle.incumbent_book.specs.declared.fault.OpenFault.TheVariants as fault
+use Rattle.solomon_reader.specs.Region.{root_region}
+use Rattle.solomon_reader.specs.History.{Limits, offered, repriced, branched, IsCheaper, IsBestCost, IsBound, IsLeaf, split_count, used_number, unused_number}
+use Rattle.incumbent_book.specs.Contents.{Contents, AreLimits, pricing_at}
+use Rattle.incumbent_book.specs.Faults.{offer, reprice, split, IsAccepted, IsRefusedFor}
 use Rattle.incumbent_book.specs.declared.offered.Offered.{Offered}
 use Rattle.incumbent_book.specs.declared.offered.Offered.TheVariants.{Better, NotBetter}
 use Rattle.incumbent_book.specs.declared.fault.BookFault.{BookFault}
-use Rattle.incumbent_book.specs.declared.fault.BookFault.TheVariants.{Memory, ForeignInstance, JournalFull}
-use Rattle.incumbent_book.specs.Contents.{Contents}
+use Rattle.incumbent_book.specs.declared.gap.Gap.{Gap}
+
+-- a new book
+abbrev pub opened : Pricing → Limits → Contents
+opened root limits = record { problem = root.problem; neighbours = root.neighbours; root = root.value; limits = limits; incumbent = None; past = []; prices = root.prices ∷ [] }
+
+abbrev pub IsRoot : Pricing → Type 0
+IsRoot root = root.region ≡ root_region (customer_count root.problem)
+
+-- what becomes of an opening: a decided arc comes first, then bad limits
+abbrev pub Opens : Pricing → Limits → Result Contents (Pricing × OpenFault) → Type 0
+Opens root limits (Ok b) = IsRoot root × AreLimits limits × (b ≡ opened root limits)
+Opens root limits (Err (returned, fault.Memory)) = IsRoot root × AreLimits limits × (returned ≡ root)
+Opens root limits (Err (returned, fault.NotRoot)) = (¬ IsRoot root) × (returned ≡ root)
+Opens root limits (Err (returned, fault.BadLimits)) = IsRoot root × (¬ AreLimits limits) × (returned ≡ root)
 
 -- the book after an offer that wasn't cheaper
-abbrev pub kept : Contents → ℕ → ℕ → Contents
-kept old worker cost = record { problem = old.problem; incumbent = old.incumbent; history = old.history ++ offered worker cost false ∷ [] }
+abbrev pub with_offer : Contents → ℕ → ℕ → Contents
+with_offer old worker cost = record old { past = offered worker cost false ∷ old.past }
 
 -- the book after an offer that was cheaper
-abbrev pub replaced : Contents → ℕ → Solution → Contents
-replaced old worker plan = record { problem = old.problem; incumbent = Some plan; history = old.history ++ offered worker plan.cost true ∷ [] }
+abbrev pub with_incumbent : Contents → ℕ → Solution → Contents
+with_incumbent old worker plan = record old { incumbent = Some plan; past = offered worker plan.cost true ∷ old.past }
 
--- an accepted offer: one event more, and the plan is the incumbent where it is cheaper than every earlier one
-abbrev pub Accepts : Contents → ℕ → Solution → Offered → Contents → Type 0
-Accepts old worker plan (Better before) new = IsCheaper old.history plan.cost × IsBestCost old.history before × (new ≡ replaced old worker plan)
-Accepts old worker plan (NotBetter best returned) new = (¬ IsCheaper old.history plan.cost) × IsBestCost old.history (Some best) × (returned ≡ plan) × (new ≡ kept old worker plan.cost)
+-- the book after new prices for a leaf
+abbrev pub with_prices : Contents → ℕ → ℕ → Pricing → Contents
+with_prices old worker m f = record old { past = repriced worker m f.value ∷ old.past; prices = slice_set old.prices m f.prices }
 
--- the plan comes back, and the book is as it was
-abbrev pub Refuses : Contents → Solution → Solution → Contents → Type 0
-Refuses old plan returned new = (returned ≡ plan) × (new ≡ old)
+-- the book after a split of a leaf
+abbrev pub with_split : Contents → ℕ → ℕ → Arc → Pricing → Pricing → Contents
+with_split old worker m a x y =
+    record old {
+      past = branched worker m a (used_number (split_count old.past)) (unused_number (split_count old.past)) x.value y.value ∷ old.past;
+      prices = slice_set old.prices m [] ++ x.prices ∷ y.prices ∷ [];
+    }
 
--- What becomes of an offer: a plan of another instance is refused, then any where the history is full; else only want of memory refuses.
+-- the reply to an accepted offer: the plan is the incumbent where it is cheaper than every earlier one
+abbrev pub Takes : Contents → ℕ → Solution → Offered → Contents → Type 0
+Takes old worker plan (Better before) new = IsCheaper old.past plan.cost × IsBestCost old.past before × (new ≡ with_incumbent old worker plan)
+Takes old worker plan (NotBetter best returned) new = (¬ IsCheaper old.past plan.cost) × IsBestCost old.past (Some best) × (returned ≡ plan) × (new ≡ with_offer old worker plan.cost)
+
+-- What becomes of an offer. An accepted one adds its event; a refused one changes nothing, tells why, and gives the plan back.
 abbrev pub Offers : Contents → ℕ → Solution → Result Offered (Solution × BookFault) → Contents → Type 0
-Offers old worker plan (Ok reply) new = (plan.problem ≡ old.problem) × (length old.history < MOST_EVENTS) × Accepts old worker plan reply new
-Offers old worker plan (Err (returned, Memory)) new = (plan.problem ≡ old.problem) × (length old.history < MOST_EVENTS) × Refuses old plan returned new
-Offers old worker plan (Err (returned, ForeignInstance)) new = (plan.problem ≢ old.problem) × Refuses old plan returned new
-Offers old worker plan (Err (returned, JournalFull)) new = (plan.problem ≡ old.problem) × (length old.history ≡ MOST_EVENTS) × Refuses old plan returned new
+Offers old worker plan (Ok reply) new = IsAccepted old (offer plan) × Takes old worker plan reply new
+Offers old worker plan (Err (returned, why)) new = IsRefusedFor old (offer plan) why × (returned ≡ plan) × (new ≡ old)
+
+-- what becomes of new prices for a leaf
+abbrev pub Reprices : Contents → ℕ → ℕ → Pricing → Result (Unit {0}) (Pricing × BookFault) → Contents → Type 0
+Reprices old worker m f (Ok done) new = IsAccepted old (reprice m f) × (new ≡ with_prices old worker m f)
+Reprices old worker m f (Err (returned, why)) new = IsRefusedFor old (reprice m f) why × (returned ≡ f) × (new ≡ old)
+
+-- what becomes of a split: it makes the next two numbers
+abbrev pub Splits : Contents → ℕ → ℕ → Arc → Pricing → Pricing → Result (ℕ × ℕ) (Pricing × Pricing × BookFault) → Contents → Type 0
+Splits old worker m a x y (Ok (used, unused)) new =
+    IsAccepted old (split m a x y) × (used ≡ used_number (split_count old.past)) × (unused ≡ unused_number (split_count old.past)) × (new ≡ with_split old worker m a x y)
+Splits old worker m a x y (Err (used, unused, why)) new = IsRefusedFor old (split m a x y) why × (used ≡ x) × (unused ≡ y) × (new ≡ old)
+
+-- a leaf with its prices, exactly where the number is one
+abbrev pub Shows : Contents → ℕ → Option Pricing → Type 0
+Shows b m found = MatchOption found (¬ IsLeaf b.past m) (λ f. IsLeaf b.past m × (f ≡ pricing_at b m))
+
+-- the best cost offered and the bound
+pub record IsGap (b : Contents) (gap : Gap) : Type 0 where
+  pub cost : IsBestCost b.past gap.cost
+  pub bound : IsBound b.problem b.root b.past gap.bound

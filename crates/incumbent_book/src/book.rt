@@ -1,17 +1,25 @@
 //! The book.
 
-ghost use Rattle.std.specs.Prelude.{◌≡◌, ◌+◌, ◌<◌, ◌≤◌, [], ◌∷◌, ◌++◌, None, Some, MatchOption, length, map, IfOk, IfErr, OnOk, OnErr, vec_len};
-ghost use Rattle.solomon_reader.specs.History.{offered, IsBestCost, IsCheaper};
-ghost use Rattle.incumbent_book.specs.Contents.{Contents, event_of, IsBook};
-ghost use Rattle.incumbent_book.specs.Replies.{Offers, kept, replaced};
-ghost use Rattle.std.specs.Bool.{Decides};
+ghost use Rattle.std.specs.Prelude.{◌≡◌, ◌+◌, ◌≤◌, ℕ, List, [], option_map, IfOk, map};
+ghost use Rattle.branching.specs.Arcs.{pair};
+ghost use Rattle.incumbent_book.specs.Trees.{IsTreeOf, node_of};
+ghost use Rattle.solomon_reader.specs.Bound.{Tree, preorder};
+ghost use Rattle.solomon_reader.specs.Plan.{IsPlan, plan_cost};
+ghost use Rattle.solomon_reader.specs.History.{IsBound};
+ghost use Rattle.incumbent_book.specs.Contents.{limits_of, past_of, IsBook};
+ghost use Rattle.incumbent_book.specs.Replies.{Opens, Offers, Reprices, Splits, Shows, IsGap};
 
+use crate::arena::{Arena, value_of};
 use crate::event::Event;
 use crate::fault::{BookFault, OpenFault};
+use crate::gap::{Gap, Steps};
+use crate::limits::Limits;
 use crate::offered::Offered;
 use crate::outcome::Outcome;
+use branching::{Arc, TreeNode};
+use prices::Priced;
 use schedule::Feasible;
-use solomon_reader::{Instance, MOST_EVENTS};
+use solomon_reader::Instance;
 use std::alloc::{AllocError, Global};
 use std::marker::Model;
 use tenths::Tenths;
@@ -19,62 +27,89 @@ use tenths::Tenths;
 /// How many events a new book has room for.
 const FIRST_ROOM: usize = 16;
 
-/// The book of a search for a cheapest plan: the incumbent, and the history of what was offered.
-/// Contracts see the instance, the incumbent and the history.
+/// The book of a search for a cheapest plan: the incumbent, the tree of the branchings with prices
+/// at its leaves, and the history of what was accepted. Contracts see the instance, the number of
+/// neighbours, the root's first value, the limits, the incumbent, the history and the prices.
 #[derive(Drop)]
 pub struct Book<'i> {
-    instance: &'i Instance,
-    incumbent: Option<Feasible<'i>>,
-    journal: Vec<Event>,
+    pub(crate) instance: &'i Instance,
+    pub(crate) neighbours: u32,
+    pub(crate) root: u128,
+    pub(crate) limits: Limits,
+    pub(crate) incumbent: Option<Feasible<'i>>,
+    pub(crate) history: Vec<Event>,
+    pub(crate) arena: Arena<'i>,
 }
 
 impl<'i> Model for Book<'i> {
     ghost use Rattle.std.specs.Prelude.{map};
-    ghost use Rattle.incumbent_book.specs.Contents.{Contents, event_of, IsBook};
+    ghost use Rattle.incumbent_book.specs.Contents.{Contents, limits_of, past_of};
+    ghost use Rattle.incumbent_book.specs.Arena.{prices_of};
+    ghost use Rattle.incumbent_book.specs.Keeping.{IsKept};
 
     ghost Value = { Contents };
 
-    ghost view = { λ b. record { problem = b.instance.now; incumbent = b.incumbent; history = map event_of b.journal.items } };
+    ghost view = { λ b. record { problem = b.instance.now; neighbours = b.neighbours; root = b.root; limits = limits_of b.limits; incumbent = b.incumbent; past = past_of b.history.items; prices = map prices_of b.arena } };
 
-    ghost invariant = { λ b. IsBook (record { problem = b.instance.now; incumbent = b.incumbent; history = map event_of b.journal.items }) };
+    ghost invariant = { λ b. IsKept (record { problem = b.instance.now; neighbours = b.neighbours; root = b.root; limits = limits_of b.limits; incumbent = b.incumbent; past = past_of b.history.items; prices = map prices_of b.arena }) b.arena };
 }
 
-/// Adds the event of an accepted offer.
-fn record(
-    journal: &mut Vec<Event>,
-    worker: u16,
-    cost: Tenths,
-    better: bool,
-) -> Result<(), AllocError>
-    ensures ok { OnOk result (map event_of journal.new.items ≡ map event_of journal.old.items ++ offered worker cost better ∷ []) }
-    ensures len { OnOk result (vec_len journal.new ≡ vec_len journal.old + 1) }
-    ensures err { OnErr result (journal.new.items ≡ journal.old.items) }
+/// A list for the events, with some room.
+fn new_history(alloc: Global) -> Result<Vec<Event>, AllocError>
+    ensures { IfOk result (λ v. v.items ≡ []) }
 {
-    journal.push(Event::Offered {
-        worker,
-        cost,
-        better,
-    })?;
-    Ok(())
+    Ok(Vec::with_capacity(alloc, FIRST_ROOM)?)
 }
 
 impl<'i> Book<'i> {
-    /// A book to which nothing was offered. `Memory` where a growth was refused.
-    pub fn of_offers(alloc: Global, instance: &'i Instance) -> Result<Book<'i>, OpenFault>
-        ensures { IfOk result (λ b. b ≡ record { problem = instance.now; incumbent = None; history = [] }) }
+    /// A book of these prices at the root, with the greatest limits. `NotRoot` where an arc is
+    /// decided, and `Memory`; a refusal gives the prices back.
+    pub fn new(alloc: Global, root: Priced<'i>) -> Result<Book<'i>, (Priced<'i>, OpenFault)>
+        ensures opens { Opens root.entry (limits_of Limits.MOST) result }
+        ensures book { IfOk result (λ b. IsBook b) }
     {
-        let journal = Vec::with_capacity(alloc, FIRST_ROOM)?;
-        Ok(Book {
-            instance,
-            incumbent: None,
-            journal,
-        })
+        Book::with_limits(alloc, root, Limits::MOST)
+    }
+
+    /// A book of these prices at the root, with limits of its own. `NotRoot` where an arc is
+    /// decided, else `BadLimits` where a limit is 0 or above the greatest, and `Memory`.
+    pub fn with_limits(
+        alloc: Global,
+        root: Priced<'i>,
+        limits: Limits,
+    ) -> Result<Book<'i>, (Priced<'i>, OpenFault)>
+        ensures opens { Opens root.entry (limits_of limits) result }
+        ensures book { IfOk result (λ b. IsBook b) }
+    {
+        if !root.region().is_root() {
+            return Err((root, OpenFault::NotRoot));
+        }
+        if !limits.are_good() {
+            return Err((root, OpenFault::BadLimits));
+        }
+        let instance = root.instance();
+        let neighbours = root.neighbours();
+        let value = value_of(&root);
+        let Ok(history) = new_history(alloc) else {
+            return Err((root, OpenFault::Memory));
+        };
+        match Arena::new(alloc, root) {
+            Ok(arena) => Ok(Book {
+                instance,
+                neighbours,
+                root: value,
+                limits,
+                incumbent: None,
+                history,
+                arena,
+            }),
+            Err(root) => Err((root, OpenFault::Memory)),
+        }
     }
 
     /// Offers a worker's plan, which becomes the incumbent where it is cheaper than every earlier
-    /// one. A refusal changes nothing and gives the plan back: `ForeignInstance` where the plan is
-    /// of another instance, else `JournalFull` where the history has `MOST_EVENTS` events, and
-    /// `Memory` where a growth was refused.
+    /// one. A refusal changes nothing and gives the plan back: `ForeignInstance`, `JournalFull`,
+    /// or `Memory`.
     pub fn offer(
         &mut self,
         worker: u16,
@@ -83,102 +118,156 @@ impl<'i> Book<'i> {
         ensures offers { Offers self.old worker plan.entry result self.new }
         ensures book { IsBook self.new }
     {
-        if !self.is_of_instance(&plan) {
-            return Err((plan, BookFault::ForeignInstance));
-        }
-        if self.journal.len() == MOST_EVENTS {
-            return Err((plan, BookFault::JournalFull));
-        }
-        let cost = plan.cost();
-        if let Some(best) = self.best_within(cost) {
-            return match self.keep(worker, cost) {
-                Ok(()) => Ok(Offered::NotBetter { best, plan }),
-                Err(_) => Err((plan, BookFault::Memory)),
-            };
-        }
-        let before = self.best();
-        match self.replace(worker, plan) {
-            Ok(()) => Ok(Offered::Better { before }),
-            Err(plan) => Err((plan, BookFault::Memory)),
-        }
+        let reply = self.answer(worker, plan);
+        self.holds();
+        reply
     }
 
-    /// Takes an offer that isn't cheaper than the incumbent.
-    fn keep(&mut self, worker: u16, cost: Tenths) -> Result<(), AllocError>
-        requires room { length self.old.history < MOST_EVENTS }
-        requires dearer { ¬ IsCheaper self.old.history cost }
-        ensures ok { OnOk result (self.new ≡ kept self.old worker cost) }
-        ensures err { OnErr result (self.new ≡ self.old) }
+    /// Gives a leaf new prices of a higher value at its region. A refusal changes nothing and gives
+    /// the prices back: `ForeignInstance`, `JournalFull`, `NotALeaf`, `WrongRegion`, `NotHigher`, or
+    /// `Memory`.
+    pub fn reprice(
+        &mut self,
+        worker: u16,
+        leaf: u32,
+        priced: Priced<'i>,
+    ) -> Result<(), (Priced<'i>, BookFault)>
+        ensures reprices { Reprices self.old worker leaf priced.entry result self.new }
         ensures book { IsBook self.new }
     {
-        record(&mut self.journal, worker, cost, false)?;
-        Ok(())
+        let reply = match self.reprice_fault(leaf, &priced) {
+            Some(fault) => Err((priced, fault)),
+            None => self.raise(worker, leaf, priced),
+        };
+        self.holds();
+        reply
     }
 
-    /// Takes a plan that is cheaper than the incumbent in its place, or gives it back where memory
-    /// was refused.
-    fn replace(&mut self, worker: u16, plan: Feasible<'i>) -> Result<(), Feasible<'i>>
-        requires room { length self.old.history < MOST_EVENTS }
-        requires same { plan.problem ≡ self.old.problem }
-        requires cheaper { IsCheaper self.old.history plan.cost }
-        ensures ok { OnOk result (self.new ≡ replaced self.old worker plan.entry) }
-        ensures err { IfErr result (λ returned. (returned ≡ plan.entry) × (self.new ≡ self.old)) }
+    /// Splits a leaf by an arc, with prices of no lower value at both children, and answers their
+    /// numbers, that of the child in which the arc is required first. A refusal changes nothing and
+    /// gives the prices back: `ForeignInstance`, `JournalFull`, `NotALeaf`, `WrongRegion`, `Lower`,
+    /// `LeavesFull`, `TooDeep`, or `Memory`.
+    pub fn split(
+        &mut self,
+        worker: u16,
+        leaf: u32,
+        arc: Arc,
+        used: Priced<'i>,
+        unused: Priced<'i>,
+    ) -> Result<(u32, u32), (Priced<'i>, Priced<'i>, BookFault)>
+        ensures splits { Splits self.old worker leaf (pair arc) used.entry unused.entry result self.new }
         ensures book { IsBook self.new }
     {
-        match record(&mut self.journal, worker, plan.cost(), true) {
-            Ok(()) => {
-                self.incumbent = Some(plan);
-                Ok(())
-            }
-            Err(_) => Err(plan),
-        }
+        let reply = match self.split_fault(leaf, arc, &used, &unused) {
+            Some(fault) => Err((used, unused, fault)),
+            None => self.part(worker, leaf, arc, used, unused),
+        };
+        self.holds();
+        reply
     }
 
-    /// The best cost offered, if it is at most this one.
-    fn best_within(&self, cost: Tenths) -> Option<Tenths>
-        ensures { MatchOption result (IsCheaper self.now.history cost) (λ best. IsBestCost self.now.history (Some best) × (best ≤ cost)) }
+    /// A leaf's prices and value, or none where the number isn't that of a leaf.
+    pub fn leaf(&self, number: u32) -> Option<&Priced<'i>>
+        ensures shows { Shows self.now number (option_map (λ f. f.now) result) }
+        ensures book { IsBook self.now }
     {
-        match self.best() {
+        self.holds();
+        match self.open_leaf(number) {
+            Some(leaf) => Some(&leaf.priced),
             None => None,
-            Some(best) => {
-                if best.get() <= cost.get() {
-                    Some(best)
-                } else {
-                    None
-                }
-            }
         }
     }
 
-    /// Whether a plan is of the book's instance.
-    fn is_of_instance(&self, plan: &Feasible<'i>) -> bool
-        ensures { Decides result (plan.now.problem ≡ self.now.problem) }
+    /// The best cost offered, and the least of the leaves' values and the ceiling plus one, which no
+    /// plan's cost is below.
+    pub fn gap(&self) -> Gap
+        ensures gap { IsGap self.now result }
+        ensures holds { (routes : List (List ℕ)) → IsPlan self.now.problem routes → result.bound ≤ plan_cost self.now.problem routes }
+        ensures book { IsBook self.now }
     {
-        *plan.instance() == *self.instance
+        self.holds();
+        Gap {
+            cost: self.best(),
+            bound: self.bound(),
+        }
     }
 
-    /// The best cost offered, in tenths, or none if nothing was.
-    fn best(&self) -> Option<Tenths>
-        ensures { IsBestCost self.now.history result }
+    /// The answer of `gap`. It reads the value of one node at most, which `steps` counts.
+    pub fn gap_counted(&self, steps: &mut Steps) -> Gap
+        ensures gap { IsGap self.now result }
+        ensures holds { (routes : List (List ℕ)) → IsPlan self.now.problem routes → result.bound ≤ plan_cost self.now.problem routes }
+        ensures at_most_one { (steps.old ≤ steps.new) × (steps.new ≤ steps.old + 1) }
+        ensures book { IsBook self.now }
     {
-        Some(self.incumbent.as_ref()?.cost())
+        steps.tick();
+        self.gap()
     }
 
     /// The accepted calls, in order.
     pub fn history(&self) -> &[Event]
-        ensures { map event_of result.now ≡ self.now.history }
+        ensures { past_of result.now ≡ self.now.past }
     {
-        self.journal.as_slice()
+        self.history.as_slice()
     }
 
     /// What the book leaves.
     pub fn finish(self) -> Outcome<'i>
         ensures { result ≡ self.entry }
     {
-        Outcome {
-            instance: self.instance,
-            incumbent: self.incumbent,
-            journal: self.journal,
+        Outcome::of(self)
+    }
+
+    /// The laws of a book hold.
+    fn holds(&self)
+        ensures { IsBook self.now }
+    {
+        let _ = &self.instance;
+    }
+
+    /// The incumbent, a plan of the best cost offered, or none if nothing was.
+    pub(crate) fn plan(&self) -> Option<&Feasible<'i>>
+        ensures value { option_map (λ plan. plan.now) result ≡ self.now.incumbent }
+        ensures book { IsBook self.now }
+    {
+        self.holds();
+        self.incumbent.as_ref()
+    }
+
+    /// The instance.
+    pub(crate) fn instance(&self) -> &'i Instance
+        ensures { result.now ≡ self.now.problem }
+    {
+        self.instance
+    }
+
+    /// How many neighbours each customer has in relaxed routes.
+    pub(crate) fn neighbours(&self) -> u32
+        ensures { result ≡ self.now.neighbours }
+    {
+        self.neighbours
+    }
+
+    /// The nodes of the tree, in preorder.
+    pub(crate) fn nodes(&self, alloc: Global) -> Result<Vec<TreeNode>, AllocError>
+        ensures { IfOk result (λ v. (tree : Tree) × IsTreeOf self.now tree × (map node_of v.items ≡ preorder tree)) }
+    {
+        self.arena.list(alloc)
+    }
+
+    /// The least of the leaves' values and the ceiling plus one, in tenths.
+    fn bound(&self) -> Tenths
+        ensures { IsBound self.now.problem self.now.root self.now.past result }
+    {
+        let above = self.instance.ceiling().get() as u32 + 1;
+        match self.arena.least_value() {
+            None => Tenths::from(above),
+            Some(value) => {
+                if value < u128::from(above) {
+                    Tenths::from(value as u32)
+                } else {
+                    Tenths::from(above)
+                }
+            }
         }
     }
 }

@@ -1,14 +1,28 @@
-//! The book of a search: its incumbent plan, and the history of what was offered.
+//! The book of a search: its incumbent plan, the tree of its branchings, and the history of what
+//! was accepted.
 #![tactic(auto)]
 
+mod arena;
 mod book;
 mod event;
 mod fault;
+mod gap;
+mod index;
+mod judging;
+mod laws;
+mod limits;
+mod listing;
+mod node;
 mod offered;
 mod outcome;
+mod room;
+mod taking;
 
 pub use book::Book;
 pub use event::Event;
 pub use fault::{BookFault, OpenFault};
+pub use gap::{Gap, Steps};
+pub use laws::laws_of_histories;
+pub use limits::Limits;
 pub use offered::Offered;
 pub use outcome::Outcome;

@@ -1,52 +1,88 @@
 //! What a finished book leaves.
 
-ghost use Rattle.std.specs.Prelude.{◌≡◌, map, option_map};
-ghost use Rattle.incumbent_book.specs.Contents.{event_of, IsBook};
+ghost use Rattle.std.specs.Prelude.{◌≡◌, ◌≤◌, ℕ, List, map, option_map, IfOk};
+ghost use Rattle.incumbent_book.specs.Trees.{IsTreeOf, node_of};
+ghost use Rattle.solomon_reader.specs.Bound.{Tree, preorder};
+ghost use Rattle.solomon_reader.specs.Plan.{IsPlan, plan_cost};
+ghost use Rattle.solomon_reader.specs.History.{IsBound};
+ghost use Rattle.incumbent_book.specs.Contents.{past_of, IsBook};
 
+use crate::book::Book;
 use crate::event::Event;
+use branching::TreeNode;
 use schedule::Feasible;
 use solomon_reader::Instance;
+use std::alloc::{AllocError, Global};
 use std::marker::Model;
+use tenths::Tenths;
 
 /// A finished book. Contracts see what the book had.
 #[derive(Drop)]
 pub struct Outcome<'i> {
-    pub(crate) instance: &'i Instance,
-    pub(crate) incumbent: Option<Feasible<'i>>,
-    pub(crate) journal: Vec<Event>,
+    book: Book<'i>,
 }
 
 impl<'i> Model for Outcome<'i> {
-    ghost use Rattle.std.specs.Prelude.{map};
-    ghost use Rattle.incumbent_book.specs.Contents.{Contents, event_of, IsBook};
+    ghost use Rattle.std.specs.Coded.{codes};
+    ghost use Rattle.incumbent_book.specs.Contents.{Contents};
 
     ghost Value = { Contents };
 
-    ghost view = { λ o. record { problem = o.instance.now; incumbent = o.incumbent; history = map event_of o.journal.items } };
-
-    ghost invariant = { λ o. IsBook (record { problem = o.instance.now; incumbent = o.incumbent; history = map event_of o.journal.items }) };
+    ghost view = { λ o. o.book };
 }
 
 impl<'i> Outcome<'i> {
+    /// What a book leaves.
+    pub(crate) fn of(book: Book<'i>) -> Outcome<'i>
+        ensures { result ≡ book.entry }
+    {
+        Outcome { book }
+    }
+
     /// The incumbent, a plan of the best cost offered, or none if nothing was.
     pub fn plan(&self) -> Option<&Feasible<'i>>
         ensures value { option_map (λ plan. plan.now) result ≡ self.now.incumbent }
         ensures book { IsBook self.now }
     {
-        self.incumbent.as_ref()
+        self.book.plan()
+    }
+
+    /// The least of the leaves' values and the ceiling plus one, in tenths, which no plan's cost is
+    /// below.
+    pub fn bound(&self) -> Tenths
+        ensures bound { IsBound self.now.problem self.now.root self.now.past result }
+        ensures holds { (routes : List (List ℕ)) → IsPlan self.now.problem routes → result ≤ plan_cost self.now.problem routes }
+        ensures book { IsBook self.now }
+    {
+        self.book.gap().bound
     }
 
     /// The instance that the book is about.
     pub fn instance(&self) -> &'i Instance
         ensures { result.now ≡ self.now.problem }
     {
-        self.instance
+        self.book.instance()
+    }
+
+    /// How many neighbours each customer has in relaxed routes.
+    pub fn neighbours(&self) -> u32
+        ensures { result ≡ self.now.neighbours }
+    {
+        self.book.neighbours()
+    }
+
+    /// The nodes of the tree in preorder, the child in which an arc is required first. Its bound is
+    /// `bound`. `AllocError` where memory is refused.
+    pub fn nodes(&self, alloc: Global) -> Result<Vec<TreeNode>, AllocError>
+        ensures { IfOk result (λ v. (tree : Tree) × IsTreeOf self.now tree × (map node_of v.items ≡ preorder tree)) }
+    {
+        self.book.nodes(alloc)
     }
 
     /// The accepted calls, in order.
     pub fn history(&self) -> &[Event]
-        ensures { map event_of result.now ≡ self.now.history }
+        ensures { past_of result.now ≡ self.now.past }
     {
-        self.journal.as_slice()
+        self.book.history()
     }
 }

@@ -1,0 +1,22 @@
+-- What ties the parts of a book together.
+use Rattle.std.specs.Prelude.{◌≡◌, ℕ, List, map, Option, option_map, MatchOption}
+use Rattle.solomon_reader.specs.Problem.{customer_count}
+use Rattle.solomon_reader.specs.History.{IsLegal, IsWithin, IsBestCost, IsLeaf, depth_of}
+use Rattle.incumbent_book.specs.Contents.{Contents, AreLimits, IsOfProblem, pricing_at}
+use Rattle.incumbent_book.specs.Arena.{IsArena, prices_of}
+use Rattle.incumbent_book.specs.declared.node.Leaf.{Leaf}
+use Rattle.incumbent_book.specs.declared.node.Node.{Node}
+
+-- the laws of the history, and nodes that are what it says
+pub record IsKept (b : Contents) (nodes : List Node) : Type 0 where
+  pub legal : IsLegal (customer_count b.problem) b.root b.past
+  pub limits : AreLimits b.limits
+  pub within : IsWithin b.limits b.past
+  pub plan : IsOfProblem b.problem b.incumbent
+  pub best : IsBestCost b.past (option_map (λ s. s.cost) b.incumbent)
+  pub arena : IsArena b.problem b.neighbours b.root b.past nodes
+  pub prices : b.prices ≡ map prices_of nodes
+
+-- the leaf of a number, exactly where it is one: its prices, and how deep it stands
+abbrev pub IsLeafOf : Contents → ℕ → Option Leaf → Type 0
+IsLeafOf b m found = MatchOption found (¬ IsLeaf b.past m) (λ leaf. IsLeaf b.past m × (leaf.priced ≡ pricing_at b m) × (leaf.depth ≡ depth_of b.past m))

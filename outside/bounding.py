@@ -1,0 +1,109 @@
+"""Relaxed routes, leaf values and the bounds of trees, by the definitions."""
+
+
+class Region:
+    def __init__(self, count, required=frozenset(), forbidden=frozenset()):
+        self.count, self.required, self.forbidden = count, required, forbidden
+
+    def used(self, arc):
+        return Region(self.count, self.required | {arc}, self.forbidden)
+
+    def unused(self, arc):
+        return Region(self.count, self.required, self.forbidden | {arc})
+
+    def decided(self, arc):
+        return arc in self.required or arc in self.forbidden
+
+    def allows(self, i, j):
+        if i == j or (i, j) in self.forbidden:
+            return False
+        for a, b in self.required:
+            if (a, b) != (i, j) and (i != 0 and a == i or j != 0 and b == j):
+                return False
+        return True
+
+
+def neighbour_lists(instance, neighbours):
+    lists = [frozenset()]
+    for v in range(1, instance.count + 1):
+        others = sorted((u for u in range(1, instance.count + 1) if u != v), key=lambda u: (instance.arc[v][u], u))
+        lists.append(frozenset([v] + others[:neighbours]))
+    return lists
+
+
+def least_by_routes(instance, region, prices, neighbours):
+    """The least reduced cost, by going through all relaxed routes one after the other; None if there is none."""
+    lists, found = neighbour_lists(instance, neighbours), None
+    stack = [([], instance.ready(0), 0, 0)]
+    while stack:
+        route, time, load, cost = stack.pop()
+        at = route[-1] if route else 0
+        if route and region.allows(at, 0) and time + instance.arc[at][0] <= instance.due(0):
+            whole = cost + 1000 * instance.arc[at][0]
+            found = whole if found is None else min(found, whole)
+        for j in range(1, instance.count + 1):
+            begin = max(time + instance.arc[at][j], instance.ready(j))
+            if (not region.allows(at, j) or load + instance.demand(j) > instance.capacity or begin > instance.due(j)
+                    or not forgets(route, j, lists)):
+                continue
+            stack.append((route + [j], begin + instance.service(j), load + instance.demand(j),
+                          cost + 1000 * instance.arc[at][j] - prices[j - 1]))
+    return found
+
+
+def forgets(route, j, lists):
+    """Between the last visit of j and its next one a stop's neighbour list doesn't hold j."""
+    if j not in route:
+        return True
+    last = len(route) - 1 - route[::-1].index(j)
+    return any(j not in lists[w] for w in route[last + 1:])
+
+
+def least_by_labels(instance, region, prices, neighbours):
+    """The least reduced cost, by labels: one is dropped where another one with the same last stop has no greater
+    time, load and cost, and remembers nothing more."""
+    lists, found = neighbour_lists(instance, neighbours), None
+    buckets = [[] for _ in range(instance.capacity + 1)]
+    held = [[] for _ in range(instance.count + 1)]
+    buckets[0].append((0, instance.ready(0), 0, frozenset()))
+    for load in range(instance.capacity + 1):
+        for at, time, cost, memory in buckets[load]:
+            if at and not any(label == (load, time, cost, memory) for label in held[at]):
+                continue
+            if at and region.allows(at, 0) and time + instance.arc[at][0] <= instance.due(0):
+                whole = cost + 1000 * instance.arc[at][0]
+                found = whole if found is None else min(found, whole)
+            for j in range(1, instance.count + 1):
+                begin = max(time + instance.arc[at][j], instance.ready(j))
+                more = load + instance.demand(j)
+                if j in memory or not region.allows(at, j) or more > instance.capacity or begin > instance.due(j):
+                    continue
+                label = (more, begin + instance.service(j), cost + 1000 * instance.arc[at][j] - prices[j - 1],
+                         (memory & lists[j]) | {j})
+                if any(dominates(other, label) for other in held[j]):
+                    continue
+                held[j] = [other for other in held[j] if not dominates(label, other)] + [label]
+                buckets[more].append((j, label[1], label[2], label[3]))
+    return found
+
+
+def dominates(a, b):
+    return a[0] <= b[0] and a[1] <= b[1] and a[2] <= b[2] and a[3] <= b[3]
+
+
+def leaf_value(instance, region, prices, neighbours, version, least):
+    found = least(instance, region, prices, neighbours)
+    found = 0 if found is None else found
+    grains = sum(prices) + instance.fleet * min(0, found)
+    if version == 2:
+        grains += instance.fewest_routes() * max(0, found)
+    return max(0, -(-grains // 1000))
+
+
+def tree_bound(instance, region, tree, neighbours, version, least):
+    """A tree is ("P", prices) or ("S", arc, used, unused)."""
+    if tree[0] == "P":
+        return min(instance.ceiling() + 1, leaf_value(instance, region, tree[1], neighbours, version, least))
+    _, arc, used, unused = tree
+    return min(tree_bound(instance, region.used(arc), used, neighbours, version, least),
+               tree_bound(instance, region.unused(arc), unused, neighbours, version, least))

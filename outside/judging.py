@@ -1,0 +1,118 @@
+"""One run of the built program on one instance, judged by what stands in this folder."""
+import os
+import random as randomness
+import subprocess
+
+import bounding
+from building import build
+from cases import instance_words, laid_out, mutated
+from instances import Fault, is_plan, plan_cost, read
+from moving import descend, first_gain
+from optimum import least_cost
+from texts import TextFault, read_certificate, read_solution
+
+
+class Disagreement(Exception):
+    """The program and this folder don't agree."""
+
+
+def demand(holds, words):
+    if not holds:
+        raise Disagreement(words)
+
+
+def solve(program, folder, text):
+    """The program's lines, its status and both texts, which stand in the folder."""
+    paths = [os.path.join(folder, name) for name in ("instance", "solution", "certificate")]
+    for path in paths[1:]:
+        if os.path.exists(path):
+            os.remove(path)
+    with open(paths[0], "wb") as file:
+        file.write(text)
+    run = subprocess.run([program, "solve"] + paths, capture_output=True, timeout=600)
+    written = [open(path, "rb").read() if os.path.exists(path) else None for path in paths[1:]]
+    return run.stdout.decode(), run.stderr.decode(), run.returncode, written[0], written[1]
+
+
+def shown(tenths):
+    return "%d.%d" % divmod(tenths, 10)
+
+
+def judge_refusal(program, folder, random):
+    """A text with something wrong: the program's reader against the one of this folder. Answers what came of it."""
+    text = mutated(random, instance_words(random, random.randint(1, 5)))
+    out, errors, status, solution, certificate = solve(program, folder, text)
+    try:
+        read(text)
+    except Fault as fault:
+        demand((out, errors, status) == ("", "vrptw: instance: %s\n" % fault, 3), "refusal %s: %r" % (fault, errors))
+        demand((solution, certificate) == (b"", b""), "files after a refusal")
+        return str(fault).split()[0]
+    demand(status in (0, 1), "an instance was refused: %r" % errors)
+    return "whole"
+
+
+def judge_certificate(instance, certificate, least):
+    """The certificate's parts, and its bound by its tree."""
+    try:
+        found = read_certificate(certificate)
+    except TextFault as fault:
+        raise Disagreement("certificate: %s" % fault)
+    demand(found.name == instance.name and found.count == instance.count, "the certificate's name and size")
+    demand(found.neighbours == 8, "the certificate's neighbours")
+    region = bounding.Region(instance.count)
+    bound = bounding.tree_bound(instance, region, found.tree, found.neighbours, found.version, least)
+    demand(bound == found.bound, "bound %d printed, %d derived" % (found.bound, bound))
+    return found.bound
+
+
+def judge_plan(instance, solution):
+    """The plan is one at its cost, no move makes it cheaper, and it is what insertion and descent come to."""
+    try:
+        routes, cost = read_solution(solution)
+    except TextFault as fault:
+        raise Disagreement("solution: %s" % fault)
+    demand(is_plan(instance, routes), "the routes are no plan")
+    demand(plan_cost(instance, routes) == cost, "the plan's cost")
+    demand(first_gain(instance, routes) is None, "a move makes the plan cheaper")
+    built, left = build(instance)
+    demand(not left, "a plan, though insertion leaves customers")
+    demand(descend(instance, built) == routes, "another plan than insertion and descent come to")
+    return cost
+
+
+def judge_solved(program, folder, random, count, least, small):
+    """An instance: both texts and the line. Answers the line's first word."""
+    text = laid_out(random, instance_words(random, count))
+    instance = read(text)
+    out, errors, status, solution, certificate = solve(program, folder, text)
+    demand(errors == "", "an instance was refused: %r" % errors)
+    bound = judge_certificate(instance, certificate, least)
+    optimum = least_cost(instance) if small else None
+    if solution == b"":
+        none = bound > instance.ceiling()
+        demand(bool(build(instance)[1]), "no plan, though insertion finds one")
+        demand((out, status) == (("NO PLAN\n", 0) if none else ("OPEN %s\n" % shown(bound), 1)), "the line %r" % out)
+        demand(not (none and optimum is not None), "NO PLAN, and there is one")
+    else:
+        cost = judge_plan(instance, solution)
+        line = "BEST %s\n" % shown(cost) if cost == bound else "GAP %s %s\n" % (shown(cost), shown(bound))
+        demand((out, status) == (line, 0 if cost == bound else 1), "the line %r" % out)
+        demand(not small or optimum is not None and optimum <= cost, "a plan below the optimum")
+    demand(not small or optimum is None or bound <= optimum, "a bound above the optimum")
+    return out.split()[0]
+
+
+def judge(program, folder, seed, kind):
+    """One run by its seed: whether both agree, and what came of it or what doesn't agree."""
+    random = randomness.Random("%d %s" % (seed, kind))
+    try:
+        if kind == "refusals":
+            return True, judge_refusal(program, folder, random)
+        if kind == "small":
+            return True, judge_solved(program, folder, random, random.randint(1, 6), bounding.least_by_routes, True)
+        return True, judge_solved(program, folder, random, random.randint(8, 25), bounding.least_by_labels, False)
+    except Disagreement as found:
+        return False, str(found)
+    except subprocess.TimeoutExpired:
+        return False, "the program didn't end"

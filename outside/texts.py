@@ -1,0 +1,132 @@
+"""Readers of the program's two texts, apart from its own."""
+import re
+
+CANONICAL = re.compile(rb"(0|[1-9][0-9]*)\Z")
+SIGNED = re.compile(rb"(0|-?[1-9][0-9]*)\Z")
+TENTHS = re.compile(rb"(0|[1-9][0-9]{0,11})\.[0-9]\Z")
+MOST_PRICE, MOST_LEAVES, MOST_DEPTH = 10 ** 12, 100_000, 600
+
+
+class TextFault(Exception):
+    """Why a text is no solution or no certificate, as the program names it."""
+
+
+class Lines:
+    def __init__(self, text):
+        self.text, self.number = text, 0
+
+    def next(self):
+        end = self.text.find(b"\n")
+        if end < 0:
+            raise TextFault("Truncated")
+        line, self.text, self.number = self.text[:end], self.text[end + 1:], self.number + 1
+        return line
+
+    def bad(self):
+        raise TextFault("BadLine line %d" % self.number)
+
+
+def tenths(word):
+    if not TENTHS.match(word):
+        return None
+    whole, digit = word.split(b".")
+    return 10 * int(whole) + int(digit)
+
+
+def read_solution(text):
+    """Routes and cost."""
+    lines, routes = Lines(text), []
+    while True:
+        line = lines.next()
+        head, colon, rest = line.partition(b":")
+        if routes and line.startswith(b"Cost "):
+            cost = tenths(line[5:])
+            if cost is None:
+                lines.bad()
+            if lines.text:
+                raise TextFault("Extra")
+            return routes, cost
+        stops = rest.split(b" ")[1:]
+        if (not colon or head != b"Route #%d" % (len(routes) + 1) or not stops or rest[:1] != b" "
+                or any(not CANONICAL.match(word) or not 1 <= int(word) <= 9999 for word in stops)):
+            lines.bad()
+        routes.append([int(word) for word in stops])
+
+
+class Certificate:
+    def __init__(self, version, name, count, neighbours, bound, tree):
+        self.version, self.name, self.count = version, name, count
+        self.neighbours, self.bound, self.tree = neighbours, bound, tree
+
+
+def field(lines, word, low, high):
+    line = lines.next()
+    head, blank, rest = line.partition(b" ")
+    if head != word or not blank or not CANONICAL.match(rest) or not low <= int(rest) <= high:
+        lines.bad()
+    return int(rest)
+
+
+def read_certificate(text, most_customers=100):
+    lines = Lines(text)
+    first = lines.next()
+    if first not in (b"VRPTW-CERT 1", b"VRPTW-CERT 2"):
+        lines.bad()
+    line = lines.next()
+    name = line[9:]
+    if line[:9] != b"INSTANCE " or not 1 <= len(name) <= 32 or any(not 0x21 <= b <= 0x7E for b in name):
+        lines.bad()
+    count = field(lines, b"CUSTOMERS", 1, most_customers)
+    neighbours = field(lines, b"NEIGHBOURS", 0, 15)
+    line = lines.next()
+    bound = tenths(line[6:]) if line[:6] == b"BOUND " else None
+    if bound is None:
+        lines.bad()
+    if lines.next() != b"TREE":
+        lines.bad()
+    tree = Nodes(lines, count).tree([])
+    if lines.next() != b"END":
+        lines.bad()
+    if lines.text:
+        raise TextFault("Extra")
+    return Certificate(int(first[-1:]), name, count, neighbours, bound, tree)
+
+
+class Nodes:
+    def __init__(self, lines, count):
+        self.lines, self.count, self.leaves = lines, count, 0
+
+    def tree(self, path):
+        """One tree in preorder, the used child first; the path is the arcs that were decided."""
+        line = self.lines.next()
+        words = line.split(b" ")
+        if words[0] == b"P":
+            return ("P", self.prices(words[1:]))
+        if words[0] != b"S":
+            self.lines.bad()
+        arc = self.arc(words[1:], path)
+        used = self.tree(path + [arc])
+        return ("S", arc, used, self.tree(path + [arc]))
+
+    def prices(self, words):
+        if len(words) != self.count or any(not SIGNED.match(word) for word in words):
+            self.lines.bad()
+        prices = [int(word) for word in words]
+        if any(abs(price) > MOST_PRICE for price in prices):
+            raise TextFault("PriceRange line %d" % self.lines.number)
+        self.leaves += 1
+        if self.leaves > MOST_LEAVES:
+            raise TextFault("TooManyLeaves line %d" % self.lines.number)
+        return prices
+
+    def arc(self, words, path):
+        if len(words) != 2 or any(not CANONICAL.match(word) for word in words):
+            self.lines.bad()
+        arc = (int(words[0]), int(words[1]))
+        if arc[0] == arc[1] or max(arc) > self.count:
+            raise TextFault("BadArc line %d" % self.lines.number)
+        if arc in path:
+            raise TextFault("ArcDecided line %d" % self.lines.number)
+        if len(path) == MOST_DEPTH:
+            raise TextFault("TooDeep line %d" % self.lines.number)
+        return arc
