@@ -2,6 +2,7 @@
 
 ghost use Rattle.std.specs.Prelude.{◌≡◌, ◌+◌, ◌≤◌, ℕ, List, [], option_map, IfOk, map};
 ghost use Rattle.branching.specs.Arcs.{pair};
+ghost use Rattle.tenths.specs.declared.value.TheConstants.{MOST_TENTHS};
 ghost use Rattle.incumbent_book.specs.Trees.{IsTreeOf, node_of};
 ghost use Rattle.solomon_reader.specs.Bound.{Tree, preorder};
 ghost use Rattle.solomon_reader.specs.Plan.{IsPlan, plan_cost};
@@ -182,6 +183,7 @@ impl<'i> Book<'i> {
     /// plan's cost is below.
     pub fn gap(&self) -> Gap
         ensures gap { IsGap self.now result }
+        ensures within { result.bound ≤ MOST_TENTHS }
         ensures holds { (routes : List (List ℕ)) → IsPlan self.now.problem routes → result.bound ≤ plan_cost self.now.problem routes }
         ensures book { IsBook self.now }
     {
@@ -256,7 +258,8 @@ impl<'i> Book<'i> {
 
     /// The least of the leaves' values and the ceiling plus one, in tenths.
     fn bound(&self) -> Tenths
-        ensures { IsBound self.now.problem self.now.root self.now.past result }
+        ensures bound { IsBound self.now.problem self.now.root self.now.past result }
+        ensures within { result ≤ MOST_TENTHS }
     {
         let above = self.instance.ceiling().get() as u32 + 1;
         match self.arena.least_value() {

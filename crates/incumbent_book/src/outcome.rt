@@ -2,6 +2,7 @@
 
 ghost use Rattle.std.specs.Prelude.{◌≡◌, ◌≤◌, ℕ, List, map, option_map, IfOk};
 ghost use Rattle.incumbent_book.specs.Trees.{IsTreeOf, node_of};
+ghost use Rattle.tenths.specs.declared.value.TheConstants.{MOST_TENTHS};
 ghost use Rattle.solomon_reader.specs.Bound.{Tree, preorder};
 ghost use Rattle.solomon_reader.specs.Plan.{IsPlan, plan_cost};
 ghost use Rattle.solomon_reader.specs.History.{IsBound};
@@ -51,6 +52,7 @@ impl<'i> Outcome<'i> {
     /// below.
     pub fn bound(&self) -> Tenths
         ensures bound { IsBound self.now.problem self.now.root self.now.past result }
+        ensures within { result ≤ MOST_TENTHS }
         ensures holds { (routes : List (List ℕ)) → IsPlan self.now.problem routes → result ≤ plan_cost self.now.problem routes }
         ensures book { IsBook self.now }
     {

@@ -1,296 +1,278 @@
-//! The program with its words and files: the lines that it prints and its statuses.
+//! The program with its words and files: the lines that it prints, its statuses and what it writes.
 
-use row_texts::{DEPOT, instance_text, many_customers, one_customer, three_apart, two_in_line};
-use std::fs;
+use certificate::{Version, read};
+use row_texts::{DEPOT, instance_text, many_customers, one_customer, three_apart};
+use std::alloc::Global;
 use std::process::Abort;
 use std::rt::Files;
 use std::test::Fail;
-use tenths::MemorySink;
-use vrptw::run_words;
+use std::{fs, io};
+use tenths::{MemorySink, write_tenths};
+use vrptw::{run_words, words_fault};
 
-/// Words to run, and what comes of them.
+/// What a run prints, and the status that it ends with.
 #[derive(Drop)]
-struct Run {
-    words: [&'static str; 4],
-    out: &'static str,
-    errors: &'static str,
+struct Printed {
+    out: MemorySink,
+    errors: MemorySink,
     status: u8,
 }
 
-fn check<R: Abort + Files + AllocGlobal>(rt: &R, run: &Run) {
+fn run<R: Files + AllocGlobal>(rt: &R, words: &[&str]) -> Printed {
     let mut out = MemorySink::new(rt.alloc());
     let mut errors = MemorySink::new(rt.alloc());
-    let status = run_words(rt, rt.alloc(), &run.words, &mut out, &mut errors);
-    assert_eq!(rt; out.as_slice(), run.out.as_bytes());
-    assert_eq!(rt; errors.as_slice(), run.errors.as_bytes());
-    assert_eq!(rt; status, run.status);
+    let status = run_words(rt, rt.alloc(), words, &mut out, &mut errors);
+    Printed {
+        out,
+        errors,
+        status,
+    }
+}
+
+/// Asserts what a run prints on standard error, and nothing on standard output.
+fn assert_fault<R: Abort>(rt: &R, name: &str, printed: &Printed, line: &str, status: u8) {
+    assert_eq!(rt; printed.errors.as_slice(), line.as_bytes(), "{name}");
+    assert_eq!(rt; printed.status, status, "{name}");
+    assert!(rt; printed.out.as_slice().is_empty(), "{name}");
 }
 
 /// Asserts what a file holds.
-fn assert_file<R: Abort + Files + AllocGlobal>(rt: &R, path: &str, text: &str) -> Result<(), Fail> {
+fn assert_file<R: Abort + Files + AllocGlobal>(
+    rt: &R,
+    name: &str,
+    path: &str,
+    text: &str,
+) -> Result<(), Fail> {
     let bytes = fs::read(rt, path)?;
-    assert_eq!(rt; bytes.as_slice(), text.as_bytes(), "{path}");
+    assert_eq!(rt; bytes.as_slice(), text.as_bytes(), "{name}: {path}");
     Ok(())
 }
 
-/// A text to solve, and what is printed and written.
+/// What comes of a text: a plan of this cost, no plan, or neither.
+#[derive(Clone, Copy)]
+enum Expected {
+    Plan {
+        cost: &'static str,
+        solution: &'static str,
+    },
+    NoPlan,
+    Open,
+}
+
+/// A text to solve, and what comes of it.
 #[derive(Drop)]
 struct Row {
+    name: &'static str,
     text: String,
-    line: &'static str,
-    status: u8,
-    solution: &'static str,
-    customers: u8,
-    bound: &'static str,
-    leaf: &'static str,
+    customers: u16,
+    expected: Expected,
+}
+
+impl Row {
+    /// A row of two customers on a line.
+    fn in_line(
+        alloc: Global,
+        name: &'static str,
+        fleet: u32,
+        capacity: u32,
+        expected: Expected,
+    ) -> Result<Row, Fail> {
+        let customers = "1 3 4 1 0 1000 0\n2 6 8 1 0 1000 0\n";
+        Ok(Row {
+            name,
+            text: instance_text(alloc, fleet, capacity, DEPOT, customers)?,
+            customers: 2,
+            expected,
+        })
+    }
+
+    /// A row of one customer.
+    fn alone(
+        alloc: Global,
+        name: &'static str,
+        depot: &str,
+        customer: &str,
+        expected: Expected,
+    ) -> Result<Row, Fail> {
+        Ok(Row {
+            name,
+            text: instance_text(alloc, 1, 1, depot, customer)?,
+            customers: 1,
+            expected,
+        })
+    }
+}
+
+/// The line that tells a certificate's bound beside these words, with its status.
+fn line_with(alloc: Global, words: &str, bound: &[u8]) -> Result<Vec<u8>, Fail> {
+    let mut line = Vec::new(alloc);
+    line.extend_from_slice(words.as_bytes())?;
+    line.extend_from_slice(b" ")?;
+    line.extend_from_slice(bound)?;
+    line.extend_from_slice(b"\n")?;
+    Ok(line)
+}
+
+/// The line of a row and its status, where the certificate has this bound.
+fn line_of(alloc: Global, expected: Expected, bound: &[u8]) -> Result<(Vec<u8>, u8), Fail> {
+    match expected {
+        Expected::Plan { cost, .. } if cost.as_bytes() == bound => {
+            Ok((line_with(alloc, "BEST", bound)?, 0))
+        }
+        Expected::Plan { cost, .. } => {
+            let words = format!(in alloc; "GAP {cost}")?;
+            Ok((line_with(alloc, words.as_str(), bound)?, 1))
+        }
+        Expected::NoPlan => Ok((Vec::from_slice(alloc, b"NO PLAN\n")?, 0)),
+        Expected::Open => Ok((line_with(alloc, "OPEN", bound)?, 1)),
+    }
+}
+
+fn check<R: Abort + Files + AllocGlobal>(rt: &R, row: &Row) -> Result<(), Fail> {
+    let name = row.name;
+    fs::write(rt, "row_instance", row.text.as_bytes())?;
+    let printed = run(
+        rt,
+        &["solve", "row_instance", "row_solution", "row_certificate"],
+    );
+    let solution = match row.expected {
+        Expected::Plan { solution, .. } => solution,
+        _ => "",
+    };
+    assert_file(rt, name, "row_solution", solution)?;
+    let text = fs::read(rt, "row_certificate")?;
+    let cert = read(rt.alloc(), text.as_slice())?;
+    let parts = cert.parts();
+    assert_eq!(rt; parts.version, Version::Two, "{name}");
+    assert_eq!(rt; parts.name.as_slice(), b"T".as_slice(), "{name}");
+    assert_eq!(rt; parts.size, row.customers, "{name}");
+    assert_eq!(rt; parts.neighbours, 8, "{name}");
+    let mut bound = MemorySink::new(rt.alloc());
+    assert!(rt; write_tenths(parts.bound, &mut bound).is_ok(), "{name}");
+    let (line, status) = line_of(rt.alloc(), row.expected, bound.as_slice())?;
+    assert_eq!(rt; printed.out.as_slice(), line.as_slice(), "{name}");
+    assert_eq!(rt; printed.status, status, "{name}");
+    assert!(rt; printed.errors.as_slice().is_empty(), "{name}");
+    Ok(())
 }
 
 #[test]
 fn plans_and_certificates_are_written(rt: HostRuntime) -> Result<(), Fail> {
-    let rows = [
-        Row {
-            text: one_customer(rt.alloc())?,
-            line: "BEST 10.0\n",
-            status: 0,
-            solution: "Route #1: 1\nCost 10.0\n",
-            customers: 1,
-            bound: "10.0",
-            leaf: "P 112000",
-        },
-        Row {
-            text: two_in_line(rt.alloc())?,
-            line: "GAP 30.0 21.5\n",
-            status: 1,
-            solution: "Route #1: 2\nRoute #2: 1\nCost 30.0\n",
-            customers: 2,
-            bound: "21.5",
-            leaf: "P 112000 127000",
-        },
-        Row {
-            text: instance_text(
-                rt.alloc(),
-                2,
-                2,
-                DEPOT,
-                "1 3 4 1 0 1000 0\n2 6 8 1 0 1000 0\n",
-            )?,
-            line: "GAP 20.0 19.2\n",
-            status: 1,
-            solution: "Route #1: 1 2\nCost 20.0\n",
-            customers: 2,
-            bound: "19.2",
-            leaf: "P 96000 96000",
-        },
-        Row {
-            text: three_apart(rt.alloc())?,
-            line: "GAP 401.0 38.1\n",
-            status: 1,
+    let alloc = rt.alloc();
+    let apart = Expected::Plan {
+        cost: "30.0",
+        solution: "Route #1: 2\nRoute #2: 1\nCost 30.0\n",
+    };
+    let together = Expected::Plan {
+        cost: "20.0",
+        solution: "Route #1: 1 2\nCost 20.0\n",
+    };
+    let three = Row {
+        name: "two of three close customers in one route",
+        text: three_apart(alloc)?,
+        customers: 3,
+        expected: Expected::Plan {
+            cost: "401.0",
             solution: "Route #1: 2 1\nRoute #2: 3\nCost 401.0\n",
-            customers: 3,
-            bound: "38.1",
-            leaf: "P 127000 127000 127000",
         },
-        Row {
-            text: instance_text(
-                rt.alloc(),
-                1,
-                1,
-                DEPOT,
-                "1 3 4 1 0 1000 0\n2 6 8 1 0 1000 0\n",
-            )?,
-            line: "OPEN 22.7\n",
-            status: 1,
-            solution: "",
-            customers: 2,
-            bound: "22.7",
-            leaf: "P 112000 127000",
+    };
+    let ties = Row {
+        name: "of equal customers the lower number first",
+        text: instance_text(
+            alloc,
+            3,
+            1,
+            DEPOT,
+            "1 3 4 1 0 1000 0\n2 0 5 1 0 1000 0\n3 5 0 1 0 1000 0\n",
+        )?,
+        customers: 3,
+        expected: Expected::Plan {
+            cost: "30.0",
+            solution: "Route #1: 1\nRoute #2: 2\nRoute #3: 3\nCost 30.0\n",
         },
-        Row {
-            // Nobody is there before the due date.
-            text: instance_text(rt.alloc(), 1, 1, DEPOT, "1 3 4 1 0 4 0\n")?,
-            line: "NO PLAN\n",
-            status: 0,
-            solution: "",
-            customers: 1,
-            bound: "10.1",
-            leaf: "P 127000",
-        },
+    };
+    let rows = [
+        Row::in_line(alloc, "a vehicle for each", 2, 1, apart)?,
+        Row::in_line(alloc, "one vehicle for both", 2, 2, together)?,
+        Row::in_line(alloc, "one small vehicle", 1, 1, Expected::Open)?,
+        three,
+        ties,
     ];
     for row in &rows {
-        fs::write(&rt, "rows_instance", row.text.as_bytes())?;
-        check(
-            &rt,
-            &Run {
-                words: [
-                    "solve",
-                    "rows_instance",
-                    "rows_solution",
-                    "rows_certificate",
-                ],
-                out: row.line,
-                errors: "",
-                status: row.status,
-            },
-        );
-        assert_file(&rt, "rows_solution", row.solution)?;
-        let customers = row.customers;
-        let bound = row.bound;
-        let leaf = row.leaf;
-        let certificate = format!(in rt.alloc();
-            "VRPTW-CERT 1\nINSTANCE T\nCUSTOMERS {customers}\nNEIGHBOURS 8\nBOUND {bound}\nTREE\n{leaf}\nEND\n"
-        )?;
-        assert_file(&rt, "rows_certificate", certificate.as_str())?;
+        check(&rt, row)?;
     }
     Ok(())
 }
 
 #[test]
-fn windows_and_closing_times_decide_the_line(rt: HostRuntime) -> Result<(), Fail> {
-    let rows: [(&str, &str, &str); 5] = [
-        (DEPOT, "1 1 3 1 0 1000 0\n", "BEST 6.2\n"),
-        (DEPOT, "1 3 4 1 0 5 0\n", "BEST 10.0\n"),
-        ("0 0 0 0 0 10 0\n", "1 3 4 1 0 1000 0\n", "BEST 10.0\n"),
-        ("0 0 0 0 0 9 0\n", "1 3 4 1 0 1000 0\n", "NO PLAN\n"),
-        ("0 0 0 0 0 65 0\n", "1 3 4 1 50 55 10\n", "BEST 10.0\n"),
+fn windows_and_closing_times_decide(rt: HostRuntime) -> Result<(), Fail> {
+    let alloc = rt.alloc();
+    let far = Expected::Plan {
+        cost: "10.0",
+        solution: "Route #1: 1\nCost 10.0\n",
+    };
+    let slanted = Expected::Plan {
+        cost: "6.2",
+        solution: "Route #1: 1\nCost 6.2\n",
+    };
+    let free = Expected::Plan {
+        cost: "0.0",
+        solution: "Route #1: 1\nCost 0.0\n",
+    };
+    let open = "1 3 4 1 0 1000 0\n";
+    let none = Expected::NoPlan;
+    let rows = [
+        Row::alone(alloc, "open all day", DEPOT, open, far)?,
+        Row::alone(alloc, "each arc truncated", DEPOT, "1 1 3 1 0 1000 0\n", slanted)?,
+        Row::alone(alloc, "on the depot", DEPOT, "1 0 0 1 0 1000 0\n", free)?,
+        Row::alone(alloc, "due on arrival", DEPOT, "1 3 4 1 0 5 0\n", far)?,
+        Row::alone(alloc, "due before", DEPOT, "1 3 4 1 0 4 0\n", none)?,
+        Row::alone(alloc, "back at closing", "0 0 0 0 0 10 0\n", open, far)?,
+        Row::alone(alloc, "back too late", "0 0 0 0 0 9 0\n", open, none)?,
+        Row::alone(alloc, "waits", "0 0 0 0 0 65 0\n", "1 3 4 1 50 55 10\n", far)?,
+        Row::alone(alloc, "too heavy", DEPOT, "1 3 4 2 0 1000 0\n", none)?,
     ];
-    for (depot, customer, line) in rows {
-        let text = instance_text(rt.alloc(), 1, 1, depot, customer)?;
-        fs::write(&rt, "window_instance", text.as_bytes())?;
-        check(
-            &rt,
-            &Run {
-                words: [
-                    "solve",
-                    "window_instance",
-                    "window_solution",
-                    "window_certificate",
-                ],
-                out: line,
-                errors: "",
-                status: 0,
-            },
-        );
+    for row in &rows {
+        check(&rt, row)?;
     }
-    Ok(())
-}
-
-#[test]
-fn an_empty_file_and_too_many_customers_are_refused(rt: HostRuntime) -> Result<(), Fail> {
-    let customers = many_customers(rt.alloc(), 101)?;
-    let many = instance_text(rt.alloc(), 1, 1, DEPOT, customers.as_str())?;
-    let rows: [(&str, &str); 2] = [
-        ("", "vrptw: instance: Truncated\n"),
-        (many.as_str(), "vrptw: instance: TooManyCustomers\n"),
-    ];
-    for (text, errors) in rows {
-        fs::write(&rt, "odd_instance", text.as_bytes())?;
-        check(
-            &rt,
-            &Run {
-                words: ["solve", "odd_instance", "odd_solution", "odd_certificate"],
-                out: "",
-                errors,
-                status: 3,
-            },
-        );
-        assert_file(&rt, "odd_solution", "")?;
-        assert_file(&rt, "odd_certificate", "")?;
-    }
-    Ok(())
-}
-
-#[test]
-fn a_plan_that_costs_nothing_ends_with_status_0(rt: HostRuntime) -> Result<(), Fail> {
-    let text = instance_text(rt.alloc(), 1, 1, DEPOT, "1 0 0 1 0 1000 0\n")?;
-    fs::write(&rt, "free_instance", text.as_bytes())?;
-    check(
-        &rt,
-        &Run {
-            words: [
-                "solve",
-                "free_instance",
-                "free_solution",
-                "free_certificate",
-            ],
-            out: "BEST 0.0\n",
-            errors: "",
-            status: 0,
-        },
-    );
     Ok(())
 }
 
 #[test]
 fn a_refused_instance_leaves_empty_files(rt: HostRuntime) -> Result<(), Fail> {
-    let rows: [(&str, &str, &str); 12] = [
-        (
-            DEPOT,
-            "1 3 4 0 0 1000 0\n",
-            "vrptw: instance: DemandZero line 8\n",
-        ),
-        (
-            DEPOT,
-            "1 3 4 1 9 8 0\n",
-            "vrptw: instance: WindowReversed line 8\n",
-        ),
-        (
-            DEPOT,
-            "2 3 4 1 0 1000 0\n",
-            "vrptw: instance: OutOfOrder line 8\n",
-        ),
-        (DEPOT, "1 3 4\n", "vrptw: instance: Truncated\n"),
-        (DEPOT, "", "vrptw: instance: NoCustomers\n"),
-        (
-            "0 0 0 1 0 1000 0\n",
-            "1 3 4 1 0 1000 0\n",
-            "vrptw: instance: BadDepot\n",
-        ),
-        (
-            DEPOT,
-            "1 -3 4 1 0 1000 0\n",
-            "vrptw: instance: BadNumber line 8\n",
-        ),
-        (
-            DEPOT,
-            "1 10001 4 1 0 1000 0\n",
-            "vrptw: instance: OutOfRange line 8\n",
-        ),
-        (
-            "0 0 0 0 0 1000 7\n",
-            "1 3 4 1 0 1000 0\n",
-            "vrptw: instance: BadDepot\n",
-        ),
-        (
-            "0 0 0 0 0 1000 0 \x01",
-            "",
-            "vrptw: instance: NotAscii offset 121\n",
-        ),
-        (
-            "1 0 0 0 0 1000 0\n",
-            "",
-            "vrptw: instance: OutOfOrder line 7\n",
-        ),
-        ("", "", "vrptw: instance: Truncated\n"),
+    let customers = many_customers(rt.alloc(), 101)?;
+    let one = "1 3 4 1 0 1000 0\n";
+    let rows: [(&str, &str, &str); 13] = [
+        (DEPOT, "1 3 4 0 0 1000 0\n", "DemandZero line 8"),
+        (DEPOT, "1 3 4 1 9 8 0\n", "WindowReversed line 8"),
+        (DEPOT, "2 3 4 1 0 1000 0\n", "OutOfOrder line 8"),
+        (DEPOT, "1 3 4\n", "Truncated"),
+        (DEPOT, "", "NoCustomers"),
+        ("0 0 0 1 0 1000 0\n", one, "BadDepot"),
+        (DEPOT, "1 -3 4 1 0 1000 0\n", "BadNumber line 8"),
+        (DEPOT, "1 10001 4 1 0 1000 0\n", "OutOfRange line 8"),
+        ("0 0 0 0 0 1000 7\n", one, "BadDepot"),
+        ("0 0 0 0 0 1000 0 \x01", "", "NotAscii offset 121"),
+        ("1 0 0 0 0 1000 0\n", "", "OutOfOrder line 7"),
+        ("", "", "Truncated"),
+        (DEPOT, customers.as_str(), "TooManyCustomers"),
     ];
-    for (depot, customers, errors) in rows {
+    for (depot, customers, fault) in rows {
         let text = instance_text(rt.alloc(), 1, 1, depot, customers)?;
         fs::write(&rt, "refused_instance", text.as_bytes())?;
-        check(
+        let printed = run(
             &rt,
-            &Run {
-                words: [
-                    "solve",
-                    "refused_instance",
-                    "refused_solution",
-                    "refused_certificate",
-                ],
-                out: "",
-                errors,
-                status: 3,
-            },
+            &[
+                "solve",
+                "refused_instance",
+                "refused_solution",
+                "refused_certificate",
+            ],
         );
-        assert_file(&rt, "refused_solution", "")?;
-        assert_file(&rt, "refused_certificate", "")?;
+        let line = format!(in rt.alloc(); "vrptw: instance: {fault}\n")?;
+        assert_fault(&rt, fault, &printed, line.as_str(), 3);
+        assert_file(&rt, fault, "refused_solution", "")?;
+        assert_file(&rt, fault, "refused_certificate", "")?;
     }
     Ok(())
 }
@@ -298,62 +280,58 @@ fn a_refused_instance_leaves_empty_files(rt: HostRuntime) -> Result<(), Fail> {
 #[test]
 fn files_that_cannot_be_had_end_with_status_6(rt: HostRuntime) -> Result<(), Fail> {
     let text = one_customer(rt.alloc())?;
-    fs::write(&rt, "had_instance", text.as_bytes())?;
-    let rows: [[&str; 4]; 4] = [
-        [
-            "solve",
-            "none_instance",
-            "none_solution",
-            "none_certificate",
-        ],
-        ["solve", ".", "none_solution", "none_certificate"],
-        [
-            "solve",
-            "had_instance",
-            "no_folder/solution",
-            "none_certificate",
-        ],
-        [
-            "solve",
-            "had_instance",
-            "had_solution",
-            "no_folder/certificate",
-        ],
+    fs::write(&rt, "had", text.as_bytes())?;
+    let rows: [(&str, [&str; 3]); 7] = [
+        ("no instance", ["none", "none_solution", "none_certificate"]),
+        ("a folder", [".", "none_solution", "none_certificate"]),
+        ("no plan", ["had", "no_folder/solution", "none_certificate"]),
+        ("no bound", ["had", "had_solution", "no_folder/certificate"]),
+        ("over the instance", ["had", "had", "none_certificate"]),
+        ("over it, too", ["had", "none_solution", "had"]),
+        ("both in one", ["had", "none_solution", "none_solution"]),
     ];
-    for words in rows {
-        check(
-            &rt,
-            &Run {
-                words,
-                out: "",
-                errors: "vrptw: file\n",
-                status: 6,
-            },
-        );
+    for (name, paths) in rows {
+        let printed = run(&rt, &["solve", paths[0], paths[1], paths[2]]);
+        assert_fault(&rt, name, &printed, "vrptw: file\n", 6);
     }
     assert!(rt; fs::read(&rt, "none_solution").is_err());
     assert!(rt; fs::read(&rt, "none_certificate").is_err());
-    assert_file(&rt, "had_solution", "")?;
+    assert_file(&rt, "no bound", "had_solution", "")?;
+    assert_file(&rt, "the instance", "had", text.as_str())?;
     Ok(())
 }
 
 #[test]
 fn wrong_words_end_with_status_2_and_help_with_0(rt: HostRuntime) -> Result<(), Fail> {
-    let rows: [(&[&str], u8); 5] = [
-        (&[], 2),
-        (&["solve"], 2),
-        (&["solve", "a", "b", "c", "d"], 2),
-        (&["price", "a", "b", "c"], 2),
-        (&["--help"], 0),
+    let rows: [(&str, &[&str], u8); 5] = [
+        ("no word", &[], 2),
+        ("no path", &["solve"], 2),
+        ("a path too many", &["solve", "a", "b", "c", "d"], 2),
+        ("no command", &["price", "a", "b", "c"], 2),
+        ("help", &["--help"], 0),
     ];
-    for (words, expected) in rows {
-        let mut out = MemorySink::new(rt.alloc());
-        let mut errors = MemorySink::new(rt.alloc());
-        let status = run_words(&rt, rt.alloc(), words, &mut out, &mut errors);
-        assert_eq!(rt; status, expected);
+    for (name, words, expected) in rows {
+        let printed = run(&rt, words);
+        assert_eq!(rt; printed.status, expected, "{name}");
         // The text stands on one of the two.
-        assert!(rt; out.as_slice().is_empty() == (expected == 2));
-        assert!(rt; errors.as_slice().is_empty() == (expected == 0));
+        assert!(rt; printed.out.as_slice().is_empty() == (expected == 2), "{name}");
+        assert!(rt; printed.errors.as_slice().is_empty() == (expected == 0), "{name}");
+    }
+    Ok(())
+}
+
+#[test]
+fn words_that_cannot_be_had_are_told(rt: HostRuntime) -> Result<(), Fail> {
+    let rows: [(io::ErrorKind, &str, u8); 3] = [
+        (io::ErrorKind::InvalidData, "error: invalid UTF-8", 2),
+        (io::ErrorKind::OutOfMemory, "vrptw: memory\n", 4),
+        (io::ErrorKind::Other, "vrptw: file\n", 6),
+    ];
+    for (kind, line, expected) in rows {
+        let mut errors = MemorySink::new(rt.alloc());
+        let status = words_fault(rt.alloc(), &io::Error::from(kind), &mut errors);
+        assert_eq!(rt; status, expected, "{line}");
+        assert!(rt; errors.as_slice().starts_with(line.as_bytes()), "{line}");
     }
     Ok(())
 }

@@ -2,14 +2,13 @@
 use Rattle.std.specs.Prelude.{◌≡◌, ℕ, ◌+◌, ◌≤◌, List, ◌++◌, length, ℤ, codes, nat_abs, max, decimal}
 use Rattle.std.specs.Fmt.{signed_decimal}
 use Rattle.std.specs.List.{flat_map, AllByRecursion}
-use Rattle.tenths.specs.Text.{tenths_text}
+use Rattle.tenths.specs.Text.{line, spaced, tenths_text}
 use Rattle.tenths.specs.declared.value.TheConstants.{MOST_TENTHS}
 use Rattle.solomon_reader.specs.declared.limits.TheConstants.{MOST_CUSTOMERS, MOST_NEIGHBOURS, MOST_PRICE, MOST_LEAVES, MOST_DEPTH}
 use Rattle.solomon_reader.specs.Problem.{Problem, customer_count}
 use Rattle.solomon_reader.specs.Layout.{IsName}
 use Rattle.solomon_reader.specs.Region.{Region, IsUndecided, used_child, unused_child, root_region}
-use Rattle.solomon_reader.specs.Bound.{Version, version_1, version_2, Tree, leaf, split, IsTreeBound}
-use Rattle.solomon_reader.specs.SolutionText.{line, spaced}
+use Rattle.solomon_reader.specs.Bound.{Version, version_1, version_2, Tree, leaf, split, Node, preorder, IsTreeBound}
 
 pub record Certificate : Type 0 where
   pub version : Version
@@ -61,9 +60,13 @@ abbrev pub node_lines : Tree → List ℕ
 node_lines (leaf prices) = leaf_line prices
 node_lines (split a used unused) = split_line a ++ node_lines used ++ node_lines unused
 
+-- how a text of the version begins
+abbrev pub version_text : Version → List ℕ
+version_text version_1 = codes "VRPTW-CERT 1"
+version_text version_2 = codes "VRPTW-CERT 2"
+
 abbrev pub first_line : Version → List ℕ
-first_line version_1 = line (codes "VRPTW-CERT 1")
-first_line version_2 = line (codes "VRPTW-CERT 2")
+first_line version = line (version_text version)
 
 -- the lines before the nodes
 abbrev pub head_lines : Certificate → List ℕ
@@ -72,6 +75,32 @@ head_lines c = first_line c.version ++ line (codes "INSTANCE " ++ c.name) ++ lin
 
 abbrev pub certificate_text : Certificate → List ℕ
 certificate_text c = head_lines c ++ node_lines c.tree ++ line (codes "END")
+
+-- what a certificate holds, its tree as a list of nodes
+pub record Content : Type 0 where
+  pub version : Version
+  pub name : List ℕ
+  pub size : ℕ
+  pub neighbours : ℕ
+  pub bound : ℕ
+  pub nodes : List Node
+
+-- a certificate with its tree as a list
+abbrev pub listed : Certificate → Content
+listed c = record { version = c.version; name = c.name; size = c.size; neighbours = c.neighbours; bound = c.bound; nodes = preorder c.tree }
+
+-- these are the contents of a certificate, so they have a text
+pub record HasText (x : Content) : Type 0 where
+  pub certificate : Certificate
+  pub shaped : IsCertificate certificate
+  pub is : x ≡ listed certificate
+
+-- the text is that of a certificate with these contents
+pub record IsCertificateText (text : List ℕ) (x : Content) : Type 0 where
+  pub certificate : Certificate
+  pub shaped : IsCertificate certificate
+  pub is : x ≡ listed certificate
+  pub spelled : text ≡ certificate_text certificate
 
 -- The instance accepts the text: it is that of a certificate with the instance's name and size, and with the bound of its tree.
 pub record IsAccepted (p : Problem) (text : List ℕ) : Type 0 where

@@ -1,15 +1,10 @@
 -- The text of a solution: a line for each route, and then its cost.
-use Rattle.std.specs.Prelude.{ℕ, ◌+◌, List, [], ◌∷◌, ◌++◌, codes, decimal}
-use Rattle.std.specs.List.{flat_map}
+use Rattle.std.specs.Prelude.{◌≡◌, ℕ, ◌+◌, ◌≤◌, List, [], ◌∷◌, ◌++◌, length, codes, decimal}
+use Rattle.std.specs.Int.{IsInRange}
+use Rattle.std.specs.List.{flat_map, AllByRecursion}
 use Rattle.tenths.specs.Text.{tenths_text}
-
--- a text, and the line feed that ends it
-abbrev pub line : List ℕ → List ℕ
-line text = text ++ codes "\n"
-
--- a word after a space
-abbrev pub spaced : List ℕ → List ℕ
-spaced word = codes " " ++ word
+use Rattle.tenths.specs.declared.value.TheConstants.{MOST_TENTHS}
+pub use Rattle.tenths.specs.Text.{line, spaced}
 
 -- as `Route #2: 4 1`
 abbrev pub route_line : ℕ → List ℕ → List ℕ
@@ -25,3 +20,18 @@ cost_line cost = line (codes "Cost " ++ tenths_text cost)
 
 abbrev pub solution_text : List (List ℕ) → ℕ → List ℕ
 solution_text routes cost = route_lines 1 routes ++ cost_line cost
+
+-- a route of a text: some customers, each numbered from 1 to 9,999
+abbrev pub IsRoute : List ℕ → Type 0
+IsRoute r = (1 ≤ length r) × AllByRecursion (IsInRange 1 9999) r
+
+-- what has a text: one route or more, and a cost
+pub record IsSolution (routes : List (List ℕ)) (cost : ℕ) : Type 0 where
+  pub some : 1 ≤ length routes
+  pub each : AllByRecursion IsRoute routes
+  pub within : cost ≤ MOST_TENTHS
+
+-- the text is that of these routes at this cost
+pub record IsSolutionText (text : List ℕ) (routes : List (List ℕ)) (cost : ℕ) : Type 0 where
+  pub shaped : IsSolution routes cost
+  pub spelled : text ≡ solution_text routes cost

@@ -1,10 +1,10 @@
 -- How writes add up.
-use Rattle.std.proofs.Common.{◌≡◌, ℕ, zero, suc, get_or, length, ◌+◌, ◌<◌, List, [], ◌∷◌, ◌++◌, take, drop, Option, Some, None, Result, Ok, Err, refl, sym, ap, ◌∙◌, append_assoc, arith}
+use Rattle.std.proofs.Common.{◌≡◌, ℕ, zero, suc, get_or, length, ◌<◌, List, [], ◌∷◌, ◌++◌, take, drop, Option, Some, None, Result, Ok, Err, refl, sym, ap, ◌∙◌, append_assoc, arith}
 use Rattle.std.specs.Prelude.{IsErr}
 use Rattle.std.specs.List.{flat_map}
 use Rattle.std.specs.Io.KnownBytes.{Appends, Keeps}
 use Rattle.std.proofs.lemmas.List.{take-append-drop, append-nil}
-use Rattle.tenths.specs.Sink.{AppendsBeginning, WritesText, FailsOnErr}
+use Rattle.tenths.specs.Sink.{AppendsBeginning, WritesText}
 
 pub Appends-none : (s : Option (List ℕ)) → Appends s s []
 Appends-none None = tt

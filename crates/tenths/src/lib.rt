@@ -1,6 +1,11 @@
-//! Whole tenths, distances between points, and the sinks that texts are written to.
+//! Whole tenths, distances between points, the sinks that texts are written to, and texts cut into
+//! parts, with the numbers in them.
 #![tactic(auto)]
 
+mod laws;
+mod lines;
+mod numbers;
+mod parts;
 mod places;
 mod sink;
 mod sinks;
@@ -8,9 +13,13 @@ mod table;
 mod value;
 mod writing;
 
+pub use laws::one_text_each;
+pub use lines::Lines;
+pub use numbers::{NUMBER_CAP, number, read_tenths, signed};
+pub use parts::Parts;
 pub use places::{Point, distance, root};
 pub use sink::{Sink, SinkFault};
 pub use sinks::{MemorySink, StdSink};
 pub use table::{Table, TableFault};
 pub use value::{MOST_TENTHS, Tenths};
-pub use writing::{Device, write_pieces, write_tenths, write_text};
+pub use writing::{Device, write_number_line, write_pieces, write_tenths, write_text};

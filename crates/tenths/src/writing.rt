@@ -1,13 +1,13 @@
 //! Texts, written to a sink.
 
-ghost use Rattle.std.specs.Prelude.{◌≡◌, ◌+◌, ◌<◌, ◌≤◌, ℕ, List, length};
+ghost use Rattle.std.specs.Prelude.{◌++◌};
 ghost use Rattle.std.specs.List.{flat_map};
 ghost use Rattle.tenths.specs.Sink.{WritesText, FailsOnErr};
-ghost use Rattle.tenths.specs.Text.{tenths_text};
+ghost use Rattle.tenths.specs.Text.{line, spaced, tenths_text};
 
 use crate::sink::Sink;
 use crate::value::Tenths;
-use itoa::Buffer;
+use itoa::{Buffer, Integer};
 use thiserror::Error;
 
 /// A sink failed while a text was written.
@@ -39,6 +39,42 @@ pub fn write_pieces<W: Sink>(pieces: &[&[u8]], sink: &mut W) -> Result<(), Devic
         write_text(piece, sink)?;
     }
     Ok(())
+}
+
+/// Writes a number after a space. `Device` as for `write_text`.
+fn write_spaced<N: Integer, W: Sink>(number: N, sink: &mut W) -> Result<(), Device>
+    ensures bytes { WritesText (W.taken sink.old) (W.taken sink.new) result (spaced (N.text number)) }
+    ensures failures { FailsOnErr (W.failures sink.old) (W.failures sink.new) result }
+{
+    let mut buffer = Buffer::new();
+    write_pieces(&[b" ", buffer.format(number).as_bytes()], sink)
+}
+
+/// Writes each number after a space. `Device` as for `write_text`.
+fn write_numbers<N: Integer, W: Sink>(numbers: &[N], sink: &mut W) -> Result<(), Device>
+    ensures bytes { WritesText (W.taken sink.old) (W.taken sink.new) result (flat_map (λ n. spaced (N.text n)) numbers.now) }
+    ensures failures { FailsOnErr (W.failures sink.old) (W.failures sink.new) result }
+{
+    for number in numbers {
+        write_spaced(*number, sink)?;
+    }
+    Ok(())
+}
+
+/// Writes a line: its first pieces one after another, and then each number after a space. `Device`
+/// as for `write_text`.
+pub fn write_number_line<N: Integer, W: Sink>(
+    front: &[&[u8]],
+    numbers: &[N],
+    sink: &mut W,
+) -> Result<(), Device>
+    ensures bytes { WritesText (W.taken sink.old) (W.taken sink.new) result
+        (line (flat_map (λ piece. piece.now) front.now ++ flat_map (λ n. spaced (N.text n)) numbers.now)) }
+    ensures failures { FailsOnErr (W.failures sink.old) (W.failures sink.new) result }
+{
+    write_pieces(front, sink)?;
+    write_numbers(numbers, sink)?;
+    write_text(b"\n", sink)
 }
 
 /// Writes a number of tenths as its whole part, a point and one digit. `Device` as for `write_text`.

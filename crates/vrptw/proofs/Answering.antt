@@ -9,13 +9,15 @@ use Rattle.vrptw.specs.declared.settings.Settings.{Settings}
 use Rattle.vrptw.specs.Settings.{IsWithin}
 use Rattle.vrptw.specs.Answers.{Held, Solves, WritesBoth}
 
-answered : (text : List ℕ) (settings : Settings) (p : Problem) (s s' c c' : Held) (r : Result Answer SolveFault) → IsInstance text p → IsWithin settings → WritesBoth p s s' c c' r → Solves text settings s s' c c' r
-answered text settings p s s' c c' (Ok answer) is within both = (p, is, within, both)
-answered text settings p s s' c c' (Err Memory) is within both = absurd (let e : Memory ≡ Device = both.0 in cc)
-answered text settings p s s' c c' (Err (Instance f)) is within both = absurd (let e : Instance f ≡ Device = both.0 in cc)
-answered text settings p s s' c c' (Err BadSettings) is within both = absurd (let e : BadSettings ≡ Device = both.0 in cc)
-answered text settings p s s' c c' (Err LabelLimit) is within both = absurd (let e : LabelLimit ≡ Device = both.0 in cc)
-answered text settings p s s' c c' (Err Device) is within both = (p, is, within, both.1)
+module _ (text : List ℕ) (settings : Settings) (p : Problem) (s s' c c' : Held) (is : IsInstance text p) (within : IsWithin settings) where
+  answered : (r : Result Answer SolveFault) → WritesBoth p settings.neighbours s s' c c' r → Solves text settings s s' c c' r
+  answered (Ok answer) both = (p, is, within, both)
+  answered (Err Memory) both = absurd (let e : Memory ≡ Device = both.0 in cc)
+  answered (Err (Instance f)) both = absurd (let e : Instance f ≡ Device = both.0 in cc)
+  answered (Err BadSettings) both = absurd (let e : BadSettings ≡ Device = both.0 in cc)
+  answered (Err LabelLimit) both = absurd (let e : LabelLimit ≡ Device = both.0 in cc)
+  answered (Err Device) both = (p, is, within, both.1)
 
-pub solved : (text : List ℕ) (settings : Settings) (p q : Problem) (s s' c c' : Held) (r : Result Answer SolveFault) → IsInstance text p → IsWithin settings → q ≡ p → WritesBoth q s s' c c' r → Solves text settings s s' c c' r
-solved text settings p q s s' c c' r is within same both = answered text settings p s s' c c' r is within (subst (λ o. WritesBoth o s s' c c' r) same both)
+  pub solved : (q : Problem) (k : ℕ) (r : Result Answer SolveFault) → q ≡ p → k ≡ settings.neighbours → WritesBoth q k s s' c c' r → Solves text settings s s' c c' r
+  solved q k r same_problem same_neighbours both =
+      answered r (subst (λ o. WritesBoth o settings.neighbours s s' c c' r) same_problem (subst (λ n. WritesBoth q n s s' c c' r) same_neighbours both))

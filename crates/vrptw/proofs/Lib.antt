@@ -1,4 +1,5 @@
 mod Refusals
 mod Steps
-pub mod LeafBound
 pub mod Answering
+pub mod BoundTexts
+pub mod OutcomeTrees

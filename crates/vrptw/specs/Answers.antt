@@ -8,7 +8,7 @@ use Rattle.solomon_reader.specs.Layout.{IsInstance}
 use Rattle.solomon_reader.specs.Reading.{reading}
 use Rattle.solomon_reader.specs.Plan.{IsPlan, plan_cost}
 use Rattle.solomon_reader.specs.Moves.{IsLocalOptimum}
-use Rattle.solomon_reader.specs.Bound.{ceiling_of}
+use Rattle.solomon_reader.specs.Bound.{version_2, ceiling_of}
 use Rattle.solomon_reader.specs.SolutionText.{solution_text}
 use Rattle.solomon_reader.specs.CertificateText.{IsAccepted}
 use Rattle.solomon_reader.specs.declared.fault.ReadFault.TheVariants as read
@@ -28,9 +28,11 @@ pub record IsPlanText (p : Problem) (cost : ℕ) (text : List ℕ) : Type 0 wher
   pub exact : plan_cost p routes ≡ cost
   pub spelled : text ≡ solution_text routes cost
 
--- the instance accepts the text with this bound, and every plan costs at least the bound
-pub record IsBoundText (p : Problem) (bound : ℕ) (text : List ℕ) : Type 0 where
+-- the instance accepts the text with this bound, which is for so many neighbours; every plan costs at least the bound
+pub record IsBoundText (p : Problem) (k bound : ℕ) (text : List ℕ) : Type 0 where
   pub accepted : IsAccepted p text
+  pub version : accepted.certificate.version ≡ version_2
+  pub neighbours : accepted.certificate.neighbours ≡ k
   pub printed : accepted.certificate.bound ≡ bound
   pub holds : (routes : List (List ℕ)) → IsPlan p routes → bound ≤ plan_cost p routes
 
@@ -59,22 +61,27 @@ Writes Is old new (Ok u) = Took old new Is
 Writes Is old new (Err e) = (e ≡ fault.Device) × Broke old new Is
 
 -- The answer, with the first sink's plan and the second sink's bound.
-abbrev pub Answers : Problem → Held → Held → Held → Held → Answer → Type 0
-Answers p s s' c c' (Best cost) = Took s s' (IsPlanText p cost) × Took c c' (IsBoundText p cost)
-Answers p s s' c c' (Gap cost bound) = Took s s' (IsPlanText p cost) × Took c c' (IsBoundText p bound) × (cost ≢ bound)
-Answers p s s' c c' NoPlan = (s' ≡ s) × Took c c' (IsBoundText p (ceiling_of p + 1)) × ((routes : List (List ℕ)) → ¬ IsPlan p routes)
-Answers p s s' c c' (Open bound) = (s' ≡ s) × Took c c' (IsBoundText p bound) × (bound ≤ ceiling_of p) × (¬ IsServedAlone p)
+abbrev pub Answers : Problem → ℕ → Held → Held → Held → Held → Answer → Type 0
+Answers p k s s' c c' (Best cost) = Took s s' (IsPlanText p cost) × Took c c' (IsBoundText p k cost)
+Answers p k s s' c c' (Gap cost bound) = Took s s' (IsPlanText p cost) × Took c c' (IsBoundText p k bound) × (cost ≢ bound)
+Answers p k s s' c c' NoPlan = (s' ≡ s) × Took c c' (IsBoundText p k (ceiling_of p + 1)) × ((routes : List (List ℕ)) → ¬ IsPlan p routes)
+Answers p k s s' c c' (Open bound) = (s' ≡ s) × Took c c' (IsBoundText p k bound) × (bound ≤ ceiling_of p) × (¬ IsServedAlone p)
 
--- A sink failed: the first, and the second took nothing; or the second, after the first took all or nothing was for it.
-abbrev pub Breaks : Problem → Held → Held → Held → Held → Type 0
-Breaks p s s' c c' =
-    ((cost : ℕ) × Broke s s' (IsPlanText p cost) × (c' ≡ c))
-    ⊎ (((s' ≡ s) ⊎ ((cost : ℕ) × Took s s' (IsPlanText p cost))) × ((bound : ℕ) × Broke c c' (IsBoundText p bound)))
+-- The first sink failed while it was given a plan, and the second took nothing.
+abbrev pub BreaksFirst : Problem → Held → Held → Held → Held → Type 0
+BreaksFirst p s s' c c' = (cost : ℕ) × Broke s s' (IsPlanText p cost) × (c' ≡ c)
+
+-- The second sink failed, after the first took all of a plan, or where no plan was found and nothing was for the first.
+abbrev pub BreaksSecond : Problem → ℕ → Held → Held → Held → Held → Type 0
+BreaksSecond p k s s' c c' = (((cost : ℕ) × Took s s' (IsPlanText p cost)) ⊎ ((s' ≡ s) × (¬ IsServedAlone p))) × ((bound : ℕ) × Broke c c' (IsBoundText p k bound))
+
+abbrev pub Breaks : Problem → ℕ → Held → Held → Held → Held → Type 0
+Breaks p k s s' c c' = BreaksFirst p s s' c c' ⊎ BreaksSecond p k s s' c c'
 
 -- what becomes of the two texts of an outcome
-abbrev pub WritesBoth : Problem → Held → Held → Held → Held → Result Answer SolveFault → Type 0
-WritesBoth p s s' c c' (Ok answer) = Answers p s s' c c' answer
-WritesBoth p s s' c c' (Err e) = (e ≡ fault.Device) × Breaks p s s' c c'
+abbrev pub WritesBoth : Problem → ℕ → Held → Held → Held → Held → Result Answer SolveFault → Type 0
+WritesBoth p k s s' c c' (Ok answer) = Answers p k s s' c c' answer
+WritesBoth p k s s' c c' (Err e) = (e ≡ fault.Device) × Breaks p k s s' c c'
 
 -- why a text gives no instance: it has this fault, or memory was refused
 abbrev pub RefusesText : List ℕ → SolveFault → Type 0
@@ -86,9 +93,9 @@ RefusesText text fault.Device = ⊥
 
 -- What the solver does with the text of an instance, within the settings: each refusal is the first that holds, and all but the last come before the first write.
 abbrev pub Solves : List ℕ → Settings → Held → Held → Held → Held → Result Answer SolveFault → Type 0
-Solves text settings s s' c c' (Ok answer) = (p : Problem) × IsInstance text p × IsWithin settings × Answers p s s' c c' answer
+Solves text settings s s' c c' (Ok answer) = (p : Problem) × IsInstance text p × IsWithin settings × Answers p settings.neighbours s s' c c' answer
 Solves text settings s s' c c' (Err fault.Memory) = (s' ≡ s) × (c' ≡ c)
 Solves text settings s s' c c' (Err (fault.Instance f)) = (reading (words text) ≡ Err f) × (f ≢ read.Memory) × (s' ≡ s) × (c' ≡ c)
 Solves text settings s s' c c' (Err fault.BadSettings) = ((p : Problem) × IsInstance text p) × (¬ IsWithin settings) × (s' ≡ s) × (c' ≡ c)
 Solves text settings s s' c c' (Err fault.LabelLimit) = ((p : Problem) × IsInstance text p) × IsWithin settings × (s' ≡ s) × (c' ≡ c)
-Solves text settings s s' c c' (Err fault.Device) = (p : Problem) × IsInstance text p × IsWithin settings × Breaks p s s' c c'
+Solves text settings s s' c c' (Err fault.Device) = (p : Problem) × IsInstance text p × IsWithin settings × Breaks p settings.neighbours s s' c c'

@@ -1,5 +1,6 @@
 pub mod Settings
 pub mod Commands
 pub mod Jobs
-pub mod Leaf
+pub mod Certified
+pub mod Searches
 pub mod Answers

@@ -3,12 +3,10 @@
 ghost use Rattle.std.specs.Prelude.{◌≡◌};
 ghost use Rattle.vrptw.specs.declared.answer.SolveFault.TheVariants as fault;
 
-use incumbent_book::OpenFault;
 use search::SearchFault;
-use sol_writer::WriteFault;
 use solomon_reader::ReadFault;
 use std::alloc::AllocError;
-use tenths::{Device, Tenths};
+use tenths::Tenths;
 use thiserror::Error;
 
 /// The answer for an instance; costs and bounds are tenths of a unit.
@@ -54,34 +52,10 @@ impl From<AllocError> for SolveFault {
     }
 }
 
-impl From<OpenFault> for SolveFault {
-    ghost from_gives = { λ _ e. e ≡ fault.Memory };
-
-    fn from(_e: OpenFault) -> SolveFault {
-        SolveFault::Memory
-    }
-}
-
 impl From<SearchFault> for SolveFault {
     ghost from_gives = { λ _ e. e ≡ fault.Memory };
 
     fn from(_e: SearchFault) -> SolveFault {
         SolveFault::Memory
-    }
-}
-
-impl From<Device> for SolveFault {
-    ghost from_gives = { λ _ e. e ≡ fault.Device };
-
-    fn from(_e: Device) -> SolveFault {
-        SolveFault::Device
-    }
-}
-
-impl From<WriteFault> for SolveFault {
-    ghost from_gives = { λ _ e. e ≡ fault.Device };
-
-    fn from(_e: WriteFault) -> SolveFault {
-        SolveFault::Device
     }
 }

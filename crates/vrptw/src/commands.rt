@@ -28,8 +28,16 @@ fn solve_command<'a>(alloc: Global) -> Result<Command<'a>, AllocError>
     Command::new(alloc, "solve")
         .about("Finds a plan and a certificate of a lower bound on every plan's cost")
         .arg(path(alloc, "INSTANCE", "The file to read the instance from"))?
-        .arg(path(alloc, "SOLUTION", "The file to write the plan to"))?
-        .arg(path(alloc, "CERTIFICATE", "The file to write the certificate to"))
+        .arg(path(
+            alloc,
+            "SOLUTION",
+            "The file to write the plan to, emptied before the solving",
+        ))?
+        .arg(path(
+            alloc,
+            "CERTIFICATE",
+            "The file to write the certificate to, emptied before the solving; no two paths may be the same",
+        ))
 }
 
 fn vrptw_command<'a>(alloc: Global) -> Result<Command<'a>, AllocError>
@@ -89,6 +97,15 @@ fn refusal(alloc: Global) -> UsageFault {
         Ok(error) => UsageFault::Usage(error),
         Err(_) => UsageFault::Memory,
     }
+}
+
+/// What is said of words that aren't UTF-8, as clap says it.
+pub(crate) fn wrong_words(alloc: Global) -> Result<String, AllocError> {
+    let error = Command::new(alloc, PROGRAM).error(
+        ErrorKind::ValueValidation,
+        "invalid UTF-8 was detected in one or more arguments",
+    )?;
+    error.to_string(alloc)
 }
 
 /// The job that the words after the program's name ask for.

@@ -3,11 +3,11 @@
 #![tactic(auto)]
 
 mod answer;
-mod bounding;
-mod certificate_text;
+mod certifying;
 mod commands;
 mod gate;
 mod jobs;
+mod lines;
 mod opening;
 mod program;
 mod settings;
@@ -17,6 +17,7 @@ pub use answer::{Answer, SolveFault};
 pub use commands::job;
 pub use gate::{Gate, GatePoint, NoGate};
 pub use jobs::{Job, UsageFault};
+pub use lines::words_fault;
 pub use program::run_words;
 pub use settings::{MOST_BOUNDERS, MOST_LABELS, MOST_SEARCHERS, MOST_TURNS, Settings};
 pub use solving::solve;

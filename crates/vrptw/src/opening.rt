@@ -1,14 +1,28 @@
-//! The first plan of a search.
+//! The opening of a search: the root with its first prices, the first plans, and the book of both.
 
-ghost use Rattle.std.specs.Prelude.{◌≡◌, IfOk, IfErr, MatchOption};
+ghost use Rattle.std.specs.Prelude.{◌≡◌, ◌≢◌, ◌+◌, ◌<◌, ◌≤◌, ◌⊎◌, None, length, IfOk, IfErr, OnOk, MatchOption};
+ghost use Rattle.std.specs.List.{AllByRecursion};
+ghost use Rattle.solomon_reader.specs.Problem.{customer_count};
+ghost use Rattle.solomon_reader.specs.CertificateText.{IsPrice};
+ghost use Rattle.solomon_reader.specs.Moves.{IsLocalOptimum};
+ghost use Rattle.solomon_reader.specs.Region.{root_region};
+ghost use Rattle.solomon_reader.specs.declared.limits.TheConstants.{MOST_EVENTS, MOST_NEIGHBOURS};
 ghost use Rattle.insertion.specs.Building.{IsServedAlone};
-ghost use Rattle.vrptw.specs.declared.answer.SolveFault.TheVariants.{Memory};
+ghost use Rattle.vrptw.specs.Searches.{IsOneOn};
+ghost use Rattle.vrptw.specs.declared.answer.SolveFault.TheVariants.{Memory, LabelLimit};
 
 use crate::answer::SolveFault;
+use crate::settings::Settings;
+use branching::Region;
+use incumbent_book::{Book, BookFault, OpenFault, Outcome};
 use insertion::{Built, InsertFault, Weights, build};
+use prices::{PriceFault, Priced, improve};
+use rand_core::SeedableRng;
+use rand_xoshiro::Xoshiro256PlusPlus;
 use schedule::Feasible;
+use search::Searcher;
 use solomon_reader::Instance;
-use std::alloc::Global;
+use std::alloc::{AllocError, Global};
 
 /// The weights of the first plan's insertion, in hundredths: of the arc that is spared, of the way
 /// from the depot, and of the detour, which alone counts at 100.
@@ -18,8 +32,56 @@ const FROM_DEPOT: u16 = 100;
 
 const DETOUR: u16 = 100;
 
+/// The worker that fills the book.
+const FIRST_WORKER: u16 = 0;
+
+/// The number of the root in a book.
+const ROOT: u32 = 0;
+
+/// The steps that raise the prices of the root, in grains.
+const STEPS: [i64; 7] = [64_000, 32_000, 16_000, 8_000, 4_000, 2_000, 1_000];
+
+/// A price of zero for each customer.
+fn no_prices(alloc: Global, instance: &Instance) -> Result<Vec<i64>, AllocError>
+    ensures len { IfOk result (λ prices. length prices.items ≡ customer_count instance.now) }
+    ensures priced { IfOk result (λ prices. AllByRecursion IsPrice prices.items) }
+{
+    let count = instance.customer_count();
+    Ok(vec![in alloc; 0; count as usize]?)
+}
+
+/// The root with prices of zero. `LabelLimit` where the labels don't suffice for them, and `Memory`.
+pub fn price_root<'i>(
+    alloc: Global,
+    instance: &'i Instance,
+    settings: &Settings,
+) -> Result<Priced<'i>, SolveFault>
+    requires few { settings.now.neighbours ≤ MOST_NEIGHBOURS }
+    ensures problem { IfOk result (λ f. f.problem ≡ instance.now) }
+    ensures region { IfOk result (λ f. f.region ≡ root_region (customer_count instance.now)) }
+    ensures neighbours { IfOk result (λ f. f.neighbours ≡ settings.now.neighbours) }
+    ensures refused { IfErr result (λ e. (e ≡ Memory) ⊎ (e ≡ LabelLimit)) }
+{
+    let prices = no_prices(alloc, instance)?;
+    let region = Region::root(alloc, instance.customer_count());
+    let limit = Some(settings.labels as usize);
+    match Priced::of(
+        alloc,
+        instance,
+        region,
+        settings.neighbours,
+        prices,
+        limit,
+    ) {
+        Ok(root) => Ok(root),
+        Err((_, _, PriceFault::Memory)) => Err(SolveFault::Memory),
+        Err((_, _, PriceFault::LabelLimit)) => Err(SolveFault::LabelLimit),
+        Err((_, _, PriceFault::PriceRange)) => unreachable!(),
+    }
+}
+
 /// The plan that insertion builds, if it serves every customer.
-pub fn first_plan<'i>(
+fn build_plan<'i>(
     alloc: Global,
     instance: &'i Instance,
 ) -> Result<Option<Feasible<'i>>, SolveFault>
@@ -34,4 +96,112 @@ pub fn first_plan<'i>(
         Ok(Built::Part { .. }) => Ok(None),
         Err(InsertFault::Memory) => Err(SolveFault::Memory),
     }
+}
+
+/// The plan that a descent leads to.
+pub fn descend<'i>(
+    alloc: Global,
+    plan: Feasible<'i>,
+    seed: u32,
+) -> Result<Feasible<'i>, SolveFault>
+    ensures problem { IfOk result (λ f. f.problem ≡ plan.entry.problem) }
+    ensures cost { IfOk result (λ f. f.cost ≤ plan.entry.cost) }
+    ensures optimum { IfOk result (λ f. IsLocalOptimum f.problem f.routes) }
+    ensures memory { IfErr result (λ e. e ≡ Memory) }
+{
+    let random = Xoshiro256PlusPlus::seed_from_u64(u64::from(seed));
+    let mut searcher = Searcher::new(alloc, plan, random);
+    searcher.descend()?;
+    Ok(searcher.into_plan())
+}
+
+/// A book of the root.
+fn open_book<'i>(alloc: Global, root: Priced<'i>) -> Result<Book<'i>, SolveFault>
+    requires { root.region ≡ root_region (customer_count root.problem) }
+    ensures problem { IfOk result (λ b. b.problem ≡ root.entry.problem) }
+    ensures neighbours { IfOk result (λ b. b.neighbours ≡ root.entry.neighbours) }
+    ensures limits { IfOk result (λ b. b.limits.events ≡ MOST_EVENTS) }
+    ensures events { IfOk result (λ b. length b.past ≡ 0) }
+    ensures memory { IfErr result (λ e. e ≡ Memory) }
+{
+    match Book::new(alloc, root) {
+        Ok(book) => Ok(book),
+        Err((_, OpenFault::Memory)) => Err(SolveFault::Memory),
+        Err(_) => unreachable!(),
+    }
+}
+
+/// Offers a plan to a book that has room for it.
+fn offer<'i>(book: &mut Book<'i>, plan: Feasible<'i>) -> Result<(), SolveFault>
+    requires problem { plan.problem ≡ book.old.problem }
+    requires room { length book.old.past < book.old.limits.events }
+    ensures one_on { IsOneOn book.old book.new }
+    ensures served { OnOk result (book.new.incumbent ≢ None) }
+    ensures memory { IfErr result (λ e. e ≡ Memory) }
+{
+    match book.offer(FIRST_WORKER, plan) {
+        Ok(_) => Ok(()),
+        Err((_, BookFault::Memory)) => Err(SolveFault::Memory),
+        Err(_) => unreachable!(),
+    }
+}
+
+/// Offers the first plan, if there is one, and what a descent makes of it where that is cheaper.
+fn offer_plans<'i>(
+    alloc: Global,
+    instance: &'i Instance,
+    book: &mut Book<'i>,
+    seed: u32,
+) -> Result<(), SolveFault>
+    requires problem { book.old.problem ≡ instance.now }
+    requires room { length book.old.past + 1 < book.old.limits.events }
+    ensures problem { book.new.problem ≡ book.old.problem }
+    ensures neighbours { book.new.neighbours ≡ book.old.neighbours }
+    ensures served { OnOk result (IsServedAlone instance.now → book.new.incumbent ≢ None) }
+    ensures memory { IfErr result (λ e. e ≡ Memory) }
+{
+    let Some(plan) = build_plan(alloc, instance)? else {
+        return Ok(());
+    };
+    let cost = plan.cost();
+    let copy = plan.try_clone()?;
+    offer(book, plan)?;
+    let lower = descend(alloc, copy, seed)?;
+    if lower.cost().get() < cost.get() {
+        offer(book, lower)?;
+    }
+    Ok(())
+}
+
+/// Gives the root the best prices that some steps lead to. A refusal leaves the book as it was.
+fn raise_root<'i>(alloc: Global, book: &mut Book<'i>, root: Priced<'i>, labels: u32)
+    ensures problem { book.new.problem ≡ book.old.problem }
+    ensures neighbours { book.new.neighbours ≡ book.old.neighbours }
+    ensures incumbent { book.new.incumbent ≡ book.old.incumbent }
+{
+    let raised = improve(alloc, root, &STEPS, Some(labels as usize));
+    // Where no step raised the value the book refuses, and where memory is refused the first prices
+    // still give a bound.
+    let _ = book.reprice(FIRST_WORKER, ROOT, raised);
+}
+
+/// The outcome of a book of the root that was offered the first plans, and whose root was raised.
+pub fn run_opening<'i>(
+    alloc: Global,
+    instance: &'i Instance,
+    root: Priced<'i>,
+    settings: &Settings,
+) -> Result<Outcome<'i>, SolveFault>
+    requires problem { root.problem ≡ instance.now }
+    requires region { root.region ≡ root_region (customer_count instance.now) }
+    ensures problem { IfOk result (λ o. o.problem ≡ instance.now) }
+    ensures neighbours { IfOk result (λ o. o.neighbours ≡ root.entry.neighbours) }
+    ensures served { IfOk result (λ o. IsServedAlone instance.now → o.incumbent ≢ None) }
+    ensures memory { IfErr result (λ e. e ≡ Memory) }
+{
+    let copy = root.try_clone()?;
+    let mut book = open_book(alloc, root)?;
+    offer_plans(alloc, instance, &mut book, settings.seed)?;
+    raise_root(alloc, &mut book, copy, settings.labels);
+    Ok(book.finish())
 }

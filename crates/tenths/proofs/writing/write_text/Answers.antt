@@ -1,5 +1,5 @@
-use Rattle.std.proofs.Common.{arith, ◌∙◌}
-use Rattle.tenths.proofs.Writes.{goes_on, ends_early}
+use Rattle.std.proofs.Common.{◌∙◌}
+use Rattle.tenths.proofs.Writes.{goes_on}
 use Rattle.tenths.proofs.writing.write_text.Goals as goal
 
 pub loop-rest-preserved : goal.loop-rest-preserved

@@ -1,0 +1,247 @@
+-- What is read as a certificate is one, and the text is its text.
+use Rattle.std.proofs.Common.{◌≡◌, ℕ, ◌≤◌, ◌<◌, ◌^◌, Bool, true, false, cond, List, [], ◌∷◌, ◌++◌, length, map, Option, Some, None, Ok, Err, refl, sym, ap, subst, ◌∙◌, append_assoc, arith, lit<}
+use Rattle.std.specs.Prelude.{nat_le, ◌&&◌, codes, decimal}
+use Rattle.std.specs.Int.{IsInRange}
+use Rattle.std.specs.List.{AllByRecursion, list_all}
+use Rattle.std.specs.Option.{option_map}
+use Rattle.std.specs.Str.{bytes_eq}
+use Rattle.std.proofs.lemmas.Slice.Eq.{bytes_eq-Decides}
+use Rattle.std.proofs.lemmas.Bool.Decides.{nat_tests}
+use Rattle.tenths.specs.Text.{tenths_text, spaced}
+use Rattle.tenths.specs.Parts.{parts}
+use Rattle.tenths.specs.Lines.{Left, is_end}
+use Rattle.tenths.specs.Numbers.{number_of, tenths_of, capped}
+use Rattle.tenths.proofs.Cuts.{joined, joined-parts, only_end}
+use Rattle.tenths.proofs.Joins.{joined-lines}
+use Rattle.tenths.proofs.Digits.{number_takes, both}
+use Rattle.tenths.proofs.Points.{tenths_takes}
+use Rattle.solomon_reader.specs.declared.limits.TheConstants.{MOST_NAME, MOST_CUSTOMERS, MOST_NEIGHBOURS, MOST_LEAVES, MOST_DEPTH}
+use Rattle.solomon_reader.specs.Layout.{IsName}
+use Rattle.solomon_reader.specs.Region.{root_region}
+use Rattle.solomon_reader.specs.Bound.{Version, version_1, version_2, Tree, Node, preorder}
+use Rattle.solomon_reader.specs.CertificateText.{version_text, leaf_count, Certificate, Content, listed, HasText, IsCertificateText}
+use Rattle.certificate.specs.declared.fault.CertFault.TheVariants.{BadLine, Extra}
+use Rattle.certificate.proofs.Paths.{IsTreeOn}
+use Rattle.certificate.specs.Text.{node_text, text_lines, content_text}
+use Rattle.tenths.specs.Reading.{◌>>=◌, check, value_or}
+use Rattle.certificate.specs.Reading.{next_at, fixed_at, second, field_at, is_name, name_at, within_from, within_at, bound_at, Head, sizes_at, version_in, version_at, title_at, head_at, tree_at, nodes_at, with_tree, reading}
+use Rattle.solomon_reader.specs.Words.{is_letter}
+use Rattle.tenths.proofs.Steps.{bind_ok, ok_is, test_ok}
+use Rattle.certificate.proofs.Trees.{TakesAll, tree_takes}
+use Rattle.certificate.proofs.Takes.{next_takes, TakesNode, node_takes}
+use Rattle.certificate.proofs.Paths.{decides_root, at_from_on}
+use Rattle.certificate.proofs.Spelling.{text_is}
+
+fixed_takes : (text : List ℕ) (st rest : Left) → fixed_at text st ≡ Ok rest → st.1 ≡ text ∷ rest.1
+unfolding fixed_at
+fixed_takes text st rest h =
+    let l = bind_ok (next_at st) (λ l. check (bytes_eq l.0 text) (BadLine st.0) l.1) rest h in
+    let t = test_ok (bytes_eq l.0.0 text) (BadLine st.0) l.0.1 rest l.2 in
+    next_takes st.0 st.1 l.0 l.1 ∙ ap (λ (x : List ℕ). x ∷ l.0.1.1) ((bytes_eq-Decides l.0.0 text).0 t.0) ∙ ap (λ (x : Left). text ∷ x.1) t.1
+
+second_takes : (k : ℕ) (text : List ℕ) (ws : List (List ℕ)) (w : List ℕ) → second k text ws ≡ Ok w → ws ≡ text ∷ w ∷ []
+second_takes k text [] w h = absurd cc
+second_takes k text (v ∷ []) w h = absurd cc
+second_takes k text (v ∷ x ∷ u ∷ ws) w h = absurd cc
+second_takes k text (v ∷ x ∷ []) w h =
+    let t = test_ok (bytes_eq v text) (BadLine k) x w h in
+    ap (λ (y : List ℕ). y ∷ x ∷ []) ((bytes_eq-Decides v text).0 t.0) ∙ ap (λ (y : List ℕ). text ∷ y ∷ []) t.1
+
+field_takes : (text : List ℕ) (st : Left) (f : List ℕ × Left) → field_at text st ≡ Ok f → st.1 ≡ (text ++ spaced f.0) ∷ f.1.1
+unfolding field_at
+field_takes text st f h =
+    let l = bind_ok (next_at st) (λ l. second st.0 text (parts 32 l.0) >>= λ w. Ok (w, l.1)) f h in
+    let w = bind_ok (second st.0 text (parts 32 l.0.0)) (λ w. Ok (w, l.0.1)) f l.2 in
+    let e = ok_is (w.0, l.0.1) f w.2 in
+    let line : l.0.0 ≡ text ++ spaced w.0 = sym (joined-parts 32 l.0.0) ∙ ap (λ (x : List (List ℕ)). joined 32 x) (second_takes st.0 text (parts 32 l.0.0) w.0 w.1) in
+    next_takes st.0 st.1 l.0 l.1 ∙ ap (λ (x : List ℕ). x ∷ l.0.1.1) line ∙ ap (λ (x : List ℕ × Left). (text ++ spaced x.0) ∷ x.1.1) e
+
+name_takes : (st : Left) (f : List ℕ × Left) → name_at st ≡ Ok f → (st.1 ≡ (codes "INSTANCE" ++ spaced f.0) ∷ f.1.1) × (is_name f.0 ≡ true)
+unfolding name_at
+name_takes st f h =
+    let w = bind_ok (field_at (codes "INSTANCE") st) (λ w. check (is_name w.0) (BadLine st.0) w) f h in
+    let t = test_ok (is_name w.0.0) (BadLine st.0) w.0 f w.2 in
+    subst (λ (x : List ℕ × Left). (st.1 ≡ (codes "INSTANCE" ++ spaced x.0) ∷ x.1.1) × (is_name x.0 ≡ true)) t.1 (field_takes (codes "INSTANCE") st w.0 w.1, t.0)
+
+within_number : (low high k : ℕ) (o : Option ℕ) (m : ℕ) → high < 1000000 → within_from low high k (option_map capped o) ≡ Ok m → (o ≡ Some m) × IsInRange low high m
+within_number low high k None m lt h = absurd cc
+within_number low high k (Some x) m lt h =
+    let t = test_ok (nat_le low (capped x) && nat_le (capped x) high) (BadLine k) (capped x) m h in
+    let r = tests (capped x) t.0 in
+    let same : x ≡ m = omega (arith, t.1, r.1) in
+    (ap (λ (y : ℕ). Some y) same, subst (λ (y : ℕ). IsInRange low high y) t.1 r)
+  where
+    tests : (m : ℕ) → (nat_le low m && nat_le m high) ≡ true → IsInRange low high m
+    tests m e = grind (arith, nat_tests)
+
+within_takes : (text : List ℕ) (low high : ℕ) (st : Left) (f : ℕ × Left) → high < 1000000 → within_at text low high st ≡ Ok f → (st.1 ≡ (text ++ spaced (decimal f.0)) ∷ f.1.1) × IsInRange low high f.0
+unfolding within_at
+within_takes text low high st f lt h =
+    let w = bind_ok (field_at text st) (λ w. within_from low high st.0 (option_map capped (number_of w.0)) >>= λ m. Ok (m, w.1)) f h in
+    let m = bind_ok (within_from low high st.0 (option_map capped (number_of w.0.0))) (λ m. Ok (m, w.0.1)) f w.2 in
+    let n = within_number low high st.0 (number_of w.0.0) m.0 lt m.1 in
+    let d : w.0.0 ≡ decimal m.0 = number_takes w.0.0 m.0 n.0 (omega (arith, n.1)) in
+    let line : st.1 ≡ (text ++ spaced (decimal m.0)) ∷ w.0.1.1 = field_takes text st w.0 w.1 ∙ ap (λ (x : List ℕ). (text ++ spaced x) ∷ w.0.1.1) d in
+    subst (λ (x : ℕ × Left). (st.1 ≡ (text ++ spaced (decimal x.0)) ∷ x.1.1) × IsInRange low high x.0) (ok_is (m.0, w.0.1) f m.2) (line, n.1)
+
+tenths_number : (k : ℕ) (w : List ℕ) (o : Option ℕ) (t : ℕ) → tenths_of w ≡ o → value_or (BadLine k) o ≡ Ok t → (w ≡ tenths_text t) × (t < 10 ^ 13)
+tenths_number k w None t e h = absurd cc
+tenths_number k w (Some u) t e h = subst (λ (x : ℕ). (w ≡ tenths_text x) × (x < 10 ^ 13)) (ok_is u t h) (tenths_takes w u e)
+
+bound_takes : (st : Left) (f : ℕ × Left) → bound_at st ≡ Ok f → (st.1 ≡ (codes "BOUND" ++ spaced (tenths_text f.0)) ∷ f.1.1) × (f.0 < 10 ^ 13)
+unfolding bound_at
+bound_takes st f h =
+    let w = bind_ok (field_at (codes "BOUND") st) (λ w. value_or (BadLine st.0) (tenths_of w.0) >>= λ t. Ok (t, w.1)) f h in
+    let t = bind_ok (value_or (BadLine st.0) (tenths_of w.0.0)) (λ t. Ok (t, w.0.1)) f w.2 in
+    let n = tenths_number st.0 w.0.0 (tenths_of w.0.0) t.0 refl t.1 in
+    let line : st.1 ≡ (codes "BOUND" ++ spaced (tenths_text t.0)) ∷ w.0.1.1 = field_takes (codes "BOUND") st w.0 w.1 ∙ ap (λ (x : List ℕ). (codes "BOUND" ++ spaced x) ∷ w.0.1.1) n.0 in
+    subst (λ (x : ℕ × Left). (st.1 ≡ (codes "BOUND" ++ spaced (tenths_text x.0)) ∷ x.1.1) × (x.0 < 10 ^ 13)) (ok_is (t.0, w.0.1) f t.2) (line, n.1)
+
+-- ---- the tree
+
+all_taken : (n : ℕ) (lt : n < 1000000) (st : Left) (xs : List Node) (rest : Left) → TakesAll n TakesNode (node_takes n lt) st xs rest → st.1 ≡ map node_text xs ++ rest.1
+all_taken n lt st [] rest h = ap (λ (x : Left). x.1) h
+all_taken n lt st (x ∷ xs) rest h = h.1 ∙ ap (λ (y : List (List ℕ)). node_text x ∷ y) (all_taken n lt h.0 xs rest h.2)
+
+pub record IsTreeRead (n : ℕ) (st : Left) (nodes : List Node) (rest : Left) : Type 0 where
+  pub lines : st.1 ≡ codes "TREE" ∷ (map node_text nodes ++ (codes "END" ∷ rest.1))
+  pub tree : Tree
+  pub preorder : nodes ≡ preorder tree
+  pub shaped : IsTreeOn n [] MOST_DEPTH tree
+  pub leaves : leaf_count tree ≤ MOST_LEAVES
+
+pub nodes_take : (n : ℕ) (st : Left) (f : List Node × Left) → n < 1000000 → nodes_at n st ≡ Ok f → IsTreeRead n st f.0 f.1
+unfolding nodes_at
+nodes_take n st f lt h =
+    let a = bind_ok (fixed_at (codes "TREE") st) (λ a. tree_at n MOST_DEPTH [] MOST_LEAVES a >>= λ t. fixed_at (codes "END") t.1.1 >>= λ b. Ok (t.0, b)) f h in
+    let t = bind_ok (tree_at n MOST_DEPTH [] MOST_LEAVES a.0) (λ t. fixed_at (codes "END") t.1.1 >>= λ b. Ok (t.0, b)) f a.2 in
+    let b = bind_ok (fixed_at (codes "END") t.0.1.1) (λ b. Ok (t.0.0, b)) f t.2 in
+    let r = tree_takes n TakesNode (node_takes n lt) MOST_DEPTH [] MOST_LEAVES a.0 t.0 t.1 in
+    let lines : st.1 ≡ codes "TREE" ∷ (map node_text t.0.0 ++ (codes "END" ∷ b.0.1)) =
+    fixed_takes (codes "TREE") st a.0 a.1 ∙ ap (λ (x : List (List ℕ)). codes "TREE" ∷ x)
+    (all_taken n lt a.0 t.0.0 t.0.1.1 r.spelled ∙ ap (λ (x : List (List ℕ)). map node_text t.0.0 ++ x) (fixed_takes (codes "END") t.0.1.1 b.0 b.1)) in
+    subst (λ (x : List Node × Left). IsTreeRead n st x.0 x.1) (ok_is (t.0.0, b.0) f b.2)
+    (record { lines = lines; tree = r.tree; preorder = r.preorder; shaped = r.shaped; leaves = omega (arith, r.counted) })
+
+-- ---- the lines before the tree
+
+byte_test : (b : ℕ) → is_letter b ≡ true → (33 ≤ b) × (b ≤ 126)
+byte_test b h = grind (arith, nat_tests)
+
+name_bytes : (w : List ℕ) → list_all is_letter w ≡ true → AllByRecursion (λ b. (33 ≤ b) × (b ≤ 126)) w
+name_bytes [] h = tt
+name_bytes (b ∷ w) h = let p = both (is_letter b) (list_all is_letter w) h in (byte_test b p.0, name_bytes w p.1)
+
+pub name_is : (w : List ℕ) → is_name w ≡ true → IsName w
+name_is w h =
+    let a = both (nat_le 1 (length w) && nat_le (length w) MOST_NAME) (list_all is_letter w) h in
+    let t = tests (length w) a.0 in
+    ((t.0, name_bytes w a.1), t.1)
+  where
+    tests : (m : ℕ) → (nat_le 1 m && nat_le m MOST_NAME) ≡ true → (0 < m) × (m ≤ MOST_NAME)
+    tests m e = grind (arith, nat_tests)
+
+pub record IsHeadRead (st : Left) (h : Head) (rest : Left) : Type 0 where
+  pub lines : st.1 ≡ version_text h.version ∷ (codes "INSTANCE" ++ spaced h.name) ∷ (codes "CUSTOMERS" ++ spaced (decimal h.size))
+      ∷ (codes "NEIGHBOURS" ++ spaced (decimal h.neighbours)) ∷ (codes "BOUND" ++ spaced (tenths_text h.bound)) ∷ rest.1
+  pub name : is_name h.name ≡ true
+  pub size : IsInRange 1 MOST_CUSTOMERS h.size
+  pub neighbours : IsInRange 0 MOST_NEIGHBOURS h.neighbours
+  pub bound : h.bound < 10 ^ 13
+
+version_is : (k : ℕ) (v : Version) (l : List ℕ) → version_in k l ≡ Ok v → l ≡ version_text v
+version_is k v l h = first (bytes_eq l (version_text version_1)) refl h
+  where
+    second_of : (t : Bool) → bytes_eq l (version_text version_2) ≡ t → cond t (Ok version_2) (Err (BadLine k)) ≡ Ok v → l ≡ version_text v
+    second_of false e f = absurd cc
+    second_of true e f = (bytes_eq-Decides l (version_text version_2)).0 e ∙ ap version_text (ok_is version_2 v f)
+
+    first : (t : Bool) → bytes_eq l (version_text version_1) ≡ t → cond t (Ok version_1) (cond (bytes_eq l (version_text version_2)) (Ok version_2) (Err (BadLine k))) ≡ Ok v → l ≡ version_text v
+    first false e f = second_of (bytes_eq l (version_text version_2)) refl f
+    first true e f = (bytes_eq-Decides l (version_text version_1)).0 e ∙ ap version_text (ok_is version_1 v f)
+
+version_takes : (st : Left) (f : Version × Left) → version_at st ≡ Ok f → st.1 ≡ version_text f.0 ∷ f.1.1
+unfolding version_at
+version_takes st f h =
+    let l = bind_ok (next_at st) (λ l. version_in st.0 l.0 >>= λ v. Ok (v, l.1)) f h in
+    let v = bind_ok (version_in st.0 l.0.0) (λ v. Ok (v, l.0.1)) f l.2 in
+    next_takes st.0 st.1 l.0 l.1 ∙ ap (λ (x : List ℕ). x ∷ l.0.1.1) (version_is st.0 v.0 l.0.0 v.1)
+    ∙ ap (λ (x : Version × Left). version_text x.0 ∷ x.1.1) (ok_is (v.0, l.0.1) f v.2)
+
+title_takes : (st : Left) (f : (Version × List ℕ) × Left) → title_at st ≡ Ok f → (st.1 ≡ version_text f.0.0 ∷ (codes "INSTANCE" ++ spaced f.0.1) ∷ f.1.1) × (is_name f.0.1 ≡ true)
+unfolding title_at
+title_takes st f h =
+    let v = bind_ok (version_at st) (λ v. name_at v.1 >>= λ name. Ok ((v.0, name.0), name.1)) f h in
+    let n = bind_ok (name_at v.0.1) (λ name. Ok ((v.0.0, name.0), name.1)) f v.2 in
+    let u = name_takes v.0.1 n.0 n.1 in
+    let lines : st.1 ≡ version_text v.0.0 ∷ (codes "INSTANCE" ++ spaced n.0.0) ∷ n.0.1.1 = version_takes st v.0 v.1 ∙ ap (λ (x : List (List ℕ)). version_text v.0.0 ∷ x) u.0 in
+    subst (λ (x : (Version × List ℕ) × Left). (st.1 ≡ version_text x.0.0 ∷ (codes "INSTANCE" ++ spaced x.0.1) ∷ x.1.1) × (is_name x.0.1 ≡ true)) (ok_is ((v.0.0, n.0.0), n.0.1) f n.2) (lines, u.1)
+
+sizes_take : (st : Left) (f : (ℕ × ℕ) × Left) → sizes_at st ≡ Ok f
+    → (st.1 ≡ (codes "CUSTOMERS" ++ spaced (decimal f.0.0)) ∷ (codes "NEIGHBOURS" ++ spaced (decimal f.0.1)) ∷ f.1.1) × IsInRange 1 MOST_CUSTOMERS f.0.0 × IsInRange 0 MOST_NEIGHBOURS f.0.1
+unfolding sizes_at
+sizes_take st f h =
+    let n = bind_ok (within_at (codes "CUSTOMERS") 1 MOST_CUSTOMERS st) (λ n. within_at (codes "NEIGHBOURS") 0 MOST_NEIGHBOURS n.1 >>= λ k. Ok ((n.0, k.0), k.1)) f h in
+    let k = bind_ok (within_at (codes "NEIGHBOURS") 0 MOST_NEIGHBOURS n.0.1) (λ k. Ok ((n.0.0, k.0), k.1)) f n.2 in
+    let t = within_takes (codes "CUSTOMERS") 1 MOST_CUSTOMERS st n.0 (lit< tt) n.1 in
+    let u = within_takes (codes "NEIGHBOURS") 0 MOST_NEIGHBOURS n.0.1 k.0 (lit< tt) k.1 in
+    let lines : st.1 ≡ (codes "CUSTOMERS" ++ spaced (decimal n.0.0)) ∷ (codes "NEIGHBOURS" ++ spaced (decimal k.0.0)) ∷ k.0.1.1 = t.0 ∙ ap (λ (x : List (List ℕ)). (codes "CUSTOMERS" ++ spaced (decimal n.0.0)) ∷ x) u.0 in
+    subst (λ (x : (ℕ × ℕ) × Left). (st.1 ≡ (codes "CUSTOMERS" ++ spaced (decimal x.0.0)) ∷ (codes "NEIGHBOURS" ++ spaced (decimal x.0.1)) ∷ x.1.1) × IsInRange 1 MOST_CUSTOMERS x.0.0 × IsInRange 0 MOST_NEIGHBOURS x.0.1)
+    (ok_is ((n.0.0, k.0.0), k.0.1) f k.2) (lines, t.1, u.1)
+
+abbrev made : Version × List ℕ → ℕ × ℕ → ℕ → Head
+made title sizes bound = record { version = title.0; name = title.1; size = sizes.0; neighbours = sizes.1; bound = bound }
+
+head_takes : (st : Left) (f : Head × Left) → head_at st ≡ Ok f → IsHeadRead st f.0 f.1
+unfolding head_at
+head_takes st f h =
+    let n = bind_ok (title_at st) (λ title. sizes_at title.1 >>= λ sizes. bound_at sizes.1 >>= λ bound. Ok (made title.0 sizes.0 bound.0, bound.1)) f h in
+    let s = bind_ok (sizes_at n.0.1) (λ sizes. bound_at sizes.1 >>= λ bound. Ok (made n.0.0 sizes.0 bound.0, bound.1)) f n.2 in
+    let b = bind_ok (bound_at s.0.1) (λ bound. Ok (made n.0.0 s.0.0 bound.0, bound.1)) f s.2 in
+    let t = title_takes st n.0 n.1 in
+    let u = sizes_take n.0.1 s.0 s.1 in
+    let v = bound_takes s.0.1 b.0 b.1 in
+    let lines = t.0 ∙ ap (λ (x : List (List ℕ)). version_text n.0.0.0 ∷ (codes "INSTANCE" ++ spaced n.0.0.1) ∷ x)
+    (u.0 ∙ ap (λ (x : List (List ℕ)). (codes "CUSTOMERS" ++ spaced (decimal s.0.0.0)) ∷ (codes "NEIGHBOURS" ++ spaced (decimal s.0.0.1)) ∷ x) v.0) in
+    subst (λ (x : Head × Left). IsHeadRead st x.0 x.1) (ok_is (made n.0.0 s.0.0 b.0.0, b.0.1) f b.2)
+    (record { lines = lines; name = t.1; size = u.1; neighbours = u.2; bound = v.1 })
+
+-- ---- the whole
+
+abbrev built : Head → Tree → Certificate
+built h tree = record { version = h.version; name = h.name; size = h.size; neighbours = h.neighbours; bound = h.bound; tree = tree }
+
+same_content : (h : Head) (nodes : List Node) (tree : Tree) → nodes ≡ preorder tree → with_tree h nodes ≡ listed (built h tree)
+same_content h nodes tree f = ap (with_tree h) f
+
+put_together : (text : List ℕ) (h : Head) (nodes : List Node) (mid rest : Left) → IsHeadRead (1, parts 10 text) h mid → IsTreeRead h.size mid nodes rest → rest.1 ≡ [] ∷ [] → IsCertificateText text (with_tree h nodes)
+put_together text h nodes mid rest a t e =
+    let x = with_tree h nodes in
+    let tail : codes "TREE" ∷ (map node_text nodes ++ (codes "END" ∷ rest.1)) ≡ codes "TREE" ∷ ((map node_text nodes ++ (codes "END" ∷ [])) ++ ([] ∷ [])) =
+    ap (λ (x : List (List ℕ)). codes "TREE" ∷ (map node_text nodes ++ (codes "END" ∷ x))) e ∙ ap (λ (x : List (List ℕ)). codes "TREE" ∷ x) (sym (append_assoc (map node_text nodes) (codes "END" ∷ []) ([] ∷ []))) in
+    let lines : parts 10 text ≡ text_lines x ++ ([] ∷ []) = a.lines
+    ∙ ap (λ (x : List (List ℕ)). version_text h.version ∷ (codes "INSTANCE" ++ spaced h.name) ∷ (codes "CUSTOMERS" ++ spaced (decimal h.size)) ∷ (codes "NEIGHBOURS" ++ spaced (decimal h.neighbours)) ∷ (codes "BOUND" ++ spaced (tenths_text h.bound)) ∷ x) (t.lines ∙ tail) in
+    let spelled : text ≡ content_text x = sym (joined-parts 10 text) ∙ ap (λ (x : List (List ℕ)). joined 10 x) lines ∙ joined-lines (text_lines x) in
+    let same = same_content h nodes t.tree t.preorder in
+    let at = at_from_on t.tree (root_region h.size) [] MOST_DEPTH (decides_root h.size) t.shaped in
+    record {
+      certificate = built h t.tree;
+      shaped = record { name = name_is h.name a.name; size = a.size; neighbours = a.neighbours.1; bound = omega (arith, a.bound); tree = at.0; leaves = t.leaves; depth = at.1 };
+      is = same;
+      spelled = spelled ∙ ap content_text same ∙ text_is (built h t.tree);
+    }
+
+pub reading_takes : (text : List ℕ) (x : Content) → reading text ≡ Ok x → IsCertificateText text x
+unfolding reading
+reading_takes text x h =
+    let a = bind_ok (head_at (1, parts 10 text)) (λ h. nodes_at h.0.size h.1 >>= λ t. check (is_end t.1.1) Extra (with_tree h.0 t.0)) x h in
+    let t = bind_ok (nodes_at a.0.0.size a.0.1) (λ t. check (is_end t.1.1) Extra (with_tree a.0.0 t.0)) x a.2 in
+    let e = test_ok (is_end t.0.1.1) Extra (with_tree a.0.0 t.0.0) x t.2 in
+    let p = head_takes (1, parts 10 text) a.0 a.1 in
+    let size : a.0.0.size ≤ MOST_CUSTOMERS = p.size.1 in
+    let q = nodes_take a.0.0.size a.0.1 t.0 (omega (arith, size)) t.1 in
+    subst (λ (x : Content). IsCertificateText text x) e.1 (put_together text a.0.0 t.0.0 a.0.1 t.0.1 p q (only_end t.0.1.1 e.0))
+
+-- what has this text is a certificate
+pub text_has : (text : List ℕ) (x : Content) → IsCertificateText text x → HasText x
+text_has text x t = record { certificate = t.certificate; shaped = t.shaped; is = t.is }

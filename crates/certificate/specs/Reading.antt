@@ -1,0 +1,214 @@
+-- Reading a certificate line by line, with the first fault that is met.
+use Rattle.std.specs.Prelude.{ℕ, zero, suc, Bool, true, false, List, [], ◌∷◌, ◌++◌, length, Option, codes, Result, Ok, Err, nat_le, ◌==◌, ◌&&◌, if◌then◌else◌, ℤ, nat_abs}
+use Rattle.std.specs.List.{list_all, list_any}
+use Rattle.std.specs.Option.{option_map}
+use Rattle.std.specs.Str.{bytes_eq}
+use Rattle.tenths.specs.Reading.{◌>>=◌, check, value_or, GivesUnless}
+use Rattle.tenths.specs.Parts.{parts}
+use Rattle.tenths.specs.Lines.{Left, line_at, is_end}
+use Rattle.tenths.specs.Numbers.{number_of, signed_of, tenths_of, capped, clamped}
+use Rattle.certificate.specs.declared.fault.CertFault.{CertFault}
+use Rattle.certificate.specs.declared.fault.CertFault.TheVariants.{Memory, BadLine, Truncated, Extra, BadArc, ArcDecided, PriceRange, TooDeep, TooManyLeaves}
+use Rattle.solomon_reader.specs.declared.limits.TheConstants.{MOST_NAME, MOST_CUSTOMERS, MOST_NEIGHBOURS, MOST_PRICE, MOST_LEAVES, MOST_DEPTH}
+use Rattle.solomon_reader.specs.Words.{is_letter}
+use Rattle.solomon_reader.specs.Plan.{Arc}
+use Rattle.solomon_reader.specs.Bound.{Version, version_1, version_2, Node, leaf_node, split_node}
+use Rattle.solomon_reader.specs.CertificateText.{Content, version_text}
+
+-- What a function returned, seen by view, is what reading gives, unless memory ran out.
+abbrev pub Gives : {X Y : Type 0} → (X → Y) → Result X CertFault → Result Y CertFault → Type 0
+Gives view result read = GivesUnless Memory view result read
+
+-- the next line
+abbrev pub next_at : Left → Result (List ℕ × Left) CertFault
+next_at left = value_or Truncated (line_at left)
+
+-- ---- a leaf
+
+-- the words of a line that are left are canonical signed numbers
+unfoldable pub signed_at : ℕ → List (List ℕ) → Result (List ℤ) CertFault
+signed_at k [] = Ok []
+signed_at k (w ∷ ws) = do
+  z ← value_or (BadLine k) (option_map clamped (signed_of w))
+  zs ← signed_at k ws
+  Ok (z ∷ zs)
+
+abbrev pub is_price : ℤ → Bool
+is_price z = nat_le (nat_abs z) MOST_PRICE
+
+-- the prices of a leaf: first the words, then how many, then their range
+unfoldable pub prices_at : ℕ → ℕ → List (List ℕ) → Result (List ℤ) CertFault
+prices_at n k ws = do
+  zs ← signed_at k ws
+  some ← check (length zs == n) (BadLine k) zs
+  check (list_all is_price some) (PriceRange k) some
+
+-- ---- a split
+
+-- two canonical numbers; the cap is above each limit
+unfoldable pub pair_at : ℕ → List (List ℕ) → Result Arc CertFault
+pair_at k [] = Err (BadLine k)
+pair_at k (v ∷ []) = Err (BadLine k)
+pair_at k (v ∷ w ∷ u ∷ ws) = Err (BadLine k)
+pair_at k (v ∷ w ∷ []) = do
+  i ← value_or (BadLine k) (option_map capped (number_of v))
+  j ← value_or (BadLine k) (option_map capped (number_of w))
+  Ok (i, j)
+
+abbrev pub is_arc : ℕ → Arc → Bool
+is_arc n a = nat_le a.0 n && nat_le a.1 n && (if a.0 == a.1 then false else true)
+
+abbrev pub arc_eq : Arc → Arc → Bool
+arc_eq a b = a.0 == b.0 && a.1 == b.1
+
+abbrev pub is_decided : Arc → List Arc → Bool
+is_decided a path = list_any (λ b. arc_eq b a) path
+
+abbrev pub undecided : ℕ → List Arc → Arc → Result Arc CertFault
+undecided k path a = if is_decided a path then Err (ArcDecided k) else Ok a
+
+-- the arc of a split
+unfoldable pub arc_at : ℕ → ℕ → List Arc → List (List ℕ) → Result Arc CertFault
+arc_at n k path ws = do
+  a ← pair_at k ws
+  b ← check (is_arc n a) (BadArc k) a
+  undecided k path b
+
+-- ---- a node's line
+
+-- the limits of a whole tree are looked at behind the line's own faults
+unfoldable pub node_in : ℕ → ℕ → List Arc → List (List ℕ) → Result Node CertFault
+node_in n k path [] = Err (BadLine k)
+node_in n k path (w ∷ ws) = if bytes_eq w (codes "P") then (prices_at n k ws >>= λ zs. Ok (leaf_node zs))
+    else if bytes_eq w (codes "S") then (arc_at n k path ws >>= λ a. Ok (split_node a))
+    else Err (BadLine k)
+
+abbrev pub node_at : ℕ → List Arc → Left → Result (Node × Left) CertFault
+node_at n path left = next_at left >>= λ l. node_in n left.0 path (parts 32 l.0) >>= λ node. Ok (node, l.1)
+
+-- ---- a tree, which is read below a path: so many arcs may still come, and so many leaves
+
+-- what is read: the nodes, how many leaves may still come, and what is left of the text
+abbrev pub Below : Type 0
+Below = List Node × (ℕ × Left)
+
+abbrev pub one_leaf : ℕ → List ℤ → ℕ → Left → Result Below CertFault
+one_leaf k zs zero rest = Err (TooManyLeaves k)
+one_leaf k zs (suc leaves) rest = Ok (leaf_node zs ∷ [], (leaves, rest))
+
+-- behind the node's line: a leaf, or both children
+abbrev pub below : ℕ → ℕ → (Arc → Left → Result Below CertFault) → Node → Left → Result Below CertFault
+below k leaves children (leaf_node zs) rest = one_leaf k zs leaves rest
+below k leaves children (split_node a) rest = children a rest
+
+abbrev pub both : Arc → List Node → Below → Below
+both a used unused = (split_node a ∷ (used ++ unused.0), unused.1)
+
+unfoldable pub tree_at : ℕ → ℕ → List Arc → ℕ → Left → Result Below CertFault
+tree_at n zero path leaves st = node_at n path st >>= λ x. below st.0 leaves (λ a rest. Err (TooDeep st.0)) x.0 x.1
+tree_at n (suc left) path leaves st = node_at n path st >>= λ x. below st.0 leaves
+    (λ a rest. tree_at n left (path ++ (a ∷ [])) leaves rest >>= λ used. tree_at n left (path ++ (a ∷ [])) used.1.0 used.1.1 >>= λ unused. Ok (both a used.0 unused)) x.0 x.1
+
+-- ---- the whole
+
+-- this very line
+unfoldable pub fixed_at : List ℕ → Left → Result Left CertFault
+fixed_at text st = do
+  l ← next_at st
+  check (bytes_eq l.0 text) (BadLine st.0) l.1
+
+-- a line of two words, of which the first is fixed: the second one
+abbrev pub second : ℕ → List ℕ → List (List ℕ) → Result (List ℕ) CertFault
+second k text [] = Err (BadLine k)
+second k text (v ∷ []) = Err (BadLine k)
+second k text (v ∷ w ∷ u ∷ ws) = Err (BadLine k)
+second k text (v ∷ w ∷ []) = check (bytes_eq v text) (BadLine k) w
+
+unfoldable pub field_at : List ℕ → Left → Result (List ℕ × Left) CertFault
+field_at text st = do
+  l ← next_at st
+  w ← second st.0 text (parts 32 l.0)
+  Ok (w, l.1)
+
+abbrev pub is_name : List ℕ → Bool
+is_name w = nat_le 1 (length w) && nat_le (length w) MOST_NAME && list_all is_letter w
+
+unfoldable pub name_at : Left → Result (List ℕ × Left) CertFault
+name_at st = do
+  w ← field_at (codes "INSTANCE") st
+  check (is_name w.0) (BadLine st.0) w
+
+-- the number that a word is, from low to high
+abbrev pub within_from : ℕ → ℕ → ℕ → Option ℕ → Result ℕ CertFault
+within_from low high k number = value_or (BadLine k) number >>= λ m. check (nat_le low m && nat_le m high) (BadLine k) m
+
+unfoldable pub within_at : List ℕ → ℕ → ℕ → Left → Result (ℕ × Left) CertFault
+within_at text low high st = do
+  w ← field_at text st
+  m ← within_from low high st.0 (option_map capped (number_of w.0))
+  Ok (m, w.1)
+
+unfoldable pub bound_at : Left → Result (ℕ × Left) CertFault
+bound_at st = do
+  w ← field_at (codes "BOUND") st
+  t ← value_or (BadLine st.0) (tenths_of w.0)
+  Ok (t, w.1)
+
+-- the lines before the tree
+pub record Head : Type 0 where
+  pub version : Version
+  pub name : List ℕ
+  pub size : ℕ
+  pub neighbours : ℕ
+  pub bound : ℕ
+
+unfoldable pub sizes_at : Left → Result ((ℕ × ℕ) × Left) CertFault
+sizes_at st = do
+  n ← within_at (codes "CUSTOMERS") 1 MOST_CUSTOMERS st
+  k ← within_at (codes "NEIGHBOURS") 0 MOST_NEIGHBOURS n.1
+  Ok ((n.0, k.0), k.1)
+
+abbrev pub version_in : ℕ → List ℕ → Result Version CertFault
+version_in k l = if bytes_eq l (version_text version_1) then Ok version_1 else if bytes_eq l (version_text version_2) then Ok version_2 else Err (BadLine k)
+
+unfoldable pub version_at : Left → Result (Version × Left) CertFault
+version_at st = do
+  l ← next_at st
+  v ← version_in st.0 l.0
+  Ok (v, l.1)
+
+-- the first two lines
+unfoldable pub title_at : Left → Result ((Version × List ℕ) × Left) CertFault
+title_at st = do
+  v ← version_at st
+  name ← name_at v.1
+  Ok ((v.0, name.0), name.1)
+
+unfoldable pub head_at : Left → Result (Head × Left) CertFault
+head_at st = do
+  title ← title_at st
+  sizes ← sizes_at title.1
+  bound ← bound_at sizes.1
+  Ok (record { version = title.0.0; name = title.0.1; size = sizes.0.0; neighbours = sizes.0.1; bound = bound.0 }, bound.1)
+
+-- the tree between its lines
+unfoldable pub nodes_at : ℕ → Left → Result (List Node × Left) CertFault
+nodes_at n st = do
+  a ← fixed_at (codes "TREE") st
+  t ← tree_at n MOST_DEPTH [] MOST_LEAVES a
+  b ← fixed_at (codes "END") t.1.1
+  Ok (t.0, b)
+
+abbrev pub with_tree : Head → List Node → Content
+with_tree h nodes = record { version = h.version; name = h.name; size = h.size; neighbours = h.neighbours; bound = h.bound; nodes = nodes }
+
+-- the certificate that a text is, or its first fault
+unfoldable pub reading : List ℕ → Result Content CertFault
+reading text = do
+  h ← head_at (1, parts 10 text)
+  t ← nodes_at h.0.size h.1
+  check (is_end t.1.1) Extra (with_tree h.0 t.0)
+
+-- the nodes before a tree, and those of the tree
+abbrev pub with_nodes : List Node → Result Below CertFault → Result Below CertFault
+with_nodes front read = read >>= λ x. Ok (front ++ x.0, x.1)

@@ -1,0 +1,24 @@
+//! Certificates of a lower bound: their parts, and their texts written and read.
+#![tactic(auto)]
+
+mod cert;
+mod fault;
+mod head;
+mod laws;
+mod node;
+mod nodes;
+mod parts;
+mod reading;
+mod shape;
+mod version;
+mod words;
+mod writing;
+
+pub use cert::Cert;
+pub use fault::{CertFault, ShapeFault, WriteFault};
+pub use laws::one_text_each;
+pub use node::CertNode;
+pub use parts::CertParts;
+pub use reading::read;
+pub use version::Version;
+pub use writing::write;

@@ -1,0 +1,5 @@
+use Rattle.tenths.proofs.Points.{one_text_each}
+use Rattle.tenths.proofs.laws.one_text_each.Goals as goal
+
+pub returns : goal.returns
+returns c = one_text_each

@@ -1,0 +1,5 @@
+use Rattle.tenths.proofs.Signs.{signed_told}
+use Rattle.tenths.proofs.numbers.signed.Goals as goal
+
+pub returns-clause-told : goal.returns-clause-told
+returns-clause-told c = signed_told c.args.word.now c.canonical_signed.result c.canonical_signed.ensures

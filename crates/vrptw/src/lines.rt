@@ -1,0 +1,144 @@
+//! The lines that the program prints, and the statuses that go with them.
+
+ghost use Rattle.std.specs.Prelude.{◌≡◌, ◌⊎◌};
+
+use crate::answer::{Answer, SolveFault};
+use crate::commands::wrong_words;
+use crate::jobs::UsageFault;
+use std::alloc::Global;
+use std::io;
+use tenths::{Device, Sink, Tenths, write_tenths, write_text};
+
+/// The statuses that the program ends with.
+const FOUND: u8 = 0;
+
+const UNDECIDED: u8 = 1;
+
+const USAGE: u8 = 2;
+
+const INSTANCE: u8 = 3;
+
+const MEMORY: u8 = 4;
+
+const FILE: u8 = 6;
+
+const LIMIT: u8 = 7;
+
+/// Writes a line on standard error, and answers the status that goes with it.
+fn fail<Y: Sink>(errors: &mut Y, line: &str, status: u8) -> u8
+    ensures { result ≡ status }
+{
+    // Where standard error fails too, the status alone tells.
+    let _ = write_text(line.as_bytes(), errors);
+    status
+}
+
+fn memory_fault<Y: Sink>(errors: &mut Y) -> u8
+    ensures { result ≡ MEMORY }
+{
+    fail(errors, "vrptw: memory\n", MEMORY)
+}
+
+/// What is said of a file or a stream that can't be opened, read or written.
+pub(crate) fn file_fault<Y: Sink>(errors: &mut Y) -> u8
+    ensures { result ≡ FILE }
+{
+    fail(errors, "vrptw: file\n", FILE)
+}
+
+/// What is said of a file that can't be read or made.
+pub(crate) fn open_fault<Y: Sink>(error: &io::Error, errors: &mut Y) -> u8
+    ensures { (result ≡ MEMORY) ⊎ (result ≡ FILE) }
+{
+    if error.kind() == io::ErrorKind::OutOfMemory {
+        return memory_fault(errors);
+    }
+    file_fault(errors)
+}
+
+/// What is said of words that give no job: clap's text, on standard output where help was asked for.
+pub(crate) fn usage_fault<X: Sink, Y: Sink>(
+    alloc: Global,
+    fault: &UsageFault,
+    out: &mut X,
+    errors: &mut Y,
+) -> u8 {
+    let UsageFault::Usage(error) = fault else {
+        return memory_fault(errors);
+    };
+    let Ok(text) = error.to_string(alloc) else {
+        return memory_fault(errors);
+    };
+    if error.use_stderr() {
+        return fail(errors, text.as_str(), USAGE);
+    }
+    match write_text(text.as_bytes(), out) {
+        Ok(()) => FOUND,
+        Err(Device) => file_fault(errors),
+    }
+}
+
+/// What the program says where it can't have its words, on `errors` in place of standard error, and
+/// the status that goes with it: 2 with clap's text where a word isn't UTF-8, 4 where memory was
+/// refused, and 6 where the system has none.
+pub fn words_fault<Y: Sink>(alloc: Global, error: &io::Error, errors: &mut Y) -> u8
+    ensures { (result ≡ USAGE) ⊎ (result ≡ MEMORY) ⊎ (result ≡ FILE) }
+{
+    if error.kind() != io::ErrorKind::InvalidData {
+        return open_fault(error, errors);
+    }
+    let Ok(text) = wrong_words(alloc) else {
+        return memory_fault(errors);
+    };
+    fail(errors, text.as_str(), USAGE)
+}
+
+/// What is said where the solver gives no answer.
+pub(crate) fn solve_fault<Y: Sink>(alloc: Global, fault: SolveFault, errors: &mut Y) -> u8 {
+    match fault {
+        SolveFault::Memory => memory_fault(errors),
+        SolveFault::BadSettings => fail(errors, "vrptw: settings\n", USAGE),
+        SolveFault::LabelLimit => fail(errors, "vrptw: limit: LabelLimit\n", LIMIT),
+        SolveFault::Device => file_fault(errors),
+        SolveFault::Instance(fault) => match format!(in alloc; "vrptw: instance: {fault}\n") {
+            Ok(line) => fail(errors, line.as_str(), INSTANCE),
+            Err(_) => memory_fault(errors),
+        },
+    }
+}
+
+/// Writes a word, and numbers of tenths after it, as a line.
+fn write_line<X: Sink>(word: &str, numbers: &[Tenths], out: &mut X) -> Result<(), Device> {
+    write_text(word.as_bytes(), out)?;
+    for number in numbers {
+        write_text(b" ", out)?;
+        write_tenths(*number, out)?;
+    }
+    write_text(b"\n", out)
+}
+
+/// Writes the line of an answer.
+fn write_answer<X: Sink>(answer: &Answer, out: &mut X) -> Result<(), Device> {
+    match answer {
+        Answer::Best { cost } => write_line("BEST", &[*cost], out),
+        Answer::Gap { cost, bound } => write_line("GAP", &[*cost, *bound], out),
+        Answer::NoPlan => write_line("NO PLAN", &[], out),
+        Answer::Open { bound } => write_line("OPEN", &[*bound], out),
+    }
+}
+
+/// The status of an answer.
+fn status_of(answer: &Answer) -> u8 {
+    match answer {
+        Answer::Best { .. } | Answer::NoPlan => FOUND,
+        Answer::Gap { .. } | Answer::Open { .. } => UNDECIDED,
+    }
+}
+
+/// Prints an answer, and answers its status.
+pub(crate) fn tell<X: Sink, Y: Sink>(answer: &Answer, out: &mut X, errors: &mut Y) -> u8 {
+    match write_answer(answer, out) {
+        Ok(()) => status_of(answer),
+        Err(Device) => file_fault(errors),
+    }
+}
