@@ -43,6 +43,10 @@ pub fn priced_at<'i>(
     region: Region,
     prices: [i64; 2],
 ) -> Result<Priced<'i>, Fail> {
+    let count = instance.customer_count();
+    if count != 2 || region.size() != 2 {
+        return Err(Fail::from("not two customers"));
+    }
     let list = Vec::from_slice(alloc, &prices)?;
     match Priced::of(alloc, instance, region, 1, list, None) {
         Ok(priced) => Ok(priced),
@@ -64,27 +68,23 @@ pub fn book_with<'i>(
 }
 
 /// The fault of a repricing, if it was refused.
-pub fn reprice_fault(
-    book: &mut Book<'_>,
-    leaf: u32,
-    priced: Priced<'_>,
-) -> Option<BookFault> {
+pub fn reprice_fault<'i>(book: &mut Book<'i>, leaf: u32, priced: Priced<'i>) -> Option<BookFault> {
     match book.reprice(0, leaf, priced) {
         Ok(()) => None,
         Err((_, fault)) => Some(fault),
     }
 }
 
-/// Splits a leaf, with the same prices at both children.
-pub fn split<'i>(
+/// Splits a leaf at a region, with the same prices at both children: their numbers, or the fault.
+pub fn split_by<'i>(
     alloc: Global,
+    instance: &'i Instance,
     book: &mut Book<'i>,
     leaf: u32,
     region: &Region,
     arc: Arc,
     prices: [i64; 2],
 ) -> Result<Result<(u32, u32), BookFault>, Fail> {
-    let instance = book_instance(book)?;
     let used = priced_at(alloc, instance, region.used(arc)?, prices)?;
     let unused = priced_at(alloc, instance, region.forbidden(arc)?, prices)?;
     Ok(match book.split(0, leaf, arc, used, unused) {

@@ -101,7 +101,8 @@ fn refusal(alloc: Global) -> UsageFault {
 
 /// What is said of words that aren't UTF-8, as clap says it.
 pub(crate) fn wrong_words(alloc: Global) -> Result<String, AllocError> {
-    let error = Command::new(alloc, PROGRAM).error(
+    let mut command = vrptw_command(alloc)?;
+    let error = command.error(
         ErrorKind::ValueValidation,
         "invalid UTF-8 was detected in one or more arguments",
     )?;
