@@ -67,3 +67,66 @@ def mutated(random, words):
         place = random.randrange(len(text) + 1)
         text = text[:place] + bytes([random.choice([0, 7, 27, 127, 128, 200, 255])]) + text[place:]
     return text
+
+
+def tree_lines(random, count, path, depth):
+    """The lines of a random tree below a path."""
+    if depth == 0 or random.randrange(3) == 0:
+        prices = [random.choice([0, 7, -20, 100000, random.randrange(-10 ** 12, 10 ** 12)]) for _ in range(count)]
+        return ["P " + " ".join(str(price) for price in prices)]
+    arcs = [(i, j) for i in range(count + 1) for j in range(count + 1) if i != j and (i, j) not in path]
+    if not arcs:
+        return tree_lines(random, count, path, 0)
+    arc = random.choice(arcs)
+    below = [tree_lines(random, count, path + [arc], depth - 1) for _ in range(2)]
+    return ["S %d %d" % arc] + below[0] + below[1]
+
+
+def certificate_lines(random):
+    """The lines of a random certificate, which no instance need accept."""
+    count = random.choice([1, 2, 3, 25])
+    return ["VRPTW-CERT %d" % random.choice([1, 2]), "INSTANCE " + random.choice(["T", "a" * 32, "x~!"]),
+            "CUSTOMERS %d" % count, "NEIGHBOURS %d" % random.randrange(16),
+            "BOUND %d.%d" % (random.choice([0, 12, 999999999999]), random.randrange(10)), "TREE"
+            ] + tree_lines(random, count, [], random.randrange(5)) + ["END"]
+
+
+def solution_lines(random):
+    """The lines of a random solution, which no instance need have."""
+    routes = [[random.choice([1, 2, 9999, random.randint(1, 400)]) for _ in range(random.randint(1, 5))]
+              for _ in range(random.randint(1, 12))]
+    return ["Route #%d: %s" % (k + 1, " ".join(str(i) for i in route)) for k, route in enumerate(routes)
+            ] + ["Cost %d.%d" % (random.choice([0, 401, 999999999999]), random.randrange(10))]
+
+
+WRONG_WORDS = ["", "0", "00", "-0", "+5", "007", "-3", "1.0", "x", "S", "P", "END", "1000000000000", "1000000000001",
+               "-1000000000001", "26", "10000", "99999999999999999999", "VRPTW-CERT", "3"]
+
+
+def spoilt(random, lines):
+    """The text of some lines with one thing wrong, or by chance nothing."""
+    lines = [line.split(" ") for line in lines]
+    line = random.choice(lines)
+    kind = random.randrange(10)
+    if kind == 0:
+        line[random.randrange(len(line))] = random.choice(WRONG_WORDS)
+    elif kind == 1:
+        line.insert(random.randrange(len(line) + 1), random.choice(WRONG_WORDS))
+    elif kind == 2:
+        del line[random.randrange(len(line))]
+    elif kind == 3:
+        lines.insert(random.randrange(len(lines) + 1), list(random.choice(lines)))
+    elif kind == 4:
+        lines.remove(line)
+    elif kind == 5:
+        at, other = random.randrange(len(lines)), random.randrange(len(lines))
+        lines[at] = list(lines[other])
+    text = "".join(" ".join(line) + "\n" for line in lines).encode()
+    place = random.randrange(len(text) + 1)
+    if kind == 6:
+        text = text[:place]
+    elif kind == 7:
+        text += random.choice([b"\n", b"x", b" "])
+    elif kind == 8:
+        text = text[:place] + random.choice([b" ", b"\r", b"\t", b"\0", b"\x80", b"-"]) + text[place:]
+    return text

@@ -5,7 +5,7 @@ import subprocess
 
 import bounding
 from building import build
-from cases import instance_words, laid_out, mutated
+from cases import certificate_lines, instance_words, laid_out, mutated, solution_lines, spoilt
 from instances import Fault, is_plan, plan_cost, read
 from moving import descend, first_gain
 from optimum import least_cost
@@ -103,10 +103,31 @@ def judge_solved(program, folder, random, count, least, small):
     return out.split()[0]
 
 
-def judge(program, folder, seed, kind):
+def judge_echo(echo, folder, random, kind, lines, reader):
+    """A text with something wrong, or nothing: read and written again, or the fault of this folder's reader."""
+    text = spoilt(random, lines)
+    path = os.path.join(folder, kind)
+    with open(path, "wb") as file:
+        file.write(text)
+    run = subprocess.run([echo, kind, path], capture_output=True, timeout=600)
+    try:
+        reader(text)
+    except TextFault as fault:
+        demand(run.stdout == b"%s\n" % str(fault).encode() and run.returncode == 1, "%s: %r" % (fault, run.stdout[:80]))
+        return str(fault).split()[0]
+    demand(run.stdout == text and run.returncode == 0, "a text that isn't written again: %r" % run.stdout[:80])
+    return "whole"
+
+
+def judge(programs, folder, seed, kind):
     """One run by its seed: whether both agree, and what came of it or what doesn't agree."""
     random = randomness.Random("%d %s" % (seed, kind))
+    program, echo = programs
     try:
+        if kind == "certificates":
+            return True, judge_echo(echo, folder, random, "certificate", certificate_lines(random), read_certificate)
+        if kind == "solutions":
+            return True, judge_echo(echo, folder, random, "solution", solution_lines(random), read_solution)
         if kind == "refusals":
             return True, judge_refusal(program, folder, random)
         if kind == "small":

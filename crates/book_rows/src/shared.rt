@@ -60,7 +60,7 @@ pub fn book_with<'i>(
     instance: &'i Instance,
     limits: Limits,
 ) -> Result<Book<'i>, Fail> {
-    let root = priced_at(alloc, instance, Region::root(alloc, 2), [0, 0])?;
+    let root = Priced::root(alloc, instance, 1, None)?;
     match Book::with_limits(alloc, root, limits) {
         Ok(book) => Ok(book),
         Err(_) => Err(Fail::from("no book")),

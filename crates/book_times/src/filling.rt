@@ -46,7 +46,7 @@ impl Spent {
 
 /// A book, how many splits it took, and the time of its calls since it was last told.
 #[derive(Drop)]
-pub struct Filling<'i> {
+pub(crate) struct Filling<'i> {
     book: Book<'i>,
     splits: u32,
     raised: u32,
@@ -57,16 +57,11 @@ pub struct Filling<'i> {
 }
 
 /// A book of the root at prices 0, if there is memory.
-pub fn root_of<'i>(alloc: Global, instance: &'i Instance) -> Option<Book<'i>> {
-    let count = instance.customer_count();
-    let prices = vec![in alloc; 0; count as usize].ok()?;
-    let region = Region::root(alloc, count);
-    match Priced::of(alloc, instance, region, NEIGHBOURS, prices, None) {
-        Ok(root) => match Book::new(alloc, root) {
-            Ok(book) => Some(book),
-            Err((_root, _fault)) => None,
-        },
-        Err((_region, _prices, _fault)) => None,
+pub(crate) fn root_of<'i>(alloc: Global, instance: &'i Instance) -> Option<Book<'i>> {
+    let root = Priced::root(alloc, instance, NEIGHBOURS, None).ok()?;
+    match Book::new(alloc, root) {
+        Ok(book) => Some(book),
+        Err((_root, _fault)) => None,
     }
 }
 
@@ -112,7 +107,7 @@ fn children_of<'i>(alloc: Global, leaf: &Priced<'i>, arc: Arc) -> Option<(Priced
 }
 
 impl<'i> Filling<'i> {
-    pub fn new(book: Book<'i>) -> Filling<'i> {
+    pub(crate) fn new(book: Book<'i>) -> Filling<'i> {
         Filling {
             book,
             splits: 0,
@@ -124,7 +119,7 @@ impl<'i> Filling<'i> {
         }
     }
 
-    pub fn into_book(self) -> Book<'i> {
+    pub(crate) fn into_book(self) -> Book<'i> {
         self.book
     }
 
@@ -147,7 +142,7 @@ impl<'i> Filling<'i> {
     }
 
     /// Splits until so many leaves stand; of the splits the last ones are timed.
-    pub fn grow<R: Runtime + AllocGlobal>(&mut self, rt: &R, leaves: u32) -> io::Result<()> {
+    pub(crate) fn grow<R: Runtime + AllocGlobal>(&mut self, rt: &R, leaves: u32) -> io::Result<()> {
         for _ in self.splits..leaves.saturating_sub(1) {
             if self.splits.saturating_add(CALLS) == leaves {
                 self.split = Spent::none();
@@ -177,7 +172,7 @@ impl<'i> Filling<'i> {
     }
 
     /// Raises the prices of some leaves.
-    pub fn raise_some<R: Runtime + AllocGlobal>(&mut self, rt: &R) -> io::Result<()> {
+    pub(crate) fn raise_some<R: Runtime + AllocGlobal>(&mut self, rt: &R) -> io::Result<()> {
         let last = self.splits.saturating_mul(2);
         self.reprice = Spent::none();
         for below in 0..CALLS.min(self.splits) {
@@ -189,7 +184,7 @@ impl<'i> Filling<'i> {
     }
 
     /// Asks for the gap some times.
-    pub fn look<R: Runtime + AllocGlobal>(&mut self, rt: &R) -> io::Result<()> {
+    pub(crate) fn look<R: Runtime + AllocGlobal>(&mut self, rt: &R) -> io::Result<()> {
         self.gap = Spent::none();
         for _ in 0..CALLS {
             let begin = Instant::now(rt)?;
@@ -200,13 +195,13 @@ impl<'i> Filling<'i> {
     }
 
     /// Prints how many leaves stand, how many were raised, the bound in tenths, and the times.
-    pub fn tell<R: Runtime + AllocGlobal>(&self, rt: &R, times: bool) -> io::Result<()> {
+    pub(crate) fn tell<R: Runtime + AllocGlobal>(&self, rt: &R, times: bool) -> io::Result<()> {
         let leaves = self.splits.saturating_add(1);
         let raised = self.raised;
-        let bound = self.bound;
         if !times {
-            return println!(rt; "{leaves} leaves, {raised} raised, bound {bound}");
+            return println!(rt; "{leaves} leaves, {raised} raised");
         }
+        let bound = self.bound;
         let split = self.split.of_call();
         let reprice = self.reprice.of_call();
         let gap = self.gap.of_call();

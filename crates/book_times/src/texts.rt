@@ -41,7 +41,11 @@ fn cert_of(alloc: Global, outcome: &Outcome<'_>) -> Option<Cert> {
 
 /// Prints the size of the text of a book's certificate, whether it is read as what was written, and
 /// the milliseconds of both.
-pub fn tell_texts<R: Runtime + AllocGlobal>(rt: &R, book: Book<'_>, times: bool) -> io::Result<()> {
+pub(crate) fn tell_texts<R: Runtime + AllocGlobal>(
+    rt: &R,
+    book: Book<'_>,
+    times: bool,
+) -> io::Result<()> {
     let Some(cert) = cert_of(rt.alloc(), &book.finish()) else {
         return println!(rt; "no certificate");
     };
@@ -58,7 +62,7 @@ pub fn tell_texts<R: Runtime + AllocGlobal>(rt: &R, book: Book<'_>, times: bool)
     let bytes = sink.as_slice().len();
     let nodes = cert.parts().nodes.len();
     if !times {
-        return println!(rt; "{nodes} nodes, {bytes} bytes, written {written}, read {again}");
+        return println!(rt; "{nodes} nodes, written {written}, read {again}");
     }
     println!(rt;
         "{nodes} nodes, {bytes} bytes, written {written}, read {again}; ms: writing {writing} reading {reading}"

@@ -16,7 +16,7 @@ mod writing;
 
 pub use cert::Cert;
 pub use fault::{CertFault, ShapeFault, WriteFault};
-pub use laws::one_text_each;
+pub use laws::{first_fault, one_text_each};
 pub use node::CertNode;
 pub use parts::CertParts;
 pub use reading::read;

@@ -26,7 +26,7 @@ fn numbers(alloc: Global, instance: &Instance) -> Result<Vec<u16>, AllocError>
     (1..instance.customer_count() + 1).collect(alloc)
 }
 
-/// Takes customers over into the route, the best insertion first, until none has a place.
+/// Takes customers over into the route, the best insertion first, until none has a candidate.
 fn fill<'i>(
     alloc: Global,
     weights: &Weights,
@@ -42,7 +42,7 @@ fn fill<'i>(
     let mut route = seeded;
     while let Some(proposal) = best_proposal(weights, &route, unrouted) {
         let customer = unrouted[proposal.unrouted];
-        let Some(longer) = route.with(alloc, proposal.place, customer)? else {
+        let Some(longer) = route.with(alloc, proposal.position, customer)? else {
             break;
         };
         unrouted.remove(proposal.unrouted);
@@ -115,9 +115,9 @@ fn answer<'i>(instance: &'i Instance, routes: Vec<Vec<u16>>, unrouted: Vec<u16>)
 
 /// Builds routes one after the other (Solomon 1987, insertion heuristic I1). Of the customers that
 /// a vehicle can serve alone, the farthest from the depot opens a route, which then takes the
-/// customer whose insertion gains most, at the place where it costs least, until none has a place
-/// in it; no more routes are opened than there are vehicles. Ties go to the lower customer and the
-/// lower place.
+/// customer whose insertion gains most, at the position where it costs least, until none can be put
+/// into it; no more routes are opened than there are vehicles. Ties go to the lower customer and the
+/// lower position.
 pub fn build<'i>(
     alloc: Global,
     instance: &'i Instance,

@@ -1,4 +1,4 @@
-//! The gaps of a route, each a place for one more customer.
+//! The gaps of a route, each of which one more customer may be put into.
 
 ghost use Rattle.std.specs.Prelude.{◌≡◌, ◌+◌, ◌*◌, ◌<◌, ◌≤◌, length, IfOk};
 ghost use Rattle.std.specs.List.{All};

@@ -10,19 +10,19 @@ use crate::route::OpenRoute;
 use crate::weights::Weights;
 use solomon_reader::Instance;
 
-/// A place in a route, and its criterion c1.
+/// A position in a route that a customer may be put before, and the criterion c1 there.
 #[derive(Clone, Copy)]
-struct Place {
-    index: usize,
+struct Candidate {
+    position: usize,
     cost: i64,
     ghost bound: { unsigned_abs cost ≤ 10 ^ 15 },
 }
 
-/// An unrouted customer by its index, its place in the route, and its criterion c2.
+/// An unrouted customer by its index, its position in the route, and its criterion c2.
 #[derive(Clone, Copy)]
 pub(crate) struct Proposal {
     pub(crate) unrouted: usize,
-    pub(crate) place: usize,
+    pub(crate) position: usize,
     gain: i64,
 }
 
@@ -44,20 +44,20 @@ fn cost_in(instance: &Instance, weights: &Weights, gap: &Gap, customer: u16) -> 
     Some(weights.cost(detour, delay))
 }
 
-/// The place of least c1 for a customer, ties to the lower place, or `None` where it has none.
-fn best_place(weights: &Weights, route: &OpenRoute<'_>, customer: u16) -> Option<Place>
+/// The candidate of least c1 for a customer, ties to the lower position, or `None` where it has none.
+fn best_candidate(weights: &Weights, route: &OpenRoute<'_>, customer: u16) -> Option<Candidate>
     requires { IsCustomer route.now.instance.now customer }
-    ensures { IfSome result (λ place. place.index < length route.now.gaps.items) }
+    ensures { IfSome result (λ candidate. candidate.position < length route.now.gaps.items) }
 {
     let instance = route.instance;
     if u32::from(instance.demand(customer)) > route.room {
         return None;
     }
-    let mut best: Option<Place> = None;
-    for (index, gap) in route.gaps.iter().enumerate() {
+    let mut best: Option<Candidate> = None;
+    for (position, gap) in route.gaps.iter().enumerate() {
         if let Some(cost) = cost_in(instance, weights, gap, customer) {
             if best.is_none_or(|least| cost < least.cost) {
-                best = Some(Place { index, cost });
+                best = Some(Candidate { position, cost });
             }
         }
     }
@@ -65,7 +65,7 @@ fn best_place(weights: &Weights, route: &OpenRoute<'_>, customer: u16) -> Option
 }
 
 /// The insertion of greatest c2, ties to the lower customer, or `None` where no customer has a
-/// place.
+/// candidate.
 pub(crate) fn best_proposal(
     weights: &Weights,
     route: &OpenRoute<'_>,
@@ -73,17 +73,17 @@ pub(crate) fn best_proposal(
 ) -> Option<Proposal>
     requires { All (λ i. IsCustomer route.now.instance.now i) unrouted.now }
     ensures customer { IfSome result (λ best. best.unrouted < length unrouted.now) }
-    ensures place { IfSome result (λ best. best.place ≤ length route.now.visits.items) }
+    ensures position { IfSome result (λ best. best.position ≤ length route.now.visits.items) }
 {
     let mut best: Option<Proposal> = None;
     for (index, customer) in unrouted.iter().enumerate() {
-        if let Some(place) = best_place(weights, route, *customer) {
+        if let Some(candidate) = best_candidate(weights, route, *customer) {
             let from_depot = route.instance.distance(0, *customer).get();
-            let gain = weights.gain(from_depot as i64, place.cost);
+            let gain = weights.gain(from_depot as i64, candidate.cost);
             if best.is_none_or(|most| gain > most.gain) {
                 best = Some(Proposal {
                     unrouted: index,
-                    place: place.index,
+                    position: candidate.position,
                     gain,
                 });
             }

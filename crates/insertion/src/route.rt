@@ -46,20 +46,20 @@ impl<'i> OpenRoute<'i> {
         }))
     }
 
-    /// The route with a customer more at this place, or `None` where it is no fitting one.
+    /// The route with a customer more at this position, or `None` where it is no fitting one.
     pub(crate) fn with(
         &self,
         alloc: Global,
-        place: usize,
+        position: usize,
         customer: u16,
     ) -> Result<Option<OpenRoute<'i>>, AllocError>
-        requires { place ≤ length self.now.visits.items }
+        requires { position ≤ length self.now.visits.items }
         ensures instance { IfOk result (λ route. IfSome route (λ r. r.instance.now ≡ self.now.instance.now)) }
-        ensures visits { IfOk result (λ route. IfSome route (λ r. r.visits.items ≡ insert self.now.visits.items place customer)) }
+        ensures visits { IfOk result (λ route. IfSome route (λ r. r.visits.items ≡ insert self.now.visits.items position customer)) }
         ensures fits { IfOk result (λ route. IfSome route (λ r. IsFitting self.now.instance.now r.visits.items)) }
     {
         let mut visits = self.visits.clone()?;
-        visits.insert(place, customer)?;
+        visits.insert(position, customer)?;
         OpenRoute::new(alloc, self.instance, visits)
     }
 }

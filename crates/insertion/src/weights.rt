@@ -35,7 +35,7 @@ impl Model for Weights {
 }
 
 /// An amount times a weight.
-fn weighted(weight: u16, amount: i64) -> i64
+fn weigh(weight: u16, amount: i64) -> i64
     requires weight { weight ≤ MOST_WEIGHT }
     requires amount { unsigned_abs amount ≤ 10 ^ 12 }
     ensures { unsigned_abs result ≤ MOST_WEIGHT * unsigned_abs amount }
@@ -62,7 +62,7 @@ impl Weights {
         requires spared { unsigned_abs spared ≤ MOST_DISTANCE }
         ensures { unsigned_abs result ≤ 10 ^ 9 }
     {
-        weighted(ONE, round) - weighted(self.mu, spared)
+        weigh(ONE, round) - weigh(self.mu, spared)
     }
 
     /// The criterion c1, in ten-thousandths of tenths, of a detour in hundredths of tenths and a
@@ -72,7 +72,7 @@ impl Weights {
         requires delay { unsigned_abs delay ≤ 10 ^ 8 }
         ensures { unsigned_abs result ≤ 10 ^ 15 }
     {
-        weighted(self.a1, detour) + weighted(ONE - self.a1, weighted(ONE, delay))
+        weigh(self.a1, detour) + weigh(ONE - self.a1, weigh(ONE, delay))
     }
 
     /// The criterion c2, in ten-thousandths of tenths, of a customer at this distance from the
@@ -81,6 +81,6 @@ impl Weights {
         requires from_depot { unsigned_abs from_depot ≤ MOST_DISTANCE }
         requires cost { unsigned_abs cost ≤ 10 ^ 15 }
     {
-        weighted(self.lambda, weighted(ONE, from_depot)) - cost
+        weigh(self.lambda, weigh(ONE, from_depot)) - cost
     }
 }

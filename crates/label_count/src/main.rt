@@ -1,39 +1,33 @@
-//! Prints how many labels stand at once while the root of an instance is priced: at prices of zero and
-//! at the prices that the solver's steps find. Words: the instance's file, the most labels, and `times`
-//! where the milliseconds are to be printed, too.
+//! Prints how many labels are active at once while the root of an instance is priced: at prices of zero
+//! and at those of the first leaf of a certificate. Words: the instance's file, the certificate's, the
+//! most labels, and `times` where the milliseconds are to be printed, too.
 #![tactic(auto)]
 
 ghost use Rattle.std.specs.Prelude.{◌≡◌, IfOk};
 
 use branching::Region;
-use labelling::{LabelFault, Least, least};
-use prices::{Priced, STEPS, improve};
-use solomon_reader::{Instance, read};
+use certificate::{Cert, CertNode};
+use labelling::least;
+use prices::Priced;
+use solomon_reader::{Instance, MOST_NEIGHBOURS};
 use std::alloc::Global;
 use std::process::ExitCode;
 use std::rt::Runtime;
 use std::time::Instant;
 use std::{env, fs, io};
 
-/// The neighbours of the program's default.
-const NEIGHBOURS: u32 = 8;
-
-/// The least reduced cost at a leaf.
-fn least_at(alloc: Global, leaf: &Priced<'_>, most: usize) -> Result<Least, LabelFault> {
+/// Whether so many labels suffice.
+fn suffices(alloc: Global, leaf: &Priced<'_>, most: usize) -> bool {
     let _value = leaf.value();
-    least(
+    let found = least(
         alloc,
         leaf.instance(),
         leaf.region(),
         leaf.prices(),
         leaf.neighbours(),
         Some(most),
-    )
-}
-
-/// Whether so many labels suffice.
-fn suffices(alloc: Global, leaf: &Priced<'_>, most: usize) -> bool {
-    least_at(alloc, leaf, most).is_ok()
+    );
+    found.is_ok()
 }
 
 /// The least number of labels that suffices, at most `most`, by halving.
@@ -55,12 +49,30 @@ fn labels_of(alloc: Global, leaf: &Priced<'_>, most: usize) -> usize {
     enough
 }
 
-/// The root of an instance with prices of zero, if the labels suffice.
-fn root_of<'i>(alloc: Global, instance: &'i Instance, most: usize) -> Option<Priced<'i>> {
+/// The prices of the first leaf of a certificate, or none where it has no leaf or memory is refused.
+fn first_prices(alloc: Global, cert: &Cert) -> Option<Vec<i64>> {
+    for node in &cert.parts().nodes {
+        if let CertNode::Leaf(prices) = node {
+            return Vec::from_slice(alloc, prices.as_slice()).ok();
+        }
+    }
+    None
+}
+
+/// These prices at the root of an instance, if they are its customers' and the labels suffice.
+fn root_at<'i>(
+    alloc: Global,
+    instance: &'i Instance,
+    neighbours: u32,
+    prices: Vec<i64>,
+    most: usize,
+) -> Option<Priced<'i>> {
     let count = instance.customer_count();
-    let prices = vec![in alloc; 0; count as usize].ok()?;
+    if prices.len() != usize::from(count) || neighbours > MOST_NEIGHBOURS {
+        return None;
+    }
     let root = Region::root(alloc, count);
-    match Priced::of(alloc, instance, root, NEIGHBOURS, prices, Some(most)) {
+    match Priced::of(alloc, instance, root, neighbours, prices, Some(most)) {
         Ok(leaf) => Some(leaf),
         Err((_region, _prices, _fault)) => None,
     }
@@ -88,34 +100,59 @@ fn tell<R: Runtime + AllocGlobal>(
     println!(rt; "{name} value {value} labels {labels}")
 }
 
+/// Prints the line of these prices.
+fn tell_root<R: Runtime + AllocGlobal>(
+    rt: &R,
+    name: &str,
+    leaf: Option<Priced<'_>>,
+    most: usize,
+    times: bool,
+) -> io::Result<()> {
+    match leaf {
+        Some(leaf) => tell(rt, name, &leaf, most, times),
+        None => println!(rt; "{name} value - labels above {most}"),
+    }
+}
+
 /// Prints both lines of an instance.
 fn tell_both<R: Runtime + AllocGlobal>(
     rt: &R,
     instance: &Instance,
+    cert: &Cert,
     most: usize,
     times: bool,
 ) -> io::Result<()> {
-    let Some(zero) = root_of(rt.alloc(), instance, most) else {
-        return println!(rt; "zero value - labels above {most}");
+    let alloc = rt.alloc();
+    let neighbours = cert.parts().neighbours;
+    if neighbours > MOST_NEIGHBOURS {
+        return Ok(());
+    }
+    let zero = Priced::root(alloc, instance, neighbours, Some(most)).ok();
+    tell_root(rt, "zero", zero, most, times)?;
+    let Some(prices) = first_prices(alloc, cert) else {
+        return Ok(());
     };
-    tell(rt, "zero", &zero, most, times)?;
-    let improved = improve(rt.alloc(), zero, &STEPS, Some(most));
-    tell(rt, "improved", &improved, most, times)
+    let certified = root_at(alloc, instance, neighbours, prices, most);
+    tell_root(rt, "certificate", certified, most, times)
 }
 
 fn run<R: Runtime + AllocGlobal>(rt: &R) -> io::Result<bool> {
     let words: Vec<String> = env::args(rt)?.skip(1).collect(rt.alloc())?;
-    if words.len() < 2 {
+    if words.len() < 3 {
         return Ok(false);
     }
-    let Ok(most) = words[1].as_str().parse::<usize>() else {
+    let Ok(most) = words[2].as_str().parse::<usize>() else {
         return Ok(false);
     };
     let text = fs::read(rt, words[0].as_str())?;
-    let Ok(instance) = read(rt.alloc(), text.as_slice()) else {
+    let Ok(instance) = solomon_reader::read(rt.alloc(), text.as_slice()) else {
         return Ok(false);
     };
-    tell_both(rt, &instance, most, words.len() > 2)?;
+    let text = fs::read(rt, words[1].as_str())?;
+    let Ok(cert) = certificate::read(rt.alloc(), text.as_slice()) else {
+        return Ok(false);
+    };
+    tell_both(rt, &instance, &cert, most, words.len() > 3)?;
     Ok(true)
 }
 

@@ -1,4 +1,4 @@
--- Each relaxed route is covered: by the least that was found, or by a state that is still to be worked, with the stops that come after it.
+-- Each relaxed route is covered: by the best so far, or by a pending state, with the stops that come after it.
 use Rattle.std.proofs.Common.{◌≡◌, ℕ, zero, suc, ◌≤◌, List, [], ◌∷◌, length, arith, ◌⊎◌, inl, inr, Option, Some, None}
 use Rattle.std.specs.Prelude.{ℤ, ◌≤ℤ◌}
 use Rattle.std.proofs.lemmas.Int.{ints}
@@ -19,7 +19,7 @@ module _ (p : Problem) (g : Region) (k : ℕ) (prices : List ℤ) where
   covered_more b Pending n m y z le low (inl h) = inl (at_most_more b y z low h)
   covered_more b Pending n m y z le low (inr w) = inr (record { state = w.state; pending = w.pending; rest = w.rest; short = omega (arith, w.short); completes = w.completes; low = omega (arith, ints, w.low) })
 
-  -- for each pending state one that is as good is pending afterwards, and what was found hasn't grown
+  -- for each pending state one that is as good is pending afterwards, and the best hasn't grown
   pub covered_moved : (b c : Option ℤ) (Pending After : State → Type 0) (n : ℕ) (z : ℤ)
       → ((y : ℤ) → IsAtMost b y → IsAtMost c y)
       → ((a : State) → Pending a → (t : State) × (After t × IsAsGood t a))
@@ -36,31 +36,31 @@ module _ (p : Problem) (g : Region) (k : ℕ) (prices : List ℤ) where
         low = omega (arith, ints, w.low, value_no_greater p g k prices w.rest t.0 w.state t.1.1);
       })
 
-  -- what stands afterwards stood before, or is pending
-  pub covers_grown : (b c : Option ℤ) (Pending Stands After Now : State → Type 0)
+  -- what is active afterwards was so before, or is pending
+  pub covers_grown : (b c : Option ℤ) (Pending Active After Now : State → Type 0)
       → ((y : ℤ) → IsAtMost b y → IsAtMost c y)
       → ((a : State) → Pending a → (t : State) × (After t × IsAsGood t a))
-      → ((a : State) → Now a → Stands a ⊎ After a)
-      → CoversAll p g k prices b Pending Stands → CoversAll p g k prices c After Now
-  covers_grown b c Pending Stands After Now found moved grown covers a now s h =
+      → ((a : State) → Now a → Active a ⊎ After a)
+      → CoversAll p g k prices b Pending Active → CoversAll p g k prices c After Now
+  covers_grown b c Pending Active After Now found moved grown covers a now s h =
       elim (grown a now) [
-        | inl stands ↦ covered_moved b c Pending After (length s) _ found moved (covers a stands s h)
+        | inl active ↦ covered_moved b c Pending After (length s) _ found moved (covers a active s h)
         | inr after ↦ inr (record { state = a; pending = after; rest = s; short = omega arith; completes = h; low = omega (arith, ints) })
       ]
 
-  -- a state is retired: its own end was counted, and each of its steps stands or is beaten by what stands
-  module _ (b : Option ℤ) (Pending After Stands : State → Type 0) (x : State)
+  -- a state is retired: its own end was counted, and for each of its steps an active state is as good
+  module _ (b : Option ℤ) (Pending After Active : State → Type 0) (x : State)
       (counted : CanEnd p g x → IsAtMost b (value_with p k prices x []))
-      (spread : (j : ℕ) → CanStep p g x j → (t : State) × (Stands t × IsAsGood t (step p k prices x j)))
+      (steps : (j : ℕ) → CanStep p g x j → (t : State) × (Active t × IsAsGood t (step p k prices x j)))
       (others : (a : State) → Pending a → (a ≡ x) ⊎ After a)
-      (covers : CoversAll p g k prices b Pending Stands) where
+      (covers : CoversAll p g k prices b Pending Active) where
     ends_at_x : (n : ℕ) (z : ℤ) → Completes p g k prices x [] → value_with p k prices x [] ≤ℤ z → IsCovered p g k prices b After n z
     ends_at_x n z h low = inl (at_most_more b _ z low (counted h))
 
     goes_on_at_x : (n : ℕ) (z : ℤ) (j : ℕ) (s : List ℕ) → ((y : ℤ) → IsCovered p g k prices b Pending n y → IsCovered p g k prices b After n y)
         → length s ≤ n → CanStep p g x j → Completes p g k prices (step p k prices x j) s → value_with p k prices (step p k prices x j) s ≤ℤ z → IsCovered p g k prices b After (suc n) z
     goes_on_at_x n z j s again short can h low =
-        let t = spread j can in
+        let t = steps j can in
         let on = completes_too p g k prices s t.0 (step p k prices x j) t.1.1 h in
         let le = value_no_greater p g k prices s t.0 (step p k prices x j) t.1.1 in
         let now : IsCovered p g k prices b Pending n (value_with p k prices t.0 s) = covered_more b Pending (length s) n _ _ short (omega (arith, ints)) (covers t.0 t.1.0 s on) in
@@ -86,14 +86,14 @@ module _ (p : Problem) (g : Region) (k : ℕ) (prices : List ℤ) where
       | inr after ↦ inr (record { state = w.state; pending = after; rest = w.rest; short = w.short; completes = w.completes; low = w.low })
     ]
 
-    pub covers_retired : CoversAll p g k prices b After Stands
-    covers_retired a stands s h = retire (length s) _ (covers a stands s h)
+    pub covers_retired : CoversAll p g k prices b After Active
+    covers_retired a active s h = retire (length s) _ (covers a active s h)
 
-  -- nothing is pending any more, and something as good as the start stands
-  pub least_at_end : (b : Option ℤ) (Pending Stands : State → Type 0) → CoversAll p g k prices b Pending Stands → ((a : State) → ¬ Pending a)
-      → (t : State) × (Stands t × IsAsGood t (start p))
+  -- nothing is pending any more, and an active state is as good as the start
+  pub least_at_end : (b : Option ℤ) (Pending Active : State → Type 0) → CoversAll p g k prices b Pending Active → ((a : State) → ¬ Pending a)
+      → (t : State) × (Active t × IsAsGood t (start p))
       → (r : List ℕ) → IsRelaxed p g k r → IsAtMost b (reduced_cost p prices r)
-  least_at_end b Pending Stands covers nothing first r relaxed =
+  least_at_end b Pending Active covers nothing first r relaxed =
       let from_start = completes_relaxed p g k prices r relaxed in
       let le = value_no_greater p g k prices r first.0 (start p) first.1.1 in
       elim (covers first.0 first.1.0 r (completes_too p g k prices r first.0 (start p) first.1.1 from_start)) [

@@ -8,7 +8,7 @@ use Rattle.solomon_reader.specs.Distance.{distance}
 use Rattle.solomon_reader.specs.Region.{Region}
 use Rattle.solomon_reader.specs.Remembering.{near, remember}
 use Rattle.solomon_reader.specs.States.{State, begins, step, CanStep, Completes, value_with, IsAsGood, Reaches}
-use Rattle.labelling.specs.Fronts.{IsSame}
+use Rattle.labelling.specs.Fronts.{IsSameState}
 
 remember_less : (f : ℕ → ℕ → Bool) (m n : ℕ → Bool) (j u : ℕ) → ((v : ℕ) → m v ≡ true → n v ≡ true) → remember f m j u ≡ true → remember f n j u ≡ true
 remember_less f m n j u less h = elim (or_cases _ _ h) [
@@ -19,10 +19,10 @@ remember_less f m n j u less h = elim (or_cases _ _ h) [
 pub good_itself : (a : State) → IsAsGood a a
 good_itself a = record { last = refl; time = omega arith; load = omega arith; cost = omega (arith, ints); memory = λ u h. h }
 
-pub good_same : (a b : State) → IsSame a b → IsAsGood a b
+pub good_same : (a b : State) → IsSameState a b → IsAsGood a b
 good_same a b h = record { last = h.last; time = omega (arith, h.time); load = omega (arith, h.load); cost = rw h.cost (omega (arith, ints)); memory = λ u t. sym (h.memory u) ∙ t }
 
-pub good_back : (a b : State) → IsSame a b → IsAsGood b a
+pub good_back : (a b : State) → IsSameState a b → IsAsGood b a
 good_back a b h = record { last = sym h.last; time = omega (arith, h.time); load = omega (arith, h.load); cost = rw h.cost (omega (arith, ints)); memory = λ u t. h.memory u ∙ t }
 
 pub good_through : (a b c : State) → IsAsGood a b → IsAsGood b c → IsAsGood a c
@@ -59,7 +59,7 @@ module _ (p : Problem) (g : Region) (k : ℕ) (prices : List ℤ) where
   value_no_greater [] a b good = omega (arith, ints, good.cost, ap (λ (i : ℕ). distance p i 0) good.last)
   value_no_greater (j ∷ s) a b good = value_no_greater s (step p k prices a j) (step p k prices b j) (step_as_good a b j good)
 
-  pub reaches_same : (route : List ℕ) (a b : State) → IsSame a b → Reaches p g k prices route b → Reaches p g k prices route a
+  pub reaches_same : (route : List ℕ) (a b : State) → IsSameState a b → Reaches p g k prices route b → Reaches p g k prices route a
   reaches_same route a b same reaches = record {
     completes = λ s h. reaches.completes s (completes_too s b a (good_back a b same) h);
     value = λ s. reaches.value s ∙ equal s;

@@ -1,7 +1,8 @@
-pub mod Goodness
-pub mod Cover
+pub mod Words
+pub mod Marking
+pub mod Narrowing
 pub mod Ranks
-pub mod Bits
+pub mod Goodness
 pub mod Ends
-pub mod PlainStanding
-pub mod ArenaStanding
+pub mod Cover
+pub mod Advancing

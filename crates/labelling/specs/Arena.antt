@@ -1,27 +1,27 @@
--- Labels in a list that only grows, each with the place of the one before its last stop.
+-- Labels in a list that only grows, each with the index of its parent: the label before its last stop.
 use Rattle.std.specs.Prelude.{◌≡◌, ◌≢◌, ℕ, zero, suc, ◌+◌, ◌<◌, ◌≤◌, true, false, List, [], ◌∷◌, ◌++◌, length, slice_index_or, ℤ, pos, Some, ◌⊎◌, Option, MatchOption}
+use Rattle.std.specs.FinSet.{contains, empty}
 use Rattle.solomon_reader.specs.Problem.{Problem}
 use Rattle.solomon_reader.specs.Region.{Region}
 use Rattle.solomon_reader.specs.States.{State, start, step, CanStep, CanEnd, IsAsGood, Reaches}
-use Rattle.labelling.specs.declared.found.Found.{Found}
+use Rattle.labelling.specs.declared.best.Best.{Best}
 use Rattle.labelling.specs.declared.label.Label.{Label}
 use Rattle.labelling.specs.Cover.{IsAtMost, CoversAll}
-use Rattle.labelling.specs.Fronts.{state_of, ended, IsBounded, IsSame}
-use Rattle.labelling.specs.Masks.{has}
+use Rattle.labelling.specs.Fronts.{state_of, end_cost, IsBounded, IsSameState}
 
 abbrev pub blank : Label
-blank = record { front = record { customer = 0; time = 0; load = 0; cost = pos 0 }; memory = 0; parent = 0; stops = 0; alive = false; worked = false }
+blank = record { front = record { last = 0; time = 0; load = 0; cost = pos 0 }; memory = empty; parent = 0; stops = 0; active = false; extended = false }
 
 abbrev pub label_in : List Label → ℕ → Label
 label_in xs m = slice_index_or xs m blank
 
 abbrev pub state_at : Label → State
-state_at l = state_of l.front (has l.memory)
+state_at l = state_of l.front (contains l.memory)
 
 -- the last n stops up to a label, by its parents
 abbrev pub trace : List Label → ℕ → Label → List ℕ
 trace xs zero l = []
-trace xs (suc n) l = trace xs n (label_in xs l.parent) ++ (l.front.customer ∷ [])
+trace xs (suc n) l = trace xs n (label_in xs l.parent) ++ (l.front.last ∷ [])
 
 pub record IsLabel (p : Problem) (g : Region) (k : ℕ) (prices : List ℤ) (xs : List Label) (l : Label) : Type 0 where
   pub bounded : IsBounded p l.front
@@ -33,47 +33,47 @@ pub record IsArena (p : Problem) (g : Region) (k : ℕ) (prices : List ℤ) (xs 
   pub each : (m : ℕ) → m < length xs → IsLabel p g k prices xs (label_in xs m)
 
 -- its steps are still to be taken
-pub record IsWaiting (l : Label) : Type 0 where
-  pub alive : l.alive ≡ true
-  pub worked : l.worked ≡ false
+pub record IsPending (l : Label) : Type 0 where
+  pub active : l.active ≡ true
+  pub extended : l.extended ≡ false
 
-pub record Stands (xs : List Label) (a : State) : Type 0 where
-  pub place : ℕ
-  pub within : place < length xs
-  pub alive : (label_in xs place).alive ≡ true
-  pub is : state_at (label_in xs place) ≡ a
+pub record HasActive (xs : List Label) (a : State) : Type 0 where
+  pub index : ℕ
+  pub within : index < length xs
+  pub active : (label_in xs index).active ≡ true
+  pub is : state_at (label_in xs index) ≡ a
 
-pub record Waits (xs : List Label) (a : State) : Type 0 where
-  pub place : ℕ
-  pub within : place < length xs
-  pub waiting : IsWaiting (label_in xs place)
-  pub is : state_at (label_in xs place) ≡ a
+pub record HasPending (xs : List Label) (a : State) : Type 0 where
+  pub index : ℕ
+  pub within : index < length xs
+  pub unextended : IsPending (label_in xs index)
+  pub is : state_at (label_in xs index) ≡ a
 
--- something as good as the state stands
-abbrev pub IsBeaten : List Label → State → Type 0
-IsBeaten xs a = (t : State) × (Stands xs t × IsAsGood t a)
+-- an active label is as good as the state
+abbrev pub IsDominated : List Label → State → Type 0
+IsDominated xs a = (t : State) × (HasActive xs t × IsAsGood t a)
 
-abbrev pub dropped : Label → Label
-dropped l = record l { alive = false }
+abbrev pub inactive : Label → Label
+inactive l = record l { active = false }
 
--- labels that a beats were dropped
-pub record IsBuried (xs ys : List Label) (a : State) : Type 0 where
+-- labels that a dominates were dropped
+pub record IsPruned (xs ys : List Label) (a : State) : Type 0 where
   pub same : length ys ≡ length xs
   pub each : (m : ℕ) → m < length xs
-      → (label_in ys m ≡ label_in xs m) ⊎ (IsAsGood a (state_at (label_in xs m)) × (label_in ys m ≡ dropped (label_in xs m)))
+      → (label_in ys m ≡ label_in xs m) ⊎ (IsAsGood a (state_at (label_in xs m)) × (label_in ys m ≡ inactive (label_in xs m)))
 
--- x is the label after l, which stands at the place, and a stop at j
-pub record IsExtension (p : Problem) (k : ℕ) (prices : List ℤ) (l : Label) (place j : ℕ) (x : Label) : Type 0 where
-  pub same : IsSame (state_at x) (step p k prices (state_at l) j)
+-- x is l, which stands at the index, with a further stop at j
+pub record IsExtension (p : Problem) (k : ℕ) (prices : List ℤ) (l : Label) (index j : ℕ) (x : Label) : Type 0 where
+  pub same : IsSameState (state_at x) (step p k prices (state_at l) j)
   pub bounded : IsBounded p x.front
   pub light : x.stops ≤ x.front.load
-  pub parent : x.parent ≡ place
+  pub parent : x.parent ≡ index
   pub stops : x.stops ≡ l.stops + 1
-  pub waiting : IsWaiting x
+  pub unextended : IsPending x
 
--- x was added at the end and what it beats was dropped, or something as good stands
-abbrev pub IsKept : List Label → List Label → Label → Type 0
-IsKept xs ys x = ((ys ≡ xs) × IsBeaten xs (state_at x)) ⊎ ((zs : List Label) × (IsBuried xs zs (state_at x) × (ys ≡ zs ++ (x ∷ []))))
+-- x was added at the end and what it dominates was dropped, or an active label is as good
+abbrev pub IsAdded : List Label → List Label → Label → Type 0
+IsAdded xs ys x = ((ys ≡ xs) × IsDominated xs (state_at x)) ⊎ ((zs : List Label) × (IsPruned xs zs (state_at x) × (ys ≡ zs ++ (x ∷ []))))
 
 pub record IsSameStop (a b : Label) : Type 0 where
   pub front : b.front ≡ a.front
@@ -84,77 +84,77 @@ pub record IsSameStop (a b : Label) : Type 0 where
 -- b is a, or was dropped since
 pub record IsLater (a b : Label) : Type 0 where
   pub same : IsSameStop a b
-  pub alive : b.alive ≡ true → a.alive ≡ true
-  pub worked : b.worked ≡ a.worked
+  pub active : b.active ≡ true → a.active ≡ true
+  pub extended : b.extended ≡ a.extended
 
 pub record IsGrown (xs ys : List Label) : Type 0 where
   pub longer : length xs ≤ length ys
   pub later : (m : ℕ) → m < length xs → IsLater (label_in xs m) (label_in ys m)
-  pub fresh : (m : ℕ) → length xs ≤ m → m < length ys → (label_in ys m).worked ≡ false
+  pub fresh : (m : ℕ) → length xs ≤ m → m < length ys → (label_in ys m).extended ≡ false
 
--- for each state that stood or waited one as good stands or waits
+-- for each state of an active or pending label there is still one that is as good
 pub record IsMoved (xs ys : List Label) : Type 0 where
   pub grown : IsGrown xs ys
-  pub pending : (a : State) → Waits xs a → (t : State) × (Waits ys t × IsAsGood t a)
-  pub standing : (a : State) → Stands xs a → IsBeaten ys a
+  pub pending : (a : State) → HasPending xs a → (t : State) × (HasPending ys t × IsAsGood t a)
+  pub active : (a : State) → HasActive xs a → IsDominated ys a
 
 -- the step from l to j was taken, if it may be taken
-pub record IsStepped (p : Problem) (g : Region) (k : ℕ) (prices : List ℤ) (xs ys : List Label) (l : Label) (j : ℕ) : Type 0 where
+pub record TakesStep (p : Problem) (g : Region) (k : ℕ) (prices : List ℤ) (xs ys : List Label) (l : Label) (j : ℕ) : Type 0 where
   pub moved : IsMoved xs ys
   pub labelled : IsArena p g k prices ys
-  pub beaten : CanStep p g (state_at l) j → IsBeaten ys (step p k prices (state_at l) j)
+  pub dominated : CanStep p g (state_at l) j → IsDominated ys (step p k prices (state_at l) j)
 
 -- each step from l to a customer below i was taken
-pub record IsSpread (p : Problem) (g : Region) (k : ℕ) (prices : List ℤ) (xs ys : List Label) (l : Label) (i : ℕ) : Type 0 where
+pub record TakesSteps (p : Problem) (g : Region) (k : ℕ) (prices : List ℤ) (xs ys : List Label) (l : Label) (i : ℕ) : Type 0 where
   pub moved : IsMoved xs ys
   pub labelled : IsArena p g k prices ys
-  pub beaten : (j : ℕ) → j < i → CanStep p g (state_at l) j → IsBeaten ys (step p k prices (state_at l) j)
+  pub dominated : (j : ℕ) → j < i → CanStep p g (state_at l) j → IsDominated ys (step p k prices (state_at l) j)
 
--- the end of l, which stands at the place, was counted
-pub record IsSettled (p : Problem) (g : Region) (l : Label) (place : ℕ) (b c : Found) : Type 0 where
+-- the best c counts the end of l, which stands at the index, beside b
+pub record CountsEnd (p : Problem) (g : Region) (l : Label) (index : ℕ) (b c : Best) : Type 0 where
   pub lower : (y : ℤ) → IsAtMost b.value y → IsAtMost c.value y
-  pub counted : CanEnd p g (state_at l) → IsAtMost c.value (ended p l.front)
-  pub from : (c ≡ b) ⊎ (CanEnd p g (state_at l) × ((c.value ≡ Some (ended p l.front)) × (c.place ≡ place)))
+  pub counted : CanEnd p g (state_at l) → IsAtMost c.value (end_cost p l.front)
+  pub from : (c ≡ b) ⊎ (CanEnd p g (state_at l) × ((c.value ≡ Some (end_cost p l.front)) × (c.index ≡ index)))
 
--- the label at the place ends at z
-pub record EndsAt (p : Problem) (g : Region) (xs : List Label) (place : ℕ) (z : ℤ) : Type 0 where
-  pub within : place < length xs
-  pub can : CanEnd p g (state_at (label_in xs place))
-  pub value : ended p (label_in xs place).front ≡ z
+-- the label at the index ends at z
+pub record EndsAt (p : Problem) (g : Region) (xs : List Label) (index : ℕ) (z : ℤ) : Type 0 where
+  pub within : index < length xs
+  pub can : CanEnd p g (state_at (label_in xs index))
+  pub value : end_cost p (label_in xs index).front ≡ z
 
-abbrev pub IsFound : Problem → Region → List Label → Found → Type 0
-IsFound p g xs f = MatchOption f.value (Unit {0}) (λ z. EndsAt p g xs f.place z)
+abbrev pub IsAttained : Problem → Region → List Label → Best → Type 0
+IsAttained p g xs f = MatchOption f.value (Unit {0}) (λ z. EndsAt p g xs f.index z)
 
--- all that may come after a label that stands is covered by what was found, or by a label that waits
-pub record IsSearched (p : Problem) (g : Region) (k : ℕ) (prices : List ℤ) (xs : List Label) (f : Found) : Type 0 where
+-- all that may come after an active label is covered by the best so far, or by a pending label
+pub record IsComplete (p : Problem) (g : Region) (k : ℕ) (prices : List ℤ) (xs : List Label) (f : Best) : Type 0 where
   pub labelled : IsArena p g k prices xs
-  pub first : IsBeaten xs (start p)
-  pub covers : CoversAll p g k prices f.value (Waits xs) (Stands xs)
-  pub found : IsFound p g xs f
+  pub first : IsDominated xs (start p)
+  pub covers : CoversAll p g k prices f.value (HasPending xs) (HasActive xs)
+  pub attained : IsAttained p g xs f
 
--- the label at the place doesn't wait any more, and no other one that was there waits again
-pub record IsOnward (xs ys : List Label) (place : ℕ) : Type 0 where
+-- the label at the index isn't pending any more, and no other one that was there is pending again
+pub record IsOnward (xs ys : List Label) (index : ℕ) : Type 0 where
   pub longer : length xs ≤ length ys
-  pub still : (m : ℕ) → m < length xs → IsWaiting (label_in ys m) → IsWaiting (label_in xs m) × (m ≢ place)
+  pub still : (m : ℕ) → m < length xs → IsPending (label_in ys m) → IsPending (label_in xs m) × (m ≢ index)
 
--- no label below the place waits
-pub record IsSwept (xs : List Label) (place : ℕ) : Type 0 where
-  pub each : (m : ℕ) → m < place → m < length xs → ¬ IsWaiting (label_in xs m)
+-- no label below the index is pending
+pub record NonePending (xs : List Label) (index : ℕ) : Type 0 where
+  pub each : (m : ℕ) → m < index → m < length xs → ¬ IsPending (label_in xs m)
 
--- the answer is that of what was found
-pub record IsAnswer (xs : List Label) (f : Found) (value : Option ℤ) (route : List ℕ) : Type 0 where
+-- the answer is that of the best
+pub record IsAnswer (xs : List Label) (f : Best) (value : Option ℤ) (route : List ℕ) : Type 0 where
   pub amount : value ≡ f.value
-  pub stops : MatchOption f.value (route ≡ []) (λ _. route ≡ trace xs (label_in xs f.place).stops (label_in xs f.place))
+  pub stops : MatchOption f.value (route ≡ []) (λ _. route ≡ trace xs (label_in xs f.index).stops (label_in xs f.index))
 
-abbrev pub IsPlaced : List Label → Found → Type 0
-IsPlaced xs f = MatchOption f.value (Unit {0}) (λ _. f.place < length xs)
+abbrev pub IsInList : List Label → Best → Type 0
+IsInList xs f = MatchOption f.value (Unit {0}) (λ _. f.index < length xs)
 
 -- the label of the empty beginning at the depot
 pub record IsFirst (p : Problem) (xs : List Label) : Type 0 where
   pub label : Label
   pub one : xs ≡ label ∷ []
-  pub start : IsSame (state_at label) (start p)
+  pub start : IsSameState (state_at label) (start p)
   pub bounded : IsBounded p label.front
   pub parent : label.parent ≡ 0
   pub stops : label.stops ≡ 0
-  pub waiting : IsWaiting label
+  pub unextended : IsPending label

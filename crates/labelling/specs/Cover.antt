@@ -4,7 +4,7 @@ use Rattle.solomon_reader.specs.Problem.{Problem}
 use Rattle.solomon_reader.specs.Region.{Region}
 use Rattle.solomon_reader.specs.States.{State, Completes, value_with}
 
--- the least that was found is at most z
+-- the best is at most z
 abbrev pub IsAtMost : Option ℤ → ℤ → Type 0
 IsAtMost None z = ⊥
 IsAtMost (Some m) z = m ≤ℤ z
@@ -21,7 +21,7 @@ pub record Witness (p : Problem) (g : Region) (k : ℕ) (prices : List ℤ) (Pen
 abbrev pub IsCovered : Problem → Region → ℕ → List ℤ → Option ℤ → (State → Type 0) → ℕ → ℤ → Type 0
 IsCovered p g k prices b Pending n z = IsAtMost b z ⊎ Witness p g k prices Pending n z
 
--- all that may come after a state that stands is covered
+-- all that may come after an active state is covered
 abbrev pub CoversAll : Problem → Region → ℕ → List ℤ → Option ℤ → (State → Type 0) → (State → Type 0) → Type 0
-CoversAll p g k prices b Pending Stands =
-    (a : State) → Stands a → (s : List ℕ) → Completes p g k prices a s → IsCovered p g k prices b Pending (length s) (value_with p k prices a s)
+CoversAll p g k prices b Pending Active =
+    (a : State) → Active a → (s : List ℕ) → Completes p g k prices a s → IsCovered p g k prices b Pending (length s) (value_with p k prices a s)

@@ -1,6 +1,6 @@
--- Where a vehicle stands, as the code keeps it, as a state, and what the caller hands in.
-use Rattle.std.specs.Prelude.{◌≡◌, ℕ, ◌+◌, ◌*◌, ◌<◌, ◌≤◌, Bool, false, ◌==◌, List, length, ℤ, pos, ◌+ℤ◌, ◌≤ℤ◌}
-use Rattle.std.specs.List.{list_any, All}
+-- Fronts as states, and what the caller hands in.
+use Rattle.std.specs.Prelude.{◌≡◌, ℕ, ◌+◌, ◌*◌, ◌<◌, ◌≤◌, Bool, false, List, length, ℤ, pos, ◌+ℤ◌, ◌≤ℤ◌}
+use Rattle.std.specs.List.{All}
 use Rattle.solomon_reader.specs.declared.limits.TheConstants.{MOST_TIME, MOST_CAPACITY, MOST_PRICE, MOST_DISTANCE}
 use Rattle.solomon_reader.specs.Problem.{Problem, IsCustomer, customer_count, demand, ready, due, service}
 use Rattle.solomon_reader.specs.Distance.{distance}
@@ -8,15 +8,12 @@ use Rattle.solomon_reader.specs.Region.{Region}
 use Rattle.solomon_reader.specs.States.{State, arc_value, begins}
 use Rattle.labelling.specs.declared.front.Front.{Front}
 
--- a memory as a list
-abbrev pub holds : List ℕ → ℕ → Bool
-holds xs u = list_any (λ x. x == u) xs
-
 abbrev pub state_of : Front → (ℕ → Bool) → State
-state_of f memory = record { last = f.customer; time = f.time; load = f.load; cost = f.cost; memory = memory }
+state_of f memory = record { last = f.last; time = f.time; load = f.load; cost = f.cost; memory = memory }
 
-abbrev pub seen : Front → State
-seen f = state_of f (λ _. false)
+-- the state of a front that remembers nothing
+abbrev pub bare_state : Front → State
+bare_state f = state_of f (λ _. false)
 
 -- the most that a stop adds to a reduced cost, or takes from it
 abbrev pub most_grains : ℕ
@@ -29,7 +26,7 @@ pub record IsPriced (z : ℤ) : Type 0 where
 
 -- the numbers of a front are small; the reduced cost by its load, since each customer has a demand
 pub record IsBounded (p : Problem) (f : Front) : Type 0 where
-  pub last : f.customer < length p.rows
+  pub last : f.last < length p.rows
   pub time : f.time ≤ 20 * MOST_TIME
   pub load : f.load ≤ p.capacity
   pub held : p.capacity ≤ MOST_CAPACITY
@@ -37,26 +34,27 @@ pub record IsBounded (p : Problem) (f : Front) : Type 0 where
   pub high : f.cost ≤ℤ pos (most_grains * f.load)
 
 pub record IsStart (p : Problem) (f : Front) : Type 0 where
-  pub customer : f.customer ≡ 0
+  pub last : f.last ≡ 0
   pub time : f.time ≡ ready p 0
   pub load : f.load ≡ 0
   pub cost : f.cost ≡ pos 0
 
 pub record CanServe (p : Problem) (f : Front) (j : ℕ) : Type 0 where
   pub load : f.load + demand p j ≤ p.capacity
-  pub due : begins p (seen f) j ≤ due p j
+  pub due : begins p (bare_state f) j ≤ due p j
 
 -- x is the front after f and a stop at j
 pub record IsAfter (p : Problem) (prices : List ℤ) (f : Front) (j : ℕ) (x : Front) : Type 0 where
-  pub customer : x.customer ≡ j
-  pub time : x.time ≡ begins p (seen f) j + service p j
+  pub last : x.last ≡ j
+  pub time : x.time ≡ begins p (bare_state f) j + service p j
   pub load : x.load ≡ f.load + demand p j
-  pub cost : x.cost ≡ f.cost +ℤ arc_value p prices f.customer j
+  pub cost : x.cost ≡ f.cost +ℤ arc_value p prices f.last j
 
-abbrev pub ended : Problem → Front → ℤ
-ended p f = f.cost +ℤ pos (1000 * distance p f.customer 0)
+-- the reduced cost with the return to the depot
+abbrev pub end_cost : Problem → Front → ℤ
+end_cost p f = f.cost +ℤ pos (1000 * distance p f.last 0)
 
-pub record IsSame (a b : State) : Type 0 where
+pub record IsSameState (a b : State) : Type 0 where
   pub last : a.last ≡ b.last
   pub time : a.time ≡ b.time
   pub load : a.load ≡ b.load

@@ -1,6 +1,7 @@
+pub mod Bits
 pub mod Answer
 pub mod Fronts
-pub mod Masks
+pub mod Tables
 pub mod Arena
 pub mod Cover
-pub mod PlainLabels
+pub mod Search

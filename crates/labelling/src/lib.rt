@@ -2,19 +2,20 @@
 //! labels: the first stops of routes, with what the further ones depend on.
 #![tactic(auto)]
 
-mod answer;
+mod best;
+mod buckets;
+mod customer_labels;
+mod customer_set;
 mod fault;
-mod found;
 mod front;
 mod label;
-mod masks;
+mod labeller;
+mod least_cost;
+mod lookup;
 mod neighbours;
-pub mod plain;
-mod queue;
-mod search;
-mod shelves;
+mod tables;
 mod task;
 
-pub use answer::Least;
 pub use fault::LabelFault;
-pub use search::least;
+pub use labeller::least;
+pub use least_cost::Least;

@@ -1,14 +1,12 @@
-//! Neighbour lists, and what is remembered.
+//! Neighbour lists.
 
-ghost use Rattle.std.specs.Prelude.{◌≡◌, ℕ, ◌<◌, nat_lt, length, IfOk};
-ghost use Rattle.solomon_reader.specs.Problem.{IsCustomer};
+ghost use Rattle.std.specs.Prelude.{◌≡◌, ◌<◌, nat_lt, length};
 ghost use Rattle.solomon_reader.specs.Relaxed.{stands_before, rank};
-ghost use Rattle.solomon_reader.specs.Remembering.{ahead, near, remember};
-ghost use Rattle.labelling.specs.Fronts.{holds};
+ghost use Rattle.solomon_reader.specs.Remembering.{ahead, near};
 
 use solomon_reader::Instance;
-use std::alloc::{AllocError, Global};
 
+/// Whether w is nearer to v than u is, or as near with a lower number.
 fn stands_before(instance: &Instance, v: u16, w: u16, u: u16) -> bool
     requires v { v < length instance.now.rows }
     requires w { w < length instance.now.rows }
@@ -20,6 +18,7 @@ fn stands_before(instance: &Instance, v: u16, w: u16, u: u16) -> bool
     near < far || near == far && w < u
 }
 
+/// Whether w is another row than v, and stands before u as v sees them.
 fn is_ahead(instance: &Instance, v: u16, w: u16, u: u16) -> bool
     requires v { v < length instance.now.rows }
     requires w { w < length instance.now.rows }
@@ -49,7 +48,7 @@ fn is_among_first(instance: &Instance, k: u32, v: u16, u: u16) -> bool
 }
 
 /// Whether v is in the neighbour list of w.
-pub(crate) fn near(instance: &Instance, k: u32, w: u16, v: u16) -> bool
+pub(crate) fn is_near(instance: &Instance, k: u32, w: u16, v: u16) -> bool
     requires w { w < length instance.now.rows }
     requires v { v < length instance.now.rows }
     ensures { result ≡ near instance.now k w v }
@@ -62,38 +61,4 @@ pub(crate) fn near(instance: &Instance, k: u32, w: u16, v: u16) -> bool
         return false;
     }
     is_among_first(instance, k, w, v)
-}
-
-pub(crate) fn remembers(memory: &[u16], u: u16) -> bool
-    ensures { result ≡ holds memory.now u }
-{
-    memory.contains(&u)
-}
-
-fn stays(instance: &Instance, k: u32, memory: &[u16], j: u16, u: u16) -> bool
-    requires j { j < length instance.now.rows }
-    requires u { u < length instance.now.rows }
-    ensures { result ≡ remember (near instance.now k) (holds memory.now) j u }
-{
-    u == j || remembers(memory, u) && near(instance, k, j, u)
-}
-
-pub(crate) fn remembered(
-    alloc: Global,
-    instance: &Instance,
-    k: u32,
-    memory: &[u16],
-    j: u16,
-) -> Result<Vec<u16>, AllocError>
-    requires { IsCustomer instance.now j }
-    ensures { IfOk result (λ v. (u : ℕ) → holds v.items u ≡ remember (near instance.now k) (holds memory.now) j u) }
-{
-    let count = instance.customer_count();
-    let mut after = Vec::new(alloc);
-    for u in 1..count + 1 {
-        if stays(instance, k, memory, j, u) {
-            after.push(u)?;
-        }
-    }
-    Ok(after)
 }

@@ -3,22 +3,24 @@
 ghost use Rattle.std.specs.Prelude.{◌≡◌, ◌+◌, [], ◌∷◌};
 ghost use Rattle.segments.specs.PlanTrees.{problem_of};
 ghost use Rattle.moves.specs.Trees.{visits_of, AreOfPlan};
-ghost use Rattle.moves.specs.Order.{IsBest, kind_of};
-ghost use Rattle.moves.specs.Search.{numbers, better, IsFirstLength, IsSecondLength, IsBestBefore};
+ghost use Rattle.moves.specs.Order.{IsBest, IsBestOf, kind_of};
+ghost use Rattle.moves.specs.Search.{numbers, better, IsFirstLength, IsSecondLength, IsBestInRange};
 
 use crate::candidate::{Chain, Kind, Move, Place};
-use crate::ranges::{first_lengths, first_places, second_lengths, second_places, second_routes};
+use crate::ranges::{
+    first_lengths, first_positions, second_lengths, second_positions, second_routes,
+};
 use crate::sizes::route_count;
 use crate::valuing::value;
 use segments::PlanTrees;
 
 /// Where a chain begins.
 fn place_of(chain: &Chain) -> Place
-    ensures { result ≡ record { route = chain.now.route; place = chain.now.place } }
+    ensures { result ≡ record { route = chain.now.route; position = chain.now.position } }
 {
     Place {
         route: chain.route,
-        place: chain.place,
+        position: chain.position,
     }
 }
 
@@ -27,7 +29,7 @@ fn candidate_of(kind: Kind, first: &Chain, second: &Chain) -> Move
     requires first { IsFirstLength kind first.now.length }
     requires second { IsSecondLength kind second.now.length }
     ensures kind { kind_of result ≡ kind }
-    ensures numbers { numbers result ≡ first.now.route ∷ first.now.place ∷ first.now.length ∷ second.now.route ∷ second.now.place ∷ second.now.length ∷ [] }
+    ensures numbers { numbers result ≡ first.now.route ∷ first.now.position ∷ first.now.length ∷ second.now.route ∷ second.now.position ∷ second.now.length ∷ [] }
 {
     let (from, to) = (place_of(first), place_of(second));
     match kind {
@@ -48,128 +50,117 @@ fn candidate_of(kind: Kind, first: &Chain, second: &Chain) -> Move
     }
 }
 
-/// The better of what was found and a later move, if that has a value.
-fn better(before: Option<(Move, i64)>, candidate: Move, value: Option<i64>) -> Option<(Move, i64)>
-    ensures { result ≡ better before candidate value }
+/// The better of two answers: the earlier one, unless the later has a lower value.
+fn better(earlier: Option<(Move, i64)>, later: Option<(Move, i64)>) -> Option<(Move, i64)>
+    ensures { result ≡ better earlier later }
 {
-    let Some(v) = value else {
-        return before;
-    };
-    match before {
-        Some((_, least)) if least <= v => before,
-        _ => Some((candidate, v)),
+    match (earlier, later) {
+        (Some((_, least)), Some((_, value))) if value < least => later,
+        (Some(_), _) => earlier,
+        (None, _) => later,
     }
 }
 
-/// The better of what was found and the moves with these five first numbers.
-fn best_at_place(
+/// A move with its value, if it has one.
+fn best_of_one(trees: &PlanTrees<'_>, candidate: Move) -> Option<(Move, i64)>
+    requires { AreOfPlan trees.now }
+    ensures { IsBestOf (problem_of trees.now) (visits_of trees.now) (λ n. n ≡ candidate) result }
+{
+    let value = value(trees, &candidate)?;
+    Some((candidate, value))
+}
+
+/// The best of the moves with these five first numbers.
+fn best_at_position(
     trees: &PlanTrees<'_>,
     kind: Kind,
     first: &Chain,
     route: u16,
-    place: u16,
-    before: Option<(Move, i64)>,
+    position: u16,
 ) -> Option<(Move, i64)>
     requires plan { AreOfPlan trees.now }
     requires length { IsFirstLength kind first.now.length }
-    requires best { IsBestBefore (problem_of trees.now) (visits_of trees.now) kind (first.now.route ∷ first.now.place ∷ first.now.length ∷ route ∷ place ∷ []) before }
-    ensures { IsBestBefore (problem_of trees.now) (visits_of trees.now) kind (first.now.route ∷ first.now.place ∷ first.now.length ∷ route ∷ (place + 1) ∷ []) result }
+    ensures { IsBestInRange (problem_of trees.now) (visits_of trees.now) kind (first.now.route ∷ first.now.position ∷ first.now.length ∷ route ∷ []) position (position + 1) result }
 {
-    let lengths = second_lengths(trees, kind, first, route, place);
-    let mut best = before;
+    let lengths = second_lengths(trees, kind, first, route, position);
+    let mut best = None;
     for length in lengths.start..lengths.end {
         let second = Chain {
             route,
-            place,
+            position,
             length,
         };
         let candidate = candidate_of(kind, first, &second);
-        best = better(best, candidate, value(trees, &candidate));
+        best = better(best, best_of_one(trees, candidate));
     }
     best
 }
 
-/// The better of what was found and the moves with these four first numbers.
+/// The best of the moves with these four first numbers.
 fn best_into_route(
     trees: &PlanTrees<'_>,
     kind: Kind,
     first: &Chain,
     route: u16,
-    before: Option<(Move, i64)>,
 ) -> Option<(Move, i64)>
     requires plan { AreOfPlan trees.now }
     requires length { IsFirstLength kind first.now.length }
-    requires best { IsBestBefore (problem_of trees.now) (visits_of trees.now) kind (first.now.route ∷ first.now.place ∷ first.now.length ∷ route ∷ []) before }
-    ensures { IsBestBefore (problem_of trees.now) (visits_of trees.now) kind (first.now.route ∷ first.now.place ∷ first.now.length ∷ (route + 1) ∷ []) result }
+    ensures { IsBestInRange (problem_of trees.now) (visits_of trees.now) kind (first.now.route ∷ first.now.position ∷ first.now.length ∷ []) route (route + 1) result }
 {
-    let places = second_places(trees, kind, first, route);
-    let mut best = before;
-    for place in places.start..places.end {
-        best = best_at_place(trees, kind, first, route, place, best);
+    let positions = second_positions(trees, kind, first, route);
+    let mut best = None;
+    for position in positions.start..positions.end {
+        best = better(best, best_at_position(trees, kind, first, route, position));
     }
     best
 }
 
-/// The better of what was found and the moves with this first chain.
-fn best_of_chain(
-    trees: &PlanTrees<'_>,
-    kind: Kind,
-    first: &Chain,
-    before: Option<(Move, i64)>,
-) -> Option<(Move, i64)>
+/// The best of the moves with this first chain.
+fn best_of_chain(trees: &PlanTrees<'_>, kind: Kind, first: &Chain) -> Option<(Move, i64)>
     requires plan { AreOfPlan trees.now }
     requires length { IsFirstLength kind first.now.length }
-    requires best { IsBestBefore (problem_of trees.now) (visits_of trees.now) kind (first.now.route ∷ first.now.place ∷ first.now.length ∷ []) before }
-    ensures { IsBestBefore (problem_of trees.now) (visits_of trees.now) kind (first.now.route ∷ first.now.place ∷ (first.now.length + 1) ∷ []) result }
+    ensures { IsBestInRange (problem_of trees.now) (visits_of trees.now) kind (first.now.route ∷ first.now.position ∷ []) first.now.length (first.now.length + 1) result }
 {
     let routes = second_routes(trees, kind, first);
-    let mut best = before;
+    let mut best = None;
     for route in routes.start..routes.end {
-        best = best_into_route(trees, kind, first, route, best);
+        best = better(best, best_into_route(trees, kind, first, route));
     }
     best
 }
 
-/// The better of what was found and the moves with these two first numbers.
-fn best_from_place(
+/// The best of the moves with these two first numbers.
+fn best_from_position(
     trees: &PlanTrees<'_>,
     kind: Kind,
     route: u16,
-    place: u16,
-    before: Option<(Move, i64)>,
+    position: u16,
 ) -> Option<(Move, i64)>
-    requires plan { AreOfPlan trees.now }
-    requires best { IsBestBefore (problem_of trees.now) (visits_of trees.now) kind (route ∷ place ∷ []) before }
-    ensures { IsBestBefore (problem_of trees.now) (visits_of trees.now) kind (route ∷ (place + 1) ∷ []) result }
+    requires { AreOfPlan trees.now }
+    ensures { IsBestInRange (problem_of trees.now) (visits_of trees.now) kind (route ∷ []) position (position + 1) result }
 {
-    let lengths = first_lengths(trees, kind, route, place);
-    let mut best = before;
+    let lengths = first_lengths(trees, kind, route, position);
+    let mut best = None;
     for length in lengths.start..lengths.end {
         let first = Chain {
             route,
-            place,
+            position,
             length,
         };
-        best = best_of_chain(trees, kind, &first, best);
+        best = better(best, best_of_chain(trees, kind, &first));
     }
     best
 }
 
-/// The better of what was found and the moves with this first route.
-fn best_from_route(
-    trees: &PlanTrees<'_>,
-    kind: Kind,
-    route: u16,
-    before: Option<(Move, i64)>,
-) -> Option<(Move, i64)>
-    requires plan { AreOfPlan trees.now }
-    requires best { IsBestBefore (problem_of trees.now) (visits_of trees.now) kind (route ∷ []) before }
-    ensures { IsBestBefore (problem_of trees.now) (visits_of trees.now) kind ((route + 1) ∷ []) result }
+/// The best of the moves with this first route.
+fn best_from_route(trees: &PlanTrees<'_>, kind: Kind, route: u16) -> Option<(Move, i64)>
+    requires { AreOfPlan trees.now }
+    ensures { IsBestInRange (problem_of trees.now) (visits_of trees.now) kind [] route (route + 1) result }
 {
-    let places = first_places(trees, kind, route);
-    let mut best = before;
-    for place in places.start..places.end {
-        best = best_from_place(trees, kind, route, place, best);
+    let positions = first_positions(trees, kind, route);
+    let mut best = None;
+    for position in positions.start..positions.end {
+        best = better(best, best_from_position(trees, kind, route, position));
     }
     best
 }
@@ -182,7 +173,7 @@ pub fn best(trees: &PlanTrees<'_>, kind: Kind) -> Option<(Move, i64)>
 {
     let mut best = None;
     for route in 0..route_count(trees) {
-        best = best_from_route(trees, kind, route, best);
+        best = better(best, best_from_route(trees, kind, route));
     }
     best
 }

@@ -8,15 +8,15 @@ mod changing;
 mod choosing;
 mod costing;
 mod fault;
-mod plan;
 mod ranges;
 mod sizes;
+mod trees;
 mod valuing;
 
 pub use applying::apply;
 pub use candidate::{Chain, KINDS, Kind, Move, Place};
 pub use choosing::best;
 pub use fault::MoveFault;
-pub use plan::trees_of;
 pub use sizes::MOST_CHAIN;
+pub use trees::trees_of;
 pub use valuing::value;

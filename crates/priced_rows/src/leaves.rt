@@ -1,16 +1,18 @@
 //! Values of leaves, and steps of the prices.
 
-use super::shared::leaf_of;
-use branching::Region;
+use super::shared::{leaf_at, leaf_of};
+use branching::{Arc, Region};
 use prices::{PriceFault, Priced, improve};
-use row_texts::{DEPOT, instance_text};
-use solomon_reader::read;
+use row_texts::{DEPOT, instance_text, one_customer, two_in_line};
+use solomon_reader::{Instance, read};
+use std::alloc::Global;
 use std::test::Fail;
 use tenths::Tenths;
 
 /// Prices at the root of an instance, and the value that they give in tenths.
 #[derive(Clone, Copy)]
 struct Row {
+    name: &'static str,
     fleet: u32,
     capacity: u32,
     depot: &'static str,
@@ -22,17 +24,19 @@ struct Row {
 
 /// One customer, reached in 50 tenths, with one vehicle.
 const ALONE: Row = Row {
+    name: "price 0",
     fleet: 1,
     capacity: 1,
     depot: DEPOT,
     customers: "1 3 4 1 0 1000 0\n",
     neighbours: 8,
     prices: &[0],
-    value: 0,
+    value: 100,
 };
 
 /// Two customers near each other, with room for three visits.
 const NEAR: Row = Row {
+    name: "the route 2 1 2 counts",
     fleet: 1,
     capacity: 3,
     depot: DEPOT,
@@ -46,52 +50,68 @@ const NEAR: Row = Row {
 fn prices_give_a_leaf_its_value(rt: HostRuntime) -> Result<(), Fail> {
     let rows = [
         ALONE,
-        // 99.001 tenths are rounded up.
         Row {
-            prices: &[99_001],
+            name: "what the price lacks of the cost counts for the one route",
+            prices: &[99_000],
             value: 100,
             ..ALONE
         },
+        // The price is 60,001 grains above the cost, which each of two vehicles takes back.
         Row {
-            prices: &[99_000],
-            value: 99,
+            name: "39.999 tenths are rounded up",
+            fleet: 2,
+            prices: &[160_001],
+            value: 40,
             ..ALONE
         },
         // The route costs 100 tenths: what the price is above it, the vehicle takes back.
         Row {
+            name: "the vehicle takes back what is above the cost",
             prices: &[160_000],
             value: 100,
             ..ALONE
         },
-        // Nobody can be served in time.
         Row {
+            name: "nobody can be served in time",
             customers: "1 3 4 1 0 4 0\n",
             prices: &[101_000],
             value: 101,
             ..ALONE
         },
-        // The route 2 1 2 counts where no customer remembers another.
+        // No customer remembers another.
         NEAR,
         Row {
+            name: "the route 2 1 2 is remembered",
             neighbours: 1,
             value: 1100,
             ..NEAR
         },
-        // One vehicle takes back 301 of 802.
         Row {
+            name: "one vehicle takes back 301 of 802",
             customers: "1 3 4 1 0 1000 0\n2 6 8 1 0 1000 0\n",
             prices: &[401_000, 401_000],
             value: 501,
             ..ALONE
         },
-        // Two vehicles.
         Row {
+            name: "two vehicles",
             fleet: 2,
             capacity: 2,
             depot: "0 0 1 0 0 1000 0\n",
             customers: "1 100 1 1 0 1000 0\n2 100 2 1 0 1000 0\n3 100 0 1 0 1000 0\n",
             prices: &[1_000_000, 1_010_000, 1_010_000],
             value: 3020,
+            ..ALONE
+        },
+        // The least reduced cost is 1,980,000, that of customer 2 or 3 alone.
+        Row {
+            name: "two routes cost at least the least reduced cost each",
+            fleet: 2,
+            capacity: 2,
+            depot: "0 0 1 0 0 1000 0\n",
+            customers: "1 100 1 1 0 1000 0\n2 100 2 1 0 1000 0\n3 100 0 1 0 1000 0\n",
+            prices: &[10_000, 20_000, 20_000],
+            value: 4010,
             ..ALONE
         },
     ];
@@ -105,26 +125,80 @@ fn prices_give_a_leaf_its_value(rt: HostRuntime) -> Result<(), Fail> {
         )?;
         let instance = read(rt.alloc(), text.as_bytes())?;
         let leaf = leaf_of(rt.alloc(), &instance, row.neighbours, row.prices)?;
-        assert_eq!(rt; leaf.value(), row.value);
-        assert_eq!(rt; leaf.prices(), row.prices);
+        assert_eq!(rt; leaf.value(), row.value, "{}", row.name);
+        assert_eq!(rt; leaf.prices(), row.prices, "{}", row.name);
     }
+    Ok(())
+}
+
+/// The value of prices at a child of the root by the arc from the depot to customer 1.
+fn child_value(
+    alloc: Global,
+    instance: &Instance,
+    used: bool,
+    prices: &[i64],
+) -> Result<i128, Fail> {
+    let root = Region::root(alloc, instance.customer_count());
+    let arc = Arc { from: 0, to: 1 };
+    let child = if used {
+        root.used(arc)?
+    } else {
+        root.forbidden(arc)?
+    };
+    Ok(leaf_at(alloc, instance, child, 8, prices)?.value())
+}
+
+#[test]
+fn children_have_values_of_their_own(rt: HostRuntime) -> Result<(), Fail> {
+    let alloc = rt.alloc();
+    let text = two_in_line(alloc)?;
+    let two = read(alloc, text.as_bytes())?;
+    let rows: [(&str, bool, [i64; 2], i128); 2] = [
+        // The route 2 is still allowed, and its reduced cost is -101,000.
+        ("used", true, [100_000, 301_000], 199),
+        // The route 2 alone is left, at 200,000, and two routes carry the demands.
+        ("unused", false, [401_000, 0], 801),
+    ];
+    for (name, used, prices, value) in rows {
+        assert_eq!(rt; child_value(alloc, &two, used, &prices)?, value, "{name}");
+    }
+    let text = one_customer(alloc)?;
+    let one = read(alloc, text.as_bytes())?;
+    assert_eq!(rt; child_value(alloc, &one, true, &[100_000])?, 100);
+    // No relaxed route is left.
+    assert_eq!(rt; child_value(alloc, &one, false, &[101_000])?, 101);
     Ok(())
 }
 
 #[test]
 fn steps_raise_a_value(rt: HostRuntime) -> Result<(), Fail> {
+    let customers = "1 3 4 1 0 1000 0\n2 6 8 1 0 1000 0\n";
+    let text = instance_text(rt.alloc(), 2, 2, DEPOT, customers)?;
+    let instance = read(rt.alloc(), text.as_bytes())?;
+    let first = leaf_of(rt.alloc(), &instance, 8, &[0, 0])?;
+    assert_eq!(rt; first.value(), 100);
+    let leaf = improve(rt.alloc(), first, &[64_000], None);
+    assert_eq!(rt; leaf.prices(), [64_000, 64_000].as_slice());
+    assert_eq!(rt; leaf.least().value, Some(36_000));
+    assert_eq!(rt; leaf.value(), 164);
+    let copy = leaf.try_clone()?;
+    assert_eq!(rt; copy.prices(), leaf.prices());
+    assert_eq!(rt; copy.value(), 164);
+    assert_eq!(rt;
+        copy.least().route.as_slice(),
+        leaf.least().route.as_slice()
+    );
+    Ok(())
+}
+
+#[test]
+fn of_equal_values_the_first_stays(rt: HostRuntime) -> Result<(), Fail> {
     let text = instance_text(rt.alloc(), 1, 1, DEPOT, ALONE.customers)?;
     let instance = read(rt.alloc(), text.as_bytes())?;
     let first = leaf_of(rt.alloc(), &instance, 8, &[0])?;
     let leaf = improve(rt.alloc(), first, &[60_000, 60_000], None);
-    assert_eq!(rt; leaf.prices(), [120_000].as_slice());
+    assert_eq!(rt; leaf.prices(), [0].as_slice());
     assert_eq!(rt; leaf.value(), 100);
-    let copy = leaf.try_clone()?;
-    assert_eq!(rt; copy.prices(), leaf.prices());
-    assert_eq!(rt; copy.value(), 100);
-    // Of equal values the first stays: another step gives 180000, and the value 100 again.
-    let same = improve(rt.alloc(), copy, &[60_000], None);
-    assert_eq!(rt; same.prices(), [120_000].as_slice());
     Ok(())
 }
 
@@ -132,10 +206,20 @@ fn steps_raise_a_value(rt: HostRuntime) -> Result<(), Fail> {
 fn prices_out_of_range_come_back(rt: HostRuntime) -> Result<(), Fail> {
     let text = instance_text(rt.alloc(), 1, 1, DEPOT, ALONE.customers)?;
     let instance = read(rt.alloc(), text.as_bytes())?;
-    for (price, labels, expected) in [
-        (1_000_000_000_001, None, PriceFault::PriceRange),
-        (-1_000_000_000_001, Some(0), PriceFault::PriceRange),
-        (1_000_000_000_000, Some(0), PriceFault::LabelLimit),
+    for (name, price, labels, expected) in [
+        ("too high", 1_000_000_000_001, None, PriceFault::PriceRange),
+        (
+            "too low, and no label allowed",
+            -1_000_000_000_001,
+            Some(0),
+            PriceFault::PriceRange,
+        ),
+        (
+            "the highest, and no label allowed",
+            1_000_000_000_000,
+            Some(0),
+            PriceFault::LabelLimit,
+        ),
     ] {
         let count = instance.customer_count();
         let root = Region::root(rt.alloc(), count);
@@ -143,9 +227,9 @@ fn prices_out_of_range_come_back(rt: HostRuntime) -> Result<(), Fail> {
         match Priced::of(rt.alloc(), &instance, root, 8, prices, labels) {
             Ok(_leaf) => return Err(Fail::from("a value")),
             Err((region, back, fault)) => {
-                assert_eq!(rt; fault, expected);
-                assert_eq!(rt; region.size(), 1);
-                assert_eq!(rt; back.as_slice(), [price].as_slice());
+                assert_eq!(rt; fault, expected, "{name}");
+                assert_eq!(rt; region.size(), 1, "{name}");
+                assert_eq!(rt; back.as_slice(), [price].as_slice(), "{name}");
             }
         }
     }
@@ -171,7 +255,7 @@ fn the_root_allows_every_arc(rt: HostRuntime) -> Result<(), Fail> {
         (1, 1, false),
         (0, 3, false),
     ] {
-        assert_eq!(rt; root.allows(from, to), allowed);
+        assert_eq!(rt; root.allows(from, to), allowed, "from {from} to {to}");
     }
     Ok(())
 }

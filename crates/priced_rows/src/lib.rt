@@ -1,5 +1,4 @@
-//! Worked rows of the labeller and of prices: small instances with values that were computed by hand,
-//! and the two bodies of the labeller side by side.
+//! Worked rows of the labeller and of prices: small instances with values that were computed by hand.
 #![tactic(auto)]
 
 #[cfg(test)]

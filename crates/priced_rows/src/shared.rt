@@ -8,6 +8,27 @@ use solomon_reader::{Instance, MOST_NEIGHBOURS};
 use std::alloc::Global;
 use std::test::Fail;
 
+/// These prices at a region of an instance.
+pub fn leaf_at<'i>(
+    alloc: Global,
+    instance: &'i Instance,
+    region: Region,
+    neighbours: u32,
+    prices: &[i64],
+) -> Result<Priced<'i>, Fail>
+    ensures { IfOk result (λ f. f.problem ≡ instance.now) }
+{
+    let count = instance.customer_count();
+    if region.size() != count || prices.len() != count as usize || neighbours > MOST_NEIGHBOURS {
+        return Err(Fail::from("another number of customers, prices or neighbours"));
+    }
+    let prices = Vec::from_slice(alloc, prices)?;
+    match Priced::of(alloc, instance, region, neighbours, prices, None) {
+        Ok(leaf) => Ok(leaf),
+        Err((_region, _prices, _fault)) => Err(Fail::from("no value")),
+    }
+}
+
 /// The root of an instance with these prices.
 pub fn leaf_of<'i>(
     alloc: Global,
@@ -17,14 +38,6 @@ pub fn leaf_of<'i>(
 ) -> Result<Priced<'i>, Fail>
     ensures { IfOk result (λ f. f.problem ≡ instance.now) }
 {
-    let count = instance.customer_count();
-    if prices.len() != count as usize || neighbours > MOST_NEIGHBOURS {
-        return Err(Fail::from("another number of prices or neighbours"));
-    }
-    let root = Region::root(alloc, count);
-    let prices = Vec::from_slice(alloc, prices)?;
-    match Priced::of(alloc, instance, root, neighbours, prices, None) {
-        Ok(leaf) => Ok(leaf),
-        Err((_region, _prices, _fault)) => Err(Fail::from("no value")),
-    }
+    let root = Region::root(alloc, instance.customer_count());
+    leaf_at(alloc, instance, root, neighbours, prices)
 }

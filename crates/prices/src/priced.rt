@@ -3,6 +3,7 @@
 ghost use Rattle.std.specs.Prelude.{◌≡◌, ◌≢◌, ◌≤◌, ◌↔◌, length, pos, IfOk, IfErr, None};
 ghost use Rattle.std.specs.List.{AllByRecursion};
 ghost use Rattle.solomon_reader.specs.Problem.{customer_count};
+ghost use Rattle.solomon_reader.specs.Region.{root_region};
 ghost use Rattle.solomon_reader.specs.CertificateText.{IsPrice};
 ghost use Rattle.solomon_reader.specs.declared.limits.TheConstants.{MOST_NEIGHBOURS};
 ghost use Rattle.labelling.specs.declared.fault.LabelFault.TheVariants as label;
@@ -73,7 +74,7 @@ fn evaluate(
     ensures route { IfOk result (λ v. HasItsRoute instance.now region.now neighbours prices.now v.1) }
     ensures unlimited { IfErr result (λ e. e ≡ label.LabelLimit → limit ≢ None) }
 {
-    instance.holds();
+    instance.law_of_limits();
     let found = least(alloc, instance, region, prices, neighbours, limit)?;
     let value = value_of(
         instance.fleet(),
@@ -82,6 +83,16 @@ fn evaluate(
         least_of(found.value),
     );
     Ok((value, found))
+}
+
+/// A price of zero for each customer.
+fn no_prices(alloc: Global, instance: &Instance) -> Result<Vec<i64>, AllocError>
+    ensures len { IfOk result (λ prices. length prices.items ≡ customer_count instance.now) }
+    ensures zero { IfOk result (λ prices. AllByRecursion (λ z. z ≡ pos 0) prices.items) }
+    ensures priced { IfOk result (λ prices. AllByRecursion IsPrice prices.items) }
+{
+    let count = instance.customer_count();
+    Ok(vec![in alloc; 0; count as usize]?)
 }
 
 /// A copy of a least reduced cost with its route.
@@ -143,6 +154,42 @@ impl<'i> Priced<'i> {
             }),
             Err(fault) => Err((region, prices, PriceFault::from(fault))),
         }
+    }
+
+    /// The root of an instance at prices of 0, with this many neighbours, at most 15. `LabelLimit`
+    /// where as many labels stand as `limit` allows; `Memory`.
+    pub fn root(
+        alloc: Global,
+        instance: &'i Instance,
+        neighbours: u32,
+        limit: Option<usize>,
+    ) -> Result<Priced<'i>, LabelFault>
+        requires { neighbours ≤ MOST_NEIGHBOURS }
+        ensures problem { IfOk result (λ f. f.problem ≡ instance.now) }
+        ensures region { IfOk result (λ f. f.region ≡ root_region (customer_count instance.now)) }
+        ensures neighbours { IfOk result (λ f. f.neighbours ≡ neighbours) }
+        ensures prices { IfOk result (λ f. AllByRecursion (λ z. z ≡ pos 0) f.prices) }
+        ensures valued { IfOk result (λ f. IsPricing f) }
+        ensures unlimited { IfErr result (λ e. e ≡ label.LabelLimit → limit ≢ None) }
+    {
+        let prices = no_prices(alloc, instance)?;
+        let region = Region::root(alloc, instance.customer_count());
+        let (value, least) = evaluate(
+            alloc,
+            instance,
+            &region,
+            neighbours,
+            prices.as_slice(),
+            limit,
+        )?;
+        Ok(Priced {
+            instance,
+            region,
+            neighbours,
+            prices,
+            value,
+            least,
+        })
     }
 
     /// The instance.

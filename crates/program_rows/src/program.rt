@@ -223,13 +223,25 @@ fn windows_and_closing_times_decide(rt: HostRuntime) -> Result<(), Fail> {
     let none = Expected::NoPlan;
     let rows = [
         Row::alone(alloc, "open all day", DEPOT, open, far)?,
-        Row::alone(alloc, "each arc truncated", DEPOT, "1 1 3 1 0 1000 0\n", slanted)?,
+        Row::alone(
+            alloc,
+            "each arc truncated",
+            DEPOT,
+            "1 1 3 1 0 1000 0\n",
+            slanted,
+        )?,
         Row::alone(alloc, "on the depot", DEPOT, "1 0 0 1 0 1000 0\n", free)?,
         Row::alone(alloc, "due on arrival", DEPOT, "1 3 4 1 0 5 0\n", far)?,
         Row::alone(alloc, "due before", DEPOT, "1 3 4 1 0 4 0\n", none)?,
         Row::alone(alloc, "back at closing", "0 0 0 0 0 10 0\n", open, far)?,
         Row::alone(alloc, "back too late", "0 0 0 0 0 9 0\n", open, none)?,
-        Row::alone(alloc, "waits", "0 0 0 0 0 65 0\n", "1 3 4 1 50 55 10\n", far)?,
+        Row::alone(
+            alloc,
+            "waits",
+            "0 0 0 0 0 65 0\n",
+            "1 3 4 1 50 55 10\n",
+            far,
+        )?,
         Row::alone(alloc, "too heavy", DEPOT, "1 3 4 2 0 1000 0\n", none)?,
     ];
     for row in &rows {
@@ -314,8 +326,14 @@ fn wrong_words_end_with_status_2_and_help_with_0(rt: HostRuntime) -> Result<(), 
         let printed = run(&rt, words);
         assert_eq!(rt; printed.status, expected, "{name}");
         // The text stands on one of the two.
-        assert!(rt; printed.out.as_slice().is_empty() == (expected == 2), "{name}");
-        assert!(rt; printed.errors.as_slice().is_empty() == (expected == 0), "{name}");
+        assert!(rt;
+            printed.out.as_slice().is_empty() == (expected == 2),
+            "{name}"
+        );
+        assert!(rt;
+            printed.errors.as_slice().is_empty() == (expected == 0),
+            "{name}"
+        );
     }
     Ok(())
 }

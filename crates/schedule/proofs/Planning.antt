@@ -13,7 +13,7 @@ use Rattle.solomon_reader.specs.Plan.{IsFitting, IsPlan, HasWalk, load_of, count
 use Rattle.schedule.specs.declared.fault.PlanFault.{PlanFault}
 use Rattle.schedule.specs.declared.fault.PlanFault.TheVariants.{EmptyRoute, UnknownCustomer, Twice, Missing, OverCapacity, Late, FleetExceeded}
 use Rattle.solomon_reader.specs.Lists.{lists}
-use Rattle.schedule.specs.Faults.{visits, HasFault, rank_of, IsClearBelow, IsLowestFault}
+use Rattle.schedule.specs.Faults.{stops, HasFault, rank_of, IsClearBelow, IsLowestFault}
 use Rattle.solomon_reader.specs.CountLaws.{at_most_once, permutation_from_counts, count-range_below, count-range_above, count-range_within, count_none, All-flat, count_positive}
 
 pub Any-map : {X Y : Type 0} (P : X → Type 0) (f : Y → X) (ys : List Y) → Any (λ y. P (f y)) ys → Any P (map f ys)
@@ -56,6 +56,11 @@ clear_more p routes f below not_here = record {
   ];
 }
 
+-- what holds of each stop of each route
+pub all_stops : (P : ℕ → Type 0) (routes : List (Vec ℕ Global)) → All (λ v. All P v.items) routes → AllByRecursion P (stops (lists routes))
+all_stops P routes all = All-flat P (lists routes) (recursion_from_All (AllByRecursion P) (lists routes)
+    (All-map (AllByRecursion P) (λ v. v.items) routes (λ k d h. recursion_from_All P _ (all k d h))))
+
 module _ (p : Problem) (routes : List (Vec ℕ Global)) where
   pub no_empty : All (λ v. 0 < length v.items) routes → ¬ HasFault p (lists routes) EmptyRoute
   no_empty all = no_any (λ r. 0 < length r) (λ r. length r ≡ 0) (lists routes) (All-map (λ r. 0 < length r) (λ v. v.items) routes all) (λ r h e. omega arith)
@@ -65,16 +70,15 @@ module _ (p : Problem) (routes : List (Vec ℕ Global)) where
       (All-map (λ r. All (λ i. IsCustomer p i) r) (λ v. v.items) routes all)
       (λ r h a. no_any (λ i. IsCustomer p i) (λ i. ¬ IsCustomer p i) r h (λ i y n. n y) a)
 
-  pub all_known : All (λ v. All (λ i. IsCustomer p i) v.items) routes → AllByRecursion (IsCustomer p) (visits (lists routes))
-  all_known all = All-flat (IsCustomer p) (lists routes) (recursion_from_All (AllByRecursion (IsCustomer p)) (lists routes)
-      (All-map (AllByRecursion (IsCustomer p)) (λ v. v.items) routes (λ k d h. recursion_from_All (IsCustomer p) _ (all k d h))))
+  pub all_known : All (λ v. All (λ i. IsCustomer p i) v.items) routes → AllByRecursion (IsCustomer p) (stops (lists routes))
+  all_known all = all_stops (IsCustomer p) routes all
 
-  pub no_twice : All (λ v. All (λ i. IsCustomer p i) v.items) routes → ((i : ℕ) → IsCustomer p i → count_of i (visits (lists routes)) ≤ 1) → ¬ HasFault p (lists routes) Twice
+  pub no_twice : All (λ v. All (λ i. IsCustomer p i) v.items) routes → ((i : ℕ) → IsCustomer p i → count_of i (stops (lists routes)) ≤ 1) → ¬ HasFault p (lists routes) Twice
   no_twice known once twice =
-      let customer : IsCustomer p twice.0 = count_positive twice.0 (IsCustomer p) (visits (lists routes)) (all_known known) (omega (arith, twice.1)) in
+      let customer : IsCustomer p twice.0 = count_positive twice.0 (IsCustomer p) (stops (lists routes)) (all_known known) (omega (arith, twice.1)) in
       omega (arith, twice.1, once twice.0 customer)
 
-  pub no_missing : ((i : ℕ) → IsCustomer p i → 1 ≤ count_of i (visits (lists routes))) → ¬ HasFault p (lists routes) Missing
+  pub no_missing : ((i : ℕ) → IsCustomer p i → 1 ≤ count_of i (stops (lists routes))) → ¬ HasFault p (lists routes) Missing
   no_missing there missing = omega (arith, missing.2, there missing.0 missing.1)
 
   pub no_overload : All (λ v. load_of p v.items ≤ p.capacity) routes → ¬ HasFault p (lists routes) OverCapacity
@@ -85,20 +89,20 @@ module _ (p : Problem) (routes : List (Vec ℕ Global)) where
   no_late all = no_any (IsFitting p) (λ r. ¬ HasWalk p r) (lists routes) (All-map (IsFitting p) (λ v. v.items) routes all) (λ r h e. e h.walk)
 
   pub is_plan : All (λ v. All (λ i. IsCustomer p i) v.items) routes → All (λ v. IsFitting p v.items) routes
-      → ((i : ℕ) → IsCustomer p i → count_of i (visits (lists routes)) ≤ 1) → ((i : ℕ) → IsCustomer p i → 1 ≤ count_of i (visits (lists routes)))
+      → ((i : ℕ) → IsCustomer p i → count_of i (stops (lists routes)) ≤ 1) → ((i : ℕ) → IsCustomer p i → 1 ≤ count_of i (stops (lists routes)))
       → length routes ≤ p.fleet → IsPlan p (lists routes)
   is_plan known fitting once there few = record {
     fleet = omega (arith, few, length-map routes (λ v. v.items));
     fitting = recursion_from_All (IsFitting p) (lists routes) (All-map (IsFitting p) (λ v. v.items) routes fitting);
-    each_once = permutation_from_counts (customers p) (visits (lists routes)) counts;
+    each_once = permutation_from_counts (customers p) (stops (lists routes)) counts;
   }
     where
-      counts : (i : ℕ) → count_of i (customers p) ≡ count_of i (visits (lists routes))
+      counts : (i : ℕ) → count_of i (customers p) ≡ count_of i (stops (lists routes))
       counts i =
           elim (cases_lt i 1) [
-            | inl low ↦ omega (arith, count-range_below i 1 (customer_count p) low, count_none i (IsCustomer p) (visits (lists routes)) (all_known known) (λ c. omega (arith, c.0)))
+            | inl low ↦ omega (arith, count-range_below i 1 (customer_count p) low, count_none i (IsCustomer p) (stops (lists routes)) (all_known known) (λ c. omega (arith, c.0)))
             | inr above ↦ elim (cases_lt (customer_count p) i) [
-              | inl high ↦ omega (arith, count-range_above i 1 (customer_count p) (omega arith), count_none i (IsCustomer p) (visits (lists routes)) (all_known known) (λ c. omega (arith, c.1)))
+              | inl high ↦ omega (arith, count-range_above i 1 (customer_count p) (omega arith), count_none i (IsCustomer p) (stops (lists routes)) (all_known known) (λ c. omega (arith, c.1)))
               | inr within ↦ let c : IsCustomer p i = (omega arith, omega arith) in
                   omega (arith, count-range_within i 1 (customer_count p) (omega arith) (omega arith), once i c, there i c)
             ]
@@ -112,11 +116,11 @@ module _ (p : Problem) (routes : List (Vec ℕ Global)) (some : All (λ v. 0 < l
     pub after_unknown : IsClearBelow p (lists routes) 2
     after_unknown = clear_more p (lists routes) UnknownCustomer after_empty (no_unknown p routes known)
 
-    module _ (once : (i : ℕ) → IsCustomer p i → count_of i (visits (lists routes)) ≤ 1) where
+    module _ (once : (i : ℕ) → IsCustomer p i → count_of i (stops (lists routes)) ≤ 1) where
       pub after_twice : IsClearBelow p (lists routes) 3
       after_twice = clear_more p (lists routes) Twice after_unknown (no_twice p routes known once)
 
-      module _ (there : (i : ℕ) → IsCustomer p i → 1 ≤ count_of i (visits (lists routes))) where
+      module _ (there : (i : ℕ) → IsCustomer p i → 1 ≤ count_of i (stops (lists routes))) where
         pub after_missing : IsClearBelow p (lists routes) 4
         after_missing = clear_more p (lists routes) Missing after_twice (no_missing p routes there)
 
@@ -138,8 +142,8 @@ module _ (p : Problem) (routes : List (List ℕ)) (plan : IsPlan p routes) where
   none_of : (Q : List ℕ → Type 0) → ((r : List ℕ) → IsFitting p r → ¬ Q r) → ¬ Any Q routes
   none_of Q apart = no_any (IsFitting p) Q routes (All-from_recursion (IsFitting p) routes plan.fitting) apart
 
-  same_count : (i : ℕ) → count_of i (visits routes) ≡ count_of i (customers p)
-  same_count i = sum_by-IsPermutation (λ x. cond (x == i) 1 0) (customers p) (visits routes) plan.each_once
+  same_count : (i : ℕ) → count_of i (stops routes) ≡ count_of i (customers p)
+  same_count i = sum_by-IsPermutation (λ x. cond (x == i) 1 0) (customers p) (stops routes) plan.each_once
 
   no_fault : (f : PlanFault) → ¬ HasFault p routes f
   no_fault EmptyRoute h = none_of (λ r. length r ≡ 0) (λ r fit e. omega (arith, fit.some)) h

@@ -6,16 +6,16 @@ use Rattle.solomon_reader.specs.Plan.{HasWalk, load_of, count_of}
 use Rattle.schedule.specs.declared.fault.PlanFault.{PlanFault}
 use Rattle.schedule.specs.declared.fault.PlanFault.TheVariants.{EmptyRoute, UnknownCustomer, Twice, Missing, OverCapacity, Late, FleetExceeded}
 
--- the visits of all routes
-abbrev pub visits : List (List ℕ) → List ℕ
-visits routes = flat_map (λ r. r) routes
+-- the stops of all routes
+abbrev pub stops : List (List ℕ) → List ℕ
+stops routes = flat_map (λ r. r) routes
 
 -- the fault holds somewhere in the routes
 abbrev pub HasFault : Problem → List (List ℕ) → PlanFault → Type 0
 HasFault p routes EmptyRoute = Any (λ r. length r ≡ 0) routes
 HasFault p routes UnknownCustomer = Any (λ r. Any (λ i. ¬ IsCustomer p i) r) routes
-HasFault p routes Twice = (i : ℕ) × (2 ≤ count_of i (visits routes))
-HasFault p routes Missing = (i : ℕ) × IsCustomer p i × (count_of i (visits routes) ≡ 0)
+HasFault p routes Twice = (i : ℕ) × (2 ≤ count_of i (stops routes))
+HasFault p routes Missing = (i : ℕ) × IsCustomer p i × (count_of i (stops routes) ≡ 0)
 HasFault p routes OverCapacity = Any (λ r. p.capacity < load_of p r) routes
 HasFault p routes Late = Any (λ r. ¬ HasWalk p r) routes
 HasFault p routes FleetExceeded = p.fleet < length routes

@@ -1,3 +1,4 @@
 pub mod Steps
 pub mod Faults
 pub mod Solution
+pub mod Marks

@@ -2,8 +2,9 @@
 #![tactic(auto)]
 
 mod fault;
+mod finding;
+mod marks;
 mod plan;
-mod search;
 mod summary;
 mod walking;
 

@@ -7,7 +7,7 @@ ghost use Rattle.schedule.specs.Faults.{IsLowestFault};
 ghost use Rattle.schedule.specs.Solution.{IsSolution};
 
 use crate::fault::PlanFault;
-use crate::search::{fault_of, total_cost};
+use crate::finding::{fault_of, total_cost};
 use solomon_reader::Instance;
 use std::alloc::AllocError;
 use std::marker::Model;
@@ -72,7 +72,8 @@ impl<'i> Feasible<'i> {
 
     /// The instance whose plan this is.
     pub fn instance(&self) -> &'i Instance
-        ensures { result.now ≡ self.now.problem }
+        ensures is { result.now ≡ self.now.problem }
+        ensures solution { IsSolution self.now }
     {
         self.instance
     }

@@ -2,7 +2,7 @@
 
 ghost use Rattle.std.specs.Prelude.{◌≡◌, ℕ, ◌+◌, ◌*◌, ◌<◌, ◌≤◌, length, IsTrue, IsFalse, IfSome, IfNone};
 ghost use Rattle.std.specs.List.{All, Any};
-ghost use Rattle.solomon_reader.specs.declared.limits.TheConstants.{MOST_TIME};
+ghost use Rattle.solomon_reader.specs.declared.limits.TheConstants.{MOST_CUSTOMERS, MOST_TIME};
 ghost use Rattle.solomon_reader.specs.Distance.{distance};
 ghost use Rattle.solomon_reader.specs.Plan.{IsFitting, Finishes, route_cost, load_of};
 ghost use Rattle.solomon_reader.specs.Problem.{IsCustomer, demand, service};
@@ -26,6 +26,7 @@ struct Progress {
 pub fn are_customers(instance: &Instance, visits: &[u16]) -> bool
     ensures stranger { IsFalse result → Any (λ i. ¬ IsCustomer instance.now i) visits.now }
     ensures known { IsTrue result → All (λ i. IsCustomer instance.now i) visits.now }
+    ensures small { IsTrue result → All (λ i. i ≤ MOST_CUSTOMERS) visits.now }
 {
     let count = instance.customer_count();
     visits.iter().all(|&stop| 1 <= stop && stop <= count)

@@ -40,11 +40,11 @@ no_cheaper p routes m none formed plan =
 
 local_optimum : (p : Problem) (routes : List (List ℕ)) → ((k : Kind) → HasNoGain p routes k) → IsLocalOptimum p routes
 local_optimum p routes none = record {
-  relocate = λ a i b j formed. no_cheaper p routes (Relocate (record { route = a; place = i }) (record { route = b; place = j })) (none kind.Relocate) formed;
-  exchange = λ a i b j formed. no_cheaper p routes (Exchange (record { route = a; place = i }) (record { route = b; place = j })) (none kind.Exchange) formed;
-  or_opt = λ a i l b j formed. no_cheaper p routes (OrOpt (record { route = a; place = i; length = l }) (record { route = b; place = j })) (none kind.OrOpt) formed;
-  two_opt_star = λ a i b j formed. no_cheaper p routes (TwoOptStar (record { route = a; place = i }) (record { route = b; place = j })) (none kind.TwoOptStar) formed;
-  cross = λ a i l b j m formed. no_cheaper p routes (Cross (record { route = a; place = i; length = l }) (record { route = b; place = j; length = m })) (none kind.Cross) formed;
+  relocate = λ a i b j formed. no_cheaper p routes (Relocate (record { route = a; position = i }) (record { route = b; position = j })) (none kind.Relocate) formed;
+  exchange = λ a i b j formed. no_cheaper p routes (Exchange (record { route = a; position = i }) (record { route = b; position = j })) (none kind.Exchange) formed;
+  or_opt = λ a i l b j formed. no_cheaper p routes (OrOpt (record { route = a; position = i; length = l }) (record { route = b; position = j })) (none kind.OrOpt) formed;
+  two_opt_star = λ a i b j formed. no_cheaper p routes (TwoOptStar (record { route = a; position = i }) (record { route = b; position = j })) (none kind.TwoOptStar) formed;
+  cross = λ a i l b j m formed. no_cheaper p routes (Cross (record { route = a; position = i; length = l }) (record { route = b; position = j; length = m })) (none kind.Cross) formed;
 }
 
 lower : (new old : ℕ) (n o : ℕ) (v : ℤ) → pos n ≡ pos o +ℤ v → pos n ≡ pos o +ℤ (pos new -ℤ pos old) → v <ℤ pos 0 → new < old
@@ -76,10 +76,10 @@ pub first_at : (p : Problem) (routes : List (List ℕ)) (i : ℕ) (m : Move) →
     → ((j : ℕ) → j < i → HasNoGain p routes (get_or kinds j kind.Relocate)) → IsFirstGain p routes m
 first_at p routes i m h gain none =
     let same = gain.1.taken in
-    let place : rank_of (kind_of m) ≡ i = ap rank_of same ∙ rank_at i h in
+    let rank : rank_of (kind_of m) ≡ i = ap rank_of same ∙ rank_at i h in
     record {
       best = subst (λ (k : Kind). IsBestGain p routes k m) (sym same) gain;
-      first = λ k below. subst (λ (l : Kind). HasNoGain p routes l) (kind_at k) (none (rank_of k) (rw place at below));
+      first = λ k below. subst (λ (l : Kind). HasNoGain p routes l) (kind_at k) (none (rank_of k) (rw rank at below));
     }
 
 pub none_at : (p : Problem) (routes : List (List ℕ)) → ((j : ℕ) → j < 5 → HasNoGain p routes (get_or kinds j kind.Relocate)) → IsLocalOptimum p routes

@@ -68,7 +68,7 @@ fn cheaper<'i>(
 
 /// The plan after the best moves of the first kinds that make it cheaper, one after the other, until
 /// no kind does. Where memory was refused, the plan that it has come to.
-pub fn descended<'i>(
+pub fn descend<'i>(
     alloc: Global,
     plan: Feasible<'i>,
 ) -> Result<Feasible<'i>, (Feasible<'i>, SearchFault)>

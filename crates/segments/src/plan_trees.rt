@@ -1,9 +1,12 @@
 //! The trees of a plan's routes.
 
-ghost use Rattle.std.specs.Prelude.{◌≡◌, ◌<◌, [], length, map, slice_index_or, IfOk};
+ghost use Rattle.std.specs.Prelude.{◌≡◌, ◌<◌, ◌≤◌, [], length, map, slice_index_or, IfOk};
 ghost use Rattle.std.specs.List.{All, AllByRecursion};
 ghost use Rattle.std.specs.Borrow.{sem};
-ghost use Rattle.solomon_reader.specs.Problem.{IsCustomer};
+ghost use Rattle.solomon_reader.specs.Problem.{IsCustomer, customer_count};
+ghost use Rattle.solomon_reader.specs.declared.limits.TheConstants.{MOST_CUSTOMERS};
+ghost use Rattle.solomon_reader.specs.Layout.{IsWithinLimits};
+ghost use Rattle.solomon_reader.specs.Plan.{IsPlan};
 ghost use Rattle.solomon_reader.specs.Lists.{lists};
 ghost use Rattle.segments.specs.Segments.{stop, join};
 ghost use Rattle.segments.specs.Trees.{items_of, IsTree};
@@ -50,7 +53,8 @@ fn trees_of(
     let mut trees = Vec::new(alloc);
     for route in routes {
         let stops = stops_of(alloc, instance, route.as_slice())?;
-        trees.push(RouteTree::new(alloc, instance, stops)?)?;
+        let tree = RouteTree::new(alloc, instance, stops).map_err(|(_, fault)| fault)?;
+        trees.push(tree)?;
     }
     Ok(trees)
 }
@@ -61,8 +65,8 @@ impl<'i> PlanTrees<'i> {
         ensures problem { IfOk result (λ t. problem_of t ≡ plan.now.problem) }
         ensures routes { IfOk result (λ t. routes_of t ≡ map (map (stop plan.now.problem)) plan.now.routes) }
         ensures trees { IfOk result (λ t. AreTrees t) }
+        ensures plan { IfOk result (λ t. IsPlan (problem_of t) plan.now.routes) }
     {
-        let _cost = plan.cost();
         let instance = plan.instance();
         let routes = trees_of(alloc, instance, plan.routes())?;
         Ok(PlanTrees { instance, routes })
@@ -75,6 +79,14 @@ impl<'i> PlanTrees<'i> {
         self.instance
     }
 
+    /// The instance is within the limits.
+    pub fn law_of_limits(&self)
+        ensures limits { IsWithinLimits (problem_of self.now) }
+        ensures customers { customer_count (problem_of self.now) ≤ MOST_CUSTOMERS }
+    {
+        self.instance.law_of_limits();
+    }
+
     /// The number of routes.
     pub fn count(&self) -> usize
         ensures { result ≡ length (routes_of self.now) }
@@ -82,7 +94,7 @@ impl<'i> PlanTrees<'i> {
         self.routes.len()
     }
 
-    /// A route by its place, counted from 0.
+    /// A route by its number, counted from 0.
     pub fn route(&self, r: usize) -> &RouteTree<Segment>
         requires { r < length (routes_of self.now) }
         ensures items { items_of result.now ≡ slice_index_or (routes_of self.now) r [] }
@@ -91,7 +103,7 @@ impl<'i> PlanTrees<'i> {
         &self.routes[r]
     }
 
-    /// A route by its place, counted from 0, to be changed.
+    /// A route by its number, counted from 0, to be changed.
     pub fn route_mut(&mut self, r: usize) -> &mut RouteTree<Segment>
         requires { r < length (routes_of self.old) }
         ensures* writes_back { sem 𝓛 (LendsRoute self.entry r result) }

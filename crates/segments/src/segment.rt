@@ -45,7 +45,6 @@ impl Segment {
         requires { IsCustomer instance.now customer }
         ensures { result ≡ stop instance.now customer }
     {
-        let _count = instance.customer_count();
         let load = u32::from(instance.demand(customer));
         let latest = instance.due(customer) as i64;
         let duration = instance.service(customer) as i64;
@@ -116,7 +115,7 @@ impl Segment {
         requires last { self.now.last ≤ customer_count instance.now }
         ensures { result ≡ closed instance.now self.now }
     {
-        let _count = instance.customer_count();
+        instance.law_of_limits();
         if self.load > u32::from(instance.capacity()) {
             return None;
         }

@@ -1,6 +1,6 @@
 //! Lists of items, with the joins of their parts.
 
-ghost use Rattle.std.specs.Prelude.{◌≡◌, ◌+◌, ◌<◌, ◌≤◌, ◌++◌, length, take, drop, slice_range, Some, option_copied, IfOk, OnOk, OnErr};
+ghost use Rattle.std.specs.Prelude.{◌≡◌, ◌+◌, ◌<◌, ◌≤◌, ◌++◌, length, take, drop, slice_range, Some, option_copied, IfOk, IfErr, OnOk, OnErr};
 ghost use Rattle.segments.specs.Linked.{chain, both};
 ghost use Rattle.segments.specs.Trees.{AreFronts, AreBacks, items_of, IsTree, IsWhole};
 
@@ -9,7 +9,7 @@ use crate::linked::Linked;
 use std::alloc::Global;
 
 /// A list of items that may be joined, with the joins of all its beginnings and of all its ends.
-/// Contracts see the items, and that the joins that it keeps are those of the items. Places are
+/// Contracts see the items, and that the joins that it keeps are those of the items. Positions are
 /// counted from 0.
 #[derive(Drop)]
 pub struct RouteTree<L> {
@@ -114,17 +114,24 @@ fn backs_of<L: Linked>(
 }
 
 impl<L: Linked> RouteTree<L> {
-    /// A tree of the items.
+    /// A tree of the items, or the list of them again and `Memory`.
     pub fn new(
         alloc: Global,
         context: &L::Context,
         items: Vec<L>,
-    ) -> Result<RouteTree<L>, TreeFault>
+    ) -> Result<RouteTree<L>, (Vec<L>, TreeFault)>
         ensures items { IfOk result (λ t. items_of t ≡ items.items) }
         ensures tree { IfOk result (λ t. IsTree (L.op context.now) t) }
+        ensures back { IfErr result (λ e. e.0 ≡ items) }
     {
-        let fronts = fronts_of(alloc, context, items.as_slice())?;
-        let backs = backs_of(alloc, context, items.as_slice())?;
+        let fronts = match fronts_of(alloc, context, items.as_slice()) {
+            Ok(fronts) => fronts,
+            Err(fault) => return Err((items, fault)),
+        };
+        let backs = match backs_of(alloc, context, items.as_slice()) {
+            Ok(backs) => backs,
+            Err(fault) => return Err((items, fault)),
+        };
         Ok(RouteTree {
             alloc,
             items,

@@ -3,7 +3,7 @@ use Rattle.std.proofs.Common.{◌≡◌, ℕ, ◌+◌, ◌<◌, ◌≤◌, List,
 use Rattle.solomon_reader.specs.Problem.{Problem}
 use Rattle.solomon_reader.specs.Plan.{IsPlan}
 use Rattle.solomon_reader.specs.Bound.{version_2, ceiling_of, IsTreeBound}
-use Rattle.solomon_reader.specs.CertificateText.{Certificate, Content, certificate_text}
+use Rattle.solomon_reader.specs.CertificateText.{Content, certificate_text}
 use Rattle.solomon_reader.specs.DualityLaws.{tree_bound_holds, ceiling_holds}
 use Rattle.vrptw.specs.Certified.{IsCertified}
 use Rattle.vrptw.specs.Answers.{Held, Took, IsBoundText}

@@ -1,5 +1,5 @@
 -- The tree of an outcome is that of a certificate.
-use Rattle.std.proofs.Common.{◌≡◌, refl, ℕ, ◌+◌, ◌-◌, ◌≤◌, List, [], ◌∷◌, length, arith}
+use Rattle.std.proofs.Common.{refl, ℕ, ◌-◌, ◌≤◌, List, [], ◌∷◌, length, arith}
 use Rattle.std.specs.Prelude.{ℤ}
 use Rattle.tenths.specs.declared.value.TheConstants.{MOST_TENTHS}
 use Rattle.solomon_reader.specs.declared.row.Row.{Row}

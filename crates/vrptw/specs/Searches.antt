@@ -1,5 +1,5 @@
 -- How a book changes while the solver fills it.
-use Rattle.std.specs.Prelude.{◌≡◌, ℕ, ◌+◌, ◌≤◌, length}
+use Rattle.std.specs.Prelude.{◌≡◌, ◌+◌, ◌≤◌, length}
 use Rattle.incumbent_book.specs.Contents.{Contents}
 
 -- the same search, with at most one event more

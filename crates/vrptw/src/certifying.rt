@@ -42,7 +42,7 @@ pub fn certify(alloc: Global, outcome: &Outcome<'_>) -> Result<Cert, SolveFault>
     ensures memory { IfErr result (λ e. e ≡ Memory) }
 {
     let instance = outcome.instance();
-    instance.holds();
+    instance.law_of_limits();
     let parts = CertParts {
         version: Version::Two,
         name: Vec::from_slice(alloc, instance.name())?,

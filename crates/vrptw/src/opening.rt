@@ -1,9 +1,7 @@
 //! The opening of a search: the root with its first prices, the first plans, and the book of both.
 
 ghost use Rattle.std.specs.Prelude.{◌≡◌, ◌≢◌, ◌+◌, ◌<◌, ◌≤◌, ◌⊎◌, None, length, IfOk, IfErr, OnOk, MatchOption};
-ghost use Rattle.std.specs.List.{AllByRecursion};
 ghost use Rattle.solomon_reader.specs.Problem.{customer_count};
-ghost use Rattle.solomon_reader.specs.CertificateText.{IsPrice};
 ghost use Rattle.solomon_reader.specs.Moves.{IsLocalOptimum};
 ghost use Rattle.solomon_reader.specs.Region.{root_region};
 ghost use Rattle.solomon_reader.specs.declared.limits.TheConstants.{MOST_EVENTS, MOST_NEIGHBOURS};
@@ -13,16 +11,16 @@ ghost use Rattle.vrptw.specs.declared.answer.SolveFault.TheVariants.{Memory, Lab
 
 use crate::answer::SolveFault;
 use crate::settings::Settings;
-use branching::Region;
 use incumbent_book::{Book, BookFault, OpenFault, Outcome};
 use insertion::{Built, InsertFault, Weights, build};
-use prices::{PriceFault, Priced, improve};
+use labelling::LabelFault;
+use prices::{Priced, improve};
 use rand_core::SeedableRng;
 use rand_xoshiro::Xoshiro256PlusPlus;
 use schedule::Feasible;
 use search::Searcher;
 use solomon_reader::Instance;
-use std::alloc::{AllocError, Global};
+use std::alloc::Global;
 
 /// The weights of the first plan's insertion, in hundredths: of the arc that is spared, of the way
 /// from the depot, and of the detour, which alone counts at 100.
@@ -41,15 +39,6 @@ const ROOT: u32 = 0;
 /// The steps that raise the prices of the root, in grains.
 const STEPS: [i64; 7] = [64_000, 32_000, 16_000, 8_000, 4_000, 2_000, 1_000];
 
-/// A price of zero for each customer.
-fn no_prices(alloc: Global, instance: &Instance) -> Result<Vec<i64>, AllocError>
-    ensures len { IfOk result (λ prices. length prices.items ≡ customer_count instance.now) }
-    ensures priced { IfOk result (λ prices. AllByRecursion IsPrice prices.items) }
-{
-    let count = instance.customer_count();
-    Ok(vec![in alloc; 0; count as usize]?)
-}
-
 /// The root with prices of zero. `LabelLimit` where the labels don't suffice for them, and `Memory`.
 pub fn price_root<'i>(
     alloc: Global,
@@ -62,29 +51,16 @@ pub fn price_root<'i>(
     ensures neighbours { IfOk result (λ f. f.neighbours ≡ settings.now.neighbours) }
     ensures refused { IfErr result (λ e. (e ≡ Memory) ⊎ (e ≡ LabelLimit)) }
 {
-    let prices = no_prices(alloc, instance)?;
-    let region = Region::root(alloc, instance.customer_count());
     let limit = Some(settings.labels as usize);
-    match Priced::of(
-        alloc,
-        instance,
-        region,
-        settings.neighbours,
-        prices,
-        limit,
-    ) {
+    match Priced::root(alloc, instance, settings.neighbours, limit) {
         Ok(root) => Ok(root),
-        Err((_, _, PriceFault::Memory)) => Err(SolveFault::Memory),
-        Err((_, _, PriceFault::LabelLimit)) => Err(SolveFault::LabelLimit),
-        Err((_, _, PriceFault::PriceRange)) => unreachable!(),
+        Err(LabelFault::Memory) => Err(SolveFault::Memory),
+        Err(LabelFault::LabelLimit) => Err(SolveFault::LabelLimit),
     }
 }
 
 /// The plan that insertion builds, if it serves every customer.
-fn build_plan<'i>(
-    alloc: Global,
-    instance: &'i Instance,
-) -> Result<Option<Feasible<'i>>, SolveFault>
+fn build_plan<'i>(alloc: Global, instance: &'i Instance) -> Result<Option<Feasible<'i>>, SolveFault>
     ensures plan { IfOk result (λ plan. MatchOption plan (¬ IsServedAlone instance.now) (λ f. f.problem ≡ instance.now)) }
     ensures memory { IfErr result (λ e. e ≡ Memory) }
 {
@@ -99,11 +75,7 @@ fn build_plan<'i>(
 }
 
 /// The plan that a descent leads to.
-pub fn descend<'i>(
-    alloc: Global,
-    plan: Feasible<'i>,
-    seed: u32,
-) -> Result<Feasible<'i>, SolveFault>
+pub fn descend<'i>(alloc: Global, plan: Feasible<'i>, seed: u32) -> Result<Feasible<'i>, SolveFault>
     ensures problem { IfOk result (λ f. f.problem ≡ plan.entry.problem) }
     ensures cost { IfOk result (λ f. f.cost ≤ plan.entry.cost) }
     ensures optimum { IfOk result (λ f. IsLocalOptimum f.problem f.routes) }

@@ -34,7 +34,7 @@ impl Model for Few {
 }
 
 /// Both lists, one after the other, if that is a list of at most eight.
-pub fn joined(a: &Few, b: &Few) -> Option<Few>
+pub fn concatenate(a: &Few, b: &Few) -> Option<Few>
     ensures { result ≡ joined_end_to_end a.now b.now }
 {
     if a.len + b.len > MOST {
@@ -78,7 +78,7 @@ impl Linked for Few {
     ghost op = { λ _ a b. joined_end_to_end a b };
 
     fn join(_context: &(), a: &Few, b: &Few) -> Option<Few> {
-        joined(a, b)
+        concatenate(a, b)
     }
 
     ghost law = { λ _ x y z. joined-assoc x y z };

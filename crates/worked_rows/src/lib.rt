@@ -10,8 +10,13 @@ mod insertions;
 #[cfg(test)]
 mod moves_made;
 #[cfg(test)]
+mod plans;
+#[cfg(test)]
 mod reader;
 #[cfg(test)]
 mod routes;
+pub mod script;
+#[cfg(test)]
+mod searches;
 #[cfg(test)]
 mod segments_joined;

@@ -1,31 +1,29 @@
-//! Values of moves, the best of each kind, and what a searcher makes of a plan. The values were
-//! computed by hand, or by a plain program that makes the lists of each move and walks them.
+//! Values of moves, and the best of each kind. The values were computed by hand, or by a plain
+//! program that makes the lists of each move and walks them.
 
-use super::calls::plan_of;
+use super::plans::plan_of;
 use moves::{Chain, KINDS, Kind, Move, MoveFault, Place, apply, best, trees_of, value};
 use rand_core::SeedableRng;
 use rand_xoshiro::Xoshiro256PlusPlus;
 use row_texts::{DEPOT, instance_text};
-use schedule::Feasible;
 use search::Searcher;
 use solomon_reader::read;
 use std::alloc::Global;
 use std::test::Fail;
-use tenths::Tenths;
 
 /// A plan of an instance, and its cost in tenths.
 #[derive(Clone, Copy)]
-struct Row {
-    fleet: u32,
-    capacity: u32,
-    depot: &'static str,
-    customers: &'static str,
-    routes: &'static [&'static [u16]],
-    cost: u32,
+pub(super) struct Row {
+    pub(super) fleet: u32,
+    pub(super) capacity: u32,
+    pub(super) depot: &'static str,
+    pub(super) customers: &'static str,
+    pub(super) routes: &'static [&'static [u16]],
+    pub(super) cost: u32,
 }
 
 /// Two customers east of the depot and two north of it, on two routes that cross.
-const CROSSED: Row = Row {
+pub(super) const CROSSED: Row = Row {
     fleet: 2,
     capacity: 4,
     depot: DEPOT,
@@ -35,7 +33,7 @@ const CROSSED: Row = Row {
 };
 
 /// Two customers whose truncated distances break the triangle inequality.
-const SLANTED: Row = Row {
+pub(super) const SLANTED: Row = Row {
     fleet: 2,
     capacity: 2,
     depot: DEPOT,
@@ -67,50 +65,60 @@ const HURRIED_BACK: Row = Row {
     cost: 1400,
 };
 
-const fn at(route: u16, place: u16) -> Place {
-    Place { route, place }
+const fn at(route: u16, position: u16) -> Place {
+    Place { route, position }
 }
 
-const fn chain(route: u16, place: u16, length: u16) -> Chain {
+const fn chain(route: u16, position: u16, length: u16) -> Chain {
     Chain {
         route,
-        place,
+        position,
         length,
     }
 }
 
-/// Checks a move's value, and what becomes of the plan where it is made.
-fn check_value(
-    alloc: Global,
-    row: &Row,
-    candidate: Move,
-    expected: Option<i64>,
-) -> Result<(), Fail> {
+/// The cost of a plan, the value of a move, and the change of cost where the move is made.
+#[derive(Clone, Copy, Debug, PartialEq, Eq)]
+struct Outcome {
+    cost: u64,
+    value: Option<i64>,
+    change: Option<i64>,
+}
+
+/// What comes of a move.
+fn outcome_of_move(alloc: Global, row: &Row, candidate: Move) -> Result<Outcome, Fail> {
     let text = instance_text(alloc, row.fleet, row.capacity, row.depot, row.customers)?;
     let instance = read(alloc, text.as_bytes())?;
     let plan = plan_of(alloc, &instance, row.routes)?;
-    if plan.cost() != Tenths::from(row.cost) {
-        return Err(Fail::from("another cost"));
-    }
+    let cost = plan.cost().get();
     let trees = trees_of(alloc, &plan)?;
-    if value(&trees, &candidate) != expected {
-        return Err(Fail::from("another value"));
-    }
+    let value = value(&trees, &candidate);
     let change = match apply(alloc, plan, &candidate) {
-        Ok(after) => Some(after.cost().get() as i64 - i64::from(row.cost)),
+        Ok(after) => Some(after.cost().get() as i64 - cost as i64),
         Err((_same, MoveFault::NotFeasible)) => None,
         Err((_same, MoveFault::Memory)) => return Err(Fail::from("memory")),
     };
-    if change != expected {
-        return Err(Fail::from("another plan"));
+    Ok(Outcome {
+        cost,
+        value,
+        change,
+    })
+}
+
+/// What comes of a move with this value.
+fn outcome_of_value(row: &Row, value: Option<i64>) -> Outcome {
+    Outcome {
+        cost: u64::from(row.cost),
+        value,
+        change: value,
     }
-    Ok(())
 }
 
 #[test]
 fn moves_change_the_cost_by_their_values(rt: HostRuntime) -> Result<(), Fail> {
-    let rows: [(&Row, Move, Option<i64>); 24] = [
+    let rows: [(&str, &Row, Move, Option<i64>); 24] = [
         (
+            "ends of crossed routes",
             &CROSSED,
             Move::TwoOptStar {
                 first: at(0, 1),
@@ -119,6 +127,7 @@ fn moves_change_the_cost_by_their_values(rt: HostRuntime) -> Result<(), Fail> {
             Some(-246),
         ),
         (
+            "last customers of crossed routes",
             &CROSSED,
             Move::Exchange {
                 first: at(0, 1),
@@ -127,6 +136,7 @@ fn moves_change_the_cost_by_their_values(rt: HostRuntime) -> Result<(), Fail> {
             Some(-246),
         ),
         (
+            "last chains of crossed routes",
             &CROSSED,
             Move::Cross {
                 first: chain(0, 1, 1),
@@ -135,6 +145,7 @@ fn moves_change_the_cost_by_their_values(rt: HostRuntime) -> Result<(), Fail> {
             Some(-246),
         ),
         (
+            "a whole route before another",
             &CROSSED,
             Move::OrOpt {
                 chain: chain(0, 0, 2),
@@ -143,6 +154,7 @@ fn moves_change_the_cost_by_their_values(rt: HostRuntime) -> Result<(), Fail> {
             Some(-200),
         ),
         (
+            "a chain longer than its route",
             &CROSSED,
             Move::OrOpt {
                 chain: chain(0, 0, 3),
@@ -151,6 +163,7 @@ fn moves_change_the_cost_by_their_values(rt: HostRuntime) -> Result<(), Fail> {
             None,
         ),
         (
+            "a route behind the new one",
             &CROSSED,
             Move::Relocate {
                 from: at(0, 0),
@@ -159,6 +172,7 @@ fn moves_change_the_cost_by_their_values(rt: HostRuntime) -> Result<(), Fail> {
             None,
         ),
         (
+            "the direct arc is longer",
             &SLANTED,
             Move::Relocate {
                 from: at(0, 0),
@@ -167,6 +181,7 @@ fn moves_change_the_cost_by_their_values(rt: HostRuntime) -> Result<(), Fail> {
             Some(-63),
         ),
         (
+            "before the hurried customer",
             &HURRIED,
             Move::Relocate {
                 from: at(0, 1),
@@ -175,6 +190,7 @@ fn moves_change_the_cost_by_their_values(rt: HostRuntime) -> Result<(), Fail> {
             None,
         ),
         (
+            "behind the hurried customer",
             &HURRIED,
             Move::Relocate {
                 from: at(0, 1),
@@ -183,6 +199,7 @@ fn moves_change_the_cost_by_their_values(rt: HostRuntime) -> Result<(), Fail> {
             Some(-400),
         ),
         (
+            "a new route",
             &HURRIED,
             Move::Relocate {
                 from: at(1, 1),
@@ -191,6 +208,7 @@ fn moves_change_the_cost_by_their_values(rt: HostRuntime) -> Result<(), Fail> {
             Some(400),
         ),
         (
+            "the hurried customer moves back in its route",
             &HURRIED,
             Move::Exchange {
                 first: at(1, 0),
@@ -199,6 +217,7 @@ fn moves_change_the_cost_by_their_values(rt: HostRuntime) -> Result<(), Fail> {
             None,
         ),
         (
+            "the hurried customer goes behind another",
             &HURRIED,
             Move::Exchange {
                 first: at(0, 1),
@@ -207,6 +226,7 @@ fn moves_change_the_cost_by_their_values(rt: HostRuntime) -> Result<(), Fail> {
             Some(-200),
         ),
         (
+            "the second stands earlier",
             &HURRIED,
             Move::Exchange {
                 first: at(1, 0),
@@ -215,6 +235,7 @@ fn moves_change_the_cost_by_their_values(rt: HostRuntime) -> Result<(), Fail> {
             None,
         ),
         (
+            "a chain before the hurried customer",
             &HURRIED,
             Move::OrOpt {
                 chain: chain(0, 0, 2),
@@ -223,6 +244,7 @@ fn moves_change_the_cost_by_their_values(rt: HostRuntime) -> Result<(), Fail> {
             None,
         ),
         (
+            "a chain behind the hurried customer",
             &HURRIED,
             Move::OrOpt {
                 chain: chain(0, 0, 2),
@@ -231,6 +253,7 @@ fn moves_change_the_cost_by_their_values(rt: HostRuntime) -> Result<(), Fail> {
             Some(-400),
         ),
         (
+            "a chain at the end",
             &HURRIED,
             Move::OrOpt {
                 chain: chain(0, 0, 2),
@@ -239,6 +262,7 @@ fn moves_change_the_cost_by_their_values(rt: HostRuntime) -> Result<(), Fail> {
             Some(-200),
         ),
         (
+            "a whole route becomes a new one",
             &HURRIED,
             Move::OrOpt {
                 chain: chain(0, 0, 2),
@@ -247,6 +271,7 @@ fn moves_change_the_cost_by_their_values(rt: HostRuntime) -> Result<(), Fail> {
             Some(0),
         ),
         (
+            "the hurried customer behind a whole route",
             &HURRIED,
             Move::TwoOptStar {
                 first: at(0, 2),
@@ -255,6 +280,7 @@ fn moves_change_the_cost_by_their_values(rt: HostRuntime) -> Result<(), Fail> {
             None,
         ),
         (
+            "a whole route behind another",
             &HURRIED,
             Move::TwoOptStar {
                 first: at(0, 0),
@@ -263,6 +289,7 @@ fn moves_change_the_cost_by_their_values(rt: HostRuntime) -> Result<(), Fail> {
             Some(-200),
         ),
         (
+            "a whole route and an end",
             &HURRIED,
             Move::TwoOptStar {
                 first: at(0, 0),
@@ -271,6 +298,7 @@ fn moves_change_the_cost_by_their_values(rt: HostRuntime) -> Result<(), Fail> {
             Some(200),
         ),
         (
+            "a chain of two and one of one",
             &HURRIED,
             Move::Cross {
                 first: chain(0, 0, 2),
@@ -279,6 +307,7 @@ fn moves_change_the_cost_by_their_values(rt: HostRuntime) -> Result<(), Fail> {
             Some(-200),
         ),
         (
+            "two chains of one",
             &HURRIED,
             Move::Cross {
                 first: chain(0, 0, 1),
@@ -287,6 +316,7 @@ fn moves_change_the_cost_by_their_values(rt: HostRuntime) -> Result<(), Fail> {
             Some(-200),
         ),
         (
+            "the hurried customer last",
             &HURRIED_BACK,
             Move::Cross {
                 first: chain(0, 1, 1),
@@ -295,6 +325,7 @@ fn moves_change_the_cost_by_their_values(rt: HostRuntime) -> Result<(), Fail> {
             None,
         ),
         (
+            "the hurried customer first",
             &HURRIED_BACK,
             Move::Cross {
                 first: chain(0, 0, 1),
@@ -303,8 +334,13 @@ fn moves_change_the_cost_by_their_values(rt: HostRuntime) -> Result<(), Fail> {
             Some(-200),
         ),
     ];
-    for (row, candidate, expected) in rows {
-        check_value(rt.alloc(), row, candidate, expected)?;
+    for (name, row, candidate, value) in rows {
+        let expected = outcome_of_value(row, value);
+        assert_eq!(rt;
+            outcome_of_move(rt.alloc(), row, candidate)?,
+            expected,
+            "{name}"
+        );
     }
     Ok(())
 }
@@ -312,7 +348,7 @@ fn moves_change_the_cost_by_their_values(rt: HostRuntime) -> Result<(), Fail> {
 /// The closing time of the depot decides.
 #[test]
 fn a_route_is_back_before_the_depot_closes(rt: HostRuntime) -> Result<(), Fail> {
-    for (depot, expected) in [("0 0 0 0 0 21 0\n", None), ("0 0 0 0 0 22 0\n", Some(-100))] {
+    for (depot, value) in [("0 0 0 0 0 21 0\n", None), ("0 0 0 0 0 22 0\n", Some(-100))] {
         let row = Row {
             fleet: 2,
             capacity: 2,
@@ -325,36 +361,38 @@ fn a_route_is_back_before_the_depot_closes(rt: HostRuntime) -> Result<(), Fail> 
             from: at(1, 0),
             to: at(0, 0),
         };
-        check_value(rt.alloc(), &row, candidate, expected)?;
+        let expected = outcome_of_value(&row, value);
+        assert_eq!(rt;
+            outcome_of_move(rt.alloc(), &row, candidate)?,
+            expected,
+            "{depot}"
+        );
     }
     Ok(())
 }
 
-/// Checks the best value of each kind, and the cost at which a descent ends.
-fn check_best(alloc: Global, row: &Row, expected: [i64; 5], end: u32) -> Result<(), Fail> {
+/// The best value of each kind, and the cost at which a descent ends.
+fn bests(alloc: Global, row: &Row) -> Result<([Option<i64>; 5], u64), Fail> {
     let text = instance_text(alloc, row.fleet, row.capacity, row.depot, row.customers)?;
     let instance = read(alloc, text.as_bytes())?;
     let plan = plan_of(alloc, &instance, row.routes)?;
     let trees = trees_of(alloc, &plan)?;
-    for (kind, least) in KINDS.iter().zip(expected) {
-        if best(&trees, *kind).map(|found| found.1) != Some(least) {
-            return Err(Fail::from("another best value"));
-        }
+    let mut values = [None; 5];
+    for (index, kind) in KINDS.iter().enumerate() {
+        values[index] = best(&trees, *kind).map(|found| found.1);
     }
     let mut searcher = Searcher::new(alloc, plan, Xoshiro256PlusPlus::seed_from_u64(1));
     searcher.descend()?;
-    if searcher.plan().cost() != Tenths::from(end) {
-        return Err(Fail::from("another end"));
-    }
-    Ok(())
+    Ok((values, searcher.plan().cost().get()))
 }
 
 /// In each of the first five plans one kind alone has a move that makes the plan cheaper; a
 /// relocation is a chain of one, too.
 #[test]
 fn each_kind_finds_what_the_others_miss(rt: HostRuntime) -> Result<(), Fail> {
-    let rows: [(u32, u32, &str, &[&[u16]], [i64; 5], u32); 6] = [
+    let rows: [(&str, u32, u32, &str, &[&[u16]], [i64; 5], u64); 6] = [
         (
+            "a relocation",
             2,
             4,
             "1 11 6 2 0 28 0\n2 6 6 2 0 50 0\n3 11 18 1 0 38 0\n",
@@ -363,6 +401,7 @@ fn each_kind_finds_what_the_others_miss(rt: HostRuntime) -> Result<(), Fail> {
             623,
         ),
         (
+            "an exchange",
             2,
             5,
             "1 8 15 1 0 1000 0\n2 9 3 2 0 20 0\n3 17 20 1 0 1000 0\n4 20 14 1 0 1000 0\n5 2 4 1 0 1000 0\n",
@@ -371,6 +410,7 @@ fn each_kind_finds_what_the_others_miss(rt: HostRuntime) -> Result<(), Fail> {
             676,
         ),
         (
+            "an Or-opt",
             3,
             4,
             "1 5 5 2 0 28 0\n2 0 5 2 0 45 0\n3 13 14 1 0 1000 0\n4 19 9 1 0 1000 0\n",
@@ -379,6 +419,7 @@ fn each_kind_finds_what_the_others_miss(rt: HostRuntime) -> Result<(), Fail> {
             578,
         ),
         (
+            "a 2-opt*",
             2,
             8,
             "1 10 0 1 0 1000 0\n2 10 0 1 0 1000 0\n3 10 0 1 0 1000 0\n4 10 0 1 0 1000 0\n5 11 0 1 0 1000 0\n6 11 0 1 0 1000 0\n7 11 0 1 0 1000 0\n8 11 0 1 0 1000 0\n",
@@ -387,6 +428,7 @@ fn each_kind_finds_what_the_others_miss(rt: HostRuntime) -> Result<(), Fail> {
             220,
         ),
         (
+            "a cross",
             3,
             4,
             "1 6 2 1 0 1000 0\n2 18 12 1 0 1000 0\n3 14 20 1 0 1000 0\n4 4 11 1 0 1000 0\n5 3 20 2 0 1000 0\n",
@@ -395,6 +437,7 @@ fn each_kind_finds_what_the_others_miss(rt: HostRuntime) -> Result<(), Fail> {
             889,
         ),
         (
+            "crossed routes",
             2,
             4,
             CROSSED.customers,
@@ -403,7 +446,7 @@ fn each_kind_finds_what_the_others_miss(rt: HostRuntime) -> Result<(), Fail> {
             682,
         ),
     ];
-    for (fleet, capacity, customers, routes, expected, end) in rows {
+    for (name, fleet, capacity, customers, routes, values, end) in rows {
         let row = Row {
             fleet,
             capacity,
@@ -412,8 +455,25 @@ fn each_kind_finds_what_the_others_miss(rt: HostRuntime) -> Result<(), Fail> {
             routes,
             cost: 0,
         };
-        check_best(rt.alloc(), &row, expected, end)?;
+        let expected = (values.map(|value| Some(value)), end);
+        assert_eq!(rt; bests(rt.alloc(), &row)?, expected, "{name}");
     }
+    Ok(())
+}
+
+/// On two routes of one customer each, the second may go before the first or behind it, and the
+/// first before the second or behind it: all four at the same value.
+#[test]
+fn the_first_of_four_relocations_is_told(rt: HostRuntime) -> Result<(), Fail> {
+    let text = instance_text(rt.alloc(), 2, 2, DEPOT, SLANTED.customers)?;
+    let instance = read(rt.alloc(), text.as_bytes())?;
+    let plan = plan_of(rt.alloc(), &instance, SLANTED.routes)?;
+    let trees = trees_of(rt.alloc(), &plan)?;
+    let found = Move::Relocate {
+        from: at(0, 0),
+        to: at(1, 0),
+    };
+    assert_eq!(rt; best(&trees, Kind::Relocate), Some((found, -63)));
     Ok(())
 }
 
@@ -433,31 +493,5 @@ fn the_first_of_equal_moves_is_told(rt: HostRuntime) -> Result<(), Fail> {
         second: at(1, 0),
     };
     assert_eq!(rt; best(&trees, Kind::Exchange), Some((found, -246)));
-    Ok(())
-}
-
-#[test]
-fn a_searcher_finds_the_one_route(rt: HostRuntime) -> Result<(), Fail> {
-    let text = instance_text(rt.alloc(), 2, 2, DEPOT, SLANTED.customers)?;
-    let instance = read(rt.alloc(), text.as_bytes())?;
-    let plan = plan_of(rt.alloc(), &instance, SLANTED.routes)?;
-    let copy = plan.try_clone()?;
-    let third = plan.try_clone()?;
-    assert_eq!(rt; copy.cost(), Tenths::from(188));
-    let mut descending = Searcher::new(rt.alloc(), plan, Xoshiro256PlusPlus::seed_from_u64(1));
-    descending.descend()?;
-    let lower = descending.into_plan();
-    assert_eq!(rt; lower.cost(), Tenths::from(125));
-    assert_eq!(rt; lower.routes().len(), 1);
-    assert_eq!(rt; lower.routes()[0].as_slice(), [2, 1].as_slice());
-    for seed in 0..8 {
-        let random = Xoshiro256PlusPlus::seed_from_u64(seed);
-        let mut turning = Searcher::new(rt.alloc(), copy.try_clone()?, random);
-        turning.turn()?;
-        assert_eq!(rt; turning.plan().cost(), Tenths::from(125));
-    }
-    let mut shaking = Searcher::new(rt.alloc(), third, Xoshiro256PlusPlus::seed_from_u64(1));
-    shaking.shake(3)?;
-    assert!(rt; shaking.plan().cost().get() <= 188);
     Ok(())
 }

@@ -47,7 +47,7 @@ fn windows_bind_the_beginning_of_service(rt: HostRuntime) -> Result<(), Fail> {
         assert_eq!(rt;
             walk_of(rt.alloc(), depot, customer)?,
             expected,
-            "{customer}"
+            "{depot}{customer}"
         );
     }
     Ok(())
@@ -66,17 +66,18 @@ fn single_routes(alloc: Global, customers: &[u16]) -> Result<Vec<Vec<u16>>, Allo
 fn the_lowest_fault_of_a_plan_is_told(rt: HostRuntime) -> Result<(), Fail> {
     let text = two_in_line(rt.alloc())?;
     let instance = read(rt.alloc(), text.as_bytes())?;
-    let rows: [(&[u16], Option<PlanFault>); 5] = [
-        (&[2, 1], None),
-        (&[2, 3], Some(PlanFault::UnknownCustomer)),
-        (&[1, 1, 2], Some(PlanFault::Twice)),
-        (&[1], Some(PlanFault::Missing)),
-        (&[], Some(PlanFault::Missing)),
+    let rows: [(&str, &[u16], Option<PlanFault>); 6] = [
+        ("a plan", &[2, 1], None),
+        ("no customer 3", &[2, 3], Some(PlanFault::UnknownCustomer)),
+        ("1 twice", &[1, 1, 2], Some(PlanFault::Twice)),
+        ("1 twice and 2 missing", &[1, 1], Some(PlanFault::Twice)),
+        ("2 missing", &[1], Some(PlanFault::Missing)),
+        ("both missing", &[], Some(PlanFault::Missing)),
     ];
-    for (customers, fault) in rows {
+    for (name, customers, fault) in rows {
         let routes = single_routes(rt.alloc(), customers)?;
         let told = Feasible::check(&instance, routes).err();
-        assert_eq!(rt; told.map(|(_, fault)| fault), fault);
+        assert_eq!(rt; told.map(|(_, fault)| fault), fault, "{name}");
     }
     let mut routes = single_routes(rt.alloc(), &[2, 1])?;
     routes.push(Vec::new(rt.alloc()))?;

@@ -16,7 +16,7 @@ fn two_stops_on_a_line_are_joined(rt: HostRuntime) -> Result<(), Fail> {
     let first = Segment::stop(&instance, 1);
     let second = Segment::stop(&instance, 2);
     let items = vec![in rt.alloc(); second]?;
-    let mut tree = RouteTree::new(rt.alloc(), &instance, items)?;
+    let mut tree = RouteTree::new(rt.alloc(), &instance, items).map_err(|(_, fault)| fault)?;
     assert_eq!(rt; tree.len(), 1);
     tree.splice(&instance, 0, 0, &[first])?;
     assert_eq!(rt; tree.len(), 2);
@@ -67,7 +67,7 @@ fn lists_are_joined_up_to_eight_numbers(rt: HostRuntime) -> Result<(), Fail> {
     for number in 0..8 {
         items.push(Few::one(number))?;
     }
-    let mut tree = RouteTree::new(rt.alloc(), &(), items)?;
+    let mut tree = RouteTree::new(rt.alloc(), &(), items).map_err(|(_, fault)| fault)?;
     assert_eq!(rt; tree.whole().map(|list| list.len()), Some(8));
     assert_eq!(rt; tree.len(), 8);
     tree.splice(&(), 3, 3, &[Few::one(9)])?;

@@ -9,11 +9,11 @@ use Rattle.prices.proofs.priced.evaluate.Goals as goal
 
 pub value_of-value-requires-clause-least_above : goal.value_of-value-requires-clause-least_above
 value_of-value-requires-clause-least_above c =
-    omega (arith, c.least_of.ensures.above, least_above c.args.prices.now c.requires.priced c.args.instance.now c.holds.ensures.limits c.args.region.now c.args.neighbours c.in_ok-found.found.value c.in_ok-found.ensures.value)
+    omega (arith, c.least_of.ensures.above, least_above c.args.prices.now c.requires.priced c.args.instance.now c.law_of_limits.ensures.limits c.args.region.now c.args.neighbours c.in_ok-found.found.value c.in_ok-found.ensures.value)
 
 pub value_of-value-requires-clause-least_below : goal.value_of-value-requires-clause-least_below
 value_of-value-requires-clause-least_below c =
-    omega (arith, c.least_of.ensures.below, least_below c.args.prices.now c.requires.priced c.args.instance.now c.holds.ensures.limits c.args.region.now c.args.neighbours c.in_ok-found.found.value c.in_ok-found.ensures.value)
+    omega (arith, c.least_of.ensures.below, least_below c.args.prices.now c.requires.priced c.args.instance.now c.law_of_limits.ensures.limits c.args.region.now c.args.neighbours c.in_ok-found.found.value c.in_ok-found.ensures.value)
 
 pub returns-clause-value : goal.returns-clause-value
 returns-clause-value c =

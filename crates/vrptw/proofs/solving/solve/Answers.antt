@@ -1,4 +1,4 @@
-use Rattle.std.proofs.Common.{rules, refl, ◌∙◌}
+use Rattle.std.proofs.Common.{refl, ◌∙◌}
 use Rattle.vrptw.specs.Settings.{IsWithin}
 use Rattle.vrptw.proofs.Answering.{solved}
 use Rattle.vrptw.proofs.solving.solve.Goals as goal

@@ -1,8 +1,16 @@
-use Rattle.std.proofs.Common.{◌≡◌, ◌<◌, ◌≤◌, ◌+◌, Some, length, sym, ap, List, refl, arith}
+use Rattle.std.proofs.Common.{◌≡◌, ◌<◌, ◌≤◌, ◌+◌, ◌∙◌, Some, length, sym, ap, List, refl, arith, Result, Ok, Err, true, false}
+use Rattle.std.specs.Result.{is_err, OnOk}
 use Rattle.incumbent_book.specs.declared.node.Node.{Node}
 use Rattle.incumbent_book.specs.Arena.{leaf_at}
 use Rattle.incumbent_book.proofs.Leaves.{leaf_within, leaf_split, not_listed, no_leaf_past}
 use Rattle.incumbent_book.proofs.arena.Arena.split.Goals as goal
+
+of_ok : {T E : Type 0} (r : Result T E) (P : Type 0) → is_err r ≡ false → OnOk r P → P
+of_ok (Ok x) P told holds = holds
+of_ok (Err e) P told holds = absurd (let never : true ≡ false = told in cc)
+
+pub put_two-requires : goal.put_two-requires
+put_two-requires c = of_ok c.make_room.result _ (sym c.is_err.ensures.value ∙ c.if-is_err.false) c.make_room.ensures.ok
 
 pub replace_by_two-requires-clause-fresh : goal.replace_by_two-requires-clause-fresh
 replace_by_two-requires-clause-fresh c =

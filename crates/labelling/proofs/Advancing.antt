@@ -1,0 +1,460 @@
+-- The list of labels grows, labels are dropped and extended, and what was said of it stays.
+use Rattle.std.proofs.Common.{◌≡◌, ◌≢◌, refl, ℕ, zero, suc, ◌+◌, ◌-◌, ◌<◌, ◌≤◌, true, false, List, [], ◌∷◌, ◌++◌, length, length-append, get_or, arith, ap, sym, ◌∙◌, ◌⊎◌, inl, inr, Option, Some, None, append-nil, append_assoc, reverse, take, drop}
+use Rattle.std.specs.Prelude.{ℤ, MatchOption}
+use Rattle.std.proofs.Math.ListN.{set, length-set}
+use Rattle.std.proofs.lemmas.Int.{ints}
+use Rattle.std.proofs.lemmas.Bool.{cases_lt, cases_eq}
+use Rattle.std.proofs.lemmas.List.{reverse-append, length-reverse, take_all, drop_all, get_or_read, get_or_append_left, get_or_push, get_or-set_same, get_or-set_other}
+use Rattle.std.specs.FinSet.{empty, contains-empty}
+use Rattle.std.specs.Ordering.{nat_cmp}
+use Rattle.solomon_reader.specs.Problem.{Problem, customer_count}
+use Rattle.solomon_reader.specs.Region.{Region}
+use Rattle.solomon_reader.specs.Relaxed.{IsRelaxed, reduced_cost}
+use Rattle.solomon_reader.specs.States.{State, start, step, CanStep, CanEnd, IsAsGood}
+use Rattle.solomon_reader.proofs.Completions.{reaches_none, reaches_more}
+use Rattle.labelling.specs.declared.least_cost.Least.{Least}
+use Rattle.labelling.specs.declared.best.Best.{Best}
+use Rattle.labelling.specs.declared.label.Label.{Label}
+use Rattle.labelling.specs.Answer.{HasLeastValue, HasItsRoute}
+use Rattle.labelling.specs.Arena.{label_in, state_at, trace, IsLabel, IsArena, IsPending, HasActive, HasPending, IsDominated, inactive, IsPruned, IsExtension, IsAdded, IsSameStop, IsLater, IsGrown, IsMoved, TakesStep, TakesSteps, CountsEnd, EndsAt, IsAttained, IsComplete, IsOnward, NonePending, IsAnswer, IsInList, IsFirst, blank}
+use Rattle.labelling.specs.Cover.{IsAtMost, CoversAll}
+use Rattle.labelling.specs.Fronts.{end_cost, IsBounded, IsStart}
+use Rattle.labelling.specs.Tables.{Rows, IsAllowedRow, IsTable}
+use Rattle.labelling.proofs.Goodness.{good_itself, good_same, good_through, reaches_same}
+use Rattle.labelling.proofs.Cover.{covers_grown, covers_retired, least_at_end}
+use Rattle.labelling.proofs.Ends.{IsReached, least_value, least_route}
+
+-- a label that was read is the label of the list
+pub label_read : (xs : List Label) (m : ℕ) (r : Label) → m < length xs → r ≡ get_or xs m r → r ≡ label_in xs m
+label_read xs m r within is = get_or_read xs m r within is blank
+
+pub dominated_by : (xs : List Label) (m : ℕ) (r : Label) (a : State) → m < length xs → r ≡ get_or xs m r → r.active ≡ true → IsAsGood (state_at r) a → IsDominated xs a
+dominated_by xs m r a within is active good =
+    let e = label_read xs m r within is in
+    (state_at r, (record { index = m; within = within; active = rw e at active; is = ap state_at (sym e) }, good))
+
+pub first_is : (p : Problem) (xs : List Label) (l : Label) → xs ≡ l ∷ [] → IsStart p l.front → IsBounded p l.front → l.memory ≡ empty → l.parent ≡ 0 → l.stops ≡ 0 → IsPending l → IsFirst p xs
+first_is p xs l one start bounded memory parent stops pending = record {
+  label = l;
+  one = one;
+  start = record { last = start.last; time = start.time; load = start.load; cost = start.cost; memory = λ u. rw memory (contains-empty nat_cmp u) };
+  bounded = bounded;
+  parent = parent;
+  stops = stops;
+  unextended = pending;
+}
+
+same_itself : (a : Label) → IsSameStop a a
+same_itself a = record { front = refl; memory = refl; parent = refl; stops = refl }
+
+same_through : (a b c : Label) → IsSameStop a b → IsSameStop b c → IsSameStop a c
+same_through a b c h e = record { front = e.front ∙ h.front; memory = e.memory ∙ h.memory; parent = e.parent ∙ h.parent; stops = e.stops ∙ h.stops }
+
+same_state : (a b : Label) → IsSameStop a b → state_at b ≡ state_at a
+same_state a b h = rw (h.front, h.memory) refl
+
+later_itself : (a : Label) → IsLater a a
+later_itself a = record { same = same_itself a; active = λ h. h; extended = refl }
+
+later_through : (a b c : Label) → IsLater a b → IsLater b c → IsLater a c
+later_through a b c h e = record { same = same_through a b c h.same e.same; active = λ t. h.active (e.active t); extended = e.extended ∙ h.extended }
+
+later_inactive : (a : Label) → IsLater a (inactive a)
+later_inactive a = record { same = record { front = refl; memory = refl; parent = refl; stops = refl }; active = λ h. cc; extended = refl }
+
+-- the list has the same stops, and maybe more labels
+record IsLonger (xs ys : List Label) : Type 0 where
+  pub longer : length xs ≤ length ys
+  pub same : (m : ℕ) → m < length xs → IsSameStop (label_in xs m) (label_in ys m)
+
+grown_longer : (xs ys : List Label) → IsGrown xs ys → IsLonger xs ys
+grown_longer xs ys h = record { longer = h.longer; same = λ m w. (h.later m w).same }
+
+trace_same : (xs ys : List Label) → IsLonger xs ys → ((m : ℕ) → m < length xs → (label_in xs m).parent < length xs)
+    → (n : ℕ) (a b : Label) → a.parent < length xs → IsSameStop a b → trace xs n a ≡ trace ys n b
+trace_same xs ys h parents zero a b within same = refl
+trace_same xs ys h parents (suc n) a b within same =
+    rw (same.front, same.parent) (ap (λ r. r ++ (a.front.last ∷ [])) (trace_same xs ys h parents n (label_in xs a.parent) (label_in ys a.parent) (parents a.parent within) (h.same a.parent within)))
+
+module _ (p : Problem) (g : Region) (k : ℕ) (prices : List ℤ) where
+  pub parents_of : (xs : List Label) → IsArena p g k prices xs → (m : ℕ) → m < length xs → (label_in xs m).parent < length xs
+  parents_of xs arena m within = (arena.each m within).parent
+
+  -- the rows that were read for a label that was read
+  pub rows_read : (xs : List Label) (m : ℕ) (r : Label) (table : List Rows) (s : Rows) → IsArena p g k prices xs → m < length xs → r ≡ get_or xs m r
+      → IsTable (IsAllowedRow g) 0 (length p.rows) table → s ≡ get_or table r.front.last s → IsAllowedRow g r.front.last s
+  rows_read xs m r table s arena within is rows there =
+      let last : r.front.last < length p.rows = rw (label_read xs m r within is) (arena.each m within).bounded.last in
+      let e : s ≡ get_or table r.front.last empty = get_or_read table r.front.last s (omega (arith, last, rows.count)) there empty in
+      rw e (rows.each r.front.last (omega arith) last)
+
+  label_longer : (xs ys : List Label) (a b : Label) → IsLonger xs ys → IsArena p g k prices xs → IsLabel p g k prices xs a → IsSameStop a b → IsLabel p g k prices ys b
+  label_longer xs ys a b h arena label same =
+      let e : trace xs a.stops a ≡ trace ys a.stops b = trace_same xs ys h (parents_of xs arena) a.stops a b label.parent same in
+      let t : trace xs a.stops a ≡ trace ys b.stops b = e ∙ ap (λ (n : ℕ). trace ys n b) (sym same.stops) in
+      record {
+        bounded = rw same.front label.bounded;
+        light = rw (same.front, same.stops) label.light;
+        parent = omega (arith, label.parent, same.parent, h.longer);
+        reached = rw (← t, same_state a b same) label.reached;
+      }
+
+  arena_longer : (xs ys : List Label) → IsLonger xs ys → length ys ≡ length xs → IsArena p g k prices xs → IsArena p g k prices ys
+  arena_longer xs ys h count arena = record {
+    each = λ m w. (let old : m < length xs = omega (arith, w, count) in label_longer xs ys (label_in xs m) (label_in ys m) h arena (arena.each m old) (h.same m old));
+  }
+
+grown_none : (xs : List Label) → IsGrown xs xs
+grown_none xs = record { longer = omega arith; later = λ m w. later_itself _; fresh = λ m low high. absurd (omega (arith, low, high)) }
+
+moved_none : (xs : List Label) → IsMoved xs xs
+moved_none xs = record { grown = grown_none xs; pending = λ a s. (a, (s, good_itself a)); active = λ a s. (a, (s, good_itself a)) }
+
+dominated_through : (xs ys : List Label) (a : State) → IsMoved xs ys → IsDominated xs a → IsDominated ys a
+dominated_through xs ys a moved (t, h) = let on = moved.active t h.0 in (on.0, (on.1.0, good_through _ _ _ on.1.1 h.1))
+
+grown_through : (xs ys zs : List Label) → IsGrown xs ys → IsGrown ys zs → IsGrown xs zs
+grown_through xs ys zs h e = record {
+  longer = omega (arith, h.longer, e.longer);
+  later = λ m w. later_through _ _ _ (h.later m w) (e.later m (omega (arith, w, h.longer)));
+  fresh = λ m low high. elim (cases_lt m (length ys)) [
+    | inl old ↦ (e.later m old).extended ∙ h.fresh m low old
+    | inr new ↦ e.fresh m new high
+  ];
+}
+
+moved_through : (xs ys zs : List Label) → IsMoved xs ys → IsMoved ys zs → IsMoved xs zs
+moved_through xs ys zs h e = record {
+  grown = grown_through xs ys zs h.grown e.grown;
+  pending = λ a s. (let t = h.pending a s in let u = e.pending t.0 t.1.0 in (u.0, (u.1.0, good_through _ _ _ u.1.1 t.1.1)));
+  active = λ a s. dominated_through ys zs a e (h.active a s);
+}
+
+-- x was added, and what it dominates was dropped
+module _ (xs zs : List Label) (x : Label) (unextended : IsPending x) (pruned : IsPruned xs zs (state_at x)) where
+  more : length (zs ++ (x ∷ [])) ≡ length xs + 1
+  more = omega (arith, length-append zs (x ∷ []), pruned.same)
+
+  old_at : (m : ℕ) → m < length xs → label_in (zs ++ (x ∷ [])) m ≡ label_in zs m
+  old_at m w = get_or_append_left zs (x ∷ []) blank m (omega (arith, w, pruned.same))
+
+  new_at : label_in (zs ++ (x ∷ [])) (length xs) ≡ x
+  new_at = get_or_push zs x blank (length xs) pruned.same
+
+  later_at : (m : ℕ) → m < length xs → IsLater (label_in xs m) (label_in (zs ++ (x ∷ [])) m)
+  later_at m w = rw (old_at m w) (elim (pruned.each m w) [
+    | inl same ↦ rw same (later_itself _)
+    | inr past ↦ rw past.1 (later_inactive _)
+  ])
+
+  grown_added : IsGrown xs (zs ++ (x ∷ []))
+  grown_added = record {
+    longer = omega (arith, more);
+    later = later_at;
+    fresh = λ m low high. (let same : m ≡ length xs = omega (arith, low, high, more) in rw (same, new_at) unextended.extended);
+  }
+
+  active_new : HasActive (zs ++ (x ∷ [])) (state_at x)
+  active_new = record { index = length xs; within = omega (arith, more); active = rw new_at unextended.active; is = ap state_at new_at }
+
+  pending_new : HasPending (zs ++ (x ∷ [])) (state_at x)
+  pending_new = record { index = length xs; within = omega (arith, more); unextended = rw new_at unextended; is = ap state_at new_at }
+
+  moved_added : IsMoved xs (zs ++ (x ∷ []))
+  moved_added = record { grown = grown_added; pending = pending; active = active }
+    where
+      pending : (a : State) → HasPending xs a → (t : State) × (HasPending (zs ++ (x ∷ [])) t × IsAsGood t a)
+      pending a s = elim (pruned.each s.index s.within) [
+        | inl same ↦ (let e = old_at s.index s.within ∙ same in
+            (a, (record { index = s.index; within = omega (arith, s.within, more); unextended = rw e s.unextended; is = ap state_at e ∙ s.is }, good_itself a)))
+        | inr past ↦ (state_at x, (pending_new, rw s.is at past.0))
+      ]
+
+      active : (a : State) → HasActive xs a → IsDominated (zs ++ (x ∷ [])) a
+      active a s = elim (pruned.each s.index s.within) [
+        | inl same ↦ (let e = old_at s.index s.within ∙ same in
+            (a, (record { index = s.index; within = omega (arith, s.within, more); active = rw e s.active; is = ap state_at e ∙ s.is }, good_itself a)))
+        | inr past ↦ (state_at x, (active_new, rw s.is at past.0))
+      ]
+
+  dominated_added : IsDominated (zs ++ (x ∷ [])) (state_at x)
+  dominated_added = (state_at x, (active_new, good_itself (state_at x)))
+
+module _ (p : Problem) (g : Region) (k : ℕ) (prices : List ℤ) where
+  module _ (xs : List Label) (l : Label) (index j : ℕ) (arena : IsArena p g k prices xs) (within : index < length xs) (here : IsSameStop (label_in xs index) l) where
+    pub label_here : IsLabel p g k prices xs l
+    label_here = label_longer p g k prices xs xs (label_in xs index) l (grown_longer xs xs (grown_none xs)) arena (arena.each index within) here
+
+    pub step_refused : ¬ CanStep p g (state_at l) j → TakesStep p g k prices xs xs l j
+    step_refused cannot = record { moved = moved_none xs; labelled = arena; dominated = λ can. absurd (cannot can) }
+
+    -- the extension is a label of the longer list
+    extension_labelled : (ys : List Label) (x : Label) → IsGrown xs ys → IsExtension p k prices l index j x → CanStep p g (state_at l) j → IsLabel p g k prices ys x
+    extension_labelled ys x grown extension can =
+        let longer = grown_longer xs ys grown in
+        let before : IsSameStop l (label_in ys index) = record {
+          front = (longer.same index within).front ∙ sym here.front;
+          memory = (longer.same index within).memory ∙ sym here.memory;
+          parent = (longer.same index within).parent ∙ sym here.parent;
+          stops = (longer.same index within).stops ∙ sym here.stops;
+        } in
+        let t : trace xs l.stops l ≡ trace ys l.stops (label_in ys index) = trace_same xs ys longer (parents_of p g k prices xs arena) l.stops l (label_in ys index) label_here.parent before in
+        let whole : trace xs l.stops l ++ (j ∷ []) ≡ trace ys x.stops x = unfolded ys x t extension in
+        record {
+          bounded = extension.bounded;
+          light = extension.light;
+          parent = omega (arith, extension.parent, within, grown.longer);
+          reached = rw (← whole) (reaches_same p g k prices (trace xs l.stops l ++ (j ∷ [])) (state_at x) (step p k prices (state_at l) j) extension.same
+              (reaches_more p g k prices (trace xs l.stops l) (state_at l) j label_here.reached can));
+        }
+      where
+        unfolded : (ys : List Label) (x : Label) → trace xs l.stops l ≡ trace ys l.stops (label_in ys index) → IsExtension p k prices l index j x
+            → trace xs l.stops l ++ (j ∷ []) ≡ trace ys x.stops x
+        unfolded ys x t extension =
+            let one : l.stops + 1 ≡ suc l.stops = omega arith in
+            rw (extension.stops, one, extension.parent, extension.same.last) (ap (λ r. r ++ (j ∷ [])) t)
+
+    pub step_taken : (ys : List Label) (x : Label) → IsExtension p k prices l index j x → CanStep p g (state_at l) j → IsAdded xs ys x → TakesStep p g k prices xs ys l j
+    step_taken ys x extension can (inl same) = rw same.0 (record {
+      moved = moved_none xs;
+      labelled = arena;
+      dominated = λ _. (same.1.0, (same.1.1.0, good_through _ _ _ same.1.1.1 (good_same _ _ extension.same)));
+    })
+    step_taken ys x extension can (inr (zs, kept)) =
+        let grown : IsGrown xs (zs ++ (x ∷ [])) = grown_added xs zs x extension.unextended kept.0 in
+        let b = dominated_added xs zs x extension.unextended kept.0 in
+        rw kept.1 (record {
+          moved = moved_added xs zs x extension.unextended kept.0;
+          labelled = record { each = each_of zs x grown kept.0 extension };
+          dominated = λ _. (b.0, (b.1.0, good_through _ _ _ b.1.1 (good_same _ _ extension.same)));
+        })
+      where
+        each_of : (zs : List Label) (x : Label) → IsGrown xs (zs ++ (x ∷ [])) → IsPruned xs zs (state_at x) → IsExtension p k prices l index j x
+            → (m : ℕ) → m < length (zs ++ (x ∷ [])) → IsLabel p g k prices (zs ++ (x ∷ [])) (label_in (zs ++ (x ∷ [])) m)
+        each_of zs x grown pruned extension m w = elim (cases_lt m (length xs)) [
+          | inl old ↦ label_longer p g k prices xs (zs ++ (x ∷ [])) (label_in xs m) (label_in (zs ++ (x ∷ [])) m) (grown_longer xs _ grown) arena (arena.each m old) (grown.later m old).same
+          | inr new ↦ (let same : m ≡ length xs = omega (arith, new, w, more xs zs x extension.unextended pruned) in
+              rw (same, new_at xs zs x extension.unextended pruned) (extension_labelled (zs ++ (x ∷ [])) x grown extension can))
+        ]
+
+  pub steps_none : (xs : List Label) (l : Label) → IsArena p g k prices xs → TakesSteps p g k prices xs xs l 1
+  steps_none xs l labelled = record { moved = moved_none xs; labelled = labelled; dominated = λ j below can. absurd (omega (arith, below, can.customer.0)) }
+
+  pub steps_more : (xs ys zs : List Label) (l : Label) (i : ℕ) → TakesSteps p g k prices xs ys l i → TakesStep p g k prices ys zs l i → TakesSteps p g k prices xs zs l (i + 1)
+  steps_more xs ys zs l i steps stepped = record {
+    moved = moved_through xs ys zs steps.moved stepped.moved;
+    labelled = stepped.labelled;
+    dominated = λ j below can. elim (cases_lt j i) [
+      | inl less ↦ dominated_through ys zs _ stepped.moved (steps.dominated j less can)
+      | inr more ↦ (let same : j ≡ i = omega arith in rw same (stepped.dominated (rw same at can)))
+    ];
+  }
+
+  pub here_still : (xs ys : List Label) (l : Label) (index i : ℕ) → index < length xs → IsSameStop (label_in xs index) l → TakesSteps p g k prices xs ys l i → IsSameStop (label_in ys index) l
+  here_still xs ys l index i within here steps =
+      let later = (steps.moved.grown.later index within).same in
+      record {
+        front = here.front ∙ sym later.front;
+        memory = here.memory ∙ sym later.memory;
+        parent = here.parent ∙ sym later.parent;
+        stops = here.stops ∙ sym later.stops;
+      }
+
+-- the label at an index was extended
+abbrev pub done : Label → Label
+done l = record l { extended = true }
+
+module _ (p : Problem) (g : Region) (k : ℕ) (prices : List ℤ) (xs ys : List Label) (index : ℕ) (b after : Best) (l : Label) (so_far : IsComplete p g k prices xs b) (within : index < length xs)
+    (here : label_in xs index ≡ l) (ending : CountsEnd p g l index b after) (steps : TakesSteps p g k prices xs ys l (customer_count p + 1)) where
+  abbrev zs : List Label
+  zs = set ys index (done (label_in ys index))
+
+  in_ys : index < length ys
+  in_ys = omega (arith, within, steps.moved.grown.longer)
+
+  count_zs : length zs ≡ length ys
+  count_zs = length-set ys index (done (label_in ys index))
+
+  zs_at : label_in zs index ≡ done (label_in ys index)
+  zs_at = get_or-set_same ys index (done (label_in ys index)) blank in_ys
+
+  zs_other : (m : ℕ) → m ≢ index → label_in zs m ≡ label_in ys m
+  zs_other m apart = get_or-set_other ys index m (done (label_in ys index)) blank apart
+
+  zs_same : (m : ℕ) → IsSameStop (label_in ys m) (label_in zs m)
+  zs_same m = elim (cases_eq m index) [
+    | inl same ↦ rw (same, zs_at) (record { front = refl; memory = refl; parent = refl; stops = refl })
+    | inr apart ↦ rw (zs_other m apart) (same_itself _)
+  ]
+
+  zs_active : (m : ℕ) → (label_in zs m).active ≡ (label_in ys m).active
+  zs_active m = elim (cases_eq m index) [
+    | inl same ↦ rw (same, zs_at) refl
+    | inr apart ↦ ap (λ (a : Label). a.active) (zs_other m apart)
+  ]
+
+  active_zs : (a : State) → HasActive ys a → HasActive zs a
+  active_zs a s = record { index = s.index; within = omega (arith, s.within, count_zs); active = zs_active s.index ∙ s.active; is = same_state _ _ (zs_same s.index) ∙ s.is }
+
+  active_ys : (a : State) → HasActive zs a → HasActive ys a
+  active_ys a s = record { index = s.index; within = omega (arith, s.within, count_zs); active = sym (zs_active s.index) ∙ s.active; is = sym (same_state _ _ (zs_same s.index)) ∙ s.is }
+
+  active_or_pending : (a : State) → HasActive ys a → HasActive xs a ⊎ HasPending ys a
+  active_or_pending a s = elim (cases_lt s.index (length xs)) [
+    | inl old ↦ (let later = steps.moved.grown.later s.index old in
+        inl (record { index = s.index; within = old; active = later.active s.active; is = sym (same_state _ _ later.same) ∙ s.is }))
+    | inr new ↦ inr (record { index = s.index; within = s.within; unextended = record { active = s.active; extended = steps.moved.grown.fresh s.index new s.within }; is = s.is })
+  ]
+
+  is_here : state_at (label_in ys index) ≡ state_at l
+  is_here = same_state _ _ (steps.moved.grown.later index within).same ∙ ap state_at here
+
+  others : (a : State) → HasPending ys a → (a ≡ state_at l) ⊎ HasPending zs a
+  others a s = elim (cases_eq s.index index) [
+    | inl same ↦ inl (sym s.is ∙ ap (λ (m : ℕ). state_at (label_in ys m)) same ∙ is_here)
+    | inr apart ↦ (let e = zs_other s.index apart in
+        inr (record { index = s.index; within = omega (arith, s.within, count_zs); unextended = rw e s.unextended; is = ap state_at e ∙ s.is }))
+  ]
+
+  each_step : (j : ℕ) → CanStep p g (state_at l) j → (t : State) × (HasActive ys t × IsAsGood t (step p k prices (state_at l) j))
+  each_step j can = steps.dominated j (omega (arith, can.customer.1)) can
+
+  covers : CoversAll p g k prices after.value (HasPending zs) (HasActive zs)
+  covers a active = covers_retired p g k prices after.value (HasPending ys) (HasPending zs) (HasActive ys) (state_at l) ending.counted each_step others
+      (covers_grown p g k prices b.value after.value (HasPending xs) (HasActive xs) (HasPending ys) (HasActive ys) ending.lower steps.moved.pending active_or_pending so_far.covers) a (active_ys a active)
+
+  longer_zs : IsLonger ys zs
+  longer_zs = record { longer = omega (arith, count_zs); same = λ m w. zs_same m }
+
+  xs_zs : (m : ℕ) → m < length xs → IsSameStop (label_in xs m) (label_in zs m)
+  xs_zs m w = same_through _ _ _ (steps.moved.grown.later m w).same (zs_same m)
+
+  ends_still : (m : ℕ) (z : ℤ) → EndsAt p g xs m z → EndsAt p g zs m z
+  ends_still m z h =
+      let same = xs_zs m h.within in
+      record {
+        within = omega (arith, h.within, count_zs, steps.moved.grown.longer);
+        can = rw (same_state _ _ same) h.can;
+        value = rw same.front h.value;
+      }
+
+  attained_before : (o : Option ℤ) (m : ℕ) → MatchOption o (Unit {0}) (λ z. EndsAt p g xs m z) → MatchOption o (Unit {0}) (λ z. EndsAt p g zs m z)
+  attained_before None m h = tt
+  attained_before (Some z) m h = ends_still m z h
+
+  attained_by : (c : Best) → ((c ≡ b) ⊎ (CanEnd p g (state_at l) × ((c.value ≡ Some (end_cost p l.front)) × (c.index ≡ index)))) → IsAttained p g zs c
+  attained_by c (inl same) = rw same (attained_before b.value b.index so_far.attained)
+  attained_by c (inr h) = rw (h.1.0, h.1.1) (ends_still index (end_cost p l.front) (record { within = within; can = rw here h.0; value = ap (λ (a : Label). end_cost p a.front) here }))
+
+  first : IsDominated zs (start p)
+  first =
+      let b = dominated_through xs ys (start p) steps.moved so_far.first in
+      (b.0, (active_zs b.0 b.1.0, b.1.1))
+
+  complete_zs : IsComplete p g k prices zs after
+  complete_zs = record { labelled = arena_longer p g k prices ys zs longer_zs count_zs steps.labelled; first = first; covers = covers; attained = attained_by after ending.from }
+
+  onward_zs : IsOnward xs zs index
+  onward_zs = record { longer = omega (arith, count_zs, steps.moved.grown.longer); still = still }
+    where
+      still : (m : ℕ) → m < length xs → IsPending (label_in zs m) → IsPending (label_in xs m) × (m ≢ index)
+      still m w h = elim (cases_eq m index) [
+        | inl same ↦ (let e : label_in zs m ≡ done (label_in ys index) = rw same zs_at in
+            let t : true ≡ false = sym (ap (λ (a : Label). a.extended) e) ∙ h.extended in cc)
+        | inr apart ↦ (let later = steps.moved.grown.later m w in
+            let e = zs_other m apart in
+            (record { active = later.active (sym (ap (λ (a : Label). a.active) e) ∙ h.active); extended = sym later.extended ∙ sym (ap (λ (a : Label). a.extended) e) ∙ h.extended }, apart))
+      ]
+
+  written : (r : Label) → r ≡ get_or ys index r → set ys index (done r) ≡ zs
+  written r e = ap (λ (a : Label). set ys index (done a)) (get_or_read ys index r in_ys e blank)
+
+  pub complete_written : (r : Label) → r ≡ get_or ys index r → IsComplete p g k prices (set ys index (done r)) after
+  complete_written r e = rw (written r e) complete_zs
+
+  pub onward_written : (r : Label) → r ≡ get_or ys index r → IsOnward xs (set ys index (done r)) index
+  onward_written r e = rw (written r e) onward_zs
+
+-- the route that is rebuilt backwards
+pub back_more : (xs : List Label) (l next : Label) (stops taken : ℕ) (r whole : List ℕ) → taken < stops → next ≡ label_in xs l.parent
+    → trace xs (stops - taken) l ++ reverse r ≡ whole → trace xs (stops - (taken + 1)) next ++ reverse (r ++ (l.front.last ∷ [])) ≡ whole
+back_more xs l next stops taken r whole below is h =
+    let e : stops - taken ≡ suc (stops - (taken + 1)) = omega arith in
+    let k : (trace xs (stops - (taken + 1)) next ++ (l.front.last ∷ [])) ++ reverse r ≡ whole = rw is (rw e at h) in
+    rw reverse-append (rw append_assoc at k)
+
+pub back_all : (xs : List Label) (l : Label) (stops taken : ℕ) (r whole : List ℕ) → stops ≤ taken → trace xs (stops - taken) l ++ reverse r ≡ whole → reverse r ≡ whole
+back_all xs l stops taken r whole past h =
+    let e : stops - taken ≡ 0 = omega arith in
+    rw e at h
+
+pub back_written : (n : ℕ) (r back whole : List ℕ) → back ≡ reverse r → n ≡ length r → reverse r ≡ whole → take n (back ++ drop (length back) r) ≡ whole
+back_written n r back whole is count h =
+    let e : drop (length back) r ≡ [] = drop_all (length back) r (omega (arith, length-reverse r, ap length is)) in
+    let t : take n back ≡ back = take_all n back (omega (arith, count, length-reverse r, ap length is)) in
+    rw (e, append-nil, t, is) h
+
+-- the sweep
+pub pending_none : (xs : List Label) → NonePending xs 0
+pending_none xs = record { each = λ m low within. absurd (omega (arith, low)) }
+
+pub pending_more : (xs ys : List Label) (index : ℕ) → index < length xs → NonePending xs index → IsOnward xs ys index → NonePending ys (index + 1)
+pending_more xs ys index within swept onward = record { each = each }
+  where
+    each : (m : ℕ) → m < index + 1 → m < length ys → ¬ IsPending (label_in ys m)
+    each m low w h =
+        let old : m < length xs = omega (arith, low, within) in
+        let t = onward.still m old h in
+        swept.each m (omega (arith, low, t.1)) old t.0
+
+pub pending_all : (xs : List Label) (index : ℕ) → length xs ≤ index → NonePending xs index → NonePending xs (length xs)
+pending_all xs index past swept = record { each = λ m low within. swept.each m (omega (arith, low, past)) within }
+
+module _ (p : Problem) (g : Region) (k : ℕ) (prices : List ℤ) where
+  pub complete_first : (xs : List Label) (f : Best) → IsFirst p xs → f.value ≡ None → IsComplete p g k prices xs f
+  complete_first xs f h value =
+      let reached : IsLabel p g k prices (h.label ∷ []) h.label = record {
+        bounded = h.bounded;
+        light = omega (arith, h.stops);
+        parent = omega (arith, h.parent);
+        reached = rw h.stops (reaches_same p g k prices [] (state_at h.label) (start p) h.start (reaches_none p g k prices));
+      } in
+      rw h.one (record {
+        labelled = record { each = λ m w. (let e : m ≡ 0 = omega (arith, w) in rw e reached) };
+        first = (state_at h.label, (record { index = 0; within = omega arith; active = h.unextended.active; is = refl }, good_same _ _ h.start));
+        covers = λ a active s completes. inr (record { state = a; pending = to_pending a active; rest = s; short = omega arith; completes = completes; low = omega (arith, ints) });
+        attained = rw value tt;
+      })
+    where
+      to_pending : (a : State) → HasActive (h.label ∷ []) a → HasPending (h.label ∷ []) a
+      to_pending a s =
+          let e : s.index ≡ 0 = omega (arith, s.within) in
+          record { index = 0; within = omega arith; unextended = h.unextended; is = rw e at s.is }
+
+  module _ (xs : List Label) (f : Best) (searched : IsComplete p g k prices xs f) where
+    pub in_list : IsInList xs f
+    in_list = by f.value searched.attained
+      where
+        by : (o : Option ℤ) → MatchOption o (Unit {0}) (λ z. EndsAt p g xs f.index z) → MatchOption o (Unit {0}) (λ _. f.index < length xs)
+        by None h = tt
+        by (Some z) h = h.within
+
+    module _ (swept : NonePending xs (length xs)) (l : Least) (answer : IsAnswer xs f l.value l.route.items) where
+      reached_by : (o : Option ℤ) → MatchOption o (Unit {0}) (λ z. EndsAt p g xs f.index z)
+          → MatchOption o (l.route.items ≡ []) (λ _. l.route.items ≡ trace xs (label_in xs f.index).stops (label_in xs f.index)) → IsReached p g k prices o l.route.items
+      reached_by None h e = e
+      reached_by (Some z) h e =
+          let label = searched.labelled.each f.index h.within in
+          rw e (rw append-nil at (label.reached.completes [] h.can), rw append-nil at (label.reached.value []) ∙ h.value)
+
+      reached : IsReached p g k prices l.value l.route.items
+      reached = rw answer.amount (reached_by f.value searched.attained answer.stops)
+
+      each : (r : List ℕ) → IsRelaxed p g k r → IsAtMost l.value (reduced_cost p prices r)
+      each r relaxed = rw answer.amount (least_at_end p g k prices f.value (HasPending xs) (HasActive xs) searched.covers (λ a s. swept.each s.index s.within s.within s.unextended) searched.first r relaxed)
+
+      pub value_at_end : HasLeastValue p g k prices l
+      value_at_end = least_value p g k prices l reached each
+
+      pub route_at_end : HasItsRoute p g k prices l
+      route_at_end = least_route p g k prices l reached

@@ -1,0 +1,23 @@
+use Rattle.std.proofs.Common.{refl, sym}
+use Rattle.labelling.proofs.Advancing.{label_read, rows_read, complete_written, onward_written}
+use Rattle.labelling.proofs.labeller.Labeller.extend_at.Goals as goal
+
+pub best_with-best-requires-clause-rows : goal.best_with-best-requires-clause-rows
+best_with-best-requires-clause-rows c =
+    rows_read _ _ _ _ c.args.self.now.labels.items c.args.index c.index.result.now c.args.self.now.task.allowed_rows.items c.index-rows.result.now
+    c.requires.labelled (c.if-not-is_pending.ensures.within refl) c.index.ensures c.args.self.now.task.allowed c.index-rows.ensures
+
+pub returns-clause-complete : goal.returns-clause-complete
+returns-clause-complete c =
+    let within = c.if-not-is_pending.ensures.within refl in
+    let here = sym (label_read c.args.self.now.labels.items c.args.index c.index.result.now within c.index.ensures) in
+    rw c.take_steps.ensures.same.task
+    (complete_written _ _ _ _ c.args.self.now.labels.items _ c.args.index c.args.self.now.best _ c.index.result.now c.requires within here
+    c.best_with-best.ensures c.in_ok-take_steps.ensures.stepped c.index_mut.result.now c.index_mut.ensures.value)
+
+pub returns-clause-onward : goal.returns-clause-onward
+returns-clause-onward c =
+    let within = c.if-not-is_pending.ensures.within refl in
+    let here = sym (label_read c.args.self.now.labels.items c.args.index c.index.result.now within c.index.ensures) in
+    onward_written _ _ _ _ c.args.self.now.labels.items _ c.args.index c.args.self.now.best _ c.index.result.now c.requires within here
+    c.best_with-best.ensures c.in_ok-take_steps.ensures.stepped c.index_mut.result.now c.index_mut.ensures.value

@@ -1,0 +1,9 @@
+use Rattle.std.proofs.Common.{◌≡◌, ◌-◌, ◌<◌, ◌++◌, length, reverse}
+use Rattle.labelling.specs.Arena.{trace}
+use Rattle.labelling.proofs.labeller.route_to.Given as goal
+
+abbrev pub invariant-loop-taken : goal.invariant-loop-taken
+invariant-loop-taken l = record {
+  parent : l.label.parent < length l.labels;
+  split : trace l.labels (l.initial.label.stops - l.taken) l.label ++ reverse l.route.items ≡ trace l.labels l.initial.label.stops l.initial.label;
+}

@@ -1,8 +1,0 @@
-use Rattle.std.proofs.Common.{ℕ, ◌<◌, ◌≤◌}
-use Rattle.solomon_reader.specs.Lists.{lists}
-use Rattle.solomon_reader.specs.Plan.{count_of}
-use Rattle.schedule.specs.Faults.{visits}
-use Rattle.schedule.proofs.search.has_twice.Given as goal
-
-abbrev pub invariant-loop-customer : goal.invariant-loop-customer
-invariant-loop-customer l = (i : ℕ) → 1 ≤ i → i < l.customer → count_of i (visits (lists l.routes)) ≤ 1
