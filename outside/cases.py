@@ -99,6 +99,37 @@ def solution_lines(random):
             ] + ["Cost %d.%d" % (random.choice([0, 401, 999999999999]), random.randrange(10))]
 
 
+def head_lines(count):
+    return ["VRPTW-CERT 2", "INSTANCE T", "CUSTOMERS %d" % count, "NEIGHBOURS 8", "BOUND 0.0", "TREE"]
+
+
+def deep_lines(depth):
+    """A certificate of 30 customers whose tree is one path of splits with a leaf beside each."""
+    arcs = [(i, j) for i in range(31) for j in range(31) if i != j][:depth]
+    leaf = "P" + " 0" * 30
+    return head_lines(30) + ["S %d %d" % arc for arc in arcs] + [leaf] * (depth + 1) + ["END"]
+
+
+def wide_lines(leaves):
+    """A certificate of 25 customers with so many leaves, level by level as far as they go."""
+    arcs = [(i, j) for i in range(26) for j in range(26) if i != j]
+    lines = []
+
+    def add(count, depth):
+        if count == 1:
+            lines.append("P" + " 100000" * 25)
+            return
+        lines.append("S %d %d" % arcs[depth])
+        add(count - count // 2, depth + 1)
+        add(count // 2, depth + 1)
+
+    add(leaves, 0)
+    return head_lines(25) + lines + ["END"]
+
+
+LARGE = [("600 arcs on a path", lambda: deep_lines(600)), ("601 arcs on a path", lambda: deep_lines(601)),
+         ("100,000 leaves", lambda: wide_lines(100000)), ("100,001 leaves", lambda: wide_lines(100001))]
+
 WRONG_WORDS = ["", "0", "00", "-0", "+5", "007", "-3", "1.0", "x", "S", "P", "END", "1000000000000", "1000000000001",
                "-1000000000001", "26", "10000", "99999999999999999999", "VRPTW-CERT", "3"]
 

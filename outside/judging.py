@@ -5,7 +5,7 @@ import subprocess
 
 import bounding
 from building import build
-from cases import certificate_lines, instance_words, laid_out, mutated, solution_lines, spoilt
+from cases import LARGE, certificate_lines, instance_words, laid_out, mutated, solution_lines, spoilt
 from instances import Fault, is_plan, plan_cost, read
 from moving import descend, first_gain
 from optimum import least_cost
@@ -103,9 +103,8 @@ def judge_solved(program, folder, random, count, least, small):
     return out.split()[0]
 
 
-def judge_echo(echo, folder, random, kind, lines, reader):
-    """A text with something wrong, or nothing: read and written again, or the fault of this folder's reader."""
-    text = spoilt(random, lines)
+def judge_echo(echo, folder, kind, text, reader):
+    """A text: read and written again, or the fault of this folder's reader."""
     path = os.path.join(folder, kind)
     with open(path, "wb") as file:
         file.write(text)
@@ -125,9 +124,15 @@ def judge(programs, folder, seed, kind):
     program, echo = programs
     try:
         if kind == "certificates":
-            return True, judge_echo(echo, folder, random, "certificate", certificate_lines(random), read_certificate)
+            text = spoilt(random, certificate_lines(random))
+            return True, judge_echo(echo, folder, "certificate", text, read_certificate)
         if kind == "solutions":
-            return True, judge_echo(echo, folder, random, "solution", solution_lines(random), read_solution)
+            text = spoilt(random, solution_lines(random))
+            return True, judge_echo(echo, folder, "solution", text, read_solution)
+        if kind == "large":
+            name, lines = LARGE[seed]
+            text = "".join(line + "\n" for line in lines()).encode()
+            return True, "%s: %s" % (name, judge_echo(echo, folder, "certificate", text, read_certificate))
         if kind == "refusals":
             return True, judge_refusal(program, folder, random)
         if kind == "small":

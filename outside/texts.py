@@ -13,14 +13,17 @@ class TextFault(Exception):
 
 class Lines:
     def __init__(self, text):
-        self.text, self.number = text, 0
+        self.text, self.at, self.number = text, 0, 0
 
     def next(self):
-        end = self.text.find(b"\n")
+        end = self.text.find(b"\n", self.at)
         if end < 0:
             raise TextFault("Truncated")
-        line, self.text, self.number = self.text[:end], self.text[end + 1:], self.number + 1
+        line, self.at, self.number = self.text[self.at:end], end + 1, self.number + 1
         return line
+
+    def is_done(self):
+        return self.at == len(self.text)
 
     def bad(self):
         raise TextFault("BadLine line %d" % self.number)
@@ -43,7 +46,7 @@ def read_solution(text):
             cost = tenths(line[5:])
             if cost is None:
                 lines.bad()
-            if lines.text:
+            if not lines.is_done():
                 raise TextFault("Extra")
             return routes, cost
         stops = rest.split(b" ")[1:]
@@ -87,7 +90,7 @@ def read_certificate(text, most_customers=100):
     tree = Nodes(lines, count).tree([])
     if lines.next() != b"END":
         lines.bad()
-    if lines.text:
+    if not lines.is_done():
         raise TextFault("Extra")
     return Certificate(int(first[-1:]), name, count, neighbours, bound, tree)
 
