@@ -11,6 +11,7 @@ ghost use Rattle.incumbent_book.specs.Contents.{limits_of, past_of, IsBook};
 ghost use Rattle.incumbent_book.specs.Replies.{Opens, Offers, Reprices, Splits, Shows, IsGap};
 
 use crate::arena::{Arena, value_of};
+use crate::bounded::Bounded;
 use crate::event::Event;
 use crate::fault::{BookFault, OpenFault};
 use crate::gap::{Gap, Steps};
@@ -33,7 +34,7 @@ const FIRST_ROOM: usize = 16;
 /// neighbours, the root's first value, the limits, the incumbent, the history and the prices.
 #[derive(Drop)]
 pub struct Book<'i> {
-    pub(crate) instance: &'i Instance,
+    pub(crate) bounded: Bounded<'i>,
     pub(crate) neighbours: u32,
     pub(crate) root: u128,
     pub(crate) limits: Limits,
@@ -50,9 +51,9 @@ impl<'i> Model for Book<'i> {
 
     ghost Value = { Contents };
 
-    ghost view = { λ b. record { problem = b.instance.now; neighbours = b.neighbours; root = b.root; limits = limits_of b.limits; incumbent = b.incumbent; past = past_of b.history.items; prices = map prices_of b.arena } };
+    ghost view = { λ b. record { problem = b.bounded; neighbours = b.neighbours; root = b.root; limits = limits_of b.limits; incumbent = b.incumbent; past = past_of b.history.items; prices = map prices_of b.arena } };
 
-    ghost invariant = { λ b. IsKept (record { problem = b.instance.now; neighbours = b.neighbours; root = b.root; limits = limits_of b.limits; incumbent = b.incumbent; past = past_of b.history.items; prices = map prices_of b.arena }) b.arena };
+    ghost invariant = { λ b. IsKept (record { problem = b.bounded; neighbours = b.neighbours; root = b.root; limits = limits_of b.limits; incumbent = b.incumbent; past = past_of b.history.items; prices = map prices_of b.arena }) b.arena };
 }
 
 /// A list for the events, with some room.
@@ -88,7 +89,7 @@ impl<'i> Book<'i> {
         if !limits.are_good() {
             return Err((root, OpenFault::BadLimits));
         }
-        let instance = root.instance();
+        let bounded = Bounded::new(root.instance());
         let neighbours = root.neighbours();
         let value = value_of(&root);
         let Ok(history) = new_history(alloc) else {
@@ -96,7 +97,7 @@ impl<'i> Book<'i> {
         };
         match Arena::new(alloc, root) {
             Ok(arena) => Ok(Book {
-                instance,
+                bounded,
                 neighbours,
                 root: value,
                 limits,
@@ -223,7 +224,7 @@ impl<'i> Book<'i> {
     fn holds(&self)
         ensures { IsBook self.now }
     {
-        let _ = &self.instance;
+        let _ = &self.bounded;
     }
 
     /// The incumbent, a plan of the best cost offered, or none if nothing was.
@@ -239,7 +240,7 @@ impl<'i> Book<'i> {
     pub(crate) fn instance(&self) -> &'i Instance
         ensures { result.now ≡ self.now.problem }
     {
-        self.instance
+        self.bounded.instance()
     }
 
     /// How many neighbours each customer has in relaxed routes.
@@ -261,7 +262,7 @@ impl<'i> Book<'i> {
         ensures bound { IsBound self.now.problem self.now.root self.now.past result }
         ensures within { result ≤ MOST_TENTHS }
     {
-        let above = self.instance.ceiling().get() as u32 + 1;
+        let above = self.bounded.above();
         match self.arena.least_value() {
             None => Tenths::from(above),
             Some(value) => {

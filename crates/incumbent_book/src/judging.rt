@@ -22,7 +22,7 @@ impl<'i> Book<'i> {
     fn is_of_instance(&self, instance: &Instance) -> bool
         ensures { Decides result (instance.now ≡ self.now.problem) }
     {
-        *instance == *self.instance
+        *instance == *self.bounded.instance()
     }
 
     /// Whether one more event may stand.

@@ -4,6 +4,7 @@
 
 mod arena;
 mod book;
+mod bounded;
 mod event;
 mod fault;
 mod gap;
