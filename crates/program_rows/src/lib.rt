@@ -5,6 +5,8 @@
 #[cfg(test)]
 mod program;
 #[cfg(test)]
+mod shared;
+#[cfg(test)]
 mod sinks;
 #[cfg(test)]
 mod solver;

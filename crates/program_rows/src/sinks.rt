@@ -2,12 +2,13 @@
 
 ghost use Rattle.std.specs.Prelude.{◌+◌, length, Some};
 
+use crate::shared::solve_text;
 use http_server::Log;
 use row_texts::two_in_line;
 use std::alloc::Global;
 use std::test::Fail;
 use tenths::{MemorySink, Sink, SinkFault};
-use vrptw::{NoGate, Settings, SolveFault, solve};
+use vrptw::{Settings, SolveFault};
 
 /// A sink that takes a number of writes, and then fails.
 #[derive(Drop)]
@@ -70,20 +71,20 @@ fn a_first_sink_that_fails_leaves_the_second_empty(rt: HostRuntime) -> Result<()
     for left in 0..3 {
         let mut solution = FailingSink::new(rt.alloc(), left);
         let mut certificate = MemorySink::new(rt.alloc());
-        let bytes = text.as_bytes();
-        let answer = solve(
+        let answer = solve_text(
             &rt,
-            rt.alloc(),
-            bytes,
+            text.as_str(),
             &settings,
-            &NoGate,
             &mut solution,
             &mut certificate,
         );
-        assert_eq!(rt; answer, Err(SolveFault::Device));
+        assert_eq!(rt; answer, Err(SolveFault::Device), "{left} writes");
         let written = solution.inner.as_slice();
-        assert!(rt; SOLUTION.starts_with(written) && written.len() < SOLUTION.len());
-        assert!(rt; certificate.as_slice().is_empty());
+        assert!(rt;
+            SOLUTION.starts_with(written) && written.len() < SOLUTION.len(),
+            "{left} writes"
+        );
+        assert!(rt; certificate.as_slice().is_empty(), "{left} writes");
     }
     Ok(())
 }
@@ -94,34 +95,23 @@ fn a_second_sink_that_fails_holds_a_beginning(rt: HostRuntime) -> Result<(), Fai
     let settings = Settings::default();
     let mut whole = MemorySink::new(rt.alloc());
     let mut solution = MemorySink::new(rt.alloc());
-    let bytes = text.as_bytes();
-    let answer = solve(
-        &rt,
-        rt.alloc(),
-        bytes,
-        &settings,
-        &NoGate,
-        &mut solution,
-        &mut whole,
-    );
+    let answer = solve_text(&rt, text.as_str(), &settings, &mut solution, &mut whole);
     assert!(rt; answer.is_ok());
     for left in 0..3 {
         let mut solution = MemorySink::new(rt.alloc());
         let mut certificate = FailingSink::new(rt.alloc(), left);
-        let answer = solve(
+        let answer = solve_text(
             &rt,
-            rt.alloc(),
-            bytes,
+            text.as_str(),
             &settings,
-            &NoGate,
             &mut solution,
             &mut certificate,
         );
-        assert_eq!(rt; answer, Err(SolveFault::Device));
-        assert_eq!(rt; solution.as_slice(), SOLUTION);
+        assert_eq!(rt; answer, Err(SolveFault::Device), "{left} writes");
+        assert_eq!(rt; solution.as_slice(), SOLUTION, "{left} writes");
         let written = certificate.inner.as_slice();
-        assert!(rt; whole.as_slice().starts_with(written));
-        assert!(rt; written.len() < whole.as_slice().len());
+        assert!(rt; whole.as_slice().starts_with(written), "{left} writes");
+        assert!(rt; written.len() < whole.as_slice().len(), "{left} writes");
     }
     Ok(())
 }
@@ -136,13 +126,10 @@ fn bytes_taken_one_at_a_time_are_the_same(rt: HostRuntime) -> Result<(), Fail> {
     let mut certificate = DrippingSink {
         inner: MemorySink::new(rt.alloc()),
     };
-    let bytes = text.as_bytes();
-    let answer = solve(
+    let answer = solve_text(
         &rt,
-        rt.alloc(),
-        bytes,
+        text.as_str(),
         &settings,
-        &NoGate,
         &mut solution,
         &mut certificate,
     );
@@ -150,15 +137,7 @@ fn bytes_taken_one_at_a_time_are_the_same(rt: HostRuntime) -> Result<(), Fail> {
     assert_eq!(rt; solution.inner.as_slice(), SOLUTION);
     let mut whole = MemorySink::new(rt.alloc());
     let mut first = MemorySink::new(rt.alloc());
-    let again = solve(
-        &rt,
-        rt.alloc(),
-        bytes,
-        &settings,
-        &NoGate,
-        &mut first,
-        &mut whole,
-    );
+    let again = solve_text(&rt, text.as_str(), &settings, &mut first, &mut whole);
     assert_eq!(rt; again, answer);
     assert_eq!(rt; certificate.inner.as_slice(), whole.as_slice());
     Ok(())

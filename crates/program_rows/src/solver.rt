@@ -1,10 +1,11 @@
 //! The solver's settings, and the words that give them.
 
+use crate::shared::solve_text;
 use certificate::read;
 use row_texts::two_in_line;
 use std::test::Fail;
 use tenths::MemorySink;
-use vrptw::{Job, NoGate, Settings, SolveFault, job, solve};
+use vrptw::{Job, Settings, SolveFault, job};
 
 #[test]
 fn the_neighbours_of_the_settings_stand_in_the_certificate(rt: HostRuntime) -> Result<(), Fail> {
@@ -14,18 +15,16 @@ fn the_neighbours_of_the_settings_stand_in_the_certificate(rt: HostRuntime) -> R
         settings.neighbours = neighbours;
         let mut solution = MemorySink::new(rt.alloc());
         let mut certificate = MemorySink::new(rt.alloc());
-        let answer = solve(
+        let answer = solve_text(
             &rt,
-            rt.alloc(),
-            text.as_bytes(),
+            text.as_str(),
             &settings,
-            &NoGate,
             &mut solution,
             &mut certificate,
         );
         assert!(rt; answer.is_ok(), "{neighbours}");
         let cert = read(rt.alloc(), certificate.as_slice())?;
-        assert_eq!(rt; cert.parts().neighbours, neighbours);
+        assert_eq!(rt; cert.parts().neighbours, neighbours, "{neighbours}");
     }
     Ok(())
 }
@@ -42,17 +41,18 @@ fn settings_have_ranges_and_limit_the_labels(rt: HostRuntime) -> Result<(), Fail
         settings.labels = labels;
         let mut solution = MemorySink::new(rt.alloc());
         let mut certificate = MemorySink::new(rt.alloc());
-        let answer = solve(
+        let answer = solve_text(
             &rt,
-            rt.alloc(),
-            text.as_bytes(),
+            text.as_str(),
             &settings,
-            &NoGate,
             &mut solution,
             &mut certificate,
         );
-        assert_eq!(rt; answer, Err(fault));
-        assert!(rt; solution.as_slice().is_empty() && certificate.as_slice().is_empty());
+        assert_eq!(rt; answer, Err(fault), "{fault}");
+        assert!(rt;
+            solution.as_slice().is_empty() && certificate.as_slice().is_empty(),
+            "{fault}"
+        );
     }
     Ok(())
 }

@@ -1,0 +1,23 @@
+//! What the rows share.
+
+use tenths::Sink;
+use vrptw::{Answer, NoGate, Settings, SolveFault, solve};
+
+/// The answer of the solver for a text.
+pub fn solve_text<R: AllocGlobal, X: Sink, Y: Sink>(
+    rt: &R,
+    text: &str,
+    settings: &Settings,
+    solution: &mut X,
+    certificate: &mut Y,
+) -> Result<Answer, SolveFault> {
+    solve(
+        rt,
+        rt.alloc(),
+        text.as_bytes(),
+        settings,
+        &NoGate,
+        solution,
+        certificate,
+    )
+}
