@@ -1,4 +1,5 @@
 """Random instance texts, whole and mutated."""
+from building import build
 
 HEAD = ["VEHICLE", "NUMBER", "CAPACITY", None, None, "CUSTOMER", "CUST", "NO.", "XCOORD.", "YCOORD.", "DEMAND",
         "READY", "TIME", "DUE", "DATE", "SERVICE", "TIME"]
@@ -80,6 +81,53 @@ def tree_lines(random, count, path, depth):
     arc = random.choice(arcs)
     below = [tree_lines(random, count, path + [arc], depth - 1) for _ in range(2)]
     return ["S %d %d" % arc] + below[0] + below[1]
+
+
+def tree_of(random, instance):
+    """The lines of a random tree for an instance, most of its prices near what a visit costs."""
+    return [near_prices(random, instance) if line[0] == "P" and random.randrange(4) else line
+            for line in tree_lines(random, instance.count, [], random.choice([0, 0, 1, 2, 3]))]
+
+
+def near_prices(random, instance):
+    prices = [1000 * (instance.arc[0][i] + instance.arc[i][0]) * random.choice([0, 1, 2, 3, 4]) // 2
+              + random.choice([0, 0, random.randint(-2000, 2000)]) for i in range(1, instance.count + 1)]
+    return "P " + " ".join(str(price) for price in prices)
+
+
+def certificate_of(random, instance, tree):
+    """The lines of a certificate for an instance, with the bound 0.0."""
+    return ["VRPTW-CERT %d" % random.choice([1, 2]), "INSTANCE " + instance.name.decode(),
+            "CUSTOMERS %d" % instance.count, "NEIGHBOURS %d" % random.choice([0, 1, 2, 8, 15]), "BOUND 0.0",
+            "TREE"] + tree + ["END"]
+
+
+def plan_of(random, instance):
+    """Routes through all customers, often a plan; sometimes with a customer left out, twice or unknown, or in another
+    order."""
+    routes, left = build(instance)
+    routes = [list(route) for route in routes] + [[i] for i in left]
+    spoil = random.randrange(10)
+    route = random.choice(routes)
+    if spoil == 0 and len(route) > 1:
+        route.pop()
+    elif spoil == 1:
+        route.append(random.choice(random.choice(routes)))
+    elif spoil == 2:
+        route[random.randrange(len(route))] = instance.count + random.choice([1, 100])
+    elif spoil == 3:
+        route.reverse()
+    elif spoil == 4 and len(routes) > 1:
+        routes.remove(route)
+        routes[0] += route
+    elif spoil == 5:
+        routes = [[i] for route in routes for i in route]
+    return routes
+
+
+def solution_of(routes, cost):
+    return ["Route #%d: %s" % (k + 1, " ".join(str(i) for i in route)) for k, route in enumerate(routes)
+            ] + ["Cost %d.%d" % divmod(cost, 10)]
 
 
 def certificate_lines(random):

@@ -7,7 +7,7 @@ from math import isqrt
 SEPARATORS = b" \t\r\n"
 LAYOUT = [b"VEHICLE", b"NUMBER", b"CAPACITY", None, None, b"CUSTOMER", b"CUST", b"NO.", b"XCOORD.", b"YCOORD.",
           b"DEMAND", b"READY", b"TIME", b"DUE", b"DATE", b"SERVICE", b"TIME"]
-MOST_CUSTOMERS = 100
+MOST_CUSTOMERS = 400
 
 
 class Fault(Exception):
@@ -138,6 +138,11 @@ def walk(instance, route):
         return None
     if sum(instance.demand(i) for i in route) > instance.capacity:
         return None
+    return walk_times(instance, route)
+
+
+def walk_times(instance, route):
+    """Times of service and the return of customers in this order, or None where one comes too late."""
     at, time, begins = 0, instance.ready(0), []
     for i in route:
         begin = max(time + instance.arc[at][i], instance.ready(i))

@@ -4,12 +4,14 @@ import random as randomness
 import subprocess
 
 import bounding
+import checking
 from building import build
-from cases import LARGE, certificate_lines, instance_words, laid_out, mutated, solution_lines, spoilt
+from cases import (LARGE, certificate_lines, certificate_of, instance_words, laid_out, mutated, plan_of, solution_lines,
+                   solution_of, spoilt, tree_of)
 from instances import Fault, is_plan, plan_cost, read
 from moving import descend, first_gain
 from optimum import least_cost
-from texts import TextFault, read_certificate, read_solution
+from texts import TextFault, read_certificate, read_solution, shown
 
 
 class Disagreement(Exception):
@@ -32,10 +34,6 @@ def solve(program, folder, text):
     run = subprocess.run([program, "solve"] + paths, capture_output=True, timeout=600)
     written = [open(path, "rb").read() if os.path.exists(path) else None for path in paths[1:]]
     return run.stdout.decode(), run.stderr.decode(), run.returncode, written[0], written[1]
-
-
-def shown(tenths):
-    return "%d.%d" % divmod(tenths, 10)
 
 
 def judge_refusal(program, folder, random):
@@ -100,7 +98,61 @@ def judge_solved(program, folder, random, count, least, small):
         demand((out, status) == (line, 0 if cost == bound else 1), "the line %r" % out)
         demand(not small or optimum is not None and optimum <= cost, "a plan below the optimum")
     demand(not small or optimum is None or bound <= optimum, "a bound above the optimum")
+    checked = run_check(program, folder, text, certificate, solution or None)
+    demand(checked == (out.replace("OPEN", "BOUND"), "", status), "check of what was written: %r" % (checked,))
     return out.split()[0]
+
+
+def judge_check(program, folder, random):
+    """An instance, a certificate and often a solution, whole or with something wrong: the program's check against the
+    one of this folder. Answers what came of it."""
+    small = random.randrange(4) > 0
+    words = instance_words(random, random.randint(1, 4) if small else random.randint(5, 12))
+    text = laid_out(random, words)
+    instance = read(text)
+    lines = certificate_of(random, instance, tree_of(random, instance))
+    found = read_certificate("".join(line + "\n" for line in lines).encode())
+    # Routes that remember each customer are few enough to go through.
+    least = bounding.least_by_routes if small and found.neighbours >= 8 else bounding.least_by_labels
+    bound = checking.tree_bound(instance, found, least)
+    routes = plan_of(random, instance)
+    certificate, solution = checked_texts(random, instance, lines, bound, routes)
+    if random.randrange(12) == 0:
+        text = mutated(random, words)
+    wanted = checking.check(text, certificate, solution, least)
+    got = run_check(program, folder, text, certificate, solution)
+    demand(got == wanted, "check: %r, and %r is right" % (got, wanted))
+    return " ".join(word for word in (wanted[0] or wanted[1]).split() if word.isalpha() or word.endswith(":"))
+
+
+def checked_texts(random, instance, lines, bound, routes):
+    """The certificate with this bound or near it, and a solution with its cost or near it, or none."""
+    lines = list(lines)
+    lines[4] = "BOUND " + shown(max(0, bound + random.choice([0] * 8 + [1, -1, 10])))
+    if random.randrange(12) == 0:
+        lines[1] += random.choice(["x", "T"])
+    certificate = "".join(line + "\n" for line in lines).encode()
+    if random.randrange(6) == 0:
+        certificate = spoilt(random, lines)
+    if random.randrange(4) == 0:
+        return certificate, None
+    cost = plan_cost(instance, [[i for i in route if i <= instance.count] for route in routes])
+    told = solution_of(routes, max(0, cost + random.choice([0] * 8 + [1, -1])))
+    if random.randrange(8) == 0:
+        return certificate, spoilt(random, told)
+    return certificate, "".join(line + "\n" for line in told).encode()
+
+
+def run_check(program, folder, text, certificate, solution):
+    """The program's lines and its status."""
+    paths = [os.path.join(folder, name) for name in ("instance", "certificate", "solution")]
+    for path, given in zip(paths, (text, certificate, solution)):
+        if given is not None:
+            with open(path, "wb") as file:
+                file.write(given)
+    words = [program, "check", paths[0], paths[1]] + ([] if solution is None else ["--solution", paths[2]])
+    run = subprocess.run(words, capture_output=True, timeout=600)
+    return run.stdout.decode(), run.stderr.decode(), run.returncode
 
 
 def judge_echo(echo, folder, kind, text, reader):
@@ -133,6 +185,8 @@ def judge(programs, folder, seed, kind):
             name, lines = LARGE[seed]
             text = "".join(line + "\n" for line in lines()).encode()
             return True, "%s: %s" % (name, judge_echo(echo, folder, "certificate", text, read_certificate))
+        if kind == "checks":
+            return True, judge_check(program, folder, random)
         if kind == "refusals":
             return True, judge_refusal(program, folder, random)
         if kind == "small":

@@ -36,6 +36,11 @@ def tenths(word):
     return 10 * int(whole) + int(digit)
 
 
+def shown(number):
+    """Tenths as a text has them."""
+    return "%d.%d" % divmod(number, 10)
+
+
 def read_solution(text):
     """Routes and cost."""
     lines, routes = Lines(text), []
@@ -70,7 +75,7 @@ def field(lines, word, low, high):
     return int(rest)
 
 
-def read_certificate(text, most_customers=100):
+def read_certificate(text, most_customers=400):
     lines = Lines(text)
     first = lines.next()
     if first not in (b"VRPTW-CERT 1", b"VRPTW-CERT 2"):

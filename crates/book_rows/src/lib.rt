@@ -7,3 +7,5 @@ mod limits;
 mod rows;
 #[cfg(test)]
 mod shared;
+#[cfg(test)]
+mod shares;

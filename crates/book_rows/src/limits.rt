@@ -6,6 +6,7 @@ use incumbent_book::{Book, BookFault, Limits, OpenFault};
 use row_texts::one_customer;
 use solomon_reader::{Instance, read};
 use std::process::Abort;
+use std::sync::Wait;
 use std::test::Fail;
 
 /// The fault of an offer of one route for both customers, if it was refused.
@@ -23,7 +24,7 @@ fn offer_fault<'i, R: AllocGlobal>(
 }
 
 /// A book with these limits splits the root, refuses to split a child, and takes two offers.
-fn fill<'i, R: Abort + AllocGlobal>(
+fn fill<'i, R: Abort + Wait + AllocGlobal>(
     rt: &R,
     instance: &'i Instance,
     other: &'i Instance,
@@ -38,10 +39,10 @@ fn fill<'i, R: Abort + AllocGlobal>(
     };
     let mut book = book_with(alloc, instance, limits)?;
     let root = Region::root(alloc, 2);
-    let made = split_by(alloc, instance, &mut book, 0, &root, ONWARD, [0, 0])?;
+    let made = split_by(rt, instance, &mut book, 0, &root, ONWARD, [0, 0])?;
     assert_eq!(rt; made, Ok((1, 2)), "{leaves}");
     let used = root.used(ONWARD)?;
-    let deeper = split_by(alloc, instance, &mut book, 1, &used, BACK, [200_000, 0])?;
+    let deeper = split_by(rt, instance, &mut book, 1, &used, BACK, [200_000, 0])?;
     assert_eq!(rt; deeper, Err(fault), "{leaves}");
     for expected in [None, None, Some(BookFault::JournalFull)] {
         let told = offer_fault(rt, instance, &mut book, &[&[1, 2]])?;
@@ -73,7 +74,7 @@ fn a_book_of_one_event_and_one_leaf(rt: HostRuntime) -> Result<(), Fail> {
     };
     let mut book = book_with(alloc, &instance, limits)?;
     let root = Region::root(alloc, 2);
-    let split = split_by(alloc, &instance, &mut book, 0, &root, ONWARD, [0, 0])?;
+    let split = split_by(&rt, &instance, &mut book, 0, &root, ONWARD, [0, 0])?;
     assert_eq!(rt; split, Err(BookFault::LeavesFull));
     assert!(rt; book.history().is_empty());
     for expected in [None, Some(BookFault::JournalFull)] {

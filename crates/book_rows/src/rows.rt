@@ -1,25 +1,24 @@
 //! Offers, new prices and splits of a book.
 
-use crate::shared::{
-    BACK, ONWARD, book_with, in_line, plan_of, priced_at, reprice_fault, split_by,
-};
+use crate::shared::{Asked, BACK, ONWARD, book_with, in_line, plan_of, priced_at, split_by};
 use branching::{Region, TreeNode};
-use incumbent_book::{Book, BookFault, Limits, Offered, Outcome, Steps};
+use desk::LookFault;
+use incumbent_book::{BookFault, Limits, Offered, Outcome, Steps};
 use solomon_reader::Instance;
-use std::alloc::Global;
 use std::process::Abort;
+use std::sync::Wait;
 use std::test::Fail;
 use tenths::Tenths;
 
 /// Offers a plan: whether it was better, and the best cost that was known.
-fn offer<'i>(
-    alloc: Global,
+fn offer<'i, R: Wait + AllocGlobal, A: Asked<'i>>(
+    rt: &R,
     instance: &'i Instance,
-    book: &mut Book<'i>,
+    asked: &mut A,
     routes: &[&[u16]],
 ) -> Result<(bool, Option<Tenths>), Fail> {
-    let plan = plan_of(alloc, instance, routes)?;
-    let reply = match book.offer(0, plan) {
+    let plan = plan_of(rt.alloc(), instance, routes)?;
+    let reply = match asked.ask_offer(rt, plan) {
         Ok(reply) => reply,
         Err(_) => return Err(Fail::from("an offer was refused")),
     };
@@ -30,58 +29,60 @@ fn offer<'i>(
 }
 
 /// Offers plans of 300, 200, 300 and 200 tenths.
-fn offer_plans<'i, R: Abort + AllocGlobal>(
+pub fn offer_plans<'i, R: Abort + Wait + AllocGlobal, A: Asked<'i>>(
     rt: &R,
     instance: &'i Instance,
-    book: &mut Book<'i>,
+    asked: &mut A,
 ) -> Result<(), Fail> {
-    let alloc = rt.alloc();
-    let first = offer(alloc, instance, book, &[&[1], &[2]])?;
+    let first = offer(rt, instance, asked, &[&[1], &[2]])?;
     assert_eq!(rt; first, (true, None));
-    let cheaper = offer(alloc, instance, book, &[&[1, 2]])?;
+    let cheaper = offer(rt, instance, asked, &[&[1, 2]])?;
     assert_eq!(rt; cheaper, (true, Some(Tenths::from(300))));
-    let dearer = offer(alloc, instance, book, &[&[1], &[2]])?;
+    let dearer = offer(rt, instance, asked, &[&[1], &[2]])?;
     assert_eq!(rt; dearer, (false, Some(Tenths::from(200))));
-    let as_dear = offer(alloc, instance, book, &[&[1, 2]])?;
+    let as_dear = offer(rt, instance, asked, &[&[1, 2]])?;
     assert_eq!(rt; as_dear, (false, Some(Tenths::from(200))));
     Ok(())
 }
 
 /// Splits the root, and gives the child without the arc a higher value.
-fn branch<'i, R: Abort + AllocGlobal>(
+pub fn branch<'i, R: Abort + Wait + AllocGlobal, A: Asked<'i>>(
     rt: &R,
     instance: &'i Instance,
-    book: &mut Book<'i>,
+    asked: &mut A,
 ) -> Result<(), Fail> {
     let alloc = rt.alloc();
     let root = Region::root(alloc, 2);
-    let made = split_by(alloc, instance, book, 0, &root, ONWARD, [0, 0])?;
+    let made = split_by(rt, instance, asked, 0, &root, ONWARD, [0, 0])?;
     assert_eq!(rt; made, Ok((1, 2)));
-    let again = split_by(alloc, instance, book, 0, &root, ONWARD, [0, 0])?;
+    let again = split_by(rt, instance, asked, 0, &root, ONWARD, [0, 0])?;
     assert_eq!(rt; again, Err(BookFault::NotALeaf));
-    assert_eq!(rt; book.leaf(1).map(|leaf| leaf.value()), Some(200));
-    assert_eq!(rt; book.leaf(2).map(|leaf| leaf.value()), Some(100));
+    assert_eq!(rt; asked.ask_value(rt, 1), Ok(200));
+    assert_eq!(rt; asked.ask_value(rt, 2), Ok(100));
     let unused = root.forbidden(ONWARD)?;
     let higher = priced_at(alloc, instance, unused.try_clone()?, [100_000, 100_000])?;
     let equal = higher.try_clone()?;
-    assert_eq!(rt; reprice_fault(book, 2, higher), None);
-    assert_eq!(rt; reprice_fault(book, 2, equal), Some(BookFault::NotHigher));
-    assert_eq!(rt; book.leaf(2).map(|leaf| leaf.value()), Some(200));
-    assert!(rt; book.leaf(0).is_none());
-    let lower = split_by(alloc, instance, book, 2, &unused, BACK, [0, 0])?;
+    assert_eq!(rt; asked.ask_reprice(rt, 2, higher), Ok(()));
+    assert_eq!(rt; asked.ask_reprice(rt, 2, equal), Err(BookFault::NotHigher));
+    assert_eq!(rt; asked.ask_value(rt, 2), Ok(200));
+    assert_eq!(rt; asked.ask_value(rt, 0), Err(LookFault::NotALeaf));
+    let lower = split_by(rt, instance, asked, 2, &unused, BACK, [0, 0])?;
     assert_eq!(rt; lower, Err(BookFault::Lower));
     let elsewhere = priced_at(alloc, instance, root.try_clone()?, [200_000, 0])?;
     assert_eq!(rt;
-        reprice_fault(book, 1, elsewhere),
-        Some(BookFault::WrongRegion)
+        asked.ask_reprice(rt, 1, elsewhere),
+        Err(BookFault::WrongRegion)
     );
     let as_high = priced_at(alloc, instance, root.used(ONWARD)?, [200_000, 0])?;
-    assert_eq!(rt; reprice_fault(book, 1, as_high), Some(BookFault::NotHigher));
+    assert_eq!(rt;
+        asked.ask_reprice(rt, 1, as_high),
+        Err(BookFault::NotHigher)
+    );
     Ok(())
 }
 
 /// Asserts the outcome's bound and its tree.
-fn assert_outcome<R: Abort + AllocGlobal>(rt: &R, outcome: &Outcome<'_>) -> Result<(), Fail> {
+pub fn assert_outcome<R: Abort + AllocGlobal>(rt: &R, outcome: &Outcome<'_>) -> Result<(), Fail> {
     assert_eq!(rt; outcome.bound(), Tenths::from(200));
     assert_eq!(rt; outcome.neighbours(), 1);
     assert_eq!(rt; outcome.history().len(), 6);

@@ -5,8 +5,7 @@ use Rattle.std.proofs.Math.ListN.{set, length-set}
 use Rattle.std.proofs.lemmas.Int.{ints}
 use Rattle.std.proofs.lemmas.Bool.{cases_lt, cases_eq}
 use Rattle.std.proofs.lemmas.List.{reverse-append, length-reverse, take_all, drop_all, get_or_read, get_or_append_left, get_or_push, get_or-set_same, get_or-set_other}
-use Rattle.std.specs.FinSet.{empty, contains-empty}
-use Rattle.std.specs.Ordering.{nat_cmp}
+use Rattle.std.proofs.lemmas.Nat.Bits.{bit_at-zero}
 use Rattle.solomon_reader.specs.Problem.{Problem, customer_count}
 use Rattle.solomon_reader.specs.Region.{Region}
 use Rattle.solomon_reader.specs.Relaxed.{IsRelaxed, reduced_cost}
@@ -16,11 +15,11 @@ use Rattle.labelling.specs.declared.least_cost.Least.{Least}
 use Rattle.labelling.specs.declared.best.Best.{Best}
 use Rattle.labelling.specs.declared.label.Label.{Label}
 use Rattle.labelling.specs.Answer.{HasLeastValue, HasItsRoute}
-use Rattle.labelling.specs.Arena.{label_in, state_at, trace, IsLabel, IsArena, IsPending, HasActive, HasPending, IsDominated, inactive, IsPruned, IsExtension, IsAdded, IsSameStop, IsLater, IsGrown, IsMoved, TakesStep, TakesSteps, CountsEnd, EndsAt, IsAttained, IsComplete, IsOnward, NonePending, IsAnswer, IsInList, IsFirst, blank}
+use Rattle.labelling.specs.Arena.{label_in, state_at, trace, IsLabel, IsArena, IsPending, HasActive, HasPending, IsDominated, Dominates, HasDominating, inactive, IsPruned, IsExtension, IsAdded, IsSameStop, IsLater, IsGrown, IsMoved, TakesStep, TakesSteps, CountsEnd, EndsAt, IsAttained, IsComplete, IsOnward, NonePending, IsAnswer, IsInList, IsFirst, blank}
 use Rattle.labelling.specs.Cover.{IsAtMost, CoversAll}
 use Rattle.labelling.specs.Fronts.{end_cost, IsBounded, IsStart}
-use Rattle.labelling.specs.Tables.{Rows, IsAllowedRow, IsTable}
-use Rattle.labelling.proofs.Goodness.{good_itself, good_same, good_through, reaches_same}
+use Rattle.labelling.specs.Memories.{place_of}
+use Rattle.solomon_reader.proofs.Goodness.{good_itself, good_same, good_through, reaches_same}
 use Rattle.labelling.proofs.Cover.{covers_grown, covers_retired, least_at_end}
 use Rattle.labelling.proofs.Ends.{IsReached, least_value, least_route}
 
@@ -28,16 +27,18 @@ use Rattle.labelling.proofs.Ends.{IsReached, least_value, least_route}
 pub label_read : (xs : List Label) (m : ℕ) (r : Label) → m < length xs → r ≡ get_or xs m r → r ≡ label_in xs m
 label_read xs m r within is = get_or_read xs m r within is blank
 
-pub dominated_by : (xs : List Label) (m : ℕ) (r : Label) (a : State) → m < length xs → r ≡ get_or xs m r → r.active ≡ true → IsAsGood (state_at r) a → IsDominated xs a
-dominated_by xs m r a within is active good =
-    let e = label_read xs m r within is in
-    (state_at r, (record { index = m; within = within; active = rw e at active; is = ap state_at (sym e) }, good))
+-- the memories of labels at one stop are read by one list
+good_from : (p : Problem) (k : ℕ) (a b : Label) → Dominates a b → IsAsGood (state_at p k a) (state_at p k b)
+good_from p k a b h = record { last = h.last; time = h.time; load = h.load; cost = h.cost; memory = λ u t. h.memory (place_of p k b.front.last u) (rw h.last at t) }
 
-pub first_is : (p : Problem) (xs : List Label) (l : Label) → xs ≡ l ∷ [] → IsStart p l.front → IsBounded p l.front → l.memory ≡ empty → l.parent ≡ 0 → l.stops ≡ 0 → IsPending l → IsFirst p xs
+dominated_by : (p : Problem) (k : ℕ) (xs : List Label) (x : Label) → HasDominating xs x → IsDominated p k xs (state_at p k x)
+dominated_by p k xs x h = (state_at p k (label_in xs h.index), (record { index = h.index; within = h.within; active = h.active; is = refl }, good_from p k _ x h.dominates))
+
+pub first_is : (p : Problem) (xs : List Label) (l : Label) → xs ≡ l ∷ [] → IsStart p l.front → IsBounded p l.front → l.memory.bits ≡ 0 → l.parent ≡ 0 → l.stops ≡ 0 → IsPending l → IsFirst p xs
 first_is p xs l one start bounded memory parent stops pending = record {
   label = l;
   one = one;
-  start = record { last = start.last; time = start.time; load = start.load; cost = start.cost; memory = λ u. rw memory (contains-empty nat_cmp u) };
+  start = λ k. record { last = start.last; time = start.time; load = start.load; cost = start.cost; memory = λ u. rw (memory, bit_at-zero (place_of p k l.front.last u)) refl };
   bounded = bounded;
   parent = parent;
   stops = stops;
@@ -50,8 +51,8 @@ same_itself a = record { front = refl; memory = refl; parent = refl; stops = ref
 same_through : (a b c : Label) → IsSameStop a b → IsSameStop b c → IsSameStop a c
 same_through a b c h e = record { front = e.front ∙ h.front; memory = e.memory ∙ h.memory; parent = e.parent ∙ h.parent; stops = e.stops ∙ h.stops }
 
-same_state : (a b : Label) → IsSameStop a b → state_at b ≡ state_at a
-same_state a b h = rw (h.front, h.memory) refl
+same_state : (p : Problem) (k : ℕ) (a b : Label) → IsSameStop a b → state_at p k b ≡ state_at p k a
+same_state p k a b h = rw (h.front, h.memory) refl
 
 later_itself : (a : Label) → IsLater a a
 later_itself a = record { same = same_itself a; active = λ h. h; extended = refl }
@@ -80,14 +81,6 @@ module _ (p : Problem) (g : Region) (k : ℕ) (prices : List ℤ) where
   pub parents_of : (xs : List Label) → IsArena p g k prices xs → (m : ℕ) → m < length xs → (label_in xs m).parent < length xs
   parents_of xs arena m within = (arena.each m within).parent
 
-  -- the rows that were read for a label that was read
-  pub rows_read : (xs : List Label) (m : ℕ) (r : Label) (table : List Rows) (s : Rows) → IsArena p g k prices xs → m < length xs → r ≡ get_or xs m r
-      → IsTable (IsAllowedRow g) 0 (length p.rows) table → s ≡ get_or table r.front.last s → IsAllowedRow g r.front.last s
-  rows_read xs m r table s arena within is rows there =
-      let last : r.front.last < length p.rows = rw (label_read xs m r within is) (arena.each m within).bounded.last in
-      let e : s ≡ get_or table r.front.last empty = get_or_read table r.front.last s (omega (arith, last, rows.count)) there empty in
-      rw e (rows.each r.front.last (omega arith) last)
-
   label_longer : (xs ys : List Label) (a b : Label) → IsLonger xs ys → IsArena p g k prices xs → IsLabel p g k prices xs a → IsSameStop a b → IsLabel p g k prices ys b
   label_longer xs ys a b h arena label same =
       let e : trace xs a.stops a ≡ trace ys a.stops b = trace_same xs ys h (parents_of xs arena) a.stops a b label.parent same in
@@ -96,7 +89,7 @@ module _ (p : Problem) (g : Region) (k : ℕ) (prices : List ℤ) where
         bounded = rw same.front label.bounded;
         light = rw (same.front, same.stops) label.light;
         parent = omega (arith, label.parent, same.parent, h.longer);
-        reached = rw (← t, same_state a b same) label.reached;
+        reached = rw (← t, same_state p k a b same) label.reached;
       }
 
   arena_longer : (xs ys : List Label) → IsLonger xs ys → length ys ≡ length xs → IsArena p g k prices xs → IsArena p g k prices ys
@@ -107,11 +100,11 @@ module _ (p : Problem) (g : Region) (k : ℕ) (prices : List ℤ) where
 grown_none : (xs : List Label) → IsGrown xs xs
 grown_none xs = record { longer = omega arith; later = λ m w. later_itself _; fresh = λ m low high. absurd (omega (arith, low, high)) }
 
-moved_none : (xs : List Label) → IsMoved xs xs
-moved_none xs = record { grown = grown_none xs; pending = λ a s. (a, (s, good_itself a)); active = λ a s. (a, (s, good_itself a)) }
+moved_none : (p : Problem) (k : ℕ) (xs : List Label) → IsMoved p k xs xs
+moved_none p k xs = record { grown = grown_none xs; pending = λ a s. (a, (s, good_itself a)); active = λ a s. (a, (s, good_itself a)) }
 
-dominated_through : (xs ys : List Label) (a : State) → IsMoved xs ys → IsDominated xs a → IsDominated ys a
-dominated_through xs ys a moved (t, h) = let on = moved.active t h.0 in (on.0, (on.1.0, good_through _ _ _ on.1.1 h.1))
+dominated_through : (p : Problem) (k : ℕ) (xs ys : List Label) (a : State) → IsMoved p k xs ys → IsDominated p k xs a → IsDominated p k ys a
+dominated_through p k xs ys a moved (t, h) = let on = moved.active t h.0 in (on.0, (on.1.0, good_through _ _ _ on.1.1 h.1))
 
 grown_through : (xs ys zs : List Label) → IsGrown xs ys → IsGrown ys zs → IsGrown xs zs
 grown_through xs ys zs h e = record {
@@ -123,15 +116,15 @@ grown_through xs ys zs h e = record {
   ];
 }
 
-moved_through : (xs ys zs : List Label) → IsMoved xs ys → IsMoved ys zs → IsMoved xs zs
-moved_through xs ys zs h e = record {
+moved_through : (p : Problem) (k : ℕ) (xs ys zs : List Label) → IsMoved p k xs ys → IsMoved p k ys zs → IsMoved p k xs zs
+moved_through p k xs ys zs h e = record {
   grown = grown_through xs ys zs h.grown e.grown;
   pending = λ a s. (let t = h.pending a s in let u = e.pending t.0 t.1.0 in (u.0, (u.1.0, good_through _ _ _ u.1.1 t.1.1)));
-  active = λ a s. dominated_through ys zs a e (h.active a s);
+  active = λ a s. dominated_through p k ys zs a e (h.active a s);
 }
 
 -- x was added, and what it dominates was dropped
-module _ (xs zs : List Label) (x : Label) (unextended : IsPending x) (pruned : IsPruned xs zs (state_at x)) where
+module _ (p : Problem) (k : ℕ) (xs zs : List Label) (x : Label) (unextended : IsPending x) (pruned : IsPruned xs zs x) where
   more : length (zs ++ (x ∷ [])) ≡ length xs + 1
   more = omega (arith, length-append zs (x ∷ []), pruned.same)
 
@@ -154,42 +147,42 @@ module _ (xs zs : List Label) (x : Label) (unextended : IsPending x) (pruned : I
     fresh = λ m low high. (let same : m ≡ length xs = omega (arith, low, high, more) in rw (same, new_at) unextended.extended);
   }
 
-  active_new : HasActive (zs ++ (x ∷ [])) (state_at x)
-  active_new = record { index = length xs; within = omega (arith, more); active = rw new_at unextended.active; is = ap state_at new_at }
+  active_new : HasActive p k (zs ++ (x ∷ [])) (state_at p k x)
+  active_new = record { index = length xs; within = omega (arith, more); active = rw new_at unextended.active; is = ap (state_at p k) new_at }
 
-  pending_new : HasPending (zs ++ (x ∷ [])) (state_at x)
-  pending_new = record { index = length xs; within = omega (arith, more); unextended = rw new_at unextended; is = ap state_at new_at }
+  pending_new : HasPending p k (zs ++ (x ∷ [])) (state_at p k x)
+  pending_new = record { index = length xs; within = omega (arith, more); unextended = rw new_at unextended; is = ap (state_at p k) new_at }
 
-  moved_added : IsMoved xs (zs ++ (x ∷ []))
+  moved_added : IsMoved p k xs (zs ++ (x ∷ []))
   moved_added = record { grown = grown_added; pending = pending; active = active }
     where
-      pending : (a : State) → HasPending xs a → (t : State) × (HasPending (zs ++ (x ∷ [])) t × IsAsGood t a)
+      pending : (a : State) → HasPending p k xs a → (t : State) × (HasPending p k (zs ++ (x ∷ [])) t × IsAsGood t a)
       pending a s = elim (pruned.each s.index s.within) [
         | inl same ↦ (let e = old_at s.index s.within ∙ same in
-            (a, (record { index = s.index; within = omega (arith, s.within, more); unextended = rw e s.unextended; is = ap state_at e ∙ s.is }, good_itself a)))
-        | inr past ↦ (state_at x, (pending_new, rw s.is at past.0))
+            (a, (record { index = s.index; within = omega (arith, s.within, more); unextended = rw e s.unextended; is = ap (state_at p k) e ∙ s.is }, good_itself a)))
+        | inr past ↦ (state_at p k x, (pending_new, rw s.is at (good_from p k x _ past.0)))
       ]
 
-      active : (a : State) → HasActive xs a → IsDominated (zs ++ (x ∷ [])) a
+      active : (a : State) → HasActive p k xs a → IsDominated p k (zs ++ (x ∷ [])) a
       active a s = elim (pruned.each s.index s.within) [
         | inl same ↦ (let e = old_at s.index s.within ∙ same in
-            (a, (record { index = s.index; within = omega (arith, s.within, more); active = rw e s.active; is = ap state_at e ∙ s.is }, good_itself a)))
-        | inr past ↦ (state_at x, (active_new, rw s.is at past.0))
+            (a, (record { index = s.index; within = omega (arith, s.within, more); active = rw e s.active; is = ap (state_at p k) e ∙ s.is }, good_itself a)))
+        | inr past ↦ (state_at p k x, (active_new, rw s.is at (good_from p k x _ past.0)))
       ]
 
-  dominated_added : IsDominated (zs ++ (x ∷ [])) (state_at x)
-  dominated_added = (state_at x, (active_new, good_itself (state_at x)))
+  dominated_added : IsDominated p k (zs ++ (x ∷ [])) (state_at p k x)
+  dominated_added = (state_at p k x, (active_new, good_itself (state_at p k x)))
 
 module _ (p : Problem) (g : Region) (k : ℕ) (prices : List ℤ) where
   module _ (xs : List Label) (l : Label) (index j : ℕ) (arena : IsArena p g k prices xs) (within : index < length xs) (here : IsSameStop (label_in xs index) l) where
     pub label_here : IsLabel p g k prices xs l
     label_here = label_longer p g k prices xs xs (label_in xs index) l (grown_longer xs xs (grown_none xs)) arena (arena.each index within) here
 
-    pub step_refused : ¬ CanStep p g (state_at l) j → TakesStep p g k prices xs xs l j
-    step_refused cannot = record { moved = moved_none xs; labelled = arena; dominated = λ can. absurd (cannot can) }
+    pub step_refused : ¬ CanStep p g (state_at p k l) j → TakesStep p g k prices xs xs l j
+    step_refused cannot = record { moved = moved_none p k xs; labelled = arena; dominated = λ can. absurd (cannot can) }
 
     -- the extension is a label of the longer list
-    extension_labelled : (ys : List Label) (x : Label) → IsGrown xs ys → IsExtension p k prices l index j x → CanStep p g (state_at l) j → IsLabel p g k prices ys x
+    extension_labelled : (ys : List Label) (x : Label) → IsGrown xs ys → IsExtension p k prices l index j x → CanStep p g (state_at p k l) j → IsLabel p g k prices ys x
     extension_labelled ys x grown extension can =
         let longer = grown_longer xs ys grown in
         let before : IsSameStop l (label_in ys index) = record {
@@ -204,8 +197,8 @@ module _ (p : Problem) (g : Region) (k : ℕ) (prices : List ℤ) where
           bounded = extension.bounded;
           light = extension.light;
           parent = omega (arith, extension.parent, within, grown.longer);
-          reached = rw (← whole) (reaches_same p g k prices (trace xs l.stops l ++ (j ∷ [])) (state_at x) (step p k prices (state_at l) j) extension.same
-              (reaches_more p g k prices (trace xs l.stops l) (state_at l) j label_here.reached can));
+          reached = rw (← whole) (reaches_same p g k prices (trace xs l.stops l ++ (j ∷ [])) (state_at p k x) (step p k prices (state_at p k l) j) extension.same
+              (reaches_more p g k prices (trace xs l.stops l) (state_at p k l) j label_here.reached can));
         }
       where
         unfolded : (ys : List Label) (x : Label) → trace xs l.stops l ≡ trace ys l.stops (label_in ys index) → IsExtension p k prices l index j x
@@ -214,38 +207,38 @@ module _ (p : Problem) (g : Region) (k : ℕ) (prices : List ℤ) where
             let one : l.stops + 1 ≡ suc l.stops = omega arith in
             rw (extension.stops, one, extension.parent, extension.same.last) (ap (λ r. r ++ (j ∷ [])) t)
 
-    pub step_taken : (ys : List Label) (x : Label) → IsExtension p k prices l index j x → CanStep p g (state_at l) j → IsAdded xs ys x → TakesStep p g k prices xs ys l j
+    pub step_taken : (ys : List Label) (x : Label) → IsExtension p k prices l index j x → CanStep p g (state_at p k l) j → IsAdded xs ys x → TakesStep p g k prices xs ys l j
     step_taken ys x extension can (inl same) = rw same.0 (record {
-      moved = moved_none xs;
+      moved = moved_none p k xs;
       labelled = arena;
-      dominated = λ _. (same.1.0, (same.1.1.0, good_through _ _ _ same.1.1.1 (good_same _ _ extension.same)));
+      dominated = λ _. (let b = dominated_by p k xs x same.1 in (b.0, (b.1.0, good_through _ _ _ b.1.1 (good_same _ _ extension.same))));
     })
     step_taken ys x extension can (inr (zs, kept)) =
-        let grown : IsGrown xs (zs ++ (x ∷ [])) = grown_added xs zs x extension.unextended kept.0 in
-        let b = dominated_added xs zs x extension.unextended kept.0 in
+        let grown : IsGrown xs (zs ++ (x ∷ [])) = grown_added p k xs zs x extension.unextended kept.0 in
+        let b = dominated_added p k xs zs x extension.unextended kept.0 in
         rw kept.1 (record {
-          moved = moved_added xs zs x extension.unextended kept.0;
+          moved = moved_added p k xs zs x extension.unextended kept.0;
           labelled = record { each = each_of zs x grown kept.0 extension };
           dominated = λ _. (b.0, (b.1.0, good_through _ _ _ b.1.1 (good_same _ _ extension.same)));
         })
       where
-        each_of : (zs : List Label) (x : Label) → IsGrown xs (zs ++ (x ∷ [])) → IsPruned xs zs (state_at x) → IsExtension p k prices l index j x
+        each_of : (zs : List Label) (x : Label) → IsGrown xs (zs ++ (x ∷ [])) → IsPruned xs zs x → IsExtension p k prices l index j x
             → (m : ℕ) → m < length (zs ++ (x ∷ [])) → IsLabel p g k prices (zs ++ (x ∷ [])) (label_in (zs ++ (x ∷ [])) m)
         each_of zs x grown pruned extension m w = elim (cases_lt m (length xs)) [
           | inl old ↦ label_longer p g k prices xs (zs ++ (x ∷ [])) (label_in xs m) (label_in (zs ++ (x ∷ [])) m) (grown_longer xs _ grown) arena (arena.each m old) (grown.later m old).same
-          | inr new ↦ (let same : m ≡ length xs = omega (arith, new, w, more xs zs x extension.unextended pruned) in
-              rw (same, new_at xs zs x extension.unextended pruned) (extension_labelled (zs ++ (x ∷ [])) x grown extension can))
+          | inr new ↦ (let same : m ≡ length xs = omega (arith, new, w, more p k xs zs x extension.unextended pruned) in
+              rw (same, new_at p k xs zs x extension.unextended pruned) (extension_labelled (zs ++ (x ∷ [])) x grown extension can))
         ]
 
   pub steps_none : (xs : List Label) (l : Label) → IsArena p g k prices xs → TakesSteps p g k prices xs xs l 1
-  steps_none xs l labelled = record { moved = moved_none xs; labelled = labelled; dominated = λ j below can. absurd (omega (arith, below, can.customer.0)) }
+  steps_none xs l labelled = record { moved = moved_none p k xs; labelled = labelled; dominated = λ j below can. absurd (omega (arith, below, can.customer.0)) }
 
   pub steps_more : (xs ys zs : List Label) (l : Label) (i : ℕ) → TakesSteps p g k prices xs ys l i → TakesStep p g k prices ys zs l i → TakesSteps p g k prices xs zs l (i + 1)
   steps_more xs ys zs l i steps stepped = record {
-    moved = moved_through xs ys zs steps.moved stepped.moved;
+    moved = moved_through p k xs ys zs steps.moved stepped.moved;
     labelled = stepped.labelled;
     dominated = λ j below can. elim (cases_lt j i) [
-      | inl less ↦ dominated_through ys zs _ stepped.moved (steps.dominated j less can)
+      | inl less ↦ dominated_through p k ys zs _ stepped.moved (steps.dominated j less can)
       | inr more ↦ (let same : j ≡ i = omega arith in rw same (stepped.dominated (rw same at can)))
     ];
   }
@@ -265,7 +258,7 @@ abbrev pub done : Label → Label
 done l = record l { extended = true }
 
 module _ (p : Problem) (g : Region) (k : ℕ) (prices : List ℤ) (xs ys : List Label) (index : ℕ) (b after : Best) (l : Label) (so_far : IsComplete p g k prices xs b) (within : index < length xs)
-    (here : label_in xs index ≡ l) (ending : CountsEnd p g l index b after) (steps : TakesSteps p g k prices xs ys l (customer_count p + 1)) where
+    (here : label_in xs index ≡ l) (ending : CountsEnd p g k l index b after) (steps : TakesSteps p g k prices xs ys l (customer_count p + 1)) where
   abbrev zs : List Label
   zs = set ys index (done (label_in ys index))
 
@@ -293,35 +286,35 @@ module _ (p : Problem) (g : Region) (k : ℕ) (prices : List ℤ) (xs ys : List 
     | inr apart ↦ ap (λ (a : Label). a.active) (zs_other m apart)
   ]
 
-  active_zs : (a : State) → HasActive ys a → HasActive zs a
-  active_zs a s = record { index = s.index; within = omega (arith, s.within, count_zs); active = zs_active s.index ∙ s.active; is = same_state _ _ (zs_same s.index) ∙ s.is }
+  active_zs : (a : State) → HasActive p k ys a → HasActive p k zs a
+  active_zs a s = record { index = s.index; within = omega (arith, s.within, count_zs); active = zs_active s.index ∙ s.active; is = same_state p k _ _ (zs_same s.index) ∙ s.is }
 
-  active_ys : (a : State) → HasActive zs a → HasActive ys a
-  active_ys a s = record { index = s.index; within = omega (arith, s.within, count_zs); active = sym (zs_active s.index) ∙ s.active; is = sym (same_state _ _ (zs_same s.index)) ∙ s.is }
+  active_ys : (a : State) → HasActive p k zs a → HasActive p k ys a
+  active_ys a s = record { index = s.index; within = omega (arith, s.within, count_zs); active = sym (zs_active s.index) ∙ s.active; is = sym (same_state p k _ _ (zs_same s.index)) ∙ s.is }
 
-  active_or_pending : (a : State) → HasActive ys a → HasActive xs a ⊎ HasPending ys a
+  active_or_pending : (a : State) → HasActive p k ys a → HasActive p k xs a ⊎ HasPending p k ys a
   active_or_pending a s = elim (cases_lt s.index (length xs)) [
     | inl old ↦ (let later = steps.moved.grown.later s.index old in
-        inl (record { index = s.index; within = old; active = later.active s.active; is = sym (same_state _ _ later.same) ∙ s.is }))
+        inl (record { index = s.index; within = old; active = later.active s.active; is = sym (same_state p k _ _ later.same) ∙ s.is }))
     | inr new ↦ inr (record { index = s.index; within = s.within; unextended = record { active = s.active; extended = steps.moved.grown.fresh s.index new s.within }; is = s.is })
   ]
 
-  is_here : state_at (label_in ys index) ≡ state_at l
-  is_here = same_state _ _ (steps.moved.grown.later index within).same ∙ ap state_at here
+  is_here : state_at p k (label_in ys index) ≡ state_at p k l
+  is_here = same_state p k _ _ (steps.moved.grown.later index within).same ∙ ap (state_at p k) here
 
-  others : (a : State) → HasPending ys a → (a ≡ state_at l) ⊎ HasPending zs a
+  others : (a : State) → HasPending p k ys a → (a ≡ state_at p k l) ⊎ HasPending p k zs a
   others a s = elim (cases_eq s.index index) [
-    | inl same ↦ inl (sym s.is ∙ ap (λ (m : ℕ). state_at (label_in ys m)) same ∙ is_here)
+    | inl same ↦ inl (sym s.is ∙ ap (λ (m : ℕ). state_at p k (label_in ys m)) same ∙ is_here)
     | inr apart ↦ (let e = zs_other s.index apart in
-        inr (record { index = s.index; within = omega (arith, s.within, count_zs); unextended = rw e s.unextended; is = ap state_at e ∙ s.is }))
+        inr (record { index = s.index; within = omega (arith, s.within, count_zs); unextended = rw e s.unextended; is = ap (state_at p k) e ∙ s.is }))
   ]
 
-  each_step : (j : ℕ) → CanStep p g (state_at l) j → (t : State) × (HasActive ys t × IsAsGood t (step p k prices (state_at l) j))
+  each_step : (j : ℕ) → CanStep p g (state_at p k l) j → (t : State) × (HasActive p k ys t × IsAsGood t (step p k prices (state_at p k l) j))
   each_step j can = steps.dominated j (omega (arith, can.customer.1)) can
 
-  covers : CoversAll p g k prices after.value (HasPending zs) (HasActive zs)
-  covers a active = covers_retired p g k prices after.value (HasPending ys) (HasPending zs) (HasActive ys) (state_at l) ending.counted each_step others
-      (covers_grown p g k prices b.value after.value (HasPending xs) (HasActive xs) (HasPending ys) (HasActive ys) ending.lower steps.moved.pending active_or_pending so_far.covers) a (active_ys a active)
+  covers : CoversAll p g k prices after.value (HasPending p k zs) (HasActive p k zs)
+  covers a active = covers_retired p g k prices after.value (HasPending p k ys) (HasPending p k zs) (HasActive p k ys) (state_at p k l) ending.counted each_step others
+      (covers_grown p g k prices b.value after.value (HasPending p k xs) (HasActive p k xs) (HasPending p k ys) (HasActive p k ys) ending.lower steps.moved.pending active_or_pending so_far.covers) a (active_ys a active)
 
   longer_zs : IsLonger ys zs
   longer_zs = record { longer = omega (arith, count_zs); same = λ m w. zs_same m }
@@ -329,26 +322,26 @@ module _ (p : Problem) (g : Region) (k : ℕ) (prices : List ℤ) (xs ys : List 
   xs_zs : (m : ℕ) → m < length xs → IsSameStop (label_in xs m) (label_in zs m)
   xs_zs m w = same_through _ _ _ (steps.moved.grown.later m w).same (zs_same m)
 
-  ends_still : (m : ℕ) (z : ℤ) → EndsAt p g xs m z → EndsAt p g zs m z
+  ends_still : (m : ℕ) (z : ℤ) → EndsAt p g k xs m z → EndsAt p g k zs m z
   ends_still m z h =
       let same = xs_zs m h.within in
       record {
         within = omega (arith, h.within, count_zs, steps.moved.grown.longer);
-        can = rw (same_state _ _ same) h.can;
+        can = rw (same_state p k _ _ same) h.can;
         value = rw same.front h.value;
       }
 
-  attained_before : (o : Option ℤ) (m : ℕ) → MatchOption o (Unit {0}) (λ z. EndsAt p g xs m z) → MatchOption o (Unit {0}) (λ z. EndsAt p g zs m z)
+  attained_before : (o : Option ℤ) (m : ℕ) → MatchOption o (Unit {0}) (λ z. EndsAt p g k xs m z) → MatchOption o (Unit {0}) (λ z. EndsAt p g k zs m z)
   attained_before None m h = tt
   attained_before (Some z) m h = ends_still m z h
 
-  attained_by : (c : Best) → ((c ≡ b) ⊎ (CanEnd p g (state_at l) × ((c.value ≡ Some (end_cost p l.front)) × (c.index ≡ index)))) → IsAttained p g zs c
+  attained_by : (c : Best) → ((c ≡ b) ⊎ (CanEnd p g (state_at p k l) × ((c.value ≡ Some (end_cost p l.front)) × (c.index ≡ index)))) → IsAttained p g k zs c
   attained_by c (inl same) = rw same (attained_before b.value b.index so_far.attained)
   attained_by c (inr h) = rw (h.1.0, h.1.1) (ends_still index (end_cost p l.front) (record { within = within; can = rw here h.0; value = ap (λ (a : Label). end_cost p a.front) here }))
 
-  first : IsDominated zs (start p)
+  first : IsDominated p k zs (start p)
   first =
-      let b = dominated_through xs ys (start p) steps.moved so_far.first in
+      let b = dominated_through p k xs ys (start p) steps.moved so_far.first in
       (b.0, (active_zs b.0 b.1.0, b.1.1))
 
   complete_zs : IsComplete p g k prices zs after
@@ -417,16 +410,16 @@ module _ (p : Problem) (g : Region) (k : ℕ) (prices : List ℤ) where
         bounded = h.bounded;
         light = omega (arith, h.stops);
         parent = omega (arith, h.parent);
-        reached = rw h.stops (reaches_same p g k prices [] (state_at h.label) (start p) h.start (reaches_none p g k prices));
+        reached = rw h.stops (reaches_same p g k prices [] (state_at p k h.label) (start p) (h.start k) (reaches_none p g k prices));
       } in
       rw h.one (record {
         labelled = record { each = λ m w. (let e : m ≡ 0 = omega (arith, w) in rw e reached) };
-        first = (state_at h.label, (record { index = 0; within = omega arith; active = h.unextended.active; is = refl }, good_same _ _ h.start));
+        first = (state_at p k h.label, (record { index = 0; within = omega arith; active = h.unextended.active; is = refl }, good_same _ _ (h.start k)));
         covers = λ a active s completes. inr (record { state = a; pending = to_pending a active; rest = s; short = omega arith; completes = completes; low = omega (arith, ints) });
         attained = rw value tt;
       })
     where
-      to_pending : (a : State) → HasActive (h.label ∷ []) a → HasPending (h.label ∷ []) a
+      to_pending : (a : State) → HasActive p k (h.label ∷ []) a → HasPending p k (h.label ∷ []) a
       to_pending a s =
           let e : s.index ≡ 0 = omega (arith, s.within) in
           record { index = 0; within = omega arith; unextended = h.unextended; is = rw e at s.is }
@@ -435,12 +428,12 @@ module _ (p : Problem) (g : Region) (k : ℕ) (prices : List ℤ) where
     pub in_list : IsInList xs f
     in_list = by f.value searched.attained
       where
-        by : (o : Option ℤ) → MatchOption o (Unit {0}) (λ z. EndsAt p g xs f.index z) → MatchOption o (Unit {0}) (λ _. f.index < length xs)
+        by : (o : Option ℤ) → MatchOption o (Unit {0}) (λ z. EndsAt p g k xs f.index z) → MatchOption o (Unit {0}) (λ _. f.index < length xs)
         by None h = tt
         by (Some z) h = h.within
 
     module _ (swept : NonePending xs (length xs)) (l : Least) (answer : IsAnswer xs f l.value l.route.items) where
-      reached_by : (o : Option ℤ) → MatchOption o (Unit {0}) (λ z. EndsAt p g xs f.index z)
+      reached_by : (o : Option ℤ) → MatchOption o (Unit {0}) (λ z. EndsAt p g k xs f.index z)
           → MatchOption o (l.route.items ≡ []) (λ _. l.route.items ≡ trace xs (label_in xs f.index).stops (label_in xs f.index)) → IsReached p g k prices o l.route.items
       reached_by None h e = e
       reached_by (Some z) h e =
@@ -451,7 +444,7 @@ module _ (p : Problem) (g : Region) (k : ℕ) (prices : List ℤ) where
       reached = rw answer.amount (reached_by f.value searched.attained answer.stops)
 
       each : (r : List ℕ) → IsRelaxed p g k r → IsAtMost l.value (reduced_cost p prices r)
-      each r relaxed = rw answer.amount (least_at_end p g k prices f.value (HasPending xs) (HasActive xs) searched.covers (λ a s. swept.each s.index s.within s.within s.unextended) searched.first r relaxed)
+      each r relaxed = rw answer.amount (least_at_end p g k prices f.value (HasPending p k xs) (HasActive p k xs) searched.covers (λ a s. swept.each s.index s.within s.within s.unextended) searched.first r relaxed)
 
       pub value_at_end : HasLeastValue p g k prices l
       value_at_end = least_value p g k prices l reached each

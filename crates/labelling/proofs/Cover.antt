@@ -8,7 +8,7 @@ use Rattle.solomon_reader.specs.Relaxed.{IsRelaxed, reduced_cost}
 use Rattle.solomon_reader.specs.States.{State, start, step, CanStep, CanEnd, Completes, value_with, IsAsGood}
 use Rattle.labelling.specs.Cover.{IsAtMost, IsCovered, CoversAll}
 use Rattle.solomon_reader.proofs.Completions.{completes_relaxed, value_is}
-use Rattle.labelling.proofs.Goodness.{completes_too, value_no_greater}
+use Rattle.solomon_reader.proofs.Goodness.{completes_too, value_no_greater}
 
 pub at_most_more : (b : Option ℤ) (y z : ℤ) → y ≤ℤ z → IsAtMost b y → IsAtMost b z
 at_most_more None y z le h = absurd h

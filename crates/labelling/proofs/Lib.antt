@@ -1,8 +1,9 @@
-pub mod Words
-pub mod Marking
+pub mod Flagged
+pub mod Tabled
 pub mod Narrowing
 pub mod Ranks
-pub mod Goodness
+pub mod Places
+pub mod Recalling
 pub mod Ends
 pub mod Cover
 pub mod Advancing

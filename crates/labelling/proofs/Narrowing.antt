@@ -14,7 +14,6 @@ use Rattle.branching.specs.declared.arc.Arc.{Arc}
 use Rattle.branching.specs.Arcs.{pair, arc_set, decided, Excludes}
 use Rattle.branching.specs.Consistent.{IsConsistent}
 use Rattle.branching.proofs.Listed.{index_holds, listed_refuses, excluded_refuses, is_allowed}
-use Rattle.labelling.specs.declared.customer_set.TheConstants.{SET_SIZE}
 use Rattle.labelling.specs.Tables.{Rows, IsAllowedRow, IsOther, IsTable, IsNarrowed, IsWithin}
 
 abbrev Contains : Rows → ℕ → Type 0
@@ -172,17 +171,11 @@ other_is n i s all j = (
   λ h. (remove_is s i j).1 (all j ∙ grind arith, h.1),
 )
 
--- each decided arc lies within the table
-module _ (g : Region) (n : ℕ) (consistent : IsConsistent g) (small : g.size < SET_SIZE) (count : n ≡ g.size + 1) (arcs : List Arc) where
-  pub required_within : arc_set arcs ≡ g.required → All (IsWithin n) arcs
-  required_within is m d low =
-      let arc = consistent.required (pair (get_or arcs m d)) (rw is at (index_holds arcs (pair (get_or arcs m d)) d m low refl)) in
-      record { from = omega (arith, arc.from, count); to = omega (arith, arc.to, small) }
-
-  pub forbidden_within : arc_set arcs ≡ g.forbidden → All (IsWithin n) arcs
-  forbidden_within is m d low =
-      let arc = consistent.forbidden (pair (get_or arcs m d)) (rw is at (index_holds arcs (pair (get_or arcs m d)) d m low refl)) in
-      record { from = omega (arith, arc.from, count); to = omega (arith, arc.to, small) }
+-- each forbidden arc leaves a row of the table
+pub forbidden_within : (g : Region) (n : ℕ) (arcs : List Arc) → IsConsistent g → n ≡ g.size + 1 → arc_set arcs ≡ g.forbidden → All (IsWithin n) arcs
+forbidden_within g n arcs consistent count is m d low =
+    let arc = consistent.forbidden (pair (get_or arcs m d)) (rw is at (index_holds arcs (pair (get_or arcs m d)) d m low refl)) in
+    omega (arith, arc.from, count)
 
 module _ (g : Region) (required forbidden : List Arc) (is_required : arc_set required ≡ g.required) (is_forbidden : arc_set forbidden ≡ g.forbidden) where
   whole : decided g.size required forbidden ≡ g
@@ -205,7 +198,7 @@ module _ (g : Region) (required forbidden : List Arc) (is_required : arc_set req
     is_together m d low e = excluded_refuses g.size required forbidden a (m, get_or required m d, low, get_or_default required m _ _ low, e) here
 
 module _ (g : Region) (required forbidden : List Arc) (is_required : arc_set required ≡ g.required) (is_forbidden : arc_set forbidden ≡ g.forbidden) (xs ys zs : List Rows)
-    (others : IsTable (IsOther g.size) 0 (g.size + 1) xs) (first : IsNarrowed (λ b. All (λ a. pair a ≢ b) forbidden) xs ys) (second : IsNarrowed (λ b. All (λ a. ¬ Excludes (pair a) b) required) ys zs) where
+    (others : IsTable (IsOther g.size) (g.size + 1) xs) (first : IsNarrowed (λ b. All (λ a. pair a ≢ b) forbidden) xs ys) (second : IsNarrowed (λ b. All (λ a. ¬ Excludes (pair a) b) required) ys zs) where
   at : (i : ℕ) → i < g.size + 1 → IsAllowedRow g i (get_or zs i empty)
   at i low j = (forward, backward)
     where
@@ -222,14 +215,17 @@ module _ (g : Region) (required forbidden : List Arc) (is_required : arc_set req
       forward h =
           let t = (second.each i j in_ys).0 h in
           let u = (first.each i j in_xs).0 t.0 in
-          let v = (others.each i (omega arith) low j).0 u.0 in
+          let v = (others.each i empty low j).0 u.0 in
           allowed g required forbidden is_required is_forbidden arc (omega (arith, low)) v.0 v.1 u.1 t.1
 
       backward : IsAllowed g (i, j) → Contains (get_or zs i empty) j
       backward h =
           let free = is_free g required forbidden is_required is_forbidden arc h in
           let together = is_together g required forbidden is_required is_forbidden arc h in
-          (second.each i j in_ys).1 ((first.each i j in_xs).1 ((others.each i (omega arith) low j).1 (h.arc.to, h.arc.apart), free), together)
+          (second.each i j in_ys).1 ((first.each i j in_xs).1 ((others.each i empty low j).1 (h.arc.to, h.arc.apart), free), together)
 
-  pub all_narrowed : IsTable (IsAllowedRow g) 0 (g.size + 1) zs
-  all_narrowed = record { count = second.count ∙ first.count ∙ others.count; each = λ i _ low. at i low }
+  pub all_narrowed : IsTable (IsAllowedRow g) (g.size + 1) zs
+  all_narrowed = record {
+    count = second.count ∙ first.count ∙ others.count;
+    each = λ i d low. rw (get_or_default zs i d empty (omega (arith, low, second.count, first.count, others.count))) (at i low);
+  }

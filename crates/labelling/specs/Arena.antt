@@ -1,22 +1,23 @@
 -- Labels in a list that only grows, each with the index of its parent: the label before its last stop.
-use Rattle.std.specs.Prelude.{◌≡◌, ◌≢◌, ℕ, zero, suc, ◌+◌, ◌<◌, ◌≤◌, true, false, List, [], ◌∷◌, ◌++◌, length, slice_index_or, ℤ, pos, Some, ◌⊎◌, Option, MatchOption}
-use Rattle.std.specs.FinSet.{contains, empty}
+use Rattle.std.specs.Prelude.{◌≡◌, ◌≢◌, ℕ, zero, suc, ◌+◌, ◌<◌, ◌≤◌, true, false, List, [], ◌∷◌, ◌++◌, length, slice_index_or, ℤ, pos, ◌≤ℤ◌, IsTrue, Some, ◌⊎◌, Option, MatchOption}
 use Rattle.solomon_reader.specs.Problem.{Problem}
 use Rattle.solomon_reader.specs.Region.{Region}
-use Rattle.solomon_reader.specs.States.{State, start, step, CanStep, CanEnd, IsAsGood, Reaches}
+use Rattle.solomon_reader.specs.States.{State, start, step, CanStep, CanEnd, IsAsGood, IsSameState, Reaches}
 use Rattle.labelling.specs.declared.best.Best.{Best}
 use Rattle.labelling.specs.declared.label.Label.{Label}
 use Rattle.labelling.specs.Cover.{IsAtMost, CoversAll}
-use Rattle.labelling.specs.Fronts.{state_of, end_cost, IsBounded, IsSameState}
+use Rattle.labelling.specs.Fronts.{state_of, end_cost, IsBounded}
+use Rattle.labelling.specs.Memories.{has_bit, recalls}
 
 abbrev pub blank : Label
-blank = record { front = record { last = 0; time = 0; load = 0; cost = pos 0 }; memory = empty; parent = 0; stops = 0; active = false; extended = false }
+blank = record { front = record { last = 0; time = 0; load = 0; cost = pos 0 }; memory = record { bits = 0 }; parent = 0; stops = 0; active = false; extended = false }
 
 abbrev pub label_in : List Label → ℕ → Label
 label_in xs m = slice_index_or xs m blank
 
-abbrev pub state_at : Label → State
-state_at l = state_of l.front (contains l.memory)
+-- the memory is read by the neighbour list of the last stop
+abbrev pub state_at : Problem → ℕ → Label → State
+state_at p k l = state_of l.front (recalls p k l.front.last l.memory.bits)
 
 -- the last n stops up to a label, by its parents
 abbrev pub trace : List Label → ℕ → Label → List ℕ
@@ -27,7 +28,7 @@ pub record IsLabel (p : Problem) (g : Region) (k : ℕ) (prices : List ℤ) (xs 
   pub bounded : IsBounded p l.front
   pub light : l.stops ≤ l.front.load
   pub parent : l.parent < length xs
-  pub reached : Reaches p g k prices (trace xs l.stops l) (state_at l)
+  pub reached : Reaches p g k prices (trace xs l.stops l) (state_at p k l)
 
 pub record IsArena (p : Problem) (g : Region) (k : ℕ) (prices : List ℤ) (xs : List Label) : Type 0 where
   pub each : (m : ℕ) → m < length xs → IsLabel p g k prices xs (label_in xs m)
@@ -37,34 +38,49 @@ pub record IsPending (l : Label) : Type 0 where
   pub active : l.active ≡ true
   pub extended : l.extended ≡ false
 
-pub record HasActive (xs : List Label) (a : State) : Type 0 where
+pub record HasActive (p : Problem) (k : ℕ) (xs : List Label) (a : State) : Type 0 where
   pub index : ℕ
   pub within : index < length xs
   pub active : (label_in xs index).active ≡ true
-  pub is : state_at (label_in xs index) ≡ a
+  pub is : state_at p k (label_in xs index) ≡ a
 
-pub record HasPending (xs : List Label) (a : State) : Type 0 where
+pub record HasPending (p : Problem) (k : ℕ) (xs : List Label) (a : State) : Type 0 where
   pub index : ℕ
   pub within : index < length xs
   pub unextended : IsPending (label_in xs index)
-  pub is : state_at (label_in xs index) ≡ a
+  pub is : state_at p k (label_in xs index) ≡ a
 
 -- an active label is as good as the state
-abbrev pub IsDominated : List Label → State → Type 0
-IsDominated xs a = (t : State) × (HasActive xs t × IsAsGood t a)
+abbrev pub IsDominated : Problem → ℕ → List Label → State → Type 0
+IsDominated p k xs a = (t : State) × (HasActive p k xs t × IsAsGood t a)
+
+-- all that may come after b may come after a, at no greater cost
+pub record Dominates (a b : Label) : Type 0 where
+  pub last : a.front.last ≡ b.front.last
+  pub time : a.front.time ≤ b.front.time
+  pub load : a.front.load ≤ b.front.load
+  pub cost : a.front.cost ≤ℤ b.front.cost
+  pub memory : (i : ℕ) → IsTrue (has_bit a.memory.bits i) → IsTrue (has_bit b.memory.bits i)
+
+-- an active label dominates x
+pub record HasDominating (xs : List Label) (x : Label) : Type 0 where
+  pub index : ℕ
+  pub within : index < length xs
+  pub active : (label_in xs index).active ≡ true
+  pub dominates : Dominates (label_in xs index) x
 
 abbrev pub inactive : Label → Label
 inactive l = record l { active = false }
 
--- labels that a dominates were dropped
-pub record IsPruned (xs ys : List Label) (a : State) : Type 0 where
+-- labels that x dominates were dropped
+pub record IsPruned (xs ys : List Label) (x : Label) : Type 0 where
   pub same : length ys ≡ length xs
   pub each : (m : ℕ) → m < length xs
-      → (label_in ys m ≡ label_in xs m) ⊎ (IsAsGood a (state_at (label_in xs m)) × (label_in ys m ≡ inactive (label_in xs m)))
+      → (label_in ys m ≡ label_in xs m) ⊎ (Dominates x (label_in xs m) × (label_in ys m ≡ inactive (label_in xs m)))
 
 -- x is l, which stands at the index, with a further stop at j
 pub record IsExtension (p : Problem) (k : ℕ) (prices : List ℤ) (l : Label) (index j : ℕ) (x : Label) : Type 0 where
-  pub same : IsSameState (state_at x) (step p k prices (state_at l) j)
+  pub same : IsSameState (state_at p k x) (step p k prices (state_at p k l) j)
   pub bounded : IsBounded p x.front
   pub light : x.stops ≤ x.front.load
   pub parent : x.parent ≡ index
@@ -73,7 +89,7 @@ pub record IsExtension (p : Problem) (k : ℕ) (prices : List ℤ) (l : Label) (
 
 -- x was added at the end and what it dominates was dropped, or an active label is as good
 abbrev pub IsAdded : List Label → List Label → Label → Type 0
-IsAdded xs ys x = ((ys ≡ xs) × IsDominated xs (state_at x)) ⊎ ((zs : List Label) × (IsPruned xs zs (state_at x) × (ys ≡ zs ++ (x ∷ []))))
+IsAdded xs ys x = ((ys ≡ xs) × HasDominating xs x) ⊎ ((zs : List Label) × (IsPruned xs zs x × (ys ≡ zs ++ (x ∷ []))))
 
 pub record IsSameStop (a b : Label) : Type 0 where
   pub front : b.front ≡ a.front
@@ -93,44 +109,44 @@ pub record IsGrown (xs ys : List Label) : Type 0 where
   pub fresh : (m : ℕ) → length xs ≤ m → m < length ys → (label_in ys m).extended ≡ false
 
 -- for each state of an active or pending label there is still one that is as good
-pub record IsMoved (xs ys : List Label) : Type 0 where
+pub record IsMoved (p : Problem) (k : ℕ) (xs ys : List Label) : Type 0 where
   pub grown : IsGrown xs ys
-  pub pending : (a : State) → HasPending xs a → (t : State) × (HasPending ys t × IsAsGood t a)
-  pub active : (a : State) → HasActive xs a → IsDominated ys a
+  pub pending : (a : State) → HasPending p k xs a → (t : State) × (HasPending p k ys t × IsAsGood t a)
+  pub active : (a : State) → HasActive p k xs a → IsDominated p k ys a
 
 -- the step from l to j was taken, if it may be taken
 pub record TakesStep (p : Problem) (g : Region) (k : ℕ) (prices : List ℤ) (xs ys : List Label) (l : Label) (j : ℕ) : Type 0 where
-  pub moved : IsMoved xs ys
+  pub moved : IsMoved p k xs ys
   pub labelled : IsArena p g k prices ys
-  pub dominated : CanStep p g (state_at l) j → IsDominated ys (step p k prices (state_at l) j)
+  pub dominated : CanStep p g (state_at p k l) j → IsDominated p k ys (step p k prices (state_at p k l) j)
 
 -- each step from l to a customer below i was taken
 pub record TakesSteps (p : Problem) (g : Region) (k : ℕ) (prices : List ℤ) (xs ys : List Label) (l : Label) (i : ℕ) : Type 0 where
-  pub moved : IsMoved xs ys
+  pub moved : IsMoved p k xs ys
   pub labelled : IsArena p g k prices ys
-  pub dominated : (j : ℕ) → j < i → CanStep p g (state_at l) j → IsDominated ys (step p k prices (state_at l) j)
+  pub dominated : (j : ℕ) → j < i → CanStep p g (state_at p k l) j → IsDominated p k ys (step p k prices (state_at p k l) j)
 
 -- the best c counts the end of l, which stands at the index, beside b
-pub record CountsEnd (p : Problem) (g : Region) (l : Label) (index : ℕ) (b c : Best) : Type 0 where
+pub record CountsEnd (p : Problem) (g : Region) (k : ℕ) (l : Label) (index : ℕ) (b c : Best) : Type 0 where
   pub lower : (y : ℤ) → IsAtMost b.value y → IsAtMost c.value y
-  pub counted : CanEnd p g (state_at l) → IsAtMost c.value (end_cost p l.front)
-  pub from : (c ≡ b) ⊎ (CanEnd p g (state_at l) × ((c.value ≡ Some (end_cost p l.front)) × (c.index ≡ index)))
+  pub counted : CanEnd p g (state_at p k l) → IsAtMost c.value (end_cost p l.front)
+  pub from : (c ≡ b) ⊎ (CanEnd p g (state_at p k l) × ((c.value ≡ Some (end_cost p l.front)) × (c.index ≡ index)))
 
 -- the label at the index ends at z
-pub record EndsAt (p : Problem) (g : Region) (xs : List Label) (index : ℕ) (z : ℤ) : Type 0 where
+pub record EndsAt (p : Problem) (g : Region) (k : ℕ) (xs : List Label) (index : ℕ) (z : ℤ) : Type 0 where
   pub within : index < length xs
-  pub can : CanEnd p g (state_at (label_in xs index))
+  pub can : CanEnd p g (state_at p k (label_in xs index))
   pub value : end_cost p (label_in xs index).front ≡ z
 
-abbrev pub IsAttained : Problem → Region → List Label → Best → Type 0
-IsAttained p g xs f = MatchOption f.value (Unit {0}) (λ z. EndsAt p g xs f.index z)
+abbrev pub IsAttained : Problem → Region → ℕ → List Label → Best → Type 0
+IsAttained p g k xs f = MatchOption f.value (Unit {0}) (λ z. EndsAt p g k xs f.index z)
 
 -- all that may come after an active label is covered by the best so far, or by a pending label
 pub record IsComplete (p : Problem) (g : Region) (k : ℕ) (prices : List ℤ) (xs : List Label) (f : Best) : Type 0 where
   pub labelled : IsArena p g k prices xs
-  pub first : IsDominated xs (start p)
-  pub covers : CoversAll p g k prices f.value (HasPending xs) (HasActive xs)
-  pub attained : IsAttained p g xs f
+  pub first : IsDominated p k xs (start p)
+  pub covers : CoversAll p g k prices f.value (HasPending p k xs) (HasActive p k xs)
+  pub attained : IsAttained p g k xs f
 
 -- the label at the index isn't pending any more, and no other one that was there is pending again
 pub record IsOnward (xs ys : List Label) (index : ℕ) : Type 0 where
@@ -153,7 +169,7 @@ IsInList xs f = MatchOption f.value (Unit {0}) (λ _. f.index < length xs)
 pub record IsFirst (p : Problem) (xs : List Label) : Type 0 where
   pub label : Label
   pub one : xs ≡ label ∷ []
-  pub start : IsSameState (state_at label) (start p)
+  pub start : (k : ℕ) → IsSameState (state_at p k label) (start p)
   pub bounded : IsBounded p label.front
   pub parent : label.parent ≡ 0
   pub stops : label.stops ≡ 0

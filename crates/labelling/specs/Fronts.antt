@@ -54,13 +54,6 @@ pub record IsAfter (p : Problem) (prices : List ℤ) (f : Front) (j : ℕ) (x : 
 abbrev pub end_cost : Problem → Front → ℤ
 end_cost p f = f.cost +ℤ pos (1000 * distance p f.last 0)
 
-pub record IsSameState (a b : State) : Type 0 where
-  pub last : a.last ≡ b.last
-  pub time : a.time ≡ b.time
-  pub load : a.load ≡ b.load
-  pub cost : a.cost ≡ b.cost
-  pub memory : (u : ℕ) → a.memory u ≡ b.memory u
-
 -- what the caller hands in
 pub record IsTask (p : Problem) (g : Region) (prices : List ℤ) : Type 0 where
   pub size : g.size ≡ customer_count p

@@ -1,4 +1,5 @@
-pub mod Bits
+pub mod Flags
+pub mod Memories
 pub mod Answer
 pub mod Fronts
 pub mod Tables

@@ -2,10 +2,10 @@
 //! the labels themselves.
 
 ghost use Rattle.std.specs.Prelude.{IsTrue};
-ghost use Rattle.labelling.specs.Arena.{state_at, IsDominated, IsPruned};
+ghost use Rattle.labelling.specs.Arena.{HasDominating, IsPruned};
 
-use crate::customer_set::CustomerSet;
 use crate::label::Label;
+use crate::memory::Memory;
 use std::alloc::{AllocError, Global};
 
 /// A label, by what it dominates others of its customer and memory with.
@@ -21,7 +21,7 @@ struct Entry {
 /// loads, so that the newer one dominates each further label that they dominate.
 #[derive(Drop)]
 struct MemoryGroup {
-    memory: CustomerSet,
+    memory: Memory,
     least_time: u64,
     least_cost: i64,
     entries: Vec<Entry>,
@@ -38,12 +38,17 @@ impl MemoryGroup {
         }
     }
 
+    /// Whether one of its labels may dominate a newer one. All three are compared without a branch, as
+    /// in `Heaviest`.
+    fn may_dominate(&self, newer: &Label) -> bool {
+        self.memory.is_subset(newer.memory)
+            & (self.least_time <= newer.front.time)
+            & (self.least_cost <= newer.front.cost)
+    }
+
     /// The index of a label that dominates a newer one, as far as the group tells.
     fn find_dominating(&self, newer: &Label) -> Option<usize> {
-        if !self.memory.is_subset(newer.memory) {
-            return None;
-        }
-        if self.least_time > newer.front.time || self.least_cost > newer.front.cost {
+        if !self.may_dominate(newer) {
             return None;
         }
         let entries = self.entries.as_slice();
@@ -76,7 +81,7 @@ impl MemoryGroup {
 /// A label of the greatest load, by what another one dominates it with.
 #[derive(Clone, Copy, Debug)]
 struct Heaviest {
-    memory: CustomerSet,
+    memory: Memory,
     cost: i64,
     time: u64,
     index: usize,
@@ -94,7 +99,7 @@ impl Heaviest {
 
 /// Whether the label at an index is active and dominates a newer one.
 fn dominates_at(labels: &[Label], index: usize, newer: &Label) -> bool
-    ensures { IsTrue result → IsDominated labels.now (state_at newer.now) }
+    ensures { IsTrue result → HasDominating labels.now newer.now }
 {
     if index >= labels.len() {
         return false;
@@ -110,7 +115,7 @@ fn is_active(labels: &[Label], index: usize) -> bool {
 
 /// Drops a label, if a newer one dominates it.
 fn drop_if_dominated(labels: &mut [Label], heaviest: &Heaviest, newer: &Label)
-    ensures { IsPruned labels.old labels.new (state_at newer.now) }
+    ensures { IsPruned labels.old labels.new newer.now }
 {
     let index = heaviest.index;
     if !heaviest.may_be_dominated(newer) || index >= labels.len() {
@@ -123,7 +128,7 @@ fn drop_if_dominated(labels: &mut [Label], heaviest: &Heaviest, newer: &Label)
 
 /// Drops those of some labels that a newer one dominates.
 fn drop_each(labels: &mut [Label], heaviest: &[Heaviest], newer: &Label)
-    ensures { IsPruned labels.old labels.new (state_at newer.now) }
+    ensures { IsPruned labels.old labels.new newer.now }
 {
     for label in heaviest {
         drop_if_dominated(labels, label, newer);
@@ -152,7 +157,7 @@ impl CustomerLabels {
 
     /// Whether an active label dominates a newer one.
     pub(crate) fn is_dominated(&self, labels: &[Label], newer: &Label) -> bool
-        ensures { IsTrue result → IsDominated labels.now (state_at newer.now) }
+        ensures { IsTrue result → HasDominating labels.now newer.now }
     {
         for group in &self.groups {
             if let Some(index) = group.find_dominating(newer) {
@@ -166,7 +171,7 @@ impl CustomerLabels {
 
     /// Drops the labels that a newer one dominates, and says how many.
     pub(crate) fn drop_dominated(&mut self, labels: &mut [Label], newer: &Label) -> usize
-        ensures { IsPruned labels.old labels.new (state_at newer.now) }
+        ensures { IsPruned labels.old labels.new newer.now }
     {
         if newer.front.load > self.load {
             self.load = newer.front.load;

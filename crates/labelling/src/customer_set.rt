@@ -1,105 +1,67 @@
 //! Sets of rows.
 
-ghost use Rattle.std.specs.Prelude.{◌≡◌, ℕ, ◌<◌, nat_le, IsTrue};
-ghost use Rattle.std.specs.Bool.{Decides};
-ghost use Rattle.std.specs.FinSet.{contains, empty, insert, remove, intersection, is_subset};
-ghost use Rattle.labelling.specs.declared.customer_set.TheConstants.{SET_SIZE};
+ghost use Rattle.std.specs.Prelude.{◌≡◌, ℕ, nat_le, IfOk};
+ghost use Rattle.std.specs.FinSet.{contains, empty, insert, remove, intersection};
 
+use std::alloc::{AllocError, Global};
 use std::marker::Model;
 
-/// The numbers that a set may contain are those below this one.
-pub(crate) const SET_SIZE: u16 = 128;
-
-/// A set of rows of an instance: customers by their numbers, and 0 for the depot. Bit i of the word
-/// stands for row i.
-#[derive(Clone, Copy, Debug)]
-pub struct CustomerSet {
-    bits: u128,
+/// A set of rows of an instance: customers by their numbers, and 0 for the depot.
+#[derive(Debug, Drop)]
+pub(crate) struct CustomerSet {
+    /// Whether the set has each row.
+    flags: Vec<bool>,
 }
 
 impl Model for CustomerSet {
-    ghost use Rattle.std.specs.Prelude.{◌^◌, ◌<◌};
     ghost use Rattle.std.specs.Ordering.{nat_cmp};
     ghost use Rattle.std.specs.Coded.{coded_ℕ};
     ghost use Rattle.std.specs.FinSet as set;
-    ghost use Rattle.labelling.specs.Bits.{set_of, number_of, number_of-set_of};
+    ghost use Rattle.labelling.specs.Flags.{set_of};
 
     ghost Value = { set.FinSet nat_cmp };
 
     ghost coded = { set.code coded_ℕ };
 
-    ghost view = { λ s. set_of s.bits };
-
-    ghost invariant = { λ s. s.bits < 2 ^ 128 };
-
-    ghost inverse = { λ v. record { bits = number_of v } };
-
-    ghost inverse_ok = { λ a h i. record { bits = number_of-set_of a.bits h i } };
+    ghost view = { λ s. set_of s.flags.items };
 }
 
 impl CustomerSet {
-    /// The empty set.
-    pub(crate) fn empty() -> CustomerSet
-        ensures { result ≡ empty }
-    {
-        CustomerSet { bits: 0 }
-    }
-
     /// The depot and this many customers.
-    pub(crate) fn all(count: u16) -> CustomerSet
-        requires { count < SET_SIZE }
-        ensures { (u : ℕ) → contains result u ≡ nat_le u count }
+    pub(crate) fn all(alloc: Global, count: u16) -> Result<CustomerSet, AllocError>
+        ensures { IfOk result (λ s. (u : ℕ) → contains s u ≡ nat_le u count) }
     {
-        CustomerSet {
-            bits: u128::MAX >> (SET_SIZE - 1 - count),
-        }
+        let flags = vec![in alloc; true; usize::from(count) + 1]?;
+        Ok(CustomerSet { flags })
     }
 
     /// Whether a row is in the set.
-    pub(crate) fn contains(self, u: u16) -> bool
-        requires { u < SET_SIZE }
-        ensures { result ≡ contains self u }
+    pub(crate) fn contains(&self, u: u16) -> bool
+        ensures { result ≡ contains self.now u }
     {
-        (self.bits >> u) & 1 == 1
-    }
-
-    /// Puts a row in.
-    pub(crate) fn insert(&mut self, u: u16)
-        requires { u < SET_SIZE }
-        ensures { self.new ≡ insert self.old u }
-    {
-        self.bits |= 1 << u;
+        let row = usize::from(u);
+        row < self.flags.len() && self.flags[row]
     }
 
     /// Takes a row out.
     pub(crate) fn remove(&mut self, u: u16)
-        requires { u < SET_SIZE }
         ensures { self.new ≡ remove self.old u }
     {
-        self.bits &= !(1 << u);
+        let row = usize::from(u);
+        if row < self.flags.len() {
+            self.flags[row] = false;
+        }
     }
 
-    /// Whether both sets have the same rows.
-    pub(crate) fn is_same(self, other: CustomerSet) -> bool
-        ensures { Decides result (self ≡ other) }
+    /// Takes all other rows out.
+    pub(crate) fn keep_only(&mut self, u: u16)
+        ensures { self.new ≡ intersection self.old (insert empty u) }
     {
-        self.bits == other.bits
-    }
-
-    /// Whether each row of this set is in the other one.
-    pub(crate) fn is_subset(self, other: CustomerSet) -> bool
-        ensures is { result ≡ is_subset self other }
-        ensures each { IsTrue result → (u : ℕ) → IsTrue (contains self u) → IsTrue (contains other u) }
-    {
-        self.bits & other.bits == self.bits
-    }
-
-    /// The rows that are in both sets.
-    pub(crate) fn intersection(self, other: CustomerSet) -> CustomerSet
-        ensures { result ≡ intersection self other }
-    {
-        CustomerSet {
-            bits: self.bits & other.bits,
+        let row = usize::from(u);
+        let kept = self.contains(u);
+        self.flags.as_mut_slice().fill(false);
+        if row < self.flags.len() {
+            self.flags[row] = kept;
         }
     }
 }

@@ -1,11 +1,10 @@
 //! Labels: the first stops of relaxed routes, with what the further ones depend on.
 
 ghost use Rattle.std.specs.Prelude.{IsTrue};
-ghost use Rattle.solomon_reader.specs.States.{IsAsGood};
-ghost use Rattle.labelling.specs.Arena.{state_at};
+ghost use Rattle.labelling.specs.Arena.{Dominates};
 
-use crate::customer_set::CustomerSet;
 use crate::front::Front;
+use crate::memory::Memory;
 
 /// The first stops of a relaxed route. It stands in a list that only grows.
 #[derive(Clone, Copy, Debug)]
@@ -13,7 +12,7 @@ pub struct Label {
     /// Where the vehicle stands.
     pub front: Front,
     /// The customers that it may not visit next.
-    pub memory: CustomerSet,
+    pub memory: Memory,
     /// The index of the label before the last stop.
     pub parent: usize,
     /// The number of stops.
@@ -27,7 +26,7 @@ pub struct Label {
 impl Label {
     /// Whether all that may come after another label may come after this one, at no greater cost.
     pub(crate) fn dominates(&self, other: &Label) -> bool
-        ensures { IsTrue result → IsAsGood (state_at self.now) (state_at other.now) }
+        ensures { IsTrue result → Dominates self.now other.now }
     {
         self.front.last == other.front.last
             && self.front.time <= other.front.time

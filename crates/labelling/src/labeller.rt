@@ -7,10 +7,10 @@ ghost use Rattle.solomon_reader.specs.Problem.{IsCustomer, customer_count};
 ghost use Rattle.solomon_reader.specs.CertificateText.{IsPrice};
 ghost use Rattle.solomon_reader.specs.declared.limits.TheConstants.{MOST_NEIGHBOURS};
 ghost use Rattle.labelling.specs.Answer.{HasLeastValue, HasItsRoute};
-ghost use Rattle.labelling.specs.Arena.{label_in, state_at, trace, IsPending, IsAdded, IsOnward, NonePending, IsInList, IsFirst, IsAnswer};
+ghost use Rattle.labelling.specs.Arena.{label_in, trace, IsPending, IsAdded, IsOnward, NonePending, IsInList, IsFirst, IsAnswer};
 ghost use Rattle.labelling.specs.Cover.{IsAtMost};
 ghost use Rattle.labelling.specs.Fronts.{IsBounded};
-ghost use Rattle.labelling.specs.Search.{IsSameTask, AreLabels, StandsAt, AreRowsFrom, TakesStepTo, TakesStepsBelow, CountsEndOf, LosesNothing};
+ghost use Rattle.labelling.specs.Search.{IsSameTask, AreLabels, StandsAt, AreRowsFrom, ArePlacesFrom, TakesStepTo, TakesStepsBelow, CountsEndOf, LosesNothing};
 ghost use Rattle.labelling.specs.declared.fault.LabelFault.TheVariants.{LabelLimit};
 
 use crate::best::Best;
@@ -20,6 +20,7 @@ use crate::front::Front;
 use crate::label::Label;
 use crate::least_cost::Least;
 use crate::lookup::Lookup;
+use crate::memory::Memory;
 use crate::task::Task;
 use branching::Region;
 use solomon_reader::Instance;
@@ -27,8 +28,8 @@ use std::alloc::{AllocError, Global};
 
 /// A search for the least reduced cost: its labels, where they are looked up, and the best so far.
 #[derive(Drop)]
-pub(crate) struct Labeller<'i> {
-    task: Task<'i>,
+pub(crate) struct Labeller<'t, 'i> {
+    task: &'t Task<'i>,
     limit: Option<usize>,
     labels: Vec<Label>,
     lookup: Lookup,
@@ -42,7 +43,7 @@ fn first_labels(alloc: Global, instance: &Instance) -> Result<Vec<Label>, AllocE
     let mut labels = Vec::new(alloc);
     labels.push(Label {
         front: Front::start(instance),
-        memory: CustomerSet::empty(),
+        memory: Memory::empty(),
         parent: 0,
         stops: 0,
         active: true,
@@ -96,10 +97,10 @@ fn answer(alloc: Global, labels: &[Label], best: Best) -> Result<Least, AllocErr
     }
 }
 
-impl<'i> Labeller<'i> {
+impl<'t, 'i> Labeller<'t, 'i> {
     /// The labeller of a task, with the empty beginning alone.
-    fn new(task: Task<'i>, limit: Option<usize>) -> Result<Labeller<'i>, AllocError>
-        ensures task { IfOk result (λ w. w.task ≡ task.entry) }
+    fn new(task: &'t Task<'i>, limit: Option<usize>) -> Result<Labeller<'t, 'i>, AllocError>
+        ensures task { IfOk result (λ w. w.task.now ≡ task.now) }
         ensures limit { IfOk result (λ w. w.limit ≡ limit) }
         ensures complete { IfOk result LosesNothing }
     {
@@ -153,19 +154,21 @@ impl<'i> Labeller<'i> {
         &mut self,
         label: &Label,
         index: usize,
-        rows: CustomerSet,
+        rows: &CustomerSet,
+        places: &[u8],
         j: u16,
     ) -> Result<(), LabelFault>
         requires labels { AreLabels self.old }
         requires index { StandsAt self.old.labels.items index label.now }
-        requires rows { AreRowsFrom self.old label.now rows }
-        requires j { IsCustomer self.old.task.instance.now j }
+        requires rows { AreRowsFrom self.old label.now rows.now }
+        requires places { ArePlacesFrom self.old label.now places.now }
+        requires j { IsCustomer self.old.task.now.instance.now j }
         ensures stepped { OnOk result (TakesStepTo self.old self.new label.now j) }
         ensures same { IsSameTask self.old self.new }
         ensures best { self.new.best ≡ self.old.best }
         ensures unlimited { IfErr result (λ e. e ≡ LabelLimit → self.old.limit ≢ None) }
     {
-        if !self.task.can_extend(label, rows, j) {
+        if !self.task.can_extend(label, rows, places, j) {
             return Ok(());
         }
         let newer = self.task.extend(label, index, j);
@@ -174,33 +177,30 @@ impl<'i> Labeller<'i> {
     }
 
     /// Takes each step from the label at an index.
-    fn take_steps(
-        &mut self,
-        label: &Label,
-        index: usize,
-        rows: CustomerSet,
-    ) -> Result<(), LabelFault>
+    fn take_steps(&mut self, label: &Label, index: usize) -> Result<(), LabelFault>
         requires labels { AreLabels self.old }
         requires index { StandsAt self.old.labels.items index label.now }
-        requires rows { AreRowsFrom self.old label.now rows }
-        ensures stepped { OnOk result (TakesStepsBelow self.old self.new label.now (customer_count self.old.task.instance.now + 1)) }
+        ensures stepped { OnOk result (TakesStepsBelow self.old self.new label.now (customer_count self.old.task.now.instance.now + 1)) }
         ensures same { IsSameTask self.old self.new }
         ensures best { self.new.best ≡ self.old.best }
         ensures unlimited { IfErr result (λ e. e ≡ LabelLimit → self.old.limit ≢ None) }
     {
-        let count = self.task.instance.customer_count();
-        for j in 1..count + 1 {
-            self.take_step(label, index, rows, j)?;
+        let task = self.task;
+        let last = usize::from(label.front.last);
+        let rows = &task.allowed_rows[last];
+        let places = task.places[last].as_slice();
+        for j in 1..task.instance.customer_count() + 1 {
+            self.take_step(label, index, rows, places, j)?;
         }
         Ok(())
     }
 
     /// The best with the return to the depot after the label at an index.
-    fn best_with(&self, label: &Label, index: usize, rows: CustomerSet) -> Best
-        requires rows { AreRowsFrom self.now label.now rows }
-        requires bounded { IsBounded self.now.task.instance.now label.now.front }
+    fn best_with(&self, label: &Label, index: usize) -> Best
+        requires bounded { IsBounded self.now.task.now.instance.now label.now.front }
         ensures { CountsEndOf self.now label.now index result }
     {
+        let rows = &self.task.allowed_rows[usize::from(label.front.last)];
         if !rows.contains(0) {
             return self.best;
         }
@@ -242,9 +242,8 @@ impl<'i> Labeller<'i> {
             return Ok(());
         }
         let label = self.labels[index];
-        let rows = self.task.allowed_rows[label.front.last as usize];
-        let best = self.best_with(&label, index, rows);
-        self.take_steps(&label, index, rows)?;
+        let best = self.best_with(&label, index);
+        self.take_steps(&label, index)?;
         self.labels[index].extended = true;
         self.best = best;
         Ok(())
@@ -326,7 +325,7 @@ pub fn least(
 {
     instance.law_of_limits();
     let task = Task::new(alloc, instance, region, prices, neighbours)?;
-    let mut labeller = Labeller::new(task, limit)?;
+    let mut labeller = Labeller::new(&task, limit)?;
     labeller.extend_by_load()?;
     labeller.extend_rest()?;
     let least = answer(alloc, labeller.labels.as_slice(), labeller.best)?;

@@ -12,6 +12,7 @@ mod label;
 mod labeller;
 mod least_cost;
 mod lookup;
+mod memory;
 mod neighbours;
 mod tables;
 mod task;

@@ -1,7 +1,7 @@
 //! Where labels are looked up.
 
 ghost use Rattle.std.specs.Prelude.{IsTrue};
-ghost use Rattle.labelling.specs.Arena.{state_at, IsDominated, IsPruned};
+ghost use Rattle.labelling.specs.Arena.{HasDominating, IsPruned};
 
 use crate::buckets::Buckets;
 use crate::customer_labels::CustomerLabels;
@@ -51,7 +51,7 @@ impl Lookup {
 
     /// Whether an active label dominates a newer one.
     pub(crate) fn is_dominated(&self, labels: &[Label], newer: &Label) -> bool
-        ensures { IsTrue result → IsDominated labels.now (state_at newer.now) }
+        ensures { IsTrue result → HasDominating labels.now newer.now }
     {
         let customer = newer.front.last as usize;
         if customer >= self.customers.len() {
@@ -62,7 +62,7 @@ impl Lookup {
 
     /// Drops the labels that a newer one dominates.
     pub(crate) fn drop_dominated(&mut self, labels: &mut [Label], newer: &Label)
-        ensures { IsPruned labels.old labels.new (state_at newer.now) }
+        ensures { IsPruned labels.old labels.new newer.now }
     {
         let customer = newer.front.last as usize;
         if customer < self.customers.len() {

@@ -48,3 +48,28 @@ fn active_labels_are_counted(rt: HostRuntime) -> Result<(), Fail> {
     }
     Ok(())
 }
+
+/// Four hundred customers, all but two where the depot is: the last of them is remembered exactly where
+/// the list of its neighbour has room for it.
+#[test]
+fn the_last_of_four_hundred_is_remembered(rt: HostRuntime) -> Result<(), Fail> {
+    let mut customers = String::new(rt.alloc());
+    for number in 1..399 {
+        let line = format!(in rt.alloc(); "{number} 0 0 1 0 1000 0\n")?;
+        customers.push_str(line.as_str())?;
+    }
+    customers.push_str("399 30 40 1 0 1000 0\n400 33 44 1 0 1000 0\n")?;
+    let text = instance_text(rt.alloc(), 1, 3, DEPOT, customers.as_str())?;
+    let instance = read(rt.alloc(), text.as_bytes())?;
+    let mut prices = [0; 400];
+    prices[399] = 1_100_000;
+    for (neighbours, expected) in [(0, -1_000_000), (1, 0)] {
+        let leaf = leaf_of(rt.alloc(), &instance, neighbours, &prices)?;
+        assert_eq!(rt;
+            leaf.least().value,
+            Some(expected),
+            "{neighbours} neighbours"
+        );
+    }
+    Ok(())
+}

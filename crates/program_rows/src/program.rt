@@ -5,6 +5,7 @@ use row_texts::{DEPOT, instance_text, many_customers, one_customer, three_apart}
 use std::alloc::Global;
 use std::process::Abort;
 use std::rt::Files;
+use std::sync::Wait;
 use std::test::Fail;
 use std::{fs, io};
 use tenths::{MemorySink, write_tenths};
@@ -18,7 +19,7 @@ struct Printed {
     status: u8,
 }
 
-fn run<R: Files + AllocGlobal>(rt: &R, words: &[&str]) -> Printed {
+pub fn run<R: Files + AllocGlobal + Wait>(rt: &R, words: &[&str]) -> Printed {
     let mut out = MemorySink::new(rt.alloc());
     let mut errors = MemorySink::new(rt.alloc());
     let status = run_words(rt, rt.alloc(), words, &mut out, &mut errors);
@@ -128,7 +129,7 @@ fn line_of(alloc: Global, expected: Expected, bound: &[u8]) -> Result<(Vec<u8>, 
     }
 }
 
-fn check<R: Abort + Files + AllocGlobal>(rt: &R, row: &Row) -> Result<(), Fail> {
+fn check<R: Abort + Files + AllocGlobal + Wait>(rt: &R, row: &Row) -> Result<(), Fail> {
     let name = row.name;
     fs::write(rt, "row_instance", row.text.as_bytes())?;
     let printed = run(
@@ -252,7 +253,7 @@ fn windows_and_closing_times_decide(rt: HostRuntime) -> Result<(), Fail> {
 
 #[test]
 fn a_refused_instance_leaves_empty_files(rt: HostRuntime) -> Result<(), Fail> {
-    let customers = many_customers(rt.alloc(), 101)?;
+    let customers = many_customers(rt.alloc(), 401)?;
     let one = "1 3 4 1 0 1000 0\n";
     let rows: [(&str, &str, &str); 13] = [
         (DEPOT, "1 3 4 0 0 1000 0\n", "DemandZero line 8"),
@@ -306,6 +307,14 @@ fn files_that_cannot_be_had_end_with_status_6(rt: HostRuntime) -> Result<(), Fai
         let printed = run(&rt, &["solve", paths[0], paths[1], paths[2]]);
         assert_fault(&rt, name, &printed, "vrptw: file\n", 6);
     }
+    for words in [
+        ["check", "none", "had", "--solution", "had"],
+        ["check", "had", "none", "--solution", "had"],
+        ["check", "had", "had", "--solution", "none"],
+    ] {
+        let printed = run(&rt, &words);
+        assert_fault(&rt, "no file", &printed, "vrptw: file\n", 6);
+    }
     assert!(rt; fs::read(&rt, "none_solution").is_err());
     assert!(rt; fs::read(&rt, "none_certificate").is_err());
     assert_file(&rt, "no bound", "had_solution", "")?;
@@ -315,8 +324,10 @@ fn files_that_cannot_be_had_end_with_status_6(rt: HostRuntime) -> Result<(), Fai
 
 #[test]
 fn wrong_words_end_with_status_2_and_help_with_0(rt: HostRuntime) -> Result<(), Fail> {
-    let rows: [(&str, &[&str], u8); 5] = [
+    let rows: [(&str, &[&str], u8); 7] = [
         ("no word", &[], 2),
+        ("no certificate", &["check", "a"], 2),
+        ("no states", &["check", "a", "b", "--states", "0"], 2),
         ("no path", &["solve"], 2),
         ("a path too many", &["solve", "a", "b", "c", "d"], 2),
         ("no command", &["price", "a", "b", "c"], 2),

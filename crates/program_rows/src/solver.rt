@@ -74,7 +74,21 @@ fn words_give_a_job(rt: HostRuntime) -> Result<(), Fail> {
             assert_eq!(rt; settings, Settings::default());
             assert!(rt; settings.is_within());
         }
-        Err(_) => assert!(rt; false, "the words were refused"),
+        _ => assert!(rt; false, "the words were refused"),
+    }
+    match job(rt.alloc(), &["check", "a", "b", "--solution", "c"]) {
+        Ok(
+            Job::Check {
+                instance,
+                certificate,
+                solution,
+                states,
+            },
+        ) => {
+            assert_eq!(rt; (instance, certificate, solution), ("a", "b", Some("c")));
+            assert_eq!(rt; states, 5_000_000);
+        }
+        _ => assert!(rt; false, "the words were refused"),
     }
     Ok(())
 }

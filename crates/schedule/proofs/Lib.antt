@@ -1,3 +1,1 @@
-pub mod StepLemmas
-pub mod Planning
 pub mod Marking

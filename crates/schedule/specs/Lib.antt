@@ -1,4 +1,3 @@
-pub mod Steps
 pub mod Faults
 pub mod Solution
 pub mod Marks

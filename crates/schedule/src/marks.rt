@@ -5,7 +5,7 @@ ghost use Rattle.std.specs.List.{All};
 ghost use Rattle.solomon_reader.specs.declared.limits.TheConstants.{MOST_CUSTOMERS};
 ghost use Rattle.solomon_reader.specs.Plan.{count_of};
 ghost use Rattle.solomon_reader.specs.Lists.{lists};
-ghost use Rattle.schedule.specs.Faults.{stops};
+ghost use Rattle.solomon_reader.specs.PlanDefects.{stops};
 ghost use Rattle.schedule.specs.Marks.{is_marked, AreMarks};
 
 use solomon_reader::MOST_CUSTOMERS;

@@ -6,7 +6,7 @@ ghost use Rattle.solomon_reader.specs.declared.limits.TheConstants.{MOST_CUSTOME
 ghost use Rattle.solomon_reader.specs.Distance.{distance};
 ghost use Rattle.solomon_reader.specs.Plan.{IsFitting, Finishes, route_cost, load_of};
 ghost use Rattle.solomon_reader.specs.Problem.{IsCustomer, demand, service};
-ghost use Rattle.schedule.specs.Steps.{start_of, CanServe};
+ghost use Rattle.solomon_reader.specs.Steps.{start_of, CanServe};
 
 use crate::summary::Walk;
 use solomon_reader::Instance;

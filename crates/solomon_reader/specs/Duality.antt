@@ -22,3 +22,13 @@ TreeBoundHolds = (version : Version) (p : Problem) (k : ℕ) (tree : Tree) (b : 
 -- where the bound of a tree is above the ceiling, there is no plan
 abbrev pub NoPlanAbove : Type 0
 NoPlanAbove = (version : Version) (p : Problem) (k : ℕ) (tree : Tree) (routes : List (List ℕ)) → IsTreeBound version p k tree (ceiling_of p + 1) → ¬ IsPlan p routes
+
+-- no plan costs less than b
+abbrev pub IsBelowPlans : Problem → ℕ → Type 0
+IsBelowPlans p b = (routes : List (List ℕ)) → IsPlan p routes → b ≤ plan_cost p routes
+
+-- some plan costs exactly this
+pub record IsPlanCost (p : Problem) (cost : ℕ) : Type 0 where
+  pub routes : List (List ℕ)
+  pub plan : IsPlan p routes
+  pub exact : cost ≡ plan_cost p routes

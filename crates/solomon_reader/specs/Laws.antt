@@ -7,6 +7,7 @@ use Rattle.solomon_reader.specs.Reading.{reading}
 use Rattle.solomon_reader.specs.declared.fault.ReadFault.{ReadFault}
 use Rattle.solomon_reader.specs.declared.fault.ReadFault.TheVariants.{Truncated, NoCustomers}
 use Rattle.solomon_reader.specs.Relaxed.{IsLeastOrZero}
+use Rattle.solomon_reader.specs.Bound.{Version, Tree, IsTreeBound}
 
 -- there is no other
 abbrev pub OneLeast : Type 0
@@ -19,3 +20,7 @@ IsEnd e = (e ≡ Truncated) ⊎ (e ≡ NoCustomers)
 -- A fault that the first words show, other than that they end, is the fault of all words, however they go on. So the fault that is told is the first from the left.
 abbrev pub FirstFaultStays : Type 0
 FirstFaultStays = (front back : List Token) (e : ReadFault) → reading front ≡ Err e → ¬ IsEnd e → reading (front ++ back) ≡ Err e
+
+-- a tree has one bound
+abbrev pub OneBound : Type 0
+OneBound = (version : Version) (p : Problem) (k : ℕ) (tree : Tree) (b c : ℕ) → IsTreeBound version p k tree b → IsTreeBound version p k tree c → b ≡ c

@@ -66,3 +66,11 @@ pub record IsAsGood (a b : State) : Type 0 where
   pub load : a.load ≤ b.load
   pub cost : a.cost ≤ℤ b.cost
   pub memory : (u : ℕ) → IsTrue (a.memory u) → IsTrue (b.memory u)
+
+-- the two agree in all
+pub record IsSameState (a b : State) : Type 0 where
+  pub last : a.last ≡ b.last
+  pub time : a.time ≡ b.time
+  pub load : a.load ≡ b.load
+  pub cost : a.cost ≡ b.cost
+  pub memory : (u : ℕ) → a.memory u ≡ b.memory u

@@ -1,7 +1,7 @@
 //! Laws of the definitions, and the definitions at small instances.
 
 ghost use Rattle.solomon_reader.specs.Duality.{CeilingHolds, NoPlanAbove, TreeBoundHolds, WeakDuality};
-ghost use Rattle.solomon_reader.specs.Laws.{FirstFaultStays, OneLeast};
+ghost use Rattle.solomon_reader.specs.Laws.{FirstFaultStays, OneBound, OneLeast};
 ghost use Rattle.solomon_reader.specs.Rows.{WorkedBounds, WorkedMoves, WorkedRows};
 
 /// What the definitions give on small instances: distances, costs, walks, and both texts.
@@ -22,6 +22,11 @@ pub fn worked_moves()
 /// There is one least reduced cost, which is 0 where no route is relaxed.
 pub fn one_least()
     ensures { OneLeast }
+{}
+
+/// A tree has one bound.
+pub fn one_bound()
+    ensures { OneBound }
 {}
 
 /// The fault of a list of words is the first from the left.

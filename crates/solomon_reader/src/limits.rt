@@ -10,7 +10,7 @@ pub const MOST_FLEET: u16 = 1_000;
 pub const MOST_CAPACITY: u16 = 10_000;
 
 /// The most customers.
-pub const MOST_CUSTOMERS: u16 = 100;
+pub const MOST_CUSTOMERS: u16 = 400;
 
 /// The greatest coordinate, in units of the file.
 pub const MOST_COORDINATE: u16 = 10_000;

@@ -1,5 +1,7 @@
 mod Refusals
 mod Steps
+mod Named
 pub mod Answering
 pub mod BoundTexts
 pub mod OutcomeTrees
+pub mod Offering

@@ -1,12 +1,13 @@
 -- Which job the words give.
-use Rattle.std.specs.Prelude.{◌≡◌, ◌≢◌, List, [], Option, Some, None, codes}
+use Rattle.std.specs.Prelude.{◌≡◌, ◌≢◌, List, [], Option, Some, None, codes, ℕ, ◌≤◌, option_map}
 use Rattle.clap.specs.Words.{Row, Text, first_of, fault_of, kind_of, subcommand_of}
 use Rattle.clap.specs.declared.Error.{Error}
 use Rattle.clap.specs.declared.error.ErrorKind.TheVariants.{OutOfMemory}
-use Rattle.vrptw.specs.Commands.{program}
+use Rattle.vrptw.specs.declared.settings.TheConstants.{MOST_STATES}
+use Rattle.vrptw.specs.Commands.{program, HasNumber}
 use Rattle.vrptw.specs.Settings.{default_settings}
 use Rattle.vrptw.specs.declared.jobs.Job.{Job}
-use Rattle.vrptw.specs.declared.jobs.Job.TheVariants.{Solve}
+use Rattle.vrptw.specs.declared.jobs.Job.TheVariants.{Solve, Check}
 use Rattle.vrptw.specs.declared.jobs.UsageFault.{UsageFault}
 use Rattle.vrptw.specs.declared.jobs.UsageFault.TheVariants.{Memory, Usage}
 use Rattle.vrptw.specs.declared.settings.Settings.{Settings}
@@ -19,10 +20,20 @@ pub record SaysSolve (rows : List Row) (instance solution certificate : Text)
   pub certificate_path : first_of (codes "CERTIFICATE") rows ≡ Some certificate
   pub settings_are : settings ≡ default_settings
 
+-- the rows of the arguments of `check` have these paths, and this number of pairs, which is within its range
+pub record SaysCheck (rows : List Row) (instance certificate : Text) (solution : Option Text) (states : ℕ) : Type 0 where
+  pub instance_path : first_of (codes "INSTANCE") rows ≡ Some instance
+  pub certificate_path : first_of (codes "CERTIFICATE") rows ≡ Some certificate
+  pub solution_path : first_of (codes "solution") rows ≡ solution
+  pub states_are : HasNumber (codes "states") rows states
+  pub states_within : (1 ≤ states) × (states ≤ MOST_STATES)
+
 -- the command's name and the rows of its arguments are the job's
 abbrev pub Says : Text → List Row → Job → Type 0
 Says name rows (Solve instance solution certificate settings) =
     (name ≡ codes "solve") × SaysSolve rows instance.now solution.now certificate.now settings
+Says name rows (Check instance certificate solution states) =
+    (name ≡ codes "check") × SaysCheck rows instance.now certificate.now (option_map (λ s. s.now) solution) states
 
 abbrev pub SaysAny : Option (Text × List Row) → Job → Type 0
 SaysAny None job = ⊥
@@ -42,9 +53,14 @@ abbrev pub IsFaultOf : Error → UsageFault → Type 0
 IsFaultOf error Memory = kind_of error ≡ OutOfMemory
 IsFaultOf error (Usage told) = (told ≡ error) × (kind_of error ≢ OutOfMemory)
 
--- two jobs with the same paths, as texts, and the same settings
+-- two jobs of one kind with the same paths, as texts, and the same numbers
 abbrev pub IsSameJob : Job → Job → Type 0
 IsSameJob (Solve instance solution certificate settings)
     (Solve second_instance second_solution second_certificate second_settings) =
     (instance.now ≡ second_instance.now) × (solution.now ≡ second_solution.now)
     × (certificate.now ≡ second_certificate.now) × (settings ≡ second_settings)
+IsSameJob (Check instance certificate solution states) (Check second_instance second_certificate second_solution second_states) =
+    (instance.now ≡ second_instance.now) × (certificate.now ≡ second_certificate.now)
+    × (option_map (λ s. s.now) solution ≡ option_map (λ s. s.now) second_solution) × (states ≡ second_states)
+IsSameJob (Solve instance solution certificate settings) (Check second_instance second_certificate second_solution second_states) = ⊥
+IsSameJob (Check instance certificate solution states) (Solve second_instance second_solution second_certificate second_settings) = ⊥

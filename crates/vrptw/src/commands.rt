@@ -3,13 +3,14 @@ ghost use Rattle.std.specs.Prelude.{◌≡◌, [], false, map, codes, option_map
 ghost use Rattle.std.specs.Prelude.{IfOk, IfErr, MatchOption};
 ghost use Rattle.clap.specs.Words.{app_of, rule_of, rows_of, found_of, first_of};
 ghost use Rattle.clap.specs.Words.{subcommand_rows_of};
-ghost use Rattle.vrptw.specs.Commands.{HasShape, path_rule, program, solve_shape};
+ghost use Rattle.vrptw.specs.Commands.{HasShape, IsNumberIf, check_shape, number_option_rule, path_option_rule, path_rule, program, solve_shape};
 ghost use Rattle.vrptw.specs.Jobs.{Gives, IsRefused, IsSameJob, Says, SaysAny};
 
 use crate::jobs::{Job, UsageFault};
-use crate::settings::Settings;
+use crate::settings::{MOST_STATES, Settings};
+use clap::builder::ValueParser;
 use clap::error::ErrorKind;
-use clap::{Arg, ArgMatches, Command};
+use clap::{Arg, ArgMatches, Command, value_parser};
 use std::alloc::{AllocError, Global};
 
 const PROGRAM: &str = "vrptw";
@@ -20,6 +21,32 @@ fn path<'a>(alloc: Global, id: &'a str, help: &'a str) -> Arg<'a>
     ensures own { result.global ≡ false }
 {
     Arg::new(alloc, id).required(true).help(help)
+}
+
+/// An option with a path, named after two dashes.
+fn path_option<'a>(alloc: Global, id: &'a str, help: &'a str) -> Arg<'a>
+    ensures rule { rule_of result ≡ path_option_rule id.entry.now }
+    ensures own { result.global ≡ false }
+{
+    Arg::new(alloc, id).long(id).help(help)
+}
+
+/// An option with a number, named after two dashes.
+fn number_option<'a>(
+    alloc: Global,
+    id: &'a str,
+    parser: ValueParser<'a>,
+    default: &'a str,
+    help: &'a str,
+) -> Arg<'a>
+    ensures rule { rule_of result ≡ number_option_rule id.entry.now parser.entry default.entry.now }
+    ensures own { result.global ≡ false }
+{
+    Arg::new(alloc, id)
+        .long(id)
+        .value_parser(parser)
+        .default_value(default)
+        .help(help)
 }
 
 fn solve_command<'a>(alloc: Global) -> Result<Command<'a>, AllocError>
@@ -40,6 +67,27 @@ fn solve_command<'a>(alloc: Global) -> Result<Command<'a>, AllocError>
         ))
 }
 
+fn check_command<'a>(alloc: Global) -> Result<Command<'a>, AllocError>
+    ensures { IfOk result (HasShape (record { top = check_shape; subs = [] })) }
+{
+    Command::new(alloc, "check")
+        .about("Checks a certificate of a lower bound, and a plan if one is given")
+        .arg(path(alloc, "INSTANCE", "The file to read the instance from"))?
+        .arg(path(
+            alloc,
+            "CERTIFICATE",
+            "The file to read the certificate from",
+        ))?
+        .arg(path_option(alloc, "solution", "The file to read the plan from"))?
+        .arg(number_option(
+            alloc,
+            "states",
+            value_parser!(u32).range(1..50_000_001),
+            "5000000",
+            "The most pairs of time and cost that the check of one leaf keeps",
+        ))
+}
+
 fn vrptw_command<'a>(alloc: Global) -> Result<Command<'a>, AllocError>
     ensures { IfOk result (λ c. app_of c ≡ program) }
 {
@@ -48,7 +96,8 @@ fn vrptw_command<'a>(alloc: Global) -> Result<Command<'a>, AllocError>
         .about("Plans routes for vehicles with time windows, and proves how good they are")
         .no_binary_name(true)
         .subcommand_required(true)
-        .subcommand(solve_command(alloc)?)
+        .subcommand(solve_command(alloc)?)?
+        .subcommand(check_command(alloc)?)
 }
 
 /// The text that a parse has for an argument.
@@ -56,6 +105,13 @@ fn text_of<'a>(found: &ArgMatches<'a>, id: &str) -> Option<&'a str>
     ensures { option_map (λ s. s.now) result ≡ first_of id.now (rows_of (found_of found.now)) }
 {
     found.get_str(id)
+}
+
+/// The number that a parse has for an argument.
+fn number_of(found: &ArgMatches<'_>, id: &str) -> Option<u32>
+    ensures { IsNumberIf id.now (rows_of (found_of found.now)) result }
+{
+    found.get_one::<u32>(id)
 }
 
 /// The job that the arguments of `solve` give.
@@ -71,6 +127,24 @@ fn solve_job<'a>(found: &ArgMatches<'a>) -> Option<Job<'a>>
     })
 }
 
+/// The job that the arguments of `check` give.
+fn check_job<'a>(found: &ArgMatches<'a>) -> Option<Job<'a>>
+    ensures { let says = Says (codes "check") (rows_of (found_of found.now)) in
+        MatchOption result ((other : _) → says other → ⊥) says }
+{
+    let states = number_of(found, "states")?;
+    // clap has refused other numbers; the proof knows it from here.
+    if states < 1 || states > MOST_STATES {
+        return None;
+    }
+    Some(Job::Check {
+        instance: text_of(found, "INSTANCE")?,
+        certificate: text_of(found, "CERTIFICATE")?,
+        solution: text_of(found, "solution"),
+        states,
+    })
+}
+
 /// The job that the arguments of a command give.
 fn job_named<'a>(name: &str, found: &ArgMatches<'a>) -> Option<Job<'a>>
     ensures { let says = Says name.now (rows_of (found_of found.now)) in
@@ -78,6 +152,9 @@ fn job_named<'a>(name: &str, found: &ArgMatches<'a>) -> Option<Job<'a>>
 {
     if name == "solve" {
         return solve_job(found);
+    }
+    if name == "check" {
+        return check_job(found);
     }
     None
 }

@@ -19,6 +19,18 @@ pub enum Job<'a> {
         /// How much work to put into it.
         settings: Settings,
     },
+    /// To check a certificate, and a plan if there is one.
+    Check {
+        /// The path of the instance.
+        instance: &'a str,
+        /// The path of the certificate.
+        certificate: &'a str,
+        /// The path of the plan, if one is to be checked too.
+        solution: Option<&'a str>,
+        /// How many pairs of time and cost the check of one leaf keeps at most: 1 to `MOST_STATES`,
+        /// by default 5,000,000.
+        states: u32,
+    },
 }
 
 /// Why the words give no job.

@@ -10,6 +10,7 @@ mod jobs;
 mod lines;
 mod opening;
 mod program;
+mod raising;
 mod settings;
 mod solving;
 
@@ -19,5 +20,5 @@ pub use gate::{Gate, GatePoint, NoGate};
 pub use jobs::{Job, UsageFault};
 pub use lines::words_fault;
 pub use program::run_words;
-pub use settings::{MOST_BOUNDERS, MOST_LABELS, MOST_SEARCHERS, MOST_TURNS, Settings};
+pub use settings::{MOST_BOUNDERS, MOST_LABELS, MOST_SEARCHERS, MOST_STATES, MOST_TURNS, Settings};
 pub use solving::solve;

@@ -5,7 +5,9 @@ ghost use Rattle.std.specs.Prelude.{◌≡◌, ◌⊎◌};
 use crate::answer::{Answer, SolveFault};
 use crate::commands::wrong_words;
 use crate::jobs::UsageFault;
-use std::alloc::Global;
+use checker::{CheckFault, Verdict};
+use solomon_reader::ReadFault;
+use std::alloc::{AllocError, Global};
 use std::io;
 use tenths::{Device, Sink, Tenths, write_tenths, write_text};
 
@@ -19,6 +21,8 @@ const USAGE: u8 = 2;
 const INSTANCE: u8 = 3;
 
 const MEMORY: u8 = 4;
+
+const CHECK: u8 = 5;
 
 const FILE: u8 = 6;
 
@@ -93,6 +97,27 @@ pub fn words_fault<Y: Sink>(alloc: Global, error: &io::Error, errors: &mut Y) ->
     fail(errors, text.as_str(), USAGE)
 }
 
+/// Writes a line that was to be made on standard error, and answers the status that goes with it.
+fn fail_as<Y: Sink>(errors: &mut Y, line: Result<String, AllocError>, status: u8) -> u8
+    ensures { (result ≡ status) ⊎ (result ≡ MEMORY) }
+{
+    match line {
+        Ok(line) => fail(errors, line.as_str(), status),
+        Err(_) => memory_fault(errors),
+    }
+}
+
+/// What is said of a text that is no instance.
+fn instance_fault<Y: Sink>(alloc: Global, fault: ReadFault, errors: &mut Y) -> u8
+    ensures { (result ≡ INSTANCE) ⊎ (result ≡ MEMORY) }
+{
+    fail_as(
+        errors,
+        format!(in alloc; "vrptw: instance: {fault}\n"),
+        INSTANCE,
+    )
+}
+
 /// What is said where the solver gives no answer.
 pub(crate) fn solve_fault<Y: Sink>(alloc: Global, fault: SolveFault, errors: &mut Y) -> u8 {
     match fault {
@@ -100,10 +125,55 @@ pub(crate) fn solve_fault<Y: Sink>(alloc: Global, fault: SolveFault, errors: &mu
         SolveFault::BadSettings => fail(errors, "vrptw: settings\n", USAGE),
         SolveFault::LabelLimit => fail(errors, "vrptw: limit: LabelLimit\n", LIMIT),
         SolveFault::Device => file_fault(errors),
-        SolveFault::Instance(fault) => match format!(in alloc; "vrptw: instance: {fault}\n") {
-            Ok(line) => fail(errors, line.as_str(), INSTANCE),
-            Err(_) => memory_fault(errors),
-        },
+        SolveFault::Instance(fault) => instance_fault(alloc, fault, errors),
+    }
+}
+
+/// Writes a line of words and numbers on standard error, and answers the status that goes with it.
+fn fail_with<Y: Sink>(errors: &mut Y, words: &str, numbers: &[Tenths], status: u8) -> u8
+    ensures { result ≡ status }
+{
+    // Where standard error fails too, the status alone tells.
+    let _ = write_line(words, numbers, errors);
+    status
+}
+
+/// What is said where a certificate or a solution is refused.
+pub(crate) fn check_fault<Y: Sink>(alloc: Global, fault: CheckFault, errors: &mut Y) -> u8 {
+    match fault {
+        CheckFault::Memory => memory_fault(errors),
+        CheckFault::StateLimit => fail(errors, "vrptw: limit: StateLimit\n", LIMIT),
+        CheckFault::OtherName => fail(errors, "vrptw: check: OtherName\n", CHECK),
+        CheckFault::OtherSize => fail(errors, "vrptw: check: OtherSize\n", CHECK),
+        CheckFault::BoundDiffers { printed, derived } => {
+            fail_with(
+                errors,
+                "vrptw: check: BoundDiffers",
+                &[printed, derived],
+                CHECK,
+            )
+        }
+        CheckFault::CostDiffers { printed, real } => {
+            fail_with(errors, "vrptw: check: CostDiffers", &[printed, real], CHECK)
+        }
+        CheckFault::Instance(fault) => instance_fault(alloc, fault, errors),
+        CheckFault::Certificate(fault) => {
+            fail_as(
+                errors,
+                format!(in alloc; "vrptw: certificate: {fault}\n"),
+                CHECK,
+            )
+        }
+        CheckFault::Solution(fault) => {
+            fail_as(
+                errors,
+                format!(in alloc; "vrptw: solution: {fault}\n"),
+                CHECK,
+            )
+        }
+        CheckFault::PlanRefused(why) => {
+            fail_as(errors, format!(in alloc; "vrptw: plan: {why}\n"), CHECK)
+        }
     }
 }
 
@@ -132,6 +202,32 @@ fn status_of(answer: &Answer) -> u8 {
     match answer {
         Answer::Best { .. } | Answer::NoPlan => FOUND,
         Answer::Gap { .. } | Answer::Open { .. } => UNDECIDED,
+    }
+}
+
+/// Writes the line of a verdict.
+fn write_verdict<X: Sink>(verdict: &Verdict, out: &mut X) -> Result<(), Device> {
+    match verdict {
+        Verdict::Best { cost } => write_line("BEST", &[*cost], out),
+        Verdict::Gap { cost, bound } => write_line("GAP", &[*cost, *bound], out),
+        Verdict::NoPlan => write_line("NO PLAN", &[], out),
+        Verdict::BoundOnly { bound } => write_line("BOUND", &[*bound], out),
+    }
+}
+
+/// The status of a verdict.
+fn status_of_verdict(verdict: &Verdict) -> u8 {
+    match verdict {
+        Verdict::Best { .. } | Verdict::NoPlan => FOUND,
+        Verdict::Gap { .. } | Verdict::BoundOnly { .. } => UNDECIDED,
+    }
+}
+
+/// Prints a verdict, and answers its status.
+pub(crate) fn tell_verdict<X: Sink, Y: Sink>(verdict: &Verdict, out: &mut X, errors: &mut Y) -> u8 {
+    match write_verdict(verdict, out) {
+        Ok(()) => status_of_verdict(verdict),
+        Err(Device) => file_fault(errors),
     }
 }
 

@@ -1,8 +1,9 @@
 //! The opening of a search: the root with its first prices, the first plans, and the book of both.
 
-ghost use Rattle.std.specs.Prelude.{◌≡◌, ◌≢◌, ◌+◌, ◌<◌, ◌≤◌, ◌⊎◌, None, length, IfOk, IfErr, OnOk, MatchOption};
+ghost use Rattle.std.specs.Prelude.{◌≡◌, ◌≢◌, ◌+◌, ◌<◌, ◌≤◌, ◌⊎◌, [], length, IfOk, IfErr, OnOk, MatchOption};
 ghost use Rattle.solomon_reader.specs.Problem.{customer_count};
 ghost use Rattle.solomon_reader.specs.Moves.{IsLocalOptimum};
+ghost use Rattle.solomon_reader.specs.History.{costs_of};
 ghost use Rattle.solomon_reader.specs.Region.{root_region};
 ghost use Rattle.solomon_reader.specs.declared.limits.TheConstants.{MOST_EVENTS, MOST_NEIGHBOURS};
 ghost use Rattle.insertion.specs.Building.{IsServedAlone};
@@ -11,10 +12,10 @@ ghost use Rattle.vrptw.specs.declared.answer.SolveFault.TheVariants.{Memory, Lab
 
 use crate::answer::SolveFault;
 use crate::settings::Settings;
-use incumbent_book::{Book, BookFault, OpenFault, Outcome};
+use incumbent_book::{Book, BookFault, OpenFault};
 use insertion::{Built, InsertFault, Weights, build};
 use labelling::LabelFault;
-use prices::{Priced, improve};
+use prices::Priced;
 use rand_core::SeedableRng;
 use rand_xoshiro::Xoshiro256PlusPlus;
 use schedule::Feasible;
@@ -32,12 +33,6 @@ const DETOUR: u16 = 100;
 
 /// The worker that fills the book.
 const FIRST_WORKER: u16 = 0;
-
-/// The number of the root in a book.
-const ROOT: u32 = 0;
-
-/// The steps that raise the prices of the root, in grains.
-const STEPS: [i64; 7] = [64_000, 32_000, 16_000, 8_000, 4_000, 2_000, 1_000];
 
 /// The root with prices of zero. `LabelLimit` where the labels don't suffice for them, and `Memory`.
 pub fn price_root<'i>(
@@ -108,7 +103,7 @@ fn offer<'i>(book: &mut Book<'i>, plan: Feasible<'i>) -> Result<(), SolveFault>
     requires problem { plan.problem ≡ book.old.problem }
     requires room { length book.old.past < book.old.limits.events }
     ensures one_on { IsOneOn book.old book.new }
-    ensures served { OnOk result (book.new.incumbent ≢ None) }
+    ensures served { OnOk result (costs_of book.new.past ≢ []) }
     ensures memory { IfErr result (λ e. e ≡ Memory) }
 {
     match book.offer(FIRST_WORKER, plan) {
@@ -129,7 +124,7 @@ fn offer_plans<'i>(
     requires room { length book.old.past + 1 < book.old.limits.events }
     ensures problem { book.new.problem ≡ book.old.problem }
     ensures neighbours { book.new.neighbours ≡ book.old.neighbours }
-    ensures served { OnOk result (IsServedAlone instance.now → book.new.incumbent ≢ None) }
+    ensures served { OnOk result (IsServedAlone instance.now → costs_of book.new.past ≢ []) }
     ensures memory { IfErr result (λ e. e ≡ Memory) }
 {
     let Some(plan) = build_plan(alloc, instance)? else {
@@ -145,35 +140,21 @@ fn offer_plans<'i>(
     Ok(())
 }
 
-/// Gives the root the best prices that some steps lead to. A refusal leaves the book as it was.
-fn raise_root<'i>(alloc: Global, book: &mut Book<'i>, root: Priced<'i>, labels: u32)
-    ensures problem { book.new.problem ≡ book.old.problem }
-    ensures neighbours { book.new.neighbours ≡ book.old.neighbours }
-    ensures incumbent { book.new.incumbent ≡ book.old.incumbent }
-{
-    let raised = improve(alloc, root, &STEPS, Some(labels as usize));
-    // Where no step raised the value the book refuses, and where memory is refused the first prices
-    // still give a bound.
-    let _ = book.reprice(FIRST_WORKER, ROOT, raised);
-}
-
-/// The outcome of a book of the root that was offered the first plans, and whose root was raised.
-pub fn run_opening<'i>(
+/// A book of the root that was offered the first plans.
+pub fn open_search<'i>(
     alloc: Global,
     instance: &'i Instance,
     root: Priced<'i>,
-    settings: &Settings,
-) -> Result<Outcome<'i>, SolveFault>
+    seed: u32,
+) -> Result<Book<'i>, SolveFault>
     requires problem { root.problem ≡ instance.now }
     requires region { root.region ≡ root_region (customer_count instance.now) }
-    ensures problem { IfOk result (λ o. o.problem ≡ instance.now) }
-    ensures neighbours { IfOk result (λ o. o.neighbours ≡ root.entry.neighbours) }
-    ensures served { IfOk result (λ o. IsServedAlone instance.now → o.incumbent ≢ None) }
+    ensures problem { IfOk result (λ b. b.problem ≡ instance.now) }
+    ensures neighbours { IfOk result (λ b. b.neighbours ≡ root.entry.neighbours) }
+    ensures served { IfOk result (λ b. IsServedAlone instance.now → costs_of b.past ≢ []) }
     ensures memory { IfErr result (λ e. e ≡ Memory) }
 {
-    let copy = root.try_clone()?;
     let mut book = open_book(alloc, root)?;
-    offer_plans(alloc, instance, &mut book, settings.seed)?;
-    raise_root(alloc, &mut book, copy, settings.labels);
-    Ok(book.finish())
+    offer_plans(alloc, instance, &mut book, seed)?;
+    Ok(book)
 }

@@ -5,12 +5,16 @@ ghost use Rattle.std.specs.Prelude.{◌≡◌, ◌⊎◌, IsTrue, ◌↔◌};
 use crate::commands::job;
 use crate::gate::NoGate;
 use crate::jobs::Job;
-use crate::lines::{file_fault, open_fault, solve_fault, tell, usage_fault};
+use crate::lines::{
+    check_fault, file_fault, open_fault, solve_fault, tell, tell_verdict, usage_fault,
+};
 use crate::settings::Settings;
 use crate::solving::solve;
+use checker::check;
 use std::alloc::Global;
-use std::fs;
 use std::rt::Files;
+use std::sync::Wait;
+use std::{fs, io};
 use tenths::{Sink, StdSink};
 
 /// The paths of a job to solve.
@@ -31,7 +35,7 @@ impl Paths<'_> {
 }
 
 /// Solves the instance of a file into two files, which are made once the instance was read.
-fn solve_files<R: Files + AllocGlobal, X: Sink, Y: Sink>(
+fn solve_files<R: Files + AllocGlobal + Wait, X: Sink, Y: Sink>(
     rt: &R,
     alloc: Global,
     paths: Paths<'_>,
@@ -68,12 +72,67 @@ fn solve_files<R: Files + AllocGlobal, X: Sink, Y: Sink>(
     }
 }
 
+/// The paths of a job to check.
+#[derive(Clone, Copy)]
+struct Checked<'a> {
+    instance: &'a str,
+    certificate: &'a str,
+    solution: Option<&'a str>,
+}
+
+/// What a file holds, if it is named.
+fn read_if<R: Files + AllocGlobal>(rt: &R, path: Option<&str>) -> io::Result<Option<Vec<u8>>> {
+    let Some(path) = path else {
+        return Ok(None);
+    };
+    Ok(Some(fs::read(rt, path)?))
+}
+
+/// Checks the certificate of a file, and the plan of another one if it is named, against the
+/// instance of a file.
+fn check_files<R: Files + AllocGlobal, X: Sink, Y: Sink>(
+    rt: &R,
+    alloc: Global,
+    paths: Checked<'_>,
+    states: u32,
+    out: &mut X,
+    errors: &mut Y,
+) -> u8 {
+    let instance = match fs::read(rt, paths.instance) {
+        Ok(text) => text,
+        Err(error) => return open_fault(&error, errors),
+    };
+    let certificate = match fs::read(rt, paths.certificate) {
+        Ok(text) => text,
+        Err(error) => return open_fault(&error, errors),
+    };
+    let solution = match read_if(rt, paths.solution) {
+        Ok(text) => text,
+        Err(error) => return open_fault(&error, errors),
+    };
+    let solution = match &solution {
+        Some(text) => Some(text.as_slice()),
+        None => None,
+    };
+    match check(
+        alloc,
+        instance.as_slice(),
+        certificate.as_slice(),
+        solution,
+        states as usize,
+    ) {
+        Err(fault) => check_fault(alloc, fault, errors),
+        Ok(verdict) => tell_verdict(&verdict, out, errors),
+    }
+}
+
 /// Does what the program does with the words after its name and the files that they name: prints
 /// to `out` in place of standard output and to `errors` in place of standard error, and answers
-/// the status: 0 for `BEST`, `NO PLAN` and help, 1 for `GAP` and `OPEN`, 2 for wrong words, 3 for a
-/// refused instance, 4 where memory was refused, 6 where a file or a stream failed or two paths are
-/// the same words, 7 where the labels don't suffice. What files hold no contract can say.
-pub fn run_words<R: Files + AllocGlobal, X: Sink, Y: Sink>(
+/// the status: 0 for `BEST`, `NO PLAN` and help, 1 for `GAP`, `OPEN` and `BOUND`, 2 for wrong words,
+/// 3 for a refused instance, 4 where memory was refused, 5 for a refused certificate or solution, 6
+/// where a file or a stream failed or two paths of `solve` are the same words, 7 where the labels or
+/// the states don't suffice. What files hold no contract can say.
+pub fn run_words<R: Files + AllocGlobal + Wait, X: Sink, Y: Sink>(
     rt: &R,
     alloc: Global,
     words: &[&str],
@@ -95,6 +154,21 @@ pub fn run_words<R: Files + AllocGlobal, X: Sink, Y: Sink>(
                 certificate,
             };
             solve_files(rt, alloc, paths, &settings, out, errors)
+        }
+        Ok(
+            Job::Check {
+                instance,
+                certificate,
+                solution,
+                states,
+            },
+        ) => {
+            let paths = Checked {
+                instance,
+                certificate,
+                solution,
+            };
+            check_files(rt, alloc, paths, states, out, errors)
         }
         Err(fault) => usage_fault(alloc, &fault, out, errors),
     }

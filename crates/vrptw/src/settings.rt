@@ -12,6 +12,9 @@ pub const MOST_TURNS: u32 = 1_000_000;
 /// The most labels of one pricing.
 pub const MOST_LABELS: u32 = 100_000_000;
 
+/// The most pairs of time and cost that the check of one leaf keeps.
+pub const MOST_STATES: u32 = 50_000_000;
+
 /// How much work the program puts into a plan and a bound. Any numbers can stand in it:
 /// `is_within` says whether they are within the limits.
 #[derive(Clone, Copy, Debug, PartialEq, Eq)]

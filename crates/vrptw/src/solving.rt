@@ -1,7 +1,8 @@
 //! From the bytes of an instance to a plan and a certificate.
 
-ghost use Rattle.std.specs.Prelude.{◌≡◌, None, IfOk, IfErr, MatchOption};
+ghost use Rattle.std.specs.Prelude.{◌≡◌, [], IfOk, IfErr, MatchOption};
 ghost use Rattle.solomon_reader.specs.Layout.{IsInstance};
+ghost use Rattle.solomon_reader.specs.History.{costs_of};
 ghost use Rattle.solomon_reader.specs.Moves.{IsLocalOptimum};
 ghost use Rattle.insertion.specs.Building.{IsServedAlone};
 ghost use Rattle.vrptw.specs.Certified.{IsCertified};
@@ -11,13 +12,15 @@ ghost use Rattle.vrptw.specs.declared.answer.SolveFault.TheVariants.{Memory};
 use crate::answer::{Answer, SolveFault};
 use crate::certifying::certify;
 use crate::gate::Gate;
-use crate::opening::{descend, price_root, run_opening};
+use crate::opening::{descend, open_search, price_root};
+use crate::raising::finish_at_desk;
 use crate::settings::Settings;
 use certificate::Cert;
 use incumbent_book::Outcome;
 use schedule::Feasible;
 use solomon_reader::{Instance, ReadFault, read};
 use std::alloc::Global;
+use std::sync::Wait;
 use tenths::Sink;
 
 /// The instance that a text is.
@@ -38,7 +41,7 @@ fn last_plan<'i>(
     outcome: &Outcome<'i>,
     seed: u32,
 ) -> Result<Option<Feasible<'i>>, SolveFault>
-    ensures plan { IfOk result (λ plan. MatchOption plan (outcome.now.incumbent ≡ None)
+    ensures plan { IfOk result (λ plan. MatchOption plan (costs_of outcome.now.past ≡ [])
         (λ f. (f.problem ≡ outcome.now.problem) × IsLocalOptimum f.problem f.routes)) }
     ensures memory { IfErr result (λ e. e ≡ Memory) }
 {
@@ -121,8 +124,8 @@ fn write_both<X: Sink, Y: Sink>(
 /// `Memory` where a growth was refused; these come before the first write. `Device` where a sink
 /// failed: the first then holds a beginning and the second nothing, or the first all that was for it
 /// and the second a beginning.
-pub fn solve<R, G: Gate, X: Sink, Y: Sink>(
-    _rt: &R,
+pub fn solve<R: Wait, G: Gate, X: Sink, Y: Sink>(
+    rt: &R,
     alloc: Global,
     text: &[u8],
     settings: &Settings,
@@ -142,7 +145,9 @@ pub fn solve<R, G: Gate, X: Sink, Y: Sink>(
         return Err(SolveFault::BadSettings);
     }
     let root = price_root(alloc, &instance, settings)?;
-    let outcome = run_opening(alloc, &instance, root, settings)?;
+    let copy = root.try_clone()?;
+    let book = open_search(alloc, &instance, root, settings.seed)?;
+    let outcome = finish_at_desk(rt, alloc, book, copy, settings.labels)?;
     let plan = last_plan(alloc, &outcome, settings.seed)?;
     let cert = certify(alloc, &outcome)?;
     write_both(plan.as_ref(), &outcome, &cert, solution, certificate)

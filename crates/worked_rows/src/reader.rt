@@ -97,10 +97,10 @@ fn each_fault_is_told(rt: HostRuntime) -> Result<(), Fail> {
 }
 
 #[test]
-fn a_hundred_customers_are_the_most(rt: HostRuntime) -> Result<(), Fail> {
-    let hundred = many_customers(rt.alloc(), 100)?;
-    assert_eq!(rt; fault_of(rt.alloc(), DEPOT, hundred.as_str())?, None);
-    let more = many_customers(rt.alloc(), 101)?;
+fn four_hundred_customers_are_the_most(rt: HostRuntime) -> Result<(), Fail> {
+    let most = many_customers(rt.alloc(), 400)?;
+    assert_eq!(rt; fault_of(rt.alloc(), DEPOT, most.as_str())?, None);
+    let more = many_customers(rt.alloc(), 401)?;
     assert_eq!(rt;
         fault_of(rt.alloc(), DEPOT, more.as_str())?,
         Some(ReadFault::TooManyCustomers)

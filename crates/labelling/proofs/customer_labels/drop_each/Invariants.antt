@@ -1,5 +1,5 @@
-use Rattle.labelling.specs.Arena.{state_at, IsPruned}
+use Rattle.labelling.specs.Arena.{IsPruned}
 use Rattle.labelling.proofs.customer_labels.drop_each.Given as goal
 
 abbrev pub invariant-loop-label : goal.invariant-loop-label
-invariant-loop-label l = IsPruned l.initial.labels l.labels (state_at l.newer)
+invariant-loop-label l = IsPruned l.initial.labels l.labels l.newer

@@ -1,16 +1,14 @@
 use Rattle.std.proofs.Common.{refl, arith}
-use Rattle.labelling.proofs.Advancing.{label_read, back_more, back_all, back_written}
+use Rattle.labelling.proofs.Advancing.{back_more, back_all, back_written}
 use Rattle.labelling.proofs.labeller.route_to.Goals as goal
 
 pub loop-taken-preserved : goal.loop-taken-preserved
-loop-taken-preserved c =
-    rw (label_read _ c.loop-taken.label.parent c.index-labels-label.result c.loop-taken.invariant.parent c.index-labels-label.is) (record {
-      parent = c.requires.parents c.loop-taken.label.parent c.loop-taken.invariant.parent;
-      split = rw c.in_ok-push.ensures.items (back_more c.args.labels.now c.loop-taken.label _ _ c.loop-taken.taken c.loop-taken.route.items _ c.loop-taken-test.true refl c.loop-taken.invariant.split);
-    })
+loop-taken-preserved c = record {
+  parent = c.requires.parents c.loop-taken.label.parent c.loop-taken.invariant.parent;
+  split = rw c.in_ok-push.ensures.items (back_more c.args.labels.now c.loop-taken.label _ _ c.loop-taken.taken c.loop-taken.route.items _ c.loop-taken-test.true refl c.loop-taken.invariant.split);
+}
 
 pub returns : goal.returns
 returns c =
-    rw (← label_read _ c.args.index c.index-labels-index.result c.requires.index c.index-labels-index.is)
-    (back_written _ c.loop-taken.route.items _ _ (rw c.as_mut_slice.ensures.value at c.reverse.ensures.after) (omega arith)
-    (back_all c.args.labels.now c.loop-taken.label _ c.loop-taken.taken c.loop-taken.route.items _ c.loop-taken-test.false c.loop-taken.invariant.split))
+    back_written _ c.loop-taken.route.items _ _ (rw c.as_mut_slice.ensures.value at c.reverse.ensures.after) (omega arith)
+    (back_all c.args.labels.now c.loop-taken.label _ c.loop-taken.taken c.loop-taken.route.items _ c.loop-taken-test.false c.loop-taken.invariant.split)

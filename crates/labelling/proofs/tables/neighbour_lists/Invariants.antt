@@ -1,5 +1,6 @@
-use Rattle.labelling.specs.Tables.{IsNeighbourList, IsTable}
+use Rattle.labelling.specs.Memories.{IsWholeList}
+use Rattle.labelling.specs.Tables.{IsTable}
 use Rattle.labelling.proofs.tables.neighbour_lists.Given as goal
 
-abbrev pub invariant-loop-w : goal.invariant-loop-w
-invariant-loop-w l = IsTable (IsNeighbourList l.instance l.neighbours) 1 l.w l.table.items
+abbrev pub invariant-loop-v : goal.invariant-loop-v
+invariant-loop-v l = IsTable (IsWholeList l.instance l.neighbours) l.v l.table.items

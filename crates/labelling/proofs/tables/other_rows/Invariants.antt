@@ -3,4 +3,4 @@ use Rattle.labelling.specs.Tables.{IsOther, IsTable}
 use Rattle.labelling.proofs.tables.other_rows.Given as goal
 
 abbrev pub invariant-loop-i : goal.invariant-loop-i
-invariant-loop-i l = IsTable (IsOther (customer_count l.instance)) 0 l.i l.table.items
+invariant-loop-i l = IsTable (IsOther (customer_count l.instance)) l.i l.table.items

@@ -6,9 +6,9 @@ use Rattle.std.specs.List.{Any}
 use Rattle.solomon_reader.specs.Problem.{IsCustomer}
 use Rattle.solomon_reader.specs.Lists.{lists}
 use Rattle.solomon_reader.specs.Plan.{HasWalk, load_of, count_of}
-use Rattle.schedule.specs.Faults.{stops}
+use Rattle.solomon_reader.specs.PlanDefects.{stops}
 use Rattle.schedule.proofs.Marking.{once_by_marks}
-use Rattle.schedule.proofs.Planning.{Any-map, after_empty, after_unknown, after_twice, after_missing, after_overload, after_late, is_plan}
+use Rattle.solomon_reader.proofs.Planning.{Any-map, after_empty, after_unknown, after_twice, after_missing, after_overload, after_late, is_plan}
 use Rattle.schedule.proofs.finding.fault_of.Goals as goal
 
 pub returns-then-has_unknown-clause-fault : goal.returns-then-has_unknown-clause-fault

@@ -1,6 +1,6 @@
 use Rattle.std.proofs.Common.{take}
 use Rattle.solomon_reader.specs.Lists.{lists}
-use Rattle.schedule.specs.Faults.{stops}
+use Rattle.solomon_reader.specs.PlanDefects.{stops}
 use Rattle.schedule.specs.Marks.{AreMarks}
 use Rattle.schedule.proofs.marks.marks_of.Given as goal
 

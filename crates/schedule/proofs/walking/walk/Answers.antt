@@ -1,6 +1,6 @@
 use Rattle.std.proofs.Common.{rules, refl, arith}
 use Rattle.std.proofs.lemmas.Bool.Decides.{nat_tests}
-use Rattle.schedule.proofs.StepLemmas.{refused, walked_more, closed, fitting, finishes}
+use Rattle.solomon_reader.proofs.StepLemmas.{refused, walked_more, closed, fitting, finishes}
 use Rattle.schedule.proofs.walking.walk.Goals as goal
 
 pub returns-in_err-vehicle-clause-none : goal.returns-in_err-vehicle-clause-none

@@ -1,4 +1,4 @@
-use Rattle.schedule.proofs.StepLemmas.{Walked}
+use Rattle.solomon_reader.proofs.StepLemmas.{Walked}
 use Rattle.schedule.proofs.walking.walk.Given as goal
 
 abbrev pub invariant-loop-stop : goal.invariant-loop-stop

@@ -1,11 +1,6 @@
 use Rattle.std.proofs.Common.{refl, sym}
-use Rattle.labelling.proofs.Advancing.{label_read, rows_read, complete_written, onward_written}
+use Rattle.labelling.proofs.Advancing.{label_read, complete_written, onward_written}
 use Rattle.labelling.proofs.labeller.Labeller.extend_at.Goals as goal
-
-pub best_with-best-requires-clause-rows : goal.best_with-best-requires-clause-rows
-best_with-best-requires-clause-rows c =
-    rows_read _ _ _ _ c.args.self.now.labels.items c.args.index c.index.result.now c.args.self.now.task.allowed_rows.items c.index-rows.result.now
-    c.requires.labelled (c.if-not-is_pending.ensures.within refl) c.index.ensures c.args.self.now.task.allowed c.index-rows.ensures
 
 pub returns-clause-complete : goal.returns-clause-complete
 returns-clause-complete c =

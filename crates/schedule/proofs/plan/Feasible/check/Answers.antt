@@ -1,5 +1,5 @@
 use Rattle.std.proofs.Common.{◌≡◌}
-use Rattle.schedule.proofs.Planning.{no_plan}
+use Rattle.solomon_reader.proofs.Planning.{no_plan}
 use Rattle.schedule.proofs.plan.Feasible.check.Goals as goal
 
 pub total_cost-cost-requires-clause-fitting : goal.total_cost-cost-requires-clause-fitting

@@ -1,7 +1,7 @@
 use Rattle.std.proofs.Common.{◌≡◌}
 use Rattle.std.specs.List.{each_same}
 use Rattle.solomon_reader.specs.Lists.{lists}
-use Rattle.schedule.proofs.Planning.{same_lists}
+use Rattle.solomon_reader.proofs.Planning.{same_lists}
 use Rattle.schedule.proofs.plan.Feasible.try_clone.Goals as goal
 
 pub invariant_of-result : goal.invariant_of-result

@@ -1,0 +1,3 @@
+pub mod Refusing
+pub mod Composing
+pub mod Verdicts

@@ -1,0 +1,198 @@
+-- What verdicts and refusals say of the texts, and of every plan.
+use Rattle.std.proofs.Common.{◌≡◌, refl, ℕ, List, arith, ap, subst, sym, ◌∙◌, inl, inr}
+use Rattle.std.specs.Prelude.{◌⊎◌, Option, None, Some, Result, Ok, Err, IfOk, IfErr}
+use Rattle.std.proofs.lemmas.Bool.{cases_lt}
+use Rattle.solomon_reader.specs.Words.{words}
+use Rattle.solomon_reader.specs.Problem.{Problem, customer_count}
+use Rattle.solomon_reader.specs.Layout.{IsInstance}
+use Rattle.solomon_reader.specs.Plan.{IsPlan, plan_cost}
+use Rattle.solomon_reader.specs.DualityLaws.{tree_bound_holds, no_plan_above}
+use Rattle.solomon_reader.specs.CertificateText.{Certificate}
+use Rattle.solomon_reader.proofs.Again.{reading_again}
+use Rattle.solomon_reader.proofs.Bounds.{one_tree_bound}
+use Rattle.solomon_reader.proofs.Planning.{no_plan}
+use Rattle.certificate.specs.Reading as certificate_reading
+use Rattle.certificate.proofs.Again as certificate
+use Rattle.certificate.proofs.Apart as certificate_texts
+use Rattle.sol_writer.proofs.Again as solution
+use Rattle.checker.specs.declared.fault.CheckFault.{CheckFault}
+use Rattle.checker.specs.declared.fault.CheckFault.TheVariants as fault
+use Rattle.checker.specs.declared.verdict.Verdict.{Verdict}
+use Rattle.checker.specs.declared.verdict.Verdict.TheVariants.{Best, Gap, NoPlan, BoundOnly}
+use Rattle.checker.specs.Plans.{defect_of}
+use Rattle.checker.specs.Checking.{Texts, Spelled, IsRight, IsRightSolution, Means, IsSolutionOf, AreTextsOf, HasBound, Judges, RefusesInstance, RefusesCertificate, RefusesSolutionText, RefusesTexts, RefusesBound, RefusesSolution, RefusesPlan, RefusesContents, Refuses, Checks}
+
+-- memory or the states don't suffice
+abbrev IsLimit : CheckFault → Type 0
+IsLimit fault.Memory = Unit {0}
+IsLimit fault.StateLimit = Unit {0}
+IsLimit e = ⊥
+
+limit_or_not : (e : CheckFault) → (e ≡ fault.Memory) ⊎ ((e ≡ fault.StateLimit) ⊎ (¬ IsLimit e))
+limit_or_not fault.Memory = inl refl
+limit_or_not fault.StateLimit = inr (inl refl)
+limit_or_not fault.OtherName = inr (inr (λ h. h))
+limit_or_not fault.OtherSize = inr (inr (λ h. h))
+limit_or_not (fault.BoundDiffers printed derived) = inr (inr (λ h. h))
+limit_or_not (fault.Instance f) = inr (inr (λ h. h))
+limit_or_not (fault.Certificate f) = inr (inr (λ h. h))
+limit_or_not (fault.Solution f) = inr (inr (λ h. h))
+limit_or_not (fault.PlanRefused why) = inr (inr (λ h. h))
+limit_or_not (fault.CostDiffers printed real) = inr (inr (λ h. h))
+
+ok_is_not_err : {A B : Type 0} (r : Result A B) (x : A) (y : B) → r ≡ Ok x → r ≡ Err y → ⊥
+ok_is_not_err {A = A} {B = B} r x y e f = let P : Result A B → Type 0 = λ z. IfOk z (λ _. ⊥) in subst P e (subst P (sym f) tt)
+
+ok_is : {A B : Type 0} (r : Result A B) (x y : A) → r ≡ Ok x → r ≡ Ok y → x ≡ y
+ok_is {A = A} {B = B} r x y e f = subst (λ (z : Result A B). IfOk z (λ w. x ≡ w)) f (subst (λ (z : Result A B). IfOk z (λ w. x ≡ w)) (sym e) refl)
+
+one_problem : (text : List ℕ) (p q : Problem) → IsInstance text p → IsInstance text q → p ≡ q
+one_problem text p q a b = ok_is _ p q (reading_again (words text) p a.0 a.1) (reading_again (words text) q b.0 b.1)
+
+-- ---- what is right, seen from what was read
+
+module _ (t : Texts) (p : Problem) (c : Certificate) (s : Option Spelled) (are : AreTextsOf t p c s) (right : IsRight t) where
+  same_problem : right.problem ≡ p
+  same_problem = one_problem t.instance right.problem p right.instance are.instance
+
+  same_certificate : right.accepted.certificate ≡ c
+  same_certificate = certificate_texts.one_text_each right.accepted.certificate c right.accepted.shaped are.shaped (sym right.accepted.spelled ∙ are.spelled)
+
+  right_name : c.name ≡ p.name
+  right_name = sym (ap (λ (x : Certificate). x.name) same_certificate) ∙ right.accepted.name ∙ ap (λ (q : Problem). q.name) same_problem
+
+  right_size : c.size ≡ customer_count p
+  right_size = sym (ap (λ (x : Certificate). x.size) same_certificate) ∙ right.accepted.size ∙ ap customer_count same_problem
+
+  right_bound : HasBound p c c.bound
+  right_bound = subst (λ (q : Problem). HasBound q c c.bound) same_problem (subst (λ (x : Certificate). HasBound right.problem x x.bound) same_certificate right.accepted.is_bound)
+
+  right_solution : IsRightSolution p t.solution
+  right_solution = subst (λ (q : Problem). IsRightSolution q t.solution) same_problem right.solution
+
+  bound_wrong : (e : CheckFault) → RefusesBound p c e → IsLimit e
+  bound_wrong fault.Memory h = tt
+  bound_wrong fault.StateLimit h = tt
+  bound_wrong fault.OtherName h = absurd (h right_name)
+  bound_wrong fault.OtherSize h = absurd (h.1 right_size)
+  bound_wrong (fault.BoundDiffers printed derived) h = absurd (h.3 (h.2 ∙ one_tree_bound c.version p c.neighbours c.tree c.bound derived right_bound h.1))
+  bound_wrong (fault.Instance f) h = absurd h
+  bound_wrong (fault.Certificate f) h = absurd h
+  bound_wrong (fault.Solution f) h = absurd h
+  bound_wrong (fault.PlanRefused why) h = absurd h
+  bound_wrong (fault.CostDiffers printed real) h = absurd h
+
+module _ (p : Problem) where
+  -- a solution that is read, and is that of a plan and its cost
+  plan_wrong : (text : Option (List ℕ)) (s : Option Spelled) → IsSolutionOf text s → IsRightSolution p text → (e : CheckFault) → RefusesSolution p s e → IsLimit e
+  plan_wrong None None is right e h = absurd h
+  plan_wrong None (Some s) is right e h = absurd is
+  plan_wrong (Some text) None is right e h = absurd is
+  plan_wrong (Some text) (Some s) is right fault.Memory h = tt
+  plan_wrong (Some text) (Some s) is right (fault.PlanRefused why) h =
+      let same = solution.one_text_each right.0 s.0 (plan_cost p right.0) s.1 right.2.shaped is.shaped (sym right.2.spelled ∙ is.spelled) in
+      absurd (no_plan p s.0 (defect_of why) h (subst (λ (routes : List (List ℕ)). IsPlan p routes) same.0 right.1))
+  plan_wrong (Some text) (Some s) is right (fault.CostDiffers printed real) h =
+      let same = solution.one_text_each right.0 s.0 (plan_cost p right.0) s.1 right.2.shaped is.shaped (sym right.2.spelled ∙ is.spelled) in
+      absurd (h.3 (h.1 ∙ sym same.1 ∙ ap (plan_cost p) same.0 ∙ sym h.2))
+  plan_wrong (Some text) (Some s) is right fault.StateLimit h = absurd h
+  plan_wrong (Some text) (Some s) is right fault.OtherName h = absurd h
+  plan_wrong (Some text) (Some s) is right fault.OtherSize h = absurd h
+  plan_wrong (Some text) (Some s) is right (fault.BoundDiffers printed derived) h = absurd h
+  plan_wrong (Some text) (Some s) is right (fault.Instance f) h = absurd h
+  plan_wrong (Some text) (Some s) is right (fault.Certificate f) h = absurd h
+  plan_wrong (Some text) (Some s) is right (fault.Solution f) h = absurd h
+
+  -- a text that is none of a solution
+  text_wrong : (text : Option (List ℕ)) → IsRightSolution p text → (e : CheckFault) → RefusesSolutionText text e → IsLimit e
+  text_wrong None right e h = absurd h
+  text_wrong (Some text) right fault.Memory h = tt
+  text_wrong (Some text) right (fault.Solution f) h =
+      absurd (ok_is_not_err _ _ f (solution.reading_again text right.0 (plan_cost p right.0) right.2.shaped right.2.spelled) h.0)
+  text_wrong (Some text) right fault.StateLimit h = absurd h
+  text_wrong (Some text) right fault.OtherName h = absurd h
+  text_wrong (Some text) right fault.OtherSize h = absurd h
+  text_wrong (Some text) right (fault.BoundDiffers printed derived) h = absurd h
+  text_wrong (Some text) right (fault.Instance f) h = absurd h
+  text_wrong (Some text) right (fault.Certificate f) h = absurd h
+  text_wrong (Some text) right (fault.PlanRefused why) h = absurd h
+  text_wrong (Some text) right (fault.CostDiffers printed real) h = absurd h
+
+module _ (t : Texts) (right : IsRight t) where
+  instance_wrong : (e : CheckFault) → RefusesInstance t.instance e → IsLimit e
+  instance_wrong fault.Memory h = tt
+  instance_wrong (fault.Instance f) h = absurd (ok_is_not_err _ _ f (reading_again (words t.instance) right.problem right.instance.0 right.instance.1) h.0)
+  instance_wrong fault.StateLimit h = absurd h
+  instance_wrong fault.OtherName h = absurd h
+  instance_wrong fault.OtherSize h = absurd h
+  instance_wrong (fault.BoundDiffers printed derived) h = absurd h
+  instance_wrong (fault.Solution f) h = absurd h
+  instance_wrong (fault.Certificate f) h = absurd h
+  instance_wrong (fault.PlanRefused why) h = absurd h
+  instance_wrong (fault.CostDiffers printed real) h = absurd h
+
+  certificate_wrong : (e : CheckFault) → RefusesCertificate t.certificate e → IsLimit e
+  certificate_wrong fault.Memory h = tt
+  certificate_wrong (fault.Certificate f) h =
+      absurd (ok_is_not_err _ _ f (ap certificate_reading.reading right.accepted.spelled ∙ certificate.reading_again right.accepted.certificate right.accepted.shaped) h.0)
+  certificate_wrong fault.StateLimit h = absurd h
+  certificate_wrong fault.OtherName h = absurd h
+  certificate_wrong fault.OtherSize h = absurd h
+  certificate_wrong (fault.BoundDiffers printed derived) h = absurd h
+  certificate_wrong (fault.Instance f) h = absurd h
+  certificate_wrong (fault.Solution f) h = absurd h
+  certificate_wrong (fault.PlanRefused why) h = absurd h
+  certificate_wrong (fault.CostDiffers printed real) h = absurd h
+
+  right_here : (p : Problem) → IsInstance t.instance p → IsRightSolution p t.solution
+  right_here p is = subst (λ (q : Problem). IsRightSolution q t.solution) (one_problem t.instance right.problem p right.instance is) right.solution
+
+  contents_wrong : (e : CheckFault) (r : RefusesContents t e) → RefusesBound r.problem r.contents e ⊎ RefusesPlan r.problem r.contents r.solution e → IsLimit e
+  contents_wrong e r (inl h) = bound_wrong t r.problem r.contents r.solution r.are right e h
+  contents_wrong e r (inr h) = plan_wrong r.problem t.solution r.solution r.are.solution (right_here r.problem r.are.instance) e h.refused
+
+  texts_wrong : (e : CheckFault) → RefusesTexts t e → IsLimit e
+  texts_wrong e (inl h) = instance_wrong e h
+  texts_wrong e (inr (inl h)) = certificate_wrong e h.2
+  texts_wrong e (inr (inr h)) = text_wrong h.0.problem t.solution (right_here h.0.problem h.0.instance) e h.1
+
+  wrong_here : (e : CheckFault) → Refuses t e → IsLimit e
+  wrong_here e (inl h) = texts_wrong e h
+  wrong_here e (inr h) = contents_wrong e h h.refused
+
+-- texts that are refused aren't right, unless memory or the states didn't suffice
+pub not_right : (t : Texts) (r : Result Verdict CheckFault) → Checks t r → IfErr r (λ e. (e ≡ fault.Memory) ⊎ ((e ≡ fault.StateLimit) ⊎ (¬ IsRight t)))
+not_right t (Ok v) h = tt
+not_right t (Err e) h = elim (limit_or_not e) [
+  | inl memory ↦ inl memory
+  | inr (inl states) ↦ inr (inl states)
+  | inr (inr other) ↦ inr (inr (λ right. other (wrong_here t right e h)))
+]
+
+-- ---- what a verdict means
+
+judged_means : (p : Problem) (c : Certificate) (s : Option Spelled) (v : Verdict) → HasBound p c c.bound → Judges p c.bound s v → Means p v
+judged_means p c None NoPlan bound h = λ routes plan. no_plan_above c.version p c.neighbours c.tree routes (subst (λ (b : ℕ). HasBound p c b) h bound) plan
+judged_means p c None (BoundOnly told) bound h = λ routes plan. omega (arith, h.0, tree_bound_holds c.version p c.neighbours c.tree c.bound routes bound plan)
+judged_means p c None (Best cost) bound h = absurd h
+judged_means p c None (Gap cost told) bound h = absurd h
+judged_means p c (Some s) (Best cost) bound h = (
+  record { routes = s.0; plan = h.0; exact = h.2 ∙ h.1 },
+  λ routes plan. omega (arith, h.2, h.3, tree_bound_holds c.version p c.neighbours c.tree c.bound routes bound plan),
+)
+judged_means p c (Some s) (Gap cost told) bound h = (
+  record { routes = s.0; plan = h.0; exact = h.2 ∙ h.1 },
+  λ routes plan. omega (arith, h.3, tree_bound_holds c.version p c.neighbours c.tree c.bound routes bound plan),
+  elim (cases_lt told cost) [
+    | inl below ↦ below
+    | inr above ↦ absurd (h.4 (omega (arith, h.1, h.2, h.3, tree_bound_holds c.version p c.neighbours c.tree c.bound s.0 bound h.0)))
+  ],
+)
+judged_means p c (Some s) NoPlan bound h = absurd h
+judged_means p c (Some s) (BoundOnly told) bound h = absurd h
+
+-- what a verdict says of every plan
+pub means_here : (t : Texts) (r : Result Verdict CheckFault) → Checks t r → IfOk r (λ v. (p : Problem) → IsInstance t.instance p → Means p v)
+means_here t (Err e) h = tt
+means_here t (Ok v) h = λ p is.
+    subst (λ (q : Problem). Means q v) (one_problem t.instance h.0 p h.3.instance is) (judged_means h.0 h.1 h.2 v h.5 h.6)

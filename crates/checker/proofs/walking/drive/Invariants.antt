@@ -1,0 +1,5 @@
+use Rattle.solomon_reader.proofs.StepLemmas.{Walked}
+use Rattle.checker.proofs.walking.drive.Given as goal
+
+abbrev pub invariant-loop-stop : goal.invariant-loop-stop
+invariant-loop-stop l = Walked l.instance l.stops l.stop-index l.vehicle.stop l.vehicle.ready l.vehicle.cost l.vehicle.load

@@ -1,0 +1,3 @@
+pub mod Served
+pub mod Plans
+pub mod Checking

@@ -1,0 +1,92 @@
+//! Why texts are refused.
+
+ghost use Rattle.std.specs.Prelude.{◌≡◌};
+ghost use Rattle.checker.specs.declared.fault.CheckFault.TheVariants.{Memory};
+
+use certificate::CertFault;
+use sol_writer::SolFault;
+use solomon_reader::ReadFault;
+use std::alloc::{AllocError, AllocFailed};
+use tenths::Tenths;
+use thiserror::Error;
+
+/// Why routes are no plan. Of several that hold anywhere in the routes, the first in this order is
+/// told.
+#[derive(Clone, Copy, Debug, PartialEq, Eq, Error)]
+pub enum PlanWhy {
+    /// A route serves nobody.
+    #[error("EmptyRoute")]
+    EmptyRoute,
+    /// A route visits a number that is no customer's.
+    #[error("UnknownCustomer")]
+    UnknownCustomer,
+    /// A customer stands twice or more in the routes taken together.
+    #[error("Twice")]
+    Twice,
+    /// A customer stands in no route.
+    #[error("Missing")]
+    Missing,
+    /// The demands of a route are more than a vehicle holds.
+    #[error("OverCapacity")]
+    OverCapacity,
+    /// A route comes too late to a customer, or back to the depot.
+    #[error("Late")]
+    Late,
+    /// There are more routes than vehicles.
+    #[error("FleetExceeded")]
+    FleetExceeded,
+}
+
+/// Why the checker gives no verdict. The first is told in the order instance, certificate, solution,
+/// name, size, bound, plan, cost; `Memory` where a growth was refused, and `StateLimit` before the
+/// bound is known. Costs and bounds are tenths of a unit.
+#[derive(Clone, Copy, Debug, PartialEq, Eq, Error)]
+pub enum CheckFault {
+    /// Memory was refused.
+    #[error("Memory")]
+    Memory,
+    /// The first text is no instance.
+    #[error("Instance: {0}")]
+    Instance(ReadFault),
+    /// The second text is no certificate.
+    #[error("Certificate: {0}")]
+    Certificate(CertFault),
+    /// The third text is no solution.
+    #[error("Solution: {0}")]
+    Solution(SolFault),
+    /// The certificate names another instance.
+    #[error("OtherName")]
+    OtherName,
+    /// The certificate is for another number of customers.
+    #[error("OtherSize")]
+    OtherSize,
+    /// The printed bound isn't that of the tree.
+    #[error("BoundDiffers")]
+    BoundDiffers { printed: Tenths, derived: Tenths },
+    /// The routes are no plan.
+    #[error("PlanRefused: {0}")]
+    PlanRefused(PlanWhy),
+    /// The printed cost isn't that of the plan.
+    #[error("CostDiffers")]
+    CostDiffers { printed: Tenths, real: Tenths },
+    /// As many pairs of time and cost as the limit allows stand at once for a leaf, and one more has
+    /// to be kept.
+    #[error("StateLimit")]
+    StateLimit,
+}
+
+impl From<AllocError> for CheckFault {
+    ghost from_gives = { λ _ e. e ≡ Memory };
+
+    fn from(_e: AllocError) -> CheckFault {
+        CheckFault::Memory
+    }
+}
+
+impl<T: Drop> From<AllocFailed<T>> for CheckFault {
+    ghost from_gives = { λ _ e. e ≡ Memory };
+
+    fn from(_e: AllocFailed<T>) -> CheckFault {
+        CheckFault::Memory
+    }
+}

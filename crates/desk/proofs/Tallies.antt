@@ -1,0 +1,169 @@
+-- Tallies of lists.
+use Rattle.std.proofs.Common.{◌≡◌, refl, ℕ, ◌+◌, List, [], ◌∷◌, ◌++◌, arith, ap, ◌∙◌, sym, add-zero, add_comm, ◌<◌, length, take, map, Option, ◌-◌}
+use Rattle.std.proofs.lemmas.List.Sums.{sum_by-append, sum_by-cons}
+use Rattle.std.proofs.lemmas.List.{map-append, reverse-append, take_more}
+use Rattle.std.proofs.lemmas.List.FromFn.{map-range_with_len_more}
+use Rattle.std.proofs.Math.ListN.{get_or}
+use Rattle.std.specs.List.{sum_by}
+use Rattle.solomon_reader.specs.History.{Event}
+use Rattle.incumbent_book.specs.Contents.{event_of, past_of}
+use Rattle.incumbent_book.specs.declared.event.Event.{Event as Kept}
+use Rattle.desk.specs.Holding.{Holding}
+use Rattle.desk.specs.Account.{Account, opening_accounts, tally_of_shares}
+use Rattle.desk.specs.Tally.{Tally, plus, each, tally_by, tally_of, tally_of_event}
+
+cons_by : {X : Type 0} (f : X → ℕ) (x : X) (xs : List X) → sum_by f (x ∷ xs) ≡ sum_by f xs + f x
+cons_by f x xs = omega (arith, sum_by-cons f x xs)
+
+pub tally_by-cons : {X : Type 0} (f : X → Tally) (x : X) (xs : List X) → tally_by f (x ∷ xs) ≡ plus (tally_by f xs) (f x)
+unfolding tally_by plus
+tally_by-cons f x xs i = record {
+  accepted = cons_by (λ y. (f y).accepted) x xs i;
+  better = cons_by (λ y. (f y).better) x xs i;
+  repriced = cons_by (λ y. (f y).repriced) x xs i;
+  split = cons_by (λ y. (f y).split) x xs i;
+  workers = cons_by (λ y. (f y).workers) x xs i;
+  costs = cons_by (λ y. (f y).costs) x xs i;
+  values = cons_by (λ y. (f y).values) x xs i;
+  repriced_leaves = cons_by (λ y. (f y).repriced_leaves) x xs i;
+  split_leaves = cons_by (λ y. (f y).split_leaves) x xs i;
+  made = cons_by (λ y. (f y).made) x xs i;
+}
+
+one_by : {X : Type 0} (f : X → ℕ) (xs : List X) (x : X) → sum_by f (xs ++ x ∷ []) ≡ sum_by f xs + f x
+one_by f xs x = omega (arith, sum_by-append f xs (x ∷ []))
+
+pub tally_by-push : {X : Type 0} (f : X → Tally) (xs : List X) (x : X) → tally_by f (xs ++ x ∷ []) ≡ plus (tally_by f xs) (f x)
+unfolding tally_by plus
+tally_by-push f xs x i = record {
+  accepted = one_by (λ y. (f y).accepted) xs x i;
+  better = one_by (λ y. (f y).better) xs x i;
+  repriced = one_by (λ y. (f y).repriced) xs x i;
+  split = one_by (λ y. (f y).split) xs x i;
+  workers = one_by (λ y. (f y).workers) xs x i;
+  costs = one_by (λ y. (f y).costs) xs x i;
+  values = one_by (λ y. (f y).values) xs x i;
+  repriced_leaves = one_by (λ y. (f y).repriced_leaves) xs x i;
+  split_leaves = one_by (λ y. (f y).split_leaves) xs x i;
+  made = one_by (λ y. (f y).made) xs x i;
+}
+
+-- an event more, in the history and in the totals
+pub counted_more : (past : List Event) (event : Event) (before after : Tally) (new : List Event) → tally_of past ≡ before → new ≡ event ∷ past → after ≡ plus before (tally_of_event event) → tally_of new ≡ after
+counted_more past event before after new was longer more = rw (longer, tally_by-cons tally_of_event event past, was, more) refl
+
+pub plus_none : (a : Tally) → plus a (each 0) ≡ a
+unfolding plus each
+plus_none a i = record {
+  accepted = add-zero a.accepted i;
+  better = add-zero a.better i;
+  repriced = add-zero a.repriced i;
+  split = add-zero a.split i;
+  workers = add-zero a.workers i;
+  costs = add-zero a.costs i;
+  values = add-zero a.values i;
+  repriced_leaves = add-zero a.repriced_leaves i;
+  split_leaves = add-zero a.split_leaves i;
+  made = add-zero a.made i;
+}
+
+swap_one : (a b c : ℕ) → a + b + c ≡ a + (c + b)
+swap_one a b c = omega arith
+
+swapped : (a b c : Tally) → plus (plus a b) c ≡ plus a (plus c b)
+unfolding plus
+swapped a b c i = record {
+  accepted = swap_one a.accepted b.accepted c.accepted i;
+  better = swap_one a.better b.better c.better i;
+  repriced = swap_one a.repriced b.repriced c.repriced i;
+  split = swap_one a.split b.split c.split i;
+  workers = swap_one a.workers b.workers c.workers i;
+  costs = swap_one a.costs b.costs c.costs i;
+  values = swap_one a.values b.values c.values i;
+  repriced_leaves = swap_one a.repriced_leaves b.repriced_leaves c.repriced_leaves i;
+  split_leaves = swap_one a.split_leaves b.split_leaves c.split_leaves i;
+  made = swap_one a.made b.made c.made i;
+}
+
+none_one : (b : ℕ) → 0 + b ≡ b
+none_one b = omega arith
+
+pub none_plus : (b : Tally) → plus (each 0) b ≡ b
+unfolding plus each
+none_plus b i = record {
+  accepted = none_one b.accepted i;
+  better = none_one b.better i;
+  repriced = none_one b.repriced i;
+  split = none_one b.split i;
+  workers = none_one b.workers i;
+  costs = none_one b.costs i;
+  values = none_one b.values i;
+  repriced_leaves = none_one b.repriced_leaves i;
+  split_leaves = none_one b.split_leaves i;
+  made = none_one b.made i;
+}
+
+pub tally_by-none : {X : Type 0} (f : X → Tally) → tally_by f [] ≡ each 0
+unfolding tally_by each
+tally_by-none f = refl
+
+plus_swap : (a b : Tally) → plus a b ≡ plus b a
+unfolding plus
+plus_swap a b i = record {
+  accepted = add_comm a.accepted b.accepted i;
+  better = add_comm a.better b.better i;
+  repriced = add_comm a.repriced b.repriced i;
+  split = add_comm a.split b.split i;
+  workers = add_comm a.workers b.workers i;
+  costs = add_comm a.costs b.costs i;
+  values = add_comm a.values b.values i;
+  repriced_leaves = add_comm a.repriced_leaves b.repriced_leaves i;
+  split_leaves = add_comm a.split_leaves b.split_leaves i;
+  made = add_comm a.made b.made i;
+}
+
+-- a share more, merged or still among the others
+pub merged : (f : Account → Tally) (xs : List Account) (x : Account) (a : Tally) → plus (plus a (f x)) (tally_by f xs) ≡ plus a (tally_by f (xs ++ x ∷ []))
+merged f xs x a = rw (tally_by-push f xs x) (swapped a (f x) (tally_by f xs))
+
+-- the last of some shares, and the others
+pub gather_first : (all rest : List Account) (last : Account) → all ≡ rest ++ last ∷ [] → plus last.tally (tally_of_shares rest) ≡ tally_of_shares all
+gather_first all rest last are = rw are (sym (tally_by-push (λ (s : Account). s.tally) rest last ∙ plus_swap (tally_of_shares rest) last.tally))
+
+-- one more of the others
+pub gather_more : (before after : List Account) (share : Account) (tally : Tally) → before ≡ after ++ share ∷ [] → plus (plus tally share.tally) (tally_of_shares after) ≡ plus tally (tally_of_shares before)
+gather_more before after share tally are = rw are (merged (λ (s : Account). s.tally) after share tally)
+
+-- none of the others
+pub gather_all : (others : List Account) (tally : Tally) → others ≡ [] → plus tally (tally_of_shares others) ≡ tally
+gather_all others tally none = rw (none, tally_by-none (λ (s : Account). s.tally)) (plus_none tally)
+
+-- the events so far, and one more
+past_of-more : (history : List Kept) (i : ℕ) (event : Kept) → i < length history → event ≡ get_or history i event → past_of (take (i + 1) history) ≡ event_of event ∷ past_of (take i history)
+past_of-more history i event h is =
+    rw (take_more history i event h, map-append event_of (take i history) (get_or history i event ∷ []), reverse-append (map event_of (take i history)) (event_of (get_or history i event) ∷ []))
+    (ap (λ (e : Kept). event_of e ∷ past_of (take i history)) (sym is))
+
+pub tally_of-more : (history : List Kept) (i : ℕ) (event : Kept) → i < length history → event ≡ get_or history i event
+    → plus (tally_of (past_of (take i history))) (tally_of_event (event_of event)) ≡ tally_of (past_of (take (i + 1) history))
+tally_of-more history i event h is = rw (past_of-more history i event h is) (sym (tally_by-cons tally_of_event (event_of event) (past_of (take i history))))
+
+-- a share with this tally
+abbrev pub with : Account → Tally → Account
+with s tally = record { worker = s.worker; tally = tally; cost = s.cost; bound = s.bound }
+
+pub with_more : (s : Account) (history : List Kept) (i : ℕ) (event : Kept) → i < length history → event ≡ get_or history i event
+    → with s (plus (tally_of (past_of (take i history))) (tally_of_event (event_of event))) ≡ with s (tally_of (past_of (take (i + 1) history)))
+with_more s history i event h is = ap (with s) (tally_of-more history i event h is)
+
+-- the shares of so many workers, and of one more
+pub opening_accounts_more : (workers : ℕ) (before : Tally) (cost : Option ℕ) (bound : ℕ) → 0 < workers
+    → opening_accounts (workers + 1) before cost bound ≡ opening_accounts workers before cost bound ++ record { worker = workers; tally = each 0; cost = cost; bound = bound } ∷ []
+opening_accounts_more workers before cost bound some =
+    let other : ℕ → Account = λ i. record { worker = i; tally = each 0; cost = cost; bound = bound } in
+    let first : Account = record { worker = 0; tally = before; cost = cost; bound = bound } in
+    let one : workers + 1 - 1 ≡ workers - 1 + 1 = omega arith in
+    rw one (ap (λ (others : List Account). first ∷ others) (map-range_with_len_more other 1 (workers - 1) workers (omega arith)))
+
+pub holding : (h : Holding) (parts : ℕ) (tally : Tally) → h.parts ≡ parts → h.tally ≡ tally → h ≡ record { parts = parts; tally = tally }
+holding h parts tally p q i = record { parts = p i; tally = q i }

@@ -1,0 +1,107 @@
+-- What the replies of a book say of plans and of instances.
+use Rattle.std.proofs.Common.{◌≡◌, ℕ, ◌<◌, ◌≤◌, List, ◌∷◌, Option, Some, None, MatchOption, arith, refl, ◌∙◌, inl, inr}
+use Rattle.std.specs.Prelude.{option_map, Err}
+use Rattle.std.proofs.lemmas.Bool.{cases_lt}
+use Rattle.solomon_reader.specs.Problem.{Problem}
+use Rattle.solomon_reader.specs.AmongLaws.{among_all}
+use Rattle.solomon_reader.specs.Duality.{IsBelowPlans, IsPlanCost}
+use Rattle.solomon_reader.specs.History.{Event, costs_of, IsBestCost, IsCheaper}
+use Rattle.solomon_reader.specs.Plan.{Arc}
+use Rattle.schedule.specs.Solution.{Solution, IsSolution}
+use Rattle.prices.specs.Pricing.{Pricing}
+use Rattle.incumbent_book.specs.Contents.{Contents, IsBook, IsOfProblem}
+use Rattle.incumbent_book.specs.Faults.{Call, offer, reprice, split, IsOfInstance, IsAccepted, IsRefusedFor}
+use Rattle.incumbent_book.specs.Replies as book
+use Rattle.incumbent_book.specs.declared.fault.BookFault.{BookFault}
+use Rattle.incumbent_book.specs.declared.fault.BookFault.TheVariants.{Memory, ForeignInstance, JournalFull, NotALeaf, WrongRegion, NotHigher, Lower, LeavesFull, TooDeep}
+use Rattle.incumbent_book.proofs.Histories.{below-cheaper, best-kept}
+use Rattle.desk.specs.Tally.{Tally, plus, tally_of_event}
+use Rattle.desk.specs.Account.{Account, IsSeen}
+use Rattle.desk.specs.Opening.{IsCounted}
+use Rattle.desk.specs.Replies.{TellsForeign, IsPricedFor, Offers, Reprices, Splits}
+use Rattle.desk.proofs.Tallies.{counted_more}
+
+plan_cost_of : (p : Problem) (s : Solution) → IsSolution s → s.problem ≡ p → IsPlanCost p s.cost
+plan_cost_of p s is same = record { routes = s.routes; plan = rw same at is.plan; exact = rw same at is.exact }
+
+-- two best costs are equal
+best_unique : (past : List Event) (a b : ℕ) → IsBestCost past (Some a) → IsBestCost past (Some b) → a ≡ b
+best_unique past a b p q =
+    let l : a ≤ b = among_all (λ other. a ≤ other) (costs_of past) p.1 b q.0 in
+    let r : b ≤ a = among_all (λ other. b ≤ other) (costs_of past) q.1 a p.0 in
+    omega arith
+
+of_incumbent : (b : Contents) (incumbent : Option Solution) (best : ℕ) → IsOfProblem b.problem incumbent → IsBestCost b.past (option_map (λ s. s.cost) incumbent) → IsBestCost b.past (Some best)
+    → IsPlanCost b.problem best
+of_incumbent b None best of is found = absurd (rw is at found.0)
+of_incumbent b (Some s) best of is found =
+    let same : s.cost ≡ best = best_unique b.past s.cost best is found in
+    rw same at (plan_cost_of b.problem s of.0 of.1)
+
+-- the best cost of a book is a plan's
+pub best_of_plan : (b : Contents) (best : ℕ) → IsBook b → IsBestCost b.past (Some best) → IsPlanCost b.problem best
+best_of_plan b best is found = of_incumbent b b.incumbent best is.plan is.best found
+
+-- an offer that isn't cheaper leaves the best cost, a plan's
+pub kept_of_plan : (b new : Contents) (worker cost best : ℕ) → IsBook new → new ≡ book.with_offer b worker cost → ¬ IsCheaper b.past cost → IsBestCost b.past (Some best) → IsPlanCost b.problem best
+kept_of_plan b new worker cost best is same dearer found = best_of_plan (book.with_offer b worker cost) best (rw same at is) (best-kept b.past worker cost (Some best) found dearer)
+
+-- what a book tells of plans
+pub seen_at : (b : Contents) (best : Option ℕ) (bound : ℕ) → IsBook b → IsBestCost b.past best → IsBelowPlans b.problem bound → IsSeen b.problem best bound
+seen_at b None bound is found below = record { of_plan = tt; below = below }
+seen_at b (Some best) bound is found below = record { of_plan = best_of_plan b best is found; below = below }
+
+-- the best cost is at most that of an offer which isn't cheaper
+pub best_at_most : (past : List Event) (cost best : ℕ) → ¬ IsCheaper past cost → IsBestCost past (Some best) → best ≤ cost
+best_at_most past cost best dearer is = elim (cases_lt cost best) [
+  | inl below ↦ absurd (dearer (below-cheaper past cost best is below))
+  | inr above ↦ above
+]
+
+-- a cheaper offer is below the best cost before it
+pub cheaper_below : (past : List Event) (cost : ℕ) (before : Option ℕ) → IsCheaper past cost → IsBestCost past before → MatchOption before (Unit {0}) (λ best. cost < best)
+cheaper_below past cost None cheaper is = tt
+cheaper_below past cost (Some best) cheaper is = among_all (λ other. cost < other) (costs_of past) cheaper best is.0
+
+-- a book refuses what is of another instance for just that
+pub tells_foreign : (b : Contents) (call : Call) (fault : BookFault) → IsRefusedFor b call fault → TellsForeign (IsOfInstance b call) fault
+tells_foreign b call Memory told = told.met ForeignInstance (omega arith)
+tells_foreign b call ForeignInstance told = told.0
+tells_foreign b call JournalFull told = told.1.met ForeignInstance (omega arith)
+tells_foreign b call NotALeaf told = told.1.met ForeignInstance (omega arith)
+tells_foreign b call WrongRegion told = told.1.met ForeignInstance (omega arith)
+tells_foreign b call NotHigher told = told.1.met ForeignInstance (omega arith)
+tells_foreign b call Lower told = told.1.met ForeignInstance (omega arith)
+tells_foreign b call LeavesFull told = told.1.met ForeignInstance (omega arith)
+tells_foreign b call TooDeep told = told.1.met ForeignInstance (omega arith)
+
+-- a book of our instance and number of neighbours
+module _ (p : Problem) (k : ℕ) (b : Contents) (before : Tally) (is : IsCounted p k b before) where
+  -- the totals are those of the history again, where both have the same event more
+  pub counted_call : (new : Contents) (event : Event) (after : Tally) → new.past ≡ event ∷ b.past → new.problem ≡ b.problem → new.neighbours ≡ b.neighbours → after ≡ plus before (tally_of_event event)
+      → IsCounted p k new after
+  counted_call new event after longer problem neighbours more =
+      record { counted = counted_more b.past event before after new.past is.counted longer more; problem = problem ∙ is.problem; neighbours = neighbours ∙ is.neighbours }
+
+  -- a refusal changes no share
+  pub refused_offer : (worker : ℕ) (plan : Solution) (refused : Solution × BookFault) (new : Contents) (mine : Account) → book.Offers b worker plan (Err refused) new → Offers p mine plan (Err refused) mine
+  refused_offer worker plan refused new mine told = (rw is.problem at (tells_foreign b (offer plan) refused.1 told.0), told.1, refl)
+
+  pub refused_reprice : (worker m : ℕ) (f : Pricing) (refused : Pricing × BookFault) (new : Contents) (mine : Account) → book.Reprices b worker m f (Err refused) new → Reprices p k mine m f (Err refused) mine
+  refused_reprice worker m f refused new mine told = (rw is.problem at (tells_foreign b (reprice m f) refused.1 told.0), told.1, refl)
+
+  pub refused_split : (worker m : ℕ) (a : Arc) (x y : Pricing) (refused : Pricing × Pricing × BookFault) (new : Contents) (mine : Account) → book.Splits b worker m a x y (Err refused) new
+      → Splits p k mine m a x y (Err refused) mine
+  refused_split worker m a x y refused new mine told = (rw is.problem at (tells_foreign b (split m a x y) refused.2 told.0), told.1, told.2, refl)
+
+  -- what is accepted is ours
+  pub accepted_reprice : (m : ℕ) (f : Pricing) → IsAccepted b (reprice m f) → IsPricedFor p k f
+  accepted_reprice m f accepted = record { problem = accepted.met ForeignInstance (omega arith) ∙ is.problem; neighbours = (accepted.met WrongRegion (omega arith)).neighbours ∙ is.neighbours }
+
+  pub accepted_used : (m : ℕ) (a : Arc) (x y : Pricing) → IsAccepted b (split m a x y) → IsPricedFor p k x
+  accepted_used m a x y accepted =
+      record { problem = (accepted.met ForeignInstance (omega arith)).0 ∙ is.problem; neighbours = (accepted.met WrongRegion (omega arith)).used.neighbours ∙ is.neighbours }
+
+  pub accepted_unused : (m : ℕ) (a : Arc) (x y : Pricing) → IsAccepted b (split m a x y) → IsPricedFor p k y
+  accepted_unused m a x y accepted =
+      record { problem = (accepted.met ForeignInstance (omega arith)).1 ∙ is.problem; neighbours = (accepted.met WrongRegion (omega arith)).unused.neighbours ∙ is.neighbours }

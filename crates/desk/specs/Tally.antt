@@ -1,0 +1,71 @@
+-- Counts and sums over a history.
+use Rattle.std.specs.Prelude.{ℕ, ◌+◌, List, if◌then◌else◌}
+use Rattle.std.specs.List.{sum_by}
+use Rattle.solomon_reader.specs.History.{Event, offered, repriced, branched}
+
+-- The accepted offers, the better ones, the reprices and the splits; and sums: of the worker's number, once for each accepted call, of the costs offered,
+-- of the reprices' values, of the leaves that the reprices named, of those that the splits named, and of the numbers that the splits made.
+pub record Tally : Type 0 where
+  pub accepted : ℕ
+  pub better : ℕ
+  pub repriced : ℕ
+  pub split : ℕ
+  pub workers : ℕ
+  pub costs : ℕ
+  pub values : ℕ
+  pub repriced_leaves : ℕ
+  pub split_leaves : ℕ
+  pub made : ℕ
+
+-- ten times the same number
+unfoldable pub each : ℕ → Tally
+each n = record { accepted = n; better = n; repriced = n; split = n; workers = n; costs = n; values = n; repriced_leaves = n; split_leaves = n; made = n }
+
+-- number by number
+unfoldable pub plus : Tally → Tally → Tally
+plus a b =
+    record {
+      accepted = a.accepted + b.accepted;
+      better = a.better + b.better;
+      repriced = a.repriced + b.repriced;
+      split = a.split + b.split;
+      workers = a.workers + b.workers;
+      costs = a.costs + b.costs;
+      values = a.values + b.values;
+      repriced_leaves = a.repriced_leaves + b.repriced_leaves;
+      split_leaves = a.split_leaves + b.split_leaves;
+      made = a.made + b.made;
+    }
+
+-- what a split adds
+abbrev pub split_tally : (worker leaf used unused : ℕ) → Tally
+split_tally worker leaf used unused =
+    record { accepted = 0; better = 0; repriced = 0; split = 1; workers = worker; costs = 0; values = 0; repriced_leaves = 0; split_leaves = leaf; made = used + unused }
+
+-- what an event adds
+abbrev pub tally_of_event : Event → Tally
+tally_of_event (offered worker cost better) =
+    record { accepted = 1; better = if better then 1 else 0; repriced = 0; split = 0; workers = worker; costs = cost; values = 0; repriced_leaves = 0; split_leaves = 0; made = 0 }
+tally_of_event (repriced worker leaf value) =
+    record { accepted = 0; better = 0; repriced = 1; split = 0; workers = worker; costs = 0; values = value; repriced_leaves = leaf; split_leaves = 0; made = 0 }
+tally_of_event (branched worker leaf a used unused x y) = split_tally worker leaf used unused
+
+-- the sum of the tallies of the elements
+unfoldable pub tally_by : {X : Type 0} → (X → Tally) → List X → Tally
+tally_by f xs =
+    record {
+      accepted = sum_by (λ x. (f x).accepted) xs;
+      better = sum_by (λ x. (f x).better) xs;
+      repriced = sum_by (λ x. (f x).repriced) xs;
+      split = sum_by (λ x. (f x).split) xs;
+      workers = sum_by (λ x. (f x).workers) xs;
+      costs = sum_by (λ x. (f x).costs) xs;
+      values = sum_by (λ x. (f x).values) xs;
+      repriced_leaves = sum_by (λ x. (f x).repriced_leaves) xs;
+      split_leaves = sum_by (λ x. (f x).split_leaves) xs;
+      made = sum_by (λ x. (f x).made) xs;
+    }
+
+-- the counts and sums over a history
+abbrev pub tally_of : List Event → Tally
+tally_of past = tally_by tally_of_event past

@@ -1,0 +1,127 @@
+-- What a walk along a list has found so far.
+use Rattle.std.proofs.Common.{◌≡◌, refl, ℕ, ◌+◌, ◌*◌, ◌<◌, ◌≤◌, List, [], ◌∷◌, length, take, drop, get_or, arith, ap, sym, ◌∙◌, add-one, drop-cons}
+use Rattle.std.specs.List.{All, sum_by}
+use Rattle.std.proofs.lemmas.List.{drop_all, take_all}
+use Rattle.std.proofs.lemmas.List.Sums.{sum_by_more, sum_by_more_le, sum_by-cons}
+use Rattle.std.proofs.lemmas.List.Elements.{recursion_from_All}
+use Rattle.solomon_reader.specs.declared.limits.TheConstants.{MOST_TIME}
+use Rattle.solomon_reader.specs.Problem.{Problem, IsCustomer, demand, ready, due, service}
+use Rattle.solomon_reader.specs.Distance.{distance}
+use Rattle.solomon_reader.specs.Plan.{IsFitting, Finishes, Walks, load_of, route_cost, arcs_from, Arc}
+use Rattle.solomon_reader.specs.Steps.{start_of, CanServe}
+
+abbrev pub arc_cost : Problem → Arc → ℕ
+arc_cost p a = distance p a.0 a.1
+
+-- some times lead from i, left at t, along r to the return at f
+pub record Returns (p : Problem) (i t : ℕ) (r : List ℕ) (f : ℕ) : Type 0 where
+  pub times : List ℕ
+  pub walks : Walks p i t r times f
+
+on_with : (p : Problem) (i t j : ℕ) (r bs : List ℕ) (f : ℕ) → Walks p i t (j ∷ r) bs f
+    → (start_of p i t j ≤ due p j) × Returns p j (start_of p i t j + service p j) r f
+on_with p i t j r [] f w = absurd w
+on_with p i t j r (b ∷ bs) f w =
+    let same : start_of p i t j ≡ b = sym w.0 in
+    (omega (arith, same, w.1), record { times = bs; walks = rw same w.2 })
+
+pub step_on : (p : Problem) (i t j : ℕ) (r : List ℕ) (f : ℕ) → Returns p i t (j ∷ r) f
+    → (start_of p i t j ≤ due p j) × Returns p j (start_of p i t j + service p j) r f
+step_on p i t j r f w = on_with p i t j r w.times f w.walks
+
+pub step_back : (p : Problem) (i t j : ℕ) (r : List ℕ) (f : ℕ) → start_of p i t j ≤ due p j
+    → Returns p j (start_of p i t j + service p j) r f → Returns p i t (j ∷ r) f
+step_back p i t j r f h w = record { times = start_of p i t j ∷ w.times; walks = (refl, h, w.walks) }
+
+ends_with_times : (p : Problem) (i t : ℕ) (bs : List ℕ) (f : ℕ) → Walks p i t [] bs f → f ≡ t + distance p i 0
+ends_with_times p i t [] f w = w
+ends_with_times p i t (b ∷ bs) f w = absurd w
+
+pub ends : (p : Problem) (i t f : ℕ) → Returns p i t [] f → f ≡ t + distance p i 0
+ends p i t f w = ends_with_times p i t w.times f w.walks
+
+pub record Walked (p : Problem) (visits : List ℕ) (n at time cost load : ℕ) : Type 0 where
+  pub within : n ≤ length visits
+  pub at_row : at < length p.rows
+  pub load_is : load ≡ load_of p (take n visits)
+  pub load_fits : load ≤ p.capacity
+  pub cost_is : route_cost p visits ≡ cost + sum_by (arc_cost p) (arcs_from at (drop n visits))
+  pub cost_le : cost ≤ time
+  pub time_le : time ≤ 20 * MOST_TIME
+  pub onward : (f : ℕ) → Returns p 0 (ready p 0) visits f → Returns p at time (drop n visits) f
+  pub back : (f : ℕ) → Returns p at time (drop n visits) f → Returns p 0 (ready p 0) visits f
+
+pub walked_none : (p : Problem) (visits : List ℕ) → 0 < length p.rows → ready p 0 ≤ 10 * MOST_TIME → Walked p visits 0 0 (ready p 0) 0 0
+walked_none p visits some early = record {
+  within = omega arith;
+  at_row = some;
+  load_is = refl;
+  load_fits = omega arith;
+  cost_is = omega arith;
+  cost_le = omega arith;
+  time_le = omega arith;
+  onward = λ f w. w;
+  back = λ f w. w;
+}
+
+module _ (p : Problem) (visits : List ℕ) (n at time cost load stop : ℕ) (so_far : Walked p visits n at time cost load)
+    (more : n < length visits) (is_stop : stop ≡ get_or visits n 0) where
+  splits : drop n visits ≡ stop ∷ drop (n + 1) visits
+  splits = rw (is_stop, add-one) (drop-cons visits n 0 more)
+
+  load_more : load_of p (take (n + 1) visits) ≡ load + demand p stop
+  load_more = rw (sum_by_more (demand p) visits n 0 more, ← is_stop, ← so_far.load_is) refl
+
+  pub refused : ¬ CanServe p at time load stop → ¬ IsFitting p visits
+  refused cannot fit =
+      let w = fit.walk in
+      let on = rw splits at (so_far.onward w.0 (record { times = w.1.times; walks = w.1.walks })) in
+      cannot (record {
+        light = omega (arith, fit.load, so_far.load_is, rw (← is_stop) at (sum_by_more_le (demand p) visits n 0 more));
+        timely = (step_on p at time stop (drop (n + 1) visits) w.0 on).0;
+      })
+
+  pub walked_more : IsCustomer p stop → CanServe p at time load stop → start_of p at time stop + service p stop ≤ 20 * MOST_TIME
+      → Walked p visits (n + 1) stop (start_of p at time stop + service p stop) (cost + distance p at stop) (load + demand p stop)
+  walked_more customer can early = record {
+    within = omega arith;
+    at_row = omega (arith, customer.0, customer.1);
+    load_is = sym load_more;
+    load_fits = can.light;
+    cost_is = omega (arith, so_far.cost_is, ap (λ (r : List ℕ). sum_by (arc_cost p) (arcs_from at r)) splits, sum_by-cons (arc_cost p) (at, stop) (arcs_from stop (drop (n + 1) visits)));
+    cost_le = omega (arith, so_far.cost_le);
+    time_le = early;
+    onward = λ f w. (step_on p at time stop (drop (n + 1) visits) f (rw splits at (so_far.onward f w))).1;
+    back = λ f w. so_far.back f (rw splits (step_back p at time stop (drop (n + 1) visits) f can.timely w));
+  }
+
+module _ (p : Problem) (visits : List ℕ) (n at time cost load : ℕ) (so_far : Walked p visits n at time cost load) (all : n ≡ length visits) where
+  rest_is : drop n visits ≡ []
+  rest_is = drop_all n visits (omega arith)
+
+  pub whole : take n visits ≡ visits
+  whole = take_all n visits (omega arith)
+
+  pub closed : due p 0 < time + distance p at 0 → ¬ IsFitting p visits
+  closed late fit =
+      let w = fit.walk in
+      omega (arith, w.1.closing, ends p at time w.0 (rw rest_is at (so_far.onward w.0 (record { times = w.1.times; walks = w.1.walks }))))
+
+  pub finishes : time + distance p at 0 ≤ due p 0 → Finishes p visits (time + distance p at 0)
+  finishes timely =
+      let w = so_far.back (time + distance p at 0) (rw rest_is (record { times = []; walks = refl })) in
+      record { times = w.times; walks = w.walks; closing = timely }
+
+  pub cost_at_end : route_cost p visits ≡ cost + distance p at 0
+  cost_at_end = omega (arith, so_far.cost_is, ap (λ (r : List ℕ). sum_by (arc_cost p) (arcs_from at r)) rest_is)
+
+  pub load_at_end : load ≡ load_of p visits
+  load_at_end = so_far.load_is ∙ ap (load_of p) whole
+
+  pub fitting : 0 < length visits → All (λ i. IsCustomer p i) visits → time + distance p at 0 ≤ due p 0 → IsFitting p visits
+  fitting some known timely = record {
+    some = some;
+    known = recursion_from_All (IsCustomer p) visits known;
+    load = omega (arith, load_at_end, so_far.load_fits);
+    walk = (time + distance p at 0, finishes timely);
+  }

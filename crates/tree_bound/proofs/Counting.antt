@@ -1,0 +1,62 @@
+-- Counting over a range, and ranks.
+use Rattle.std.proofs.Common.{◌≡◌, ℕ, zero, suc, ◌+◌, ◌-◌, ◌<◌, ◌≤◌, min, Bool, true, false, cond, arith, ap, ◌∙◌, inl, inr}
+use Rattle.std.specs.List.{count_by, range_with_len}
+use Rattle.std.proofs.lemmas.List.Sums.{sum_by-cons}
+use Rattle.std.proofs.lemmas.Bool.{cases_Bool, cases_lt, cases_eq}
+use Rattle.solomon_reader.specs.Problem.{Problem, customer_count}
+use Rattle.solomon_reader.specs.Remembering.{ahead}
+use Rattle.solomon_reader.specs.Relaxed.{rank}
+
+count_from : (f : ℕ → Bool) (n a : ℕ) → count_by f (range_with_len a (suc n)) ≡ count_by f (range_with_len a n) + cond (f (a + n)) 1 0
+count_from f zero a = let e : a + 0 ≡ a = omega arith in rw e (omega arith)
+count_from f (suc n) a =
+    let e : (a + 1) + n ≡ a + suc n = omega arith in
+    let onward = rw e at (count_from f n (a + 1)) in
+    omega (arith, onward, sum_by-cons (λ x. cond (f x) 1 0) a (range_with_len (a + 1) (suc n)), sum_by-cons (λ x. cond (f x) 1 0) a (range_with_len (a + 1) n))
+
+module _ (f : ℕ → Bool) (w found : ℕ) (positive : 1 ≤ w) (so_far : found ≡ count_by f (range_with_len 1 (w - 1))) where
+  one_more : count_by f (range_with_len 1 (w + 1 - 1)) ≡ count_by f (range_with_len 1 (w - 1)) + cond (f w) 1 0
+  one_more =
+      let e : w + 1 - 1 ≡ suc (w - 1) = omega arith in
+      let at : 1 + (w - 1) ≡ w = omega arith in
+      rw e (rw at at (count_from f (w - 1) 1))
+
+  pub counted_yes : f w ≡ true → found + 1 ≡ count_by f (range_with_len 1 (w + 1 - 1))
+  counted_yes h = omega (arith, so_far, rw h at one_more)
+
+  pub counted_no : f w ≡ false → found ≡ count_by f (range_with_len 1 (w + 1 - 1))
+  counted_no h = omega (arith, so_far, rw h at one_more)
+
+count_grows : (f : ℕ → Bool) (m n : ℕ) → m ≤ n → count_by f (range_with_len 1 m) ≤ count_by f (range_with_len 1 n)
+count_grows f m zero le = let e : m ≡ 0 = omega arith in rw e (omega arith)
+count_grows f m (suc n) le = elim (cases_lt n m) [
+  | inl past ↦ (let e : m ≡ suc n = omega arith in rw e (omega arith))
+  | inr below ↦ omega (arith, count_grows f m n below, count_from f n 1)
+]
+
+module _ (p : Problem) (v u k w found : ℕ) (so_far : found ≡ count_by (ahead p v u) (range_with_len 1 (w - 1))) where
+  pub ranked_far : w - 1 ≤ customer_count p → k ≤ found → k ≡ min (rank p v u) k
+  ranked_far within enough = omega (arith, so_far, enough, count_grows (ahead p v u) (w - 1) (customer_count p) within)
+
+  pub ranked_whole : w - 1 ≡ customer_count p → found ≤ k → found ≡ min (rank p v u) k
+  ranked_whole all few = let e : found ≡ rank p v u = so_far ∙ ap (λ (n : ℕ). count_by (ahead p v u) (range_with_len 1 n)) all in omega (arith, e, few)
+
+-- where each number that f takes g takes too, g takes no fewer
+count_le : (f g : ℕ → Bool) → ((w : ℕ) → f w ≡ true → g w ≡ true) → (n : ℕ) → count_by f (range_with_len 1 n) ≤ count_by g (range_with_len 1 n)
+count_le f g less zero = omega arith
+count_le f g less (suc n) = elim (cases_Bool (f (1 + n))) [
+  | inl h ↦ omega (arith, count_le f g less n, rw h at (count_from f n 1), rw (less (1 + n) h) at (count_from g n 1))
+  | inr h ↦ omega (arith, count_le f g less n, rw h at (count_from f n 1), count_from g n 1)
+]
+
+-- and where g takes one that f doesn't, g takes more
+pub count_less : (f g : ℕ → Bool) → ((w : ℕ) → f w ≡ true → g w ≡ true) → (x : ℕ) → 1 ≤ x → f x ≡ false → g x ≡ true
+    → (n : ℕ) → x ≤ n → count_by f (range_with_len 1 n) < count_by g (range_with_len 1 n)
+count_less f g less x low out here zero within = absurd (omega arith)
+count_less f g less x low out here (suc n) within = elim (cases_eq x (1 + n)) [
+  | inl same ↦ omega (arith, count_le f g less n, rw (rw same at out) at (count_from f n 1), rw (rw same at here) at (count_from g n 1))
+  | inr apart ↦ (let before = count_less f g less x low out here n (omega (arith, within, apart)) in elim (cases_Bool (f (1 + n))) [
+    | inl h ↦ omega (arith, before, rw h at (count_from f n 1), rw (less (1 + n) h) at (count_from g n 1))
+    | inr h ↦ omega (arith, before, rw h at (count_from f n 1), count_from g n 1)
+  ])
+]

@@ -1,0 +1,172 @@
+-- Loads are worked, the lowest first.
+use Rattle.std.proofs.Common.{◌≡◌, refl, ℕ, ◌+◌, ◌<◌, ◌≤◌, true, false, List, [], ◌++◌, length, subst, arith, ap, sym, ◌∙◌, ◌⊎◌, inl, inr, Option, Some, None, replicate, ◌∷◌}
+use Rattle.std.specs.Prelude.{ℤ, pos}
+use Rattle.std.specs.List.{AllByRecursion}
+use Rattle.std.proofs.Math.ListN.{set, length-set}
+use Rattle.std.proofs.lemmas.Int.{ints}
+use Rattle.std.proofs.lemmas.Bool.{cases_lt, cases_eq}
+use Rattle.std.proofs.lemmas.List.{get_or_past, get_or-set_other, get_or-replicate, length-replicate}
+use Rattle.std.proofs.lemmas.List.Elements.{All-from_recursion, All-weaker}
+use Rattle.solomon_reader.specs.Problem.{Problem, customer_count, ready}
+use Rattle.solomon_reader.specs.Layout.{IsWithinLimits}
+use Rattle.solomon_reader.specs.Region.{Region}
+use Rattle.solomon_reader.specs.Relaxed.{IsLeastOrZero}
+use Rattle.solomon_reader.specs.States.{State, start, step, CanStep, CanEnd, IsAsGood, IsSameState}
+use Rattle.solomon_reader.specs.CertificateText.{IsPrice}
+use Rattle.solomon_reader.proofs.BoundedRows.{customer_row}
+use Rattle.solomon_reader.proofs.Completions.{reaches_none}
+use Rattle.tree_bound.specs.declared.arcs.AllowedArc.{AllowedArc}
+use Rattle.tree_bound.specs.declared.label.Label.{Label}
+use Rattle.tree_bound.specs.Cover.{IsFound, or_zero}
+use Rattle.tree_bound.specs.Memories.{bit_in}
+use Rattle.tree_bound.specs.Labels.{label_in, labels_at, state_of, IsBounded, IsLabel, IsTable, AreLabels, Waits, StandsFrom, IsMet}
+use Rattle.tree_bound.specs.Arcs.{IsPriced, IsPricing, AreAllowedArcs, arc_in, TakesSteps, ClosesRoute, IsDone, IsWorked, IsSwept, route_value}
+use Rattle.solomon_reader.proofs.Goodness.{good_itself, good_same, reaches_same, completes_too, value_no_greater}
+use Rattle.tree_bound.proofs.Covering.{covers_moved, covers_worked, least_at_end}
+use Rattle.tree_bound.proofs.Leading.{leads_index}
+use Rattle.tree_bound.proofs.Remembered.{has_nothing}
+
+module _ (p : Problem) (g : Region) (k : ℕ) (prices : List ℤ) where
+  -- all steps of a row were taken
+  pub done_of : (bs cs : List (List Label)) (q : ℕ) (x : Label) (b c : Option ℤ) (hs : List AllowedArc) → AreAllowedArcs p g k prices x.customer (length p.rows) hs
+      → ClosesRoute p g k q x b c → TakesSteps p g k prices bs cs q x hs (length hs) → IsDone p g k prices bs cs q x b c
+  done_of bs cs q x b c hs arcs closes steps = record {
+    closes = closes;
+    moved = steps.moved;
+    table = steps.table;
+    met = λ j can. (let m = leads_index hs j (arcs.all j (omega (arith, can.customer.1, can.customer.0)) can.customer can.allowed) in at m.0 j m.1.0 m.1.1 can);
+  }
+    where
+      at : (m j : ℕ) → m < length hs → (arc_in hs m).to ≡ j → CanStep p g (state_of p k q x) j → IsMet p k cs (q + 1) (step p k prices (state_of p k q x) j)
+      at m j w e can = subst (λ (n : ℕ). IsMet p k cs (q + 1) (step p k prices (state_of p k q x) n)) e (steps.met m w (subst (λ (n : ℕ). CanStep p g (state_of p k q x) n) (sym e) can))
+
+  module _ (bs : List (List Label)) (q : ℕ) (xs : List Label) (i : ℕ) (b : Option ℤ) (so_far : IsWorked p g k prices bs q xs i b) where
+    pub worked_skip : (label_in xs i).active ≡ false → IsWorked p g k prices bs q xs (i + 1) b
+    worked_skip dead = record {
+      table = so_far.table;
+      covers = covers_moved p g k prices b b (λ a. Waits p k bs (q + 1) a ⊎ StandsFrom p k xs q i a) (λ a. Waits p k bs (q + 1) a ⊎ StandsFrom p k xs q (i + 1) a) (λ y h. h) (λ a h. (a, (on a h, good_itself a))) so_far.covers;
+      found = so_far.found;
+    }
+      where
+        on : (a : State) → Waits p k bs (q + 1) a ⊎ StandsFrom p k xs q i a → Waits p k bs (q + 1) a ⊎ StandsFrom p k xs q (i + 1) a
+        on a (inl h) = inl h
+        on a (inr s) = elim (cases_eq s.index i) [
+          | inl same ↦ absurd (let e = rw same at s.active in cc)
+          | inr apart ↦ inr (record { index = s.index; late = omega (arith, s.late, apart); within = s.within; active = s.active; is = s.is })
+        ]
+
+    pub worked_more : (cs : List (List Label)) (c : Option ℤ) → IsLabel p g k prices q (label_in xs i) → IsDone p g k prices bs cs q (label_in xs i) b c → IsWorked p g k prices cs q xs (i + 1) c
+    worked_more cs c pair done = record {
+      table = done.table;
+      covers = covers_worked p g k prices b c (λ a. Waits p k bs (q + 1) a ⊎ StandsFrom p k xs q i a) (λ a. Waits p k cs (q + 1) a ⊎ StandsFrom p k xs q (i + 1) a) (state_of p k q (label_in xs i))
+          done.closes.lower done.closes.counted spread others so_far.covers;
+      found = found done.closes.from;
+    }
+      where
+        spread : (j : ℕ) → CanStep p g (state_of p k q (label_in xs i)) j
+            → (t : State) × ((Waits p k cs (q + 1) t ⊎ StandsFrom p k xs q (i + 1) t) × IsAsGood t (step p k prices (state_of p k q (label_in xs i)) j))
+        spread j can = let t = done.met j can in (t.0, (inl t.1.0, t.1.1))
+
+        others : (a : State) → Waits p k bs (q + 1) a ⊎ StandsFrom p k xs q i a
+            → (a ≡ state_of p k q (label_in xs i)) ⊎ ((t : State) × ((Waits p k cs (q + 1) t ⊎ StandsFrom p k xs q (i + 1) t) × IsAsGood t a))
+        others a (inl h) = let t = done.moved a h in inr (t.0, (inl t.1.0, t.1.1))
+        others a (inr s) = elim (cases_eq s.index i) [
+          | inl same ↦ inl (sym (rw same at s.is))
+          | inr apart ↦ inr (a, (inr (record { index = s.index; late = omega (arith, s.late, apart); within = s.within; active = s.active; is = s.is }), good_itself a))
+        ]
+
+        found : (c ≡ b) ⊎ (CanEnd p g (state_of p k q (label_in xs i)) × (c ≡ Some (route_value p (label_in xs i)))) → IsFound p g k prices c
+        found (inl same) = rw same so_far.found
+        found (inr h) = rw h.1 (pair.reached.0 ++ [], (pair.reached.1.completes [] h.0, pair.reached.1.value []))
+
+  -- the labels of a load were taken out
+  module _ (bs : List (List Label)) (q : ℕ) (b : Option ℤ) (swept : IsSwept p g k prices bs q b) where
+    pub taken_pairs : AreLabels p g k prices q (labels_at bs q)
+    taken_pairs = record { each = λ m w active. swept.table.each q m (omega arith) w active }
+
+    pub taken_worked : (ys : List Label) → IsWorked p g k prices (set bs q ys) q (labels_at bs q) 0 b
+    taken_worked ys = record {
+      table = record {
+        count = length-set bs q ys ∙ swept.table.count;
+        each = λ n m late w active. (let e = other n late in rw e (swept.table.each n m (omega (arith, late)) (rw e at w) (rw e at active)));
+      };
+      covers = covers_moved p g k prices b b (Waits p k bs q) (λ a. Waits p k (set bs q ys) (q + 1) a ⊎ StandsFrom p k (labels_at bs q) q 0 a) (λ y h. h) (λ a h. (a, (on a h, good_itself a))) swept.covers;
+      found = swept.found;
+    }
+      where
+        other : (n : ℕ) → q + 1 ≤ n → labels_at (set bs q ys) n ≡ labels_at bs n
+        other n late = get_or-set_other bs q n ys [] (λ e. omega (arith, e, late))
+
+        on : (a : State) → Waits p k bs q a → Waits p k (set bs q ys) (q + 1) a ⊎ StandsFrom p k (labels_at bs q) q 0 a
+        on a w = elim (cases_eq w.load q) [
+          | inl same ↦ inr (record { index = w.index; late = omega arith; within = rw same at w.within; active = rw same at w.active; is = rw same at w.is })
+          | inr apart ↦ inl (let e = other w.load (omega (arith, w.late, apart)) in
+              record { load = w.load; late = omega (arith, w.late, apart); index = w.index; within = rw e w.within; active = rw e w.active; is = rw e w.is })
+        ]
+
+  pub swept_more : (bs : List (List Label)) (q : ℕ) (xs : List Label) (i : ℕ) (b : Option ℤ) → length xs ≤ i → IsWorked p g k prices bs q xs i b → IsSwept p g k prices bs (q + 1) b
+  swept_more bs q xs i b all h = record {
+    table = h.table;
+    covers = covers_moved p g k prices b b (λ a. Waits p k bs (q + 1) a ⊎ StandsFrom p k xs q i a) (Waits p k bs (q + 1)) (λ y h. h) (λ a h. (a, (on a h, good_itself a))) h.covers;
+    found = h.found;
+  }
+    where
+      on : (a : State) → Waits p k bs (q + 1) a ⊎ StandsFrom p k xs q i a → Waits p k bs (q + 1) a
+      on a (inl h) = h
+      on a (inr s) = absurd (omega (arith, s.late, s.within, all))
+
+  pub least_swept : (bs : List (List Label)) (q : ℕ) (b : Option ℤ) → length bs ≤ q → IsSwept p g k prices bs q b → IsLeastOrZero p g k prices (or_zero b)
+  least_swept bs q b all h = least_at_end p g k prices (Waits p k bs q) none b h.covers h.found
+    where
+      none : (a : State) → ¬ Waits p k bs q a
+      none a w = let e : labels_at bs w.load ≡ [] = get_or_past bs w.load [] (omega (arith, w.late, all)) in omega (arith, ap (λ (xs : List Label). length xs) e, w.within)
+
+  bare : (n q : ℕ) → labels_at (replicate n []) q ≡ []
+  bare n q = elim (cases_lt q n) [
+    | inl low ↦ get_or-replicate n q [] [] low
+    | inr high ↦ get_or_past (replicate n []) q [] (omega (arith, high, length-replicate {A = List Label} n []))
+  ]
+
+  -- the table before anything is kept
+  pub bare_table : IsTable p g k prices (replicate (p.capacity + 1) []) 1
+  bare_table = record {
+    count = length-replicate (p.capacity + 1) [];
+    each = λ q m late w active. absurd (omega (arith, ap (λ (xs : List Label). length xs) (bare (p.capacity + 1) q), w));
+  }
+
+  -- x is the empty beginning at the depot
+  module _ (x : Label) (same : IsSameState (state_of p k 0 x) (start p)) where
+    pub start_label : IsBounded p 0 x → IsLabel p g k prices 0 x
+    start_label bounded = record { bounded = bounded; reached = ([], reaches_same p g k prices [] _ _ same (reaches_none p g k prices)) }
+
+    begun : x.active ≡ true → IsWorked p g k prices (replicate (p.capacity + 1) []) 0 (x ∷ []) 0 None
+    begun active = record {
+      table = bare_table;
+      covers = λ s h. inr (record {
+        state = state_of p k 0 x;
+        waits = inr (record { index = 0; late = omega arith; within = omega arith; active = active; is = refl });
+        rest = s;
+        completes = completes_too p g k prices s (state_of p k 0 x) (start p) (good_same _ _ same) h;
+        low = value_no_greater p g k prices s (state_of p k 0 x) (start p) (good_same _ _ same);
+      });
+      found = tt;
+    }
+
+    pub swept_begun : (bs cs : List (List Label)) (c : Option ℤ) → bs ≡ replicate (p.capacity + 1) [] → x.active ≡ true → IsLabel p g k prices 0 x → IsDone p g k prices bs cs 0 x None c
+        → IsSwept p g k prices cs 1 c
+    swept_begun bs cs c bare_is active label done =
+        swept_more cs 0 (x ∷ []) 1 c (omega arith) (worked_more (replicate (p.capacity + 1) []) 0 (x ∷ []) 0 None (begun active) cs c label (rw bare_is at done))
+
+-- the depot with an empty memory is the beginning
+pub start_same : (p : Problem) (k : ℕ) (x : Label) → x.customer ≡ 0 → x.time ≡ ready p 0 → x.cost ≡ pos 0 → x.memory ≡ 0 → IsSameState (state_of p k 0 x) (start p)
+start_same p k x last time cost memory = record { last = last; time = time; load = refl; cost = cost; memory = λ u. rw memory (has_nothing (bit_in p k x.customer u)) }
+
+priced : (z : ℤ) → IsPrice z → IsPriced z
+priced z h = record { low = omega (arith, ints, h); high = omega (arith, ints, h) }
+
+pub pricing : (p : Problem) (prices : List ℤ) → IsWithinLimits p → length prices ≡ customer_count p → AllByRecursion IsPrice prices → IsPricing p prices
+pricing p prices limits count all = record {
+  count = count;
+  priced = All-weaker IsPrice IsPriced priced prices (All-from_recursion IsPrice prices all);
+  carried = λ i h. (customer_row p i limits h).1;
+}

@@ -1,0 +1,6 @@
+use Rattle.std.proofs.Common.{arith}
+use Rattle.tree_bound.proofs.Working.{least_swept}
+use Rattle.tree_bound.proofs.work.least.Goals as goal
+
+pub returns : goal.returns
+returns c = rw (← c.in_ok-task.ensures) (least_swept _ _ _ _ _ _ _ (omega arith) c.in_ok-least.ensures)

@@ -1,0 +1,123 @@
+-- The arcs that a leaf allows, with what a step over them needs.
+use Rattle.std.specs.Prelude.{◌≡◌, ◌↔◌, ℕ, ◌+◌, ◌*◌, ◌<◌, ◌≤◌, List, length, slice_index_or, IsTrue, IsFalse, Bool, true, ◌==◌, ℤ, pos, ◌+ℤ◌, ◌≤ℤ◌, Option, Some, ◌⊎◌}
+use Rattle.std.specs.List.{All, list_any}
+use Rattle.solomon_reader.specs.declared.limits.TheConstants.{MOST_TIME, MOST_DISTANCE, MOST_PRICE, MOST_DEMAND}
+use Rattle.solomon_reader.specs.Problem.{Problem, IsCustomer, customer_count, demand, ready, due, service}
+use Rattle.solomon_reader.specs.Distance.{distance}
+use Rattle.solomon_reader.specs.Region.{Region, IsAllowed}
+use Rattle.solomon_reader.specs.States.{begins, arc_value, step, CanStep, CanEnd, IsSameState}
+use Rattle.tree_bound.specs.declared.arcs.AllowedArc.{AllowedArc}
+use Rattle.tree_bound.specs.declared.arcs.ArcRow.{ArcRow}
+use Rattle.tree_bound.specs.declared.label.Label.{Label}
+use Rattle.tree_bound.specs.Cover.{IsFound, CoversAll, IsAtMost}
+use Rattle.tree_bound.specs.Memories.{bit_in, memory_at}
+use Rattle.tree_bound.specs.Labels.{state_of, IsBounded, IsTable, IsMoved, IsMet, Waits, StandsFrom, most_grains}
+
+-- a price in its range
+pub record IsPriced (z : ℤ) : Type 0 where
+  pub low : pos 0 ≤ℤ (z +ℤ pos MOST_PRICE)
+  pub high : z ≤ℤ pos MOST_PRICE
+
+-- the arc from v has what a step over it needs
+pub record IsAllowedArc (p : Problem) (k : ℕ) (prices : List ℤ) (v : ℕ) (h : AllowedArc) : Type 0 where
+  pub customer : IsCustomer p h.to
+  pub bit : h.bit ≡ bit_in p k v h.to
+  pub listed : h.bit ≤ 16
+  pub demand_is : h.demand ≡ demand p h.to
+  pub carried : 1 ≤ h.demand
+  pub light : h.demand ≤ MOST_DEMAND
+  pub travel_is : h.travel ≡ distance p v h.to
+  pub near : h.travel ≤ MOST_DISTANCE
+  pub ready_is : h.ready ≡ ready p h.to
+  pub early : h.ready ≤ 10 * MOST_TIME
+  pub due_is : h.due ≡ due p h.to
+  pub late : h.due ≤ 10 * MOST_TIME
+  pub service_is : h.service ≡ service p h.to
+  pub short : h.service ≤ 10 * MOST_TIME
+  pub value_is : h.value ≡ arc_value p prices v h.to
+  pub low : pos 0 ≤ℤ (h.value +ℤ pos most_grains)
+  pub high : h.value ≤ℤ pos most_grains
+
+abbrev pub arc_in : List AllowedArc → ℕ → AllowedArc
+arc_in hs m = slice_index_or hs m (record { to = 0; bit = 0; demand = 0; travel = 0; ready = 0; due = 0; service = 0; value = pos 0 })
+
+-- an arc of the list leads to j
+abbrev pub leads : List AllowedArc → ℕ → Bool
+leads hs j = list_any (λ h. h.to == j) hs
+
+-- the arcs from v to the customers below i
+pub record AreAllowedArcs (p : Problem) (g : Region) (k : ℕ) (prices : List ℤ) (v i : ℕ) (hs : List AllowedArc) : Type 0 where
+  pub each : (m : ℕ) → m < length hs → IsAllowedArc p k prices v (arc_in hs m)
+  pub allowed : (m : ℕ) → m < length hs → IsAllowed g (v, (arc_in hs m).to)
+  pub all : (j : ℕ) → j < i → IsCustomer p j → IsAllowed g (v, j) → leads hs j ≡ true
+
+-- the row says where a route may go from v
+pub record IsArcRow (p : Problem) (g : Region) (k : ℕ) (prices : List ℤ) (v : ℕ) (r : ArcRow) : Type 0 where
+  pub arcs : AreAllowedArcs p g k prices v (length p.rows) r.arcs.items
+  pub ends : IsTrue r.ends ↔ IsAllowed g (v, 0)
+  pub back_is : r.back ≡ distance p v 0
+  pub near : r.back ≤ MOST_DISTANCE
+
+-- the row of each row of the instance
+pub record AreArcRows (p : Problem) (g : Region) (k : ℕ) (prices : List ℤ) (all : List ArcRow) : Type 0 where
+  pub count : length all ≡ length p.rows
+  pub each : (v : ℕ) (d : ArcRow) → v < length p.rows → IsArcRow p g k prices v (slice_index_or all v d)
+
+-- load, window and memory leave the step from x to j
+pub record CanExtend (p : Problem) (k q : ℕ) (x : Label) (j : ℕ) : Type 0 where
+  pub load : q + demand p j ≤ p.capacity
+  pub due : begins p (state_of p k q x) j ≤ due p j
+  pub fresh : IsFalse (memory_at p k x.customer x.memory j)
+
+-- there is a price for each customer, and each has a demand
+pub record IsPricing (p : Problem) (prices : List ℤ) : Type 0 where
+  pub count : length prices ≡ customer_count p
+  pub priced : All IsPriced prices
+  pub carried : (i : ℕ) → IsCustomer p i → 1 ≤ demand p i
+
+-- y is the label after x and a stop at j
+pub record IsExtension (p : Problem) (k : ℕ) (prices : List ℤ) (q : ℕ) (x : Label) (load j : ℕ) (y : Label) : Type 0 where
+  pub same : IsSameState (state_of p k load y) (step p k prices (state_of p k q x) j)
+  pub bounded : IsBounded p load y
+  pub active : y.active ≡ true
+
+-- the step from x to j was taken, if it may be taken
+pub record TakesStep (p : Problem) (g : Region) (k : ℕ) (prices : List ℤ) (bs cs : List (List Label)) (q : ℕ) (x : Label) (j : ℕ) : Type 0 where
+  pub moved : IsMoved p k bs cs (q + 1)
+  pub table : IsTable p g k prices cs (q + 1)
+  pub met : CanStep p g (state_of p k q x) j → IsMet p k cs (q + 1) (step p k prices (state_of p k q x) j)
+
+-- the first i steps from x were taken
+pub record TakesSteps (p : Problem) (g : Region) (k : ℕ) (prices : List ℤ) (bs cs : List (List Label)) (q : ℕ) (x : Label) (hs : List AllowedArc) (i : ℕ) : Type 0 where
+  pub moved : IsMoved p k bs cs (q + 1)
+  pub table : IsTable p g k prices cs (q + 1)
+  pub met : (m : ℕ) → m < i → CanStep p g (state_of p k q x) (arc_in hs m).to → IsMet p k cs (q + 1) (step p k prices (state_of p k q x) (arc_in hs m).to)
+
+-- the reduced cost of the route that ends at x
+abbrev pub route_value : Problem → Label → ℤ
+route_value p x = x.cost +ℤ pos (1000 * distance p x.customer 0)
+
+-- the best was b before the route that ends at x was counted, and is c
+pub record ClosesRoute (p : Problem) (g : Region) (k q : ℕ) (x : Label) (b c : Option ℤ) : Type 0 where
+  pub lower : (y : ℤ) → IsAtMost b y → IsAtMost c y
+  pub counted : CanEnd p g (state_of p k q x) → IsAtMost c (route_value p x)
+  pub from : (c ≡ b) ⊎ (CanEnd p g (state_of p k q x) × (c ≡ Some (route_value p x)))
+
+-- the labels of the list below i were worked, and all at loads below q
+pub record IsWorked (p : Problem) (g : Region) (k : ℕ) (prices : List ℤ) (bs : List (List Label)) (q : ℕ) (xs : List Label) (i : ℕ) (b : Option ℤ) : Type 0 where
+  pub table : IsTable p g k prices bs (q + 1)
+  pub covers : CoversAll p g k prices b (λ a. Waits p k bs (q + 1) a ⊎ StandsFrom p k xs q i a)
+  pub found : IsFound p g k prices b
+
+-- all loads below q were worked
+pub record IsSwept (p : Problem) (g : Region) (k : ℕ) (prices : List ℤ) (bs : List (List Label)) (q : ℕ) (b : Option ℤ) : Type 0 where
+  pub table : IsTable p g k prices bs q
+  pub covers : CoversAll p g k prices b (Waits p k bs q)
+  pub found : IsFound p g k prices b
+
+-- x was worked
+pub record IsDone (p : Problem) (g : Region) (k : ℕ) (prices : List ℤ) (bs cs : List (List Label)) (q : ℕ) (x : Label) (b c : Option ℤ) : Type 0 where
+  pub closes : ClosesRoute p g k q x b c
+  pub moved : IsMoved p k bs cs (q + 1)
+  pub table : IsTable p g k prices cs (q + 1)
+  pub met : (j : ℕ) → CanStep p g (state_of p k q x) j → IsMet p k cs (q + 1) (step p k prices (state_of p k q x) j)

@@ -1,0 +1,37 @@
+-- How far the work has come: each way to go on from the start is covered by the best so far, or by a state that waits.
+use Rattle.std.specs.Prelude.{◌≡◌, ℕ, ◌⊎◌, List, ℤ, pos, ◌≤ℤ◌, Option, Some, None}
+use Rattle.solomon_reader.specs.Problem.{Problem}
+use Rattle.solomon_reader.specs.Region.{Region}
+use Rattle.solomon_reader.specs.States.{State, start, Completes, value_with, Reaches}
+
+-- the best so far is at most z
+abbrev pub IsAtMost : Option ℤ → ℤ → Type 0
+IsAtMost None z = ⊥
+IsAtMost (Some m) z = m ≤ℤ z
+
+-- a state that waits, and stops after it at a value of at most z
+pub record Witness (p : Problem) (g : Region) (k : ℕ) (prices : List ℤ) (Waits : State → Type 0) (z : ℤ) : Type 0 where
+  pub state : State
+  pub waits : Waits state
+  pub rest : List ℕ
+  pub completes : Completes p g k prices state rest
+  pub low : value_with p k prices state rest ≤ℤ z
+
+abbrev pub IsCovered : Problem → Region → ℕ → List ℤ → Option ℤ → (State → Type 0) → ℤ → Type 0
+IsCovered p g k prices b Waits z = IsAtMost b z ⊎ Witness p g k prices Waits z
+
+-- all that may come after the start is covered
+abbrev pub CoversAll : Problem → Region → ℕ → List ℤ → Option ℤ → (State → Type 0) → Type 0
+CoversAll p g k prices b Waits = (s : List ℕ) → Completes p g k prices (start p) s → IsCovered p g k prices b Waits (value_with p k prices (start p) s)
+
+-- the best so far is the value of stops that complete the start
+abbrev pub IsFound : Problem → Region → ℕ → List ℤ → Option ℤ → Type 0
+IsFound p g k prices None = Unit {0}
+IsFound p g k prices (Some z) = (r : List ℕ) × (Completes p g k prices (start p) r × (value_with p k prices (start p) r ≡ z))
+
+abbrev pub IsReached : Problem → Region → ℕ → List ℤ → State → Type 0
+IsReached p g k prices a = (r : List ℕ) × Reaches p g k prices r a
+
+abbrev pub or_zero : Option ℤ → ℤ
+or_zero None = pos 0
+or_zero (Some m) = m

@@ -1,0 +1,17 @@
+//! Leaves.
+
+ghost use Rattle.tree_bound.specs.Arcs.{IsPricing};
+
+use crate::decision::Decision;
+use crate::neighbours::Neighbours;
+
+/// A leaf of a tree for an instance, whose neighbour lists are known.
+#[derive(Clone, Copy)]
+pub struct Leaf<'a, 'i> {
+    pub(crate) neighbours: &'a Neighbours<'i>,
+    /// The decisions on the way to the leaf.
+    pub(crate) path: &'a [Decision],
+    /// The price of customer i in grains, at i - 1.
+    pub(crate) prices: &'a [i64],
+    ghost pricing: { IsPricing neighbours.now.instance.now prices.now },
+}

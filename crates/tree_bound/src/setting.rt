@@ -1,0 +1,60 @@
+//! What all leaves of a certificate share.
+
+ghost use Rattle.std.specs.Prelude.{◌≡◌, ◌+◌, ◌*◌, ◌≤◌, IfOk};
+ghost use Rattle.solomon_reader.specs.Bound.{ceiling_of, routes_counted};
+ghost use Rattle.solomon_reader.specs.declared.limits.TheConstants.{MOST_CUSTOMERS, MOST_DEMAND, MOST_DISTANCE};
+ghost use Rattle.certificate.specs.Text.{version_of};
+
+use crate::neighbours::Neighbours;
+use certificate::{Cert, Version};
+use solomon_reader::Instance;
+use std::alloc::{AllocError, Global};
+
+/// What all leaves of a certificate share; it is made once.
+#[derive(Drop)]
+pub struct Setting<'i> {
+    pub(crate) neighbours: Neighbours<'i>,
+    pub(crate) version: Version,
+    /// How many routes the version counts on.
+    pub(crate) routes: u32,
+    /// The ceiling plus one, in tenths.
+    pub(crate) most: u32,
+    pub(crate) state_limit: usize,
+    ghost routes_are: { routes ≡ routes_counted (version_of version) neighbours.instance.now },
+    ghost few: { routes ≤ MOST_CUSTOMERS * MOST_DEMAND },
+    ghost most_is: { most ≡ ceiling_of neighbours.instance.now + 1 },
+}
+
+/// How many routes a version counts on.
+fn routes_counted(instance: &Instance, version: Version) -> u32
+    ensures value { result ≡ routes_counted (version_of version) instance.now }
+    ensures bound { result ≤ MOST_CUSTOMERS * MOST_DEMAND }
+{
+    match version {
+        Version::One => 0,
+        Version::Two => instance.fewest_routes(),
+    }
+}
+
+impl<'i> Setting<'i> {
+    /// The setting of an instance for a certificate.
+    pub(crate) fn new(
+        alloc: Global,
+        instance: &'i Instance,
+        cert: &Cert,
+        state_limit: usize,
+    ) -> Result<Setting<'i>, AllocError>
+        ensures instance { IfOk result (λ s. s.neighbours.instance.now ≡ instance.now) }
+        ensures k { IfOk result (λ s. s.neighbours.k ≡ cert.now.neighbours) }
+        ensures version { IfOk result (λ s. version_of s.version ≡ cert.now.version) }
+    {
+        let parts = cert.parts();
+        Ok(Setting {
+            neighbours: Neighbours::new(alloc, instance, parts.neighbours as u8)?,
+            version: parts.version,
+            routes: routes_counted(instance, parts.version),
+            most: instance.ceiling().get() as u32 + 1,
+            state_limit,
+        })
+    }
+}

@@ -1,0 +1,133 @@
+//! The steps from a label.
+
+ghost use Rattle.std.specs.Prelude.{◌≡◌, ◌↔◌, ◌+◌, ◌*◌, ◌<◌, ◌≤◌, length, true, IfOk, IsTrue};
+ghost use Rattle.solomon_reader.specs.declared.limits.TheConstants.{MOST_TIME};
+ghost use Rattle.solomon_reader.specs.Problem.{demand};
+ghost use Rattle.solomon_reader.specs.Region.{IsAllowed};
+ghost use Rattle.solomon_reader.specs.States.{begins};
+ghost use Rattle.tree_bound.specs.Arcs.{route_value};
+ghost use Rattle.tree_bound.specs.Leaves.{problem_of, region_in, state_in, IsBoundedIn, IsArcIn, AreArcsIn, IsRowIn, CanExtendIn, IsExtensionIn, IsLabelIn, IsTableIn, TakesStepIn, TakesStepsIn, ClosesRouteIn};
+
+use crate::arcs::{AllowedArc, ArcRow};
+use crate::fault::BoundFault;
+use crate::label::Label;
+use crate::leaf::Leaf;
+use crate::memory::contains;
+use crate::table::{Table, keep};
+
+/// When service at a further customer begins, in tenths.
+fn begins(leaf: &Leaf<'_, '_>, load: usize, label: &Label, arc: &AllowedArc) -> u64
+    requires bounded { IsBoundedIn leaf.now load label.now }
+    requires arc { IsArcIn leaf.now label.now.customer arc.now }
+    ensures is { result ≡ begins (problem_of leaf.now) (state_in leaf.now load label.now) arc.now.to }
+    ensures small { result ≤ 30 * MOST_TIME }
+{
+    (label.time + arc.travel).max(arc.ready)
+}
+
+/// Whether load, window and memory leave a step.
+fn can_extend(leaf: &Leaf<'_, '_>, load: usize, label: &Label, arc: &AllowedArc) -> bool
+    requires bounded { IsBoundedIn leaf.now load label.now }
+    requires arc { IsArcIn leaf.now label.now.customer arc.now }
+    ensures { IsTrue result ↔ CanExtendIn leaf.now load label.now arc.now.to }
+{
+    let capacity = usize::from(leaf.neighbours.instance.capacity());
+    if load + usize::from(arc.demand) > capacity {
+        return false;
+    }
+    if begins(leaf, load, label, arc) > arc.due {
+        return false;
+    }
+    !contains(label.memory, arc.bit)
+}
+
+/// The label with one more stop.
+fn extend(leaf: &Leaf<'_, '_>, load: usize, label: &Label, arc: &AllowedArc) -> Label
+    requires bounded { IsBoundedIn leaf.now load label.now }
+    requires arc { IsArcIn leaf.now label.now.customer arc.now }
+    requires can { CanExtendIn leaf.now load label.now arc.now.to }
+    ensures { IsExtensionIn leaf.now load label.now (load + arc.now.demand) arc.now.to result }
+{
+    let neighbours = leaf.neighbours;
+    Label {
+        customer: arc.to,
+        memory: neighbours.remember(label.customer, label.memory, arc.to),
+        time: begins(leaf, load, label, arc) + arc.service,
+        cost: label.cost + arc.value,
+        active: true,
+    }
+}
+
+/// Takes the step from a label over an arc.
+fn take_step(
+    leaf: &Leaf<'_, '_>,
+    table: &mut Table,
+    load: usize,
+    label: &Label,
+    arc: &AllowedArc,
+) -> Result<(), BoundFault>
+    requires table { IsTableIn leaf.now table.old.buckets.items (load + 1) }
+    requires label { IsLabelIn leaf.now load label.now }
+    requires arc { IsArcIn leaf.now label.now.customer arc.now }
+    requires allowed { IsAllowed (region_in leaf.now) (label.now.customer, arc.now.to) }
+    ensures { IfOk result (λ _. TakesStepIn leaf.now table.old.buckets.items table.new.buckets.items load label.now arc.now.to) }
+{
+    if !can_extend(leaf, load, label, arc) {
+        return Ok(());
+    }
+    let longer = extend(leaf, load, label, arc);
+    keep(table, load + usize::from(arc.demand), &longer)?;
+    Ok(())
+}
+
+/// Takes each step from a label.
+pub(crate) fn take_steps(
+    leaf: &Leaf<'_, '_>,
+    table: &mut Table,
+    load: usize,
+    label: &Label,
+    arcs: &[AllowedArc],
+) -> Result<(), BoundFault>
+    requires table { IsTableIn leaf.now table.old.buckets.items (load + 1) }
+    requires label { IsLabelIn leaf.now load label.now }
+    requires arcs { AreArcsIn leaf.now label.now.customer arcs.now }
+    ensures { IfOk result (λ _. TakesStepsIn leaf.now table.old.buckets.items table.new.buckets.items load label.now arcs.now (length arcs.now)) }
+{
+    for arc in arcs {
+        take_step(leaf, table, load, label, arc)?;
+    }
+    Ok(())
+}
+
+/// The reduced cost of the route that ends at a label, in grains.
+fn route_value(leaf: &Leaf<'_, '_>, row: &ArcRow, load: usize, label: &Label) -> i64
+    requires bounded { IsBoundedIn leaf.now load label.now }
+    requires row { IsRowIn leaf.now label.now.customer row.now }
+    ensures { result ≡ route_value (problem_of leaf.now) label.now }
+{
+    let grains = 1000 * row.back;
+    label.cost + grains as i64
+}
+
+/// The best after the return to the depot from a label.
+pub(crate) fn close_route(
+    leaf: &Leaf<'_, '_>,
+    row: &ArcRow,
+    load: usize,
+    label: &Label,
+    best: Option<i64>,
+) -> Option<i64>
+    requires bounded { IsBoundedIn leaf.now load label.now }
+    requires row { IsRowIn leaf.now label.now.customer row.now }
+    ensures { ClosesRouteIn leaf.now load label.now best result }
+{
+    let closing = leaf.neighbours.instance.due(0);
+    if !row.ends || label.time + row.back > closing {
+        return best;
+    }
+    let value = route_value(leaf, row, load, label);
+    match best {
+        Some(least) if least <= value => best,
+        _ => Some(value),
+    }
+}

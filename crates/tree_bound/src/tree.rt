@@ -1,0 +1,113 @@
+//! The bound of a tree.
+
+ghost use Rattle.std.specs.Prelude.{◌≡◌, ◌+◌, ◌<◌, ◌≤◌, length, drop, min, IfOk};
+ghost use Rattle.std.specs.List.{AllByRecursion};
+ghost use Rattle.solomon_reader.specs.Problem.{customer_count};
+ghost use Rattle.solomon_reader.specs.CertificateText.{IsPrice};
+ghost use Rattle.solomon_reader.specs.Bound.{Tree, leaf, preorder, HasBound, IsTreeBound};
+ghost use Rattle.certificate.specs.Text.{version_of};
+ghost use Rattle.certificate.specs.Tree.{nodes_of};
+ghost use Rattle.tree_bound.specs.Decisions.{region_of};
+ghost use Rattle.tree_bound.specs.Nodes.{Begins, IsBoundOf};
+
+use crate::decision::Decision;
+use crate::fault::BoundFault;
+use crate::setting::Setting;
+use crate::value::leaf_value;
+use certificate::{Cert, CertNode};
+use solomon_reader::Instance;
+use std::alloc::Global;
+use tenths::Tenths;
+
+/// The bound of a tree in tenths, and the index after its nodes.
+#[derive(Clone, Copy, Debug)]
+struct Subtree {
+    bound: u32,
+    next: usize,
+}
+
+/// The least of the ceiling plus one and the value of a leaf.
+fn leaf_bound(
+    alloc: Global,
+    setting: &Setting<'_>,
+    path: &[Decision],
+    prices: &[i64],
+) -> Result<u32, BoundFault>
+    requires count { length prices.now ≡ customer_count setting.now.neighbours.instance.now }
+    requires priced { AllByRecursion IsPrice prices.now }
+    ensures { IfOk result (λ b. HasBound (version_of setting.now.version) setting.now.neighbours.instance.now setting.now.neighbours.k (region_of (customer_count setting.now.neighbours.instance.now) path.now) (leaf prices.now) b) }
+{
+    let value = leaf_value(alloc, setting, path, prices)?;
+    Ok(u128::from(setting.most).min(value) as u32)
+}
+
+/// The bound of the tree whose nodes begin at an index, below the decisions of a path.
+fn bound_at(
+    alloc: Global,
+    setting: &Setting<'_>,
+    nodes: &[CertNode],
+    at: usize,
+    path: &mut Vec<Decision>,
+) -> Result<Subtree, BoundFault>
+    requires within { at < length nodes.now }
+    requires begins { Begins (region_of (customer_count setting.now.neighbours.instance.now) path.old.items) (drop at (nodes_of nodes.now)) }
+    ensures path { IfOk result (λ _. path.new.items ≡ path.old.items) }
+    ensures onward { IfOk result (λ t. at < t.next) }
+    ensures bound { IfOk result (λ t. IsBoundOf (version_of setting.now.version) setting.now.neighbours.instance.now setting.now.neighbours.k (region_of (customer_count setting.now.neighbours.instance.now) path.old.items) (drop at (nodes_of nodes.now)) t.bound (drop t.next (nodes_of nodes.now))) }
+{
+    match &nodes[at] {
+        CertNode::Leaf(prices) => {
+            let bound = leaf_bound(alloc, setting, path.as_slice(), prices.as_slice())?;
+            let next = at + 1;
+            Ok(Subtree { bound, next })
+        }
+        CertNode::Split { from, to } => {
+            let depth = path.len();
+            path.push(Decision {
+                from: *from,
+                to: *to,
+                required: true,
+            })?;
+            let used = bound_at(alloc, setting, nodes, at + 1, path)?;
+            path.truncate(depth);
+            path.push(Decision {
+                from: *from,
+                to: *to,
+                required: false,
+            })?;
+            let unused = bound_at(alloc, setting, nodes, used.next, path)?;
+            path.truncate(depth);
+            let bound = used.bound.min(unused.bound);
+            let next = unused.next;
+            Ok(Subtree { bound, next })
+        }
+    }
+}
+
+/// The bound of a certificate's tree for an instance, in tenths: the least of the instance's ceiling
+/// plus one and the values of the tree's leaves. No plan costs less; where the bound is above the
+/// ceiling, there is no plan.
+///
+/// The value of a leaf follows from its prices and the least reduced cost of a relaxed route that the
+/// decisions on its path allow, as the certificate's version says. That cost is found by keeping, for
+/// each last customer, load and memory, the pairs of time and cost that no other dominates.
+///
+/// `state_limit` counts the kept pairs that stand at once for one leaf. A pair stands from when it is
+/// kept until it is dominated, or all pairs of its load are worked; the empty beginning at the depot
+/// is none. `StateLimit` where that many stand and one more has to be kept, `Memory` where a growth
+/// was refused.
+pub fn bound(
+    alloc: Global,
+    instance: &Instance,
+    cert: &Cert,
+    state_limit: usize,
+) -> Result<Tenths, BoundFault>
+    requires size { cert.now.size ≡ customer_count instance.now }
+    ensures bound { IfOk result (λ b. (tree : Tree) → preorder tree ≡ cert.now.nodes → IsTreeBound cert.now.version instance.now cert.now.neighbours tree b) }
+{
+    let setting = Setting::new(alloc, instance, cert, state_limit)?;
+    let nodes = cert.parts().nodes.as_slice();
+    let mut path = Vec::new(alloc);
+    let whole = bound_at(alloc, &setting, nodes, 0, &mut path)?;
+    Ok(Tenths::from(whole.bound))
+}
