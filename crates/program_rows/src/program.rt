@@ -13,12 +13,13 @@ use vrptw::{run_words, words_fault};
 
 /// What a run prints, and the status that it ends with.
 #[derive(Drop)]
-struct Printed {
-    out: MemorySink,
-    errors: MemorySink,
-    status: u8,
+pub struct Printed {
+    pub out: MemorySink,
+    pub errors: MemorySink,
+    pub status: u8,
 }
 
+/// Runs the program with these words.
 pub fn run<R: Files + AllocGlobal + Wait>(rt: &R, words: &[&str]) -> Printed {
     let mut out = MemorySink::new(rt.alloc());
     let mut errors = MemorySink::new(rt.alloc());
