@@ -96,10 +96,11 @@ def near_prices(random, instance):
 
 
 def certificate_of(random, instance, tree):
-    """The lines of a certificate for an instance, with the bound 0.0."""
+    """The lines of a certificate for an instance, with the bound 0.0. Few neighbours only where routes are short: else
+    plain Python doesn't end."""
+    neighbours = random.choice([0, 1, 2, 8, 15]) if instance.capacity <= 5 else random.choice([8, 15])
     return ["VRPTW-CERT %d" % random.choice([1, 2]), "INSTANCE " + instance.name.decode(),
-            "CUSTOMERS %d" % instance.count, "NEIGHBOURS %d" % random.choice([0, 1, 2, 8, 15]), "BOUND 0.0",
-            "TREE"] + tree + ["END"]
+            "CUSTOMERS %d" % instance.count, "NEIGHBOURS %d" % neighbours, "BOUND 0.0", "TREE"] + tree + ["END"]
 
 
 def plan_of(random, instance):
