@@ -84,6 +84,9 @@ kept_of xs zs ys x active thinned put = record { new = new; old = old; others = 
       ])
     ]
 
+pub first_kept : (x : Label) → x.active ≡ true → IsKept [] (x ∷ []) x
+first_kept x active = kept_of [] [] (x ∷ []) x active (thinned_none [] x) (put_behind [] x)
+
 pub kept_dominated : (xs : List Label) (x : Label) → IsDominated xs x → IsKept xs xs x
 kept_dominated xs x dominated = record {
   new = dominated;

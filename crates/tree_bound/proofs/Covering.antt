@@ -1,5 +1,5 @@
 -- Each relaxed route stays covered as states are worked.
-use Rattle.std.proofs.Common.{◌≡◌, ℕ, List, [], ◌∷◌, arith, sym, ◌∙◌, ◌⊎◌, inl, inr, refl, Option, Some, None}
+use Rattle.std.proofs.Common.{◌≡◌, ℕ, zero, suc, ◌+◌, ◌<◌, ◌≤◌, List, [], ◌∷◌, length, arith, sym, ◌∙◌, ◌⊎◌, inl, inr, refl, Option, Some, None}
 use Rattle.std.specs.Prelude.{ℤ, ◌≤ℤ◌}
 use Rattle.std.proofs.lemmas.Int.{ints}
 use Rattle.solomon_reader.specs.Problem.{Problem}
@@ -7,7 +7,7 @@ use Rattle.solomon_reader.specs.Region.{Region}
 use Rattle.solomon_reader.specs.Relaxed.{IsRelaxed, IsLeastOrZero, reduced_cost}
 use Rattle.solomon_reader.specs.States.{State, step, CanStep, CanEnd, Completes, value_with, IsAsGood}
 use Rattle.solomon_reader.proofs.Completions.{completes_relaxed, relaxed_completes, value_is}
-use Rattle.tree_bound.specs.Cover.{IsAtMost, Witness, IsCovered, CoversAll, IsFound, or_zero}
+use Rattle.tree_bound.specs.Cover.{IsAtMost, Witness, IsCovered, CoversAfter, CoversAll, IsFound, or_zero}
 use Rattle.solomon_reader.proofs.Goodness.{completes_too, value_no_greater}
 
 pub at_most_more : (b : Option ℤ) (y z : ℤ) → y ≤ℤ z → IsAtMost b y → IsAtMost b z
@@ -16,23 +16,24 @@ at_most_more (Some m) y z le h = omega (arith, ints, le, h)
 
 module _ (p : Problem) (g : Region) (k : ℕ) (prices : List ℤ) where
   -- something as good as the witness waits afterwards
-  witness_moved : (c : Option ℤ) (Before After : State → Type 0) (z : ℤ) (w : Witness p g k prices Before z)
-      → ((t : State) × (After t × IsAsGood t w.state)) → IsCovered p g k prices c After z
-  witness_moved c Before After z w t = inr (record {
+  witness_moved : (c : Option ℤ) (Before After : State → Type 0) (z : ℤ) (n : ℕ) (w : Witness p g k prices Before z n)
+      → ((t : State) × (After t × IsAsGood t w.state)) → IsCovered p g k prices c After z n
+  witness_moved c Before After z n w t = inr (record {
     state = t.0;
     waits = t.1.0;
     rest = w.rest;
     completes = completes_too p g k prices w.rest t.0 w.state t.1.1 w.completes;
+    short = w.short;
     low = omega (arith, ints, w.low, value_no_greater p g k prices w.rest t.0 w.state t.1.1);
   })
 
   -- for each state that waits one that is as good waits afterwards
   pub covers_moved : (b c : Option ℤ) (Before After : State → Type 0) → ((y : ℤ) → IsAtMost b y → IsAtMost c y)
       → ((a : State) → Before a → (t : State) × (After t × IsAsGood t a))
-      → CoversAll p g k prices b Before → CoversAll p g k prices c After
-  covers_moved b c Before After lower moved covers s h = elim (covers s h) [
+      → (a : State) (more : ℕ) → CoversAfter p g k prices b Before a more → CoversAfter p g k prices c After a more
+  covers_moved b c Before After lower moved a more covers s h = elim (covers s h) [
     | inl low ↦ inl (lower _ low)
-    | inr w ↦ witness_moved c Before After _ w (moved w.state w.waits)
+    | inr w ↦ witness_moved c Before After _ _ w (moved w.state w.waits)
   ]
 
   -- x was worked: its end was counted, and for each of its steps something as good waits
@@ -41,24 +42,60 @@ module _ (p : Problem) (g : Region) (k : ℕ) (prices : List ℤ) where
       (counted : CanEnd p g x → IsAtMost c (value_with p k prices x []))
       (spread : (j : ℕ) → CanStep p g x j → (t : State) × (After t × IsAsGood t (step p k prices x j)))
       (others : (a : State) → Before a → (a ≡ x) ⊎ ((t : State) × (After t × IsAsGood t a))) where
-    at_x : (z : ℤ) (s : List ℕ) → Completes p g k prices x s → value_with p k prices x s ≤ℤ z → IsCovered p g k prices c After z
-    at_x z [] h low = inl (at_most_more c _ z low (counted h))
-    at_x z (j ∷ s) h low =
+    at_x : (z : ℤ) (n : ℕ) (s : List ℕ) → length s ≤ n → Completes p g k prices x s → value_with p k prices x s ≤ℤ z → IsCovered p g k prices c After z n
+    at_x z n [] few h low = inl (at_most_more c _ z low (counted h))
+    at_x z n (j ∷ s) few h low =
         let t = spread j h.0 in
         inr (record {
           state = t.0;
           waits = t.1.0;
           rest = s;
           completes = completes_too p g k prices s t.0 (step p k prices x j) t.1.1 h.1;
+          short = omega (arith, few);
           low = omega (arith, ints, low, value_no_greater p g k prices s t.0 (step p k prices x j) t.1.1);
         })
 
-    pub covers_worked : CoversAll p g k prices b Before → CoversAll p g k prices c After
-    covers_worked covers s h = elim (covers s h) [
+    pub covers_itself : CoversAfter p g k prices c After x 0
+    covers_itself s h = at_x _ _ s (omega arith) h (omega (arith, ints))
+
+    pub covers_worked : (a : State) (more : ℕ) → CoversAfter p g k prices b Before a more → CoversAfter p g k prices c After a more
+    covers_worked a more covers s h = elim (covers s h) [
       | inl low ↦ inl (lower _ low)
       | inr w ↦ elim (others w.state w.waits) [
-        | inl same ↦ at_x _ w.rest (rw same at w.completes) (rw same at w.low)
-        | inr more ↦ witness_moved c Before After _ w more
+        | inl same ↦ at_x _ _ w.rest (omega (arith, w.short)) (rw same at w.completes) (rw same at w.low)
+        | inr waiting ↦ witness_moved c Before After _ _ w waiting
+      ]
+    ]
+
+  -- x is passed over: y is as good, and all that may come after y is covered by fewer stops
+  module _ (b : Option ℤ) (Before After : State → Type 0) (x y : State) (good : IsAsGood y x)
+      (covered : CoversAfter p g k prices b Before y 0)
+      (others : (a : State) → Before a → (a ≡ x) ⊎ After a) where
+    -- what covers it may be x again, with fewer stops after it: so often at most as there are stops
+    at_y : (turns : ℕ) (z : ℤ) (n : ℕ) (s : List ℕ) → length s < turns → length s < n → Completes p g k prices x s → value_with p k prices x s ≤ℤ z → IsCovered p g k prices b After z n
+    at_y zero z n s few short h low = absurd (omega (arith, few))
+    at_y (suc turns) z n s few short h low = elim (covered s (completes_too p g k prices s y x good h)) [
+      | inl at ↦ inl (at_most_more b _ z (omega (arith, ints, low, value_no_greater p g k prices s y x good)) at)
+      | inr w ↦ elim (others w.state w.waits) [
+        | inl same ↦ at_y turns z n w.rest (omega (arith, few, w.short)) (omega (arith, short, w.short)) (rw same at w.completes)
+            (omega (arith, ints, low, rw same at w.low, value_no_greater p g k prices s y x good))
+        | inr still ↦ inr (record {
+          state = w.state;
+          waits = still;
+          rest = w.rest;
+          completes = w.completes;
+          short = omega (arith, short, w.short);
+          low = omega (arith, ints, low, w.low, value_no_greater p g k prices s y x good);
+        })
+      ]
+    ]
+
+    pub covers_passed : (a : State) (more : ℕ) → CoversAfter p g k prices b Before a more → CoversAfter p g k prices b After a more
+    covers_passed a more covers s h = elim (covers s h) [
+      | inl low ↦ inl low
+      | inr w ↦ elim (others w.state w.waits) [
+        | inl same ↦ at_y (length w.rest + 1) _ _ w.rest (omega arith) w.short (rw same at w.completes) (rw same at w.low)
+        | inr still ↦ inr (record { state = w.state; waits = still; rest = w.rest; completes = w.completes; short = w.short; low = w.low })
       ]
     ]
 

@@ -13,14 +13,14 @@ use Rattle.tree_bound.specs.Labels.{label_in, labels_at, state_of, Dominates, Is
 use Rattle.tree_bound.specs.Arcs.{arc_in, CanExtend, IsExtension, TakesStep, TakesSteps}
 use Rattle.solomon_reader.proofs.Goodness.{good_itself, good_same, good_through, reaches_same}
 
-pub dominating_good : (p : Problem) (k q : ℕ) (a b : Label) → Dominates a b → IsAsGood (state_of p k q a) (state_of p k q b)
-dominating_good p k q a b h = record { last = h.customer; time = h.time; load = omega arith; cost = h.cost; memory = λ u t. h.memory (bit_in p k b.customer u) (rw h.customer at t) }
+pub dominating_good : (p : Problem) (k q r : ℕ) → q ≤ r → (a b : Label) → Dominates a b → IsAsGood (state_of p k q a) (state_of p k r b)
+dominating_good p k q r low a b h = record { last = h.customer; time = h.time; load = low; cost = h.cost; memory = λ u t. h.memory (bit_in p k b.customer u) (rw h.customer at t) }
 
 -- what stands at a load waits there
 pub dominated_met : (p : Problem) (k : ℕ) (bs : List (List Label)) (low load : ℕ) (x : Label) → low ≤ load → IsDominated (labels_at bs load) x → IsMet p k bs low (state_of p k load x)
 dominated_met p k bs low load x late h = (
   state_of p k load (label_in (labels_at bs load) h.index),
-  (record { load = load; late = late; index = h.index; within = h.within; active = h.active; is = refl }, dominating_good p k load _ x h.good),
+  (record { load = load; late = late; index = h.index; within = h.within; active = h.active; is = refl }, dominating_good p k load load (omega arith) _ x h.good),
 )
 
 pub moved_none : (p : Problem) (k : ℕ) (bs : List (List Label)) (low : ℕ) → IsMoved p k bs bs low

@@ -17,12 +17,14 @@ use Rattle.solomon_reader.proofs.BoundedRows.{customer_row}
 use Rattle.solomon_reader.proofs.Completions.{reaches_none}
 use Rattle.tree_bound.specs.declared.arcs.AllowedArc.{AllowedArc}
 use Rattle.tree_bound.specs.declared.label.Label.{Label}
-use Rattle.tree_bound.specs.Cover.{IsFound, or_zero}
+use Rattle.tree_bound.specs.Cover.{IsAtMost, IsFound, or_zero}
 use Rattle.tree_bound.specs.Memories.{bit_in}
-use Rattle.tree_bound.specs.Labels.{label_in, labels_at, state_of, IsBounded, IsLabel, IsTable, AreLabels, Waits, StandsFrom, IsMet}
-use Rattle.tree_bound.specs.Arcs.{IsPriced, IsPricing, AreAllowedArcs, arc_in, TakesSteps, ClosesRoute, IsDone, IsWorked, IsSwept, route_value}
+use Rattle.tree_bound.specs.Labels.{label_in, labels_at, state_of, IsBounded, IsLabel, IsTable, AreLabels, IsDominated, IsKept, Waits, IsMet}
+use Rattle.tree_bound.specs.Arcs.{IsPriced, IsPricing, AreAllowedArcs, arc_in, TakesSteps, ClosesRoute, IsDone, IsSettled, AreSettled, Remains, IsPassed, IsWorked, IsSwept, route_value}
 use Rattle.solomon_reader.proofs.Goodness.{good_itself, good_same, reaches_same, completes_too, value_no_greater}
-use Rattle.tree_bound.proofs.Covering.{covers_moved, covers_worked, least_at_end}
+use Rattle.tree_bound.proofs.Buckets.{first_kept}
+use Rattle.tree_bound.proofs.Covering.{covers_moved, covers_itself, covers_worked, covers_passed, least_at_end}
+use Rattle.tree_bound.proofs.Stepping.{dominating_good}
 use Rattle.tree_bound.proofs.Leading.{leads_index}
 use Rattle.tree_bound.proofs.Remembered.{has_nothing}
 
@@ -40,83 +42,155 @@ module _ (p : Problem) (g : Region) (k : ℕ) (prices : List ℤ) where
       at : (m j : ℕ) → m < length hs → (arc_in hs m).to ≡ j → CanStep p g (state_of p k q x) j → IsMet p k cs (q + 1) (step p k prices (state_of p k q x) j)
       at m j w e can = subst (λ (n : ℕ). IsMet p k cs (q + 1) (step p k prices (state_of p k q x) n)) e (steps.met m w (subst (λ (n : ℕ). CanStep p g (state_of p k q x) n) (sym e) can))
 
-  module _ (bs : List (List Label)) (q : ℕ) (xs : List Label) (i : ℕ) (b : Option ℤ) (so_far : IsWorked p g k prices bs q xs i b) where
-    pub worked_skip : (label_in xs i).active ≡ false → IsWorked p g k prices bs q xs (i + 1) b
+  -- what is settled stays so, as the others are worked
+  pub settled_moved : (b c : Option ℤ) (Before After : State → Type 0) → ((y : ℤ) → IsAtMost b y → IsAtMost c y)
+      → ((a : State) → Before a → (t : State) × (After t × IsAsGood t a))
+      → (q r : ℕ) → q ≤ r → (ds : List Label) → AreSettled p g k prices b Before q ds → AreSettled p g k prices c After r ds
+  settled_moved b c Before After lower moved q r more ds settled m w active =
+      let s = settled m w active in
+      record { load = s.load; low = omega (arith, s.low, more); covers = covers_moved p g k prices b c Before After lower moved _ 0 s.covers }
+
+  module _ (bs : List (List Label)) (ds : List Label) (q : ℕ) (xs : List Label) (i : ℕ) (b : Option ℤ) (so_far : IsWorked p g k prices bs ds q xs i b) where
+    -- what remains is the label at i, or remains behind it
+    remains_behind : (cs : List (List Label)) → ((a : State) → Waits p k bs (q + 1) a → IsMet p k cs (q + 1) a) → (a : State) → Remains p k bs q xs i a
+        → (a ≡ state_of p k q (label_in xs i)) ⊎ ((t : State) × (Remains p k cs q xs (i + 1) t × IsAsGood t a))
+    remains_behind cs moved a (inl h) = let t = moved a h in inr (t.0, (inl t.1.0, t.1.1))
+    remains_behind cs moved a (inr s) = elim (cases_eq s.index i) [
+      | inl same ↦ inl (sym (rw same at s.is))
+      | inr apart ↦ inr (a, (inr (record { index = s.index; late = omega (arith, s.late, apart); within = s.within; active = s.active; is = s.is }), good_itself a))
+    ]
+
+    -- the label at i doesn't stand
+    worked_skip : (label_in xs i).active ≡ false → IsWorked p g k prices bs ds q xs (i + 1) b
     worked_skip dead = record {
       table = so_far.table;
-      covers = covers_moved p g k prices b b (λ a. Waits p k bs (q + 1) a ⊎ StandsFrom p k xs q i a) (λ a. Waits p k bs (q + 1) a ⊎ StandsFrom p k xs q (i + 1) a) (λ y h. h) (λ a h. (a, (on a h, good_itself a))) so_far.covers;
+      covers = covers_moved p g k prices b b (Remains p k bs q xs i) (Remains p k bs q xs (i + 1)) (λ y h. h) (λ a h. (a, (on a h, good_itself a))) _ 1 so_far.covers;
+      settled = settled_moved b b (Remains p k bs q xs i) (Remains p k bs q xs (i + 1)) (λ y h. h) (λ a h. (a, (on a h, good_itself a))) q q (omega arith) ds so_far.settled;
       found = so_far.found;
     }
       where
-        on : (a : State) → Waits p k bs (q + 1) a ⊎ StandsFrom p k xs q i a → Waits p k bs (q + 1) a ⊎ StandsFrom p k xs q (i + 1) a
+        on : (a : State) → Remains p k bs q xs i a → Remains p k bs q xs (i + 1) a
         on a (inl h) = inl h
         on a (inr s) = elim (cases_eq s.index i) [
           | inl same ↦ absurd (let e = rw same at s.active in cc)
           | inr apart ↦ inr (record { index = s.index; late = omega (arith, s.late, apart); within = s.within; active = s.active; is = s.is })
         ]
 
-    pub worked_more : (cs : List (List Label)) (c : Option ℤ) → IsLabel p g k prices q (label_in xs i) → IsDone p g k prices bs cs q (label_in xs i) b c → IsWorked p g k prices cs q xs (i + 1) c
-    worked_more cs c pair done = record {
+    -- a settled label dominates the one at i
+    worked_dominated : IsDominated ds (label_in xs i) → IsWorked p g k prices bs ds q xs (i + 1) b
+    worked_dominated dominated = record {
+      table = so_far.table;
+      covers = covers_passed p g k prices b (Remains p k bs q xs i) (Remains p k bs q xs (i + 1)) x y good settled.covers on _ 1 so_far.covers;
+      settled = λ m w active. (let s = so_far.settled m w active in record {
+        load = s.load;
+        low = s.low;
+        covers = covers_passed p g k prices b (Remains p k bs q xs i) (Remains p k bs q xs (i + 1)) x y good settled.covers on _ 0 s.covers;
+      });
+      found = so_far.found;
+    }
+      where
+        x : State
+        x = state_of p k q (label_in xs i)
+
+        settled : IsSettled p g k prices b (Remains p k bs q xs i) q (label_in ds dominated.index)
+        settled = so_far.settled dominated.index dominated.within dominated.active
+
+        y : State
+        y = state_of p k settled.load (label_in ds dominated.index)
+
+        good : IsAsGood y x
+        good = dominating_good p k settled.load q settled.low _ _ dominated.good
+
+        on : (a : State) → Remains p k bs q xs i a → (a ≡ x) ⊎ Remains p k bs q xs (i + 1) a
+        on a (inl h) = inr (inl h)
+        on a (inr s) = elim (cases_eq s.index i) [
+          | inl same ↦ inl (sym (rw same at s.is))
+          | inr apart ↦ inr (inr (record { index = s.index; late = omega (arith, s.late, apart); within = s.within; active = s.active; is = s.is }))
+        ]
+
+    pub worked_passed : IsPassed ds (label_in xs i) → IsWorked p g k prices bs ds q xs (i + 1) b
+    worked_passed (inl dead) = worked_skip dead
+    worked_passed (inr dominated) = worked_dominated dominated
+
+    pub worked_more : (cs : List (List Label)) (es : List Label) (c : Option ℤ) → IsLabel p g k prices q (label_in xs i) → IsDone p g k prices bs cs q (label_in xs i) b c
+        → IsKept ds es (label_in xs i) → IsWorked p g k prices cs es q xs (i + 1) c
+    worked_more cs es c pair done kept = record {
       table = done.table;
-      covers = covers_worked p g k prices b c (λ a. Waits p k bs (q + 1) a ⊎ StandsFrom p k xs q i a) (λ a. Waits p k cs (q + 1) a ⊎ StandsFrom p k xs q (i + 1) a) (state_of p k q (label_in xs i))
-          done.closes.lower done.closes.counted spread others so_far.covers;
+      covers = covers_worked p g k prices b c (Remains p k bs q xs i) (Remains p k cs q xs (i + 1)) x done.closes.lower done.closes.counted spread (remains_behind cs done.moved) _ 1 so_far.covers;
+      settled = settled;
       found = found done.closes.from;
     }
       where
-        spread : (j : ℕ) → CanStep p g (state_of p k q (label_in xs i)) j
-            → (t : State) × ((Waits p k cs (q + 1) t ⊎ StandsFrom p k xs q (i + 1) t) × IsAsGood t (step p k prices (state_of p k q (label_in xs i)) j))
+        x : State
+        x = state_of p k q (label_in xs i)
+
+        spread : (j : ℕ) → CanStep p g x j → (t : State) × (Remains p k cs q xs (i + 1) t × IsAsGood t (step p k prices x j))
         spread j can = let t = done.met j can in (t.0, (inl t.1.0, t.1.1))
 
-        others : (a : State) → Waits p k bs (q + 1) a ⊎ StandsFrom p k xs q i a
-            → (a ≡ state_of p k q (label_in xs i)) ⊎ ((t : State) × ((Waits p k cs (q + 1) t ⊎ StandsFrom p k xs q (i + 1) t) × IsAsGood t a))
-        others a (inl h) = let t = done.moved a h in inr (t.0, (inl t.1.0, t.1.1))
-        others a (inr s) = elim (cases_eq s.index i) [
-          | inl same ↦ inl (sym (rw same at s.is))
-          | inr apart ↦ inr (a, (inr (record { index = s.index; late = omega (arith, s.late, apart); within = s.within; active = s.active; is = s.is }), good_itself a))
+        here : IsSettled p g k prices c (Remains p k cs q xs (i + 1)) q (label_in xs i)
+        here = record {
+          load = q;
+          low = omega arith;
+          covers = covers_itself p g k prices b c (Remains p k bs q xs i) (Remains p k cs q xs (i + 1)) x done.closes.lower done.closes.counted spread (remains_behind cs done.moved);
+        }
+
+        before : (m : ℕ) → m < length ds → (label_in ds m).active ≡ true → IsSettled p g k prices c (Remains p k cs q xs (i + 1)) q (label_in ds m)
+        before m w active = (let s = so_far.settled m w active in record {
+          load = s.load;
+          low = s.low;
+          covers = covers_worked p g k prices b c (Remains p k bs q xs i) (Remains p k cs q xs (i + 1)) x done.closes.lower done.closes.counted spread (remains_behind cs done.moved) _ 0 s.covers;
+        })
+
+        settled : AreSettled p g k prices c (Remains p k cs q xs (i + 1)) q es
+        settled m w active = elim (kept.others m w active) [
+          | inl new ↦ rw new here
+          | inr old ↦ rw old.1 (before m old.0 (rw (← old.1) active))
         ]
 
-        found : (c ≡ b) ⊎ (CanEnd p g (state_of p k q (label_in xs i)) × (c ≡ Some (route_value p (label_in xs i)))) → IsFound p g k prices c
+        found : (c ≡ b) ⊎ (CanEnd p g x × (c ≡ Some (route_value p (label_in xs i)))) → IsFound p g k prices c
         found (inl same) = rw same so_far.found
         found (inr h) = rw h.1 (pair.reached.0 ++ [], (pair.reached.1.completes [] h.0, pair.reached.1.value []))
 
   -- the labels of a load were taken out
-  module _ (bs : List (List Label)) (q : ℕ) (b : Option ℤ) (swept : IsSwept p g k prices bs q b) where
+  module _ (bs : List (List Label)) (ds : List Label) (q : ℕ) (b : Option ℤ) (swept : IsSwept p g k prices bs ds q b) where
     pub taken_pairs : AreLabels p g k prices q (labels_at bs q)
     taken_pairs = record { each = λ m w active. swept.table.each q m (omega arith) w active }
 
-    pub taken_worked : (ys : List Label) → IsWorked p g k prices (set bs q ys) q (labels_at bs q) 0 b
+    pub taken_worked : (ys : List Label) → IsWorked p g k prices (set bs q ys) ds q (labels_at bs q) 0 b
     taken_worked ys = record {
       table = record {
         count = length-set bs q ys ∙ swept.table.count;
         each = λ n m late w active. (let e = other n late in rw e (swept.table.each n m (omega (arith, late)) (rw e at w) (rw e at active)));
       };
-      covers = covers_moved p g k prices b b (Waits p k bs q) (λ a. Waits p k (set bs q ys) (q + 1) a ⊎ StandsFrom p k (labels_at bs q) q 0 a) (λ y h. h) (λ a h. (a, (on a h, good_itself a))) swept.covers;
+      covers = covers_moved p g k prices b b (Waits p k bs q) (Remains p k (set bs q ys) q (labels_at bs q) 0) (λ y h. h) (λ a h. (a, (on a h, good_itself a))) _ 1 swept.covers;
+      settled = settled_moved b b (Waits p k bs q) (Remains p k (set bs q ys) q (labels_at bs q) 0) (λ y h. h) (λ a h. (a, (on a h, good_itself a))) q q (omega arith) ds swept.settled;
       found = swept.found;
     }
       where
         other : (n : ℕ) → q + 1 ≤ n → labels_at (set bs q ys) n ≡ labels_at bs n
         other n late = get_or-set_other bs q n ys [] (λ e. omega (arith, e, late))
 
-        on : (a : State) → Waits p k bs q a → Waits p k (set bs q ys) (q + 1) a ⊎ StandsFrom p k (labels_at bs q) q 0 a
+        on : (a : State) → Waits p k bs q a → Remains p k (set bs q ys) q (labels_at bs q) 0 a
         on a w = elim (cases_eq w.load q) [
           | inl same ↦ inr (record { index = w.index; late = omega arith; within = rw same at w.within; active = rw same at w.active; is = rw same at w.is })
           | inr apart ↦ inl (let e = other w.load (omega (arith, w.late, apart)) in
               record { load = w.load; late = omega (arith, w.late, apart); index = w.index; within = rw e w.within; active = rw e w.active; is = rw e w.is })
         ]
 
-  pub swept_more : (bs : List (List Label)) (q : ℕ) (xs : List Label) (i : ℕ) (b : Option ℤ) → length xs ≤ i → IsWorked p g k prices bs q xs i b → IsSwept p g k prices bs (q + 1) b
-  swept_more bs q xs i b all h = record {
+  pub swept_more : (bs : List (List Label)) (ds : List Label) (q : ℕ) (xs : List Label) (i : ℕ) (b : Option ℤ) → length xs ≤ i → IsWorked p g k prices bs ds q xs i b → IsSwept p g k prices bs ds (q + 1) b
+  swept_more bs ds q xs i b all h = record {
     table = h.table;
-    covers = covers_moved p g k prices b b (λ a. Waits p k bs (q + 1) a ⊎ StandsFrom p k xs q i a) (Waits p k bs (q + 1)) (λ y h. h) (λ a h. (a, (on a h, good_itself a))) h.covers;
+    covers = covers_moved p g k prices b b (Remains p k bs q xs i) (Waits p k bs (q + 1)) (λ y h. h) (λ a h. (a, (on a h, good_itself a))) _ 1 h.covers;
+    settled = settled_moved b b (Remains p k bs q xs i) (Waits p k bs (q + 1)) (λ y h. h) (λ a h. (a, (on a h, good_itself a))) q (q + 1) (omega arith) ds h.settled;
     found = h.found;
   }
     where
-      on : (a : State) → Waits p k bs (q + 1) a ⊎ StandsFrom p k xs q i a → Waits p k bs (q + 1) a
+      on : (a : State) → Remains p k bs q xs i a → Waits p k bs (q + 1) a
       on a (inl h) = h
       on a (inr s) = absurd (omega (arith, s.late, s.within, all))
 
-  pub least_swept : (bs : List (List Label)) (q : ℕ) (b : Option ℤ) → length bs ≤ q → IsSwept p g k prices bs q b → IsLeastOrZero p g k prices (or_zero b)
-  least_swept bs q b all h = least_at_end p g k prices (Waits p k bs q) none b h.covers h.found
+  pub least_swept : (bs : List (List Label)) (ds : List Label) (q : ℕ) (b : Option ℤ) → length bs ≤ q → IsSwept p g k prices bs ds q b → IsLeastOrZero p g k prices (or_zero b)
+  least_swept bs ds q b all h = least_at_end p g k prices (Waits p k bs q) none b h.covers h.found
     where
       none : (a : State) → ¬ Waits p k bs q a
       none a w = let e : labels_at bs w.load ≡ [] = get_or_past bs w.load [] (omega (arith, w.late, all)) in omega (arith, ap (λ (xs : List Label). length xs) e, w.within)
@@ -139,7 +213,7 @@ module _ (p : Problem) (g : Region) (k : ℕ) (prices : List ℤ) where
     pub start_label : IsBounded p 0 x → IsLabel p g k prices 0 x
     start_label bounded = record { bounded = bounded; reached = ([], reaches_same p g k prices [] _ _ same (reaches_none p g k prices)) }
 
-    begun : x.active ≡ true → IsWorked p g k prices (replicate (p.capacity + 1) []) 0 (x ∷ []) 0 None
+    begun : x.active ≡ true → IsWorked p g k prices (replicate (p.capacity + 1) []) [] 0 (x ∷ []) 0 None
     begun active = record {
       table = bare_table;
       covers = λ s h. inr (record {
@@ -147,15 +221,20 @@ module _ (p : Problem) (g : Region) (k : ℕ) (prices : List ℤ) where
         waits = inr (record { index = 0; late = omega arith; within = omega arith; active = active; is = refl });
         rest = s;
         completes = completes_too p g k prices s (state_of p k 0 x) (start p) (good_same _ _ same) h;
+        short = omega arith;
         low = value_no_greater p g k prices s (state_of p k 0 x) (start p) (good_same _ _ same);
       });
+      settled = λ m w active. absurd (omega (arith, w));
       found = tt;
     }
 
     pub swept_begun : (bs cs : List (List Label)) (c : Option ℤ) → bs ≡ replicate (p.capacity + 1) [] → x.active ≡ true → IsLabel p g k prices 0 x → IsDone p g k prices bs cs 0 x None c
-        → IsSwept p g k prices cs 1 c
-    swept_begun bs cs c bare_is active label done =
-        swept_more cs 0 (x ∷ []) 1 c (omega arith) (worked_more (replicate (p.capacity + 1) []) 0 (x ∷ []) 0 None (begun active) cs c label (rw bare_is at done))
+        → IsSwept p g k prices cs [] 1 c
+    swept_begun bs cs c bare_is active label done = forget (swept_more cs (x ∷ []) 0 (x ∷ []) 1 c (omega arith)
+        (worked_more (replicate (p.capacity + 1) []) [] 0 (x ∷ []) 0 None (begun active) cs (x ∷ []) c label (rw bare_is at done) (first_kept x active)))
+      where
+        forget : IsSwept p g k prices cs (x ∷ []) 1 c → IsSwept p g k prices cs [] 1 c
+        forget h = record { table = h.table; covers = h.covers; settled = λ m w stands. absurd (omega (arith, w)); found = h.found }
 
 -- the depot with an empty memory is the beginning
 pub start_same : (p : Problem) (k : ℕ) (x : Label) → x.customer ≡ 0 → x.time ≡ ready p 0 → x.cost ≡ pos 0 → x.memory ≡ 0 → IsSameState (state_of p k 0 x) (start p)

@@ -1,17 +1,17 @@
 -- The arcs that a leaf allows, with what a step over them needs.
-use Rattle.std.specs.Prelude.{◌≡◌, ◌↔◌, ℕ, ◌+◌, ◌*◌, ◌<◌, ◌≤◌, List, length, slice_index_or, IsTrue, IsFalse, Bool, true, ◌==◌, ℤ, pos, ◌+ℤ◌, ◌≤ℤ◌, Option, Some, ◌⊎◌}
+use Rattle.std.specs.Prelude.{◌≡◌, ◌↔◌, ℕ, ◌+◌, ◌*◌, ◌<◌, ◌≤◌, List, length, slice_index_or, IsTrue, IsFalse, Bool, true, false, ◌==◌, ℤ, pos, ◌+ℤ◌, ◌≤ℤ◌, Option, Some, ◌⊎◌}
 use Rattle.std.specs.List.{All, list_any}
 use Rattle.solomon_reader.specs.declared.limits.TheConstants.{MOST_TIME, MOST_DISTANCE, MOST_PRICE, MOST_DEMAND}
 use Rattle.solomon_reader.specs.Problem.{Problem, IsCustomer, customer_count, demand, ready, due, service}
 use Rattle.solomon_reader.specs.Distance.{distance}
 use Rattle.solomon_reader.specs.Region.{Region, IsAllowed}
-use Rattle.solomon_reader.specs.States.{begins, arc_value, step, CanStep, CanEnd, IsSameState}
+use Rattle.solomon_reader.specs.States.{State, begins, arc_value, step, CanStep, CanEnd, IsSameState}
 use Rattle.tree_bound.specs.declared.arcs.AllowedArc.{AllowedArc}
 use Rattle.tree_bound.specs.declared.arcs.ArcRow.{ArcRow}
 use Rattle.tree_bound.specs.declared.label.Label.{Label}
-use Rattle.tree_bound.specs.Cover.{IsFound, CoversAll, IsAtMost}
+use Rattle.tree_bound.specs.Cover.{IsFound, CoversAfter, CoversAll, IsAtMost}
 use Rattle.tree_bound.specs.Memories.{bit_in, memory_at}
-use Rattle.tree_bound.specs.Labels.{state_of, IsBounded, IsTable, IsMoved, IsMet, Waits, StandsFrom, most_grains}
+use Rattle.tree_bound.specs.Labels.{label_in, state_of, IsBounded, IsTable, IsMoved, IsMet, IsDominated, Waits, StandsFrom, most_grains}
 
 -- a price in its range
 pub record IsPriced (z : ℤ) : Type 0 where
@@ -103,17 +103,36 @@ pub record ClosesRoute (p : Problem) (g : Region) (k q : ℕ) (x : Label) (b c :
   pub counted : CanEnd p g (state_of p k q x) → IsAtMost c (route_value p x)
   pub from : (c ≡ b) ⊎ (CanEnd p g (state_of p k q x) × (c ≡ Some (route_value p x)))
 
--- the labels of the list below i were worked, and all at loads below q
-pub record IsWorked (p : Problem) (g : Region) (k : ℕ) (prices : List ℤ) (bs : List (List Label)) (q : ℕ) (xs : List Label) (i : ℕ) (b : Option ℤ) : Type 0 where
+-- x is the label of a load of at most q, and all that may come after it is covered by fewer stops
+pub record IsSettled (p : Problem) (g : Region) (k : ℕ) (prices : List ℤ) (b : Option ℤ) (Waiting : State → Type 0) (q : ℕ) (x : Label) : Type 0 where
+  pub load : ℕ
+  pub low : load ≤ q
+  pub covers : CoversAfter p g k prices b Waiting (state_of p k load x) 0
+
+abbrev pub AreSettled : Problem → Region → ℕ → List ℤ → Option ℤ → (State → Type 0) → ℕ → List Label → Type 0
+AreSettled p g k prices b Waiting q ds = (m : ℕ) → m < length ds → (label_in ds m).active ≡ true → IsSettled p g k prices b Waiting q (label_in ds m)
+
+-- the state is that of a label that stands at a higher load, or in the list at an index from i on
+abbrev pub Remains : Problem → ℕ → List (List Label) → ℕ → List Label → ℕ → State → Type 0
+Remains p k bs q xs i a = Waits p k bs (q + 1) a ⊎ StandsFrom p k xs q i a
+
+-- the labels of the list below i were worked or passed over, and all at loads below q
+pub record IsWorked (p : Problem) (g : Region) (k : ℕ) (prices : List ℤ) (bs : List (List Label)) (ds : List Label) (q : ℕ) (xs : List Label) (i : ℕ) (b : Option ℤ) : Type 0 where
   pub table : IsTable p g k prices bs (q + 1)
-  pub covers : CoversAll p g k prices b (λ a. Waits p k bs (q + 1) a ⊎ StandsFrom p k xs q i a)
+  pub covers : CoversAll p g k prices b (Remains p k bs q xs i)
+  pub settled : AreSettled p g k prices b (Remains p k bs q xs i) q ds
   pub found : IsFound p g k prices b
 
 -- all loads below q were worked
-pub record IsSwept (p : Problem) (g : Region) (k : ℕ) (prices : List ℤ) (bs : List (List Label)) (q : ℕ) (b : Option ℤ) : Type 0 where
+pub record IsSwept (p : Problem) (g : Region) (k : ℕ) (prices : List ℤ) (bs : List (List Label)) (ds : List Label) (q : ℕ) (b : Option ℤ) : Type 0 where
   pub table : IsTable p g k prices bs q
   pub covers : CoversAll p g k prices b (Waits p k bs q)
+  pub settled : AreSettled p g k prices b (Waits p k bs q) q ds
   pub found : IsFound p g k prices b
+
+-- nothing has to be done about x: it doesn't stand, or a settled label dominates it
+abbrev pub IsPassed : List Label → Label → Type 0
+IsPassed ds x = (x.active ≡ false) ⊎ IsDominated ds x
 
 -- x was worked
 pub record IsDone (p : Problem) (g : Region) (k : ℕ) (prices : List ℤ) (bs cs : List (List Label)) (q : ℕ) (x : Label) (b c : Option ℤ) : Type 0 where

@@ -1,5 +1,5 @@
 -- How far the work has come: each way to go on from the start is covered by the best so far, or by a state that waits.
-use Rattle.std.specs.Prelude.{◌≡◌, ℕ, ◌⊎◌, List, ℤ, pos, ◌≤ℤ◌, Option, Some, None}
+use Rattle.std.specs.Prelude.{◌≡◌, ℕ, ◌+◌, ◌<◌, ◌⊎◌, List, length, ℤ, pos, ◌≤ℤ◌, Option, Some, None}
 use Rattle.solomon_reader.specs.Problem.{Problem}
 use Rattle.solomon_reader.specs.Region.{Region}
 use Rattle.solomon_reader.specs.States.{State, start, Completes, value_with, Reaches}
@@ -9,20 +9,25 @@ abbrev pub IsAtMost : Option ℤ → ℤ → Type 0
 IsAtMost None z = ⊥
 IsAtMost (Some m) z = m ≤ℤ z
 
--- a state that waits, and stops after it at a value of at most z
-pub record Witness (p : Problem) (g : Region) (k : ℕ) (prices : List ℤ) (Waits : State → Type 0) (z : ℤ) : Type 0 where
+-- a state that waits, and fewer than n stops after it at a value of at most z
+pub record Witness (p : Problem) (g : Region) (k : ℕ) (prices : List ℤ) (Waits : State → Type 0) (z : ℤ) (n : ℕ) : Type 0 where
   pub state : State
   pub waits : Waits state
   pub rest : List ℕ
   pub completes : Completes p g k prices state rest
+  pub short : length rest < n
   pub low : value_with p k prices state rest ≤ℤ z
 
-abbrev pub IsCovered : Problem → Region → ℕ → List ℤ → Option ℤ → (State → Type 0) → ℤ → Type 0
-IsCovered p g k prices b Waits z = IsAtMost b z ⊎ Witness p g k prices Waits z
+abbrev pub IsCovered : Problem → Region → ℕ → List ℤ → Option ℤ → (State → Type 0) → ℤ → ℕ → Type 0
+IsCovered p g k prices b Waits z n = IsAtMost b z ⊎ Witness p g k prices Waits z n
+
+-- all that may come after a is covered, by fewer stops than it has and so many more
+abbrev pub CoversAfter : Problem → Region → ℕ → List ℤ → Option ℤ → (State → Type 0) → State → ℕ → Type 0
+CoversAfter p g k prices b Waits a more = (s : List ℕ) → Completes p g k prices a s → IsCovered p g k prices b Waits (value_with p k prices a s) (length s + more)
 
 -- all that may come after the start is covered
 abbrev pub CoversAll : Problem → Region → ℕ → List ℤ → Option ℤ → (State → Type 0) → Type 0
-CoversAll p g k prices b Waits = (s : List ℕ) → Completes p g k prices (start p) s → IsCovered p g k prices b Waits (value_with p k prices (start p) s)
+CoversAll p g k prices b Waits = CoversAfter p g k prices b Waits (start p) 1
 
 -- the best so far is the value of stops that complete the start
 abbrev pub IsFound : Problem → Region → ℕ → List ℤ → Option ℤ → Type 0

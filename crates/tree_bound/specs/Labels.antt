@@ -18,7 +18,7 @@ label_in xs m = slice_index_or xs m blank
 abbrev pub state_of : Problem → ℕ → ℕ → Label → State
 state_of p k q x = record { last = x.customer; time = x.time; load = q; cost = x.cost; memory = memory_at p k x.customer x.memory }
 
--- of two labels of one load: a has the same last customer as b, remembers nothing more, and neither its time nor its cost is greater
+-- of two labels, the load of a being no greater: a has the same last customer as b, remembers nothing more, and neither its time nor its cost is greater
 pub record Dominates (a b : Label) : Type 0 where
   pub customer : a.customer ≡ b.customer
   pub memory : (i : ℕ) → has a.memory i ≡ true → has b.memory i ≡ true

@@ -62,8 +62,8 @@ ClosesRouteIn l q x b c = ClosesRoute (problem_of l) (region_in l) l.neighbours.
 abbrev pub IsDoneIn : Leaf → List (List Label) → List (List Label) → ℕ → Label → Option ℤ → Option ℤ → Type 0
 IsDoneIn l bs cs q x b c = IsDone (problem_of l) (region_in l) l.neighbours.now.k l.prices.now bs cs q x b c
 
-abbrev pub IsWorkedIn : Leaf → List (List Label) → ℕ → List Label → ℕ → Option ℤ → Type 0
-IsWorkedIn l bs q xs i b = IsWorked (problem_of l) (region_in l) l.neighbours.now.k l.prices.now bs q xs i b
+abbrev pub IsWorkedIn : Leaf → List (List Label) → List Label → ℕ → List Label → ℕ → Option ℤ → Type 0
+IsWorkedIn l bs ds q xs i b = IsWorked (problem_of l) (region_in l) l.neighbours.now.k l.prices.now bs ds q xs i b
 
-abbrev pub IsSweptIn : Leaf → List (List Label) → ℕ → Option ℤ → Type 0
-IsSweptIn l bs q b = IsSwept (problem_of l) (region_in l) l.neighbours.now.k l.prices.now bs q b
+abbrev pub IsSweptIn : Leaf → List (List Label) → List Label → ℕ → Option ℤ → Type 0
+IsSweptIn l bs ds q b = IsSwept (problem_of l) (region_in l) l.neighbours.now.k l.prices.now bs ds q b

@@ -1,7 +1,7 @@
 //! The labels of one load.
 
-ghost use Rattle.std.specs.Prelude.{◌≡◌, ◌<◌, ◌≤◌, length, [], IfOk, IsTrue, IsFalse};
-ghost use Rattle.tree_bound.specs.Labels.{IsDominated, IsThinned, IsPut};
+ghost use Rattle.std.specs.Prelude.{◌≡◌, ◌<◌, ◌≤◌, length, [], true, IfOk, IsTrue, IsFalse};
+ghost use Rattle.tree_bound.specs.Labels.{IsDominated, IsThinned, IsPut, IsKept};
 
 use crate::label::Label;
 use std::alloc::{AllocError, Global};
@@ -56,41 +56,21 @@ struct Entry {
     index: usize,
 }
 
-/// The labels with one last customer and memory in order of time; each later one costs less.
-#[derive(Drop)]
-struct Group {
-    customer: u16,
-    memory: u16,
-    /// The next group of the same class.
-    next: usize,
-    entries: Vec<Entry>,
-}
-
-impl Group {
-    /// The index of the label that dominates another one, if one of the group does.
-    fn dominating(&self, label: &Label) -> usize {
-        if self.customer != label.customer || self.memory & label.memory != self.memory {
-            return NONE;
-        }
-        let entries = self.entries.as_slice();
-        let count = earlier(entries, label.time.saturating_add(1));
-        if count == 0 {
-            return NONE;
-        }
-        entries[count - 1].index
-    }
-
-    /// Whether a label may dominate some of the group.
-    fn may_be_dominated(&self, label: &Label) -> bool {
-        self.customer == label.customer && self.memory & label.memory == label.memory
-    }
-}
-
 /// How many entries are earlier than a time.
 fn earlier(entries: &[Entry], time: u64) -> usize
     ensures { result ≤ length entries.now }
 {
     entries.partition_point(|entry| entry.time < time)
+}
+
+/// The index of the label that dominates another one with at least the memory of a group, if one of the
+/// group does.
+fn dominating_in(entries: &[Entry], label: &Label) -> usize {
+    let count = earlier(entries, label.time.saturating_add(1));
+    if count == 0 || entries[count - 1].cost > label.cost {
+        return NONE;
+    }
+    entries[count - 1].index
 }
 
 /// Drops the labels of a group that another one dominates, and says how many. A free index is where
@@ -118,14 +98,80 @@ fn drop_from(
     dropped
 }
 
-/// The labels of one load. Contracts see them as a list; how they are looked up carries no proof, since
-/// what a lookup finds is held against the labels themselves.
+/// The labels with one last customer. Those with one memory are a group, in order of time; each later one
+/// costs less.
+#[derive(Drop)]
+struct Groups {
+    customer: u16,
+    /// The memory of each group, and its entries.
+    memories: Vec<u16>,
+    entries: Vec<Vec<Entry>>,
+}
+
+impl Groups {
+    /// How many groups there are.
+    fn count(&self) -> usize
+        ensures memories { result ≤ length self.now.memories.items }
+        ensures entries { result ≤ length self.now.entries.items }
+    {
+        self.memories.len().min(self.entries.len())
+    }
+
+    /// The index of a label that dominates another one with this last customer, if one does.
+    fn dominating(&self, label: &Label) -> usize {
+        for at in 0..self.count() {
+            let memory = self.memories[at];
+            if memory & label.memory == memory {
+                let index = dominating_in(self.entries[at].as_slice(), label);
+                if index != NONE {
+                    return index;
+                }
+            }
+        }
+        NONE
+    }
+
+    /// The group with a memory, or the number of groups where there is none.
+    fn group_of(&self, memory: u16) -> usize {
+        for at in 0..self.count() {
+            if self.memories[at] == memory {
+                return at;
+            }
+        }
+        self.count()
+    }
+
+    /// Enters a label's index into its group.
+    fn enter(&mut self, alloc: Global, label: &Label, index: usize) -> Result<(), AllocError> {
+        let group = self.group_of(label.memory);
+        if group == self.count() {
+            self.memories.push(label.memory)?;
+            self.entries.push(Vec::new(alloc))?;
+        }
+        if group >= self.entries.len() {
+            return Ok(());
+        }
+        let place = earlier(self.entries[group].as_slice(), label.time);
+        let (time, cost) = (label.time, label.cost);
+        self.entries[group].insert(place, Entry { time, cost, index })?;
+        Ok(())
+    }
+}
+
+/// Where the groups of a customer are, or should be.
+fn place_of(groups: &[Groups], customer: u16) -> usize
+    ensures { result ≤ length groups.now }
+{
+    groups.partition_point(|found| found.customer < customer)
+}
+
+/// Labels, looked up by last customer and memory. Contracts see them as a list; how they are looked up
+/// carries no proof, since what a lookup finds is held against the labels themselves.
 #[derive(Drop)]
 pub(crate) struct Bucket {
     labels: Vec<Label>,
-    groups: Vec<Group>,
-    /// The first group of each class of customers.
-    heads: Vec<usize>,
+    /// In order of customers.
+    groups: Vec<Groups>,
     /// An index at which no label stands, where one is known.
     free: usize,
 }
@@ -147,7 +193,6 @@ impl Bucket {
         Bucket {
             labels: Vec::new(alloc),
             groups: Vec::new(alloc),
-            heads: Vec::new(alloc),
             free: NONE,
         }
     }
@@ -164,62 +209,32 @@ impl Bucket {
         self.labels.iter().filter(|label| label.active).count()
     }
 
-    /// The class of a customer.
-    fn class(&self, customer: u16) -> usize {
-        let count = self.heads.len();
-        usize::from(customer).checked_rem(count).unwrap_or(NONE)
-    }
-
-    /// The first group of a customer's class.
-    fn first(&self, customer: u16) -> usize {
-        let head = self.heads.get(self.class(customer));
-        head.copied().unwrap_or(NONE)
-    }
-
-    /// The group with a label's last customer and memory.
-    fn group_of(&self, label: &Label) -> usize {
-        let mut group = self.first(label.customer);
-        for _turn in 0..self.groups.len() {
-            if group >= self.groups.len() {
-                return NONE;
-            }
-            let found = &self.groups[group];
-            if found.customer == label.customer && found.memory == label.memory {
-                return group;
-            }
-            group = found.next;
-        }
-        NONE
-    }
-
     /// Whether a label that stands dominates another one, as far as the groups of its customer tell.
     pub(crate) fn dominates(&self, label: &Label) -> bool
         ensures { IsTrue result → IsDominated self.now label.now }
     {
-        let mut group = self.first(label.customer);
-        for _turn in 0..self.groups.len() {
-            if group >= self.groups.len() {
-                return false;
-            }
-            let found = &self.groups[group];
-            if dominates_at(self.labels.as_slice(), found.dominating(label), label) {
-                return true;
-            }
-            group = found.next;
+        let place = place_of(self.groups.as_slice(), label.customer);
+        if place >= self.groups.len() {
+            return false;
         }
-        false
+        let index = self.groups[place].dominating(label);
+        dominates_at(self.labels.as_slice(), index, label)
     }
 
     /// Drops the labels of a group that another one dominates, and says how many.
-    fn drop_in(&mut self, group: usize, label: &Label) -> usize
+    fn drop_in(&mut self, place: usize, group: usize, label: &Label) -> usize
         ensures { IsThinned self.old self.new label.now }
     {
-        if group >= self.groups.len() || !self.groups[group].may_be_dominated(label) {
+        if place >= self.groups.len() || group >= self.groups[place].count() {
+            return 0;
+        }
+        let memory = self.groups[place].memories[group];
+        if memory & label.memory != label.memory {
             return 0;
         }
         drop_from(
             self.labels.as_mut_slice(),
-            &mut self.groups[group].entries,
+            &mut self.groups[place].entries[group],
             &mut self.free,
             label,
         )
@@ -227,78 +242,35 @@ impl Bucket {
 
     /// Drops the labels that another one dominates, as far as the groups of its customer tell, and says
     /// how many.
-    pub(crate) fn drop_dominated(&mut self, label: &Label) -> usize
+    fn drop_dominated(&mut self, label: &Label) -> usize
         ensures { IsThinned self.old self.new label.now }
     {
+        let place = place_of(self.groups.as_slice(), label.customer);
+        if place >= self.groups.len() {
+            return 0;
+        }
         let mut dropped: usize = 0;
-        let mut group = self.first(label.customer);
-        for _turn in 0..self.groups.len() {
-            if group >= self.groups.len() {
-                return dropped;
-            }
-            let next = self.groups[group].next;
-            dropped = dropped.saturating_add(self.drop_in(group, label));
-            group = next;
+        for group in 0..self.groups[place].count() {
+            dropped = dropped.saturating_add(self.drop_in(place, group, label));
         }
         dropped
     }
 
-    /// Links a group to its class.
-    fn link(&mut self, group: usize)
-        ensures { self.new ≡ self.old }
-    {
-        if group >= self.groups.len() {
-            return;
-        }
-        let class = self.class(self.groups[group].customer);
-        if class < self.heads.len() {
-            self.groups[group].next = self.heads[class];
-            self.heads[class] = group;
-        }
-    }
-
-    /// Makes twice as many classes as there are groups.
-    fn rehash(&mut self, alloc: Global) -> Result<(), AllocError>
+    /// Enters a label's index into the groups of its customer.
+    fn enter(&mut self, alloc: Global, label: &Label, index: usize) -> Result<(), AllocError>
         ensures { IfOk result (λ _. self.new ≡ self.old) }
     {
-        self.heads = vec![in alloc; NONE; self.groups.len().saturating_mul(2).max(8)]?;
-        for group in 0..self.groups.len() {
-            self.link(group);
+        let customer = label.customer;
+        let place = place_of(self.groups.as_slice(), customer);
+        if place >= self.groups.len() || self.groups[place].customer != customer {
+            let groups = Groups {
+                customer,
+                memories: Vec::new(alloc),
+                entries: Vec::new(alloc),
+            };
+            self.groups.insert(place, groups)?;
         }
-        Ok(())
-    }
-
-    /// Adds the group with a label's last customer and memory.
-    fn add_group(&mut self, alloc: Global, label: &Label) -> Result<usize, AllocError>
-        ensures { IfOk result (λ _. self.new ≡ self.old) }
-    {
-        let group = self.groups.len();
-        self.groups.push(Group {
-            customer: label.customer,
-            memory: label.memory,
-            next: NONE,
-            entries: Vec::new(alloc),
-        })?;
-        if group >= self.heads.len() {
-            self.rehash(alloc)?;
-        } else {
-            self.link(group);
-        }
-        Ok(group)
-    }
-
-    /// Enters a label's index into its group.
-    fn enter(&mut self, group: usize, label: &Label, index: usize) -> Result<(), AllocError>
-        ensures { IfOk result (λ _. self.new ≡ self.old) }
-    {
-        if group >= self.groups.len() {
-            return Ok(());
-        }
-        let at = earlier(self.groups[group].entries.as_slice(), label.time);
-        let (time, cost) = (label.time, label.cost);
-        let entry = Entry { time, cost, index };
-        self.groups[group].entries.insert(at, entry)?;
-        Ok(())
+        self.groups[place].enter(alloc, label, index)
     }
 
     /// Puts a label at the free index, or behind all others, and says where.
@@ -314,15 +286,14 @@ impl Bucket {
         Ok(index)
     }
 
-    /// Puts a label in.
-    pub(crate) fn put(&mut self, alloc: Global, label: &Label) -> Result<(), AllocError>
-        ensures { IfOk result (λ _. IsPut self.old self.new label.now) }
+    /// Puts a label in, drops those that it dominates, and says how many.
+    pub(crate) fn keep(&mut self, alloc: Global, label: &Label) -> Result<usize, AllocError>
+        requires active { label.now.active ≡ true }
+        ensures { IfOk result (λ _. IsKept self.old self.new label.now) }
     {
+        let dropped = self.drop_dominated(label);
         let index = self.put_label(label)?;
-        let mut group = self.group_of(label);
-        if group >= self.groups.len() {
-            group = self.add_group(alloc, label)?;
-        }
-        self.enter(group, label, index)
+        self.enter(alloc, label, index)?;
+        Ok(dropped)
     }
 }

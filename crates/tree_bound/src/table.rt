@@ -1,7 +1,7 @@
 //! The table: a bucket of labels for each load.
 
 ghost use Rattle.std.specs.Prelude.{◌≡◌, ◌+◌, ◌<◌, length, [], replicate, true, IfOk};
-ghost use Rattle.tree_bound.specs.Labels.{IsAdded};
+ghost use Rattle.tree_bound.specs.Labels.{IsKept, IsAdded};
 
 use crate::bucket::Bucket;
 use crate::fault::BoundFault;
@@ -13,7 +13,7 @@ use std::alloc::{AllocError, Global};
 pub(crate) struct Table {
     pub(crate) alloc: Global,
     pub(crate) buckets: Vec<Bucket>,
-    /// How many labels stand, and how many may.
+    /// How many labels stand, those of the table and the settled ones, and how many may.
     pub(crate) standing: usize,
     pub(crate) state_limit: usize,
 }
@@ -47,12 +47,28 @@ pub(crate) fn keep(table: &mut Table, load: usize, label: &Label) -> Result<(), 
     if table.buckets[load].dominates(label) {
         return Ok(());
     }
-    let dropped = table.buckets[load].drop_dominated(label);
-    table.standing = table.standing.saturating_sub(dropped);
     if table.standing >= table.state_limit {
         return Err(BoundFault::StateLimit);
     }
-    table.buckets[load].put(table.alloc, label)?;
-    table.standing = table.standing.saturating_add(1);
+    let dropped = table.buckets[load].keep(table.alloc, label)?;
+    table.standing = table.standing.saturating_add(1).saturating_sub(dropped);
+    Ok(())
+}
+
+/// Keeps a label that was worked among the settled ones, and drops those that it dominates.
+pub(crate) fn settle(
+    table: &mut Table,
+    settled: &mut Bucket,
+    label: &Label,
+) -> Result<(), BoundFault>
+    requires active { label.now.active ≡ true }
+    ensures table { table.new.buckets.items ≡ table.old.buckets.items }
+    ensures kept { IfOk result (λ _. IsKept settled.old settled.new label.now) }
+{
+    if table.standing >= table.state_limit {
+        return Err(BoundFault::StateLimit);
+    }
+    let dropped = settled.keep(table.alloc, label)?;
+    table.standing = table.standing.saturating_add(1).saturating_sub(dropped);
     Ok(())
 }

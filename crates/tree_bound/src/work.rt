@@ -1,7 +1,9 @@
 //! The least reduced cost of a leaf, by a table over last customer, load and memory.
 
-ghost use Rattle.std.specs.Prelude.{◌≡◌, ◌+◌, ◌<◌, ◌≤◌, length, [], replicate, true, IfOk};
+ghost use Rattle.std.specs.Prelude.{◌≡◌, ◌+◌, ◌<◌, ◌≤◌, length, [], replicate, true, List, IfOk, IsTrue, IsFalse};
 ghost use Rattle.solomon_reader.specs.Relaxed.{IsLeastOrZero};
+ghost use Rattle.tree_bound.specs.declared.label.Label.{Label};
+ghost use Rattle.tree_bound.specs.Arcs.{IsPassed};
 ghost use Rattle.tree_bound.specs.Cover.{or_zero};
 ghost use Rattle.tree_bound.specs.Leaves.{problem_of, region_in, IsLabelIn, AreLabelsIn, IsTableIn, IsDoneIn, IsWorkedIn, IsSweptIn};
 
@@ -10,7 +12,7 @@ use crate::fault::BoundFault;
 use crate::label::Label;
 use crate::leaf::Leaf;
 use crate::steps::{close_route, take_steps};
-use crate::table::{Table, empty_table};
+use crate::table::{Table, empty_table, settle};
 use crate::task::Task;
 use std::alloc::Global;
 use std::mem;
@@ -33,22 +35,32 @@ fn work_label(
     Ok(after)
 }
 
+/// Whether a label has to be worked: it stands, and no settled one dominates it.
+fn is_open(settled: &Bucket, label: &Label) -> bool
+    ensures open { IsTrue result → label.now.active ≡ true }
+    ensures passed { IsFalse result → IsPassed settled.now label.now }
+{
+    label.active && !settled.dominates(label)
+}
+
 /// Works the labels of a load.
 fn work_labels(
     task: &Task<'_, '_>,
     table: &mut Table,
+    settled: &mut Bucket,
     load: usize,
     labels: &[Label],
     best: Option<i64>,
 ) -> Result<Option<i64>, BoundFault>
     requires labels { AreLabelsIn task.now.leaf load labels.now }
-    requires begun { IsWorkedIn task.now.leaf table.old.buckets.items load labels.now 0 best }
-    ensures { IfOk result (λ after. IsWorkedIn task.now.leaf table.new.buckets.items load labels.now (length labels.now) after) }
+    requires begun { IsWorkedIn task.now.leaf table.old.buckets.items settled.old load labels.now 0 best }
+    ensures { IfOk result (λ after. IsWorkedIn task.now.leaf table.new.buckets.items settled.new load labels.now (length labels.now) after) }
 {
     let mut best = best;
     for label in labels {
-        if label.active {
+        if is_open(settled, label) {
             best = work_label(task, table, load, label, best)?;
+            settle(table, settled, label)?;
         }
     }
     Ok(best)
@@ -58,31 +70,34 @@ fn work_labels(
 fn work_load(
     task: &Task<'_, '_>,
     table: &mut Table,
+    settled: &mut Bucket,
     load: usize,
     best: Option<i64>,
 ) -> Result<Option<i64>, BoundFault>
     requires load { load < length table.old.buckets.items }
-    requires swept { IsSweptIn task.now.leaf table.old.buckets.items load best }
-    ensures { IfOk result (λ after. IsSweptIn task.now.leaf table.new.buckets.items (load + 1) after) }
+    requires swept { IsSweptIn task.now.leaf table.old.buckets.items settled.old load best }
+    ensures { IfOk result (λ after. IsSweptIn task.now.leaf table.new.buckets.items settled.new (load + 1) after) }
 {
     let bucket = mem::replace(&mut table.buckets[load], Bucket::new(table.alloc));
-    let after = work_labels(task, table, load, bucket.labels(), best)?;
+    let after = work_labels(task, table, settled, load, bucket.labels(), best)?;
     table.standing = table.standing.saturating_sub(bucket.standing());
     Ok(after)
 }
 
-/// Works all loads from 1 on, the lowest first.
+/// Works all loads from 1 on, the lowest first, so that what is settled is of no greater load than what
+/// remains, and what it dominates needn't be worked.
 fn sweep(
     task: &Task<'_, '_>,
     table: &mut Table,
     best: Option<i64>,
 ) -> Result<Option<i64>, BoundFault>
-    requires { IsSweptIn task.now.leaf table.old.buckets.items 1 best }
-    ensures { IfOk result (λ after. IsSweptIn task.now.leaf table.new.buckets.items (length table.new.buckets.items) after) }
+    requires { IsSweptIn task.now.leaf table.old.buckets.items [] 1 best }
+    ensures { IfOk result (λ after. (settled : List Label) × IsSweptIn task.now.leaf table.new.buckets.items settled (length table.new.buckets.items) after) }
 {
+    let mut settled = Bucket::new(table.alloc);
     let mut best = best;
     for load in 1..table.buckets.len() {
-        best = work_load(task, table, load, best)?;
+        best = work_load(task, table, &mut settled, load, best)?;
     }
     Ok(best)
 }
@@ -90,7 +105,7 @@ fn sweep(
 /// Works the empty beginning at the depot, which the table doesn't keep.
 fn begin(task: &Task<'_, '_>, table: &mut Table) -> Result<Option<i64>, BoundFault>
     requires { table.old.buckets.items ≡ replicate ((problem_of task.now.leaf).capacity + 1) [] }
-    ensures { IfOk result (λ after. IsSweptIn task.now.leaf table.new.buckets.items 1 after) }
+    ensures { IfOk result (λ after. IsSweptIn task.now.leaf table.new.buckets.items [] 1 after) }
 {
     let instance = task.leaf.neighbours.instance;
     let _count = instance.customer_count();

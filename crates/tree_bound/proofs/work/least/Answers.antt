@@ -3,4 +3,4 @@ use Rattle.tree_bound.proofs.Working.{least_swept}
 use Rattle.tree_bound.proofs.work.least.Goals as goal
 
 pub returns : goal.returns
-returns c = rw (← c.in_ok-task.ensures) (least_swept _ _ _ _ _ _ _ (omega arith) c.in_ok-least.ensures)
+returns c = rw (← c.in_ok-task.ensures) (least_swept _ _ _ _ _ c.in_ok-least.ensures.0 _ _ (omega arith) c.in_ok-least.ensures.1)
