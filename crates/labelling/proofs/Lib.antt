@@ -1,7 +1,6 @@
 pub mod Flagged
 pub mod Tabled
 pub mod Narrowing
-pub mod Ranks
 pub mod Places
 pub mod Recalling
 pub mod Ends

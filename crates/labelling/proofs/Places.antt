@@ -8,7 +8,7 @@ use Rattle.solomon_reader.specs.Distance.{distance}
 use Rattle.solomon_reader.specs.Relaxed.{rank, stands_before}
 use Rattle.solomon_reader.specs.Remembering.{ahead, near}
 use Rattle.labelling.specs.Memories.{place_of, HasPlaces, IsNeighbourList}
-use Rattle.labelling.proofs.Ranks.{count_no_more, count_fewer}
+use Rattle.solomon_reader.proofs.Ranks.{count_no_more, count_fewer}
 
 module _ (p : Problem) (v : ℕ) where
   -- nearer, or as near with a lower number

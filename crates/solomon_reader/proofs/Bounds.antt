@@ -1,12 +1,12 @@
 -- There is one least reduced cost, and a tree has one bound.
-use Rattle.std.proofs.Common.{◌≡◌, ℕ, ◌+◌, ◌≤◌, List, arith, ap, subst, sym, ◌∙◌, inl, inr}
-use Rattle.std.specs.Prelude.{ℤ, ◌≤ℤ◌, pos, min}
+use Rattle.std.proofs.Common.{◌≡◌, ℕ, ◌+◌, List, arith, ap, subst, sym, ◌∙◌, inl, inr}
+use Rattle.std.specs.Prelude.{ℤ, ◌≤ℤ◌, min}
 use Rattle.std.proofs.lemmas.Int.{ints}
 use Rattle.solomon_reader.specs.Problem.{Problem, customer_count}
 use Rattle.solomon_reader.specs.Region.{Region, used_child, unused_child, root_region}
 use Rattle.solomon_reader.specs.Bound.{Version, IsRoundedUp, grains_of, IsLeafValue, ceiling_of, Tree, leaf, split, HasBound}
 use Rattle.solomon_reader.specs.Laws.{OneBound, OneLeast}
-use Rattle.solomon_reader.specs.Relaxed.{IsLeast, IsLeastOrZero}
+use Rattle.solomon_reader.specs.Relaxed.{IsLeast}
 
 not_below : (p : Problem) (g : Region) (k : ℕ) (prices : List ℤ) (m n : ℤ) → IsLeast p g k prices m → IsLeast p g k prices n → m ≤ℤ n
 not_below p g k prices m n a b = let P : ℤ → Type 0 = λ z. m ≤ℤ z in subst P b.reached.2 (a.least b.reached.0 b.reached.1)

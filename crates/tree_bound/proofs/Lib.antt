@@ -6,6 +6,5 @@ pub mod Working
 pub mod Valuing
 pub mod Bounding
 pub mod Covering
-pub mod Counting
 pub mod Listing
 pub mod Remembered

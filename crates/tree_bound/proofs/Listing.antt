@@ -7,7 +7,7 @@ use Rattle.solomon_reader.specs.Distance.{distance}
 use Rattle.solomon_reader.specs.Remembering.{ahead, near}
 use Rattle.solomon_reader.specs.Relaxed.{rank, stands_before}
 use Rattle.tree_bound.specs.Memories.{bit_in, AreBits}
-use Rattle.tree_bound.proofs.Counting.{count_less}
+use Rattle.solomon_reader.proofs.Ranks.{count_fewer}
 
 second : (a b : Bool) (x y z : ℕ) → a ≡ false → b ≡ true → cond a x (cond b y z) ≡ y
 second a b x y z e f = rw (e, f) refl
@@ -87,9 +87,9 @@ module _ (p : Problem) (v : ℕ) where
   -- the one before has the lower rank
   rank_less : (u w : ℕ) → IsCustomer p u → u ≢ v → stands_before p v u w ≡ true → rank p v u < rank p v w
   rank_less u w customer apart h =
-      count_less (ahead p v u) (ahead p v w)
+      count_fewer (ahead p v u) (ahead p v w)
       (λ x t. (let both = and_parts _ _ t in and_from _ _ both.0 (before_through x u w both.1 h)))
-      u customer.0 (and_right _ _ (before_itself u)) (and_from _ _ (not_from_false _ (ne_eqb u v apart)) h) (customer_count p) customer.1
+      u (customer_count p) customer.0 customer.1 (and_right _ _ (before_itself u)) (and_from _ _ (not_from_false _ (ne_eqb u v apart)) h)
 
   same_rank : (u w : ℕ) → IsCustomer p u → IsCustomer p w → u ≢ v → w ≢ v → rank p v u ≡ rank p v w → u ≡ w
   same_rank u w cu cw au aw e = elim (cases_order (distance p v u) (distance p v w)) [

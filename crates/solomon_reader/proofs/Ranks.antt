@@ -2,7 +2,7 @@
 use Rattle.std.proofs.Common.{◌≡◌, ℕ, zero, suc, ◌+◌, ◌-◌, ◌<◌, ◌≤◌, min, Bool, true, false, cond, arith, ap, ◌∙◌, inl, inr}
 use Rattle.std.specs.List.{count_by, range_with_len}
 use Rattle.std.proofs.lemmas.List.Sums.{sum_by-cons}
-use Rattle.std.proofs.lemmas.Bool.{cases_Bool, cases_lt, cases_eq}
+use Rattle.std.proofs.lemmas.Bool.{cases_lt, cases_eq, cases_Bool}
 use Rattle.solomon_reader.specs.Problem.{Problem, customer_count}
 use Rattle.solomon_reader.specs.Remembering.{ahead}
 use Rattle.solomon_reader.specs.Relaxed.{rank}
@@ -39,24 +39,26 @@ module _ (p : Problem) (v u k w found : ℕ) (so_far : found ≡ count_by (ahead
   ranked_far within enough = omega (arith, so_far, enough, count_grows (ahead p v u) (w - 1) (customer_count p) within)
 
   pub ranked_whole : w - 1 ≡ customer_count p → found ≤ k → found ≡ min (rank p v u) k
-  ranked_whole all few = let e : found ≡ rank p v u = so_far ∙ ap (λ (n : ℕ). count_by (ahead p v u) (range_with_len 1 n)) all in omega (arith, e, few)
+  ranked_whole all few =
+      let e : found ≡ rank p v u = so_far ∙ ap (λ (n : ℕ). count_by (ahead p v u) (range_with_len 1 n)) all in
+      omega (arith, e, few)
 
--- where each number that f takes g takes too, g takes no fewer
-count_le : (f g : ℕ → Bool) → ((w : ℕ) → f w ≡ true → g w ≡ true) → (n : ℕ) → count_by f (range_with_len 1 n) ≤ count_by g (range_with_len 1 n)
-count_le f g less zero = omega arith
-count_le f g less (suc n) = elim (cases_Bool (f (1 + n))) [
-  | inl h ↦ omega (arith, count_le f g less n, rw h at (count_from f n 1), rw (less (1 + n) h) at (count_from g n 1))
-  | inr h ↦ omega (arith, count_le f g less n, rw h at (count_from f n 1), count_from g n 1)
-]
+-- g counts what f counts
+module _ (f g : ℕ → Bool) (both : (w : ℕ) → f w ≡ true → g w ≡ true) where
+  pub count_no_more : (n : ℕ) → count_by f (range_with_len 1 n) ≤ count_by g (range_with_len 1 n)
+  count_no_more zero = omega arith
+  count_no_more (suc n) = elim (cases_Bool (f (1 + n))) [
+    | inl h ↦ omega (arith, count_no_more n, rw h at (count_from f n 1), rw (both (1 + n) h) at (count_from g n 1))
+    | inr h ↦ omega (arith, count_no_more n, rw h at (count_from f n 1), count_from g n 1)
+  ]
 
--- and where g takes one that f doesn't, g takes more
-pub count_less : (f g : ℕ → Bool) → ((w : ℕ) → f w ≡ true → g w ≡ true) → (x : ℕ) → 1 ≤ x → f x ≡ false → g x ≡ true
-    → (n : ℕ) → x ≤ n → count_by f (range_with_len 1 n) < count_by g (range_with_len 1 n)
-count_less f g less x low out here zero within = absurd (omega arith)
-count_less f g less x low out here (suc n) within = elim (cases_eq x (1 + n)) [
-  | inl same ↦ omega (arith, count_le f g less n, rw (rw same at out) at (count_from f n 1), rw (rw same at here) at (count_from g n 1))
-  | inr apart ↦ (let before = count_less f g less x low out here n (omega (arith, within, apart)) in elim (cases_Bool (f (1 + n))) [
-    | inl h ↦ omega (arith, before, rw h at (count_from f n 1), rw (less (1 + n) h) at (count_from g n 1))
-    | inr h ↦ omega (arith, before, rw h at (count_from f n 1), count_from g n 1)
-  ])
-]
+  -- and x, too
+  pub count_fewer : (x n : ℕ) → 1 ≤ x → x ≤ n → f x ≡ false → g x ≡ true → count_by f (range_with_len 1 n) < count_by g (range_with_len 1 n)
+  count_fewer x zero low within out here = absurd (omega arith)
+  count_fewer x (suc n) low within out here = elim (cases_eq x (1 + n)) [
+    | inl same ↦ omega (arith, count_no_more n, rw (rw same at out) at (count_from f n 1), rw (rw same at here) at (count_from g n 1))
+    | inr apart ↦ (let before = count_fewer x n low (omega (arith, within, apart)) out here in elim (cases_Bool (f (1 + n))) [
+      | inl h ↦ omega (arith, before, rw h at (count_from f n 1), rw (both (1 + n) h) at (count_from g n 1))
+      | inr h ↦ omega (arith, before, rw h at (count_from f n 1), count_from g n 1)
+    ])
+  ]
