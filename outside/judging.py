@@ -11,6 +11,7 @@ from cases import (LARGE, certificate_lines, certificate_of, instance_words, lai
 from instances import Fault, is_plan, plan_cost, read
 from moving import descend, first_gain
 from optimum import least_cost
+from rows import ROWS, status_of
 from texts import TextFault, read_certificate, read_solution, shown
 
 
@@ -143,16 +144,26 @@ def checked_texts(random, instance, lines, bound, routes):
     return certificate, "".join(line + "\n" for line in told).encode()
 
 
-def run_check(program, folder, text, certificate, solution):
-    """The program's lines and its status."""
+def run_check(program, folder, text, certificate, solution, further=()):
+    """The program's lines and its status, with further words."""
     paths = [os.path.join(folder, name) for name in ("instance", "certificate", "solution")]
     for path, given in zip(paths, (text, certificate, solution)):
         if given is not None:
             with open(path, "wb") as file:
                 file.write(given)
     words = [program, "check", paths[0], paths[1]] + ([] if solution is None else ["--solution", paths[2]])
+    words += further
     run = subprocess.run(words, capture_output=True, timeout=600)
     return run.stdout.decode(), run.stderr.decode(), run.returncode
+
+
+def judge_row(program, folder, row):
+    """A row that was computed by hand. Answers the line's first words."""
+    name, instance, certificate, solution, further, said = row
+    got = run_check(program, folder, instance.encode(), certificate.encode(), solution.encode() or None, further)
+    lines = ("", said + "\n") if said.startswith("vrptw") else (said + "\n", "")
+    demand(got == lines + (status_of(said),), "%s: %r" % (name, got))
+    return " ".join(word for word in said.split() if word.isalpha() or word.endswith(":"))
 
 
 def judge_echo(echo, folder, kind, text, reader):
@@ -185,6 +196,8 @@ def judge(programs, folder, seed, kind):
             name, lines = LARGE[seed]
             text = "".join(line + "\n" for line in lines()).encode()
             return True, "%s: %s" % (name, judge_echo(echo, folder, "certificate", text, read_certificate))
+        if kind == "rows":
+            return True, judge_row(program, folder, ROWS[seed])
         if kind == "checks":
             return True, judge_check(program, folder, random)
         if kind == "refusals":
