@@ -1,0 +1,3 @@
+mod Extremes
+mod Moves
+mod Ends

@@ -1,0 +1,4 @@
+mod Weights
+mod Moves
+mod Shares
+mod Dealing

@@ -1,0 +1,161 @@
+//! A deque from which two threads steal while a third pops.
+
+ghost use Rattle.std.specs.Prelude.{◌≡◌, IfOk};
+ghost use Rattle.node_pool.specs.Deques.{FitsAt};
+ghost use Rattle.node_pool.specs.Ends.{deque_at, deque_of};
+
+use node_pool::{Hand, Pass, Pool, PoolFault, Stolen, Thief};
+use std::alloc::Global;
+use std::sync::Wait;
+use std::test::Fail;
+use std::thread;
+use std::thread::Threads;
+
+/// How often a thread tries to steal.
+const TRIES: u32 = 1_000_000;
+
+/// The ends of one deque of a pool for two workers, and the passes of both.
+fn ends(alloc: Global) -> Result<(Hand, Thief, Pass, Pass), Fail>
+    ensures thief { IfOk result (λ r. deque_at r.1 ≡ deque_of r.0) }
+    ensures first { IfOk result (λ r. FitsAt (deque_of r.0) r.2) }
+    ensures second { IfOk result (λ r. FitsAt (deque_of r.0) r.3) }
+{
+    let (mut hands, mut thieves, mut passes) = Pool::new(alloc, 2, 3)?;
+    let Some(hand) = hands.pop() else {
+        return Err(Fail::from("no hand"));
+    };
+    let Some(thief) = thieves.pop() else {
+        return Err(Fail::from("no thief"));
+    };
+    let Some(second) = passes.pop() else {
+        return Err(Fail::from("no pass"));
+    };
+    let Some(first) = passes.pop() else {
+        return Err(Fail::from("one pass"));
+    };
+    Ok((hand, thief, first, second))
+}
+
+fn pop_one(mut hand: Hand) -> (Hand, Option<u32>)
+    ensures { deque_of result.0 ≡ deque_of hand }
+{
+    let popped = hand.pop();
+    (hand, popped)
+}
+
+/// Tries until a number is stolen, or too often.
+fn steal_one(thief: &Thief, mut pass: Pass) -> (Pass, Option<u32>)
+    requires { FitsAt (deque_at thief.now) pass }
+    ensures { FitsAt (deque_at thief.now) result.0 }
+{
+    for _ in 0..TRIES {
+        match thief.steal(&mut pass) {
+            Stolen::One(number) => return (pass, Some(number)),
+            Stolen::Empty | Stolen::Again => thread::yield_now(),
+        }
+    }
+    (pass, None)
+}
+
+/// Two threads steal a number each.
+fn steal_two<R: Threads + Wait + Sync>(
+    rt: &R,
+    thief: &Thief,
+    first: Pass,
+    second: Pass,
+) -> ((Pass, Option<u32>), (Pass, Option<u32>))
+    requires first { FitsAt (deque_at thief.now) first }
+    requires second { FitsAt (deque_at thief.now) second }
+    ensures first { FitsAt (deque_at thief.now) result.0.0 }
+    ensures second { FitsAt (deque_at thief.now) result.1.0 }
+{
+    thread::join(
+        rt,
+        move ||
+            requires { FitsAt (deque_at thief.now) first }
+            ensures { FitsAt (deque_at thief.entry.now) result.0 }
+        { steal_one(thief, first) },
+        move ||
+            requires { FitsAt (deque_at thief.now) second }
+            ensures { FitsAt (deque_at thief.entry.now) result.0 }
+        { steal_one(thief, second) },
+    )
+}
+
+/// One thread pops a number while two steal a number each.
+fn take_three<R: Threads + Wait + Sync>(
+    rt: &R,
+    hand: Hand,
+    thief: &Thief,
+    first: Pass,
+    second: Pass,
+) -> (
+    (Hand, Option<u32>),
+    ((Pass, Option<u32>), (Pass, Option<u32>)),
+)
+    requires first { FitsAt (deque_at thief.now) first }
+    requires second { FitsAt (deque_at thief.now) second }
+    ensures hand { deque_of result.0.0 ≡ deque_of hand }
+    ensures first { FitsAt (deque_at thief.now) result.1.0.0 }
+    ensures second { FitsAt (deque_at thief.now) result.1.1.0 }
+{
+    thread::join(
+        rt,
+        move ||
+            ensures { deque_of result.0 ≡ deque_of hand }
+        { pop_one(hand) },
+        move ||
+            requires first { FitsAt (deque_at thief.now) first }
+            requires second { FitsAt (deque_at thief.now) second }
+            ensures first { FitsAt (deque_at thief.entry.now) result.0.0 }
+            ensures second { FitsAt (deque_at thief.entry.now) result.1.0 }
+        { steal_two(rt, thief, first, second) },
+    )
+}
+
+/// What the audit says that stands, which needs the passes.
+fn stands_with(alloc: Global, hand: Hand, first: Pass, second: Pass) -> Result<Vec<u32>, Fail>
+    requires first { FitsAt (deque_of hand) first }
+    requires second { FitsAt (deque_of hand) second }
+{
+    let Err((hand, PoolFault::MissingPass)) = hand.audit(alloc, &mut []) else {
+        return Err(Fail::from("audited with no pass"));
+    };
+    match hand.audit(alloc, &mut [first, second]) {
+        Ok(stands) => Ok(stands),
+        Err(_) => Err(Fail::from("no audit with both passes")),
+    }
+}
+
+#[test]
+fn each_number_is_taken_once(rt: HostRuntime) -> Result<(), Fail> {
+    let (mut hand, thief, first, second) = ends(rt.alloc())?;
+    assert_eq!(rt; hand.push(7), Ok(()));
+    assert_eq!(rt; hand.push(8), Ok(()));
+    assert_eq!(rt; hand.push(9), Ok(()));
+    assert_eq!(rt; hand.push(10), Err((10, PoolFault::Full)));
+    let ((mut hand, popped), ((mut first, one), (second, other))) = take_three(
+        &rt, hand, &thief, first, second,
+    );
+    let mut taken = [popped, one, other];
+    taken.sort_unstable();
+    assert_eq!(rt; taken, [Some(7), Some(8), Some(9)]);
+    assert_eq!(rt; hand.pop(), None);
+    assert_eq!(rt; thief.steal(&mut first), Stolen::Empty);
+    assert_eq!(rt; hand.push(11), Err((11, PoolFault::Full)));
+    let stands = stands_with(rt.alloc(), hand, first, second)?;
+    assert_eq!(rt; stands.len(), 0);
+    Ok(())
+}
+
+#[test]
+fn what_stands_is_audited(rt: HostRuntime) -> Result<(), Fail> {
+    let (mut hand, thief, mut first, second) = ends(rt.alloc())?;
+    assert_eq!(rt; hand.push(4), Ok(()));
+    assert_eq!(rt; hand.push(5), Ok(()));
+    assert_eq!(rt; hand.push(6), Ok(()));
+    assert_eq!(rt; thief.steal(&mut first), Stolen::One(4));
+    let stands = stands_with(rt.alloc(), hand, first, second)?;
+    assert_eq!(rt; stands.as_slice(), [5, 6].as_slice());
+    Ok(())
+}
