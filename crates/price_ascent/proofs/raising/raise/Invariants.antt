@@ -1,0 +1,10 @@
+use Rattle.std.proofs.Common.{◌≡◌, ◌≤◌}
+use Rattle.price_ascent.proofs.raising.raise.Given as goal
+
+abbrev pub invariant-loop : goal.invariant-loop
+invariant-loop l = record {
+  problem : l.best.problem ≡ l.fn.priced.problem;
+  region : l.best.region ≡ l.fn.priced.region;
+  neighbours : l.best.neighbours ≡ l.fn.priced.neighbours;
+  not_lower : l.fn.priced.value ≤ l.best.value;
+}

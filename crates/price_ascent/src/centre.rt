@@ -1,0 +1,30 @@
+//! The prices that a rise starts from.
+
+use crate::merit::Merit;
+use prices::Priced;
+use std::alloc::{AllocError, Global};
+
+/// The prices that a rise starts from, in grains, with their least reduced cost and their merit.
+#[derive(Debug, Drop)]
+pub(crate) struct Centre {
+    pub(crate) prices: Vec<i64>,
+    /// 0 where there is no relaxed route.
+    pub(crate) least: i128,
+    pub(crate) merit: i128,
+}
+
+impl Centre {
+    /// The centre at these prices.
+    pub(crate) fn new(
+        alloc: Global,
+        priced: &Priced<'_>,
+        merit: Merit,
+    ) -> Result<Centre, AllocError> {
+        let least = priced.least().value.unwrap_or(0);
+        Ok(Centre {
+            prices: Vec::from_slice(alloc, priced.prices())?,
+            least,
+            merit: merit.of(priced.prices(), least),
+        })
+    }
+}

@@ -1,0 +1,20 @@
+//! Prices of the customers at a leaf that come near the best bound it can have, by projection onto the
+//! routes met so far.
+#![tactic(auto)]
+
+mod arc_flow;
+mod ascent;
+mod centre;
+mod floor;
+mod goal;
+mod merit;
+mod pooled_route;
+mod raising;
+mod route_pool;
+mod starting;
+mod trial;
+
+pub use goal::Goal;
+pub use raising::raise;
+pub use route_pool::RoutePool;
+pub use starting::{first_prices, first_rise};

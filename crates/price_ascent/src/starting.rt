@@ -1,0 +1,80 @@
+//! Prices to start from.
+
+ghost use Rattle.std.specs.Prelude.{◌≡◌, length, IfOk};
+ghost use Rattle.std.specs.List.{AllByRecursion};
+ghost use Rattle.solomon_reader.specs.Problem.{customer_count};
+ghost use Rattle.solomon_reader.specs.CertificateText.{IsPrice};
+
+use crate::pooled_route::{GRAINS_OF_TENTH, arc_cost};
+use solomon_reader::{Instance, MOST_PRICE};
+use std::alloc::{AllocError, Global};
+use tenths::Tenths;
+
+/// What the way there and back costs the customers in the mean, in grains.
+fn mean_way(instance: &Instance) -> i64 {
+    let count = instance.customer_count();
+    let mut ways: i64 = 0;
+    for customer in 1..count + 1 {
+        ways = ways.saturating_add(arc_cost(instance, 0, customer));
+    }
+    ways.saturating_mul(2) / i64::from(count)
+}
+
+/// A first rise of each price, in grains: a tenth of a customer's share of the cost of a plan, or
+/// without one a fiftieth of what the way there and back costs in the mean. No contract: any rise serves.
+pub fn first_rise(instance: &Instance, cost: Option<Tenths>) -> i64 {
+    match cost {
+        Some(cost) => {
+            let grains = cost.get() as i64 * GRAINS_OF_TENTH;
+            grains / i64::from(instance.customer_count()) / 10
+        }
+        None => mean_way(instance) / 50,
+    }
+}
+
+/// A customer's share of the cost of an arc to or from another row, in grains: the half, or the whole
+/// where the row is the depot.
+fn arc_share(instance: &Instance, customer: u16, row: u16) -> i64 {
+    let cost = arc_cost(instance, customer, row);
+    if row == 0 { cost } else { cost / 2 }
+}
+
+/// A customer's share of the cost of a route, in grains; 0 where the route doesn't visit it.
+fn route_share(instance: &Instance, stops: &[u16], customer: u16) -> i64 {
+    let Some(place) = stops.iter().position(|stop| *stop == customer) else {
+        return 0;
+    };
+    let before = stops.get(place.wrapping_sub(1)).copied().unwrap_or(0);
+    let after = stops.get(place.wrapping_add(1)).copied().unwrap_or(0);
+    arc_share(instance, customer, before).saturating_add(arc_share(instance, customer, after))
+}
+
+/// A customer's first price: 30 percent of its share of the cost of the routes, in grains.
+fn first_price(instance: &Instance, routes: &[Vec<u16>], customer: u16) -> i64
+    ensures { IsPrice result }
+{
+    let mut share: i64 = 0;
+    for route in routes {
+        share = share.saturating_add(route_share(instance, route.as_slice(), customer));
+    }
+    let most = MOST_PRICE as i64;
+    (share / 10).saturating_mul(3).clamp(-most, most)
+}
+
+/// Prices to start from, in grains, that of customer i at i - 1: 30 percent of each customer's share
+/// of the cost of a plan's routes, which are given by their customers in order.
+pub fn first_prices(
+    alloc: Global,
+    instance: &Instance,
+    routes: &[Vec<u16>],
+) -> Result<Vec<i64>, AllocError>
+    ensures count { IfOk result (λ v. length v.items ≡ customer_count instance.now) }
+    ensures in_range { IfOk result (λ v. AllByRecursion IsPrice v.items) }
+{
+    let end = instance.customer_count() + 1;
+    let mut prices = Vec::new(alloc);
+    for customer in 1..end {
+        prices.push(first_price(instance, routes, customer))?;
+    }
+    Ok(prices)
+}
