@@ -1,5 +1,12 @@
 """Relaxed routes, leaf values and the bounds of trees, by the definitions."""
 
+# How many routes or labels are gone through for one leaf.
+MOST_STEPS = 300_000
+
+
+class TooLong(Exception):
+    """A leaf has too many relaxed routes or labels for this program."""
+
 
 class Region:
     def __init__(self, count, required=frozenset(), forbidden=frozenset()):
@@ -34,8 +41,11 @@ def neighbour_lists(instance, neighbours):
 def least_by_routes(instance, region, prices, neighbours):
     """The least reduced cost, by going through all relaxed routes one after the other; None if there is none."""
     lists, found = neighbour_lists(instance, neighbours), None
-    stack = [([], instance.ready(0), 0, 0)]
+    stack, steps = [([], instance.ready(0), 0, 0)], 0
     while stack:
+        steps += 1
+        if steps > MOST_STEPS:
+            raise TooLong
         route, time, load, cost = stack.pop()
         at = route[-1] if route else 0
         if route and region.allows(at, 0) and time + instance.arc[at][0] <= instance.due(0):
@@ -66,8 +76,12 @@ def least_by_labels(instance, region, prices, neighbours):
     buckets = [[] for _ in range(instance.capacity + 1)]
     held = [[] for _ in range(instance.count + 1)]
     buckets[0].append((0, instance.ready(0), 0, frozenset()))
+    steps = 0
     for load in range(instance.capacity + 1):
         for at, time, cost, memory in buckets[load]:
+            steps += len(held[at])
+            if steps > 4 * MOST_STEPS:
+                raise TooLong
             if at and not any(label == (load, time, cost, memory) for label in held[at]):
                 continue
             if at and region.allows(at, 0) and time + instance.arc[at][0] <= instance.due(0):

@@ -207,5 +207,7 @@ def judge(programs, folder, seed, kind):
         return True, judge_solved(program, folder, random, random.randint(8, 25), bounding.least_by_labels, False)
     except Disagreement as found:
         return False, str(found)
+    except bounding.TooLong:
+        return True, "left out, too many routes or labels"
     except subprocess.TimeoutExpired:
         return False, "the program didn't end"
