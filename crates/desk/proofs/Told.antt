@@ -1,11 +1,11 @@
 -- What the replies of a book say of plans and of instances.
-use Rattle.std.proofs.Common.{◌≡◌, ℕ, ◌<◌, ◌≤◌, List, ◌∷◌, Option, Some, None, MatchOption, arith, refl, ◌∙◌, inl, inr}
+use Rattle.std.proofs.Common.{◌≡◌, ℕ, ◌<◌, ◌≤◌, Bool, List, ◌∷◌, length, Option, Some, None, MatchOption, ap, arith, refl, ◌∙◌, inl, inr}
 use Rattle.std.specs.Prelude.{option_map, Err}
 use Rattle.std.proofs.lemmas.Bool.{cases_lt}
 use Rattle.solomon_reader.specs.Problem.{Problem}
 use Rattle.solomon_reader.specs.AmongLaws.{among_all}
 use Rattle.solomon_reader.specs.Duality.{IsBelowPlans, IsPlanCost}
-use Rattle.solomon_reader.specs.History.{Event, costs_of, IsBestCost, IsCheaper}
+use Rattle.solomon_reader.specs.History.{Event, offered, repriced, branched, costs_of, IsBestCost, IsCheaper}
 use Rattle.solomon_reader.specs.Plan.{Arc}
 use Rattle.schedule.specs.Solution.{Solution, IsSolution}
 use Rattle.prices.specs.Pricing.{Pricing}
@@ -17,7 +17,7 @@ use Rattle.incumbent_book.specs.declared.fault.BookFault.TheVariants.{Memory, Fo
 use Rattle.incumbent_book.proofs.Histories.{below-cheaper, best-kept}
 use Rattle.desk.specs.Tally.{Tally, plus, tally_of_event}
 use Rattle.desk.specs.Account.{Account, IsSeen}
-use Rattle.desk.specs.Opening.{IsCounted}
+use Rattle.desk.specs.Opening.{HasPlanIf, IsCounted}
 use Rattle.desk.specs.Replies.{TellsForeign, IsPricedFor, Offers, Reprices, Splits}
 use Rattle.desk.proofs.Tallies.{counted_more}
 
@@ -75,13 +75,24 @@ tells_foreign b call Lower told = told.1.met ForeignInstance (omega arith)
 tells_foreign b call LeavesFull told = told.1.met ForeignInstance (omega arith)
 tells_foreign b call TooDeep told = told.1.met ForeignInstance (omega arith)
 
--- a book of our instance and number of neighbours
-module _ (p : Problem) (k : ℕ) (b : Contents) (before : Tally) (is : IsCounted p k b before) where
+-- an event more takes no offer back
+still_served : (has_plan : Bool) (event : Event) (past : List Event) → HasPlanIf has_plan past → HasPlanIf has_plan (event ∷ past)
+still_served has_plan (offered worker cost better) past served has = λ none. absurd (omega (arith, ap (λ (costs : List ℕ). length costs) none))
+still_served has_plan (repriced worker leaf value) past served has = served has
+still_served has_plan (branched worker leaf a used unused x y) past served has = served has
+
+-- a book of our instance and number of neighbours, with a plan if it is to have one
+module _ (p : Problem) (k : ℕ) (has_plan : Bool) (b : Contents) (before : Tally) (is : IsCounted p k has_plan b before) where
   -- the totals are those of the history again, where both have the same event more
   pub counted_call : (new : Contents) (event : Event) (after : Tally) → new.past ≡ event ∷ b.past → new.problem ≡ b.problem → new.neighbours ≡ b.neighbours → after ≡ plus before (tally_of_event event)
-      → IsCounted p k new after
+      → IsCounted p k has_plan new after
   counted_call new event after longer problem neighbours more =
-      record { counted = counted_more b.past event before after new.past is.counted longer more; problem = problem ∙ is.problem; neighbours = neighbours ∙ is.neighbours }
+      record {
+        counted = counted_more b.past event before after new.past is.counted longer more;
+        problem = problem ∙ is.problem;
+        neighbours = neighbours ∙ is.neighbours;
+        served = rw longer (still_served has_plan event b.past is.served);
+      }
 
   -- a refusal changes no share
   pub refused_offer : (worker : ℕ) (plan : Solution) (refused : Solution × BookFault) (new : Contents) (mine : Account) → book.Offers b worker plan (Err refused) new → Offers p mine plan (Err refused) mine

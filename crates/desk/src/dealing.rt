@@ -35,7 +35,8 @@ pub(crate) fn deal<J: Naming>(
     requires first { first ≡ record { worker = 0; tally = first.tally; cost = seen.now.cost; bound = seen.now.bound } }
     requires rest { (rest.parts + 1 ≡ workers) × (rest.tally ≡ each 0) }
     requires seen { IsSeen J.problem seen.now.cost seen.now.bound }
-    ensures { result.items ≡ opening_accounts workers first.tally seen.now.cost seen.now.bound }
+    ensures shares { result.items ≡ opening_accounts workers first.tally seen.now.cost seen.now.bound }
+    ensures count { vec_len result ≡ workers }
 {
     shares.push_reserved(first);
     for worker in 1..workers {

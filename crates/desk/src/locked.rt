@@ -33,7 +33,7 @@ impl<'i, J: Naming> Model for Locked<'i, J> {
 
     ghost view = { λ l. l.book };
 
-    ghost invariant = { λ l. IsCounted J.problem J.neighbours l.book l.totals };
+    ghost invariant = { λ l. IsCounted J.problem J.neighbours J.has_plan l.book l.totals };
 }
 
 /// The event of an accepted offer.
@@ -57,7 +57,7 @@ fn value_of(priced: &Priced<'_>) -> u128
 impl<'i, J: Naming> Locked<'i, J> {
     /// A book whose history the totals have counted.
     pub(crate) fn new(book: Book<'i>, totals: Totals<J>) -> Locked<'i, J>
-        requires { IsCounted J.problem J.neighbours book totals }
+        requires { IsCounted J.problem J.neighbours J.has_plan book totals }
     {
         Locked { book, totals }
     }
@@ -65,7 +65,7 @@ impl<'i, J: Naming> Locked<'i, J> {
     /// What the book leaves. The tokens of all shares together have counted its history.
     pub(crate) fn finish(self, mut all: Tokens<J>) -> Outcome<'i>
         requires { all.parts ≡ J.workers }
-        ensures { IsCounted J.problem J.neighbours result all.tally }
+        ensures { IsCounted J.problem J.neighbours J.has_plan result all.tally }
     {
         let Locked { book, mut totals } = self;
         totals.audit(&mut all);

@@ -6,7 +6,7 @@ ghost use Rattle.desk.specs.Tally.{each, tally_of};
 ghost use Rattle.desk.specs.Blanks.{names_of, parts_of};
 ghost use Rattle.desk.specs.Account.{tally_of_shares};
 ghost use Rattle.desk.specs.Replies.{Offers, Reprices, Splits, Tells, IsPricedFor};
-ghost use Rattle.desk.specs.Opening.{IsDealt};
+ghost use Rattle.desk.specs.Opening.{HasPlanIf, IsDealt};
 ghost use Rattle.desk.specs.declared.fault.DeskFault.TheVariants.{Memory as memory, MissingShare as missing};
 
 use crate::blanks::Blanks;
@@ -54,10 +54,12 @@ impl<'i, J: Naming> Desk<'i, J> {
         requires some { 0 < workers }
         requires problem { book.problem ≡ J.problem }
         requires neighbours { book.neighbours ≡ J.neighbours }
+        requires served { HasPlanIf J.has_plan book.past }
         requires workers { workers ≡ J.workers }
         requires names { names_of blanks ≡ J.names }
         requires parts { parts_of blanks ≡ each J.workers }
         ensures shares { IfOk result (λ r. IsDealt book.entry workers r.1.items) }
+        ensures count { IfOk result (λ r. vec_len r.1 ≡ workers) }
         ensures back { IfErr result (λ e. (e.0 ≡ book.entry) × (e.1 ≡ blanks) × (e.2 ≡ memory)) }
     {
         let Ok(shares) = Vec::with_capacity(alloc, usize::from(workers)) else {
@@ -153,6 +155,7 @@ impl<'i, J: Naming> Desk<'i, J> {
         ensures counted { IfOk result (λ o. tally_of o.past ≡ tally_of_shares shares.items) }
         ensures problem { IfOk result (λ o. o.problem ≡ J.problem) }
         ensures neighbours { IfOk result (λ o. o.neighbours ≡ J.neighbours) }
+        ensures served { IfOk result (λ o. HasPlanIf J.has_plan o.past) }
         ensures back { IfErr result (λ e. (e.1 ≡ shares) × (e.2 ≡ missing)) }
     {
         if shares.len() != usize::from(self.workers) {

@@ -4,4 +4,3 @@ mod Named
 pub mod Answering
 pub mod BoundTexts
 pub mod OutcomeTrees
-pub mod Offering

@@ -16,8 +16,10 @@ use Rattle.vrptw.specs.declared.answer.Answer.{Answer}
 use Rattle.vrptw.specs.declared.answer.Answer.TheVariants.{Best, Gap, NoPlan, Open}
 use Rattle.vrptw.specs.declared.answer.SolveFault.{SolveFault}
 use Rattle.vrptw.specs.declared.answer.SolveFault.TheVariants as fault
-use Rattle.vrptw.specs.declared.settings.Settings.{Settings}
-use Rattle.vrptw.specs.Settings.{IsWithin}
+use Rattle.search_workers.specs.declared.settings.Settings.{Settings}
+use Rattle.search_workers.specs.Settings.{IsWithin}
+use Rattle.search_workers.specs.declared.fault.RunFault.{RunFault}
+use Rattle.search_workers.specs.declared.fault.RunFault.TheVariants as run
 use Rattle.insertion.specs.Building.{IsServedAlone}
 
 -- the text is that of a plan, which no single move makes cheaper, and of its exact cost
@@ -89,7 +91,15 @@ RefusesText text fault.Memory = Unit {0}
 RefusesText text (fault.Instance f) = (reading (words text) ≡ Err f) × (f ≢ read.Memory)
 RefusesText text fault.BadSettings = ⊥
 RefusesText text fault.LabelLimit = ⊥
+RefusesText text fault.NoThread = ⊥
 RefusesText text fault.Device = ⊥
+
+-- what the solver tells of a run's fault
+abbrev pub IsFaultOfRun : RunFault → SolveFault → Type 0
+IsFaultOfRun run.Memory told = told ≡ fault.Memory
+IsFaultOfRun run.BadSettings told = told ≡ fault.BadSettings
+IsFaultOfRun run.LabelLimit told = told ≡ fault.LabelLimit
+IsFaultOfRun run.NoThread told = told ≡ fault.NoThread
 
 -- What the solver does with the text of an instance, within the settings: each refusal is the first that holds, and all but the last come before the first write.
 abbrev pub Solves : List ℕ → Settings → Held → Held → Held → Held → Result Answer SolveFault → Type 0
@@ -98,4 +108,5 @@ Solves text settings s s' c c' (Err fault.Memory) = (s' ≡ s) × (c' ≡ c)
 Solves text settings s s' c c' (Err (fault.Instance f)) = (reading (words text) ≡ Err f) × (f ≢ read.Memory) × (s' ≡ s) × (c' ≡ c)
 Solves text settings s s' c c' (Err fault.BadSettings) = ((p : Problem) × IsInstance text p) × (¬ IsWithin settings) × (s' ≡ s) × (c' ≡ c)
 Solves text settings s s' c c' (Err fault.LabelLimit) = ((p : Problem) × IsInstance text p) × IsWithin settings × (s' ≡ s) × (c' ≡ c)
+Solves text settings s s' c c' (Err fault.NoThread) = ((p : Problem) × IsInstance text p) × IsWithin settings × (s' ≡ s) × (c' ≡ c)
 Solves text settings s s' c c' (Err fault.Device) = (p : Problem) × IsInstance text p × IsWithin settings × Breaks p settings.neighbours s s' c c'

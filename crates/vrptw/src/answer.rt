@@ -4,6 +4,7 @@ ghost use Rattle.std.specs.Prelude.{◌≡◌};
 ghost use Rattle.vrptw.specs.declared.answer.SolveFault.TheVariants as fault;
 
 use search::SearchFault;
+use search_workers::RunFault;
 use solomon_reader::ReadFault;
 use std::alloc::AllocError;
 use tenths::Tenths;
@@ -38,6 +39,9 @@ pub enum SolveFault {
     /// written.
     #[error("LabelLimit")]
     LabelLimit,
+    /// A thread was refused; nothing was written.
+    #[error("NoThread")]
+    NoThread,
     /// A sink failed: the first holds a beginning and the second nothing, or the first all and the
     /// second a beginning.
     #[error("Device")]
@@ -49,6 +53,21 @@ impl From<AllocError> for SolveFault {
 
     fn from(_e: AllocError) -> SolveFault {
         SolveFault::Memory
+    }
+}
+
+impl From<RunFault> for SolveFault {
+    ghost use Rattle.vrptw.specs.Answers.{IsFaultOfRun};
+
+    ghost from_gives = { IsFaultOfRun };
+
+    fn from(fault: RunFault) -> SolveFault {
+        match fault {
+            RunFault::Memory => SolveFault::Memory,
+            RunFault::BadSettings => SolveFault::BadSettings,
+            RunFault::LabelLimit => SolveFault::LabelLimit,
+            RunFault::NoThread => SolveFault::NoThread,
+        }
     }
 }
 

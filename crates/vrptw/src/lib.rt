@@ -5,20 +5,15 @@
 mod answer;
 mod certifying;
 mod commands;
-mod gate;
 mod jobs;
 mod lines;
-mod opening;
 mod program;
-mod raising;
-mod settings;
 mod solving;
 
 pub use answer::{Answer, SolveFault};
 pub use commands::job;
-pub use gate::{Gate, GatePoint, NoGate};
-pub use jobs::{Job, UsageFault};
+pub use jobs::{Job, MOST_STATES, UsageFault};
 pub use lines::words_fault;
 pub use program::run_words;
-pub use settings::{MOST_BOUNDERS, MOST_LABELS, MOST_SEARCHERS, MOST_STATES, MOST_TURNS, Settings};
+pub use search_workers::{Gate, GatePoint, MOST_BOUNDERS, MOST_LABELS, MOST_SEARCHERS, MOST_TURNS, NoGate, Settings};
 pub use solving::solve;

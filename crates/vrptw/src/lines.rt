@@ -122,6 +122,7 @@ fn instance_fault<Y: Sink>(alloc: Global, fault: ReadFault, errors: &mut Y) -> u
 pub(crate) fn solve_fault<Y: Sink>(alloc: Global, fault: SolveFault, errors: &mut Y) -> u8 {
     match fault {
         SolveFault::Memory => memory_fault(errors),
+        SolveFault::NoThread => fail(errors, "vrptw: thread\n", MEMORY),
         SolveFault::BadSettings => fail(errors, "vrptw: settings\n", USAGE),
         SolveFault::LabelLimit => fail(errors, "vrptw: limit: LabelLimit\n", LIMIT),
         SolveFault::Device => file_fault(errors),

@@ -3,17 +3,17 @@
 ghost use Rattle.std.specs.Prelude.{◌≡◌, ◌⊎◌, IsTrue, ◌↔◌};
 
 use crate::commands::job;
-use crate::gate::NoGate;
 use crate::jobs::Job;
 use crate::lines::{
     check_fault, file_fault, open_fault, solve_fault, tell, tell_verdict, usage_fault,
 };
-use crate::settings::Settings;
 use crate::solving::solve;
 use checker::check;
+use search_workers::{NoGate, Settings};
 use std::alloc::Global;
 use std::rt::Files;
 use std::sync::Wait;
+use std::thread::Threads;
 use std::{fs, io};
 use tenths::{Sink, StdSink};
 
@@ -35,7 +35,7 @@ impl Paths<'_> {
 }
 
 /// Solves the instance of a file into two files, which are made once the instance was read.
-fn solve_files<R: Files + AllocGlobal + Wait, X: Sink, Y: Sink>(
+fn solve_files<R: Files + AllocGlobal + Threads + Wait + Sync, X: Sink, Y: Sink>(
     rt: &R,
     alloc: Global,
     paths: Paths<'_>,
@@ -132,7 +132,7 @@ fn check_files<R: Files + AllocGlobal, X: Sink, Y: Sink>(
 /// 3 for a refused instance, 4 where memory was refused, 5 for a refused certificate or solution, 6
 /// where a file or a stream failed or two paths of `solve` are the same words, 7 where the labels or
 /// the states don't suffice. What files hold no contract can say.
-pub fn run_words<R: Files + AllocGlobal + Wait, X: Sink, Y: Sink>(
+pub fn run_words<R: Files + AllocGlobal + Threads + Wait + Sync, X: Sink, Y: Sink>(
     rt: &R,
     alloc: Global,
     words: &[&str],

@@ -11,16 +11,15 @@ ghost use Rattle.vrptw.specs.declared.answer.SolveFault.TheVariants.{Memory};
 
 use crate::answer::{Answer, SolveFault};
 use crate::certifying::certify;
-use crate::gate::Gate;
-use crate::opening::{descend, open_search, price_root};
-use crate::raising::finish_at_desk;
-use crate::settings::Settings;
 use certificate::Cert;
 use incumbent_book::Outcome;
 use schedule::Feasible;
+use search::Searcher;
+use search_workers::{Gate, Settings, generator, run};
 use solomon_reader::{Instance, ReadFault, read};
 use std::alloc::Global;
 use std::sync::Wait;
+use std::thread::Threads;
 use tenths::Sink;
 
 /// The instance that a text is.
@@ -33,6 +32,20 @@ fn read_instance(alloc: Global, text: &[u8]) -> Result<Instance, SolveFault>
         Err(ReadFault::Memory) => Err(SolveFault::Memory),
         Err(fault) => Err(SolveFault::Instance(fault)),
     }
+}
+
+/// The worker whose random words stand beside the last descent, which draws none.
+const FIRST_WORKER: u16 = 0;
+
+/// The plan that a descent leads to.
+fn descend<'i>(alloc: Global, plan: Feasible<'i>, seed: u32) -> Result<Feasible<'i>, SolveFault>
+    ensures problem { IfOk result (λ f. f.problem ≡ plan.entry.problem) }
+    ensures optimum { IfOk result (λ f. IsLocalOptimum f.problem f.routes) }
+    ensures memory { IfErr result (λ e. e ≡ Memory) }
+{
+    let mut searcher = Searcher::new(alloc, plan, generator(seed, FIRST_WORKER));
+    searcher.descend()?;
+    Ok(searcher.into_plan())
 }
 
 /// The plan of an outcome, if it has one, descended once more.
@@ -120,16 +133,16 @@ fn write_both<X: Sink, Y: Sink>(
 /// kinds makes the plan cheaper.
 ///
 /// The first refusal that holds is told: `Instance` with the text's first fault, `BadSettings`,
-/// `LabelLimit` where as many labels stand as the settings allow before there is a first bound, and
-/// `Memory` where a growth was refused; these come before the first write. `Device` where a sink
-/// failed: the first then holds a beginning and the second nothing, or the first all that was for it
-/// and the second a beginning.
-pub fn solve<R: Wait, G: Gate, X: Sink, Y: Sink>(
+/// `LabelLimit` where as many labels stand as the settings allow before there is a first bound,
+/// `NoThread` where a thread was refused, and `Memory` where a growth was; these come before the first
+/// write. `Device` where a sink failed: the first then holds a beginning and the second nothing, or
+/// the first all that was for it and the second a beginning.
+pub fn solve<R: Threads + Wait + Sync, G: Gate + Sync, X: Sink, Y: Sink>(
     rt: &R,
     alloc: Global,
     text: &[u8],
     settings: &Settings,
-    _gate: &G,
+    gate: &G,
     solution: &mut X,
     certificate: &mut Y,
 ) -> Result<Answer, SolveFault>
@@ -141,13 +154,7 @@ pub fn solve<R: Wait, G: Gate, X: Sink, Y: Sink>(
         result }
 {
     let instance = read_instance(alloc, text)?;
-    if !settings.is_within() {
-        return Err(SolveFault::BadSettings);
-    }
-    let root = price_root(alloc, &instance, settings)?;
-    let copy = root.try_clone()?;
-    let book = open_search(alloc, &instance, root, settings.seed)?;
-    let outcome = finish_at_desk(rt, alloc, book, copy, settings.labels)?;
+    let outcome = run(rt, alloc, &instance, settings, gate)?;
     let plan = last_plan(alloc, &outcome, settings.seed)?;
     let cert = certify(alloc, &outcome)?;
     write_both(plan.as_ref(), &outcome, &cert, solution, certificate)

@@ -1,0 +1,4 @@
+pub mod Generators
+pub mod Settings
+pub mod Hubs
+pub mod Running

@@ -1,0 +1,200 @@
+//! What a run begins with: the first plans, the root with its first prices, and the book of both.
+
+ghost use Rattle.std.specs.Prelude.{◌≡◌, ◌≢◌, ◌+◌, ◌<◌, ◌≤◌, ◌⊎◌, [], true, length, is_some, IfOk, IfErr, OnOk, MatchOption};
+ghost use Rattle.solomon_reader.specs.Problem.{customer_count};
+ghost use Rattle.solomon_reader.specs.History.{costs_of};
+ghost use Rattle.solomon_reader.specs.Region.{root_region};
+ghost use Rattle.solomon_reader.specs.declared.limits.TheConstants.{MOST_EVENTS, MOST_NEIGHBOURS};
+ghost use Rattle.insertion.specs.Building.{IsServedAlone};
+ghost use Rattle.desk.specs.Opening.{HasPlanIf};
+ghost use Rattle.search_workers.specs.Running.{IsOneOn};
+ghost use Rattle.search_workers.specs.declared.fault.RunFault.TheVariants.{Memory, LabelLimit};
+
+use crate::fault::RunFault;
+use crate::random::generator;
+use crate::settings::Settings;
+use branching::Region;
+use incumbent_book::{Book, BookFault, OpenFault};
+use insertion::{Built, InsertFault, Weights, build};
+use labelling::LabelFault;
+use price_ascent::first_prices;
+use prices::Priced;
+use schedule::Feasible;
+use search::Searcher;
+use solomon_reader::Instance;
+use std::alloc::{AllocError, Global};
+
+/// The worker that offers the first plan.
+const FIRST_WORKER: u16 = 0;
+
+/// The weights of the first plan's insertion, in hundredths: of the arc that is spared, of the way
+/// from the depot, and of the detour, which alone counts at 100.
+const SPARED: u16 = 100;
+
+const FROM_DEPOT: u16 = 100;
+
+const DETOUR: u16 = 100;
+
+/// The book of a run, and the plan that the search workers begin from.
+#[derive(Drop)]
+pub(crate) struct Opening<'i> {
+    pub(crate) book: Book<'i>,
+    pub(crate) plan: Option<Feasible<'i>>,
+}
+
+/// The plan that insertion builds, if it serves every customer.
+fn build_plan<'i>(alloc: Global, instance: &'i Instance) -> Result<Option<Feasible<'i>>, RunFault>
+    ensures plan { IfOk result (λ plan. MatchOption plan (¬ IsServedAlone instance.now) (λ f. f.problem ≡ instance.now)) }
+    ensures memory { IfErr result (λ e. e ≡ Memory) }
+{
+    let Some(weights) = Weights::new(SPARED, FROM_DEPOT, DETOUR) else {
+        unreachable!()
+    };
+    match build(alloc, instance, &weights) {
+        Ok(Built::Whole(plan)) => Ok(Some(plan)),
+        Ok(Built::Part { .. }) => Ok(None),
+        Err(InsertFault::Memory) => Err(RunFault::Memory),
+    }
+}
+
+/// The plan that a descent leads to, or as far as memory lets it come.
+fn descend<'i>(alloc: Global, plan: Feasible<'i>, seed: u32) -> Feasible<'i>
+    ensures { result.problem ≡ plan.entry.problem }
+{
+    let mut searcher = Searcher::new(alloc, plan, generator(seed, FIRST_WORKER));
+    let _ = searcher.descend();
+    searcher.into_plan()
+}
+
+/// The root with prices of zero. `LabelLimit` where the labels don't suffice for them, and `Memory`.
+fn price_root<'i>(
+    alloc: Global,
+    instance: &'i Instance,
+    settings: &Settings,
+) -> Result<Priced<'i>, RunFault>
+    requires few { settings.now.neighbours ≤ MOST_NEIGHBOURS }
+    ensures problem { IfOk result (λ f. f.problem ≡ instance.now) }
+    ensures region { IfOk result (λ f. f.region ≡ root_region (customer_count instance.now)) }
+    ensures neighbours { IfOk result (λ f. f.neighbours ≡ settings.now.neighbours) }
+    ensures refused { IfErr result (λ e. (e ≡ Memory) ⊎ (e ≡ LabelLimit)) }
+{
+    let limit = Some(settings.labels as usize);
+    match Priced::root(alloc, instance, settings.neighbours, limit) {
+        Ok(root) => Ok(root),
+        Err(LabelFault::Memory) => Err(RunFault::Memory),
+        Err(LabelFault::LabelLimit) => Err(RunFault::LabelLimit),
+    }
+}
+
+/// The root with the prices that a plan says to start from, where their value is higher.
+fn start_from<'i>(
+    alloc: Global,
+    root: Priced<'i>,
+    plan: &Feasible<'i>,
+    labels: u32,
+) -> Priced<'i>
+    requires region { root.region ≡ root_region (customer_count root.problem) }
+    ensures problem { result.problem ≡ root.entry.problem }
+    ensures region { result.region ≡ root.entry.region }
+    ensures neighbours { result.neighbours ≡ root.entry.neighbours }
+{
+    let instance = root.instance();
+    let Ok(prices) = first_prices(alloc, instance, plan.routes()) else {
+        return root;
+    };
+    let region = Region::root(alloc, instance.customer_count());
+    let limit = Some(labels as usize);
+    let Ok(first) = Priced::of(alloc, instance, region, root.neighbours(), prices, limit) else {
+        return root;
+    };
+    if first.value() > root.value() {
+        first
+    } else {
+        root
+    }
+}
+
+/// A book of the root.
+fn open_book<'i>(alloc: Global, root: Priced<'i>) -> Result<Book<'i>, RunFault>
+    requires { root.region ≡ root_region (customer_count root.problem) }
+    ensures problem { IfOk result (λ b. b.problem ≡ root.entry.problem) }
+    ensures neighbours { IfOk result (λ b. b.neighbours ≡ root.entry.neighbours) }
+    ensures limits { IfOk result (λ b. b.limits.events ≡ MOST_EVENTS) }
+    ensures events { IfOk result (λ b. length b.past ≡ 0) }
+    ensures memory { IfErr result (λ e. e ≡ Memory) }
+{
+    match Book::new(alloc, root) {
+        Ok(book) => Ok(book),
+        Err((_, OpenFault::Memory)) => Err(RunFault::Memory),
+        Err(_) => unreachable!(),
+    }
+}
+
+/// Offers a plan to a book that has room for it.
+fn offer<'i>(book: &mut Book<'i>, plan: Feasible<'i>) -> Result<(), RunFault>
+    requires problem { plan.problem ≡ book.old.problem }
+    requires room { length book.old.past < book.old.limits.events }
+    ensures one_on { IsOneOn book.old book.new }
+    ensures served { OnOk result (costs_of book.new.past ≢ []) }
+    ensures memory { IfErr result (λ e. e ≡ Memory) }
+{
+    match book.offer(FIRST_WORKER, plan) {
+        Ok(_) => Ok(()),
+        Err((_, BookFault::Memory)) => Err(RunFault::Memory),
+        Err(_) => unreachable!(),
+    }
+}
+
+/// Offers a plan, and what a descent makes of it where that is cheaper; answers the plan to go on
+/// from.
+fn offer_both<'i>(
+    alloc: Global,
+    book: &mut Book<'i>,
+    plan: Feasible<'i>,
+    seed: u32,
+) -> Result<Feasible<'i>, RunFault>
+    requires problem { plan.problem ≡ book.old.problem }
+    requires room { length book.old.past + 1 < book.old.limits.events }
+    ensures problem { book.new.problem ≡ book.old.problem }
+    ensures neighbours { book.new.neighbours ≡ book.old.neighbours }
+    ensures served { OnOk result (costs_of book.new.past ≢ []) }
+    ensures memory { IfErr result (λ e. e ≡ Memory) }
+{
+    let cost = plan.cost();
+    let lower = descend(alloc, plan.try_clone()?, seed);
+    offer(book, plan)?;
+    if lower.cost().get() < cost.get() {
+        offer(book, lower.try_clone()?)?;
+    }
+    Ok(lower)
+}
+
+impl<'i> Opening<'i> {
+    /// A book of the root that was offered the first plan and what a descent makes of it, if insertion
+    /// builds one.
+    pub(crate) fn new(
+        alloc: Global,
+        instance: &'i Instance,
+        settings: &Settings,
+    ) -> Result<Opening<'i>, RunFault>
+        requires few { settings.now.neighbours ≤ MOST_NEIGHBOURS }
+        ensures problem { IfOk result (λ o. o.book.problem ≡ instance.now) }
+        ensures neighbours { IfOk result (λ o. o.book.neighbours ≡ settings.now.neighbours) }
+        ensures offered { IfOk result (λ o. HasPlanIf (is_some o.plan) o.book.past) }
+        ensures served { IfOk result (λ o. IsServedAlone instance.now → is_some o.plan ≡ true) }
+        ensures refused { IfErr result (λ e. (e ≡ Memory) ⊎ (e ≡ LabelLimit)) }
+    {
+        let root = price_root(alloc, instance, settings)?;
+        let Some(plan) = build_plan(alloc, instance)? else {
+            let book = open_book(alloc, root)?;
+            return Ok(Opening { book, plan: None });
+        };
+        let root = start_from(alloc, root, &plan, settings.labels);
+        let mut book = open_book(alloc, root)?;
+        let plan = offer_both(alloc, &mut book, plan, settings.seed)?;
+        Ok(Opening {
+            book,
+            plan: Some(plan),
+        })
+    }
+}

@@ -1,0 +1,65 @@
+//! What a refusal ends.
+
+use branching::RegionFault;
+use desk::LookFault;
+use incumbent_book::BookFault;
+use prices::PriceFault;
+use search::SearchFault;
+use std::alloc::AllocError;
+
+/// What a refusal ends.
+#[derive(Clone, Copy, Debug, PartialEq, Eq)]
+pub(crate) enum Refusal {
+    /// The turn.
+    EndsTurn,
+    /// The worker's work.
+    EndsWork,
+}
+
+impl From<AllocError> for Refusal {
+    fn from(_e: AllocError) -> Refusal {
+        Refusal::EndsWork
+    }
+}
+
+impl From<SearchFault> for Refusal {
+    fn from(_fault: SearchFault) -> Refusal {
+        Refusal::EndsWork
+    }
+}
+
+impl From<BookFault> for Refusal {
+    fn from(fault: BookFault) -> Refusal {
+        match fault {
+            BookFault::Memory | BookFault::JournalFull | BookFault::LeavesFull => Refusal::EndsWork,
+            _ => Refusal::EndsTurn,
+        }
+    }
+}
+
+impl From<LookFault> for Refusal {
+    fn from(fault: LookFault) -> Refusal {
+        match fault {
+            LookFault::Memory => Refusal::EndsWork,
+            LookFault::NotALeaf => Refusal::EndsTurn,
+        }
+    }
+}
+
+impl From<PriceFault> for Refusal {
+    fn from(fault: PriceFault) -> Refusal {
+        match fault {
+            PriceFault::Memory => Refusal::EndsWork,
+            PriceFault::LabelLimit | PriceFault::PriceRange => Refusal::EndsTurn,
+        }
+    }
+}
+
+impl From<RegionFault> for Refusal {
+    fn from(fault: RegionFault) -> Refusal {
+        match fault {
+            RegionFault::Memory => Refusal::EndsWork,
+            RegionFault::BadArc | RegionFault::Decided => Refusal::EndsTurn,
+        }
+    }
+}

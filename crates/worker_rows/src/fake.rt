@@ -1,0 +1,132 @@
+//! A hub in memory: one leaf, and what was called.
+
+use branching::Arc;
+use desk::LookFault;
+use incumbent_book::{BookFault, Gap, Offered};
+use prices::Priced;
+use schedule::Feasible;
+use search_workers::{Gate, GatePoint, Hub};
+use std::sync::atomic::{AtomicUsize, Ordering};
+use tenths::Tenths;
+
+/// A hub in memory, which counts calls and answers them as it was told.
+#[derive(Drop)]
+pub struct Fake<'i> {
+    pub leaf: Priced<'i>,
+    pub offers: u32,
+    pub reprices: u32,
+    pub splits: u32,
+    /// From this offer on each is refused so.
+    pub refusal: (u32, BookFault),
+    /// Whether no number is a leaf's.
+    pub is_bare: bool,
+}
+
+impl<'i> Fake<'i> {
+    pub fn new(leaf: Priced<'i>) -> Fake<'i> {
+        Fake {
+            leaf,
+            offers: 0,
+            reprices: 0,
+            splits: 0,
+            refusal: (u32::MAX, BookFault::Memory),
+            is_bare: false,
+        }
+    }
+}
+
+impl<'i> Hub<'i> for Fake<'i> {
+    fn offer(&mut self, plan: Feasible<'i>) -> Result<Offered<'i>, (Feasible<'i>, BookFault)> {
+        self.offers = self.offers.saturating_add(1);
+        let (first, fault) = self.refusal;
+        if self.offers >= first {
+            return Err((plan, fault));
+        }
+        let best = plan.cost();
+        Ok(Offered::NotBetter { best, plan })
+    }
+
+    fn reprice(&mut self, _leaf: u32, _priced: Priced<'i>) -> Result<(), (Priced<'i>, BookFault)> {
+        self.reprices = self.reprices.saturating_add(1);
+        Ok(())
+    }
+
+    fn split(
+        &mut self,
+        _leaf: u32,
+        _arc: Arc,
+        _used: Priced<'i>,
+        _unused: Priced<'i>,
+    ) -> Result<(u32, u32), (Priced<'i>, Priced<'i>, BookFault)> {
+        self.splits = self.splits.saturating_add(1);
+        Ok((1, 2))
+    }
+
+    fn look(&mut self, _leaf: u32) -> Result<Priced<'i>, LookFault> {
+        if self.is_bare {
+            return Err(LookFault::NotALeaf);
+        }
+        match self.leaf.try_clone() {
+            Ok(copy) => Ok(copy),
+            Err(_) => Err(LookFault::Memory),
+        }
+    }
+
+    fn gap(&mut self) -> Gap {
+        Gap {
+            cost: None,
+            bound: Tenths::from(0u32),
+        }
+    }
+}
+
+/// How often each point was passed, in the order of a gate's points.
+#[derive(Drop)]
+pub struct Counts {
+    passed: [AtomicUsize; 7],
+}
+
+/// The place of a point among the counts.
+fn place_of(point: GatePoint) -> usize {
+    match point {
+        GatePoint::Start => 0,
+        GatePoint::Offered => 1,
+        GatePoint::Looked => 2,
+        GatePoint::Priced => 3,
+        GatePoint::Split => 4,
+        GatePoint::Stolen => 5,
+        GatePoint::End => 6,
+    }
+}
+
+impl Counts {
+    pub fn new() -> Counts {
+        Counts {
+            passed: [
+                AtomicUsize::new(0),
+                AtomicUsize::new(0),
+                AtomicUsize::new(0),
+                AtomicUsize::new(0),
+                AtomicUsize::new(0),
+                AtomicUsize::new(0),
+                AtomicUsize::new(0),
+            ],
+        }
+    }
+
+    /// How often a point was passed.
+    pub fn of(&self, point: GatePoint) -> usize {
+        match self.passed.get(place_of(point)) {
+            Some(count) => count.load(Ordering::SeqCst),
+            None => 0,
+        }
+    }
+}
+
+impl Gate for Counts {
+    fn pass(&self, _worker: u16, point: GatePoint) {
+        if let Some(count) = self.passed.get(place_of(point)) {
+            count.fetch_add(1, Ordering::SeqCst);
+        }
+    }
+}

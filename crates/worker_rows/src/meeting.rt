@@ -1,0 +1,88 @@
+//! Two workers that wait for each other, so both have to run at once.
+
+use row_texts::{one_customer, two_in_line};
+use search_workers::{Gate, GatePoint, NoGate, RunFault, Settings, run};
+use solomon_reader::read;
+use std::sync::atomic::{AtomicBool, Ordering};
+use std::test::Fail;
+use std::thread;
+use std::time::{Clock, Duration};
+
+/// How often a worker looks.
+const LOOKS: u32 = 10_000;
+
+/// A gate at which worker 0 looks, when it starts, until worker 1 has offered, and worker 1, when it
+/// ends, until worker 0 has started.
+#[derive(Drop)]
+struct Meeting<'a, R: Clock> {
+    rt: &'a R,
+    has_started: AtomicBool,
+    has_offered: AtomicBool,
+    start_was_seen: AtomicBool,
+    offer_was_seen: AtomicBool,
+}
+
+/// Whether the flag is set at one of the looks, a millisecond apart.
+fn is_seen<R: Clock>(rt: &R, flag: &AtomicBool) -> bool {
+    for _ in 0..LOOKS {
+        if flag.load(Ordering::SeqCst) {
+            return true;
+        }
+        thread::sleep(rt, Duration::from_millis(1));
+    }
+    false
+}
+
+impl<'a, R: Clock> Gate for Meeting<'a, R> {
+    fn pass(&self, worker: u16, point: GatePoint) {
+        match (worker, point) {
+            (0, GatePoint::Start) => {
+                self.has_started.store(true, Ordering::SeqCst);
+                let seen = is_seen(self.rt, &self.has_offered);
+                self.offer_was_seen.store(seen, Ordering::SeqCst);
+            }
+            (1, GatePoint::Offered) => self.has_offered.store(true, Ordering::SeqCst),
+            (1, GatePoint::End) => {
+                let seen = is_seen(self.rt, &self.has_started);
+                self.start_was_seen.store(seen, Ordering::SeqCst);
+            }
+            _ => {}
+        }
+    }
+}
+
+#[test]
+fn two_workers_run_at_once(rt: HostRuntime) -> Result<(), Fail> {
+    let text = one_customer(rt.alloc())?;
+    let instance = read(rt.alloc(), text.as_bytes())?;
+    let settings = Settings {
+        turns: 1,
+        ..Settings::default()
+    };
+    let gate = Meeting {
+        rt: &rt,
+        has_started: AtomicBool::new(false),
+        has_offered: AtomicBool::new(false),
+        start_was_seen: AtomicBool::new(false),
+        offer_was_seen: AtomicBool::new(false),
+    };
+    let outcome = run(&rt, rt.alloc(), &instance, &settings, &gate)?;
+    assert!(rt; gate.offer_was_seen.load(Ordering::SeqCst));
+    assert!(rt; gate.start_was_seen.load(Ordering::SeqCst));
+    let plan = outcome.plan().ok_or("a plan")?;
+    assert_eq!(rt; plan.cost().get(), 100);
+    Ok(())
+}
+
+#[test]
+fn settings_outside_their_limits_are_refused(rt: HostRuntime) -> Result<(), Fail> {
+    let text = two_in_line(rt.alloc())?;
+    let instance = read(rt.alloc(), text.as_bytes())?;
+    let settings = Settings {
+        searchers: 33,
+        ..Settings::default()
+    };
+    let fault = run(&rt, rt.alloc(), &instance, &settings, &NoGate).err();
+    assert!(rt; fault == Some(RunFault::BadSettings));
+    Ok(())
+}

@@ -1,0 +1,63 @@
+//! A search worker over a fake.
+
+use crate::fake::{Counts, Fake};
+use ceiling::Ceiling;
+use incumbent_book::BookFault;
+use prices::Priced;
+use row_texts::two_in_line;
+use search_workers::{GatePoint, generator, search_worker};
+use solomon_reader::read;
+use std::alloc::Global;
+use std::test::Fail;
+
+/// Five turns without a first plan, at a hub that refuses so from this offer on: the turns made, the
+/// offers, and how often Offered and End were passed. The words for cost and bound hold these at first.
+fn five_turns(
+    alloc: Global,
+    first: u32,
+    fault: BookFault,
+    words: (u64, u64),
+) -> Result<(u32, u32, usize, usize), Fail> {
+    let text = two_in_line(alloc)?;
+    let instance = read(alloc, text.as_bytes())?;
+    let mut hub = Fake::new(Priced::root(alloc, &instance, 8, None)?);
+    hub.refusal = (first, fault);
+    let gate = Counts::new();
+    let (ceiling, mut seats) = Ceiling::new(alloc, 1, words.0, words.1)?;
+    let mut seat = seats.pop().ok_or("a seat")?;
+    let random = generator(1, 0);
+    let made = search_worker(
+        alloc, &mut hub, &gate, 0, &instance, None, 5, random, &ceiling, &mut seat,
+    );
+    Ok((made, hub.offers, gate.of(GatePoint::Offered), gate.of(GatePoint::End)))
+}
+
+#[test]
+fn each_turn_offers_once(rt: HostRuntime) -> Result<(), Fail> {
+    let made = five_turns(rt.alloc(), 6, BookFault::Memory, (1000, 0))?;
+    assert!(rt; made == (5, 5, 5, 5));
+    Ok(())
+}
+
+#[test]
+fn a_full_history_ends_the_work(rt: HostRuntime) -> Result<(), Fail> {
+    for fault in [BookFault::JournalFull, BookFault::Memory] {
+        let made = five_turns(rt.alloc(), 3, fault, (1000, 0))?;
+        assert!(rt; made == (3, 3, 2, 3), "{fault}");
+    }
+    Ok(())
+}
+
+#[test]
+fn other_refusals_end_the_turn(rt: HostRuntime) -> Result<(), Fail> {
+    let made = five_turns(rt.alloc(), 3, BookFault::ForeignInstance, (1000, 0))?;
+    assert!(rt; made == (5, 5, 2, 5));
+    Ok(())
+}
+
+#[test]
+fn no_work_is_left_where_cost_and_bound_have_met(rt: HostRuntime) -> Result<(), Fail> {
+    let made = five_turns(rt.alloc(), 6, BookFault::Memory, (1000, 1000))?;
+    assert!(rt; made == (5, 0, 0, 5));
+    Ok(())
+}
