@@ -1,13 +1,16 @@
 -- From what becomes of both texts to what the solver says.
-use Rattle.std.proofs.Common.{◌≡◌, List, Result, Ok, Err, ℕ, subst}
+use Rattle.std.proofs.Common.{◌≡◌, List, Result, Ok, Err, ℕ, subst, refl}
 use Rattle.solomon_reader.specs.Problem.{Problem}
 use Rattle.solomon_reader.specs.Layout.{IsInstance}
 use Rattle.vrptw.specs.declared.answer.Answer.{Answer}
 use Rattle.vrptw.specs.declared.answer.SolveFault.{SolveFault}
-use Rattle.vrptw.specs.declared.answer.SolveFault.TheVariants.{Memory, Instance, BadSettings, LabelLimit, Device}
-use Rattle.vrptw.specs.declared.settings.Settings.{Settings}
-use Rattle.vrptw.specs.Settings.{IsWithin}
-use Rattle.vrptw.specs.Answers.{Held, Solves, WritesBoth}
+use Rattle.search_workers.specs.declared.fault.RunFault.{RunFault}
+use Rattle.search_workers.specs.declared.fault.RunFault.TheVariants as run
+use Rattle.search_workers.specs.declared.settings.Settings.{Settings}
+use Rattle.search_workers.specs.Settings.{IsWithin}
+use Rattle.search_workers.specs.Running.{RefusesSettings}
+use Rattle.vrptw.specs.declared.answer.SolveFault.TheVariants.{Memory, Instance, BadSettings, LabelLimit, NoThread, Device}
+use Rattle.vrptw.specs.Answers.{Held, IsFaultOfRun, Solves, WritesBoth}
 
 module _ (text : List ℕ) (settings : Settings) (p : Problem) (s s' c c' : Held) (is : IsInstance text p) (within : IsWithin settings) where
   answered : (r : Result Answer SolveFault) → WritesBoth p settings.neighbours s s' c c' r → Solves text settings s s' c c' r
@@ -16,8 +19,17 @@ module _ (text : List ℕ) (settings : Settings) (p : Problem) (s s' c c' : Held
   answered (Err (Instance f)) both = absurd (let e : Instance f ≡ Device = both.0 in cc)
   answered (Err BadSettings) both = absurd (let e : BadSettings ≡ Device = both.0 in cc)
   answered (Err LabelLimit) both = absurd (let e : LabelLimit ≡ Device = both.0 in cc)
+  answered (Err NoThread) both = absurd (let e : NoThread ≡ Device = both.0 in cc)
   answered (Err Device) both = (p, is, within, both.1)
 
   pub solved : (q : Problem) (k : ℕ) (r : Result Answer SolveFault) → q ≡ p → k ≡ settings.neighbours → WritesBoth q k s s' c c' r → Solves text settings s s' c c' r
   solved q k r same_problem same_neighbours both =
       answered r (subst (λ o. WritesBoth o settings.neighbours s s' c c' r) same_problem (subst (λ n. WritesBoth q n s s' c c' r) same_neighbours both))
+
+-- a run's fault comes before the first write
+pub refused : (text : List ℕ) (settings : Settings) (p : Problem) (s c : Held) → IsInstance text p → (fault : RunFault) (told : SolveFault) → RefusesSettings settings fault → IsFaultOfRun fault told
+    → Solves text settings s s c c (Err told)
+refused text settings p s c is run.Memory told within same = rw same (refl, refl)
+refused text settings p s c is run.BadSettings told outside same = rw same ((p, is), outside, refl, refl)
+refused text settings p s c is run.LabelLimit told within same = rw same ((p, is), within, refl, refl)
+refused text settings p s c is run.NoThread told within same = rw same ((p, is), within, refl, refl)

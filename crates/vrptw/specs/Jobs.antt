@@ -3,14 +3,14 @@ use Rattle.std.specs.Prelude.{◌≡◌, ◌≢◌, List, [], Option, Some, None
 use Rattle.clap.specs.Words.{Row, Text, first_of, fault_of, kind_of, subcommand_of}
 use Rattle.clap.specs.declared.Error.{Error}
 use Rattle.clap.specs.declared.error.ErrorKind.TheVariants.{OutOfMemory}
-use Rattle.vrptw.specs.declared.settings.TheConstants.{MOST_STATES}
+use Rattle.vrptw.specs.declared.jobs.TheConstants.{MOST_STATES}
 use Rattle.vrptw.specs.Commands.{program, HasNumber}
-use Rattle.vrptw.specs.Settings.{default_settings}
+use Rattle.search_workers.specs.Settings.{default_settings}
 use Rattle.vrptw.specs.declared.jobs.Job.{Job}
 use Rattle.vrptw.specs.declared.jobs.Job.TheVariants.{Solve, Check}
 use Rattle.vrptw.specs.declared.jobs.UsageFault.{UsageFault}
 use Rattle.vrptw.specs.declared.jobs.UsageFault.TheVariants.{Memory, Usage}
-use Rattle.vrptw.specs.declared.settings.Settings.{Settings}
+use Rattle.search_workers.specs.declared.settings.Settings.{Settings}
 
 -- the rows of the arguments of `solve` have these paths, and the settings are the default ones
 pub record SaysSolve (rows : List Row) (instance solution certificate : Text)

@@ -6,11 +6,11 @@ ghost use Rattle.clap.specs.Words.{subcommand_rows_of};
 ghost use Rattle.vrptw.specs.Commands.{HasShape, IsNumberIf, check_shape, number_option_rule, path_option_rule, path_rule, program, solve_shape};
 ghost use Rattle.vrptw.specs.Jobs.{Gives, IsRefused, IsSameJob, Says, SaysAny};
 
-use crate::jobs::{Job, UsageFault};
-use crate::settings::{MOST_STATES, Settings};
+use crate::jobs::{Job, MOST_STATES, UsageFault};
 use clap::builder::ValueParser;
 use clap::error::ErrorKind;
 use clap::{Arg, ArgMatches, Command, value_parser};
+use search_workers::Settings;
 use std::alloc::{AllocError, Global};
 
 const PROGRAM: &str = "vrptw";

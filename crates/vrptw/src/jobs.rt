@@ -1,9 +1,12 @@
 //! What the words ask for, and why they ask for nothing.
 ghost use Rattle.std.specs.Prelude.{◌≡◌};
 
-use crate::settings::Settings;
+use search_workers::Settings;
 use std::alloc::AllocError;
 use thiserror::Error;
+
+/// The most pairs of time and cost that the check of one leaf keeps.
+pub const MOST_STATES: u32 = 50_000_000;
 
 /// What the program is asked to do.
 #[derive(Drop)]

@@ -1,11 +1,13 @@
-use Rattle.std.proofs.Common.{refl, ◌∙◌}
-use Rattle.vrptw.specs.Settings.{IsWithin}
-use Rattle.vrptw.proofs.Answering.{solved}
+use Rattle.std.proofs.lemmas.Result.{err_from_is_err_and}
+use Rattle.vrptw.proofs.Answering.{refused, solved}
 use Rattle.vrptw.proofs.solving.solve.Goals as goal
+
+pub returns-in_err-outcome : goal.returns-in_err-outcome
+returns-in_err-outcome g c =
+    let p = err_from_is_err_and c.from_residual-in_err-outcome.result c.from_residual-in_err-outcome.ensures.1 in
+    rw p.1 (refused c.args.text.now c.args.settings.now c.in_ok-instance.instance _ _ c.in_ok-instance.ensures.found _ _ c.in_err-outcome.ensures.refused p.2)
 
 pub returns : goal.returns
 returns g c =
-    let within : IsWithin c.args.settings.now = c.if-not-is_within.ensures.0 refl in
-    solved c.args.text.now c.args.settings.now c.in_ok-instance.instance _ _ _ _ c.in_ok-instance.ensures.found within c.in_ok-outcome.outcome.problem c.in_ok-outcome.outcome.neighbours
-    c.write_both.result (c.in_ok-outcome.ensures.problem ∙ c.in_ok-book.ensures.problem)
-    (c.in_ok-outcome.ensures.neighbours ∙ c.in_ok-book.ensures.neighbours ∙ c.in_ok-root.ensures.neighbours) c.write_both.ensures
+    solved c.args.text.now c.args.settings.now c.in_ok-instance.instance _ _ _ _ c.in_ok-instance.ensures.found c.in_ok-outcome.ensures.within c.in_ok-outcome.outcome.problem c.in_ok-outcome.outcome.neighbours
+    c.write_both.result c.in_ok-outcome.ensures.problem c.in_ok-outcome.ensures.neighbours c.write_both.ensures
