@@ -1,7 +1,7 @@
 //! The program with its words and files: the lines that it prints, its statuses and what it writes.
 
 use certificate::{Version, read};
-use row_texts::{DEPOT, instance_text, many_customers, one_customer, three_apart};
+use row_texts::{DEPOT, instance_text, many_customers, one_customer, three_apart, two_in_line};
 use std::alloc::Global;
 use std::process::Abort;
 use std::rt::Files;
@@ -325,14 +325,25 @@ fn files_that_cannot_be_had_end_with_status_6(rt: HostRuntime) -> Result<(), Fai
 
 #[test]
 fn wrong_words_end_with_status_2_and_help_with_0(rt: HostRuntime) -> Result<(), Fail> {
-    let rows: [(&str, &[&str], u8); 7] = [
+    let rows: [(&str, &[&str], u8); 10] = [
         ("no word", &[], 2),
         ("no certificate", &["check", "a"], 2),
         ("no states", &["check", "a", "b", "--states", "0"], 2),
         ("no path", &["solve"], 2),
         ("a path too many", &["solve", "a", "b", "c", "d"], 2),
+        (
+            "too many",
+            &["solve", "a", "b", "c", "--searchers", "33"],
+            2,
+        ),
+        (
+            "not of solve",
+            &["solve", "a", "b", "c", "--states", "5"],
+            2,
+        ),
         ("no command", &["price", "a", "b", "c"], 2),
         ("help", &["--help"], 0),
+        ("help of solve", &["solve", "--help"], 0),
     ];
     for (name, words, expected) in rows {
         let printed = run(&rt, words);
@@ -347,6 +358,27 @@ fn wrong_words_end_with_status_2_and_help_with_0(rt: HostRuntime) -> Result<(), 
             "{name}"
         );
     }
+    Ok(())
+}
+
+#[test]
+fn options_reach_the_solver(rt: HostRuntime) -> Result<(), Fail> {
+    let text = two_in_line(rt.alloc())?;
+    fs::write(&rt, "option_instance", text.as_bytes())?;
+    let paths = ["option_instance", "option_solution", "option_certificate"];
+    let printed = run(
+        &rt,
+        &["solve", paths[0], paths[1], paths[2], "--neighbours", "3"],
+    );
+    assert!(rt; printed.errors.as_slice().is_empty());
+    let text = fs::read(&rt, paths[2])?;
+    let lines = b"VRPTW-CERT 2\nINSTANCE T\nCUSTOMERS 2\nNEIGHBOURS 3\n";
+    assert!(rt; text.as_slice().starts_with(lines));
+    let printed = run(
+        &rt,
+        &["solve", paths[0], paths[1], paths[2], "--labels", "1"],
+    );
+    assert_fault(&rt, "few labels", &printed, "vrptw: limit: LabelLimit\n", 7);
     Ok(())
 }
 

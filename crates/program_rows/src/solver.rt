@@ -3,6 +3,7 @@
 use crate::shared::solve_text;
 use certificate::read;
 use row_texts::two_in_line;
+use std::alloc::Global;
 use std::test::Fail;
 use tenths::MemorySink;
 use vrptw::{Job, Settings, SolveFault, job};
@@ -89,6 +90,88 @@ fn words_give_a_job(rt: HostRuntime) -> Result<(), Fail> {
             assert_eq!(rt; states, 5_000_000);
         }
         _ => assert!(rt; false, "the words were refused"),
+    }
+    Ok(())
+}
+
+/// The settings of the job that these words give, if they give one to solve.
+fn settings_given(alloc: Global, words: &[&str]) -> Option<Settings> {
+    match job(alloc, words) {
+        Ok(Job::Solve { settings, .. }) => Some(settings),
+        _ => None,
+    }
+}
+
+/// The default settings, but for the number of one option.
+fn settings_with(option: &str, number: u32) -> Settings {
+    let mut settings = Settings::default();
+    match option {
+        "searchers" => settings.searchers = number,
+        "bounders" => settings.bounders = number,
+        "turns" => settings.turns = number,
+        "seed" => settings.seed = number,
+        "neighbours" => settings.neighbours = number,
+        _ => settings.labels = number,
+    }
+    settings
+}
+
+#[test]
+fn options_give_the_settings(rt: HostRuntime) -> Result<(), Fail> {
+    let words = [
+        "solve",
+        "a",
+        "b",
+        "c",
+        "--labels",
+        "9",
+        "--searchers",
+        "3",
+        "--bounders",
+        "4",
+        "--turns",
+        "5",
+        "--seed",
+        "6",
+        "--neighbours",
+        "7",
+    ];
+    let settings = Settings {
+        searchers: 3,
+        bounders: 4,
+        turns: 5,
+        seed: 6,
+        neighbours: 7,
+        labels: 9,
+    };
+    assert_eq!(rt; settings_given(rt.alloc(), &words), Some(settings));
+    Ok(())
+}
+
+#[test]
+fn options_have_ranges(rt: HostRuntime) -> Result<(), Fail> {
+    // A number below the range, the range, and a number above it.
+    let rows: [(&str, i64, u32, u32, i64); 6] = [
+        ("searchers", 0, 1, 32, 33),
+        ("bounders", 0, 1, 32, 33),
+        ("turns", 0, 1, 1_000_000, 1_000_001),
+        ("seed", -1, 0, 4_294_967_295, 4_294_967_296),
+        ("neighbours", -1, 0, 15, 16),
+        ("labels", 0, 1, 100_000_000, 100_000_001),
+    ];
+    for (option, below, least, most, above) in rows {
+        for number in [least, most] {
+            let word = format!(in rt.alloc(); "--{option}={number}")?;
+            let words = ["solve", "a", "b", "c", word.as_str()];
+            let settings = settings_given(rt.alloc(), &words);
+            assert_eq!(rt; settings, Some(settings_with(option, number)), "{word}");
+        }
+        for number in [below, above] {
+            let word = format!(in rt.alloc(); "--{option}={number}")?;
+            let words = ["solve", "a", "b", "c", word.as_str()];
+            let settings = settings_given(rt.alloc(), &words);
+            assert_eq!(rt; settings, None, "{word}");
+        }
     }
     Ok(())
 }

@@ -1,14 +1,78 @@
--- Rows that don't give a job.
-use Rattle.std.proofs.Common.{◌≡◌, ℕ, List, slice_index, ap, arith, codes}
-use Rattle.clap.specs.Words.{Row}
-use Rattle.vrptw.specs.Commands.{HasNumber}
-use Rattle.vrptw.specs.Jobs.{Says}
+-- Rows that don't give a job, and rows that give one job alone.
+use Rattle.std.proofs.Common.{◌≡◌, ◌∙◌, ℕ, List, Option, Some, None, slice_index, ap, ap₂, arith, codes, refl, sym}
+use Rattle.std.specs.Str.Parse.{digits_value, without_leading_plus}
+use Rattle.clap.specs.Words.{Row, Text}
+use Rattle.vrptw.specs.Commands.{HasNumber, IsNumberIf}
+use Rattle.vrptw.specs.Jobs.{HasSettings, IsSameJob, Says, SaysAny}
 use Rattle.vrptw.specs.declared.jobs.Job.{Job}
 use Rattle.vrptw.specs.declared.jobs.Job.TheVariants.{Solve, Check}
+use Rattle.search_workers.specs.declared.settings.Settings.{Settings}
+
+-- no command has both names
+one_name : (name : Text) → name ≡ codes "solve" → name ≡ codes "check" → ⊥
+one_name name solve check =
+    let bad : 115 ≡ 99 = ap (λ (l : List ℕ). slice_index l 0) (sym solve ∙ check) in
+    absurd (omega (arith, bad))
 
 -- no number of pairs is given
 pub no_check : (rows : List Row) → ((n : ℕ) → HasNumber (codes "states") rows n → ⊥) → (other : Job) → Says (codes "check") rows other → ⊥
 no_check rows none (Check instance certificate solution states) says = none states says.1.states_are
-no_check rows none (Solve instance solution certificate settings) says =
-    let bad : 99 ≡ 115 = ap (λ (l : List ℕ). slice_index l 0) says.0 in
-    absurd (omega (arith, bad))
+no_check rows none (Solve instance solution certificate settings) says = absurd (one_name (codes "check") says.0 refl)
+
+-- one of the numbers of `solve` is not given
+pub no_number : (id : Text) (number : Settings → ℕ) (rows : List Row)
+    → ((settings : Settings) → HasSettings rows settings → HasNumber id rows (number settings))
+    → IsNumberIf id rows None → (other : Settings) → HasSettings rows other → ⊥
+no_number id number rows has none other settings = none (number other) (has other settings)
+
+-- no settings are given
+pub no_solve : (rows : List Row) → ((other : Settings) → HasSettings rows other → ⊥) → (other : Job) → Says (codes "solve") rows other → ⊥
+no_solve rows none (Solve instance solution certificate settings) says = none settings says.1.settings_are
+no_solve rows none (Check instance certificate solution states) says = absurd (one_name (codes "solve") refl says.0)
+
+some_is_one : {X : Type 0} (o : Option X) (x y : X) → o ≡ Some x → o ≡ Some y → x ≡ y
+some_is_one o x y p q = cc
+
+same_number : (id : Text) (rows : List Row) (m n : ℕ) → HasNumber id rows m → HasNumber id rows n → m ≡ n
+same_number id rows m n p q =
+    p.4 ∙ (ap (λ t. digits_value 10 (without_leading_plus t)) (some_is_one _ p.0 q.0 p.1 q.1) ∙ sym q.4)
+
+-- settings by their numbers
+abbrev with_numbers : ℕ → ℕ → ℕ → ℕ → ℕ → ℕ → Settings
+with_numbers searchers bounders turns seed neighbours labels = record {
+  searchers = searchers;
+  bounders = bounders;
+  turns = turns;
+  seed = seed;
+  neighbours = neighbours;
+  labels = labels;
+}
+
+same_settings : (rows : List Row) (a b : Settings) → HasSettings rows a → HasSettings rows b → a ≡ b
+same_settings rows a b p q =
+    ap₂ (λ s o. with_numbers s o a.turns a.seed a.neighbours a.labels)
+    (same_number _ rows _ _ p.searchers_are q.searchers_are) (same_number _ rows _ _ p.bounders_are q.bounders_are)
+    ∙ (ap₂ (λ t s. with_numbers b.searchers b.bounders t s a.neighbours a.labels)
+    (same_number _ rows _ _ p.turns_are q.turns_are) (same_number _ rows _ _ p.seed_is q.seed_is)
+    ∙ ap₂ (λ n l. with_numbers b.searchers b.bounders b.turns b.seed n l)
+    (same_number _ rows _ _ p.neighbours_are q.neighbours_are) (same_number _ rows _ _ p.labels_are q.labels_are))
+
+-- what a command and its rows say is one job
+pub same_job : (named : Option (Text × List Row)) (found other : Job) → SaysAny named found → SaysAny named other → IsSameJob found other
+same_job None found other says also = absurd says
+same_job (Some (name, rows)) (Solve instance solution certificate settings) (Solve second_instance second_solution second_certificate second_settings) (_, p) (_, q) = (
+  some_is_one _ _ _ p.instance_path q.instance_path,
+  some_is_one _ _ _ p.solution_path q.solution_path,
+  some_is_one _ _ _ p.certificate_path q.certificate_path,
+  same_settings rows settings second_settings p.settings_are q.settings_are,
+)
+same_job (Some (name, rows)) (Check instance certificate solution states) (Check second_instance second_certificate second_solution second_states) (_, p) (_, q) = (
+  some_is_one _ _ _ p.instance_path q.instance_path,
+  some_is_one _ _ _ p.certificate_path q.certificate_path,
+  sym p.solution_path ∙ q.solution_path,
+  same_number _ rows states second_states p.states_are q.states_are,
+)
+same_job (Some (name, rows)) (Solve instance solution certificate settings) (Check second_instance second_certificate second_solution second_states) p q =
+    absurd (one_name name p.0 q.0)
+same_job (Some (name, rows)) (Check instance certificate solution states) (Solve second_instance second_solution second_certificate second_settings) p q =
+    absurd (one_name name q.0 p.0)

@@ -1,12 +1,12 @@
 -- What clap's answers say of the program's words.
-use Rattle.std.proofs.Common.{◌≡◌, List, subst, sym, refl, Result, Ok, IfOk, true}
+use Rattle.std.proofs.Common.{◌≡◌, List, subst, sym, refl, Result, Ok, IfOk, true, inl, inr}
 use Rattle.clap.proofs.OnLiterals.{clap_on_literals}
-use Rattle.clap.specs.Words.{App, FailsBy, HasMatchesOf, Text, fault_of}
+use Rattle.clap.specs.Words.{App, FailsBy, HasKind, HasMatchesOf, IsAmong, Text, fault_of, kind_of}
 use Rattle.clap.specs.Words.{is_simple, is_simple_and_free, subcommand_of, subcommand_rows_of}
 use Rattle.clap.specs.declared.ArgMatches.{ArgMatches}
 use Rattle.clap.specs.declared.Error.{Error}
 use Rattle.vrptw.specs.Commands.{program}
-use Rattle.vrptw.specs.Jobs.{Gives, IsRefused, SaysAny}
+use Rattle.vrptw.specs.Jobs.{Gives, IsFaultOf, IsRefused, SaysAny}
 use Rattle.vrptw.specs.declared.jobs.Job.{Job}
 use Rattle.vrptw.specs.declared.jobs.UsageFault.{UsageFault}
 use Rattle.vrptw.specs.declared.jobs.UsageFault.TheVariants.{Memory, Usage}
@@ -37,3 +37,14 @@ module _ (words : List Text) (app : App) (is : app ≡ program) (matches : ArgMa
   not_given Memory none = tt
   not_given (Usage error) none = λ job gives.
       none job (subst (λ rows. SaysAny rows job) (sym matches_are) gives.1)
+
+-- words that clap refuses give no job
+pub refused : (words : List Text) (app : App) → app ≡ program → (error : Error) (fault : UsageFault)
+    → HasKind (fault_of app words) error → IsFaultOf error fault → IsRefused words fault
+refused words app is error Memory kinds told = tt
+refused words app is error (Usage said) kinds told = λ job gives.
+    let mine : HasKind (fault_of program words) error = rw is at kinds in
+    elim mine [
+      | inl out ↦ told.1 out
+      | inr among ↦ subst (IsAmong (kind_of error)) gives.0 among
+    ]

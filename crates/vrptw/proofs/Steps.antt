@@ -1,11 +1,11 @@
 -- Steps that build a command.
-use Rattle.std.proofs.Common.{◌≡◌, ◌∙◌, ◌||◌, ℕ, List, [], Option, Some, None, Result, Ok, Err, ap, ap₂, refl, sym, subst, unwrap_or, false}
+use Rattle.std.proofs.Common.{◌≡◌, ◌∙◌, ◌||◌, ℕ, List, [], ◌∷◌, Option, Some, None, Result, Ok, Err, ap, ap₂, refl, sym, subst, unwrap_or, false}
 use Rattle.std.specs.Str.Parse.{IsNumeral, ParsesUnsigned, without_leading_plus}
 use Rattle.clap.specs.Words.{AddsArg, AddsSubcommand, App, Rule, Shape, app_of, rule_of, with_rule}
 use Rattle.clap.specs.Words.{Row, Text, ReadsOne, one_of, with_subcommand}
 use Rattle.clap.specs.declared.Arg.{Arg}
 use Rattle.clap.specs.declared.Command.{Command}
-use Rattle.vrptw.specs.Commands.{HasShape, HasNumber, IsNumberIf}
+use Rattle.vrptw.specs.Commands.{AddsRules, HasShape, IsNumberIf}
 
 -- `Command::arg`, of an argument that subcommands do not share
 pub adds_rule : (before after : Command) (arg : Arg) (app : App) (rule : Rule)
@@ -13,6 +13,15 @@ pub adds_rule : (before after : Command) (arg : Arg) (app : App) (rule : Rule)
     → HasShape (with_rule app rule) after
 adds_rule before after arg app rule was step is own =
     (step.shape own ∙ ap₂ with_rule was.0 is, step.globals ∙ ap₂ (λ x y. x || y) was.1 own)
+
+-- the same of two arguments in turn
+pub adds_two : (before made after : Command) (first second : Arg) (one two : Rule)
+    → AddsArg before first made → rule_of first ≡ one → first.global ≡ false
+    → AddsArg made second after → rule_of second ≡ two → second.global ≡ false
+    → AddsRules (one ∷ two ∷ []) before after
+adds_two before made after first second one two step is own next also owned app was =
+    adds_rule made after second (with_rule app one) two
+    (adds_rule before made first app one was step is own) next also owned
 
 -- `Command::subcommand`, of a command with no subcommands of its own
 pub adds_shape : (before after sub : Command) (app : App) (shape : Shape) → app_of before ≡ app

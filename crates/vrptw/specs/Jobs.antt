@@ -5,20 +5,30 @@ use Rattle.clap.specs.declared.Error.{Error}
 use Rattle.clap.specs.declared.error.ErrorKind.TheVariants.{OutOfMemory}
 use Rattle.vrptw.specs.declared.jobs.TheConstants.{MOST_STATES}
 use Rattle.vrptw.specs.Commands.{program, HasNumber}
-use Rattle.search_workers.specs.Settings.{default_settings}
+use Rattle.search_workers.specs.Settings.{IsWithin}
 use Rattle.vrptw.specs.declared.jobs.Job.{Job}
 use Rattle.vrptw.specs.declared.jobs.Job.TheVariants.{Solve, Check}
 use Rattle.vrptw.specs.declared.jobs.UsageFault.{UsageFault}
 use Rattle.vrptw.specs.declared.jobs.UsageFault.TheVariants.{Memory, Usage}
 use Rattle.search_workers.specs.declared.settings.Settings.{Settings}
 
--- the rows of the arguments of `solve` have these paths, and the settings are the default ones
+-- the rows of the arguments of `solve` have these numbers, each of which is within its range
+pub record HasSettings (rows : List Row) (settings : Settings) : Type 0 where
+  pub searchers_are : HasNumber (codes "searchers") rows settings.searchers
+  pub bounders_are : HasNumber (codes "bounders") rows settings.bounders
+  pub turns_are : HasNumber (codes "turns") rows settings.turns
+  pub seed_is : HasNumber (codes "seed") rows settings.seed
+  pub neighbours_are : HasNumber (codes "neighbours") rows settings.neighbours
+  pub labels_are : HasNumber (codes "labels") rows settings.labels
+  pub within : IsWithin settings
+
+-- the rows of the arguments of `solve` have these paths and these settings
 pub record SaysSolve (rows : List Row) (instance solution certificate : Text)
     (settings : Settings) : Type 0 where
   pub instance_path : first_of (codes "INSTANCE") rows ≡ Some instance
   pub solution_path : first_of (codes "SOLUTION") rows ≡ Some solution
   pub certificate_path : first_of (codes "CERTIFICATE") rows ≡ Some certificate
-  pub settings_are : settings ≡ default_settings
+  pub settings_are : HasSettings rows settings
 
 -- the rows of the arguments of `check` have these paths, and this number of pairs, which is within its range
 pub record SaysCheck (rows : List Row) (instance certificate : Text) (solution : Option Text) (states : ℕ) : Type 0 where

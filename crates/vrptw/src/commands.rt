@@ -3,14 +3,15 @@ ghost use Rattle.std.specs.Prelude.{◌≡◌, [], false, map, codes, option_map
 ghost use Rattle.std.specs.Prelude.{IfOk, IfErr, MatchOption};
 ghost use Rattle.clap.specs.Words.{app_of, rule_of, rows_of, found_of, first_of};
 ghost use Rattle.clap.specs.Words.{subcommand_rows_of};
-ghost use Rattle.vrptw.specs.Commands.{HasShape, IsNumberIf, check_shape, number_option_rule, path_option_rule, path_rule, program, solve_shape};
-ghost use Rattle.vrptw.specs.Jobs.{Gives, IsRefused, IsSameJob, Says, SaysAny};
+ghost use Rattle.vrptw.specs.Commands.{AddsRules, HasShape, IsNumberIf, between, check_shape, number_option_rule, path_option_rule, path_rule, pricing_rules, program, search_rules, solve_shape, thread_rules};
+ghost use Rattle.vrptw.specs.Jobs.{Gives, HasSettings, IsRefused, IsSameJob, Says, SaysAny};
 
 use crate::jobs::{Job, MOST_STATES, UsageFault};
 use clap::builder::ValueParser;
 use clap::error::ErrorKind;
-use clap::{Arg, ArgMatches, Command, value_parser};
-use search_workers::Settings;
+use clap::{Arg, ArgMatches, Command};
+use solomon_reader::MOST_NEIGHBOURS;
+use search_workers::{MOST_BOUNDERS, MOST_LABELS, MOST_SEARCHERS, MOST_TURNS, Settings};
 use std::alloc::{AllocError, Global};
 
 const PROGRAM: &str = "vrptw";
@@ -31,6 +32,13 @@ fn path_option<'a>(alloc: Global, id: &'a str, help: &'a str) -> Arg<'a>
     Arg::new(alloc, id).long(id).help(help)
 }
 
+/// What takes the numbers from `least` to `most`.
+fn number_between<'a>(least: u32, most: u32) -> ValueParser<'a>
+    ensures { result ≡ between least most }
+{
+    ValueParser::signed(i64::from(least), i64::from(most))
+}
+
 /// An option with a number, named after two dashes.
 fn number_option<'a>(
     alloc: Global,
@@ -49,10 +57,73 @@ fn number_option<'a>(
         .help(help)
 }
 
+/// Adds the options that say how many threads work.
+fn with_thread_options<'a>(alloc: Global, command: Command<'a>) -> Result<Command<'a>, AllocError>
+    ensures { IfOk result (AddsRules thread_rules command.entry) }
+{
+    command
+        .arg(number_option(
+            alloc,
+            "searchers",
+            number_between(1, MOST_SEARCHERS),
+            "2",
+            "How many threads look for a plan, 1 to 32",
+        ))?
+        .arg(number_option(
+            alloc,
+            "bounders",
+            number_between(1, MOST_BOUNDERS),
+            "2",
+            "How many threads raise the bound, 1 to 32",
+        ))
+}
+
+/// Adds the options that say how plans are looked for.
+fn with_search_options<'a>(alloc: Global, command: Command<'a>) -> Result<Command<'a>, AllocError>
+    ensures { IfOk result (AddsRules search_rules command.entry) }
+{
+    command
+        .arg(number_option(
+            alloc,
+            "turns",
+            number_between(1, MOST_TURNS),
+            "200",
+            "How many turns each search takes, 1 to 1000000",
+        ))?
+        .arg(number_option(
+            alloc,
+            "seed",
+            number_between(0, u32::MAX),
+            "1",
+            "Where the random numbers start, 0 to 4294967295",
+        ))
+}
+
+/// Adds the options that say how the bound is priced.
+fn with_pricing_options<'a>(alloc: Global, command: Command<'a>) -> Result<Command<'a>, AllocError>
+    ensures { IfOk result (AddsRules pricing_rules command.entry) }
+{
+    command
+        .arg(number_option(
+            alloc,
+            "neighbours",
+            number_between(0, MOST_NEIGHBOURS),
+            "8",
+            "How many nearest customers the relaxed routes of a customer remember, 0 to 15",
+        ))?
+        .arg(number_option(
+            alloc,
+            "labels",
+            number_between(1, MOST_LABELS),
+            "1000000",
+            "How many labels one pricing makes at most, 1 to 100000000",
+        ))
+}
+
 fn solve_command<'a>(alloc: Global) -> Result<Command<'a>, AllocError>
     ensures { IfOk result (HasShape (record { top = solve_shape; subs = [] })) }
 {
-    Command::new(alloc, "solve")
+    let command = Command::new(alloc, "solve")
         .about("Finds a plan and a certificate of a lower bound on every plan's cost")
         .arg(path(alloc, "INSTANCE", "The file to read the instance from"))?
         .arg(path(
@@ -64,7 +135,10 @@ fn solve_command<'a>(alloc: Global) -> Result<Command<'a>, AllocError>
             alloc,
             "CERTIFICATE",
             "The file to write the certificate to, emptied before the solving; no two paths may be the same",
-        ))
+        ))?;
+    let command = with_thread_options(alloc, command)?;
+    let command = with_search_options(alloc, command)?;
+    with_pricing_options(alloc, command)
 }
 
 fn check_command<'a>(alloc: Global) -> Result<Command<'a>, AllocError>
@@ -82,9 +156,9 @@ fn check_command<'a>(alloc: Global) -> Result<Command<'a>, AllocError>
         .arg(number_option(
             alloc,
             "states",
-            value_parser!(u32).range(1..50_000_001),
+            number_between(1, MOST_STATES),
             "5000000",
-            "The most pairs of time and cost that the check of one leaf keeps",
+            "The most pairs of time and cost that the check of one leaf keeps, 1 to 50000000",
         ))
 }
 
@@ -114,6 +188,32 @@ fn number_of(found: &ArgMatches<'_>, id: &str) -> Option<u32>
     found.get_one::<u32>(id)
 }
 
+/// The settings that the arguments of `solve` give.
+fn settings_of(found: &ArgMatches<'_>) -> Option<Settings>
+    ensures { let has = HasSettings (rows_of (found_of found.now)) in
+        MatchOption result ((other : _) → has other → ⊥) has }
+{
+    let searchers = number_of(found, "searchers")?;
+    let bounders = number_of(found, "bounders")?;
+    let turns = number_of(found, "turns")?;
+    let seed = number_of(found, "seed")?;
+    let neighbours = number_of(found, "neighbours")?;
+    let labels = number_of(found, "labels")?;
+    let settings = Settings {
+        searchers,
+        bounders,
+        turns,
+        seed,
+        neighbours,
+        labels,
+    };
+    // clap has refused other numbers; the proof knows it from here.
+    if !settings.is_within() {
+        return None;
+    }
+    Some(settings)
+}
+
 /// The job that the arguments of `solve` give.
 fn solve_job<'a>(found: &ArgMatches<'a>) -> Option<Job<'a>>
     ensures { let says = Says (codes "solve") (rows_of (found_of found.now)) in
@@ -123,7 +223,7 @@ fn solve_job<'a>(found: &ArgMatches<'a>) -> Option<Job<'a>>
         instance: text_of(found, "INSTANCE")?,
         solution: text_of(found, "SOLUTION")?,
         certificate: text_of(found, "CERTIFICATE")?,
-        settings: Settings::default(),
+        settings: settings_of(found)?,
     })
 }
 

@@ -12,6 +12,8 @@ returns c =
     c.in_ok-arg.ensures c.path.ensures.rule c.path.ensures.own in
     let two = adds_rule _ _ _ _ (path_rule (codes "SOLUTION")) one
     c.in_ok-arg-2.ensures c.path-2.ensures.rule c.path-2.ensures.own in
-    IfOk-weaker c.arg-3.result _ _ (λ made step.
-    adds_rule _ made _ _ (path_rule (codes "CERTIFICATE")) two
-    step c.path-3.ensures.rule c.path-3.ensures.own) c.arg-3.ensures
+    let paths = adds_rule _ _ _ _ (path_rule (codes "CERTIFICATE")) two
+    c.in_ok-command.ensures c.path-3.ensures.rule c.path-3.ensures.own in
+    let threads = c.in_ok-command-2.ensures _ paths in
+    let turns = c.in_ok-command-3.ensures _ threads in
+    IfOk-weaker c.with_pricing_options.result _ _ (λ made adds. adds _ turns) c.with_pricing_options.ensures
