@@ -5,12 +5,13 @@ use std::alloc::Global;
 use std::process::ExitCode;
 use std::rt::{Env, Files};
 use std::sync::Wait;
+use std::thread::Threads;
 use std::{env, io};
 use tenths::{Sink, StdSink};
 use vrptw::{run_words, words_fault};
 
 /// Runs the program with the words after its name.
-fn run<R: Env + Files + AllocGlobal + Wait, X: Sink, Y: Sink>(
+fn run<R: Env + Files + AllocGlobal + Threads + Wait + Sync, X: Sink, Y: Sink>(
     rt: &R,
     alloc: Global,
     out: &mut X,

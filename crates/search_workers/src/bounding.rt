@@ -10,28 +10,46 @@ use crate::pricing::{goal_of, price_child};
 use crate::refusal::Refusal;
 use crate::settings::Settings;
 use crate::spot::Spot;
+use branching::Arc;
 use ceiling::{Ceiling, CeilingSeat};
-use price_ascent::raise;
+use price_ascent::{RoutePool, raise};
 use prices::Priced;
 use std::alloc::Global;
 
-/// Splits the leaf by the arc that the routes met say least of, and lays both children into the
-/// worker's deque. A leaf with no arc left to split by stays.
+/// The children of a leaf by an arc, with their prices.
+struct Children<'i> {
+    arc: Arc,
+    used: Priced<'i>,
+    unused: Priced<'i>,
+}
+
+/// The children of a leaf by the arc that the routes met leave most open, if there is one to split
+/// by, with the leaf's prices.
+fn part<'i, G: Gate>(
+    spot: &Spot<'_, G>,
+    leaf: &Priced<'i>,
+    labels: usize,
+    pool: &RoutePool,
+) -> Result<Option<Children<'i>>, Refusal> {
+    let arcs = pool.branching_arcs(leaf.instance())?;
+    let region = leaf.region();
+    let Some(arc) = region.choose(arcs.as_slice()) else {
+        return Ok(None);
+    };
+    let used = price_child(spot.alloc, leaf, region.used(arc)?, labels)?;
+    let unused = price_child(spot.alloc, leaf, region.forbidden(arc)?, labels)?;
+    Ok(Some(Children { arc, used, unused }))
+}
+
+/// Splits a leaf, and lays both children into the worker's deque.
 fn split<'i, H: Hub<'i>, G: Gate>(
     spot: &Spot<'_, G>,
     hub: &mut H,
     number: u32,
-    leaf: &Priced<'i>,
-    labels: usize,
+    children: Children<'i>,
     nodes: &mut Nodes<'_>,
 ) -> Result<(), Refusal> {
-    let arcs = nodes.pool.branching_arcs(leaf.instance())?;
-    let region = leaf.region();
-    let Some(arc) = region.choose(arcs.as_slice()) else {
-        return Ok(());
-    };
-    let used = price_child(spot.alloc, leaf, region.used(arc)?, labels)?;
-    let unused = price_child(spot.alloc, leaf, region.forbidden(arc)?, labels)?;
+    let Children { arc, used, unused } = children;
     match hub.split(number, arc, used, unused) {
         Ok((first, second)) => {
             spot.pass(GatePoint::Split);
@@ -50,8 +68,33 @@ fn reprice<'i, H: Hub<'i>>(hub: &mut H, number: u32, leaf: Priced<'i>) -> Result
     }
 }
 
-/// Raises the value of a leaf, and goes on with it in the next turn where it is still below the
-/// target; or splits it, where its value can't be raised.
+/// Gives a leaf its raised prices where they end the work at it, or the root, to which the next turn
+/// returns; splits it elsewhere, with the raised prices at both children.
+fn bring<'i, H: Hub<'i>, G: Gate>(
+    spot: &Spot<'_, G>,
+    hub: &mut H,
+    number: u32,
+    leaf: Priced<'i>,
+    is_raised: bool,
+    target: u64,
+    labels: usize,
+    nodes: &mut Nodes<'_>,
+) -> Result<(), Refusal> {
+    if leaf.value() >= i128::from(target) {
+        return reprice(hub, number, leaf);
+    }
+    if is_raised && leaf.region().is_root() {
+        nodes.keep(number);
+        return reprice(hub, number, leaf);
+    }
+    match part(spot, &leaf, labels, &nodes.pool) {
+        Ok(Some(children)) => split(spot, hub, number, children, nodes),
+        Ok(None) | Err(Refusal::EndsTurn) => reprice(hub, number, leaf),
+        Err(Refusal::EndsWork) => Err(Refusal::EndsWork),
+    }
+}
+
+/// Raises the value of a leaf, and brings what came of it to the book.
 fn work_at<'i, H: Hub<'i>, G: Gate>(
     spot: &Spot<'_, G>,
     hub: &mut H,
@@ -62,26 +105,21 @@ fn work_at<'i, H: Hub<'i>, G: Gate>(
     nodes: &mut Nodes<'_>,
 ) -> Result<(), Refusal> {
     let before = leaf.value();
-    let gap = hub.gap();
-    let goal = goal_of(
-        &leaf,
-        &nodes.pool,
-        nodes.routes,
-        &gap,
-        taken.is_again,
-        target,
-        labels,
-    );
+    let cost = hub.gap().cost;
+    let goal = goal_of(&leaf, nodes, cost, taken.is_again, target, labels);
     let leaf = raise(spot.alloc, &mut nodes.pool, leaf, &goal);
     spot.pass(GatePoint::Priced);
-    let value = leaf.value();
-    if value <= before {
-        return split(spot, hub, taken.number, &leaf, labels, nodes);
-    }
-    if value < i128::from(target) {
-        nodes.keep(taken.number);
-    }
-    reprice(hub, taken.number, leaf)
+    let is_raised = leaf.value() > before;
+    bring(
+        spot,
+        hub,
+        taken.number,
+        leaf,
+        is_raised,
+        target,
+        labels,
+        nodes,
+    )
 }
 
 /// Takes a node, unless there is none or cost and bound have met, and works at it, unless its value
@@ -120,7 +158,8 @@ fn turn<'i, H: Hub<'i>, G: Gate>(
 /// tree or deque ends the work, and answers how many.
 ///
 /// In each turn the worker takes an open node of its own or steals one, and raises the value of the
-/// leaf, or splits it where it can't be raised; a leaf whose value reaches the ceiling is laid aside.
+/// leaf. It gives the leaf the new prices at the root and where the value reaches the ceiling, else
+/// splits it; a leaf whose value had reached the ceiling is laid aside.
 /// A refusal of the hub ends the turn. Where the words for cost and bound have met, a turn does nothing.
 pub fn bound_worker<'i, H: Hub<'i>, G: Gate>(
     alloc: Global,

@@ -39,7 +39,7 @@ pub struct Nodes<'p> {
 pub(crate) struct Taken {
     pub(crate) number: u32,
     pub(crate) is_stolen: bool,
-    /// Whether the worker raised its prices in the turn before.
+    /// Whether the worker raised its prices in the turn before, too.
     pub(crate) is_again: bool,
 }
 

@@ -3,20 +3,21 @@
 ghost use Rattle.std.specs.Prelude.{◌≡◌, length, IfOk};
 ghost use Rattle.solomon_reader.specs.Problem.{customer_count};
 
+use crate::nodes::Nodes;
 use crate::refusal::Refusal;
 use branching::Region;
-use incumbent_book::Gap;
-use price_ascent::{Goal, RoutePool, first_rise};
+use price_ascent::{Goal, first_rise};
 use prices::Priced;
 use std::alloc::{AllocError, Global};
+use tenths::Tenths;
 
-/// The most pricings of a turn at the root, at a leaf that a worker comes to, and at one that it goes
-/// on with.
+/// The most pricings of a turn at the root.
 const ROOT_PRICINGS: u32 = 20;
 
-const LEAF_PRICINGS: u32 = 20;
+/// At another leaf, so many divided by the number of customers, within these.
+const LEAF_PRICINGS: u32 = 500;
 
-const MORE_PRICINGS: u32 = 5;
+const LEAST_PRICINGS: u32 = 5;
 
 /// A turn ends after so many pricings in a row without a gain.
 const IDLE_PRICINGS: u32 = 15;
@@ -26,34 +27,46 @@ const CHILD_RISE: i64 = 6;
 
 const GRAINS_OF_TENTH: i64 = 1_000;
 
-/// How far the prices of a leaf are to be raised.
+/// How many pricings a turn makes at a leaf: fewer where they are dear.
+fn pricings_at(leaf: &Priced<'_>) -> u32 {
+    if leaf.region().is_root() {
+        return ROOT_PRICINGS;
+    }
+    let customers = u32::from(leaf.instance().customer_count());
+    (LEAF_PRICINGS / customers).clamp(LEAST_PRICINGS, ROOT_PRICINGS)
+}
+
+/// The rise of the prices that a turn begins with, where the least cost of a plan is known or not.
+fn rise_at(leaf: &Priced<'_>, cost: Option<Tenths>) -> i64 {
+    let first = first_rise(leaf.instance(), cost);
+    if leaf.region().is_root() {
+        first
+    } else {
+        first.saturating_mul(CHILD_RISE)
+    }
+}
+
+/// How far the prices of a leaf are to be raised: from where the worker ended at it in the turn before,
+/// or from its first rise.
 pub(crate) fn goal_of(
     leaf: &Priced<'_>,
-    pool: &RoutePool,
-    routes: u16,
-    gap: &Gap,
+    nodes: &Nodes<'_>,
+    cost: Option<Tenths>,
     is_again: bool,
     target: u64,
     labels: usize,
 ) -> Goal {
-    let is_root = leaf.region().is_root();
-    let first = first_rise(leaf.instance(), gap.cost);
-    let rise = match (is_again, is_root) {
-        (true, _) => pool.rise(),
-        (false, true) => first,
-        (false, false) => first.saturating_mul(CHILD_RISE),
-    };
-    let pricings = match (is_root, is_again) {
-        (true, _) => ROOT_PRICINGS,
-        (false, false) => LEAF_PRICINGS,
-        (false, true) => MORE_PRICINGS,
+    let rise = if is_again {
+        nodes.pool.rise()
+    } else {
+        rise_at(leaf, cost)
     };
     Goal {
         rise,
-        pricings,
+        pricings: pricings_at(leaf),
         idle_pricings: IDLE_PRICINGS,
         value: i128::from(target),
-        routes,
+        routes: nodes.routes,
         labels: Some(labels),
     }
 }
