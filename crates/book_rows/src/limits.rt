@@ -5,6 +5,7 @@ use branching::Region;
 use incumbent_book::{Book, BookFault, Limits, OpenFault};
 use row_texts::one_customer;
 use solomon_reader::{Instance, read};
+use std::alloc::Global;
 use std::process::Abort;
 use std::sync::Wait;
 use std::test::Fail;
@@ -23,6 +24,23 @@ fn offer_fault<'i, R: AllocGlobal>(
     })
 }
 
+/// Splits the root, and is refused to split a child.
+fn split_twice<'i, R: Abort + Wait + AllocGlobal>(
+    rt: &R,
+    instance: &'i Instance,
+    book: &mut Book<'i>,
+    leaves: u32,
+    fault: BookFault,
+) -> Result<(), Fail> {
+    let root = Region::root(rt.alloc(), 2);
+    let made = split_by(rt, instance, book, 0, &root, ONWARD, [0, 0])?;
+    assert_eq!(rt; made, Ok((1, 2)), "{leaves}");
+    let used = root.used(ONWARD)?;
+    let deeper = split_by(rt, instance, book, 1, &used, BACK, [200_000, 0])?;
+    assert_eq!(rt; deeper, Err(fault), "{leaves}");
+    Ok(())
+}
+
 /// A book with these limits splits the root, refuses to split a child, and takes two offers.
 fn fill<'i, R: Abort + Wait + AllocGlobal>(
     rt: &R,
@@ -31,19 +49,13 @@ fn fill<'i, R: Abort + Wait + AllocGlobal>(
     leaves: u32,
     fault: BookFault,
 ) -> Result<(), Fail> {
-    let alloc = rt.alloc();
     let limits = Limits {
         events: 3,
         leaves,
         depth: 1,
     };
-    let mut book = book_with(alloc, instance, limits)?;
-    let root = Region::root(alloc, 2);
-    let made = split_by(rt, instance, &mut book, 0, &root, ONWARD, [0, 0])?;
-    assert_eq!(rt; made, Ok((1, 2)), "{leaves}");
-    let used = root.used(ONWARD)?;
-    let deeper = split_by(rt, instance, &mut book, 1, &used, BACK, [200_000, 0])?;
-    assert_eq!(rt; deeper, Err(fault), "{leaves}");
+    let mut book = book_with(rt.alloc(), instance, limits)?;
+    split_twice(rt, instance, &mut book, leaves, fault)?;
     for expected in [None, None, Some(BookFault::JournalFull)] {
         let told = offer_fault(rt, instance, &mut book, &[&[1, 2]])?;
         assert_eq!(rt; told, expected, "{leaves}");
@@ -53,29 +65,42 @@ fn fill<'i, R: Abort + Wait + AllocGlobal>(
     Ok(())
 }
 
+/// The instance of one customer.
+fn alone(alloc: Global) -> Result<Instance, Fail> {
+    let text = one_customer(alloc)?;
+    Ok(read(alloc, text.as_bytes())?)
+}
+
 #[test]
 fn a_full_book_refuses(rt: HostRuntime) -> Result<(), Fail> {
     let instance = in_line(rt.alloc())?;
-    let text = one_customer(rt.alloc())?;
-    let other = read(rt.alloc(), text.as_bytes())?;
+    let other = alone(rt.alloc())?;
     fill(&rt, &instance, &other, 2, BookFault::LeavesFull)?;
     fill(&rt, &instance, &other, 3, BookFault::TooDeep)?;
     Ok(())
 }
 
+/// The fault of a split of the root, if it was refused.
+fn split_fault<'i, R: Wait + AllocGlobal>(
+    rt: &R,
+    instance: &'i Instance,
+    book: &mut Book<'i>,
+) -> Result<Option<BookFault>, Fail> {
+    let root = Region::root(rt.alloc(), 2);
+    Ok(split_by(rt, instance, book, 0, &root, ONWARD, [0, 0])?.err())
+}
+
 #[test]
 fn a_book_of_one_event_and_one_leaf(rt: HostRuntime) -> Result<(), Fail> {
-    let alloc = rt.alloc();
-    let instance = in_line(alloc)?;
+    let instance = in_line(rt.alloc())?;
     let limits = Limits {
         events: 1,
         leaves: 1,
         depth: 1,
     };
-    let mut book = book_with(alloc, &instance, limits)?;
-    let root = Region::root(alloc, 2);
-    let split = split_by(&rt, &instance, &mut book, 0, &root, ONWARD, [0, 0])?;
-    assert_eq!(rt; split, Err(BookFault::LeavesFull));
+    let mut book = book_with(rt.alloc(), &instance, limits)?;
+    let split = split_fault(&rt, &instance, &mut book)?;
+    assert_eq!(rt; split, Some(BookFault::LeavesFull));
     assert!(rt; book.history().is_empty());
     for expected in [None, Some(BookFault::JournalFull)] {
         let told = offer_fault(&rt, &instance, &mut book, &[&[1, 2]])?;
@@ -84,25 +109,37 @@ fn a_book_of_one_event_and_one_leaf(rt: HostRuntime) -> Result<(), Fail> {
     Ok(())
 }
 
+/// The fault of a book that opens with prices 0 at a region, if it was refused.
+fn opening_fault(
+    alloc: Global,
+    instance: &Instance,
+    region: Region,
+    limits: Option<Limits>,
+) -> Result<Option<OpenFault>, Fail> {
+    let priced = priced_at(alloc, instance, region, [0, 0])?;
+    let opened = match limits {
+        Some(limits) => Book::with_limits(alloc, priced, limits),
+        None => Book::new(alloc, priced),
+    };
+    Ok(match opened {
+        Ok(_) => None,
+        Err((_, fault)) => Some(fault),
+    })
+}
+
 #[test]
 fn openings_are_refused(rt: HostRuntime) -> Result<(), Fail> {
-    let alloc = rt.alloc();
-    let instance = in_line(alloc)?;
-    let root = Region::root(alloc, 2);
-    let child = priced_at(alloc, &instance, root.used(ONWARD)?, [0, 0])?;
-    match Book::new(alloc, child) {
-        Ok(_) => return Err(Fail::from("a book of a child")),
-        Err((_, fault)) => assert_eq!(rt; fault, OpenFault::NotRoot),
-    }
-    let priced = priced_at(alloc, &instance, root, [0, 0])?;
+    let instance = in_line(rt.alloc())?;
+    let root = Region::root(rt.alloc(), 2);
+    let child = root.used(ONWARD)?;
+    let told = opening_fault(rt.alloc(), &instance, child, None)?;
+    assert_eq!(rt; told, Some(OpenFault::NotRoot));
     let limits = Limits {
         events: 1,
         leaves: 0,
         depth: 1,
     };
-    match Book::with_limits(alloc, priced, limits) {
-        Ok(_) => return Err(Fail::from("a book without leaves")),
-        Err((_, fault)) => assert_eq!(rt; fault, OpenFault::BadLimits),
-    }
+    let told = opening_fault(rt.alloc(), &instance, root, Some(limits))?;
+    assert_eq!(rt; told, Some(OpenFault::BadLimits));
     Ok(())
 }

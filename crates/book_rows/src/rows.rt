@@ -3,7 +3,7 @@
 use crate::shared::{Asked, BACK, ONWARD, book_with, in_line, plan_of, priced_at, split_by};
 use branching::{Region, TreeNode};
 use desk::LookFault;
-use incumbent_book::{BookFault, Limits, Offered, Outcome, Steps};
+use incumbent_book::{Book, BookFault, Limits, Offered, Outcome, Steps};
 use solomon_reader::Instance;
 use std::process::Abort;
 use std::sync::Wait;
@@ -45,40 +45,96 @@ pub fn offer_plans<'i, R: Abort + Wait + AllocGlobal, A: Asked<'i>>(
     Ok(())
 }
 
+/// Gives a leaf new prices at a region: what comes of it.
+fn reprice<'i, R: Wait + AllocGlobal, A: Asked<'i>>(
+    rt: &R,
+    instance: &'i Instance,
+    asked: &mut A,
+    leaf: u32,
+    region: Region,
+    prices: [i64; 2],
+) -> Result<Result<(), BookFault>, Fail> {
+    let priced = priced_at(rt.alloc(), instance, region, prices)?;
+    Ok(asked.ask_reprice(rt, leaf, priced))
+}
+
+/// Splits the root, and is refused to split it again.
+fn split_root<'i, R: Abort + Wait + AllocGlobal, A: Asked<'i>>(
+    rt: &R,
+    instance: &'i Instance,
+    asked: &mut A,
+    root: &Region,
+) -> Result<(), Fail> {
+    let made = split_by(rt, instance, asked, 0, root, ONWARD, [0, 0])?;
+    assert_eq!(rt; made, Ok((1, 2)));
+    let again = split_by(rt, instance, asked, 0, root, ONWARD, [0, 0])?;
+    assert_eq!(rt; again, Err(BookFault::NotALeaf));
+    assert_eq!(rt; asked.ask_value(rt, 1), Ok(200));
+    assert_eq!(rt; asked.ask_value(rt, 2), Ok(100));
+    Ok(())
+}
+
+/// Gives the child without the arc a higher value, and is refused an equal and a lower one.
+fn raise_unused<'i, R: Abort + Wait + AllocGlobal, A: Asked<'i>>(
+    rt: &R,
+    instance: &'i Instance,
+    asked: &mut A,
+    unused: &Region,
+) -> Result<(), Fail> {
+    for expected in [Ok(()), Err(BookFault::NotHigher)] {
+        let prices = [100_000, 100_000];
+        let told = reprice(rt, instance, asked, 2, unused.try_clone()?, prices)?;
+        assert_eq!(rt; told, expected);
+    }
+    assert_eq!(rt; asked.ask_value(rt, 2), Ok(200));
+    assert_eq!(rt; asked.ask_value(rt, 0), Err(LookFault::NotALeaf));
+    let lower = split_by(rt, instance, asked, 2, unused, BACK, [0, 0])?;
+    assert_eq!(rt; lower, Err(BookFault::Lower));
+    Ok(())
+}
+
+/// Is refused prices of another region, and as high ones, for the child with the arc.
+fn reprice_used<'i, R: Abort + Wait + AllocGlobal, A: Asked<'i>>(
+    rt: &R,
+    instance: &'i Instance,
+    asked: &mut A,
+    root: &Region,
+) -> Result<(), Fail> {
+    let elsewhere = reprice(rt, instance, asked, 1, root.try_clone()?, [200_000, 0])?;
+    assert_eq!(rt; elsewhere, Err(BookFault::WrongRegion));
+    let as_high = reprice(rt, instance, asked, 1, root.used(ONWARD)?, [200_000, 0])?;
+    assert_eq!(rt; as_high, Err(BookFault::NotHigher));
+    Ok(())
+}
+
 /// Splits the root, and gives the child without the arc a higher value.
 pub fn branch<'i, R: Abort + Wait + AllocGlobal, A: Asked<'i>>(
     rt: &R,
     instance: &'i Instance,
     asked: &mut A,
 ) -> Result<(), Fail> {
-    let alloc = rt.alloc();
-    let root = Region::root(alloc, 2);
-    let made = split_by(rt, instance, asked, 0, &root, ONWARD, [0, 0])?;
-    assert_eq!(rt; made, Ok((1, 2)));
-    let again = split_by(rt, instance, asked, 0, &root, ONWARD, [0, 0])?;
-    assert_eq!(rt; again, Err(BookFault::NotALeaf));
-    assert_eq!(rt; asked.ask_value(rt, 1), Ok(200));
-    assert_eq!(rt; asked.ask_value(rt, 2), Ok(100));
+    let root = Region::root(rt.alloc(), 2);
+    split_root(rt, instance, asked, &root)?;
     let unused = root.forbidden(ONWARD)?;
-    let higher = priced_at(alloc, instance, unused.try_clone()?, [100_000, 100_000])?;
-    let equal = higher.try_clone()?;
-    assert_eq!(rt; asked.ask_reprice(rt, 2, higher), Ok(()));
-    assert_eq!(rt; asked.ask_reprice(rt, 2, equal), Err(BookFault::NotHigher));
-    assert_eq!(rt; asked.ask_value(rt, 2), Ok(200));
-    assert_eq!(rt; asked.ask_value(rt, 0), Err(LookFault::NotALeaf));
-    let lower = split_by(rt, instance, asked, 2, &unused, BACK, [0, 0])?;
-    assert_eq!(rt; lower, Err(BookFault::Lower));
-    let elsewhere = priced_at(alloc, instance, root.try_clone()?, [200_000, 0])?;
-    assert_eq!(rt;
-        asked.ask_reprice(rt, 1, elsewhere),
-        Err(BookFault::WrongRegion)
-    );
-    let as_high = priced_at(alloc, instance, root.used(ONWARD)?, [200_000, 0])?;
-    assert_eq!(rt;
-        asked.ask_reprice(rt, 1, as_high),
-        Err(BookFault::NotHigher)
-    );
-    Ok(())
+    raise_unused(rt, instance, asked, &unused)?;
+    reprice_used(rt, instance, asked, &root)
+}
+
+/// The prices of the leaf at an index of the nodes, if a leaf stands there.
+fn prices_at(nodes: &[TreeNode], index: usize) -> Option<&[i64]> {
+    match nodes.get(index) {
+        Some(TreeNode::Leaf(prices)) => Some(prices.as_slice()),
+        _ => None,
+    }
+}
+
+/// Asserts the nodes of the tree.
+fn assert_nodes<R: Abort>(rt: &R, nodes: &[TreeNode]) {
+    assert_eq!(rt; nodes.len(), 3);
+    let is_split = matches!(&nodes[0], TreeNode::Split(arc) if *arc == ONWARD);
+    assert!(rt; is_split);
+    assert_eq!(rt; prices_at(nodes, 1), Some([0, 0].as_slice()));
+    assert_eq!(rt; prices_at(nodes, 2), Some([100_000, 100_000].as_slice()));
 }
 
 /// Asserts the outcome's bound and its tree.
@@ -89,18 +145,18 @@ pub fn assert_outcome<R: Abort + AllocGlobal>(rt: &R, outcome: &Outcome<'_>) -> 
     assert!(rt; outcome.plan().is_some());
     assert_eq!(rt; outcome.instance().customer_count(), 2);
     let nodes = outcome.nodes(rt.alloc())?;
-    assert_eq!(rt; nodes.len(), 3);
-    match &nodes[0] {
-        TreeNode::Split(arc) => assert_eq!(rt; *arc, ONWARD),
-        TreeNode::Leaf(_) => return Err(Fail::from("a leaf in place of the split")),
-    }
-    for (index, expected) in [(1, [0, 0]), (2, [100_000, 100_000])] {
-        match &nodes[index] {
-            TreeNode::Split(_) => return Err(Fail::from("a split in place of a leaf")),
-            TreeNode::Leaf(prices) => assert_eq!(rt; prices.as_slice(), expected.as_slice()),
-        }
-    }
+    assert_nodes(rt, nodes.as_slice());
     Ok(())
+}
+
+/// Asserts the gap of the book, and what it took to find it.
+fn assert_gap<R: Abort>(rt: &R, book: &Book<'_>) {
+    let mut steps = Steps::new();
+    let gap = book.gap_counted(&mut steps);
+    assert_eq!(rt; steps.get(), 1);
+    assert_eq!(rt; gap.cost, Some(Tenths::from(200)));
+    assert_eq!(rt; gap.bound, Tenths::from(200));
+    assert_eq!(rt; book.history().len(), 6);
 }
 
 #[test]
@@ -110,11 +166,6 @@ fn a_book_keeps_the_cheapest_plan_and_raises_its_bound(rt: HostRuntime) -> Resul
     assert_eq!(rt; book.gap().bound, Tenths::from(100));
     offer_plans(&rt, &instance, &mut book)?;
     branch(&rt, &instance, &mut book)?;
-    let mut steps = Steps::new();
-    let gap = book.gap_counted(&mut steps);
-    assert_eq!(rt; steps.get(), 1);
-    assert_eq!(rt; gap.cost, Some(Tenths::from(200)));
-    assert_eq!(rt; gap.bound, Tenths::from(200));
-    assert_eq!(rt; book.history().len(), 6);
+    assert_gap(&rt, &book);
     assert_outcome(&rt, &book.finish())
 }

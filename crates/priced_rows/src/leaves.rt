@@ -1,10 +1,10 @@
 //! Values of leaves, and steps of the prices.
 
-use super::shared::{leaf_at, leaf_of};
+use super::shared::{instance_of, leaf_at, leaf_of};
 use branching::{Arc, Region};
 use prices::{PriceFault, Priced, improve};
-use row_texts::{DEPOT, instance_text, one_customer, two_in_line};
-use solomon_reader::{Instance, read};
+use row_texts::DEPOT;
+use solomon_reader::Instance;
 use std::alloc::Global;
 use std::test::Fail;
 use tenths::Tenths;
@@ -45,6 +45,24 @@ const NEAR: Row = Row {
     prices: &[0, 1_100_000],
     value: 100,
 };
+
+/// Two customers on a line from the depot.
+const IN_LINE: &str = "1 3 4 1 0 1000 0\n2 6 8 1 0 1000 0\n";
+
+/// Whether a leaf has these prices.
+fn has_prices(leaf: &Priced<'_>, prices: &[i64]) -> bool {
+    leaf.prices() == prices
+}
+
+/// The value of a row's prices, where they are the leaf's.
+fn value_of(alloc: Global, row: &Row) -> Result<Option<i128>, Fail> {
+    let instance = instance_of(alloc, row.fleet, row.capacity, row.depot, row.customers)?;
+    let leaf = leaf_of(alloc, &instance, row.neighbours, row.prices)?;
+    if !has_prices(&leaf, row.prices) {
+        return Ok(None);
+    }
+    Ok(Some(leaf.value()))
+}
 
 #[test]
 fn prices_give_a_leaf_its_value(rt: HostRuntime) -> Result<(), Fail> {
@@ -88,7 +106,7 @@ fn prices_give_a_leaf_its_value(rt: HostRuntime) -> Result<(), Fail> {
         },
         Row {
             name: "one vehicle takes back 301 of 802",
-            customers: "1 3 4 1 0 1000 0\n2 6 8 1 0 1000 0\n",
+            customers: IN_LINE,
             prices: &[401_000, 401_000],
             value: 501,
             ..ALONE
@@ -116,17 +134,12 @@ fn prices_give_a_leaf_its_value(rt: HostRuntime) -> Result<(), Fail> {
         },
     ];
     for row in rows {
-        let text = instance_text(
-            rt.alloc(),
-            row.fleet,
-            row.capacity,
-            row.depot,
-            row.customers,
-        )?;
-        let instance = read(rt.alloc(), text.as_bytes())?;
-        let leaf = leaf_of(rt.alloc(), &instance, row.neighbours, row.prices)?;
-        assert_eq!(rt; leaf.value(), row.value, "{}", row.name);
-        assert_eq!(rt; leaf.prices(), row.prices, "{}", row.name);
+        assert_eq!(rt;
+            value_of(rt.alloc(), &row)?,
+            Some(row.value),
+            "{}",
+            row.name
+        );
     }
     Ok(())
 }
@@ -150,9 +163,7 @@ fn child_value(
 
 #[test]
 fn children_have_values_of_their_own(rt: HostRuntime) -> Result<(), Fail> {
-    let alloc = rt.alloc();
-    let text = two_in_line(alloc)?;
-    let two = read(alloc, text.as_bytes())?;
+    let two = instance_of(rt.alloc(), 2, 1, DEPOT, IN_LINE)?;
     let rows: [(&str, bool, [i64; 2], i128); 2] = [
         // The route 2 is still allowed, and its reduced cost is -101,000.
         ("used", true, [100_000, 301_000], 199),
@@ -160,41 +171,62 @@ fn children_have_values_of_their_own(rt: HostRuntime) -> Result<(), Fail> {
         ("unused", false, [401_000, 0], 801),
     ];
     for (name, used, prices, value) in rows {
-        assert_eq!(rt; child_value(alloc, &two, used, &prices)?, value, "{name}");
+        let found = child_value(rt.alloc(), &two, used, &prices)?;
+        assert_eq!(rt; found, value, "{name}");
     }
-    let text = one_customer(alloc)?;
-    let one = read(alloc, text.as_bytes())?;
-    assert_eq!(rt; child_value(alloc, &one, true, &[100_000])?, 100);
-    // No relaxed route is left.
-    assert_eq!(rt; child_value(alloc, &one, false, &[101_000])?, 101);
     Ok(())
 }
 
 #[test]
+fn children_of_one_customer_have_values(rt: HostRuntime) -> Result<(), Fail> {
+    let one = instance_of(rt.alloc(), 1, 1, DEPOT, ALONE.customers)?;
+    // Where the arc is forbidden no relaxed route is left.
+    for (used, price, value) in [(true, 100_000, 100), (false, 101_000, 101)] {
+        let found = child_value(rt.alloc(), &one, used, &[price])?;
+        assert_eq!(rt; found, value, "{used}");
+    }
+    Ok(())
+}
+
+/// The leaf of prices 0 after one step.
+fn stepped<'i>(alloc: Global, instance: &'i Instance) -> Result<Priced<'i>, Fail> {
+    let first = leaf_of(alloc, instance, 8, &[0, 0])?;
+    if first.value() != 100 {
+        return Err(Fail::from("another first value"));
+    }
+    Ok(improve(alloc, first, &[64_000], None))
+}
+
+#[test]
 fn steps_raise_a_value(rt: HostRuntime) -> Result<(), Fail> {
-    let customers = "1 3 4 1 0 1000 0\n2 6 8 1 0 1000 0\n";
-    let text = instance_text(rt.alloc(), 2, 2, DEPOT, customers)?;
-    let instance = read(rt.alloc(), text.as_bytes())?;
-    let first = leaf_of(rt.alloc(), &instance, 8, &[0, 0])?;
-    assert_eq!(rt; first.value(), 100);
-    let leaf = improve(rt.alloc(), first, &[64_000], None);
+    let instance = instance_of(rt.alloc(), 2, 2, DEPOT, IN_LINE)?;
+    let leaf = stepped(rt.alloc(), &instance)?;
     assert_eq!(rt; leaf.prices(), [64_000, 64_000].as_slice());
     assert_eq!(rt; leaf.least().value, Some(36_000));
     assert_eq!(rt; leaf.value(), 164);
+    Ok(())
+}
+
+/// Whether two leaves have the same prices, value and least route.
+fn are_same(leaf: &Priced<'_>, other: &Priced<'_>) -> bool {
+    leaf.prices() == other.prices()
+        && leaf.value() == other.value()
+        && leaf.least().route.as_slice() == other.least().route.as_slice()
+}
+
+#[test]
+fn a_leaf_is_copied(rt: HostRuntime) -> Result<(), Fail> {
+    let instance = instance_of(rt.alloc(), 2, 2, DEPOT, IN_LINE)?;
+    let leaf = stepped(rt.alloc(), &instance)?;
     let copy = leaf.try_clone()?;
-    assert_eq!(rt; copy.prices(), leaf.prices());
     assert_eq!(rt; copy.value(), 164);
-    assert_eq!(rt;
-        copy.least().route.as_slice(),
-        leaf.least().route.as_slice()
-    );
+    assert!(rt; are_same(&copy, &leaf));
     Ok(())
 }
 
 #[test]
 fn of_equal_values_the_first_stays(rt: HostRuntime) -> Result<(), Fail> {
-    let text = instance_text(rt.alloc(), 1, 1, DEPOT, ALONE.customers)?;
-    let instance = read(rt.alloc(), text.as_bytes())?;
+    let instance = instance_of(rt.alloc(), 1, 1, DEPOT, ALONE.customers)?;
     let first = leaf_of(rt.alloc(), &instance, 8, &[0])?;
     let leaf = improve(rt.alloc(), first, &[60_000, 60_000], None);
     assert_eq!(rt; leaf.prices(), [0].as_slice());
@@ -202,10 +234,33 @@ fn of_equal_values_the_first_stays(rt: HostRuntime) -> Result<(), Fail> {
     Ok(())
 }
 
+/// The fault of a price at the root, where region and price come back.
+fn fault_of(
+    alloc: Global,
+    instance: &Instance,
+    price: i64,
+    labels: Option<usize>,
+) -> Result<Option<PriceFault>, Fail> {
+    let count = instance.customer_count();
+    let prices = vec![in alloc; price; count as usize]?;
+    match Priced::of(
+        alloc,
+        instance,
+        Region::root(alloc, count),
+        8,
+        prices,
+        labels,
+    ) {
+        Ok(_leaf) => Ok(None),
+        Err((region, back, fault)) if region.size() == 1 && back.as_slice() == [price].as_slice() =>
+            { Ok(Some(fault)) }
+        Err(_) => Err(Fail::from("another region or other prices")),
+    }
+}
+
 #[test]
 fn prices_out_of_range_come_back(rt: HostRuntime) -> Result<(), Fail> {
-    let text = instance_text(rt.alloc(), 1, 1, DEPOT, ALONE.customers)?;
-    let instance = read(rt.alloc(), text.as_bytes())?;
+    let instance = instance_of(rt.alloc(), 1, 1, DEPOT, ALONE.customers)?;
     for (name, price, labels, expected) in [
         ("too high", 1_000_000_000_001, None, PriceFault::PriceRange),
         (
@@ -221,31 +276,33 @@ fn prices_out_of_range_come_back(rt: HostRuntime) -> Result<(), Fail> {
             PriceFault::LabelLimit,
         ),
     ] {
-        let count = instance.customer_count();
-        let root = Region::root(rt.alloc(), count);
-        let prices = vec![in rt.alloc(); price; count as usize]?;
-        match Priced::of(rt.alloc(), &instance, root, 8, prices, labels) {
-            Ok(_leaf) => return Err(Fail::from("a value")),
-            Err((region, back, fault)) => {
-                assert_eq!(rt; fault, expected, "{name}");
-                assert_eq!(rt; region.size(), 1, "{name}");
-                assert_eq!(rt; back.as_slice(), [price].as_slice(), "{name}");
-            }
-        }
+        let told = fault_of(rt.alloc(), &instance, price, labels)?;
+        assert_eq!(rt; told, Some(expected), "{name}");
     }
     Ok(())
 }
 
 #[test]
-fn the_root_allows_every_arc(rt: HostRuntime) -> Result<(), Fail> {
-    let text = instance_text(rt.alloc(), 1, 3, DEPOT, NEAR.customers)?;
-    let instance = read(rt.alloc(), text.as_bytes())?;
+fn a_leaf_tells_its_parts(rt: HostRuntime) -> Result<(), Fail> {
+    let instance = instance_of(rt.alloc(), 1, 3, DEPOT, NEAR.customers)?;
     // Four arcs of the longest distance, which is 550 tenths.
     assert_eq!(rt; instance.ceiling(), Tenths::from(2200));
     let leaf = leaf_of(rt.alloc(), &instance, 8, NEAR.prices)?;
     assert_eq!(rt; leaf.instance().customer_count(), 2);
     assert_eq!(rt; leaf.neighbours(), 8);
-    let root = leaf.region().try_clone()?;
+    Ok(())
+}
+
+/// The region of a leaf at the root, copied.
+fn root_of(alloc: Global, instance: &Instance) -> Result<Region, Fail> {
+    let leaf = leaf_of(alloc, instance, 8, NEAR.prices)?;
+    Ok(leaf.region().try_clone()?)
+}
+
+#[test]
+fn the_root_allows_every_arc(rt: HostRuntime) -> Result<(), Fail> {
+    let instance = instance_of(rt.alloc(), 1, 3, DEPOT, NEAR.customers)?;
+    let root = root_of(rt.alloc(), &instance)?;
     assert_eq!(rt; root.size(), 2);
     for (from, to, allowed) in [
         (0, 1, true),

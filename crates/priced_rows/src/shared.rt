@@ -1,12 +1,25 @@
-//! Leaves at the root, for the tests.
+//! Instances and leaves at their roots, for the tests.
 
 ghost use Rattle.std.specs.Prelude.{◌≡◌, IfOk};
 
 use branching::Region;
 use prices::Priced;
-use solomon_reader::{Instance, MOST_NEIGHBOURS};
+use row_texts::instance_text;
+use solomon_reader::{Instance, MOST_NEIGHBOURS, read};
 use std::alloc::Global;
 use std::test::Fail;
+
+/// The instance with this depot and these customers.
+pub fn instance_of(
+    alloc: Global,
+    fleet: u32,
+    capacity: u32,
+    depot: &str,
+    customers: &str,
+) -> Result<Instance, Fail> {
+    let text = instance_text(alloc, fleet, capacity, depot, customers)?;
+    Ok(read(alloc, text.as_bytes())?)
+}
 
 /// These prices at a region of an instance.
 pub fn leaf_at<'i>(

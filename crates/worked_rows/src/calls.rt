@@ -1,5 +1,7 @@
 //! Public calls that no other row makes, each once where it succeeds.
 
+use super::plans::lists_of;
+use std::alloc::Global;
 use std::test::Fail;
 use tenths::{
     MemorySink, Point, StdSink, Table, Tenths, distance, root, write_pieces, write_tenths,
@@ -7,10 +9,14 @@ use tenths::{
 };
 
 #[test]
-fn roots_and_distances_are_truncated(rt: HostRuntime) -> Result<(), Fail> {
+fn roots_are_truncated(rt: HostRuntime) {
     for (x, expected) in [(0, 0), (1, 1), (3, 1), (4, 2), (u64::MAX, u32::MAX)] {
         assert_eq!(rt; root(x), expected, "{x}");
     }
+}
+
+#[test]
+fn distances_are_truncated(rt: HostRuntime) -> Result<(), Fail> {
     let points = [
         Point { x: 0, y: 0 },
         Point { x: 1, y: 3 },
@@ -20,14 +26,19 @@ fn roots_and_distances_are_truncated(rt: HostRuntime) -> Result<(), Fail> {
     let rows = [(0, 1, 31), (1, 2, 31), (0, 2, 63), (2, 2, 0)];
     for (from, to, expected) in rows {
         assert!(rt; from < 3 && to < 3);
-        assert_eq!(rt; table.get(from, to), Tenths::from(expected), "{from} {to}");
-        assert_eq!(rt;
-            distance(points[from], points[to]),
-            Tenths::from(expected),
-            "{from} {to}"
-        );
+        let found = (table.get(from, to), distance(points[from], points[to]));
+        let tenths = Tenths::from(expected);
+        assert_eq!(rt; found, (tenths, tenths), "{from} {to}");
     }
     Ok(())
+}
+
+/// Whether this is the text of a number of tenths.
+fn is_text_of(alloc: Global, count: u64, expected: &str) -> Result<bool, Fail> {
+    let tenths = Tenths::new(count).ok_or("a number of tenths")?;
+    let mut sink = MemorySink::new(alloc);
+    let written = write_tenths(tenths, &mut sink);
+    Ok(written.is_ok() && sink.as_slice() == expected.as_bytes())
 }
 
 #[test]
@@ -40,29 +51,26 @@ fn tenths_have_one_text(rt: HostRuntime) -> Result<(), Fail> {
         (9_999_999_999_999, "999999999999.9"),
     ];
     for (count, expected) in rows {
-        let tenths = Tenths::new(count).ok_or("a number of tenths")?;
-        let mut sink = MemorySink::new(rt.alloc());
-        assert_eq!(rt; write_tenths(tenths, &mut sink), Ok(()), "{count}");
-        assert_eq!(rt; sink.as_slice(), expected.as_bytes(), "{count}");
+        assert!(rt; is_text_of(rt.alloc(), count, expected)?, "{count}");
     }
+    Ok(())
+}
+
+#[test]
+fn a_writer_takes_texts(rt: HostRuntime) {
     let mut writer = Vec::new(rt.alloc());
     let mut sink = StdSink::new(&mut writer);
     assert_eq!(rt; write_text(b"one", &mut sink), Ok(()));
     assert_eq!(rt; write_pieces(&[b" ", b"two"], &mut sink), Ok(()));
     assert_eq!(rt; writer.as_slice(), b"one two".as_slice());
-    Ok(())
 }
 
 #[test]
 fn a_solution_is_written(rt: HostRuntime) -> Result<(), Fail> {
-    let mut routes = Vec::new(rt.alloc());
-    routes.push(Vec::from_slice(rt.alloc(), &[2, 1])?)?;
-    routes.push(Vec::from_slice(rt.alloc(), &[3])?)?;
+    let routes = lists_of(rt.alloc(), &[&[2, 1], &[3]])?;
     let mut sink = MemorySink::new(rt.alloc());
-    assert_eq!(rt;
-        sol_writer::write(&routes, Tenths::from(4010), &mut sink),
-        Ok(())
-    );
+    let written = sol_writer::write(&routes, Tenths::from(4010), &mut sink);
+    assert_eq!(rt; written, Ok(()));
     assert_eq!(rt;
         sink.as_slice(),
         b"Route #1: 2 1\nRoute #2: 3\nCost 401.0\n".as_slice()

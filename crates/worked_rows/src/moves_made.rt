@@ -1,13 +1,13 @@
 //! Values of moves, and the best of each kind. The values were computed by hand, or by a plain
 //! program that makes the lists of each move and walks them.
 
-use super::plans::plan_of;
+use super::plans::{instance_of, plan_of};
 use moves::{Chain, KINDS, Kind, Move, MoveFault, Place, apply, best, trees_of, value};
 use rand_core::SeedableRng;
 use rand_xoshiro::Xoshiro256PlusPlus;
-use row_texts::{DEPOT, instance_text};
+use row_texts::DEPOT;
 use search::Searcher;
-use solomon_reader::read;
+use solomon_reader::Instance;
 use std::alloc::Global;
 use std::test::Fail;
 
@@ -65,6 +65,13 @@ const HURRIED_BACK: Row = Row {
     cost: 1400,
 };
 
+impl Row {
+    /// The row's instance.
+    pub(super) fn instance(&self, alloc: Global) -> Result<Instance, Fail> {
+        instance_of(alloc, self.fleet, self.capacity, self.depot, self.customers)
+    }
+}
+
 const fn at(route: u16, position: u16) -> Place {
     Place { route, position }
 }
@@ -77,6 +84,26 @@ const fn chain(route: u16, position: u16, length: u16) -> Chain {
     }
 }
 
+const fn relocate(from: Place, to: Place) -> Move {
+    Move::Relocate { from, to }
+}
+
+const fn exchange(first: Place, second: Place) -> Move {
+    Move::Exchange { first, second }
+}
+
+const fn or_opt(chain: Chain, to: Place) -> Move {
+    Move::OrOpt { chain, to }
+}
+
+const fn two_opt_star(first: Place, second: Place) -> Move {
+    Move::TwoOptStar { first, second }
+}
+
+const fn cross(first: Chain, second: Chain) -> Move {
+    Move::Cross { first, second }
+}
+
 /// The cost of a plan, the value of a move, and the change of cost where the move is made.
 #[derive(Clone, Copy, Debug, PartialEq, Eq)]
 struct Outcome {
@@ -87,8 +114,7 @@ struct Outcome {
 
 /// What comes of a move.
 fn outcome_of_move(alloc: Global, row: &Row, candidate: Move) -> Result<Outcome, Fail> {
-    let text = instance_text(alloc, row.fleet, row.capacity, row.depot, row.customers)?;
-    let instance = read(alloc, text.as_bytes())?;
+    let instance = row.instance(alloc)?;
     let plan = plan_of(alloc, &instance, row.routes)?;
     let cost = plan.cost().get();
     let trees = trees_of(alloc, &plan)?;
@@ -120,217 +146,145 @@ fn moves_change_the_cost_by_their_values(rt: HostRuntime) -> Result<(), Fail> {
         (
             "ends of crossed routes",
             &CROSSED,
-            Move::TwoOptStar {
-                first: at(0, 1),
-                second: at(1, 1),
-            },
+            two_opt_star(at(0, 1), at(1, 1)),
             Some(-246),
         ),
         (
             "last customers of crossed routes",
             &CROSSED,
-            Move::Exchange {
-                first: at(0, 1),
-                second: at(1, 1),
-            },
+            exchange(at(0, 1), at(1, 1)),
             Some(-246),
         ),
         (
             "last chains of crossed routes",
             &CROSSED,
-            Move::Cross {
-                first: chain(0, 1, 1),
-                second: chain(1, 1, 1),
-            },
+            cross(chain(0, 1, 1), chain(1, 1, 1)),
             Some(-246),
         ),
         (
             "a whole route before another",
             &CROSSED,
-            Move::OrOpt {
-                chain: chain(0, 0, 2),
-                to: at(1, 0),
-            },
+            or_opt(chain(0, 0, 2), at(1, 0)),
             Some(-200),
         ),
         (
             "a chain longer than its route",
             &CROSSED,
-            Move::OrOpt {
-                chain: chain(0, 0, 3),
-                to: at(1, 0),
-            },
+            or_opt(chain(0, 0, 3), at(1, 0)),
             None,
         ),
         (
             "a route behind the new one",
             &CROSSED,
-            Move::Relocate {
-                from: at(0, 0),
-                to: at(3, 0),
-            },
+            relocate(at(0, 0), at(3, 0)),
             None,
         ),
         (
             "the direct arc is longer",
             &SLANTED,
-            Move::Relocate {
-                from: at(0, 0),
-                to: at(1, 0),
-            },
+            relocate(at(0, 0), at(1, 0)),
             Some(-63),
         ),
         (
             "before the hurried customer",
             &HURRIED,
-            Move::Relocate {
-                from: at(0, 1),
-                to: at(1, 0),
-            },
+            relocate(at(0, 1), at(1, 0)),
             None,
         ),
         (
             "behind the hurried customer",
             &HURRIED,
-            Move::Relocate {
-                from: at(0, 1),
-                to: at(1, 1),
-            },
+            relocate(at(0, 1), at(1, 1)),
             Some(-400),
         ),
         (
             "a new route",
             &HURRIED,
-            Move::Relocate {
-                from: at(1, 1),
-                to: at(2, 0),
-            },
+            relocate(at(1, 1), at(2, 0)),
             Some(400),
         ),
         (
             "the hurried customer moves back in its route",
             &HURRIED,
-            Move::Exchange {
-                first: at(1, 0),
-                second: at(1, 1),
-            },
+            exchange(at(1, 0), at(1, 1)),
             None,
         ),
         (
             "the hurried customer goes behind another",
             &HURRIED,
-            Move::Exchange {
-                first: at(0, 1),
-                second: at(1, 0),
-            },
+            exchange(at(0, 1), at(1, 0)),
             Some(-200),
         ),
         (
             "the second stands earlier",
             &HURRIED,
-            Move::Exchange {
-                first: at(1, 0),
-                second: at(0, 1),
-            },
+            exchange(at(1, 0), at(0, 1)),
             None,
         ),
         (
             "a chain before the hurried customer",
             &HURRIED,
-            Move::OrOpt {
-                chain: chain(0, 0, 2),
-                to: at(1, 0),
-            },
+            or_opt(chain(0, 0, 2), at(1, 0)),
             None,
         ),
         (
             "a chain behind the hurried customer",
             &HURRIED,
-            Move::OrOpt {
-                chain: chain(0, 0, 2),
-                to: at(1, 1),
-            },
+            or_opt(chain(0, 0, 2), at(1, 1)),
             Some(-400),
         ),
         (
             "a chain at the end",
             &HURRIED,
-            Move::OrOpt {
-                chain: chain(0, 0, 2),
-                to: at(1, 2),
-            },
+            or_opt(chain(0, 0, 2), at(1, 2)),
             Some(-200),
         ),
         (
             "a whole route becomes a new one",
             &HURRIED,
-            Move::OrOpt {
-                chain: chain(0, 0, 2),
-                to: at(2, 0),
-            },
+            or_opt(chain(0, 0, 2), at(2, 0)),
             Some(0),
         ),
         (
             "the hurried customer behind a whole route",
             &HURRIED,
-            Move::TwoOptStar {
-                first: at(0, 2),
-                second: at(1, 0),
-            },
+            two_opt_star(at(0, 2), at(1, 0)),
             None,
         ),
         (
             "a whole route behind another",
             &HURRIED,
-            Move::TwoOptStar {
-                first: at(0, 0),
-                second: at(1, 2),
-            },
+            two_opt_star(at(0, 0), at(1, 2)),
             Some(-200),
         ),
         (
             "a whole route and an end",
             &HURRIED,
-            Move::TwoOptStar {
-                first: at(0, 0),
-                second: at(1, 1),
-            },
+            two_opt_star(at(0, 0), at(1, 1)),
             Some(200),
         ),
         (
             "a chain of two and one of one",
             &HURRIED,
-            Move::Cross {
-                first: chain(0, 0, 2),
-                second: chain(1, 0, 1),
-            },
+            cross(chain(0, 0, 2), chain(1, 0, 1)),
             Some(-200),
         ),
         (
             "two chains of one",
             &HURRIED,
-            Move::Cross {
-                first: chain(0, 0, 1),
-                second: chain(1, 1, 1),
-            },
+            cross(chain(0, 0, 1), chain(1, 1, 1)),
             Some(-200),
         ),
         (
             "the hurried customer last",
             &HURRIED_BACK,
-            Move::Cross {
-                first: chain(0, 1, 1),
-                second: chain(1, 0, 1),
-            },
+            cross(chain(0, 1, 1), chain(1, 0, 1)),
             None,
         ),
         (
             "the hurried customer first",
             &HURRIED_BACK,
-            Move::Cross {
-                first: chain(0, 0, 1),
-                second: chain(1, 0, 1),
-            },
+            cross(chain(0, 0, 1), chain(1, 0, 1)),
             Some(-200),
         ),
     ];
@@ -371,19 +325,30 @@ fn a_route_is_back_before_the_depot_closes(rt: HostRuntime) -> Result<(), Fail> 
     Ok(())
 }
 
-/// The best value of each kind, and the cost at which a descent ends.
-fn bests(alloc: Global, row: &Row) -> Result<([Option<i64>; 5], u64), Fail> {
-    let text = instance_text(alloc, row.fleet, row.capacity, row.depot, row.customers)?;
-    let instance = read(alloc, text.as_bytes())?;
+/// The best move of a kind, and its value.
+fn best_of(alloc: Global, row: &Row, kind: Kind) -> Result<Option<(Move, i64)>, Fail> {
+    let instance = row.instance(alloc)?;
     let plan = plan_of(alloc, &instance, row.routes)?;
     let trees = trees_of(alloc, &plan)?;
+    Ok(best(&trees, kind))
+}
+
+/// The best value of each kind.
+fn bests(alloc: Global, row: &Row) -> Result<[Option<i64>; 5], Fail> {
     let mut values = [None; 5];
     for (index, kind) in KINDS.iter().enumerate() {
-        values[index] = best(&trees, *kind).map(|found| found.1);
+        values[index] = best_of(alloc, row, *kind)?.map(|found| found.1);
     }
+    Ok(values)
+}
+
+/// The cost at which a descent ends.
+fn end_of(alloc: Global, row: &Row) -> Result<u64, Fail> {
+    let instance = row.instance(alloc)?;
+    let plan = plan_of(alloc, &instance, row.routes)?;
     let mut searcher = Searcher::new(alloc, plan, Xoshiro256PlusPlus::seed_from_u64(1));
     searcher.descend()?;
-    Ok((values, searcher.plan().cost().get()))
+    Ok(searcher.plan().cost().get())
 }
 
 /// In each of the first five plans one kind alone has a move that makes the plan cheaper; a
@@ -455,8 +420,9 @@ fn each_kind_finds_what_the_others_miss(rt: HostRuntime) -> Result<(), Fail> {
             routes,
             cost: 0,
         };
-        let expected = (values.map(|value| Some(value)), end);
+        let expected = values.map(|value| Some(value));
         assert_eq!(rt; bests(rt.alloc(), &row)?, expected, "{name}");
+        assert_eq!(rt; end_of(rt.alloc(), &row)?, end, "{name}");
     }
     Ok(())
 }
@@ -465,33 +431,30 @@ fn each_kind_finds_what_the_others_miss(rt: HostRuntime) -> Result<(), Fail> {
 /// first before the second or behind it: all four at the same value.
 #[test]
 fn the_first_of_four_relocations_is_told(rt: HostRuntime) -> Result<(), Fail> {
-    let text = instance_text(rt.alloc(), 2, 2, DEPOT, SLANTED.customers)?;
-    let instance = read(rt.alloc(), text.as_bytes())?;
-    let plan = plan_of(rt.alloc(), &instance, SLANTED.routes)?;
-    let trees = trees_of(rt.alloc(), &plan)?;
     let found = Move::Relocate {
         from: at(0, 0),
         to: at(1, 0),
     };
-    assert_eq!(rt; best(&trees, Kind::Relocate), Some((found, -63)));
+    assert_eq!(rt;
+        best_of(rt.alloc(), &SLANTED, Kind::Relocate)?,
+        Some((found, -63))
+    );
     Ok(())
 }
 
 #[test]
 fn the_first_of_equal_moves_is_told(rt: HostRuntime) -> Result<(), Fail> {
-    let text = instance_text(rt.alloc(), 2, 4, DEPOT, CROSSED.customers)?;
-    let instance = read(rt.alloc(), text.as_bytes())?;
-    let plan = plan_of(rt.alloc(), &instance, CROSSED.routes)?;
-    let trees = trees_of(rt.alloc(), &plan)?;
-    let found = Move::TwoOptStar {
+    let ends = Move::TwoOptStar {
         first: at(0, 1),
         second: at(1, 1),
     };
-    assert_eq!(rt; best(&trees, Kind::TwoOptStar), Some((found, -246)));
-    let found = Move::Exchange {
+    let firsts = Move::Exchange {
         first: at(0, 0),
         second: at(1, 0),
     };
-    assert_eq!(rt; best(&trees, Kind::Exchange), Some((found, -246)));
+    for (kind, found) in [(Kind::TwoOptStar, ends), (Kind::Exchange, firsts)] {
+        let told = best_of(rt.alloc(), &CROSSED, kind)?;
+        assert_eq!(rt; told, Some((found, -246)), "{found:?}");
+    }
     Ok(())
 }

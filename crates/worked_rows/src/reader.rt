@@ -1,18 +1,17 @@
 //! What is read, and the first fault of what isn't.
 
-use row_texts::{DEPOT, instance_text, many_customers, one_customer};
+use super::plans::instance_of;
+use row_texts::{DEPOT, instance_text, many_customers};
 use solomon_reader::{ReadFault, Row, read};
 use std::alloc::{AllocError, Global};
 use std::test::Fail;
 
+/// One customer at (3,4).
+const ONE_CUSTOMER: &str = "1 3 4 1 0 1000 0\n";
+
 #[test]
 fn an_instance_is_read(rt: HostRuntime) -> Result<(), Fail> {
-    let text = one_customer(rt.alloc())?;
-    let instance = read(rt.alloc(), text.as_bytes())?;
-    assert_eq!(rt; instance.name(), b"T".as_slice());
-    assert_eq!(rt; instance.fleet(), 1);
-    assert_eq!(rt; instance.capacity(), 1);
-    assert_eq!(rt; instance.customer_count(), 1);
+    let instance = instance_of(rt.alloc(), 1, 1, DEPOT, ONE_CUSTOMER)?;
     let customer = Row {
         x: 3,
         y: 4,
@@ -21,19 +20,32 @@ fn an_instance_is_read(rt: HostRuntime) -> Result<(), Fail> {
         due: 1000,
         service: 0,
     };
+    assert_eq!(rt; instance.name(), b"T".as_slice());
+    assert_eq!(rt; instance.fleet(), 1);
+    assert_eq!(rt; instance.capacity(), 1);
+    assert_eq!(rt; instance.customer_count(), 1);
     assert_eq!(rt; instance.rows().last().copied(), Some(customer));
-    let again = read(rt.alloc(), text.as_bytes())?;
-    assert!(rt; instance == again);
-    let other = instance_text(rt.alloc(), 2, 1, DEPOT, "1 3 4 1 0 1000 0\n")?;
-    let other = read(rt.alloc(), other.as_bytes())?;
-    assert!(rt; instance != other);
+    Ok(())
+}
+
+/// Whether the instance of one customer is the same with so many vehicles and so many others.
+fn is_same(alloc: Global, fleet: u32, other_fleet: u32) -> Result<bool, Fail> {
+    let instance = instance_of(alloc, fleet, 1, DEPOT, ONE_CUSTOMER)?;
+    let other = instance_of(alloc, other_fleet, 1, DEPOT, ONE_CUSTOMER)?;
+    Ok(instance == other)
+}
+
+#[test]
+fn instances_are_compared(rt: HostRuntime) -> Result<(), Fail> {
+    assert!(rt; is_same(rt.alloc(), 1, 1)?);
+    assert!(rt; !is_same(rt.alloc(), 1, 2)?);
     Ok(())
 }
 
 #[test]
 fn a_demand_above_the_capacity_is_read(rt: HostRuntime) -> Result<(), Fail> {
-    let text = instance_text(rt.alloc(), 1, 1, DEPOT, "1 3 4 2 0 1000 0\n")?;
-    assert!(rt; read(rt.alloc(), text.as_bytes()).is_ok());
+    let fault = fault_of(rt.alloc(), DEPOT, "1 3 4 2 0 1000 0\n")?;
+    assert_eq!(rt; fault, None);
     Ok(())
 }
 
@@ -84,16 +96,20 @@ fn each_fault_is_told(rt: HostRuntime) -> Result<(), Fail> {
         let told = fault_of(rt.alloc(), depot, customers)?;
         assert_eq!(rt; told, Some(fault), "{depot}{customers}");
     }
-    assert_eq!(rt; read(rt.alloc(), b"").err(), Some(ReadFault::Truncated));
-    assert_eq!(rt;
-        read(rt.alloc(), b"\x80").err(),
-        Some(ReadFault::NotAscii { offset: 0 })
-    );
-    assert_eq!(rt;
-        read(rt.alloc(), b"T\nVEHICLES").err(),
-        Some(ReadFault::BadWord { line: 2 })
-    );
     Ok(())
+}
+
+#[test]
+fn each_fault_of_other_bytes_is_told(rt: HostRuntime) {
+    let rows: [(&[u8], ReadFault); 3] = [
+        (b"", ReadFault::Truncated),
+        (b"\x80", ReadFault::NotAscii { offset: 0 }),
+        (b"T\nVEHICLES", ReadFault::BadWord { line: 2 }),
+    ];
+    for (text, fault) in rows {
+        let told = read(rt.alloc(), text).err();
+        assert_eq!(rt; told, Some(fault), "{fault}");
+    }
 }
 
 #[test]

@@ -6,9 +6,8 @@ use super::plans::{are_routes, plan_of};
 use super::script::Script;
 use rand_core::SeedableRng;
 use rand_xoshiro::Xoshiro256PlusPlus;
-use row_texts::{DEPOT, instance_text};
+use row_texts::DEPOT;
 use search::Searcher;
-use solomon_reader::read;
 use std::alloc::Global;
 use std::test::Fail;
 use tenths::Tenths;
@@ -45,8 +44,7 @@ fn is_shaken_to(
     count: u32,
     routes: &[&[u16]],
 ) -> Result<bool, Fail> {
-    let text = instance_text(alloc, row.fleet, row.capacity, row.depot, row.customers)?;
-    let instance = read(alloc, text.as_bytes())?;
+    let instance = row.instance(alloc)?;
     let plan = plan_of(alloc, &instance, row.routes)?;
     let mut searcher = Searcher::new(alloc, plan, Script::new(words));
     searcher.shake(count)?;
@@ -131,8 +129,7 @@ fn is_turned_to(
     words: &'static [u32],
     routes: &[&[u16]],
 ) -> Result<bool, Fail> {
-    let text = instance_text(alloc, row.fleet, row.capacity, row.depot, row.customers)?;
-    let instance = read(alloc, text.as_bytes())?;
+    let instance = row.instance(alloc)?;
     let plan = plan_of(alloc, &instance, row.routes)?;
     let mut searcher = Searcher::new(alloc, plan, Script::new(words));
     searcher.turn()?;
@@ -181,24 +178,31 @@ fn a_turn_holds_the_cheaper_of_two_plans(rt: HostRuntime) -> Result<(), Fail> {
     Ok(())
 }
 
+/// Whether a descent leaves these routes at this cost.
+fn is_descended_to(alloc: Global, row: &Row, cost: u32, routes: &[&[u16]]) -> Result<bool, Fail> {
+    let instance = row.instance(alloc)?;
+    let plan = plan_of(alloc, &instance, row.routes)?;
+    let mut searcher = Searcher::new(alloc, plan, Xoshiro256PlusPlus::seed_from_u64(1));
+    searcher.descend()?;
+    let lower = searcher.into_plan();
+    Ok(lower.cost() == Tenths::from(cost) && are_routes(lower.routes(), routes))
+}
+
+/// The cost after a turn by the random words of a seed.
+fn cost_after_turn(alloc: Global, row: &Row, seed: u64) -> Result<Tenths, Fail> {
+    let instance = row.instance(alloc)?;
+    let plan = plan_of(alloc, &instance, row.routes)?;
+    let mut searcher = Searcher::new(alloc, plan, Xoshiro256PlusPlus::seed_from_u64(seed));
+    searcher.turn()?;
+    Ok(searcher.plan().cost())
+}
+
 #[test]
 fn a_searcher_finds_the_one_route(rt: HostRuntime) -> Result<(), Fail> {
-    let text = instance_text(rt.alloc(), 2, 2, DEPOT, SLANTED.customers)?;
-    let instance = read(rt.alloc(), text.as_bytes())?;
-    let plan = plan_of(rt.alloc(), &instance, SLANTED.routes)?;
-    let copy = plan.try_clone()?;
-    assert_eq!(rt; copy.cost(), Tenths::from(188));
-    let mut descending = Searcher::new(rt.alloc(), plan, Xoshiro256PlusPlus::seed_from_u64(1));
-    descending.descend()?;
-    let lower = descending.into_plan();
-    assert_eq!(rt; lower.cost(), Tenths::from(125));
-    assert_eq!(rt; lower.routes().len(), 1);
-    assert_eq!(rt; lower.routes()[0].as_slice(), [2, 1].as_slice());
+    assert!(rt; is_descended_to(rt.alloc(), &SLANTED, 125, &[&[2, 1]])?);
     for seed in 0..8 {
-        let random = Xoshiro256PlusPlus::seed_from_u64(seed);
-        let mut turning = Searcher::new(rt.alloc(), copy.try_clone()?, random);
-        turning.turn()?;
-        assert_eq!(rt; turning.plan().cost(), Tenths::from(125), "{seed}");
+        let cost = cost_after_turn(rt.alloc(), &SLANTED, seed)?;
+        assert_eq!(rt; cost, Tenths::from(125), "{seed}");
     }
     Ok(())
 }

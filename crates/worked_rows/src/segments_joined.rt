@@ -1,41 +1,54 @@
 //! Segments of routes, joined.
 
 use super::few::Few;
-use row_texts::{DEPOT, instance_text};
-use schedule::Feasible;
+use super::plans::{instance_of, plan_of};
+use row_texts::DEPOT;
 use segments::{Linked, PlanTrees, RouteTree, Segment};
-use solomon_reader::read;
+use solomon_reader::Instance;
+use std::alloc::Global;
 use std::test::Fail;
+
+/// Two stops of a tree, the first of which was put in later.
+#[derive(Clone, Copy)]
+struct Joined {
+    whole: Segment,
+    last: Segment,
+}
+
+/// The joins of customers 1 and 2 of an instance.
+fn joins_of_two(alloc: Global, instance: &Instance) -> Result<Joined, Fail> {
+    if instance.customer_count() != 2 {
+        return Err(Fail::from("not two customers"));
+    }
+    let items = vec![in alloc; Segment::stop(instance, 2)]?;
+    let mut tree = RouteTree::new(alloc, instance, items).map_err(|(_, fault)| fault)?;
+    tree.splice(instance, 0, 0, &[Segment::stop(instance, 1)])?;
+    if tree.len() != 2 {
+        return Err(Fail::from("not two stops"));
+    }
+    let whole = *tree.whole().ok_or("a join of both")?;
+    let last = tree.span(instance, 1, 2).ok_or("a stop")?;
+    Ok(Joined { whole, last })
+}
 
 #[test]
 fn two_stops_on_a_line_are_joined(rt: HostRuntime) -> Result<(), Fail> {
     let customers = "1 3 4 1 0 1000 0\n2 6 8 1 0 1000 0\n";
-    let text = instance_text(rt.alloc(), 2, 2, DEPOT, customers)?;
-    let instance = read(rt.alloc(), text.as_bytes())?;
-    assert_eq!(rt; instance.customer_count(), 2);
-    let first = Segment::stop(&instance, 1);
-    let second = Segment::stop(&instance, 2);
-    let items = vec![in rt.alloc(); second]?;
-    let mut tree = RouteTree::new(rt.alloc(), &instance, items).map_err(|(_, fault)| fault)?;
-    assert_eq!(rt; tree.len(), 1);
-    tree.splice(&instance, 0, 0, &[first])?;
-    assert_eq!(rt; tree.len(), 2);
-    let whole = *tree.whole().ok_or("a join of both")?;
+    let instance = instance_of(rt.alloc(), 2, 2, DEPOT, customers)?;
+    let Joined { whole, last } = joins_of_two(rt.alloc(), &instance)?;
     assert_eq!(rt; whole.latest(), 9950);
     assert_eq!(rt; whole.duration(), 50);
     assert_eq!(rt; whole.earliest(), 50);
     assert_eq!(rt; whole.load(), 2);
     assert_eq!(rt; whole.cost(), 50);
-    let span = tree.span(&instance, 1, 2).ok_or("a stop")?;
-    assert_eq!(rt; span.first(), 2);
+    assert_eq!(rt; last.first(), 2);
     Ok(())
 }
 
 #[test]
 fn a_stop_that_is_reached_too_late_is_not_joined(rt: HostRuntime) -> Result<(), Fail> {
     let customers = "1 3 4 1 10 20 5\n2 6 8 1 0 15 0\n";
-    let text = instance_text(rt.alloc(), 2, 2, DEPOT, customers)?;
-    let instance = read(rt.alloc(), text.as_bytes())?;
+    let instance = instance_of(rt.alloc(), 2, 2, DEPOT, customers)?;
     assert_eq!(rt; instance.customer_count(), 2);
     let first = Segment::stop(&instance, 1);
     let second = Segment::stop(&instance, 2);
@@ -43,21 +56,24 @@ fn a_stop_that_is_reached_too_late_is_not_joined(rt: HostRuntime) -> Result<(), 
     Ok(())
 }
 
+/// How many stops the trees of a plan of two routes have, and whether they are of its instance.
+fn stops_of_two(alloc: Global, instance: &Instance) -> Result<(usize, usize, bool), Fail> {
+    let plan = plan_of(alloc, instance, &[&[2], &[1]])?;
+    let mut trees = PlanTrees::new(alloc, &plan)?;
+    if trees.count() != 2 {
+        return Err(Fail::from("not two trees"));
+    }
+    let first = trees.route(0).len();
+    let second = trees.route_mut(1).len();
+    Ok((first, second, *trees.instance() == *instance))
+}
+
 #[test]
 fn a_plan_has_a_tree_for_each_route(rt: HostRuntime) -> Result<(), Fail> {
-    let text = row_texts::two_in_line(rt.alloc())?;
-    let instance = read(rt.alloc(), text.as_bytes())?;
-    let mut routes = Vec::new(rt.alloc());
-    routes.push(vec![in rt.alloc(); 2]?)?;
-    routes.push(vec![in rt.alloc(); 1]?)?;
-    let Ok(plan) = Feasible::check(&instance, routes) else {
-        return Err(Fail::from("a plan was refused"));
-    };
-    let mut trees = PlanTrees::new(rt.alloc(), &plan)?;
-    assert_eq!(rt; trees.count(), 2);
-    assert_eq!(rt; trees.route(0).len(), 1);
-    assert_eq!(rt; trees.route_mut(1).len(), 1);
-    assert!(rt; *trees.instance() == instance);
+    let customers = "1 3 4 1 0 1000 0\n2 6 8 1 0 1000 0\n";
+    let instance = instance_of(rt.alloc(), 2, 1, DEPOT, customers)?;
+    let found = stops_of_two(rt.alloc(), &instance)?;
+    assert_eq!(rt; found, (1, 1, true));
     Ok(())
 }
 

@@ -39,6 +39,24 @@ fn cert_of(alloc: Global, outcome: &Outcome<'_>) -> Option<Cert> {
     }
 }
 
+/// Writes a certificate: whether that was done, and the milliseconds.
+fn write_timed<R: Runtime>(rt: &R, cert: &Cert, sink: &mut MemorySink) -> io::Result<(bool, u128)> {
+    let begin = Instant::now(rt)?;
+    let written = write(cert, sink).is_ok();
+    Ok((written, begin.elapsed(rt)?.as_millis()))
+}
+
+/// Reads a text: whether it is a certificate of so many nodes, and the milliseconds.
+fn read_timed<R: Runtime + AllocGlobal>(
+    rt: &R,
+    text: &[u8],
+    nodes: usize,
+) -> io::Result<(bool, u128)> {
+    let begin = Instant::now(rt)?;
+    let found = read(rt.alloc(), text).is_ok_and(|again| again.parts().nodes.len() == nodes);
+    Ok((found, begin.elapsed(rt)?.as_millis()))
+}
+
 /// Prints the size of the text of a book's certificate, whether it is read as what was written, and
 /// the milliseconds of both.
 pub(crate) fn tell_texts<R: Runtime + AllocGlobal>(
@@ -49,18 +67,11 @@ pub(crate) fn tell_texts<R: Runtime + AllocGlobal>(
     let Some(cert) = cert_of(rt.alloc(), &book.finish()) else {
         return println!(rt; "no certificate");
     };
-    let mut sink = MemorySink::new(rt.alloc());
-    let begin = Instant::now(rt)?;
-    let written = write(&cert, &mut sink).is_ok();
-    let writing = begin.elapsed(rt)?.as_millis();
-    let begin = Instant::now(rt)?;
-    let again = match read(rt.alloc(), sink.as_slice()) {
-        Ok(again) => again.parts().nodes.len() == cert.parts().nodes.len(),
-        Err(_) => false,
-    };
-    let reading = begin.elapsed(rt)?.as_millis();
-    let bytes = sink.as_slice().len();
     let nodes = cert.parts().nodes.len();
+    let mut sink = MemorySink::new(rt.alloc());
+    let (written, writing) = write_timed(rt, &cert, &mut sink)?;
+    let (again, reading) = read_timed(rt, sink.as_slice(), nodes)?;
+    let bytes = sink.as_slice().len();
     if !times {
         return println!(rt; "{nodes} nodes, written {written}, read {again}");
     }

@@ -1,9 +1,5 @@
-//! Prints how many labels are active at once while the root of an instance is priced: at prices of zero
-//! and at those of the first leaf of a certificate. Words: the instance's file, the certificate's, the
-//! most labels, and `times` where the milliseconds are to be printed, too.
-#![tactic(auto)]
-
-ghost use Rattle.std.specs.Prelude.{◌≡◌, IfOk};
+//! How many labels are active at once while the root of an instance is priced: at prices of zero and at
+//! those of the first leaf of a certificate.
 
 use branching::Region;
 use certificate::{Cert, CertNode};
@@ -11,10 +7,9 @@ use labelling::least;
 use prices::Priced;
 use solomon_reader::{Instance, MOST_NEIGHBOURS};
 use std::alloc::Global;
-use std::process::ExitCode;
+use std::io;
 use std::rt::Runtime;
 use std::time::Instant;
-use std::{env, fs, io};
 
 /// Whether so many labels suffice.
 fn suffices(alloc: Global, leaf: &Priced<'_>, most: usize) -> bool {
@@ -114,8 +109,8 @@ fn tell_root<R: Runtime + AllocGlobal>(
     }
 }
 
-/// Prints both lines of an instance.
-fn tell_both<R: Runtime + AllocGlobal>(
+/// Prints the line of prices of zero, and that of the certificate's first leaf.
+pub(crate) fn tell_labels<R: Runtime + AllocGlobal>(
     rt: &R,
     instance: &Instance,
     cert: &Cert,
@@ -134,29 +129,4 @@ fn tell_both<R: Runtime + AllocGlobal>(
     };
     let certified = root_at(alloc, instance, neighbours, prices, most);
     tell_root(rt, "certificate", certified, most, times)
-}
-
-fn run<R: Runtime + AllocGlobal>(rt: &R) -> io::Result<bool> {
-    let words: Vec<String> = env::args(rt)?.skip(1).collect(rt.alloc())?;
-    if words.len() < 3 {
-        return Ok(false);
-    }
-    let Ok(most) = words[2].as_str().parse::<usize>() else {
-        return Ok(false);
-    };
-    let text = fs::read(rt, words[0].as_str())?;
-    let Ok(instance) = solomon_reader::read(rt.alloc(), text.as_slice()) else {
-        return Ok(false);
-    };
-    let text = fs::read(rt, words[1].as_str())?;
-    let Ok(cert) = certificate::read(rt.alloc(), text.as_slice()) else {
-        return Ok(false);
-    };
-    tell_both(rt, &instance, &cert, most, words.len() > 3)?;
-    Ok(true)
-}
-
-fn main(rt: HostRuntime) -> io::Result<ExitCode> {
-    let status = if run(&rt)? { 0 } else { 2 };
-    Ok(ExitCode::from(status))
 }
