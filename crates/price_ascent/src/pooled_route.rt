@@ -96,6 +96,11 @@ impl PooledRoute {
         self.multiplier > 0
     }
 
+    /// Whether the multiplier is above one half of the rise, which stands for one route.
+    pub(crate) fn is_main(&self, rise: i64) -> bool {
+        self.multiplier > rise / 2
+    }
+
     /// Whether the route is to make room before another one: it has the lower multiplier, or was of
     /// use longer ago.
     pub(crate) fn yields_to(&self, other: &PooledRoute) -> bool {

@@ -88,6 +88,16 @@ impl RoutePool {
         Ok(rows)
     }
 
+    /// The routes that make up the prices raised last by more than one half of a route each: where no
+    /// arc is fractional they may be a plan. No contract: who takes them for one has to check it.
+    pub fn main_routes(&self) -> Result<Vec<Vec<u16>>, AllocError> {
+        let mut routes = Vec::new(self.alloc);
+        for route in self.routes.iter().filter(|route| route.is_main(self.rise)) {
+            routes.push(Vec::from_slice(self.alloc, route.stops())?)?;
+        }
+        Ok(routes)
+    }
+
     /// Drops the route that was of least use.
     fn drop_one(&mut self) {
         let mut least = 0;

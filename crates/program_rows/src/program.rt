@@ -7,6 +7,7 @@ use std::process::Abort;
 use std::rt::Files;
 use std::sync::Wait;
 use std::test::Fail;
+use std::thread::Threads;
 use std::{fs, io};
 use tenths::{MemorySink, write_tenths};
 use vrptw::{run_words, words_fault};
@@ -20,7 +21,7 @@ pub struct Printed {
 }
 
 /// Runs the program with these words.
-pub fn run<R: Files + AllocGlobal + Wait>(rt: &R, words: &[&str]) -> Printed {
+pub fn run<R: Files + AllocGlobal + Threads + Wait + Sync>(rt: &R, words: &[&str]) -> Printed {
     let mut out = MemorySink::new(rt.alloc());
     let mut errors = MemorySink::new(rt.alloc());
     let status = run_words(rt, rt.alloc(), words, &mut out, &mut errors);
@@ -130,7 +131,10 @@ fn line_of(alloc: Global, expected: Expected, bound: &[u8]) -> Result<(Vec<u8>, 
     }
 }
 
-fn check<R: Abort + Files + AllocGlobal + Wait>(rt: &R, row: &Row) -> Result<(), Fail> {
+fn check<R: Abort + Files + AllocGlobal + Threads + Wait + Sync>(
+    rt: &R,
+    row: &Row,
+) -> Result<(), Fail> {
     let name = row.name;
     fs::write(rt, "row_instance", row.text.as_bytes())?;
     let printed = run(

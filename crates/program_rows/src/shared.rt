@@ -1,11 +1,12 @@
 //! What the rows share.
 
 use std::sync::Wait;
+use std::thread::Threads;
 use tenths::Sink;
 use vrptw::{Answer, NoGate, Settings, SolveFault, solve};
 
 /// The answer of the solver for a text.
-pub fn solve_text<R: AllocGlobal + Wait, X: Sink, Y: Sink>(
+pub fn solve_text<R: AllocGlobal + Threads + Wait + Sync, X: Sink, Y: Sink>(
     rt: &R,
     text: &str,
     settings: &Settings,

@@ -3,6 +3,7 @@
 ghost use Rattle.std.specs.Prelude.{◌+◌, length, Some};
 
 use crate::shared::solve_text;
+use certificate::read;
 use http_server::Log;
 use row_texts::two_in_line;
 use std::alloc::Global;
@@ -64,6 +65,9 @@ impl Sink for DrippingSink {
 
 const SOLUTION: &[u8] = b"Route #1: 2\nRoute #2: 1\nCost 30.0\n";
 
+/// How the certificate begins, whatever the workers do.
+const HEAD: &[u8] = b"VRPTW-CERT 2\nINSTANCE T\nCUSTOMERS 2\nNEIGHBOURS 8\n";
+
 #[test]
 fn a_first_sink_that_fails_leaves_the_second_empty(rt: HostRuntime) -> Result<(), Fail> {
     let text = two_in_line(rt.alloc())?;
@@ -93,10 +97,6 @@ fn a_first_sink_that_fails_leaves_the_second_empty(rt: HostRuntime) -> Result<()
 fn a_second_sink_that_fails_holds_a_beginning(rt: HostRuntime) -> Result<(), Fail> {
     let text = two_in_line(rt.alloc())?;
     let settings = Settings::default();
-    let mut whole = MemorySink::new(rt.alloc());
-    let mut solution = MemorySink::new(rt.alloc());
-    let answer = solve_text(&rt, text.as_str(), &settings, &mut solution, &mut whole);
-    assert!(rt; answer.is_ok());
     for left in 0..3 {
         let mut solution = MemorySink::new(rt.alloc());
         let mut certificate = FailingSink::new(rt.alloc(), left);
@@ -110,14 +110,13 @@ fn a_second_sink_that_fails_holds_a_beginning(rt: HostRuntime) -> Result<(), Fai
         assert_eq!(rt; answer, Err(SolveFault::Device), "{left} writes");
         assert_eq!(rt; solution.as_slice(), SOLUTION, "{left} writes");
         let written = certificate.inner.as_slice();
-        assert!(rt; whole.as_slice().starts_with(written), "{left} writes");
-        assert!(rt; written.len() < whole.as_slice().len(), "{left} writes");
+        assert!(rt; HEAD.starts_with(written), "{left} writes");
     }
     Ok(())
 }
 
 #[test]
-fn bytes_taken_one_at_a_time_are_the_same(rt: HostRuntime) -> Result<(), Fail> {
+fn bytes_taken_one_at_a_time_make_both_texts(rt: HostRuntime) -> Result<(), Fail> {
     let text = two_in_line(rt.alloc())?;
     let settings = Settings::default();
     let mut solution = DrippingSink {
@@ -135,10 +134,8 @@ fn bytes_taken_one_at_a_time_are_the_same(rt: HostRuntime) -> Result<(), Fail> {
     );
     assert!(rt; answer.is_ok());
     assert_eq!(rt; solution.inner.as_slice(), SOLUTION);
-    let mut whole = MemorySink::new(rt.alloc());
-    let mut first = MemorySink::new(rt.alloc());
-    let again = solve_text(&rt, text.as_str(), &settings, &mut first, &mut whole);
-    assert_eq!(rt; again, answer);
-    assert_eq!(rt; certificate.inner.as_slice(), whole.as_slice());
+    assert!(rt; certificate.inner.as_slice().starts_with(HEAD));
+    let cert = read(rt.alloc(), certificate.inner.as_slice())?;
+    assert_eq!(rt; cert.parts().neighbours, 8);
     Ok(())
 }

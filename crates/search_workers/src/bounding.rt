@@ -14,6 +14,8 @@ use branching::Arc;
 use ceiling::{Ceiling, CeilingSeat};
 use price_ascent::{RoutePool, raise};
 use prices::Priced;
+use schedule::Feasible;
+use solomon_reader::Instance;
 use std::alloc::Global;
 
 /// The children of a leaf by an arc, with their prices.
@@ -94,21 +96,54 @@ fn bring<'i, H: Hub<'i>, G: Gate>(
     }
 }
 
+/// Offers the routes that make up the prices raised last, where they are a plan that is cheaper than
+/// those known.
+fn offer_routes<'i, H: Hub<'i>, G: Gate>(
+    spot: &Spot<'_, G>,
+    hub: &mut H,
+    instance: &'i Instance,
+    pool: &RoutePool,
+    seat: &mut CeilingSeat,
+) -> Result<(), Refusal>
+    requires { IsSeatOf spot.now.ceiling.now seat.old }
+    ensures { IsSeatOf spot.now.ceiling.now seat.new }
+{
+    let Ok(plan) = Feasible::check(instance, pool.main_routes()?) else {
+        return Ok(());
+    };
+    let cost = plan.cost().get();
+    if cost >= spot.ceiling.cost(seat) {
+        return Ok(());
+    }
+    match hub.offer(plan) {
+        Ok(_) => {
+            let _ = spot.ceiling.offer(seat, cost);
+            Ok(())
+        }
+        Err((_, fault)) => Err(Refusal::from(fault)),
+    }
+}
+
 /// Raises the value of a leaf, and brings what came of it to the book.
 fn work_at<'i, H: Hub<'i>, G: Gate>(
     spot: &Spot<'_, G>,
     hub: &mut H,
     taken: Taken,
     leaf: Priced<'i>,
-    target: u64,
     labels: usize,
     nodes: &mut Nodes<'_>,
-) -> Result<(), Refusal> {
+    seat: &mut CeilingSeat,
+) -> Result<(), Refusal>
+    requires { IsSeatOf spot.now.ceiling.now seat.old }
+    ensures { IsSeatOf spot.now.ceiling.now seat.new }
+{
     let before = leaf.value();
     let cost = hub.gap().cost;
+    let target = spot.ceiling.cost(seat);
     let goal = goal_of(&leaf, nodes, cost, taken.is_again, target, labels);
     let leaf = raise(spot.alloc, &mut nodes.pool, leaf, &goal);
     spot.pass(GatePoint::Priced);
+    offer_routes(spot, hub, leaf.instance(), &nodes.pool, seat)?;
     let is_raised = leaf.value() > before;
     bring(
         spot,
@@ -145,11 +180,10 @@ fn turn<'i, H: Hub<'i>, G: Gate>(
     }
     let leaf = hub.look(taken.number)?;
     spot.pass(GatePoint::Looked);
-    let target = spot.ceiling.cost(seat);
-    if leaf.value() >= i128::from(target) {
+    if leaf.value() >= i128::from(spot.ceiling.cost(seat)) {
         return Ok(());
     }
-    work_at(spot, hub, taken, leaf, target, labels, nodes)?;
+    work_at(spot, hub, taken, leaf, labels, nodes, seat)?;
     let _ = spot.ceiling.raise(seat, hub.gap().bound.get());
     Ok(())
 }

@@ -85,7 +85,7 @@ fn counted_routes(instance: &Instance, plan: Option<&Feasible<'_>>) -> u16 {
 
 impl<'p> Nodes<'p> {
     /// The nodes of the worker whose deque stands at this place, and the routes of a plan to begin
-    /// with, if there is one. `Memory` where a growth was refused.
+    /// with, if there is one; refused where memory is. No contract: it decides only how the worker works.
     pub fn new(
         alloc: Global,
         instance: &Instance,

@@ -87,12 +87,7 @@ fn price_root<'i>(
 }
 
 /// The root with the prices that a plan says to start from, where their value is higher.
-fn start_from<'i>(
-    alloc: Global,
-    root: Priced<'i>,
-    plan: &Feasible<'i>,
-    labels: u32,
-) -> Priced<'i>
+fn start_from<'i>(alloc: Global, root: Priced<'i>, plan: &Feasible<'i>, labels: u32) -> Priced<'i>
     requires region { root.region ≡ root_region (customer_count root.problem) }
     ensures problem { result.problem ≡ root.entry.problem }
     ensures region { result.region ≡ root.entry.region }

@@ -14,10 +14,12 @@ use tenths::Tenths;
 /// The most pricings of a turn at the root.
 const ROOT_PRICINGS: u32 = 20;
 
-/// At another leaf, so many divided by the number of customers, within these.
-const LEAF_PRICINGS: u32 = 500;
+/// At another leaf, so many divided by the square of the number of customers, within these.
+const LEAF_PRICINGS: u32 = 10_000;
 
-const LEAST_PRICINGS: u32 = 5;
+const LEAST_PRICINGS: u32 = 3;
+
+const MOST_PRICINGS: u32 = 16;
 
 /// A turn ends after so many pricings in a row without a gain.
 const IDLE_PRICINGS: u32 = 15;
@@ -27,13 +29,13 @@ const CHILD_RISE: i64 = 6;
 
 const GRAINS_OF_TENTH: i64 = 1_000;
 
-/// How many pricings a turn makes at a leaf: fewer where they are dear.
+/// How many pricings a turn makes at a leaf: fewer where each is dear.
 fn pricings_at(leaf: &Priced<'_>) -> u32 {
     if leaf.region().is_root() {
         return ROOT_PRICINGS;
     }
     let customers = u32::from(leaf.instance().customer_count());
-    (LEAF_PRICINGS / customers).clamp(LEAST_PRICINGS, ROOT_PRICINGS)
+    (LEAF_PRICINGS / customers / customers).clamp(LEAST_PRICINGS, MOST_PRICINGS)
 }
 
 /// The rise of the prices that a turn begins with, where the least cost of a plan is known or not.

@@ -78,7 +78,15 @@ fn next_nodes<'a, 'i, G>(
     let (Some(own), Some(pass)) = (hands.pop(), passes.pop()) else {
         unreachable!()
     };
-    Nodes::new(site.alloc, site.instance, plan, own, deques, hands.len(), pass)
+    Nodes::new(
+        site.alloc,
+        site.instance,
+        plan,
+        own,
+        deques,
+        hands.len(),
+        pass,
+    )
 }
 
 /// What the worker with this number does. The workers from 0 on search; the bound workers follow.

@@ -10,8 +10,8 @@ use crate::jobs::{Job, MOST_STATES, UsageFault};
 use clap::builder::ValueParser;
 use clap::error::ErrorKind;
 use clap::{Arg, ArgMatches, Command};
-use solomon_reader::MOST_NEIGHBOURS;
 use search_workers::{MOST_BOUNDERS, MOST_LABELS, MOST_SEARCHERS, MOST_TURNS, Settings};
+use solomon_reader::MOST_NEIGHBOURS;
 use std::alloc::{AllocError, Global};
 
 const PROGRAM: &str = "vrptw";

@@ -15,5 +15,7 @@ pub use commands::job;
 pub use jobs::{Job, MOST_STATES, UsageFault};
 pub use lines::words_fault;
 pub use program::run_words;
-pub use search_workers::{Gate, GatePoint, MOST_BOUNDERS, MOST_LABELS, MOST_SEARCHERS, MOST_TURNS, NoGate, Settings};
+pub use search_workers::{
+    Gate, GatePoint, MOST_BOUNDERS, MOST_LABELS, MOST_SEARCHERS, MOST_TURNS, NoGate, Settings,
+};
 pub use solving::solve;

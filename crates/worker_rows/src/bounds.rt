@@ -41,38 +41,58 @@ fn second_nodes<'p>(
     Ok(Nodes::new(alloc, instance, None, own, deques, 1, pass)?)
 }
 
-/// Turns of the worker at the second of two deques, over the root of two customers in a line at
-/// prices of zero: the turns made, the reprices and splits, and how often Looked, Stolen and End were
-/// passed.
-fn turns_made(
+/// What a worker did: the turns made, the reprices and splits, and how often Looked, Stolen and End
+/// were passed.
+type Done = (u32, u32, usize, usize, usize);
+
+/// Turns over the root of an instance at prices of zero.
+fn turns_over(
     alloc: Global,
+    instance: &Instance,
+    nodes: Nodes<'_>,
     turns: u32,
-    is_stolen: bool,
     is_bare: bool,
-) -> Result<(u32, u32, usize, usize, usize), Fail> {
-    let text = instance_text(alloc, 2, 2, DEPOT, "1 3 4 1 0 1000 0\n2 6 8 1 0 1000 0\n")?;
-    let instance = read(alloc, text.as_bytes())?;
-    let mut hub = Fake::new(Priced::root(alloc, &instance, 8, None)?);
+) -> Result<Done, Fail> {
+    let mut hub = Fake::new(Priced::root(alloc, instance, 8, None)?);
     hub.is_bare = is_bare;
     let gate = Counts::new();
     let settings = Settings {
         turns,
         ..Settings::default()
     };
-    let (hands, deques, passes) = Pool::new(alloc, 2, 10)?;
-    let nodes = second_nodes(alloc, &instance, hands, deques.as_slice(), passes, is_stolen)?;
     let (ceiling, mut seats) = Ceiling::new(alloc, 1, 1000, 0)?;
     let mut seat = seats.pop().ok_or("a seat")?;
     let made = bound_worker(
         alloc, &mut hub, &gate, 2, &settings, nodes, &ceiling, &mut seat,
     );
-    let changes = hub.reprices.saturating_add(hub.splits);
-    let passed = (
+    Ok((
+        made,
+        hub.reprices.saturating_add(hub.splits),
         gate.of(GatePoint::Looked),
         gate.of(GatePoint::Stolen),
         gate.of(GatePoint::End),
-    );
-    Ok((made, changes, passed.0, passed.1, passed.2))
+    ))
+}
+
+/// Two customers in a line from the depot, which one vehicle can serve.
+fn in_line(alloc: Global) -> Result<Instance, Fail> {
+    let text = instance_text(alloc, 2, 2, DEPOT, "1 3 4 1 0 1000 0\n2 6 8 1 0 1000 0\n")?;
+    Ok(read(alloc, text.as_bytes())?)
+}
+
+/// Turns of the worker at the second of two deques, with two customers in a line.
+fn turns_made(alloc: Global, turns: u32, is_stolen: bool, is_bare: bool) -> Result<Done, Fail> {
+    let instance = in_line(alloc)?;
+    let (hands, deques, passes) = Pool::new(alloc, 2, 10)?;
+    let nodes = second_nodes(
+        alloc,
+        &instance,
+        hands,
+        deques.as_slice(),
+        passes,
+        is_stolen,
+    )?;
+    turns_over(alloc, &instance, nodes, turns, is_bare)
 }
 
 #[test]

@@ -2,10 +2,11 @@
 
 use row_texts::{one_customer, two_in_line};
 use search_workers::{Gate, GatePoint, NoGate, RunFault, Settings, run};
-use solomon_reader::read;
+use solomon_reader::{Instance, read};
+use std::sync::Wait;
 use std::sync::atomic::{AtomicBool, Ordering};
 use std::test::Fail;
-use std::thread;
+use std::thread::{self, Threads};
 use std::time::{Clock, Duration};
 
 /// How often a worker looks.
@@ -51,26 +52,36 @@ impl<'a, R: Clock> Gate for Meeting<'a, R> {
     }
 }
 
-#[test]
-fn two_workers_run_at_once(rt: HostRuntime) -> Result<(), Fail> {
-    let text = one_customer(rt.alloc())?;
-    let instance = read(rt.alloc(), text.as_bytes())?;
+/// Whether worker 0 saw the offer and worker 1 the start, and the plan's cost.
+fn meet<R: AllocGlobal + Threads + Wait + Clock + Sync>(
+    rt: &R,
+    instance: &Instance,
+) -> Result<(bool, bool, Option<u64>), Fail> {
     let settings = Settings {
         turns: 1,
         ..Settings::default()
     };
     let gate = Meeting {
-        rt: &rt,
+        rt,
         has_started: AtomicBool::new(false),
         has_offered: AtomicBool::new(false),
         start_was_seen: AtomicBool::new(false),
         offer_was_seen: AtomicBool::new(false),
     };
-    let outcome = run(&rt, rt.alloc(), &instance, &settings, &gate)?;
-    assert!(rt; gate.offer_was_seen.load(Ordering::SeqCst));
-    assert!(rt; gate.start_was_seen.load(Ordering::SeqCst));
-    let plan = outcome.plan().ok_or("a plan")?;
-    assert_eq!(rt; plan.cost().get(), 100);
+    let outcome = run(rt, rt.alloc(), instance, &settings, &gate)?;
+    Ok((
+        gate.offer_was_seen.load(Ordering::SeqCst),
+        gate.start_was_seen.load(Ordering::SeqCst),
+        outcome.plan().map(|plan| plan.cost().get()),
+    ))
+}
+
+#[test]
+fn two_workers_run_at_once(rt: HostRuntime) -> Result<(), Fail> {
+    let text = one_customer(rt.alloc())?;
+    let instance = read(rt.alloc(), text.as_bytes())?;
+    let met = meet(&rt, &instance)?;
+    assert!(rt; met == (true, true, Some(100)));
     Ok(())
 }
 

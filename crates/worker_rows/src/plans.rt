@@ -29,7 +29,12 @@ fn five_turns(
     let made = search_worker(
         alloc, &mut hub, &gate, 0, &instance, None, 5, random, &ceiling, &mut seat,
     );
-    Ok((made, hub.offers, gate.of(GatePoint::Offered), gate.of(GatePoint::End)))
+    Ok((
+        made,
+        hub.offers,
+        gate.of(GatePoint::Offered),
+        gate.of(GatePoint::End),
+    ))
 }
 
 #[test]
