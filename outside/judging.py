@@ -1,40 +1,16 @@
-"""One run of the built program on one instance, judged by what stands in this folder."""
+"""One run of the built program, judged by what stands in this folder."""
 import os
 import random as randomness
-import subprocess
 
 import bounding
 import checking
-from building import build
 from cases import (LARGE, certificate_lines, certificate_of, instance_words, laid_out, mutated, plan_of, solution_lines,
                    solution_of, spoilt, tree_of)
-from instances import Fault, is_plan, plan_cost, read
-from moving import descend, first_gain
-from optimum import least_cost
+from instances import Fault, plan_cost, read
 from rows import ROWS, status_of
+from running import Disagreement, demand, run, run_check, solve
+from solving import judge_solve
 from texts import TextFault, read_certificate, read_solution, shown
-
-
-class Disagreement(Exception):
-    """The program and this folder don't agree."""
-
-
-def demand(holds, words):
-    if not holds:
-        raise Disagreement(words)
-
-
-def solve(program, folder, text):
-    """The program's lines, its status and both texts, which stand in the folder."""
-    paths = [os.path.join(folder, name) for name in ("instance", "solution", "certificate")]
-    for path in paths[1:]:
-        if os.path.exists(path):
-            os.remove(path)
-    with open(paths[0], "wb") as file:
-        file.write(text)
-    run = subprocess.run([program, "solve"] + paths, capture_output=True, timeout=600)
-    written = [open(path, "rb").read() if os.path.exists(path) else None for path in paths[1:]]
-    return run.stdout.decode(), run.stderr.decode(), run.returncode, written[0], written[1]
 
 
 def judge_refusal(program, folder, random):
@@ -49,59 +25,6 @@ def judge_refusal(program, folder, random):
         return str(fault).split()[0]
     demand(status in (0, 1), "an instance was refused: %r" % errors)
     return "whole"
-
-
-def judge_certificate(instance, certificate, least):
-    """The certificate's parts, and its bound by its tree."""
-    try:
-        found = read_certificate(certificate)
-    except TextFault as fault:
-        raise Disagreement("certificate: %s" % fault)
-    demand(found.name == instance.name and found.count == instance.count, "the certificate's name and size")
-    demand(found.neighbours == 8, "the certificate's neighbours")
-    region = bounding.Region(instance.count)
-    bound = bounding.tree_bound(instance, region, found.tree, found.neighbours, found.version, least)
-    demand(bound == found.bound, "bound %d printed, %d derived" % (found.bound, bound))
-    return found.bound
-
-
-def judge_plan(instance, solution):
-    """The plan is one at its cost, no move makes it cheaper, and it is what insertion and descent come to."""
-    try:
-        routes, cost = read_solution(solution)
-    except TextFault as fault:
-        raise Disagreement("solution: %s" % fault)
-    demand(is_plan(instance, routes), "the routes are no plan")
-    demand(plan_cost(instance, routes) == cost, "the plan's cost")
-    demand(first_gain(instance, routes) is None, "a move makes the plan cheaper")
-    built, left = build(instance)
-    demand(not left, "a plan, though insertion leaves customers")
-    demand(descend(instance, built) == routes, "another plan than insertion and descent come to")
-    return cost
-
-
-def judge_solved(program, folder, random, count, least, small):
-    """An instance: both texts and the line. Answers the line's first word."""
-    text = laid_out(random, instance_words(random, count))
-    instance = read(text)
-    out, errors, status, solution, certificate = solve(program, folder, text)
-    demand(errors == "", "an instance was refused: %r" % errors)
-    bound = judge_certificate(instance, certificate, least)
-    optimum = least_cost(instance) if small else None
-    if solution == b"":
-        none = bound > instance.ceiling()
-        demand(bool(build(instance)[1]), "no plan, though insertion finds one")
-        demand((out, status) == (("NO PLAN\n", 0) if none else ("OPEN %s\n" % shown(bound), 1)), "the line %r" % out)
-        demand(not (none and optimum is not None), "NO PLAN, and there is one")
-    else:
-        cost = judge_plan(instance, solution)
-        line = "BEST %s\n" % shown(cost) if cost == bound else "GAP %s %s\n" % (shown(cost), shown(bound))
-        demand((out, status) == (line, 0 if cost == bound else 1), "the line %r" % out)
-        demand(not small or optimum is not None and optimum <= cost, "a plan below the optimum")
-    demand(not small or optimum is None or bound <= optimum, "a bound above the optimum")
-    checked = run_check(program, folder, text, certificate, solution or None)
-    demand(checked == (out.replace("OPEN", "BOUND"), "", status), "check of what was written: %r" % (checked,))
-    return out.split()[0]
 
 
 def judge_check(program, folder, random):
@@ -144,19 +67,6 @@ def checked_texts(random, instance, lines, bound, routes):
     return certificate, "".join(line + "\n" for line in told).encode()
 
 
-def run_check(program, folder, text, certificate, solution, further=()):
-    """The program's lines and its status, with further words."""
-    paths = [os.path.join(folder, name) for name in ("instance", "certificate", "solution")]
-    for path, given in zip(paths, (text, certificate, solution)):
-        if given is not None:
-            with open(path, "wb") as file:
-                file.write(given)
-    words = [program, "check", paths[0], paths[1]] + ([] if solution is None else ["--solution", paths[2]])
-    words += further
-    run = subprocess.run(words, capture_output=True, timeout=600)
-    return run.stdout.decode(), run.stderr.decode(), run.returncode
-
-
 def judge_row(program, folder, row):
     """A row that was computed by hand. Answers the line's first words."""
     name, instance, certificate, solution, further, said = row
@@ -171,13 +81,13 @@ def judge_echo(echo, folder, kind, text, reader):
     path = os.path.join(folder, kind)
     with open(path, "wb") as file:
         file.write(text)
-    run = subprocess.run([echo, kind, path], capture_output=True, timeout=600)
+    out, _, status = run([echo, kind, path])
     try:
         reader(text)
     except TextFault as fault:
-        demand(run.stdout == b"%s\n" % str(fault).encode() and run.returncode == 1, "%s: %r" % (fault, run.stdout[:80]))
+        demand(out == b"%s\n" % str(fault).encode() and status == 1, "%s: %r" % (fault, out[:80]))
         return str(fault).split()[0]
-    demand(run.stdout == text and run.returncode == 0, "a text that isn't written again: %r" % run.stdout[:80])
+    demand(out == text and status == 0, "a text that isn't written again: %r" % out[:80])
     return "whole"
 
 
@@ -202,12 +112,10 @@ def judge(programs, folder, seed, kind):
             return True, judge_check(program, folder, random)
         if kind == "refusals":
             return True, judge_refusal(program, folder, random)
-        if kind == "small":
-            return True, judge_solved(program, folder, random, random.randint(1, 6), bounding.least_by_routes, True)
-        return True, judge_solved(program, folder, random, random.randint(8, 25), bounding.least_by_labels, False)
+        if kind == "solve":
+            return True, judge_solve(program, folder, random, random.randint(1, 8), 30, True)
+        return True, judge_solve(program, folder, random, random.randint(9, 25), 3, False)
     except Disagreement as found:
         return False, str(found)
     except bounding.TooLong:
         return True, "left out, too many routes or labels"
-    except subprocess.TimeoutExpired:
-        return False, "the program didn't end"
