@@ -1,4 +1,1 @@
-pub mod Generators
-pub mod Settings
-pub mod Hubs
 pub mod Running

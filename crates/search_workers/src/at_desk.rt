@@ -1,15 +1,15 @@
 //! A desk beside the share of one worker.
 
 ghost use Rattle.std.specs.Prelude.{◌≡◌, IfErr};
-ghost use Rattle.search_workers.specs.Hubs.{GivesBack};
+ghost use Rattle.worker_turns.specs.Hubs.{GivesBack};
 
-use crate::hub::Hub;
 use branching::Arc;
 use desk::{Desk, LookFault, Naming, Share};
 use incumbent_book::{BookFault, Gap, Offered};
 use prices::Priced;
 use schedule::Feasible;
 use std::sync::Wait;
+use worker_turns::Hub;
 
 /// A desk beside the share of one worker. Its calls wait for the desk's lock.
 #[derive(Drop)]

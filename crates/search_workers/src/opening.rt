@@ -11,8 +11,6 @@ ghost use Rattle.search_workers.specs.Running.{IsOneOn};
 ghost use Rattle.search_workers.specs.declared.fault.RunFault.TheVariants.{Memory, LabelLimit};
 
 use crate::fault::RunFault;
-use crate::random::generator;
-use crate::settings::Settings;
 use branching::Region;
 use incumbent_book::{Book, BookFault, OpenFault};
 use insertion::{Built, InsertFault, Weights, build};
@@ -23,6 +21,7 @@ use schedule::Feasible;
 use search::Searcher;
 use solomon_reader::Instance;
 use std::alloc::{AllocError, Global};
+use worker_turns::{Settings, generator};
 
 /// The worker that offers the first plan.
 const FIRST_WORKER: u16 = 0;

@@ -10,18 +10,14 @@ ghost use Rattle.insertion.specs.Building.{IsServedAlone};
 ghost use Rattle.desk.specs.Tally.{each};
 ghost use Rattle.desk.specs.Blanks.{names_of, parts_of};
 ghost use Rattle.desk.specs.Opening.{HasPlanIf};
-ghost use Rattle.search_workers.specs.Settings.{IsWithin};
+ghost use Rattle.worker_turns.specs.Settings.{IsWithin};
 ghost use Rattle.search_workers.specs.Running.{RefusesSettings};
 ghost use Rattle.search_workers.specs.declared.fault.RunFault.TheVariants as refusal;
 
 use crate::at_desk::AtDesk;
 use crate::crew::{CrewFault, all_at_once};
 use crate::fault::RunFault;
-use crate::gate::Gate;
-use crate::nodes::Nodes;
 use crate::opening::Opening;
-use crate::random::generator;
-use crate::settings::Settings;
 use crate::worker::{Returned, Site, Task, Worker};
 use ceiling::{Ceiling, CeilingSeat};
 use desk::{Blanks, Desk, Naming, Share};
@@ -33,6 +29,7 @@ use std::alloc::{AllocError, Global};
 use std::marker::Brand;
 use std::sync::Wait;
 use std::thread::Threads;
+use worker_turns::{Gate, Nodes, Settings, generator};
 
 /// How many numbers each deque takes in its life.
 const PUSHES: usize = 1_000_000;
@@ -41,7 +38,7 @@ const PUSHES: usize = 1_000_000;
 const ROOT: u32 = 0;
 
 /// A worker that has this seat.
-fn seated<'a, 'i, H, G>(
+fn seat_worker<'a, 'i, H, G>(
     site: &'a Site<'a, 'i, G>,
     hub: H,
     number: u16,
@@ -129,7 +126,7 @@ struct Kit<J: Naming> {
 }
 
 /// The workers of a run, the last first.
-fn posted<'a, 'i, R: Wait, J: Naming, G>(
+fn post_workers<'a, 'i, R: Wait, J: Naming, G>(
     rt: &'a R,
     desk: &'a Desk<'i, J>,
     site: &'a Site<'a, 'i, G>,
@@ -160,13 +157,13 @@ fn posted<'a, 'i, R: Wait, J: Naming, G>(
         let number = shares.len();
         let task = next_task(number, site, plan, &mut hands, deques, &mut passes)?;
         let hub = AtDesk { rt, desk, share };
-        crew.push_reserved(seated(site, hub, number as u16, seat, task));
+        crew.push_reserved(seat_worker(site, hub, number as u16, seat, task));
     }
     Ok(crew)
 }
 
 /// The shares and the seats that the workers bring back.
-fn parted<'a, 'i, R: Wait, J: Naming>(
+fn take_back<'a, 'i, R: Wait, J: Naming>(
     back: Vec<Returned<AtDesk<'a, 'i, R, J>>>,
     mut shares: Vec<Share<J>>,
     mut seats: Vec<CeilingSeat>,
@@ -197,7 +194,7 @@ impl From<CrewFault> for RunFault {
 
 /// Lets all workers work at a desk, each in a thread of its own, and answers their shares and seats.
 #[tactic(auto, using(crate::proofs::Bringing::as_many))]
-fn worked<'i, R: Threads + Wait + Sync, J: Naming + Send + Sync, G: Gate + Sync>(
+fn work_together<'i, R: Threads + Wait + Sync, J: Naming + Send + Sync, G: Gate + Sync>(
     rt: &R,
     desk: &Desk<'i, J>,
     site: &Site<'_, 'i, G>,
@@ -218,9 +215,9 @@ fn worked<'i, R: Threads + Wait + Sync, J: Naming + Send + Sync, G: Gate + Sync>
     let workers = kit.shares.len();
     let shares = Vec::with_capacity(site.alloc, workers)?;
     let seats = Vec::with_capacity(site.alloc, workers)?;
-    let crew = posted(rt, desk, site, plan, kit, deques)?;
+    let crew = post_workers(rt, desk, site, plan, kit, deques)?;
     let back = all_at_once(rt, site.alloc, crew)?;
-    Ok(parted(back, shares, seats))
+    Ok(take_back(back, shares, seats))
 }
 
 /// The deques of the bound workers. The root stands in each, so that all begin there.
@@ -284,7 +281,7 @@ fn run_at_desk<'i, R: Threads + Wait + Sync, J: Naming + Send + Sync, G: Gate + 
         gate,
         ceiling: &ceiling,
     };
-    let (shares, seats) = worked(rt, &desk, &site, plan, kit, thieves.as_slice())?;
+    let (shares, seats) = work_together(rt, &desk, &site, plan, kit, thieves.as_slice())?;
     let _ = ceiling.close(seats);
     match desk.close(shares) {
         Ok(outcome) => Ok(outcome),

@@ -3,18 +3,13 @@
 ghost use Rattle.std.specs.Prelude.{◌≡◌};
 ghost use Rattle.ceiling.specs.Seats.{IsSeatOf};
 
-use crate::bounding::bound_worker;
 use crate::crew::Post;
-use crate::gate::Gate;
-use crate::hub::Hub;
-use crate::nodes::Nodes;
-use crate::searching::search_worker;
-use crate::settings::Settings;
 use ceiling::{Ceiling, CeilingSeat};
 use rand_xoshiro::Xoshiro256PlusPlus;
 use schedule::Feasible;
 use solomon_reader::Instance;
 use std::alloc::Global;
+use worker_turns::{Gate, Hub, Nodes, Settings, bound_worker, search_worker};
 
 /// What a worker does.
 #[derive(Drop)]

@@ -6,8 +6,8 @@ use Rattle.vrptw.specs.declared.answer.Answer.{Answer}
 use Rattle.vrptw.specs.declared.answer.SolveFault.{SolveFault}
 use Rattle.search_workers.specs.declared.fault.RunFault.{RunFault}
 use Rattle.search_workers.specs.declared.fault.RunFault.TheVariants as run
-use Rattle.search_workers.specs.declared.settings.Settings.{Settings}
-use Rattle.search_workers.specs.Settings.{IsWithin}
+use Rattle.worker_turns.specs.declared.settings.Settings.{Settings}
+use Rattle.worker_turns.specs.Settings.{IsWithin}
 use Rattle.search_workers.specs.Running.{RefusesSettings}
 use Rattle.vrptw.specs.declared.answer.SolveFault.TheVariants.{Memory, Instance, BadSettings, LabelLimit, NoThread, Device}
 use Rattle.vrptw.specs.Answers.{Held, IsFaultOfRun, Solves, WritesBoth}

@@ -6,7 +6,7 @@ use Rattle.vrptw.specs.Commands.{HasNumber, IsNumberIf}
 use Rattle.vrptw.specs.Jobs.{HasSettings, IsSameJob, Says, SaysAny}
 use Rattle.vrptw.specs.declared.jobs.Job.{Job}
 use Rattle.vrptw.specs.declared.jobs.Job.TheVariants.{Solve, Check}
-use Rattle.search_workers.specs.declared.settings.Settings.{Settings}
+use Rattle.worker_turns.specs.declared.settings.Settings.{Settings}
 
 -- no command has both names
 one_name : (name : Text) → name ≡ codes "solve" → name ≡ codes "check" → ⊥

@@ -5,7 +5,7 @@ use Rattle.clap.specs.Words.{App, Row, Rule, Shape, Text, app_of, new_app, new_r
 use Rattle.clap.specs.declared.builder.ValueParser.{ValueParser}
 use Rattle.clap.specs.declared.builder.ValueParser.TheVariants as parser
 use Rattle.solomon_reader.specs.declared.limits.TheConstants.{MOST_NEIGHBOURS}
-use Rattle.search_workers.specs.declared.settings.TheConstants.{MOST_BOUNDERS, MOST_LABELS, MOST_SEARCHERS, MOST_TURNS}
+use Rattle.worker_turns.specs.declared.settings.TheConstants.{MOST_BOUNDERS, MOST_LABELS, MOST_SEARCHERS, MOST_TURNS}
 use Rattle.vrptw.specs.declared.jobs.TheConstants.{MOST_STATES}
 use Rattle.clap.specs.declared.Command.{Command}
 use Rattle.clap.specs.declared.Command.TheViews.{out-Command as fields_of}

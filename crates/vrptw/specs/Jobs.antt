@@ -5,12 +5,12 @@ use Rattle.clap.specs.declared.Error.{Error}
 use Rattle.clap.specs.declared.error.ErrorKind.TheVariants.{OutOfMemory}
 use Rattle.vrptw.specs.declared.jobs.TheConstants.{MOST_STATES}
 use Rattle.vrptw.specs.Commands.{program, HasNumber}
-use Rattle.search_workers.specs.Settings.{IsWithin}
+use Rattle.worker_turns.specs.Settings.{IsWithin}
 use Rattle.vrptw.specs.declared.jobs.Job.{Job}
 use Rattle.vrptw.specs.declared.jobs.Job.TheVariants.{Solve, Check}
 use Rattle.vrptw.specs.declared.jobs.UsageFault.{UsageFault}
 use Rattle.vrptw.specs.declared.jobs.UsageFault.TheVariants.{Memory, Usage}
-use Rattle.search_workers.specs.declared.settings.Settings.{Settings}
+use Rattle.worker_turns.specs.declared.settings.Settings.{Settings}
 
 -- the rows of the arguments of `solve` have these numbers, each of which is within its range
 pub record HasSettings (rows : List Row) (settings : Settings) : Type 0 where

@@ -1,0 +1,229 @@
+//! A worker that raises the bound.
+
+ghost use Rattle.std.specs.Prelude.{◌≡◌, ◌≤◌};
+ghost use Rattle.ceiling.specs.Seats.{IsSeatOf};
+
+use crate::gate::{Gate, GatePoint};
+use crate::hub::Hub;
+use crate::nodes::{Nodes, Taken};
+use crate::pricing::{goal_of, price_child};
+use crate::refusal::Refusal;
+use crate::settings::Settings;
+use crate::spot::Spot;
+use branching::Arc;
+use ceiling::{Ceiling, CeilingSeat};
+use price_ascent::{RoutePool, raise};
+use prices::Priced;
+use schedule::Feasible;
+use solomon_reader::Instance;
+use std::alloc::Global;
+
+/// The children of a leaf by an arc, with their prices.
+struct Children<'i> {
+    arc: Arc,
+    used: Priced<'i>,
+    unused: Priced<'i>,
+}
+
+/// The children of a leaf by the arc that the routes met leave most open, if there is one to split
+/// by, with the leaf's prices.
+fn price_children<'i, G: Gate>(
+    spot: &Spot<'_, G>,
+    leaf: &Priced<'i>,
+    labels: usize,
+    pool: &RoutePool,
+) -> Result<Option<Children<'i>>, Refusal> {
+    let arcs = pool.branching_arcs(leaf.instance())?;
+    let region = leaf.region();
+    let Some(arc) = region.choose(arcs.as_slice()) else {
+        return Ok(None);
+    };
+    let used = price_child(spot.alloc, leaf, region.used(arc)?, labels)?;
+    let unused = price_child(spot.alloc, leaf, region.forbidden(arc)?, labels)?;
+    Ok(Some(Children { arc, used, unused }))
+}
+
+/// Splits a leaf, and lays both children into the worker's deque.
+fn split<'i, H: Hub<'i>, G: Gate>(
+    spot: &Spot<'_, G>,
+    hub: &mut H,
+    number: u32,
+    children: Children<'i>,
+    nodes: &mut Nodes<'_>,
+) -> Result<(), Refusal> {
+    let Children { arc, used, unused } = children;
+    match hub.split(number, arc, used, unused) {
+        Ok((first, second)) => {
+            spot.pass(GatePoint::Split);
+            nodes.push(first)?;
+            nodes.push(second)
+        }
+        Err((_, _, fault)) => Err(Refusal::from(fault)),
+    }
+}
+
+/// Gives the leaf its higher prices.
+fn reprice<'i, H: Hub<'i>>(hub: &mut H, number: u32, leaf: Priced<'i>) -> Result<(), Refusal> {
+    match hub.reprice(number, leaf) {
+        Ok(()) => Ok(()),
+        Err((_, fault)) => Err(Refusal::from(fault)),
+    }
+}
+
+/// Gives a leaf its raised prices where they end the work at it, or the root, to which the next turn
+/// returns; splits it elsewhere, with the raised prices at both children.
+fn bring<'i, H: Hub<'i>, G: Gate>(
+    spot: &Spot<'_, G>,
+    hub: &mut H,
+    number: u32,
+    leaf: Priced<'i>,
+    is_raised: bool,
+    target: u64,
+    labels: usize,
+    nodes: &mut Nodes<'_>,
+) -> Result<(), Refusal> {
+    if leaf.value() >= i128::from(target) {
+        return reprice(hub, number, leaf);
+    }
+    if is_raised && leaf.region().is_root() {
+        nodes.keep(number);
+        return reprice(hub, number, leaf);
+    }
+    match price_children(spot, &leaf, labels, &nodes.pool) {
+        Ok(Some(children)) => split(spot, hub, number, children, nodes),
+        Ok(None) | Err(Refusal::EndsTurn) => reprice(hub, number, leaf),
+        Err(Refusal::EndsWork) => Err(Refusal::EndsWork),
+    }
+}
+
+/// Offers the routes that make up the prices raised last, where they are a plan that is cheaper than
+/// those known.
+fn offer_routes<'i, H: Hub<'i>, G: Gate>(
+    spot: &Spot<'_, G>,
+    hub: &mut H,
+    instance: &'i Instance,
+    pool: &RoutePool,
+    seat: &mut CeilingSeat,
+) -> Result<(), Refusal>
+    requires { IsSeatOf spot.now.ceiling.now seat.old }
+    ensures { IsSeatOf spot.now.ceiling.now seat.new }
+{
+    let Ok(plan) = Feasible::check(instance, pool.main_routes()?) else {
+        return Ok(());
+    };
+    let cost = plan.cost().get();
+    if cost >= spot.ceiling.cost(seat) {
+        return Ok(());
+    }
+    match hub.offer(plan) {
+        Ok(_) => {
+            let _ = spot.ceiling.offer(seat, cost);
+            Ok(())
+        }
+        Err((_, fault)) => Err(Refusal::from(fault)),
+    }
+}
+
+/// Raises the value of a leaf, and brings what came of it to the book.
+fn work_at<'i, H: Hub<'i>, G: Gate>(
+    spot: &Spot<'_, G>,
+    hub: &mut H,
+    taken: Taken,
+    leaf: Priced<'i>,
+    labels: usize,
+    nodes: &mut Nodes<'_>,
+    seat: &mut CeilingSeat,
+) -> Result<(), Refusal>
+    requires { IsSeatOf spot.now.ceiling.now seat.old }
+    ensures { IsSeatOf spot.now.ceiling.now seat.new }
+{
+    let before = leaf.value();
+    let cost = hub.gap().cost;
+    let target = spot.ceiling.cost(seat);
+    let goal = goal_of(&leaf, nodes, cost, taken.is_again, target, labels);
+    let leaf = raise(spot.alloc, &mut nodes.pool, leaf, &goal);
+    spot.pass(GatePoint::Priced);
+    offer_routes(spot, hub, leaf.instance(), &nodes.pool, seat)?;
+    let target = spot.ceiling.cost(seat);
+    let is_raised = leaf.value() > before;
+    bring(
+        spot,
+        hub,
+        taken.number,
+        leaf,
+        is_raised,
+        target,
+        labels,
+        nodes,
+    )
+}
+
+/// Takes a node, unless there is none or cost and bound have met, and works at it, unless its value
+/// reaches the cost.
+fn turn<'i, H: Hub<'i>, G: Gate>(
+    spot: &Spot<'_, G>,
+    hub: &mut H,
+    labels: usize,
+    nodes: &mut Nodes<'_>,
+    seat: &mut CeilingSeat,
+) -> Result<(), Refusal>
+    requires { IsSeatOf spot.now.ceiling.now seat.old }
+    ensures { IsSeatOf spot.now.ceiling.now seat.new }
+{
+    if spot.is_closed(seat) {
+        return Ok(());
+    }
+    let Some(taken) = nodes.take() else {
+        return Ok(());
+    };
+    if taken.is_stolen {
+        spot.pass(GatePoint::Stolen);
+    }
+    let leaf = hub.look(taken.number)?;
+    spot.pass(GatePoint::Looked);
+    if leaf.value() >= i128::from(spot.ceiling.cost(seat)) {
+        return Ok(());
+    }
+    work_at(spot, hub, taken, leaf, labels, nodes, seat)?;
+    let _ = spot.ceiling.raise(seat, hub.gap().bound.get());
+    Ok(())
+}
+
+/// Makes as many turns as the settings say, or fewer where a refusal of memory or a full history,
+/// tree or deque ends the work, and answers how many.
+///
+/// In each turn the worker takes an open node of its own or steals one, and raises the value of the
+/// leaf. It gives the leaf the new prices at the root and where the value reaches the ceiling, else
+/// splits it; a leaf whose value had reached the ceiling is laid aside.
+/// A refusal of the hub ends the turn. Where the words for cost and bound have met, a turn does nothing.
+pub fn bound_worker<'i, H: Hub<'i>, G: Gate>(
+    alloc: Global,
+    hub: &mut H,
+    gate: &G,
+    worker: u16,
+    settings: &Settings,
+    mut nodes: Nodes<'_>,
+    ceiling: &Ceiling,
+    seat: &mut CeilingSeat,
+) -> u32
+    requires { IsSeatOf ceiling.now seat.old }
+    ensures turns { result ≤ settings.now.turns }
+    ensures seat { IsSeatOf ceiling.now seat.new }
+{
+    let spot = Spot {
+        alloc,
+        gate,
+        worker,
+        ceiling,
+    };
+    let labels = settings.labels as usize;
+    for made in 0..settings.turns {
+        spot.pass(GatePoint::Start);
+        let done = turn(&spot, hub, labels, &mut nodes, seat);
+        spot.pass(GatePoint::End);
+        if let Err(Refusal::EndsWork) = done {
+            return made + 1;
+        }
+    }
+    settings.turns
+}

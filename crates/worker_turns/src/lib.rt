@@ -1,0 +1,21 @@
+//! The turns of one worker: it looks for plans or raises bounds, and brings what it finds to a hub.
+#![tactic(auto)]
+
+mod bounding;
+mod gate;
+mod hub;
+mod nodes;
+mod pricing;
+mod random;
+mod refusal;
+mod searching;
+mod settings;
+mod spot;
+
+pub use bounding::bound_worker;
+pub use gate::{Gate, GatePoint, NoGate};
+pub use hub::Hub;
+pub use nodes::Nodes;
+pub use random::generator;
+pub use searching::search_worker;
+pub use settings::{MOST_BOUNDERS, MOST_LABELS, MOST_SEARCHERS, MOST_TURNS, Settings};
