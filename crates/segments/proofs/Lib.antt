@@ -1,6 +1,9 @@
 pub mod JoinedLists
 pub mod JoinedParts
 pub mod Closed
+pub mod Pairs
+pub mod Heights
+pub mod TreeLevels
 pub mod Stops
 pub mod KnownRoutes
 pub mod RouteChanges

@@ -3,6 +3,8 @@ pub mod Segments
 pub mod Joining
 pub mod Closing
 pub mod Chains
+pub mod Levels
+pub mod Stretches
 pub mod Trees
 pub mod PlanTrees
 pub mod RouteLending

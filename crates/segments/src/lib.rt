@@ -3,9 +3,11 @@
 
 mod fault;
 mod laws;
+mod levels;
 mod linked;
 mod plan_trees;
 mod segment;
+mod stretch;
 mod tree;
 
 pub use fault::TreeFault;

@@ -1,116 +1,25 @@
-//! Lists of items, with the joins of their parts.
+//! Lists of items, with the joins of their neighbours in levels.
 
 ghost use Rattle.std.specs.Prelude.{◌≡◌, ◌+◌, ◌<◌, ◌≤◌, ◌++◌, length, take, drop, slice_range, Some, option_copied, IfOk, IfErr, OnOk, OnErr};
-ghost use Rattle.segments.specs.Linked.{chain, both};
-ghost use Rattle.segments.specs.Trees.{AreFronts, AreBacks, items_of, IsTree, IsWhole};
+ghost use Rattle.segments.specs.Linked.{chain};
+ghost use Rattle.segments.specs.Levels.{AreLevels, IsHeight, binary_digits};
+ghost use Rattle.segments.specs.Trees.{items_of, IsTree, IsWhole, IsTall, IsBeginning};
 
 use crate::fault::TreeFault;
+use crate::levels::{height_of, level_above, lowest_level};
 use crate::linked::Linked;
+use crate::stretch::Stretch;
 use std::alloc::Global;
 
-/// A list of items that may be joined, with the joins of all its beginnings and of all its ends.
-/// Contracts see the items, and that the joins that it keeps are those of the items. Positions are
-/// counted from 0.
+/// A balanced tree over a list of items that may be joined: the lowest level has the items, and
+/// each next one the joins of its neighbours two by two. Contracts see the items, and that the joins
+/// that it keeps are those of the items. Positions are counted from 0.
 #[derive(Drop)]
 pub struct RouteTree<L> {
     alloc: Global,
     items: Vec<L>,
-    /// At k the join of the first k + 1 items.
-    fronts: Vec<Option<L>>,
-    /// At k the join of the last k + 1 items.
-    backs: Vec<Option<L>>,
-}
-
-/// The join of a list that isn't empty.
-fn join_all<L: Linked>(context: &L::Context, items: &[L]) -> Option<L>
-    requires { 0 < length items.now }
-    ensures { result ≡ chain (L.op context.now) items.now }
-{
-    let mut whole = items[0];
-    for i in 1..items.len() {
-        match L::join(context, &whole, &items[i]) {
-            Some(next) => whole = next,
-            None => return None,
-        }
-    }
-    Some(whole)
-}
-
-/// A join with one item after it.
-fn join_after<L: Linked>(context: &L::Context, before: Option<L>, item: &L) -> Option<L>
-    ensures { result ≡ both (L.op context.now) before (Some item.now) }
-{
-    match before {
-        Some(x) => L::join(context, &x, item),
-        None => None,
-    }
-}
-
-/// The join of the first i + 1 items, by that of the first i.
-fn next_front<L: Linked>(
-    context: &L::Context,
-    items: &[L],
-    i: usize,
-    before: Option<L>,
-) -> Option<L>
-    requires within { i < length items.now }
-    requires so_far { before ≡ chain (L.op context.now) (take i items.now) }
-    ensures { result ≡ chain (L.op context.now) (take (i + 1) items.now) }
-{
-    if i == 0 {
-        return Some(items[0]);
-    }
-    join_after(context, before, &items[i])
-}
-
-/// The join of the items from i on, by that of the items behind i.
-fn next_back<L: Linked>(context: &L::Context, items: &[L], i: usize, behind: Option<L>) -> Option<L>
-    requires within { i < length items.now }
-    requires so_far { behind ≡ chain (L.op context.now) (drop (i + 1) items.now) }
-    ensures { result ≡ chain (L.op context.now) (drop i items.now) }
-{
-    let item = items[i];
-    if i + 1 == items.len() {
-        return Some(item);
-    }
-    match behind {
-        Some(x) => L::join(context, &item, &x),
-        None => None,
-    }
-}
-
-/// The joins of all beginnings.
-fn fronts_of<L: Linked>(
-    alloc: Global,
-    context: &L::Context,
-    items: &[L],
-) -> Result<Vec<Option<L>>, TreeFault>
-    ensures { IfOk result (λ v. AreFronts (L.op context.now) items.now v.items) }
-{
-    let mut fronts = Vec::new(alloc);
-    let mut last = None;
-    for i in 0..items.len() {
-        last = next_front(context, items, i, last);
-        fronts.push(last)?;
-    }
-    Ok(fronts)
-}
-
-/// The joins of all ends.
-fn backs_of<L: Linked>(
-    alloc: Global,
-    context: &L::Context,
-    items: &[L],
-) -> Result<Vec<Option<L>>, TreeFault>
-    ensures { IfOk result (λ v. AreBacks (L.op context.now) items.now v.items) }
-{
-    let mut backs = Vec::new(alloc);
-    let mut last = None;
-    for k in 0..items.len() {
-        last = next_back(context, items, items.len() - 1 - k, last);
-        backs.push(last)?;
-    }
-    Ok(backs)
+    /// The lowest first.
+    levels: Vec<Vec<Option<L>>>,
 }
 
 impl<L: Linked> RouteTree<L> {
@@ -124,20 +33,60 @@ impl<L: Linked> RouteTree<L> {
         ensures tree { IfOk result (λ t. IsTree (L.op context.now) t) }
         ensures back { IfErr result (λ e. e.0 ≡ items) }
     {
-        let fronts = match fronts_of(alloc, context, items.as_slice()) {
-            Ok(fronts) => fronts,
-            Err(fault) => return Err((items, fault)),
-        };
-        let backs = match backs_of(alloc, context, items.as_slice()) {
-            Ok(backs) => backs,
-            Err(fault) => return Err((items, fault)),
-        };
-        Ok(RouteTree {
+        let empty = RouteTree {
             alloc,
-            items,
-            fronts,
-            backs,
-        })
+            items: Vec::new(alloc),
+            levels: Vec::new(alloc),
+        };
+        match empty.levels_with(context, items.as_slice(), 0) {
+            Ok(levels) => Ok(RouteTree {
+                alloc,
+                items,
+                levels,
+            }),
+            Err(fault) => Err((items, fault)),
+        }
+    }
+
+    /// The levels over other items, of which the first ones are kept, and so are the joins of these.
+    fn levels_with(
+        &self,
+        context: &L::Context,
+        items: &[L],
+        kept: usize,
+    ) -> Result<Vec<Vec<Option<L>>>, TreeFault>
+        requires tree { IsTree (L.op context.now) self.now }
+        requires same { take kept items.now ≡ take kept (items_of self.now) }
+        ensures { IfOk result (λ v. AreLevels (L.op context.now) items.now v.items) }
+    {
+        let mut levels = Vec::new(self.alloc);
+        let height = height_of(items.len());
+        if height == 0 {
+            return Ok(levels);
+        }
+        levels.push(lowest_level(self.alloc, items)?)?;
+        let mut kept = kept;
+        for k in 0..(height - 1) as usize {
+            kept /= 2;
+            let level = level_above(
+                self.alloc,
+                context,
+                levels[k].as_slice(),
+                self.beginning(k + 1, kept),
+            )?;
+            levels.push(level)?;
+        }
+        Ok(levels)
+    }
+
+    /// The first joins of a level, and none of a level that isn't there.
+    fn beginning(&self, k: usize, count: usize) -> &[Option<L>]
+        ensures { IsBeginning self.now.levels.items k count result.now }
+    {
+        match self.levels.get(k) {
+            Some(level) => &level[..count.min(level.len())],
+            None => &[],
+        }
     }
 
     /// The number of items.
@@ -147,11 +96,21 @@ impl<L: Linked> RouteTree<L> {
         self.items.len()
     }
 
+    /// The number of levels: none for no item, and else at most one more than the binary digits of the
+    /// length. It takes no memory.
+    pub fn height(&self) -> u32
+        ensures levels { IsTall self.now result }
+        ensures height { IsHeight (length (items_of self.now)) result }
+        ensures digits { result ≤ binary_digits (length (items_of self.now)) + 1 }
+    {
+        height_of(self.len())
+    }
+
     /// The join of all items, or `None` where they can't be joined or there is none.
     pub fn whole(&self) -> Option<&L>
         ensures { IsWhole self.now (option_copied result) }
     {
-        self.fronts.last()?.as_ref()
+        self.levels.last()?.first()?.as_ref()
     }
 
     /// The join of the items from a on and before b, or `None` where they can't be joined. It takes
@@ -162,13 +121,16 @@ impl<L: Linked> RouteTree<L> {
         requires within { b ≤ length (items_of self.now) }
         ensures { result ≡ chain (L.op context.now) (slice_range (items_of self.now) a b) }
     {
-        if a == 0 {
-            return self.fronts[b - 1];
+        let mut stretch = Stretch {
+            a,
+            b,
+            before: None,
+            behind: None,
+        };
+        for level in self.levels.as_slice() {
+            stretch = stretch.up(context, level.as_slice());
         }
-        if b == self.items.len() {
-            return self.backs[b - 1 - a];
-        }
-        join_all(context, &self.items[a..b])
+        stretch.closed(context)?
     }
 
     /// Puts the list in the place of the items from a on and before b; at `Err` nothing is changed.
@@ -190,11 +152,9 @@ impl<L: Linked> RouteTree<L> {
         items.extend_from_slice(&self.items[..a])?;
         items.extend_from_slice(list)?;
         items.extend_from_slice(&self.items[b..])?;
-        let fronts = fronts_of(self.alloc, context, items.as_slice())?;
-        let backs = backs_of(self.alloc, context, items.as_slice())?;
+        let levels = self.levels_with(context, items.as_slice(), a)?;
         self.items = items;
-        self.fronts = fronts;
-        self.backs = backs;
+        self.levels = levels;
         Ok(())
     }
 }

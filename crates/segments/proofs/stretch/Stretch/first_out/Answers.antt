@@ -1,0 +1,11 @@
+use Rattle.std.proofs.Common.{arith}
+use Rattle.segments.proofs.Pairs.{total-first, worth-first}
+use Rattle.segments.proofs.stretch.Stretch.first_out.Goals as goal
+
+pub returns-clause-worth : goal.returns-clause-worth
+returns-clause-worth g c =
+    let op = g.L.Linked.op c.args.context.now in
+    let law = g.met.L.Linked.law c.args.context.now in
+    let s = c.args.self in
+    let cut = total-first op law c.args.level.now s.a s.b c.index-level-self.result (omega arith) (omega arith) c.index-level-self.is in
+    rw c.join_beside-before.ensures (worth-first op law s.before s.behind _ _ c.index-level-self.result cut)
