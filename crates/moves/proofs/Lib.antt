@@ -1,5 +1,6 @@
 pub mod RouteLengths
 pub mod Searching
+pub mod RoutePieces
 pub mod Rebuilding
 pub mod Swaps
 pub mod Chains

@@ -71,7 +71,7 @@ module _ {M : Type 0} (Before : M → M → Type 0) (Values : M → ℤ → Type
 
 -- MOVES IN ORDER
 
-asymmetric : (xs ys : List ℕ) → AreBefore xs ys → AreBefore ys xs → ⊥
+pub asymmetric : (xs ys : List ℕ) → AreBefore xs ys → AreBefore ys xs → ⊥
 asymmetric [] [] h k = h
 asymmetric [] (y ∷ ys) h k = h
 asymmetric (x ∷ xs) [] h k = h
@@ -161,7 +161,7 @@ behind_places : (a i b j c k d l : ℕ) → AreBefore (a ∷ i ∷ 0 ∷ b ∷ j
 behind_places a i b j c k d l h =
     behind_place a c i k (b ∷ j ∷ 0 ∷ []) (d ∷ l ∷ 0 ∷ []) (b ∷ j ∷ []) (d ∷ l ∷ []) (behind_place b d j l [] [] [] [] (λ h. h)) h
 
-before_by_numbers : (m n : Move) → kind_of m ≡ kind_of n → AreBefore (numbers m) (numbers n) → IsBefore m n
+pub before_by_numbers : (m n : Move) → kind_of m ≡ kind_of n → AreBefore (numbers m) (numbers n) → IsBefore m n
 before_by_numbers (Relocate f t) (Relocate g u) e h = behind_places f.route f.position t.route t.position g.route g.position u.route u.position h
 before_by_numbers (Exchange f t) (Exchange g u) e h = behind_places f.route f.position t.route t.position g.route g.position u.route u.position h
 before_by_numbers (OrOpt c t) (OrOpt d u) e h =
@@ -174,7 +174,7 @@ before_by_numbers m n e h = absurd (grind arith)
 one_number : (xs ys : List ℕ) (i : ℕ) → xs ≡ ys → get_or xs i 0 ≡ get_or ys i 0
 one_number xs ys i e = ap (λ zs. get_or zs i 0) e
 
-same_move : (m n : Move) → kind_of m ≡ kind_of n → numbers m ≡ numbers n → m ≡ n
+pub same_move : (m n : Move) → kind_of m ≡ kind_of n → numbers m ≡ numbers n → m ≡ n
 same_move (Relocate f t) (Relocate g u) e h =
     let n = one_number (numbers (Relocate f t)) (numbers (Relocate g u)) in
     λ k. Relocate (record { route = n 0 h k; position = n 1 h k }) (record { route = n 3 h k; position = n 4 h k })
@@ -192,7 +192,7 @@ same_move (Cross f t) (Cross g u) e h =
     λ k. Cross (record { route = n 0 h k; position = n 1 h k; length = n 2 h k }) (record { route = n 3 h k; position = n 4 h k; length = n 5 h k })
 same_move m n e h = absurd (grind arith)
 
-six : (n : Move) → length (numbers n) ≡ 6
+pub six : (n : Move) → length (numbers n) ≡ 6
 six (Relocate f t) = omega arith
 six (Exchange f t) = omega arith
 six (OrOpt c t) = omega arith

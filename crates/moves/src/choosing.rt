@@ -25,7 +25,7 @@ fn place_of(chain: &Chain) -> Place
 }
 
 /// The move of a kind by its numbers. A length that the kind lacks is 0.
-fn candidate_of(kind: Kind, first: &Chain, second: &Chain) -> Move
+pub fn candidate_of(kind: Kind, first: &Chain, second: &Chain) -> Move
     requires first { IsFirstLength kind first.now.length }
     requires second { IsSecondLength kind second.now.length }
     ensures kind { kind_of result ≡ kind }
@@ -51,7 +51,10 @@ fn candidate_of(kind: Kind, first: &Chain, second: &Chain) -> Move
 }
 
 /// The better of two answers: the earlier one, unless the later has a lower value.
-fn better(earlier: Option<(Move, i64)>, later: Option<(Move, i64)>) -> Option<(Move, i64)>
+pub(crate) fn better(
+    earlier: Option<(Move, i64)>,
+    later: Option<(Move, i64)>,
+) -> Option<(Move, i64)>
     ensures { result ≡ better earlier later }
 {
     match (earlier, later) {
@@ -153,7 +156,7 @@ fn best_from_position(
 }
 
 /// The best of the moves with this first route.
-fn best_from_route(trees: &PlanTrees<'_>, kind: Kind, route: u16) -> Option<(Move, i64)>
+pub(crate) fn best_from_route(trees: &PlanTrees<'_>, kind: Kind, route: u16) -> Option<(Move, i64)>
     requires { AreOfPlan trees.now }
     ensures { IsBestInRange (problem_of trees.now) (visits_of trees.now) kind [] route (route + 1) result }
 {

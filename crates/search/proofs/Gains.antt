@@ -12,7 +12,9 @@ use Rattle.moves.specs.declared.candidate.Kind.{Kind}
 use Rattle.moves.specs.declared.candidate.Kind.TheVariants as kind
 use Rattle.moves.specs.Values.{IsWellFormed, after, HasValue}
 use Rattle.moves.specs.Order.{kind_of, IsFirstLeast, IsBest}
-use Rattle.search.specs.Searching.{IsGain, HasNoGain, IsBestGain, rank_of, IsFirstGain}
+use Rattle.gains.specs.Gains.{IsGain}
+use Rattle.working_plan.specs.Gains.{HasNoGain, IsBestGain}
+use Rattle.search.specs.Searching.{rank_of, IsFirstGain}
 
 pub no_best : (p : Problem) (routes : List (List ℕ)) (k : Kind) → IsBest p routes k None → HasNoGain p routes k
 no_best p routes k none = record { none = λ m e gain. none m gain.0 e gain.1 }

@@ -1,92 +1,54 @@
 //! Descents: moves that make a plan cheaper, until there is none.
 
-ghost use Rattle.std.specs.Prelude.{◌≡◌, ◌<◌, ◌≤◌, IfOk, IfErr, IfSome, IfNone};
-ghost use Rattle.segments.specs.PlanTrees.{problem_of};
+ghost use Rattle.std.specs.Prelude.{◌≡◌, ◌<◌, ◌≤◌, OnOk, OnErr, IfSome, IfNone};
 ghost use Rattle.moves.specs.Values.{after};
-ghost use Rattle.moves.specs.Trees.{visits_of, AreOfPlan};
 ghost use Rattle.solomon_reader.specs.Moves.{IsLocalOptimum};
-ghost use Rattle.search.specs.Searching.{IsGain, HasNoGain, IsBestGain, IsFirstGain, Descends};
+ghost use Rattle.gains.specs.Gains.{IsGain};
+ghost use Rattle.search.specs.Searching.{IsFirstGain, Descends};
 
 use crate::fault::SearchFault;
-use moves::{KINDS, Kind, Move, MoveFault, apply, best, trees_of};
-use schedule::Feasible;
-use segments::PlanTrees;
-use std::alloc::Global;
+use moves::{KINDS, Move, MoveFault};
+use working_plan::WorkingPlan;
 
-/// The best move of a kind where it makes the plan cheaper, or `None` where no move of the kind
-/// does.
-fn gain_of_kind(trees: &PlanTrees<'_>, kind: Kind) -> Option<Move>
-    requires { AreOfPlan trees.now }
-    ensures gain { IfSome result (λ m. IsBestGain (problem_of trees.now) (visits_of trees.now) kind m) }
-    ensures none { IfNone result (HasNoGain (problem_of trees.now) (visits_of trees.now) kind) }
-{
-    let (candidate, change) = best(trees, kind)?;
-    if change < 0 { Some(candidate) } else { None }
-}
-
-/// The best move of the first kind that makes the plan cheaper, or `None` where no kind does.
-fn first_gain(trees: &PlanTrees<'_>) -> Option<Move>
-    requires { AreOfPlan trees.now }
-    ensures gain { IfSome result (λ m. IsFirstGain (problem_of trees.now) (visits_of trees.now) m) }
-    ensures none { IfNone result (IsLocalOptimum (problem_of trees.now) (visits_of trees.now)) }
+/// The best move of the first kind that makes the plan cheaper, or `None` where no single move does.
+fn first_gain(plan: &mut WorkingPlan<'_>) -> Option<Move>
+    ensures unchanged { plan.new ≡ plan.old }
+    ensures gain { IfSome result (λ m. IsFirstGain plan.old.problem plan.old.routes m) }
+    ensures none { IfNone result (IsLocalOptimum plan.old.problem plan.old.routes) }
 {
     for kind in KINDS {
-        if let Some(candidate) = gain_of_kind(trees, kind) {
+        if let Some(candidate) = plan.best_gain(kind) {
             return Some(candidate);
         }
     }
     None
 }
 
-/// The best move of the first kind that makes the plan cheaper, or `None` where no single move does.
-fn gain(alloc: Global, plan: &Feasible<'_>) -> Result<Option<Move>, SearchFault>
-    ensures gain { IfOk result (λ r. IfSome r (λ m. IsFirstGain plan.now.problem plan.now.routes m)) }
-    ensures none { IfOk result (λ r. IfNone r (IsLocalOptimum plan.now.problem plan.now.routes)) }
+/// Makes a move that makes the plan cheaper: `Memory`, and the plan stays then.
+fn make_gain(plan: &mut WorkingPlan<'_>, candidate: &Move) -> Result<(), SearchFault>
+    requires { IsGain plan.old.problem plan.old.routes candidate.now }
+    ensures problem { plan.new.problem ≡ plan.old.problem }
+    ensures routes { OnOk result (plan.new.routes ≡ after plan.old.routes candidate.now) }
+    ensures cheaper { OnOk result (plan.new.cost < plan.old.cost) }
+    ensures unchanged { OnErr result (plan.new ≡ plan.old) }
 {
-    let trees = trees_of(alloc, plan)?;
-    Ok(first_gain(&trees))
-}
-
-/// The plan after a move that makes it cheaper, or the plan again: `Memory`.
-fn cheaper<'i>(
-    alloc: Global,
-    plan: Feasible<'i>,
-    candidate: &Move,
-) -> Result<Feasible<'i>, (Feasible<'i>, SearchFault)>
-    requires { IsGain plan.problem plan.routes candidate.now }
-    ensures problem { IfOk result (λ f. f.problem ≡ plan.entry.problem) }
-    ensures routes { IfOk result (λ f. f.routes ≡ after plan.entry.routes candidate.now) }
-    ensures cheaper { IfOk result (λ f. f.cost < plan.entry.cost) }
-    ensures back { IfErr result (λ e. e.0 ≡ plan.entry) }
-{
-    match apply(alloc, plan, candidate) {
-        Ok(after) => Ok(after),
-        Err((before, MoveFault::Memory)) => Err((before, SearchFault::Memory)),
-        Err((_, MoveFault::NotFeasible)) => unreachable!(),
+    match plan.apply(candidate) {
+        Ok(()) => Ok(()),
+        Err(MoveFault::Memory) => Err(SearchFault::Memory),
+        Err(MoveFault::NotFeasible) => unreachable!(),
     }
 }
 
-/// The plan after the best moves of the first kinds that make it cheaper, one after the other, until
-/// no kind does. Where memory was refused, the plan that it has come to.
-pub fn descend<'i>(
-    alloc: Global,
-    plan: Feasible<'i>,
-) -> Result<Feasible<'i>, (Feasible<'i>, SearchFault)>
-    ensures problem { IfOk result (λ f. f.problem ≡ plan.entry.problem) }
-    ensures cost { IfOk result (λ f. f.cost ≤ plan.entry.cost) }
-    ensures steps { IfOk result (λ f. Descends f.problem plan.entry.routes f.routes) }
-    ensures optimum { IfOk result (λ f. IsLocalOptimum f.problem f.routes) }
-    ensures problem_at_fault { IfErr result (λ e. e.0.problem ≡ plan.entry.problem) }
-    ensures cost_at_fault { IfErr result (λ e. e.0.cost ≤ plan.entry.cost) }
-    ensures steps_at_fault { IfErr result (λ e. Descends e.0.problem plan.entry.routes e.0.routes) }
+/// Makes the best moves of the first kinds that make the plan cheaper, one after the other, until no
+/// kind does. Where memory was refused, the plan that it has come to stays.
+pub fn descend(plan: &mut WorkingPlan<'_>) -> Result<(), SearchFault>
+    ensures problem { plan.new.problem ≡ plan.old.problem }
+    ensures cost { plan.new.cost ≤ plan.old.cost }
+    ensures steps { Descends plan.old.problem plan.old.routes plan.new.routes }
+    ensures optimum { OnOk result (IsLocalOptimum plan.new.problem plan.new.routes) }
 {
-    let mut held = plan;
-    loop {
-        let candidate = match gain(alloc, &held) {
-            Ok(Some(candidate)) => candidate,
-            Ok(None) => return Ok(held),
-            Err(fault) => return Err((held, fault)),
-        };
-        held = cheaper(alloc, held, &candidate)?;
+    while let Some(candidate) = first_gain(plan) {
+        make_gain(plan, &candidate)?;
     }
+    Ok(())
 }

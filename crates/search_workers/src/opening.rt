@@ -21,6 +21,7 @@ use schedule::Feasible;
 use search::Searcher;
 use solomon_reader::Instance;
 use std::alloc::{AllocError, Global};
+use std::thread::Threads;
 use worker_turns::{Settings, generator};
 
 /// The worker that offers the first plan.
@@ -56,12 +57,17 @@ fn build_plan<'i>(alloc: Global, instance: &'i Instance) -> Result<Option<Feasib
     }
 }
 
-/// The plan that a descent leads to, or as far as memory lets it come.
-fn descend<'i>(alloc: Global, plan: Feasible<'i>, seed: u32) -> Feasible<'i>
+/// The plan that a descent in several threads leads to, or as far as memory lets it come.
+fn descend<'i, R: Threads + Sync>(
+    rt: &R,
+    alloc: Global,
+    plan: Feasible<'i>,
+    seed: u32,
+) -> Feasible<'i>
     ensures { result.problem ≡ plan.entry.problem }
 {
     let mut searcher = Searcher::new(alloc, plan, generator(seed, FIRST_WORKER));
-    let _ = searcher.descend();
+    let _ = searcher.descend_parallel(rt);
     searcher.into_plan()
 }
 
@@ -141,7 +147,8 @@ fn offer<'i>(book: &mut Book<'i>, plan: Feasible<'i>) -> Result<(), RunFault>
 
 /// Offers a plan, and what a descent makes of it where that is cheaper; answers the plan to go on
 /// from.
-fn offer_both<'i>(
+fn offer_both<'i, R: Threads + Sync>(
+    rt: &R,
     alloc: Global,
     book: &mut Book<'i>,
     plan: Feasible<'i>,
@@ -155,7 +162,7 @@ fn offer_both<'i>(
     ensures memory { IfErr result (λ e. e ≡ Memory) }
 {
     let cost = plan.cost();
-    let lower = descend(alloc, plan.try_clone()?, seed);
+    let lower = descend(rt, alloc, plan.try_clone()?, seed);
     offer(book, plan)?;
     if lower.cost().get() < cost.get() {
         offer(book, lower.try_clone()?)?;
@@ -166,7 +173,8 @@ fn offer_both<'i>(
 impl<'i> Opening<'i> {
     /// A book of the root that was offered the first plan and what a descent makes of it, if insertion
     /// builds one.
-    pub(crate) fn new(
+    pub(crate) fn new<R: Threads + Sync>(
+        rt: &R,
         alloc: Global,
         instance: &'i Instance,
         settings: &Settings,
@@ -185,7 +193,7 @@ impl<'i> Opening<'i> {
         };
         let root = start_from(alloc, root, &plan, settings.labels);
         let mut book = open_book(alloc, root)?;
-        let plan = offer_both(alloc, &mut book, plan, settings.seed)?;
+        let plan = offer_both(rt, alloc, &mut book, plan, settings.seed)?;
         Ok(Opening {
             book,
             plan: Some(plan),

@@ -311,7 +311,7 @@ pub fn run<'i, R: Threads + Wait + Sync, G: Gate + Sync>(
     if !settings.is_within() {
         return Err(RunFault::BadSettings);
     }
-    let Opening { book, plan } = Opening::new(alloc, instance, settings)?;
+    let Opening { book, plan } = Opening::new(rt, alloc, instance, settings)?;
     let workers = settings.searchers + settings.bounders;
     run_at_desk::<R, Brand, G>(
         rt,

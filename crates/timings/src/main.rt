@@ -1,22 +1,28 @@
 //! Small programs for the benchmark. Words: `labels` with an instance's file, a certificate's and the most
-//! labels, `ascent` with an instance's file and the number of neighbours, or `book` with an instance's
-//! file and the number of leaves; behind them `times` where the times are to be printed, too. More such
-//! words may follow. The status is 2 where the words or the files are not such.
+//! labels, `ascent` with an instance's file and the number of neighbours, `book` with an instance's file
+//! and the number of leaves, `bests` with an instance's file and the number of runs, or `turns` with an
+//! instance's file and the number of turns; behind them `times` where the times are to be printed, too. More
+//! such words may follow. The status is 2 where the words or the files are not such.
 #![tactic(auto)]
 
 mod ascents;
+mod bests;
 mod books;
 mod filling;
 mod labels;
 mod starts;
 mod texts;
+mod turns;
 
 use crate::ascents::tell_ascents;
+use crate::bests::tell_bests;
 use crate::books::tell_book;
 use crate::labels::tell_labels;
+use crate::turns::tell_turns;
 use solomon_reader::Instance;
 use std::process::ExitCode;
 use std::rt::Runtime;
+use std::thread::Threads;
 use std::{env, fs, io};
 
 /// The instance of a file, if it holds one.
@@ -47,7 +53,11 @@ fn tell_labels_at<R: Runtime + AllocGlobal>(
 }
 
 /// Prints what a mode prints by its words, the mode among them, and says whether they are right.
-fn tell<R: Runtime + AllocGlobal>(rt: &R, words: &[String], times: bool) -> io::Result<bool> {
+fn tell<R: Runtime + AllocGlobal + Threads + Sync>(
+    rt: &R,
+    words: &[String],
+    times: bool,
+) -> io::Result<bool> {
     if words.len() < 3 {
         return Ok(false);
     }
@@ -59,7 +69,9 @@ fn tell<R: Runtime + AllocGlobal>(rt: &R, words: &[String], times: bool) -> io::
     };
     match words[0].as_str() {
         "ascent" => tell_ascents(rt, &instance, number, times)?,
+        "bests" => tell_bests(rt, &instance, number, times)?,
         "book" => tell_book(rt, &instance, number, times)?,
+        "turns" => tell_turns(rt, &instance, number, times)?,
         _ => return tell_labels_at(rt, &instance, words[2].as_str(), number as usize, times),
     }
     Ok(true)
@@ -69,12 +81,12 @@ fn tell<R: Runtime + AllocGlobal>(rt: &R, words: &[String], times: bool) -> io::
 fn count_of(mode: &str) -> Option<usize> {
     match mode {
         "labels" => Some(4),
-        "ascent" | "book" => Some(3),
+        "ascent" | "bests" | "book" | "turns" => Some(3),
         _ => None,
     }
 }
 
-fn run<R: Runtime + AllocGlobal>(rt: &R) -> io::Result<bool> {
+fn run<R: Runtime + AllocGlobal + Threads + Sync>(rt: &R) -> io::Result<bool> {
     let words: Vec<String> = env::args(rt)?.skip(1).collect(rt.alloc())?;
     let mut rest = words.as_slice();
     for _ in 0..words.len() {

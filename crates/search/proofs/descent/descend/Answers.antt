@@ -1,14 +1,16 @@
-use Rattle.std.proofs.Common.{◌≡◌, ◌∙◌, arith}
+use Rattle.std.proofs.Common.{◌∙◌, arith}
+use Rattle.search.specs.Searching.{IsFirstGain}
 use Rattle.search.proofs.Steps.{descends_next}
 use Rattle.search.proofs.descent.descend.Goals as goal
 
 pub loop-candidate-preserved : goal.loop-candidate-preserved
 loop-candidate-preserved c =
-    let same : c.in_ok-held.held.problem ≡ c.loop-candidate.held.problem = c.in_ok-held.ensures.problem in
     let before = c.loop-candidate.invariant in
-    let gain = rw c.in-Ok-Some.field-0-is at c.in-Ok-Some.ensures.gain in
+    let unchanged = c.first_gain.ensures.unchanged in
+    let made = c.in_ok-make_gain.ensures in
+    let gain : IsFirstGain c.args.plan.now.problem c.loop-candidate.plan.routes c.in-Some.candidate = rw before.problem at c.in-Some.ensures.gain in
     record {
-      problem = same ∙ before.problem;
-      cost = omega (arith, c.in_ok-held.ensures.cheaper);
-      steps = rw same (descends_next _ _ _ _ c.in-Ok-Some.candidate before.steps gain c.in_ok-held.ensures.routes);
+      problem = (rw unchanged at made.problem) ∙ before.problem;
+      cost = let below = rw unchanged at made.cheaper in omega (arith, below, before.cost);
+      steps = descends_next _ _ _ _ c.in-Some.candidate before.steps gain (rw unchanged at made.routes);
     }

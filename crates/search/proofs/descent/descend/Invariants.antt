@@ -4,10 +4,10 @@ use Rattle.search.proofs.descent.descend.Given as goal
 
 abbrev pub invariant-loop-candidate : goal.invariant-loop-candidate
 invariant-loop-candidate l = record {
-  problem : l.held.problem ≡ l.fn.plan.problem;
-  cost : l.held.cost ≤ l.fn.plan.cost;
-  steps : Descends l.held.problem l.fn.plan.routes l.held.routes;
+  problem : l.plan.problem ≡ l.fn.plan.problem;
+  cost : l.plan.cost ≤ l.fn.plan.cost;
+  steps : Descends l.fn.plan.problem l.fn.plan.routes l.plan.routes;
 }
 
 abbrev pub decreases-loop-candidate : goal.decreases-loop-candidate
-decreases-loop-candidate l = l.held.cost
+decreases-loop-candidate l = l.plan.cost

@@ -3,4 +3,4 @@ use Rattle.search.specs.Searching.{IsShaken}
 use Rattle.search.proofs.shaking.shake.Given as goal
 
 abbrev pub invariant-loop : goal.invariant-loop
-invariant-loop g l = (l.held.problem ≡ l.fn.plan.problem) × IsShaken l.fn.plan.problem l.counter l.fn.plan.routes l.held.routes
+invariant-loop g l = (l.plan.problem ≡ l.fn.plan.problem) × IsShaken l.fn.plan.problem l.counter l.fn.plan.routes l.plan.routes

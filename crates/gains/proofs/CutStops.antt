@@ -1,0 +1,103 @@
+-- The stops round a chain, by their positions.
+use Rattle.std.proofs.Common.{◌≡◌, refl, ℕ, zero, suc, ◌+◌, ◌-◌, ◌<◌, ◌≤◌, true, false, List, [], ◌∷◌, length, get_or, take, drop, ap, ◌∙◌, arith, length-drop}
+use Rattle.std.specs.List.{AllByRecursion}
+use Rattle.std.proofs.lemmas.List.{get_or_past, get_or-drop}
+use Rattle.solomon_reader.specs.Problem.{Problem, IsCustomer, customer_count}
+use Rattle.solomon_reader.specs.Plan.{IsPlan, IsFitting}
+use Rattle.solomon_reader.specs.Moves.{route, has_stop, part}
+use Rattle.segments.specs.Segments.{first_of, last_of, last_from}
+use Rattle.gains.specs.declared.cuts.Cut.{Cut}
+use Rattle.gains.specs.Cuts.{IsCut, IsKnownCut}
+
+pub last_taken : (x : ℕ) (r : List ℕ) (i : ℕ) → i < length r → last_from x (take (suc i) r) ≡ get_or r i 0
+last_taken x [] i h = absurd (omega arith)
+last_taken x (j ∷ r) zero h = refl
+last_taken x (j ∷ r) (suc i) h = last_taken j r i (omega arith)
+
+pub first_dropped : (r : List ℕ) (k : ℕ) → first_of (drop k r) ≡ get_or r k 0
+first_dropped [] zero = refl
+first_dropped [] (suc k) = refl
+first_dropped (j ∷ r) zero = refl
+first_dropped (j ∷ r) (suc k) = first_dropped r k
+
+first_taken : (r : List ℕ) (l : ℕ) → first_of (take (suc l) r) ≡ first_of r
+first_taken [] l = refl
+first_taken (j ∷ r) l = refl
+
+last_is : (r : List ℕ) → last_of r ≡ last_from 0 r
+last_is [] = refl
+last_is (j ∷ r) = refl
+
+some_taken : (r : List ℕ) (l : ℕ) → 0 < length r → has_stop (take (suc l) r) ≡ true
+some_taken [] l h = absurd (omega arith)
+some_taken (j ∷ r) l h = refl
+
+module _ (r : List ℕ) (i l : ℕ) where
+  pub before_position : 0 < i → i ≤ length r → last_from 0 (take i r) ≡ get_or r (i - 1) 0
+  before_position some h = let e : i ≡ suc (i - 1) = omega arith in ap (λ n. last_from 0 (take n r)) e ∙ last_taken 0 r (i - 1) (omega arith)
+
+  pub first_position : 0 < l → first_of (part r i l) ≡ get_or r i 0
+  first_position some = let e : l ≡ suc (l - 1) = omega arith in rw e (first_taken (drop i r) (l - 1) ∙ first_dropped r i)
+
+  pub last_position : 0 < l → i + l ≤ length r → last_of (part r i l) ≡ get_or r (i + l - 1) 0
+  last_position some h =
+      let e : l ≡ suc (l - 1) = omega arith in
+      let at : i + (l - 1) ≡ i + l - 1 = omega arith in
+      last_is (part r i l)
+      ∙ ap (λ n. last_from 0 (take n (drop i r))) e
+      ∙ last_taken 0 (drop i r) (l - 1) (omega (arith, length-drop i r))
+      ∙ get_or-drop i r (l - 1) 0
+      ∙ ap (λ n. get_or r n 0) at
+
+  pub some_position : 0 < l → i + l ≤ length r → has_stop (part r i l) ≡ true
+  some_position some h = let e : l ≡ suc (l - 1) = omega arith in rw e (some_taken (drop i r) (l - 1) (omega (arith, length-drop i r)))
+
+  pub nothing_some : l ≡ 0 → false ≡ has_stop (part r i l)
+  nothing_some e = rw e refl
+
+  pub nothing_first : l ≡ 0 → 0 ≡ first_of (part r i l)
+  nothing_first e = rw e refl
+
+  pub nothing_last : l ≡ 0 → 0 ≡ last_of (part r i l)
+  nothing_last e = rw e refl
+
+known_at : (p : Problem) (r : List ℕ) → AllByRecursion (IsCustomer p) r → (k : ℕ) → get_or r k 0 ≤ customer_count p
+known_at p [] all k = let h : 0 ≤ k = omega arith in let e : get_or {A = ℕ} [] k 0 ≡ 0 = get_or_past {X = ℕ} [] k 0 h in omega (arith, e)
+known_at p (j ∷ r) all zero = all.0.1
+known_at p (j ∷ r) all (suc k) = known_at p r all.1 k
+
+fitting_known : (p : Problem) (routes : List (List ℕ)) → AllByRecursion (IsFitting p) routes → (a : ℕ) → AllByRecursion (IsCustomer p) (route routes a)
+fitting_known p [] all a = tt
+fitting_known p (r ∷ routes) all zero = all.0.known
+fitting_known p (r ∷ routes) all (suc a) = fitting_known p routes all.1 a
+
+first_known : (p : Problem) (r : List ℕ) → AllByRecursion (IsCustomer p) r → first_of r ≤ customer_count p
+first_known p [] all = omega arith
+first_known p (j ∷ r) all = all.0.1
+
+last_known : (p : Problem) (x : ℕ) (r : List ℕ) → x ≤ customer_count p → AllByRecursion (IsCustomer p) r → last_from x r ≤ customer_count p
+last_known p x [] h all = h
+last_known p x (j ∷ r) h all = last_known p j r all.0.1 all.1
+
+all_taken : (p : Problem) (n : ℕ) (r : List ℕ) → AllByRecursion (IsCustomer p) r → AllByRecursion (IsCustomer p) (take n r)
+all_taken p zero r all = tt
+all_taken p (suc n) [] all = tt
+all_taken p (suc n) (j ∷ r) all = (all.0, all_taken p n r all.1)
+
+all_dropped : (p : Problem) (n : ℕ) (r : List ℕ) → AllByRecursion (IsCustomer p) r → AllByRecursion (IsCustomer p) (drop n r)
+all_dropped p zero r all = all
+all_dropped p (suc n) [] all = tt
+all_dropped p (suc n) (j ∷ r) all = all_dropped p n r all.1
+
+-- the stops of a cut of a plan's route are known
+pub known_cut : (p : Problem) (routes : List (List ℕ)) (a i l : ℕ) (c : Cut) → IsPlan p routes → IsCut (route routes a) i l c → IsKnownCut p c
+known_cut p routes a i l c plan is =
+    let r = route routes a in
+    let all = fitting_known p routes plan.fitting a in
+    let chain = all_taken p l (drop i r) (all_dropped p i r all) in
+    record {
+      before = rw is.before (last_known p 0 (take i r) (omega arith) (all_taken p i r all));
+      first = rw is.first (first_known p (part r i l) chain);
+      last = rw (is.last, last_is (part r i l)) (last_known p 0 (part r i l) (omega arith) chain);
+      behind = rw is.behind (first_known p (drop (i + l) r) (all_dropped p (i + l) r all));
+    }

@@ -1,0 +1,11 @@
+pub mod NumbersBefore
+pub mod CutStops
+pub mod ExactChanges
+pub mod GainSearching
+pub mod MoveChanges
+pub mod TwoRoutes
+pub mod Origins
+pub mod Renumbering
+pub mod LastingMarks
+pub mod ShiftedChains
+pub mod KeptMarks

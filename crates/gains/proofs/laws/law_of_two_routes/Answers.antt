@@ -1,0 +1,5 @@
+use Rattle.gains.proofs.TwoRoutes.{two_routes}
+use Rattle.gains.proofs.laws.law_of_two_routes.Goals as goal
+
+pub returns : goal.returns
+returns c = two_routes

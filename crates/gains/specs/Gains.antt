@@ -1,0 +1,104 @@
+-- Moves that make a plan cheaper, and the best of them.
+use Rattle.std.specs.Prelude.{◌≡◌, ℕ, ◌+◌, ◌<◌, Bool, true, slice_index_or, ◌⊎◌, List, ◌∷◌, [], length, ◌-◌, ℤ, pos, ◌<ℤ◌, Option, Some, None, MatchOption}
+use Rattle.solomon_reader.specs.Problem.{Problem}
+use Rattle.solomon_reader.specs.Moves.{route}
+use Rattle.moves.specs.declared.candidate.Chain.{Chain}
+use Rattle.gains.specs.declared.cuts.Cut.{Cut}
+use Rattle.gains.specs.Cuts.{IsCut}
+use Rattle.moves.specs.Changes.{rebuilt, swapped_within}
+use Rattle.moves.specs.declared.candidate.Move.{Move}
+use Rattle.moves.specs.declared.candidate.Move.TheVariants.{Relocate, Exchange, OrOpt, TwoOptStar, Cross}
+use Rattle.moves.specs.declared.candidate.Kind.{Kind}
+use Rattle.moves.specs.declared.candidate.Kind.TheVariants as kind
+use Rattle.moves.specs.Values.{HasValue, after}
+use Rattle.moves.specs.Order.{kind_of, AreBefore, IsBestOf, IsFirstLeast}
+use Rattle.moves.specs.Search.{numbers}
+
+-- the move leaves a cheaper plan
+abbrev pub IsGain : Problem → List (List ℕ) → Move → Type 0
+IsGain p routes m = (v : ℤ) × HasValue p routes m v × (v <ℤ pos 0)
+
+-- the best of the gains of a kind whose numbers are before a bound, which may be shorter
+abbrev pub IsBestGainBefore : Problem → List (List ℕ) → Kind → List ℕ → Option (Move × ℤ) → Type 0
+IsBestGainBefore p routes k bound result =
+    IsBestOf p routes (λ n. ((kind_of n ≡ k) × AreBefore (numbers n) bound) × IsGain p routes n) result
+
+-- the best move of a kind where it leaves a cheaper plan, none exactly where no move of the kind does
+abbrev pub IsBestGainIfAny : Problem → List (List ℕ) → Kind → Option (Move × ℤ) → Type 0
+IsBestGainIfAny p routes k result =
+    MatchOption result ((n : Move) → kind_of n ≡ k → ¬ IsGain p routes n)
+    (λ r. IsFirstLeast p routes (λ n. kind_of n ≡ k) r.0 r.1 × (r.1 <ℤ pos 0))
+
+-- what the next gain has to be below
+abbrev pub least_of : Option (Move × ℤ) → ℤ
+least_of None = pos 0
+least_of (Some r) = r.1
+
+-- the length of the first chain that a move of the kind takes, where l is its number and left stops stand from its position on
+abbrev pub first_taken : Kind → ℕ → ℕ → ℕ
+first_taken kind.Relocate l left = 1
+first_taken kind.Exchange l left = 1
+first_taken kind.OrOpt l left = l
+first_taken kind.TwoOptStar l left = left
+first_taken kind.Cross l left = l
+
+-- the same of the second chain
+abbrev pub second_taken : Kind → ℕ → ℕ → ℕ
+second_taken kind.Relocate l left = 0
+second_taken kind.Exchange l left = 1
+second_taken kind.OrOpt l left = 0
+second_taken kind.TwoOptStar l left = left
+second_taken kind.Cross l left = l
+
+-- the chain from a chain's position on of another length
+abbrev pub taken_chain : List (List ℕ) → (ℕ → ℕ → ℕ) → Chain → Chain
+taken_chain routes taken c = record { route = c.route; position = c.position; length = taken c.length (length (route routes c.route) - c.position) }
+
+-- the chain that a move takes first
+abbrev pub first_chain_of : List (List ℕ) → Move → Chain
+first_chain_of routes (Relocate from to) = record { route = from.route; position = from.position; length = 1 }
+first_chain_of routes (Exchange first second) = record { route = first.route; position = first.position; length = 1 }
+first_chain_of routes (OrOpt chain to) = chain
+first_chain_of routes (TwoOptStar first second) = record { route = first.route; position = first.position; length = length (route routes first.route) - first.position }
+first_chain_of routes (Cross first second) = first
+
+-- the chain with which it changes places
+abbrev pub second_chain_of : List (List ℕ) → Move → Chain
+second_chain_of routes (Relocate from to) = record { route = to.route; position = to.position; length = 0 }
+second_chain_of routes (Exchange first second) = record { route = second.route; position = second.position; length = 1 }
+second_chain_of routes (OrOpt chain to) = record { route = to.route; position = to.position; length = 0 }
+second_chain_of routes (TwoOptStar first second) = record { route = second.route; position = second.position; length = length (route routes second.route) - second.position }
+second_chain_of routes (Cross first second) = second
+
+-- what stands round the first chain that a move of the kind takes
+abbrev pub IsFirstCut : List (List ℕ) → Kind → Chain → Cut → Type 0
+IsFirstCut routes k first cut = IsCut (route routes first.route) first.position (taken_chain routes (first_taken k) first).length cut
+
+-- a move of the kind puts a chain elsewhere
+abbrev pub IsShiftKind : Kind → Type 0
+IsShiftKind kind.Relocate = Unit {0}
+IsShiftKind kind.Exchange = ⊥
+IsShiftKind kind.OrOpt = Unit {0}
+IsShiftKind kind.TwoOptStar = ⊥
+IsShiftKind kind.Cross = ⊥
+
+-- the move lets two chains of a route change places, the second of which stands right behind the first
+pub record IsShift (routes : List (List ℕ)) (n : Move) (front rear : Chain) : Type 0 where
+  pub same : front.route ≡ rear.route
+  pub known : front.route < length routes
+  pub behind : front.position + front.length ≡ rear.position
+  pub is : after routes n ≡ rebuilt routes front.route (swapped_within (route routes front.route) front.position front.length rear.position rear.length) (length routes) []
+
+-- the moves of the kind with these numbers do so
+abbrev pub AreShifts : Problem → List (List ℕ) → Kind → Chain → Chain → Chain → Chain → Type 0
+AreShifts p routes k first second front rear =
+    (n : Move) (u : ℤ) → kind_of n ≡ k → numbers n ≡ first.route ∷ first.position ∷ first.length ∷ second.route ∷ second.position ∷ second.length ∷ [] → HasValue p routes n u → IsShift routes n front rear
+
+-- a route is marked as changed; each is that has no mark
+abbrev pub IsChanged : List Bool → ℕ → Type 0
+IsChanged changed a = slice_index_or changed a true ≡ true
+
+-- each gain of the kind has a changed route
+pub record AreOfChanged (p : Problem) (routes : List (List ℕ)) (k : Kind) (changed : List Bool) : Type 0 where
+  pub gains : (n : Move) → kind_of n ≡ k → IsGain p routes n
+      → IsChanged changed (slice_index_or (numbers n) 0 0) ⊎ IsChanged changed (slice_index_or (numbers n) 3 0)

@@ -1,0 +1,4 @@
+pub mod Cuts
+pub mod Gains
+pub mod TwoRoutes
+pub mod Marks

@@ -1,0 +1,154 @@
+//! What stands round a chain of a route, and what a swap of two chains changes of the cost.
+
+ghost use Rattle.std.specs.Prelude.{◌≡◌, ◌+◌, ◌*◌, ◌≤◌, length, take, slice_index_or, pos, ◌≤ℤ◌, MatchOption};
+ghost use Rattle.solomon_reader.specs.Problem.{customer_count};
+ghost use Rattle.solomon_reader.specs.Distance.{distance};
+ghost use Rattle.solomon_reader.specs.Lists.{lists};
+ghost use Rattle.solomon_reader.specs.Moves.{route};
+ghost use Rattle.solomon_reader.specs.declared.limits.TheConstants.{MOST_DISTANCE};
+ghost use Rattle.segments.specs.Segments.{last_from};
+ghost use Rattle.moves.specs.Changes.{IsChainOf};
+ghost use Rattle.gains.specs.Cuts.{IsCut, IsKnownCut, joint_of, change_apart, change_within};
+
+use moves::Chain;
+use solomon_reader::Instance;
+
+/// The stops before, in and behind a chain of a route. The depot, 0, stands before the first stop
+/// and behind the last.
+#[derive(Clone, Copy)]
+pub struct Cut {
+    pub before: u16,
+    /// Whether the chain has a stop.
+    pub some: bool,
+    pub first: u16,
+    pub last: u16,
+    pub behind: u16,
+}
+
+/// The stop at a position, and the depot behind the last.
+fn stop_at(stops: &[u16], position: usize) -> u16
+    ensures { result ≡ slice_index_or stops.now position 0 }
+{
+    match stops.get(position) {
+        Some(stop) => *stop,
+        None => 0,
+    }
+}
+
+/// The stop before a position, and the depot before the first.
+#[tactic(auto, using(crate::proofs::CutStops::before_position))]
+fn stop_before(stops: &[u16], position: usize) -> u16
+    requires { position ≤ length stops.now }
+    ensures { result ≡ last_from 0 (take position stops.now) }
+{
+    if position == 0 {
+        return 0;
+    }
+    stop_at(stops, position - 1)
+}
+
+/// What stands round the stops from a position on.
+fn cut_of_stops(stops: &[u16], position: usize, count: usize) -> Cut
+    requires { position + count ≤ length stops.now }
+    ensures { IsCut stops.now position count result }
+{
+    let before = stop_before(stops, position);
+    let behind = stop_at(stops, position + count);
+    if count == 0 {
+        return Cut {
+            before,
+            some: false,
+            first: 0,
+            last: 0,
+            behind,
+        };
+    }
+    Cut {
+        before,
+        some: true,
+        first: stop_at(stops, position),
+        last: stop_at(stops, position + count - 1),
+        behind,
+    }
+}
+
+/// What stands round a chain, or `None` where it doesn't stand in its route.
+pub fn cut_of(routes: &[Vec<u16>], chain: Chain) -> Option<Cut>
+    ensures { MatchOption result (¬ IsChainOf (lists routes.now) chain)
+        (λ c. IsChainOf (lists routes.now) chain × IsCut (route (lists routes.now) chain.route) chain.position chain.length c) }
+{
+    let stops = match routes.get(usize::from(chain.route)) {
+        Some(route) => route.as_slice(),
+        None => &[],
+    };
+    let (position, length) = (usize::from(chain.position), usize::from(chain.length));
+    if position + length > stops.len() {
+        return None;
+    }
+    Some(cut_of_stops(stops, position, length))
+}
+
+/// What the arcs to and from a chain between two stops cost, in tenths.
+fn joint(instance: &Instance, before: u16, chain: &Cut, behind: u16) -> i64
+    requires before { before ≤ customer_count instance.now }
+    requires chain { IsKnownCut instance.now chain.now }
+    requires behind { behind ≤ customer_count instance.now }
+    ensures value { result ≡ pos (joint_of instance.now before chain.now behind) }
+    ensures bound { result ≤ℤ pos (2 * MOST_DISTANCE) }
+{
+    let _count = instance.customer_count();
+    if chain.some {
+        let to = instance.distance(before, chain.first).get();
+        let from = instance.distance(chain.last, behind).get();
+        return to as i64 + from as i64;
+    }
+    instance.distance(before, behind).get() as i64
+}
+
+/// By how much the cost changes where two chains of two routes change places, in tenths.
+pub fn change_apart(instance: &Instance, one: &Cut, other: &Cut) -> i64
+    requires one { IsKnownCut instance.now one.now }
+    requires other { IsKnownCut instance.now other.now }
+    ensures { result ≡ change_apart instance.now one.now other.now }
+{
+    let new = joint(instance, one.before, other, one.behind)
+        + joint(instance, other.before, one, other.behind);
+    let old = joint(instance, one.before, one, one.behind)
+        + joint(instance, other.before, other, other.behind);
+    new - old
+}
+
+/// The cost of an arc, in tenths.
+fn arc(instance: &Instance, from: u16, to: u16) -> i64
+    requires from { from ≤ customer_count instance.now }
+    requires to { to ≤ customer_count instance.now }
+    ensures value { result ≡ pos (distance instance.now from to) }
+    ensures bound { result ≤ℤ pos MOST_DISTANCE }
+{
+    let _count = instance.customer_count();
+    instance.distance(from, to).get() as i64
+}
+
+/// The cost of two arcs, in tenths.
+fn two_arcs(instance: &Instance, one: (u16, u16), other: (u16, u16)) -> i64
+    requires one { (one.0 ≤ customer_count instance.now) × (one.1 ≤ customer_count instance.now) }
+    requires other { (other.0 ≤ customer_count instance.now) × (other.1 ≤ customer_count instance.now) }
+    ensures value { result ≡ pos (distance instance.now one.0 one.1 + distance instance.now other.0 other.1) }
+    ensures bound { result ≤ℤ pos (2 * MOST_DISTANCE) }
+{
+    arc(instance, one.0, one.1) + arc(instance, other.0, other.1)
+}
+
+/// By how much the cost changes where two chains of a route change places, the second of which
+/// stands right behind the first, in tenths. Both have stops.
+pub fn change_within(instance: &Instance, one: &Cut, other: &Cut) -> i64
+    requires one { IsKnownCut instance.now one.now }
+    requires other { IsKnownCut instance.now other.now }
+    ensures { result ≡ change_within instance.now one.now other.now }
+{
+    let new = two_arcs(instance, (one.before, other.first), (other.last, one.first))
+        + arc(instance, one.last, other.behind);
+    let old = two_arcs(instance, (one.before, one.first), (one.last, other.first))
+        + arc(instance, other.last, other.behind);
+    new - old
+}

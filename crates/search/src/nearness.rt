@@ -1,0 +1,53 @@
+//! How near customers are, and where they stand in a plan.
+
+use moves::Place;
+use solomon_reader::Instance;
+
+/// The distance between two places in tenths, of which 0 is the depot; an unknown one is far from all.
+/// No contract, here and below: shakes go by it, and only moves that leave a plan are made.
+pub fn arc(instance: &Instance, from: u16, to: u16) -> u32 {
+    let count = instance.customer_count();
+    if from > count || to > count {
+        return u32::MAX;
+    }
+    instance.distance(from, to).get() as u32
+}
+
+/// How far a customer is from a place in tenths, and the customer.
+pub type Nearness = (u32, u16);
+
+/// The next customer in order of nearness to a place, behind this one if there is one. No contract.
+pub fn next_near(instance: &Instance, center: u16, last: Option<Nearness>) -> Option<Nearness> {
+    let mut next: Option<Nearness> = None;
+    for customer in 1..=instance.customer_count() {
+        let nearness = (arc(instance, center, customer), customer);
+        let is_behind = last.is_none_or(|l| nearness > l);
+        if is_behind && next.is_none_or(|n| nearness < n) {
+            next = Some(nearness);
+        }
+    }
+    next
+}
+
+/// A number of routes or of stops; there are few. No contract.
+pub fn number_of(count: usize) -> u16 {
+    count.min(usize::from(u16::MAX)) as u16
+}
+
+/// The position of a customer in a route, if it stands there.
+fn position_in(route: &[u16], customer: u16) -> Option<usize> {
+    route.iter().position(|c| *c == customer)
+}
+
+/// Where a customer stands, if it stands in one of these routes. No contract.
+pub fn place_of(routes: &[Vec<u16>], customer: u16) -> Option<Place> {
+    for (number, route) in routes.iter().enumerate() {
+        if let Some(position) = position_in(route.as_slice(), customer) {
+            return Some(Place {
+                route: number_of(number),
+                position: number_of(position),
+            });
+        }
+    }
+    None
+}

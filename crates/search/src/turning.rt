@@ -1,0 +1,104 @@
+//! Turns: rounds of shakes and descents.
+
+ghost use Rattle.std.specs.Prelude.{◌≡◌, ◌⊎◌, ℕ, List, IfOk};
+ghost use Rattle.solomon_reader.specs.Moves.{IsLocalOptimum};
+ghost use Rattle.search.specs.Searching.{Descends};
+ghost use Rattle.search.specs.Turning.{IsRound, IsCheaper, AreRounds, IsCheapest};
+
+use crate::descent::descend;
+use crate::fault::SearchFault;
+use crate::near_shake::shake_near;
+use rand_core::Rng;
+use schedule::Feasible;
+use std::alloc::{AllocError, Global};
+use working_plan::WorkingPlan;
+
+/// How many rounds a turn makes.
+pub const ROUNDS: u32 = 10;
+
+/// A first round goes on from a plan that is dearer by less than this many hundredths of the cost of a
+/// customer on the average; the threshold falls to 0 with the rounds.
+const HUNDREDTHS: u64 = 60;
+
+/// The plan that the rounds go on from, and the cheapest that they came to.
+#[derive(Drop)]
+struct Held<'i> {
+    current: WorkingPlan<'i>,
+    best: WorkingPlan<'i>,
+}
+
+/// By how many tenths a plan has to be cheaper than dearer by, so that the rounds go on from it.
+fn threshold_of(plan: &WorkingPlan<'_>, round: u32) -> u64 {
+    let customers = u64::from(plan.instance().customer_count());
+    let first = HUNDREDTHS.saturating_mul(plan.cost().get()) / (100 * customers);
+    first.saturating_mul(u64::from(ROUNDS.saturating_sub(round))) / u64::from(ROUNDS)
+}
+
+/// Shakes a copy of the plan, and descends from there.
+fn make_round<'i, R: Rng>(
+    alloc: Global,
+    current: &WorkingPlan<'i>,
+    random: &mut R,
+) -> Result<WorkingPlan<'i>, SearchFault>
+    ensures problem { IfOk result (λ w. w.problem ≡ current.now.problem) }
+    ensures round { IfOk result (λ w. IsRound current.now.problem current.now.routes w.routes) }
+{
+    let mut next = current.try_clone()?;
+    shake_near(alloc, &mut next, random)?;
+    descend(&mut next)?;
+    Ok(next)
+}
+
+/// Holds the next plan as the cheapest where it is cheaper than that, and goes on from it where it is
+/// dearer than the one before by less than the threshold.
+fn hold<'i>(held: Held<'i>, next: WorkingPlan<'i>, threshold: u64) -> Result<Held<'i>, AllocError>
+    ensures current { IfOk result (λ h. (h.current ≡ next.entry) ⊎ (h.current ≡ held.entry.current)) }
+    ensures best { IfOk result (λ h. IsCheaper held.entry.best next.entry h.best) }
+{
+    let Held { current, best } = held;
+    let best = if next.cost().get() < best.cost().get() {
+        next.try_clone()?
+    } else {
+        best
+    };
+    let most = current.cost().get().saturating_add(threshold);
+    if next.cost().get() < most {
+        return Ok(Held {
+            current: next,
+            best,
+        });
+    }
+    Ok(Held { current, best })
+}
+
+/// The plan that the rounds of a turn begin with: a descent from the plan held.
+fn begin<'i>(alloc: Global, plan: &Feasible<'i>) -> Result<Held<'i>, SearchFault>
+    ensures same { IfOk result (λ h. h.best ≡ h.current) }
+    ensures problem { IfOk result (λ h. h.current.problem ≡ plan.now.problem) }
+    ensures descends { IfOk result (λ h. Descends plan.now.problem plan.now.routes h.current.routes) }
+    ensures optimum { IfOk result (λ h. IsLocalOptimum plan.now.problem h.current.routes) }
+{
+    let mut current = WorkingPlan::new(alloc, plan)?;
+    descend(&mut current)?;
+    let best = current.try_clone()?;
+    Ok(Held { current, best })
+}
+
+/// The cheapest plan that a descent and rounds of shakes and descents lead to, each from a plan that
+/// was come to before: the last one, or where that was dearer by too much the one before it.
+pub fn find_by_rounds<'i, R: Rng>(
+    alloc: Global,
+    plan: &Feasible<'i>,
+    random: &mut R,
+) -> Result<Feasible<'i>, SearchFault>
+    ensures problem { IfOk result (λ f. f.problem ≡ plan.now.problem) }
+    ensures found { IfOk result (λ f. (plans : List (List (List ℕ))) × AreRounds plan.now.problem ROUNDS plan.now.routes plans × IsCheapest plan.now.problem plans f.routes) }
+{
+    let mut held = begin(alloc, plan)?;
+    for round in 0..ROUNDS {
+        let threshold = threshold_of(&held.current, round);
+        let next = make_round(alloc, &held.current, random)?;
+        held = hold(held, next, threshold)?;
+    }
+    Ok(held.best.into_plan())
+}

@@ -1,0 +1,48 @@
+-- A plan after a move that was made in place.
+use Rattle.std.proofs.Common.{◌≡◌, refl, ℕ, List, sym, ◌∙◌, arith, inl, inr}
+use Rattle.std.specs.Prelude.{ℤ, pos, ◌+ℤ◌}
+use Rattle.std.specs.List.{All}
+use Rattle.std.proofs.lemmas.Int.{ints}
+use Rattle.std.proofs.lemmas.List.Elements.{All-from_recursion}
+use Rattle.solomon_reader.specs.Problem.{Problem, IsCustomer}
+use Rattle.solomon_reader.specs.Plan.{IsPlan, plan_cost}
+use Rattle.solomon_reader.specs.Moves.{kept}
+use Rattle.segments.specs.PlanTrees.{problem_of}
+use Rattle.segments.specs.declared.plan_trees.PlanTrees.{PlanTrees}
+use Rattle.moves.specs.declared.candidate.Move.{Move}
+use Rattle.moves.specs.declared.change.Change.{Change}
+use Rattle.moves.specs.Trees.{visits_of, AreOfPlan}
+use Rattle.moves.specs.Values.{HasValue, after}
+use Rattle.moves.specs.Changes.{IsEmptyOrFitting, IsChangeTo, joined, changed}
+use Rattle.moves.proofs.Rebuilding.{rebuilt_parts}
+use Rattle.moves.proofs.PlanStops.{visits_are, are_of_plan}
+use Rattle.working_plan.specs.Replacing.{AreTreesOf}
+
+known_list : (p : Problem) (r : List ℕ) → IsEmptyOrFitting p r → All (λ i. IsCustomer p i) r
+known_list p r h = elim h [ inl e ↦ (λ k d in_list. absurd (omega arith)) | inr f ↦ All-from_recursion (IsCustomer p) r f.known ]
+
+changed_is : (routes result : List (List ℕ)) (c : Change) → IsChangeTo routes result c → kept (changed routes c) ≡ result
+changed_is routes result c h = rw (h.is_first.number, h.is_first.stops, h.is_second.number, h.is_second.stops) (sym h.is_result)
+
+module _ (p : Problem) (routes : List (List ℕ)) (m : Move) (v : ℤ) (c : Change) (plan : IsPlan p routes) (value : HasValue p routes m v) (to : IsChangeTo routes (after routes m) c) where
+  -- the stops of the new routes are customers
+  pub first_known : All (λ i. IsCustomer p i) (joined routes c.first.chains.items)
+  first_known = rw to.is_first.stops (known_list p to.x (rebuilt_parts p routes to.a to.x to.b to.y to.rebuilds plan (rw to.is_result at value.plan)).0)
+
+  pub second_known : All (λ i. IsCustomer p i) (joined routes c.second.chains.items)
+  second_known = rw to.is_second.stops (known_list p to.y (rebuilt_parts p routes to.a to.x to.b to.y to.rebuilds plan (rw to.is_result at value.plan)).1)
+
+pub applied : (old new : PlanTrees) (routes later : List (List ℕ)) (m : Move) (v : ℤ) (c : Change) (cost next : ℕ)
+    → visits_of old ≡ routes → cost ≡ plan_cost (problem_of old) routes
+    → HasValue (problem_of old) routes m v → IsChangeTo routes (after routes m) c
+    → problem_of new ≡ problem_of old → later ≡ kept (changed routes c) → AreTreesOf later new → pos next ≡ pos cost +ℤ v
+    → AreOfPlan new × (visits_of new ≡ later) × (next ≡ plan_cost (problem_of new) later)
+applied old new routes later m v c cost next visits exact value to same made trees sum =
+    let e : later ≡ after routes m = made ∙ changed_is routes (after routes m) c to in (
+      are_of_plan new (problem_of new) later refl trees.stops trees.trees (rw (same, e) value.plan),
+      visits_are new (problem_of new) later trees.stops,
+      rw (same, e) (same_cost _ _ cost next v value.exact exact sum),
+    )
+  where
+    same_cost : (new old cost next : ℕ) (v : ℤ) → pos new ≡ pos old +ℤ v → cost ≡ old → pos next ≡ pos cost +ℤ v → next ≡ new
+    same_cost new old cost next v e f g = omega (arith, ints)

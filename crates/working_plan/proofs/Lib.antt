@@ -1,0 +1,4 @@
+pub mod TreeChanges
+pub mod KeptRoutes
+pub mod AppliedMoves
+pub mod MoreMarks

@@ -1,0 +1,23 @@
+-- A plan's trees after a route was made anew in place.
+use Rattle.std.proofs.Common.{◌≡◌, ℕ, List, length, map, set, sym, ap, ◌∙◌}
+use Rattle.std.specs.Prelude.{Vec}
+use Rattle.std.specs.declared.alloc.Global.{Global}
+use Rattle.std.proofs.lemmas.List.{map-set, length-map}
+use Rattle.solomon_reader.specs.Lists.{lists}
+use Rattle.segments.specs.Segments.{stop}
+use Rattle.segments.specs.PlanTrees.{problem_of, routes_of, AreTrees}
+use Rattle.segments.specs.declared.plan_trees.PlanTrees.{PlanTrees}
+use Rattle.working_plan.specs.Replacing.{AreTreesOf}
+
+pub lists-length : (routes : List (Vec ℕ Global)) → length (lists routes) ≡ length routes
+lists-length routes = length-map routes (λ (r : Vec ℕ Global). r.items)
+
+pub lists-set : (routes : List (Vec ℕ Global)) (a : ℕ) (x : Vec ℕ Global) → lists (set routes a x) ≡ set (lists routes) a x.items
+lists-set routes a x = map-set (λ (r : Vec ℕ Global). r.items) routes a x
+
+pub one_replaced : (old new : PlanTrees) (routes : List (List ℕ)) (a : ℕ) (x : List ℕ) → AreTreesOf routes old → problem_of new ≡ problem_of old
+    → routes_of new ≡ set (routes_of old) a (map (stop (problem_of old)) x) → AreTrees new → AreTreesOf (set routes a x) new
+one_replaced old new routes a x h same e trees = record {
+  stops = rw same (e ∙ ap (λ q. set q a (map (stop (problem_of old)) x)) h.stops ∙ sym (map-set (map (stop (problem_of old))) routes a x));
+  trees = trees;
+}

@@ -1,0 +1,10 @@
+//! A plan that is changed in place by moves.
+#![tactic(auto)]
+
+mod gaining;
+mod kind_marks;
+mod plan;
+mod replacing;
+mod tree_plan;
+
+pub use plan::WorkingPlan;

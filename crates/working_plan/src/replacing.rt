@@ -1,0 +1,121 @@
+//! Routes of a plan that are made anew in place.
+
+ghost use Rattle.std.specs.Prelude.{◌≡◌, ◌<◌, ◌≤◌, length, map, slice_set, IfOk, OnOk, OnErr, IsTrue};
+ghost use Rattle.std.specs.List.{All, AllByRecursion};
+ghost use Rattle.solomon_reader.specs.Problem.{IsCustomer};
+ghost use Rattle.solomon_reader.specs.Lists.{lists};
+ghost use Rattle.solomon_reader.specs.Plan.{IsPlan};
+ghost use Rattle.solomon_reader.specs.Moves.{kept};
+ghost use Rattle.segments.specs.Segments.{stop, join};
+ghost use Rattle.segments.specs.Trees.{items_of, IsTree};
+ghost use Rattle.segments.specs.PlanTrees.{problem_of, routes_of, AreTrees};
+ghost use Rattle.moves.specs.Trees.{visits_of, AreOfPlan};
+ghost use Rattle.moves.specs.Changes.{IsChainOf, joined, changed};
+ghost use Rattle.working_plan.specs.Replacing.{AreTreesOf, KeepsRoutes};
+
+use moves::{Change, has_stop, visits_of_chains};
+use segments::{PlanTrees, RouteTree, Segment};
+use solomon_reader::Instance;
+use std::alloc::{AllocError, Global};
+
+/// A route made anew: its customers, and the tree of its stops.
+#[derive(Drop)]
+struct MadeRoute {
+    visits: Vec<u16>,
+    tree: RouteTree<Segment>,
+}
+
+/// A route of these customers.
+fn made(alloc: Global, instance: &Instance, visits: Vec<u16>) -> Result<MadeRoute, AllocError>
+    requires { All (λ i. IsCustomer instance.now i) visits.items }
+    ensures visits { IfOk result (λ m. m.visits ≡ visits) }
+    ensures items { IfOk result (λ m. items_of m.tree ≡ map (stop instance.now) visits.items) }
+    ensures tree { IfOk result (λ m. IsTree (join instance.now) m.tree) }
+{
+    let mut stops = Vec::new(alloc);
+    for customer in visits.as_slice() {
+        stops.push(Segment::stop(instance, *customer))?;
+    }
+    match RouteTree::new(alloc, instance, stops) {
+        Ok(tree) => Ok(MadeRoute { visits, tree }),
+        Err(_) => Err(AllocError),
+    }
+}
+
+/// Puts a tree in the place of a route's.
+fn put_tree(trees: &mut PlanTrees<'_>, number: usize, tree: RouteTree<Segment>)
+    requires known { number < length (routes_of trees.old) }
+    requires trees { AreTrees trees.old }
+    requires tree { IsTree (join (problem_of trees.old)) tree }
+    ensures problem { problem_of trees.new ≡ problem_of trees.old }
+    ensures routes { routes_of trees.new ≡ slice_set (routes_of trees.old) number (items_of tree) }
+    ensures trees { AreTrees trees.new }
+{
+    *trees.route_mut(number) = tree;
+}
+
+/// Puts a route in the place of another.
+fn put_route(routes: &mut Vec<Vec<u16>>, trees: &mut PlanTrees<'_>, number: usize, made: MadeRoute)
+    requires known { number < length (lists routes.old.items) }
+    requires trees { AreTreesOf (lists routes.old.items) trees.old }
+    requires items { items_of made.tree ≡ map (stop (problem_of trees.old)) made.visits.items }
+    requires tree { IsTree (join (problem_of trees.old)) made.tree }
+    ensures problem { problem_of trees.new ≡ problem_of trees.old }
+    ensures routes { lists routes.new.items ≡ slice_set (lists routes.old.items) number made.visits.items }
+    ensures trees { AreTreesOf (lists routes.new.items) trees.new }
+{
+    put_tree(trees, number, made.tree);
+    routes[number] = made.visits;
+}
+
+/// Whether no route goes by a change and none comes.
+pub fn keeps_routes(trees: &PlanTrees<'_>, change: &Change) -> bool
+    requires plan { AreOfPlan trees.now }
+    requires first { AllByRecursion (IsChainOf (visits_of trees.now)) change.now.first.chains.items }
+    requires second { AllByRecursion (IsChainOf (visits_of trees.now)) change.now.second.chains.items }
+    ensures { IsTrue result → KeepsRoutes (visits_of trees.now) change.now }
+{
+    let first = has_stop(trees, change.first.chains.as_slice());
+    let second = has_stop(trees, change.second.chains.as_slice());
+    let old_second = usize::from(change.second.route) < trees.count();
+    first && second == old_second
+}
+
+/// Changes a plan's routes in place, where no route goes and none comes; at `Err` nothing is changed.
+pub fn replace(
+    alloc: Global,
+    routes: &mut Vec<Vec<u16>>,
+    trees: &mut PlanTrees<'_>,
+    change: &Change,
+) -> Result<(), AllocError>
+    requires trees { AreTreesOf (lists routes.old.items) trees.old }
+    requires first { AllByRecursion (IsChainOf (lists routes.old.items)) change.now.first.chains.items }
+    requires second { AllByRecursion (IsChainOf (lists routes.old.items)) change.now.second.chains.items }
+    requires order { change.now.first.route < change.now.second.route }
+    requires known { change.now.second.route ≤ length (lists routes.old.items) }
+    requires keeps { KeepsRoutes (lists routes.old.items) change.now }
+    requires old { IsPlan (problem_of trees.old) (lists routes.old.items) }
+    requires first_known { All (λ i. IsCustomer (problem_of trees.old) i) (joined (lists routes.old.items) change.now.first.chains.items) }
+    requires second_known { All (λ i. IsCustomer (problem_of trees.old) i) (joined (lists routes.old.items) change.now.second.chains.items) }
+    ensures problem { problem_of trees.new ≡ problem_of trees.old }
+    ensures routes { OnOk result (lists routes.new.items ≡ kept (changed (lists routes.old.items) change.now)) }
+    ensures trees { AreTreesOf (lists routes.new.items) trees.new }
+    ensures unchanged { OnErr result ((routes.new ≡ routes.old) × (trees.new ≡ trees.old)) }
+{
+    let (first, second) = (&change.first, &change.second);
+    let opens = usize::from(second.route) == routes.len();
+    let instance = trees.instance();
+    let Ok(visits) = visits_of_chains(alloc, routes.as_slice(), first.chains.as_slice()) else {
+        return Err(AllocError);
+    };
+    let made_first = made(alloc, instance, visits)?;
+    let Ok(visits) = visits_of_chains(alloc, routes.as_slice(), second.chains.as_slice()) else {
+        return Err(AllocError);
+    };
+    let made_second = made(alloc, instance, visits)?;
+    put_route(routes, trees, usize::from(first.route), made_first);
+    if !opens {
+        put_route(routes, trees, usize::from(second.route), made_second);
+    }
+    Ok(())
+}
