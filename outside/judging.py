@@ -4,13 +4,16 @@ import random as randomness
 
 import bounding
 import checking
+from building import build
 from cases import (LARGE, certificate_lines, certificate_of, instance_words, laid_out, mutated, plan_of, solution_lines,
                    solution_of, spoilt, tree_of)
 from instances import Fault, plan_cost, read
 from rows import ROWS, status_of
+from moving import descend
 from running import Disagreement, demand, run, run_check, solve
 from solving import judge_solve
 from texts import TextFault, read_certificate, read_solution, shown
+from turning import Words, turn
 
 
 def judge_refusal(program, folder, random):
@@ -47,6 +50,29 @@ def judge_check(program, folder, random):
     got = run_check(program, folder, text, certificate, solution)
     demand(got == wanted, "check: %r, and %r is right" % (got, wanted))
     return " ".join(word for word in (wanted[0] or wanted[1]).split() if word.isalpha() or word.endswith(":"))
+
+
+def judge_turns(timings, folder, random, count):
+    """Descents and turns from a built plan: what the program comes to against the turns of this folder, word by
+    word. Answers what came of it."""
+    text = laid_out(random, instance_words(random, count))
+    instance, number = read(text), random.randint(0, 2)
+    path = os.path.join(folder, "instance")
+    with open(path, "wb") as file:
+        file.write(text)
+    told = run([timings, "turns", path, str(number)])[0].decode().splitlines()
+    routes, left = build(instance)
+    if left:
+        demand(told == ["no plan"], "turns without a plan: %r" % told)
+        return "no plan"
+    routes = descend(instance, routes)
+    first, words = plan_cost(instance, routes), Words(1)
+    for _ in range(number):
+        routes = turn(instance, words, routes)
+    last = plan_cost(instance, routes)
+    wanted = ["descent %d" % first, "parallel %d" % first, "turns %d" % last] + ["route %r" % route for route in routes]
+    demand(told == wanted, "turns: %r, and %r is right" % (told, wanted))
+    return "cheaper" if last < first else "as after the descent"
 
 
 def checked_texts(random, instance, lines, bound, routes):
@@ -94,7 +120,7 @@ def judge_echo(echo, folder, kind, text, reader):
 def judge(programs, folder, seed, kind):
     """One run by its seed: whether both agree, and what came of it or what doesn't agree."""
     random = randomness.Random("%d %s" % (seed, kind))
-    program, echo = programs
+    program, echo, timings = programs
     try:
         if kind == "certificates":
             text = spoilt(random, certificate_lines(random))
@@ -108,6 +134,8 @@ def judge(programs, folder, seed, kind):
             return True, "%s: %s" % (name, judge_echo(echo, folder, "certificate", text, read_certificate))
         if kind == "rows":
             return True, judge_row(program, folder, ROWS[seed])
+        if kind == "turns":
+            return True, judge_turns(timings, folder, random, random.randint(1, 6))
         if kind == "checks":
             return True, judge_check(program, folder, random)
         if kind == "refusals":

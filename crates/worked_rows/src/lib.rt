@@ -8,6 +8,8 @@ pub mod few;
 #[cfg(test)]
 mod insertions;
 #[cfg(test)]
+mod many;
+#[cfg(test)]
 mod moves_made;
 #[cfg(test)]
 mod plans;

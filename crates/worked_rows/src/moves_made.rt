@@ -2,14 +2,18 @@
 //! program that makes the lists of each move and walks them.
 
 use super::plans::{instance_of, plan_of};
-use moves::{Chain, KINDS, Kind, Move, MoveFault, Place, apply, best, trees_of, value};
+use moves::{
+    Chain, KINDS, Kind, Move, MoveFault, Place, apply, best, best_parallel, trees_of, value,
+};
 use rand_core::SeedableRng;
 use rand_xoshiro::Xoshiro256PlusPlus;
 use row_texts::DEPOT;
+use schedule::Feasible;
 use search::Searcher;
 use solomon_reader::Instance;
 use std::alloc::Global;
 use std::test::Fail;
+use std::thread::Threads;
 
 /// A plan of an instance, and its cost in tenths.
 #[derive(Clone, Copy)]
@@ -325,30 +329,50 @@ fn a_route_is_back_before_the_depot_closes(rt: HostRuntime) -> Result<(), Fail> 
     Ok(())
 }
 
+/// The best move of a kind, and its value, as one thread and several find it.
+pub(super) fn best_in<R: AllocGlobal + Threads + Sync>(
+    rt: &R,
+    plan: &Feasible<'_>,
+    kind: Kind,
+) -> Result<Option<(Move, i64)>, Fail> {
+    let trees = trees_of(rt.alloc(), plan)?;
+    let told = best(&trees, kind);
+    if best_parallel(rt, rt.alloc(), &trees, kind)? == told {
+        return Ok(told);
+    }
+    Err(Fail::from("several threads find another move"))
+}
+
 /// The best move of a kind, and its value.
-fn best_of(alloc: Global, row: &Row, kind: Kind) -> Result<Option<(Move, i64)>, Fail> {
-    let instance = row.instance(alloc)?;
-    let plan = plan_of(alloc, &instance, row.routes)?;
-    let trees = trees_of(alloc, &plan)?;
-    Ok(best(&trees, kind))
+fn best_of<R: AllocGlobal + Threads + Sync>(
+    rt: &R,
+    row: &Row,
+    kind: Kind,
+) -> Result<Option<(Move, i64)>, Fail> {
+    let instance = row.instance(rt.alloc())?;
+    let plan = plan_of(rt.alloc(), &instance, row.routes)?;
+    best_in(rt, &plan, kind)
 }
 
 /// The best value of each kind.
-fn bests(alloc: Global, row: &Row) -> Result<[Option<i64>; 5], Fail> {
+fn bests<R: AllocGlobal + Threads + Sync>(rt: &R, row: &Row) -> Result<[Option<i64>; 5], Fail> {
     let mut values = [None; 5];
     for (index, kind) in KINDS.iter().enumerate() {
-        values[index] = best_of(alloc, row, *kind)?.map(|found| found.1);
+        values[index] = best_of(rt, row, *kind)?.map(|found| found.1);
     }
     Ok(values)
 }
 
-/// The cost at which a descent ends.
-fn end_of(alloc: Global, row: &Row) -> Result<u64, Fail> {
-    let instance = row.instance(alloc)?;
-    let plan = plan_of(alloc, &instance, row.routes)?;
-    let mut searcher = Searcher::new(alloc, plan, Xoshiro256PlusPlus::seed_from_u64(1));
-    searcher.descend()?;
-    Ok(searcher.plan().cost().get())
+/// The costs at which a descent ends and one in several threads.
+fn ends_of<R: AllocGlobal + Threads + Sync>(rt: &R, row: &Row) -> Result<(u64, u64), Fail> {
+    let instance = row.instance(rt.alloc())?;
+    let plan = plan_of(rt.alloc(), &instance, row.routes)?;
+    let copy = plan.try_clone()?;
+    let mut alone = Searcher::new(rt.alloc(), plan, Xoshiro256PlusPlus::seed_from_u64(1));
+    alone.descend()?;
+    let mut other = Searcher::new(rt.alloc(), copy, Xoshiro256PlusPlus::seed_from_u64(1));
+    other.descend_parallel(rt)?;
+    Ok((alone.plan().cost().get(), other.plan().cost().get()))
 }
 
 /// In each of the first five plans one kind alone has a move that makes the plan cheaper; a
@@ -421,40 +445,28 @@ fn each_kind_finds_what_the_others_miss(rt: HostRuntime) -> Result<(), Fail> {
             cost: 0,
         };
         let expected = values.map(|value| Some(value));
-        assert_eq!(rt; bests(rt.alloc(), &row)?, expected, "{name}");
-        assert_eq!(rt; end_of(rt.alloc(), &row)?, end, "{name}");
+        assert_eq!(rt; bests(&rt, &row)?, expected, "{name}");
+        assert_eq!(rt; ends_of(&rt, &row)?, (end, end), "{name}");
     }
     Ok(())
 }
 
-/// On two routes of one customer each, the second may go before the first or behind it, and the
-/// first before the second or behind it: all four at the same value.
-#[test]
-fn the_first_of_four_relocations_is_told(rt: HostRuntime) -> Result<(), Fail> {
-    let found = Move::Relocate {
-        from: at(0, 0),
-        to: at(1, 0),
-    };
-    assert_eq!(rt;
-        best_of(rt.alloc(), &SLANTED, Kind::Relocate)?,
-        Some((found, -63))
-    );
-    Ok(())
-}
-
+/// The first of moves of equal values. On two routes of one customer each, four relocations have one.
 #[test]
 fn the_first_of_equal_moves_is_told(rt: HostRuntime) -> Result<(), Fail> {
-    let ends = Move::TwoOptStar {
-        first: at(0, 1),
-        second: at(1, 1),
-    };
-    let firsts = Move::Exchange {
-        first: at(0, 0),
-        second: at(1, 0),
-    };
-    for (kind, found) in [(Kind::TwoOptStar, ends), (Kind::Exchange, firsts)] {
-        let told = best_of(rt.alloc(), &CROSSED, kind)?;
-        assert_eq!(rt; told, Some((found, -246)), "{found:?}");
+    let (last, first) = (at(0, 1), at(0, 0));
+    let rows = [
+        (&SLANTED, Kind::Relocate, relocate(first, at(1, 0)), -63),
+        (
+            &CROSSED,
+            Kind::TwoOptStar,
+            two_opt_star(last, at(1, 1)),
+            -246,
+        ),
+        (&CROSSED, Kind::Exchange, exchange(first, at(1, 0)), -246),
+    ];
+    for (row, kind, found, value) in rows {
+        assert_eq!(rt; best_of(&rt, row, kind)?, Some((found, value)), "{kind:?}");
     }
     Ok(())
 }
