@@ -135,7 +135,7 @@ def judge(programs, folder, seed, kind):
         if kind == "rows":
             return True, judge_row(program, folder, ROWS[seed])
         if kind == "turns":
-            return True, judge_turns(timings, folder, random, random.randint(1, 6))
+            return True, judge_turns(timings, folder, random, random.randint(1, 8))
         if kind == "checks":
             return True, judge_check(program, folder, random)
         if kind == "refusals":

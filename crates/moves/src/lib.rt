@@ -22,9 +22,7 @@ pub use choosing::{best, candidate_of};
 pub use costing::has_stop;
 pub use fault::MoveFault;
 pub use parallel::best_parallel;
-pub use ranges::{
-    first_lengths, first_positions, second_lengths, second_positions, second_routes,
-};
+pub use ranges::{first_lengths, first_positions, second_lengths, second_positions, second_routes};
 pub use sizes::{MOST_CHAIN, route_count, stop_count};
 pub use trees::trees_of;
 pub use valuing::value;
