@@ -2,19 +2,11 @@
 use Rattle.std.specs.Prelude.{◌≡◌, ℕ, ◌≤◌, List, [], ℤ, Some, slice_index_or}
 use Rattle.solomon_reader.specs.Problem.{customer_count}
 use Rattle.solomon_reader.specs.Region.{root_region}
-use Rattle.solomon_reader.specs.Bound.{version_2, Node, leaf_node, split_node, Tree, leaf, split, IsTreeBound}
+use Rattle.solomon_reader.specs.Bound.{version_2, Tree, leaf, split, IsTreeBound}
 use Rattle.solomon_reader.specs.CertificateText.{IsTreeAt}
 use Rattle.solomon_reader.specs.CertificateText as certificate
-use Rattle.branching.specs.Arcs.{pair}
-use Rattle.branching.specs.declared.tree_node.TreeNode.{TreeNode}
-use Rattle.branching.specs.declared.tree_node.TreeNode.TheVariants as tree_node
 use Rattle.solomon_reader.specs.History.{Event, split_of, used_number, unused_number, IsLeaf, IsBound, leaf_count}
 use Rattle.incumbent_book.specs.Contents.{Contents}
-
--- a node as definitions see it
-abbrev pub node_of : TreeNode → Node
-node_of (tree_node.Leaf prices) = leaf_node prices.items
-node_of (tree_node.Split arc) = split_node (pair arc)
 
 -- the tree stands at a number: a leaf with its prices, or a split with the trees at both children
 abbrev pub GrowsAt : List Event → List (List ℤ) → ℕ → Tree → Type 0

@@ -4,7 +4,7 @@ ghost use Rattle.std.specs.Prelude.{◌≡◌, ◌≢◌, ◌+◌, ◌<◌, ◌�
 ghost use Rattle.std.specs.Vec.{vec_capacity};
 ghost use Rattle.prices.specs.Pricing.{IsPricing};
 ghost use Rattle.incumbent_book.specs.Arena.{leaf_at, new_leaf, WithLeaf, IsLeastOf};
-ghost use Rattle.incumbent_book.specs.Trees.{node_of};
+ghost use Rattle.branching.specs.Nodes.{node_of};
 ghost use Rattle.incumbent_book.specs.Forward.{IsForward, GrowsIn};
 ghost use Rattle.solomon_reader.specs.Bound.{Tree, preorder};
 ghost use Rattle.incumbent_book.specs.declared.node.Node.TheVariants.{Open, Split};

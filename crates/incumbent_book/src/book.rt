@@ -3,7 +3,8 @@
 ghost use Rattle.std.specs.Prelude.{◌≡◌, ◌+◌, ◌≤◌, ℕ, List, [], option_map, IfOk, map};
 ghost use Rattle.branching.specs.Arcs.{pair};
 ghost use Rattle.tenths.specs.declared.value.TheConstants.{MOST_TENTHS};
-ghost use Rattle.incumbent_book.specs.Trees.{IsTreeOf, node_of};
+ghost use Rattle.branching.specs.Nodes.{node_of};
+ghost use Rattle.incumbent_book.specs.Trees.{IsTreeOf};
 ghost use Rattle.solomon_reader.specs.Bound.{Tree, preorder};
 ghost use Rattle.solomon_reader.specs.Plan.{IsPlan, plan_cost};
 ghost use Rattle.solomon_reader.specs.History.{IsBound};

@@ -3,7 +3,7 @@
 ghost use Rattle.std.specs.Prelude.{◌≡◌, ◌<◌, ◌++◌, ◌∷◌, [], map, length, IfOk, OnOk, OnErr};
 ghost use Rattle.solomon_reader.specs.Bound.{Tree, preorder, leaf_node, split_node};
 ghost use Rattle.incumbent_book.specs.Forward.{IsForward, GrowsIn};
-ghost use Rattle.incumbent_book.specs.Trees.{node_of};
+ghost use Rattle.branching.specs.Nodes.{node_of};
 ghost use Rattle.branching.specs.Arcs.{pair};
 
 use crate::node::Node;

@@ -1,7 +1,8 @@
 //! What a finished book leaves.
 
 ghost use Rattle.std.specs.Prelude.{◌≡◌, ◌≤◌, ℕ, List, map, option_map, IfOk};
-ghost use Rattle.incumbent_book.specs.Trees.{IsTreeOf, node_of};
+ghost use Rattle.branching.specs.Nodes.{node_of};
+ghost use Rattle.incumbent_book.specs.Trees.{IsTreeOf};
 ghost use Rattle.tenths.specs.declared.value.TheConstants.{MOST_TENTHS};
 ghost use Rattle.solomon_reader.specs.Bound.{Tree, preorder};
 ghost use Rattle.solomon_reader.specs.Plan.{IsPlan, plan_cost};

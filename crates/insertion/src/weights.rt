@@ -1,6 +1,6 @@
 //! The weights of the insertion criteria.
 
-ghost use Rattle.std.specs.Prelude.{◌≡◌, ◌*◌, ◌≤◌, ◌^◌, SomeIff, unsigned_abs};
+ghost use Rattle.std.specs.Prelude.{◌≡◌, ◌*◌, ◌%◌, ◌≤◌, ◌^◌, SomeIff, unsigned_abs};
 ghost use Rattle.insertion.specs.Weighing.{Weighing, IsWeighing};
 ghost use Rattle.solomon_reader.specs.declared.limits.TheConstants.{MOST_DISTANCE};
 
@@ -53,6 +53,30 @@ impl Weights {
             return None;
         }
         Some(Weights { mu, lambda, a1 })
+    }
+
+    /// The weights that count the detour alone, beside the arc that it spares and the way from the
+    /// depot, each once: 100, 100 and 100.
+    pub fn plain() -> Weights
+        ensures { result ≡ record { mu = 100; lambda = 100; a1 = 100 } }
+    {
+        Weights {
+            mu: ONE,
+            lambda: ONE,
+            a1: ONE,
+        }
+    }
+
+    /// Weights of three random words, each by its rest: `mu` and `lambda` from 0 to 1,000, `a1` from 0
+    /// to 100.
+    pub fn of_words(mu: u32, lambda: u32, a1: u32) -> Weights
+        ensures { result ≡ record { mu = mu % 1001; lambda = lambda % 1001; a1 = a1 % 101 } }
+    {
+        Weights {
+            mu: (mu % (u32::from(MOST_WEIGHT) + 1)) as u16,
+            lambda: (lambda % (u32::from(MOST_WEIGHT) + 1)) as u16,
+            a1: (a1 % (u32::from(ONE) + 1)) as u16,
+        }
     }
 
     /// The criterion c11, in hundredths of tenths: the way round by a customer less the weighted

@@ -5,6 +5,7 @@
 mod arc_flow;
 mod ascent;
 mod centre;
+mod child;
 mod floor;
 mod goal;
 mod merit;
@@ -14,7 +15,8 @@ mod route_pool;
 mod starting;
 mod trial;
 
+pub use child::{Children, branch};
 pub use goal::Goal;
 pub use raising::raise;
 pub use route_pool::RoutePool;
-pub use starting::{first_prices, first_rise};
+pub use starting::{first_prices, first_rise, start_from};

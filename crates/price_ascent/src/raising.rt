@@ -30,7 +30,7 @@ fn price_trial<'i>(
 }
 
 /// Of two prices of one leaf those of the higher value; of equal values the first.
-fn higher<'i>(first: Priced<'i>, second: Priced<'i>) -> Priced<'i>
+pub(crate) fn higher<'i>(first: Priced<'i>, second: Priced<'i>) -> Priced<'i>
     requires same_problem { second.problem ≡ first.problem }
     requires same_region { second.region ≡ first.region }
     requires same_neighbours { second.neighbours ≡ first.neighbours }

@@ -1,11 +1,15 @@
 //! Prices to start from.
 
-ghost use Rattle.std.specs.Prelude.{◌≡◌, length, IfOk};
+ghost use Rattle.std.specs.Prelude.{◌≡◌, ◌≤◌, length, IfOk};
 ghost use Rattle.std.specs.List.{AllByRecursion};
 ghost use Rattle.solomon_reader.specs.Problem.{customer_count};
 ghost use Rattle.solomon_reader.specs.CertificateText.{IsPrice};
+ghost use Rattle.solomon_reader.specs.Region.{root_region};
 
 use crate::pooled_route::{GRAINS_OF_TENTH, arc_cost};
+use crate::raising::higher;
+use branching::Region;
+use prices::Priced;
 use solomon_reader::{Instance, MOST_PRICE};
 use std::alloc::{AllocError, Global};
 use tenths::Tenths;
@@ -77,4 +81,29 @@ pub fn first_prices(
         prices.push(first_price(instance, routes, customer))?;
     }
     Ok(prices)
+}
+
+/// The root with the prices that the routes of a plan say to start from, where their value is higher;
+/// else the root as it is, also where memory or labels don't suffice.
+pub fn start_from<'i>(
+    alloc: Global,
+    root: Priced<'i>,
+    routes: &[Vec<u16>],
+    labels: Option<usize>,
+) -> Priced<'i>
+    requires region { root.region ≡ root_region (customer_count root.problem) }
+    ensures problem { result.problem ≡ root.entry.problem }
+    ensures region { result.region ≡ root.entry.region }
+    ensures neighbours { result.neighbours ≡ root.entry.neighbours }
+    ensures not_lower { root.entry.value ≤ result.value }
+{
+    let instance = root.instance();
+    let Ok(prices) = first_prices(alloc, instance, routes) else {
+        return root;
+    };
+    let region = Region::root(alloc, instance.customer_count());
+    let Ok(first) = Priced::of(alloc, instance, region, root.neighbours(), prices, labels) else {
+        return root;
+    };
+    higher(root, first)
 }

@@ -8,6 +8,7 @@ mod opening;
 mod running;
 mod worker;
 
+pub use closing::{CloseAloneFault, Closed, MOST_CLOSED, close_alone};
 pub use fault::RunFault;
 pub use running::run;
 pub use worker_turns::{

@@ -11,11 +11,10 @@ ghost use Rattle.search_workers.specs.Running.{IsOneOn};
 ghost use Rattle.search_workers.specs.declared.fault.RunFault.TheVariants.{Memory, LabelLimit};
 
 use crate::fault::RunFault;
-use branching::Region;
 use incumbent_book::{Book, BookFault, OpenFault};
 use insertion::{Built, InsertFault, Weights, build};
 use labelling::LabelFault;
-use price_ascent::first_prices;
+use price_ascent::start_from;
 use prices::Priced;
 use schedule::Feasible;
 use search::Searcher;
@@ -26,14 +25,6 @@ use worker_turns::{Settings, generator};
 
 /// The worker that offers the first plan.
 const FIRST_WORKER: u16 = 0;
-
-/// The weights of the first plan's insertion, in hundredths: of the arc that is spared, of the way
-/// from the depot, and of the detour, which alone counts at 100.
-const SPARED: u16 = 100;
-
-const FROM_DEPOT: u16 = 100;
-
-const DETOUR: u16 = 100;
 
 /// The book of a run, and the plan that the search workers begin from.
 #[derive(Drop)]
@@ -47,10 +38,7 @@ fn build_plan<'i>(alloc: Global, instance: &'i Instance) -> Result<Option<Feasib
     ensures plan { IfOk result (λ plan. MatchOption plan (¬ IsServedAlone instance.now) (λ f. f.problem ≡ instance.now)) }
     ensures memory { IfErr result (λ e. e ≡ Memory) }
 {
-    let Some(weights) = Weights::new(SPARED, FROM_DEPOT, DETOUR) else {
-        unreachable!()
-    };
-    match build(alloc, instance, &weights) {
+    match build(alloc, instance, &Weights::plain()) {
         Ok(Built::Whole(plan)) => Ok(Some(plan)),
         Ok(Built::Part { .. }) => Ok(None),
         Err(InsertFault::Memory) => Err(RunFault::Memory),
@@ -88,29 +76,6 @@ fn price_root<'i>(
         Ok(root) => Ok(root),
         Err(LabelFault::Memory) => Err(RunFault::Memory),
         Err(LabelFault::LabelLimit) => Err(RunFault::LabelLimit),
-    }
-}
-
-/// The root with the prices that a plan says to start from, where their value is higher.
-fn start_from<'i>(alloc: Global, root: Priced<'i>, plan: &Feasible<'i>, labels: u32) -> Priced<'i>
-    requires region { root.region ≡ root_region (customer_count root.problem) }
-    ensures problem { result.problem ≡ root.entry.problem }
-    ensures region { result.region ≡ root.entry.region }
-    ensures neighbours { result.neighbours ≡ root.entry.neighbours }
-{
-    let instance = root.instance();
-    let Ok(prices) = first_prices(alloc, instance, plan.routes()) else {
-        return root;
-    };
-    let region = Region::root(alloc, instance.customer_count());
-    let limit = Some(labels as usize);
-    let Ok(first) = Priced::of(alloc, instance, region, root.neighbours(), prices, limit) else {
-        return root;
-    };
-    if first.value() > root.value() {
-        first
-    } else {
-        root
     }
 }
 
@@ -191,7 +156,7 @@ impl<'i> Opening<'i> {
             let book = open_book(alloc, root)?;
             return Ok(Opening { book, plan: None });
         };
-        let root = start_from(alloc, root, &plan, settings.labels);
+        let root = start_from(alloc, root, plan.routes(), Some(settings.labels as usize));
         let mut book = open_book(alloc, root)?;
         let plan = offer_both(rt, alloc, &mut book, plan, settings.seed)?;
         Ok(Opening {

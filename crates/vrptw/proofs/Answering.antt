@@ -9,7 +9,7 @@ use Rattle.search_workers.specs.declared.fault.RunFault.TheVariants as run
 use Rattle.worker_turns.specs.declared.settings.Settings.{Settings}
 use Rattle.worker_turns.specs.Settings.{IsWithin}
 use Rattle.search_workers.specs.Running.{RefusesSettings}
-use Rattle.vrptw.specs.declared.answer.SolveFault.TheVariants.{Memory, Instance, BadSettings, LabelLimit, NoThread, Device}
+use Rattle.vrptw.specs.declared.answer.SolveFault.TheVariants.{Memory, Instance, BadSettings, LabelLimit, NoThread, LeafLimit, TooLarge, Device}
 use Rattle.vrptw.specs.Answers.{Held, IsFaultOfRun, Solves, WritesBoth}
 
 module _ (text : List ℕ) (settings : Settings) (p : Problem) (s s' c c' : Held) (is : IsInstance text p) (within : IsWithin settings) where
@@ -20,6 +20,8 @@ module _ (text : List ℕ) (settings : Settings) (p : Problem) (s s' c c' : Held
   answered (Err BadSettings) both = absurd (let e : BadSettings ≡ Device = both.0 in cc)
   answered (Err LabelLimit) both = absurd (let e : LabelLimit ≡ Device = both.0 in cc)
   answered (Err NoThread) both = absurd (let e : NoThread ≡ Device = both.0 in cc)
+  answered (Err LeafLimit) both = absurd (let e : LeafLimit ≡ Device = both.0 in cc)
+  answered (Err TooLarge) both = absurd (let e : TooLarge ≡ Device = both.0 in cc)
   answered (Err Device) both = (p, is, within, both.1)
 
   pub solved : (q : Problem) (k : ℕ) (r : Result Answer SolveFault) → q ≡ p → k ≡ settings.neighbours → WritesBoth q k s s' c c' r → Solves text settings s s' c c' r

@@ -1,6 +1,5 @@
-mod Refusals
-mod Steps
-mod Named
 pub mod Answering
 pub mod BoundTexts
 pub mod OutcomeTrees
+pub mod TreeTexts
+pub mod Closings

@@ -92,6 +92,8 @@ RefusesText text (fault.Instance f) = (reading (words text) ≡ Err f) × (f ≢
 RefusesText text fault.BadSettings = ⊥
 RefusesText text fault.LabelLimit = ⊥
 RefusesText text fault.NoThread = ⊥
+RefusesText text fault.LeafLimit = ⊥
+RefusesText text fault.TooLarge = ⊥
 RefusesText text fault.Device = ⊥
 
 -- what the solver tells of a run's fault
@@ -109,4 +111,6 @@ Solves text settings s s' c c' (Err (fault.Instance f)) = (reading (words text) 
 Solves text settings s s' c c' (Err fault.BadSettings) = ((p : Problem) × IsInstance text p) × (¬ IsWithin settings) × (s' ≡ s) × (c' ≡ c)
 Solves text settings s s' c c' (Err fault.LabelLimit) = ((p : Problem) × IsInstance text p) × IsWithin settings × (s' ≡ s) × (c' ≡ c)
 Solves text settings s s' c c' (Err fault.NoThread) = ((p : Problem) × IsInstance text p) × IsWithin settings × (s' ≡ s) × (c' ≡ c)
+Solves text settings s s' c c' (Err fault.LeafLimit) = ⊥
+Solves text settings s s' c c' (Err fault.TooLarge) = ⊥
 Solves text settings s s' c c' (Err fault.Device) = (p : Problem) × IsInstance text p × IsWithin settings × Breaks p settings.neighbours s s' c c'

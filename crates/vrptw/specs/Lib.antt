@@ -1,4 +1,3 @@
-pub mod Commands
-pub mod Jobs
 pub mod Certified
 pub mod Answers
+pub mod Closing

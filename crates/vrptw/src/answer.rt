@@ -4,7 +4,7 @@ ghost use Rattle.std.specs.Prelude.{◌≡◌};
 ghost use Rattle.vrptw.specs.declared.answer.SolveFault.TheVariants as fault;
 
 use search::SearchFault;
-use search_workers::RunFault;
+use search_workers::{CloseAloneFault, RunFault};
 use solomon_reader::ReadFault;
 use std::alloc::AllocError;
 use tenths::Tenths;
@@ -42,6 +42,12 @@ pub enum SolveFault {
     /// A thread was refused; nothing was written.
     #[error("NoThread")]
     NoThread,
+    /// The tree that closes the instance needs more leaves than the caller allowed; nothing was written.
+    #[error("LeafLimit")]
+    LeafLimit,
+    /// There are more customers than can be closed; nothing was written.
+    #[error("TooLarge")]
+    TooLarge,
     /// A sink failed: the first holds a beginning and the second nothing, or the first all and the
     /// second a beginning.
     #[error("Device")]
@@ -67,6 +73,20 @@ impl From<RunFault> for SolveFault {
             RunFault::BadSettings => SolveFault::BadSettings,
             RunFault::LabelLimit => SolveFault::LabelLimit,
             RunFault::NoThread => SolveFault::NoThread,
+        }
+    }
+}
+
+impl From<CloseAloneFault> for SolveFault {
+    ghost use Rattle.vrptw.specs.Closing.{IsFaultOfClosing};
+
+    ghost from_gives = { IsFaultOfClosing };
+
+    fn from(fault: CloseAloneFault) -> SolveFault {
+        match fault {
+            CloseAloneFault::Memory => SolveFault::Memory,
+            CloseAloneFault::LeafLimit { .. } => SolveFault::LeafLimit,
+            CloseAloneFault::TooLarge => SolveFault::TooLarge,
         }
     }
 }

@@ -1,7 +1,10 @@
-//! The certificate of an outcome.
+//! The certificate of a bound.
 
-ghost use Rattle.std.specs.Prelude.{◌≡◌, IfOk, IfErr, map};
-ghost use Rattle.incumbent_book.specs.Trees as book;
+ghost use Rattle.std.specs.Prelude.{◌≡◌, ℕ, ◌+◌, ◌≤◌, IfOk, IfErr, map};
+ghost use Rattle.solomon_reader.specs.Bound.{ceiling_of};
+ghost use Rattle.solomon_reader.specs.declared.limits.TheConstants.{MOST_NEIGHBOURS};
+ghost use Rattle.branching.specs.Nodes.{IsListedTree};
+ghost use Rattle.branching.specs.Nodes as tree;
 ghost use Rattle.certificate.specs.Tree as certificate;
 ghost use Rattle.vrptw.specs.Certified.{IsCertified};
 ghost use Rattle.vrptw.specs.declared.answer.SolveFault.TheVariants.{Memory};
@@ -10,11 +13,13 @@ use crate::answer::SolveFault;
 use branching::TreeNode;
 use certificate::{Cert, CertNode, CertParts, ShapeFault, Version};
 use incumbent_book::Outcome;
+use solomon_reader::Instance;
 use std::alloc::{AllocError, Global};
+use tenths::Tenths;
 
 /// A node as a certificate has it.
 fn certificate_node(node: TreeNode) -> CertNode
-    ensures { certificate.node_of result ≡ book.node_of node }
+    ensures { certificate.node_of result ≡ tree.node_of node }
 {
     match node {
         TreeNode::Split(arc) => CertNode::Split {
@@ -27,7 +32,7 @@ fn certificate_node(node: TreeNode) -> CertNode
 
 /// Nodes as a certificate has them.
 fn certificate_nodes(alloc: Global, nodes: Vec<TreeNode>) -> Result<Vec<CertNode>, AllocError>
-    ensures { IfOk result (λ v. map certificate.node_of v.items ≡ map book.node_of nodes.items) }
+    ensures { IfOk result (λ v. map certificate.node_of v.items ≡ map tree.node_of nodes.items) }
 {
     let mut listed = Vec::new(alloc);
     for node in nodes {
@@ -36,20 +41,30 @@ fn certificate_nodes(alloc: Global, nodes: Vec<TreeNode>) -> Result<Vec<CertNode
     Ok(listed)
 }
 
-/// The certificate of an outcome's bound, with its tree. `Memory`.
-pub fn certify(alloc: Global, outcome: &Outcome<'_>) -> Result<Cert, SolveFault>
-    ensures certified { IfOk result (λ c. IsCertified outcome.now.problem outcome.now.neighbours c) }
+/// The certificate of a bound, in tenths, for so many neighbours, with its tree. `Memory`.
+pub(crate) fn certify(
+    alloc: Global,
+    instance: &Instance,
+    neighbours: u32,
+    bound: Tenths,
+    nodes: Vec<TreeNode>,
+) -> Result<Cert, SolveFault>
+    requires few { neighbours ≤ MOST_NEIGHBOURS }
+    requires most { bound ≤ ceiling_of instance.now + 1 }
+    requires tree { (leaves : ℕ) × IsListedTree instance.now neighbours nodes.items bound leaves }
+    ensures certified { IfOk result (IsCertified instance.now neighbours) }
+    ensures bound { IfOk result (λ c. c.bound ≡ bound) }
     ensures memory { IfErr result (λ e. e ≡ Memory) }
 {
-    let instance = outcome.instance();
     instance.law_of_limits();
+    let _within = bound.get();
     let parts = CertParts {
         version: Version::Two,
         name: Vec::from_slice(alloc, instance.name())?,
         size: instance.customer_count(),
-        neighbours: outcome.neighbours(),
-        bound: outcome.bound(),
-        nodes: certificate_nodes(alloc, outcome.nodes(alloc)?)?,
+        neighbours,
+        bound,
+        nodes: certificate_nodes(alloc, nodes)?,
     };
     match Cert::new(alloc, parts) {
         Ok(cert) => Ok(cert),
@@ -58,4 +73,20 @@ pub fn certify(alloc: Global, outcome: &Outcome<'_>) -> Result<Cert, SolveFault>
             ShapeFault::NotACertificate => unreachable!(),
         },
     }
+}
+
+/// The certificate of an outcome's bound, with its tree. `Memory`.
+pub(crate) fn certify_outcome(alloc: Global, outcome: &Outcome<'_>) -> Result<Cert, SolveFault>
+    ensures certified { IfOk result (IsCertified outcome.now.problem outcome.now.neighbours) }
+    ensures memory { IfErr result (λ e. e ≡ Memory) }
+{
+    let bound = outcome.bound();
+    let nodes = outcome.nodes(alloc)?;
+    certify(
+        alloc,
+        outcome.instance(),
+        outcome.neighbours(),
+        bound,
+        nodes,
+    )
 }

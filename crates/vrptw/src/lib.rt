@@ -4,15 +4,15 @@
 
 mod answer;
 mod certifying;
-mod commands;
-mod jobs;
+mod closing_text;
 mod lines;
 mod program;
 mod solving;
+mod writing;
 
 pub use answer::{Answer, SolveFault};
-pub use commands::job;
-pub use jobs::{Job, MOST_STATES, UsageFault};
+pub use closing_text::close;
+pub use command_line::{Job, MOST_STATES, UsageFault, job};
 pub use lines::words_fault;
 pub use program::run_words;
 pub use search_workers::{

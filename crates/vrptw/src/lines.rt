@@ -3,9 +3,8 @@
 ghost use Rattle.std.specs.Prelude.{◌≡◌, ◌⊎◌};
 
 use crate::answer::{Answer, SolveFault};
-use crate::commands::wrong_words;
-use crate::jobs::UsageFault;
 use checker::{CheckFault, Verdict};
+use command_line::{UsageFault, wrong_words};
 use solomon_reader::ReadFault;
 use std::alloc::{AllocError, Global};
 use std::io;
@@ -125,6 +124,8 @@ pub(crate) fn solve_fault<Y: Sink>(alloc: Global, fault: SolveFault, errors: &mu
         SolveFault::NoThread => fail(errors, "vrptw: thread\n", MEMORY),
         SolveFault::BadSettings => fail(errors, "vrptw: settings\n", USAGE),
         SolveFault::LabelLimit => fail(errors, "vrptw: limit: LabelLimit\n", LIMIT),
+        SolveFault::LeafLimit => fail(errors, "vrptw: limit: LeafLimit\n", LIMIT),
+        SolveFault::TooLarge => fail(errors, "vrptw: limit: TooLarge\n", LIMIT),
         SolveFault::Device => file_fault(errors),
         SolveFault::Instance(fault) => instance_fault(alloc, fault, errors),
     }

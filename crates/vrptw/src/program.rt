@@ -2,13 +2,14 @@
 
 ghost use Rattle.std.specs.Prelude.{◌≡◌, ◌⊎◌, IsTrue, ◌↔◌};
 
-use crate::commands::job;
-use crate::jobs::Job;
+use crate::answer::{Answer, SolveFault};
+use crate::closing_text::close;
 use crate::lines::{
     check_fault, file_fault, open_fault, solve_fault, tell, tell_verdict, usage_fault,
 };
 use crate::solving::solve;
 use checker::check;
+use command_line::{Job, job};
 use search_workers::{NoGate, Settings};
 use std::alloc::Global;
 use std::rt::Files;
@@ -34,12 +35,36 @@ impl Paths<'_> {
     }
 }
 
+/// How an instance is solved: within the settings, and where a number of leaves is given, by closing it
+/// with no more of them.
+#[derive(Clone, Copy)]
+struct Work<'a> {
+    settings: &'a Settings,
+    closing: Option<u32>,
+}
+
+/// Closes the instance of a text, or solves it.
+fn solve_text<R: Threads + Wait + Sync, X: Sink, Y: Sink>(
+    rt: &R,
+    alloc: Global,
+    text: &[u8],
+    work: Work<'_>,
+    solution: &mut X,
+    certificate: &mut Y,
+) -> Result<Answer, SolveFault> {
+    let settings = work.settings;
+    match work.closing {
+        Some(leaves) => close(alloc, text, settings, leaves, solution, certificate),
+        None => solve(rt, alloc, text, settings, &NoGate, solution, certificate),
+    }
+}
+
 /// Solves the instance of a file into two files, which are made once the instance was read.
 fn solve_files<R: Files + AllocGlobal + Threads + Wait + Sync, X: Sink, Y: Sink>(
     rt: &R,
     alloc: Global,
     paths: Paths<'_>,
-    settings: &Settings,
+    work: Work<'_>,
     out: &mut X,
     errors: &mut Y,
 ) -> u8 {
@@ -58,12 +83,11 @@ fn solve_files<R: Files + AllocGlobal + Threads + Wait + Sync, X: Sink, Y: Sink>
         Ok(file) => StdSink::new(file),
         Err(error) => return open_fault(&error, errors),
     };
-    match solve(
+    match solve_text(
         rt,
         alloc,
         text.as_slice(),
-        settings,
-        &NoGate,
+        work,
         &mut solution,
         &mut certificate,
     ) {
@@ -130,8 +154,8 @@ fn check_files<R: Files + AllocGlobal, X: Sink, Y: Sink>(
 /// to `out` in place of standard output and to `errors` in place of standard error, and answers
 /// the status: 0 for `BEST`, `NO PLAN` and help, 1 for `GAP`, `OPEN` and `BOUND`, 2 for wrong words,
 /// 3 for a refused instance, 4 where memory was refused, 5 for a refused certificate or solution, 6
-/// where a file or a stream failed or two paths of `solve` are the same words, 7 where the labels or
-/// the states don't suffice. What files hold no contract can say.
+/// where a file or a stream failed or two paths of `solve` are the same words, 7 where the labels,
+/// the states or the leaves don't suffice, or an instance is too large to be closed. What files hold no contract can say.
 pub fn run_words<R: Files + AllocGlobal + Threads + Wait + Sync, X: Sink, Y: Sink>(
     rt: &R,
     alloc: Global,
@@ -146,6 +170,8 @@ pub fn run_words<R: Files + AllocGlobal + Threads + Wait + Sync, X: Sink, Y: Sin
                 solution,
                 certificate,
                 settings,
+                close,
+                leaves,
             },
         ) => {
             let paths = Paths {
@@ -153,7 +179,11 @@ pub fn run_words<R: Files + AllocGlobal + Threads + Wait + Sync, X: Sink, Y: Sin
                 solution,
                 certificate,
             };
-            solve_files(rt, alloc, paths, &settings, out, errors)
+            let work = Work {
+                settings: &settings,
+                closing: if close { Some(leaves) } else { None },
+            };
+            solve_files(rt, alloc, paths, work, out, errors)
         }
         Ok(
             Job::Check {

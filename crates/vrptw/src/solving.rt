@@ -1,17 +1,16 @@
 //! From the bytes of an instance to a plan and a certificate.
 
-ghost use Rattle.std.specs.Prelude.{◌≡◌, [], IfOk, IfErr, MatchOption};
+ghost use Rattle.std.specs.Prelude.{◌≡◌, ◌≤◌, [], IfOk, IfErr, MatchOption};
 ghost use Rattle.solomon_reader.specs.Layout.{IsInstance};
 ghost use Rattle.solomon_reader.specs.History.{costs_of};
 ghost use Rattle.solomon_reader.specs.Moves.{IsLocalOptimum};
-ghost use Rattle.insertion.specs.Building.{IsServedAlone};
-ghost use Rattle.vrptw.specs.Certified.{IsCertified};
-ghost use Rattle.vrptw.specs.Answers.{Solves, RefusesText, Writes, WritesBoth, IsPlanText, IsBoundText};
+ghost use Rattle.schedule.specs.Solution.{IsSolution};
+ghost use Rattle.vrptw.specs.Answers.{Solves, RefusesText};
 ghost use Rattle.vrptw.specs.declared.answer.SolveFault.TheVariants.{Memory};
 
 use crate::answer::{Answer, SolveFault};
-use crate::certifying::certify;
-use certificate::Cert;
+use crate::certifying::certify_outcome;
+use crate::writing::write_both;
 use incumbent_book::Outcome;
 use schedule::Feasible;
 use search::Searcher;
@@ -23,7 +22,7 @@ use std::thread::Threads;
 use tenths::Sink;
 
 /// The instance that a text is.
-fn read_instance(alloc: Global, text: &[u8]) -> Result<Instance, SolveFault>
+pub(crate) fn read_instance(alloc: Global, text: &[u8]) -> Result<Instance, SolveFault>
     ensures found { IfOk result (λ i. IsInstance text.now i) }
     ensures refused { IfErr result (λ e. RefusesText text.now e) }
 {
@@ -38,14 +37,22 @@ fn read_instance(alloc: Global, text: &[u8]) -> Result<Instance, SolveFault>
 const FIRST_WORKER: u16 = 0;
 
 /// The plan that a descent leads to.
-fn descend<'i>(alloc: Global, plan: Feasible<'i>, seed: u32) -> Result<Feasible<'i>, SolveFault>
+pub(crate) fn descend<'i>(
+    alloc: Global,
+    plan: Feasible<'i>,
+    seed: u32,
+) -> Result<Feasible<'i>, SolveFault>
     ensures problem { IfOk result (λ f. f.problem ≡ plan.entry.problem) }
+    ensures cost { IfOk result (λ f. f.cost ≤ plan.entry.cost) }
+    ensures solution { IfOk result (λ f. IsSolution f) }
     ensures optimum { IfOk result (λ f. IsLocalOptimum f.problem f.routes) }
     ensures memory { IfErr result (λ e. e ≡ Memory) }
 {
     let mut searcher = Searcher::new(alloc, plan, generator(seed, FIRST_WORKER));
     searcher.descend()?;
-    Ok(searcher.into_plan())
+    let lower = searcher.into_plan();
+    let _cost = lower.cost();
+    Ok(lower)
 }
 
 /// The plan of an outcome, if it has one, descended once more.
@@ -63,69 +70,6 @@ fn last_plan<'i>(
     };
     let lower = descend(alloc, plan.try_clone()?, seed)?;
     Ok(Some(lower))
-}
-
-/// Writes the text of a plan.
-fn write_plan<X: Sink>(plan: &Feasible<'_>, solution: &mut X) -> Result<(), SolveFault>
-    requires { IsLocalOptimum plan.now.problem plan.now.routes }
-    ensures { Writes (IsPlanText plan.now.problem plan.now.cost)
-        (record { taken = X.taken solution.old; failures = X.failures solution.old })
-        (record { taken = X.taken solution.new; failures = X.failures solution.new }) result }
-{
-    match sol_writer::write(plan.routes(), plan.cost(), solution) {
-        Ok(()) => Ok(()),
-        Err(_) => Err(SolveFault::Device),
-    }
-}
-
-/// Writes the certificate of an outcome.
-fn write_bound<Y: Sink>(
-    outcome: &Outcome<'_>,
-    cert: &Cert,
-    certificate: &mut Y,
-) -> Result<(), SolveFault>
-    requires { IsCertified outcome.now.problem outcome.now.neighbours cert.now }
-    ensures { Writes (IsBoundText outcome.now.problem outcome.now.neighbours cert.now.bound)
-        (record { taken = Y.taken certificate.old; failures = Y.failures certificate.old })
-        (record { taken = Y.taken certificate.new; failures = Y.failures certificate.new }) result }
-{
-    match certificate::write(cert, certificate) {
-        Ok(()) => Ok(()),
-        Err(_) => Err(SolveFault::Device),
-    }
-}
-
-/// Writes the plan, if there is one, and then the certificate of the outcome.
-fn write_both<X: Sink, Y: Sink>(
-    plan: Option<&Feasible<'_>>,
-    outcome: &Outcome<'_>,
-    cert: &Cert,
-    solution: &mut X,
-    certificate: &mut Y,
-) -> Result<Answer, SolveFault>
-    requires plan { MatchOption plan (¬ IsServedAlone outcome.now.problem) (λ f. (f.now.problem ≡ outcome.now.problem) × IsLocalOptimum f.now.problem f.now.routes) }
-    requires certified { IsCertified outcome.now.problem outcome.now.neighbours cert.now }
-    ensures { WritesBoth outcome.now.problem outcome.now.neighbours
-        (record { taken = X.taken solution.old; failures = X.failures solution.old })
-        (record { taken = X.taken solution.new; failures = X.failures solution.new })
-        (record { taken = Y.taken certificate.old; failures = Y.failures certificate.old })
-        (record { taken = Y.taken certificate.new; failures = Y.failures certificate.new }) result }
-{
-    let bound = cert.parts().bound;
-    let Some(plan) = plan else {
-        write_bound(outcome, cert, certificate)?;
-        if bound.get() > outcome.instance().ceiling().get() {
-            return Ok(Answer::NoPlan);
-        }
-        return Ok(Answer::Open { bound });
-    };
-    write_plan(plan, solution)?;
-    write_bound(outcome, cert, certificate)?;
-    let cost = plan.cost();
-    if cost == bound {
-        return Ok(Answer::Best { cost });
-    }
-    Ok(Answer::Gap { cost, bound })
 }
 
 /// Solves the instance of a text: writes a plan to the first sink, if one was found, and then to
@@ -156,6 +100,6 @@ pub fn solve<R: Threads + Wait + Sync, G: Gate + Sync, X: Sink, Y: Sink>(
     let instance = read_instance(alloc, text)?;
     let outcome = run(rt, alloc, &instance, settings, gate)?;
     let plan = last_plan(alloc, &outcome, settings.seed)?;
-    let cert = certify(alloc, &outcome)?;
+    let cert = certify_outcome(alloc, &outcome)?;
     write_both(plan.as_ref(), &outcome, &cert, solution, certificate)
 }

@@ -6,44 +6,18 @@ ghost use Rattle.ceiling.specs.Seats.{IsSeatOf};
 use crate::gate::{Gate, GatePoint};
 use crate::hub::Hub;
 use crate::nodes::{Nodes, Taken};
-use crate::pricing::{goal_of, price_child};
+use crate::pricing::goal_of;
 use crate::refusal::Refusal;
 use crate::settings::Settings;
 use crate::spot::Spot;
-use branching::Arc;
 use ceiling::{Ceiling, CeilingSeat};
-use price_ascent::{RoutePool, raise};
-use prices::Priced;
+use price_ascent::{Children, RoutePool, branch, raise};
+use prices::{PriceFault, Priced};
 use schedule::Feasible;
 use solomon_reader::Instance;
 use std::alloc::Global;
 
-/// The children of a leaf by an arc, with their prices.
-struct Children<'i> {
-    arc: Arc,
-    used: Priced<'i>,
-    unused: Priced<'i>,
-}
-
-/// The children of a leaf by the arc that the routes met leave most open, if there is one to split
-/// by, with the leaf's prices.
-fn price_children<'i, G: Gate>(
-    spot: &Spot<'_, G>,
-    leaf: &Priced<'i>,
-    labels: usize,
-    pool: &RoutePool,
-) -> Result<Option<Children<'i>>, Refusal> {
-    let arcs = pool.branching_arcs(leaf.instance())?;
-    let region = leaf.region();
-    let Some(arc) = region.choose(arcs.as_slice()) else {
-        return Ok(None);
-    };
-    let used = price_child(spot.alloc, leaf, region.used(arc)?, labels)?;
-    let unused = price_child(spot.alloc, leaf, region.forbidden(arc)?, labels)?;
-    Ok(Some(Children { arc, used, unused }))
-}
-
-/// Splits a leaf, and lays both children into the worker's deque.
+/// Splits a leaf, and keeps both children, which wait for their turn.
 fn split<'i, H: Hub<'i>, G: Gate>(
     spot: &Spot<'_, G>,
     hub: &mut H,
@@ -52,11 +26,12 @@ fn split<'i, H: Hub<'i>, G: Gate>(
     nodes: &mut Nodes<'_>,
 ) -> Result<(), Refusal> {
     let Children { arc, used, unused } = children;
+    let (first_value, second_value) = (used.value(), unused.value());
     match hub.split(number, arc, used, unused) {
         Ok((first, second)) => {
             spot.pass(GatePoint::Split);
-            nodes.push(first)?;
-            nodes.push(second)
+            nodes.push(first, first_value)?;
+            nodes.push(second, second_value)
         }
         Err((_, _, fault)) => Err(Refusal::from(fault)),
     }
@@ -89,10 +64,12 @@ fn bring<'i, H: Hub<'i>, G: Gate>(
         nodes.keep(number);
         return reprice(hub, number, leaf);
     }
-    match price_children(spot, &leaf, labels, &nodes.pool) {
+    match branch(spot.alloc, &leaf, &nodes.pool, Some(labels)) {
         Ok(Some(children)) => split(spot, hub, number, children, nodes),
-        Ok(None) | Err(Refusal::EndsTurn) => reprice(hub, number, leaf),
-        Err(Refusal::EndsWork) => Err(Refusal::EndsWork),
+        Ok(None) | Err(PriceFault::LabelLimit | PriceFault::PriceRange) => {
+            reprice(hub, number, leaf)
+        }
+        Err(PriceFault::Memory) => Err(Refusal::EndsWork),
     }
 }
 
@@ -173,7 +150,7 @@ fn turn<'i, H: Hub<'i>, G: Gate>(
     if spot.is_closed(seat) {
         return Ok(());
     }
-    let Some(taken) = nodes.take() else {
+    let Some(taken) = nodes.take()? else {
         return Ok(());
     };
     if taken.is_stolen {
@@ -192,7 +169,8 @@ fn turn<'i, H: Hub<'i>, G: Gate>(
 /// Makes as many turns as the settings say, or fewer where a refusal of memory or a full history,
 /// tree or deque ends the work, and answers how many.
 ///
-/// In each turn the worker takes an open node of its own or steals one, and raises the value of the
+/// In each turn the worker takes the open node of its own that has the least value or steals one, and
+/// raises the value of the
 /// leaf. It gives the leaf the new prices at the root and where the value reaches the ceiling, else
 /// splits it; a leaf whose value had reached the ceiling is laid aside.
 /// A refusal of the hub ends the turn. Where the words for cost and bound have met, a turn does nothing.

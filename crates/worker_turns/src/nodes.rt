@@ -18,11 +18,22 @@ const MORE_THAN_PLAN: u64 = 2;
 
 const MORE_THAN_FEWEST: u64 = 3;
 
-/// What a bound worker has: the end of a deque of its own, the deques that it steals from, and the
-/// routes that it met, whatever the leaf.
+/// A leaf that waits for its turn, with its value in tenths when it was made.
+#[derive(Clone, Copy, Debug)]
+struct OpenNode {
+    number: u32,
+    value: i128,
+}
+
+/// What a bound worker has: the leaves that it made, the end of a deque of its own, in which one of them
+/// stands for others to steal, the deques that it steals from, and the routes that it met, whatever the
+/// leaf.
 #[derive(Drop)]
 pub struct Nodes<'p> {
+    open: Vec<OpenNode>,
     own: Hand,
+    /// The value of the leaf that stands in the worker's own deque, if it is still there.
+    shared_value: i128,
     deques: &'p [Thief],
     place: usize,
     pass: Pass,
@@ -41,6 +52,22 @@ pub(crate) struct Taken {
     pub(crate) is_stolen: bool,
     /// Whether the worker raised its prices in the turn before, too.
     pub(crate) is_again: bool,
+}
+
+/// Takes a leaf of the least value out of a list.
+fn take_least(open: &mut Vec<OpenNode>) -> Option<OpenNode> {
+    let mut least: Option<(usize, i128)> = None;
+    for (place, node) in open.iter().enumerate() {
+        if least.is_none_or(|(_, value)| node.value < value) {
+            least = Some((place, node.value));
+        }
+    }
+    let (place, _) = least?;
+    if place < open.len() {
+        Some(open.swap_remove(place))
+    } else {
+        None
+    }
 }
 
 /// Tries each deque but the one at this place once, until one gives a number.
@@ -99,7 +126,9 @@ impl<'p> Nodes<'p> {
     {
         let pool = pool_of(alloc, instance, plan)?;
         Ok(Nodes {
+            open: Vec::new(alloc),
             own,
+            shared_value: 0,
             deques,
             place,
             pass,
@@ -109,12 +138,39 @@ impl<'p> Nodes<'p> {
         })
     }
 
-    /// Puts a number at the end of the worker's own deque. Where that is full, its work ends.
-    pub(crate) fn push(&mut self, number: u32) -> Result<(), Refusal> {
-        match self.own.push(number) {
+    /// Keeps a leaf of this value, in tenths, that waits for its turn. Where memory is refused, the
+    /// worker's work ends.
+    pub(crate) fn push(&mut self, number: u32, value: i128) -> Result<(), Refusal> {
+        match self.open.push(OpenNode { number, value }) {
             Ok(()) => Ok(()),
             Err(_) => Err(Refusal::EndsWork),
         }
+    }
+
+    /// Puts a leaf into the worker's own deque, for others to steal.
+    fn share(&mut self, node: OpenNode) -> Result<(), Refusal> {
+        match self.own.push(node.number) {
+            Ok(()) => {
+                self.shared_value = node.value;
+                Ok(())
+            }
+            // A deque that takes no more leaves the worker its leaves.
+            Err(_) => self.push(node.number, node.value),
+        }
+    }
+
+    /// Takes the leaf of the least value that the worker made and nobody stole, and shares the next.
+    fn take_own(&mut self) -> Result<Option<u32>, Refusal> {
+        if let Some(number) = self.own.pop() {
+            self.push(number, self.shared_value)?;
+        }
+        let Some(least) = take_least(&mut self.open) else {
+            return Ok(None);
+        };
+        if let Some(next) = take_least(&mut self.open) {
+            self.share(next)?;
+        }
+        Ok(Some(least.number))
     }
 
     /// Notes the leaf to go on with.
@@ -122,27 +178,30 @@ impl<'p> Nodes<'p> {
         self.current = Some(number);
     }
 
-    /// The leaf to go on with, else the oldest number of the worker's own deque, or of another one.
-    pub(crate) fn take(&mut self) -> Option<Taken> {
+    /// The leaf to go on with, else that of the least value of the worker's own, so that the bound
+    /// rises, or one of another worker. Where memory is refused, the worker's work ends.
+    pub(crate) fn take(&mut self) -> Result<Option<Taken>, Refusal> {
         if let Some(number) = self.current.take() {
-            return Some(Taken {
+            return Ok(Some(Taken {
                 number,
                 is_stolen: false,
                 is_again: true,
-            });
+            }));
         }
-        if let Some(number) = self.own.pop() {
-            return Some(Taken {
+        if let Some(number) = self.take_own()? {
+            return Ok(Some(Taken {
                 number,
                 is_stolen: false,
                 is_again: false,
-            });
+            }));
         }
-        let number = steal(self.deques, self.place, &mut self.pass)?;
-        Some(Taken {
+        let Some(number) = steal(self.deques, self.place, &mut self.pass) else {
+            return Ok(None);
+        };
+        Ok(Some(Taken {
             number,
             is_stolen: true,
             is_again: false,
-        })
+        }))
     }
 }

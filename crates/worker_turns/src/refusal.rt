@@ -1,9 +1,7 @@
 //! What a refusal ends.
 
-use branching::RegionFault;
 use desk::LookFault;
 use incumbent_book::BookFault;
-use prices::PriceFault;
 use search::SearchFault;
 use std::alloc::AllocError;
 
@@ -42,24 +40,6 @@ impl From<LookFault> for Refusal {
         match fault {
             LookFault::Memory => Refusal::EndsWork,
             LookFault::NotALeaf => Refusal::EndsTurn,
-        }
-    }
-}
-
-impl From<PriceFault> for Refusal {
-    fn from(fault: PriceFault) -> Refusal {
-        match fault {
-            PriceFault::Memory => Refusal::EndsWork,
-            PriceFault::LabelLimit | PriceFault::PriceRange => Refusal::EndsTurn,
-        }
-    }
-}
-
-impl From<RegionFault> for Refusal {
-    fn from(fault: RegionFault) -> Refusal {
-        match fault {
-            RegionFault::Memory => Refusal::EndsWork,
-            RegionFault::BadArc | RegionFault::Decided => Refusal::EndsTurn,
         }
     }
 }

@@ -15,12 +15,6 @@ use search::Searcher;
 use solomon_reader::Instance;
 use std::alloc::Global;
 
-/// How many values the first two weights have, 0 to 1,000.
-const WEIGHTS: u32 = 1_001;
-
-/// How many values the weight of the detour has, 0 to 100.
-const DETOURS: u32 = 101;
-
 /// What a search worker has: a plan to change, or no more than its random words.
 #[derive(Drop)]
 enum Quest<'i, R> {
@@ -30,13 +24,10 @@ enum Quest<'i, R> {
 
 /// Weights from the next three words.
 fn draw_weights<R: Rng>(random: &mut R) -> Weights {
-    let spared = random.next_u32() % WEIGHTS;
-    let from_depot = random.next_u32() % WEIGHTS;
-    let detour = random.next_u32() % DETOURS;
-    let Some(weights) = Weights::new(spared as u16, from_depot as u16, detour as u16) else {
-        unreachable!()
-    };
-    weights
+    let spared = random.next_u32();
+    let from_depot = random.next_u32();
+    let detour = random.next_u32();
+    Weights::of_words(spared, from_depot, detour)
 }
 
 /// Looks for a first plan by an insertion with drawn weights.

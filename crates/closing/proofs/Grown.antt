@@ -1,0 +1,125 @@
+-- Trees that were added.
+use Rattle.std.proofs.Common.{◌≡◌, refl, ℕ, ◌+◌, ◌*◌, ◌≤◌, min, [], ◌∷◌, ◌++◌, map, append_assoc, arith, ap, sym, subst, ◌∙◌}
+use Rattle.std.proofs.lemmas.List.{map-append}
+use Rattle.std.proofs.lemmas.Nat.{mul-le}
+use Rattle.solomon_reader.specs.declared.limits.TheConstants.{MOST_LEAVES}
+use Rattle.solomon_reader.specs.Problem.{Problem, customer_count}
+use Rattle.solomon_reader.specs.Region.{Region, used_child, unused_child, root_region}
+use Rattle.settling.specs.Depths.{DepthHolds}
+use Rattle.solomon_reader.specs.Bound.{version_2, Tree, leaf, split, leaf_node, split_node, preorder, HasBound, ceiling_of}
+use Rattle.prices.specs.Pricing.{Pricing, IsPricing}
+use Rattle.branching.specs.Arcs.{pair}
+use Rattle.branching.specs.Nodes.{node_of, IsListedTree}
+use Rattle.branching.specs.declared.tree_node.TreeNode.{TreeNode}
+use Rattle.price_ascent.specs.Branching.{AreChildren}
+use Rattle.price_ascent.specs.declared.child.Children.{Children}
+use Rattle.closing.specs.Growing.{Grows, IsSameTask, IsSameTree, AddsSplit}
+use Rattle.closing.specs.declared.growth.Growth.{Growth}
+
+-- a leaf that was listed has grown
+pub leaf_grows : (f : Pricing) (old new : Growth) (node : TreeNode) → IsPricing f → f.problem ≡ old.instance.now → IsSameTask old new → node_of node ≡ leaf_node f.prices → new.nodes.items ≡ old.nodes.items ++ (node ∷ [])
+    → old.bound ≤ ceiling_of old.instance.now + 1 → new.bound ≡ min old.bound f.value → new.leaves ≡ old.leaves → Grows f.neighbours f.region old new
+leaf_grows f old new node is own task item e low least leaves = record {
+  task = task;
+  tree = leaf f.prices;
+  nodes = ap (λ ns. map node_of ns) e ∙ map-append node_of old.nodes.items (node ∷ []) ∙ ap (λ i. map node_of old.nodes.items ++ (i ∷ [])) item;
+  value = min (ceiling_of old.instance.now + 1) f.value;
+  bound = (f.value, rw (sym own) is.valued, refl);
+  shaped = (is.valued.priced ∙ sym is.size, is.priced);
+  least = omega (arith, least, low);
+  leaves = omega (arith, leaves);
+}
+
+-- what grows after a plan was offered has grown from before
+pub same_grows : (k : ℕ) (g : Region) (old middle new : Growth) → IsSameTree old middle → Grows k g middle new → Grows k g old new
+same_grows k g old middle new same grows = record {
+  task = record { instance = grows.task.instance ∙ same.task.instance; limit = grows.task.limit ∙ same.task.limit };
+  tree = grows.tree;
+  nodes = grows.nodes ∙ ap (λ ns. map node_of ns ++ preorder grows.tree) same.nodes;
+  value = grows.value;
+  bound = subst (λ (p : Problem). HasBound version_2 p k g grows.tree grows.value) same.task.instance grows.bound;
+  shaped = grows.shaped;
+  least = omega (arith, grows.least, same.bound);
+  leaves = omega (arith, grows.leaves, same.leaves);
+}
+
+-- children at raised prices are children of the leaf
+pub same_children : (f raised : Pricing) (c : Children) → raised.problem ≡ f.problem → raised.region ≡ f.region → raised.neighbours ≡ f.neighbours → AreChildren raised c → AreChildren f c
+same_children f raised c problem region neighbours are = record {
+  undecided = rw region at are.undecided;
+  used = record {
+    problem = are.used.problem ∙ problem;
+    region = are.used.region ∙ ap (λ g. used_child g (pair c.arc)) region;
+    neighbours = are.used.neighbours ∙ neighbours;
+  };
+  unused = record {
+    problem = are.unused.problem ∙ problem;
+    region = are.unused.region ∙ ap (λ g. unused_child g (pair c.arc)) region;
+    neighbours = are.unused.neighbours ∙ neighbours;
+  };
+}
+
+-- a split that is added after a plan was offered is added to what was there before
+pub same_split : (f : Pricing) (old middle new : Growth) (c : Children) → IsSameTree old middle → AddsSplit f middle new c → AddsSplit f old new c
+same_split f old middle new c same adds = record {
+  children = adds.children;
+  task = record { instance = adds.task.instance ∙ same.task.instance; limit = adds.task.limit ∙ same.task.limit };
+  nodes = adds.nodes ∙ ap (λ ns. map node_of ns ++ (split_node (pair c.arc) ∷ [])) same.nodes;
+  leaves = omega (arith, adds.leaves, same.leaves);
+  bound = adds.bound ∙ same.bound;
+}
+
+-- a split whose children have grown
+pub split_grows : (f : Pricing) (c : Children) (old begun middle new : Growth) → AddsSplit f old begun c → Grows c.used.neighbours c.used.region begun middle → Grows c.unused.neighbours c.unused.region middle new → Grows f.neighbours f.region old new
+split_grows f c old begun middle new adds first second =
+    let are = adds.children in
+    let used : Grows f.neighbours (used_child f.region (pair c.arc)) begun middle = rw (are.used.neighbours, are.used.region) at first in
+    let unused : Grows f.neighbours (unused_child f.region (pair c.arc)) middle new = rw (are.unused.neighbours, are.unused.region) at second in record {
+      task = record {
+        instance = unused.task.instance ∙ used.task.instance ∙ adds.task.instance;
+        limit = unused.task.limit ∙ used.task.limit ∙ adds.task.limit;
+      };
+      tree = split (pair c.arc) used.tree unused.tree;
+      nodes = unused.nodes ∙ ap (λ is. is ++ preorder unused.tree) (used.nodes ∙ ap (λ is. is ++ preorder used.tree) adds.nodes)
+          ∙ append_assoc (map node_of old.nodes.items ++ (split_node (pair c.arc) ∷ [])) (preorder used.tree) (preorder unused.tree)
+          ∙ append_assoc (map node_of old.nodes.items) (split_node (pair c.arc) ∷ []) (preorder used.tree ++ preorder unused.tree);
+      value = min used.value unused.value;
+      bound = (
+        are.undecided,
+        (
+          used.value,
+          (
+            unused.value,
+            (
+              subst (λ (p : Problem). HasBound version_2 p f.neighbours (used_child f.region (pair c.arc)) used.tree used.value) adds.task.instance used.bound,
+              subst (λ (p : Problem). HasBound version_2 p f.neighbours (unused_child f.region (pair c.arc)) unused.tree unused.value) (used.task.instance ∙ adds.task.instance) unused.bound,
+              refl,
+            ),
+          ),
+        ),
+      );
+      shaped = (are.undecided, (used.shaped, unused.shaped));
+      least = omega (arith, used.least, unused.least, adds.bound);
+      leaves = omega (arith, used.leaves, unused.leaves, adds.leaves);
+    }
+
+-- the bound of a tree is at most the ceiling and one
+bound_low : (p : Problem) (k : ℕ) (g : Region) (tree : Tree) (b : ℕ) → HasBound version_2 p k g tree b → b ≤ ceiling_of p + 1
+bound_low p k g (leaf prices) b has = omega (arith, has.2)
+bound_low p k g (split a used unused) b has = let low = bound_low p k (used_child g a) used has.1.0 has.1.1.1.0 in omega (arith, low, has.1.1.1.2)
+
+-- a tree that has grown from the root alone is the instance's
+pub listed_tree : (p : Problem) (k : ℕ) (old new : Growth) → Grows k (root_region (customer_count p)) old new → old.instance.now ≡ p → old.nodes.items ≡ [] → old.leaves ≡ 1 → old.bound ≡ ceiling_of p + 1
+    → customer_count p ≤ 24 → new.leaves ≤ MOST_LEAVES → DepthHolds → IsListedTree p k new.nodes.items new.bound new.leaves
+listed_tree p k old new grows own none one high small few deep =
+    let has : HasBound version_2 p k (root_region (customer_count p)) grows.tree grows.value = subst (λ (q : Problem). HasBound version_2 q k (root_region (customer_count p)) grows.tree grows.value) own grows.bound in
+    let same : new.bound ≡ grows.value = omega (arith, grows.least, high, bound_low p k (root_region (customer_count p)) grows.tree grows.value has) in
+    let room : customer_count p * (customer_count p + 1) ≤ 24 * 25 = mul-le (customer_count p) (customer_count p + 1) 24 25 (omega (arith, small)) (omega (arith, small)) in record {
+      tree = grows.tree;
+      listed = grows.nodes ∙ ap (λ ns. map node_of ns ++ preorder grows.tree) none;
+      shaped = grows.shaped;
+      is_bound = rw same has;
+      counted = omega (arith, grows.leaves, one);
+      few = few;
+      depth = omega (arith, deep (customer_count p) grows.tree grows.shaped, room);
+    }

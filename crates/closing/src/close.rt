@@ -1,0 +1,46 @@
+//! The closing of an instance.
+
+ghost use Rattle.std.specs.Prelude.{◌≤◌, IfOk, IfErr};
+ghost use Rattle.solomon_reader.specs.declared.limits.TheConstants.{MOST_LEAVES, MOST_NEIGHBOURS};
+ghost use Rattle.closing.specs.Closing.{IsClosed, IsLeftOpen};
+
+use crate::closed::{CloseAloneFault, Closed, MOST_CLOSED};
+use crate::first::{first_leaf, first_plan, first_pool};
+use crate::growing::grow;
+use crate::growth::Growth;
+use settling::depth_holds;
+use solomon_reader::Instance;
+use std::alloc::Global;
+
+/// Closes an instance of at most `MOST_CLOSED` customers: answers a plan that no plan is cheaper than, or
+/// that there is none, with a tree of that bound. It begins with a plan as a run does, takes plans from
+/// the routes that the prices lead to, and branches, depth first, on the leaves whose value stays below
+/// the least cost known, until none is left or the tree has as many leaves as `leaf_limit`, 1 to
+/// `MOST_LEAVES`, allows. Each customer has this many neighbours in relaxed routes, at most 15. It works
+/// on the caller's thread and waits for nobody.
+///
+/// `TooLarge` where there are more customers, `LeafLimit` where more leaves are needed, with the least
+/// cost found, the bound and the tree, and `Memory`.
+pub fn close_alone<'i>(
+    alloc: Global,
+    instance: &'i Instance,
+    neighbours: u32,
+    leaf_limit: u32,
+) -> Result<Closed<'i>, CloseAloneFault>
+    requires few { neighbours ≤ MOST_NEIGHBOURS }
+    requires some { 1 ≤ leaf_limit }
+    requires most { leaf_limit ≤ MOST_LEAVES }
+    ensures closed { IfOk result (IsClosed instance.now neighbours leaf_limit) }
+    ensures left_open { IfErr result (IsLeftOpen instance.now neighbours leaf_limit) }
+{
+    if instance.customer_count() > MOST_CLOSED {
+        return Err(CloseAloneFault::TooLarge);
+    }
+    let plan = first_plan(alloc, instance)?;
+    let root = first_leaf(alloc, instance, neighbours, plan.as_ref())?;
+    let mut pool = first_pool(alloc, instance, plan.as_ref())?;
+    let mut growth = Growth::new(alloc, instance, leaf_limit, plan);
+    grow(root, &mut growth, &mut pool)?;
+    depth_holds();
+    growth.finish(neighbours)
+}

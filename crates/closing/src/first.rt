@@ -1,0 +1,140 @@
+//! What a closing begins with: a plan, and prices at the root.
+
+ghost use Rattle.std.specs.Prelude.{◌≡◌, ◌≤◌, IfOk, IfSome};
+ghost use Rattle.solomon_reader.specs.Problem.{customer_count};
+ghost use Rattle.solomon_reader.specs.Region.{root_region};
+ghost use Rattle.solomon_reader.specs.declared.limits.TheConstants.{MOST_NEIGHBOURS};
+ghost use Rattle.search.specs.Searching.{plan_of};
+
+use insertion::{Built, InsertFault, Weights, build};
+use labelling::LabelFault;
+use price_ascent::{RoutePool, start_from};
+use prices::Priced;
+use rand_core::{Rng, SeedableRng};
+use rand_xoshiro::Xoshiro256PlusPlus;
+use schedule::Feasible;
+use search::Searcher;
+use solomon_reader::Instance;
+use std::alloc::{AllocError, Global};
+
+/// Where the random words start; any words serve.
+const SEED: u64 = 1;
+
+/// How many turns a search makes from the first plan.
+const TURNS: u32 = 20;
+
+/// How many insertions with drawn weights are tried where the first leaves a customer out.
+const DRAWS: u32 = 50;
+
+/// The plan that insertion builds with these weights, if it serves every customer.
+fn build_with<'i>(
+    alloc: Global,
+    instance: &'i Instance,
+    weights: &Weights,
+) -> Result<Option<Feasible<'i>>, AllocError>
+    ensures { IfOk result (λ plan. IfSome plan (λ f. f.problem ≡ instance.now)) }
+{
+    match build(alloc, instance, weights) {
+        Ok(Built::Whole(plan)) => Ok(Some(plan)),
+        Ok(Built::Part { .. }) => Ok(None),
+        Err(InsertFault::Memory) => Err(AllocError),
+    }
+}
+
+/// A plan that an insertion builds, the first with the weights that a run begins with, the others with
+/// drawn ones.
+fn built_plan<'i, R: Rng>(
+    alloc: Global,
+    instance: &'i Instance,
+    random: &mut R,
+) -> Result<Option<Feasible<'i>>, AllocError>
+    ensures { IfOk result (λ plan. IfSome plan (λ f. f.problem ≡ instance.now)) }
+{
+    if let Some(plan) = build_with(alloc, instance, &Weights::plain())? {
+        return Ok(Some(plan));
+    }
+    for _ in 0..DRAWS {
+        let (spared, from_depot, detour) = (
+            random.next_u32(),
+            random.next_u32(),
+            random.next_u32(),
+        );
+        let weights = Weights::of_words(spared, from_depot, detour);
+        if let Some(plan) = build_with(alloc, instance, &weights)? {
+            return Ok(Some(plan));
+        }
+    }
+    Ok(None)
+}
+
+/// Makes a turn; where memory is refused the plan stays.
+fn take_turn<'i, R: Rng + Drop>(searcher: &mut Searcher<'i, R>)
+    ensures { (plan_of searcher.new).problem ≡ (plan_of searcher.old).problem }
+{
+    let _ = searcher.turn();
+}
+
+/// The plan that a search comes to from another: a local optimum, where memory suffices.
+fn search_from<'i, R: Rng + Drop>(alloc: Global, plan: Feasible<'i>, random: R) -> Feasible<'i>
+    ensures { result.problem ≡ plan.entry.problem }
+{
+    let mut searcher = Searcher::new(alloc, plan, random);
+    let _ = searcher.descend();
+    for _ in 0..TURNS {
+        take_turn(&mut searcher);
+    }
+    searcher.into_plan()
+}
+
+/// A plan to begin with, if an insertion builds one: what a descent and some turns make of it.
+pub(crate) fn first_plan<'i>(
+    alloc: Global,
+    instance: &'i Instance,
+) -> Result<Option<Feasible<'i>>, AllocError>
+    ensures { IfOk result (λ plan. IfSome plan (λ f. f.problem ≡ instance.now)) }
+{
+    let mut random = Xoshiro256PlusPlus::seed_from_u64(SEED);
+    let Some(plan) = built_plan(alloc, instance, &mut random)? else {
+        return Ok(None);
+    };
+    Ok(Some(search_from(alloc, plan, random)))
+}
+
+/// The root, with the prices that a plan says to start from, or with prices of zero.
+pub(crate) fn first_leaf<'i>(
+    alloc: Global,
+    instance: &'i Instance,
+    neighbours: u32,
+    plan: Option<&Feasible<'i>>,
+) -> Result<Priced<'i>, AllocError>
+    requires few { neighbours ≤ MOST_NEIGHBOURS }
+    ensures problem { IfOk result (λ f. f.problem ≡ instance.now) }
+    ensures region { IfOk result (λ f. f.region ≡ root_region (customer_count instance.now)) }
+    ensures neighbours { IfOk result (λ f. f.neighbours ≡ neighbours) }
+{
+    let root = match Priced::root(alloc, instance, neighbours, None) {
+        Ok(root) => root,
+        Err(LabelFault::Memory) => return Err(AllocError),
+        Err(LabelFault::LabelLimit) => unreachable!(),
+    };
+    match plan {
+        Some(plan) => Ok(start_from(alloc, root, plan.routes(), None)),
+        None => Ok(root),
+    }
+}
+
+/// A pool of the routes of a plan, if there is one.
+pub(crate) fn first_pool(
+    alloc: Global,
+    instance: &Instance,
+    plan: Option<&Feasible<'_>>,
+) -> Result<RoutePool, AllocError> {
+    let mut pool = RoutePool::new(alloc);
+    let Some(plan) = plan else {
+        return Ok(pool);
+    };
+    for route in plan.routes() {
+        pool.add(instance, route.as_slice())?;
+    }
+    Ok(pool)
+}

@@ -1,0 +1,169 @@
+//! The tree below a leaf.
+
+ghost use Rattle.std.specs.Prelude.{◌≡◌, ◌≤◌, false, IfOk, IfNone, IfSome, OnOk};
+ghost use Rattle.branching.specs.Choosing.{IsSettled};
+ghost use Rattle.price_ascent.specs.Branching.{AreChildren};
+ghost use Rattle.closing.specs.Growing.{Grows, IsGrowth, IsSameTree, AddsSplit};
+
+use crate::growth::Growth;
+use price_ascent::{Children, Goal, RoutePool, branch, first_rise, raise};
+use prices::{PriceFault, Priced};
+use schedule::Feasible;
+use settling::settled_leaf;
+use std::alloc::AllocError;
+
+/// The most pricings at the root, and at another leaf.
+const ROOT_PRICINGS: u32 = 100;
+
+const LEAF_PRICINGS: u32 = 20;
+
+/// The raising of a leaf ends after so many pricings in a row without a gain.
+const IDLE_PRICINGS: u32 = 15;
+
+/// The first rise at another leaf is so many times that of the root.
+const CHILD_RISE: i64 = 6;
+
+/// How many routes more than a plan's count where prices are raised, and how many more than the
+/// fewest where there is no plan.
+const MORE_THAN_PLAN: usize = 2;
+
+const MORE_THAN_FEWEST: usize = 3;
+
+/// How many routes count where prices are raised.
+fn counted_routes(growth: &Growth<'_>) -> u16 {
+    let routes = match &growth.best {
+        Some(plan) => plan.routes().len().saturating_add(MORE_THAN_PLAN),
+        None => (growth.instance.fewest_routes() as usize).saturating_add(MORE_THAN_FEWEST),
+    };
+    routes.min(usize::from(u16::MAX)) as u16
+}
+
+/// How far the prices of a leaf are raised: to the least cost known.
+fn goal_of(leaf: &Priced<'_>, growth: &Growth<'_>) -> Goal {
+    let cost = match &growth.best {
+        Some(plan) => Some(plan.cost()),
+        None => None,
+    };
+    let first = first_rise(growth.instance, cost);
+    let (rise, pricings) = if leaf.region().is_root() {
+        (first, ROOT_PRICINGS)
+    } else {
+        (first.saturating_mul(CHILD_RISE), LEAF_PRICINGS)
+    };
+    Goal {
+        rise,
+        pricings,
+        idle_pricings: IDLE_PRICINGS,
+        value: i128::from(growth.target()),
+        routes: counted_routes(growth),
+        labels: None,
+    }
+}
+
+/// Takes the routes that make up the prices raised last where they are a plan that is cheaper than the
+/// best.
+fn offer_routes(growth: &mut Growth<'_>, pool: &RoutePool) -> Result<(), AllocError>
+    requires growth { IsGrowth growth.old }
+    requires going { growth.old.is_stopped ≡ false }
+    ensures growth { IsGrowth growth.new }
+    ensures same { IsSameTree growth.old growth.new }
+{
+    if let Ok(plan) = Feasible::check(growth.instance, pool.main_routes()?) {
+        growth.offer(plan);
+    }
+    Ok(())
+}
+
+/// The children of a leaf, or nothing where every arc that its region allows is required.
+fn children<'i>(
+    growth: &Growth<'i>,
+    leaf: &Priced<'i>,
+    pool: &RoutePool,
+) -> Result<Option<Children<'i>>, AllocError>
+    ensures settled { IfOk result (λ found. IfNone found (IsSettled leaf.now.region)) }
+    ensures children { IfOk result (λ found. IfSome found (AreChildren leaf.now)) }
+{
+    match branch(growth.alloc, leaf, pool, None) {
+        Ok(found) => Ok(found),
+        Err(PriceFault::Memory) => Err(AllocError),
+        Err(_) => unreachable!(),
+    }
+}
+
+/// Lists a leaf whose region leaves no arc open, at the cost of the plans that obey it, and takes one of
+/// them where it is cheaper than the best.
+fn settle<'i>(leaf: &Priced<'i>, growth: &mut Growth<'i>) -> Result<(), AllocError>
+    requires growth { IsGrowth growth.old }
+    requires going { growth.old.is_stopped ≡ false }
+    requires own { leaf.now.problem ≡ growth.old.instance.now }
+    requires settled { IsSettled leaf.now.region }
+    ensures growth { OnOk result (IsGrowth growth.new) }
+    ensures grows { OnOk result (Grows leaf.now.neighbours leaf.now.region growth.old growth.new) }
+    ensures leaves { OnOk result (growth.new.leaves ≡ growth.old.leaves) }
+{
+    let region = leaf.region().try_clone()?;
+    let neighbours = leaf.neighbours();
+    let (settled, plan) = settled_leaf(growth.alloc, growth.instance, region, neighbours)?;
+    if let Some(plan) = plan {
+        growth.offer(plan);
+    }
+    growth.lay_aside(&settled)
+}
+
+/// Works at a leaf: raises its value, and where that stays below the target, splits it by the arc that
+/// the routes met leave most open, as long as there may be more leaves. Lists the leaf, or the split
+/// whose children it answers.
+fn work_at<'i>(
+    leaf: Priced<'i>,
+    growth: &mut Growth<'i>,
+    pool: &mut RoutePool,
+) -> Result<Option<Children<'i>>, AllocError>
+    requires growth { IsGrowth growth.old }
+    requires going { growth.old.is_stopped ≡ false }
+    requires own { leaf.problem ≡ growth.old.instance.now }
+    ensures growth { OnOk result (IsGrowth growth.new) }
+    ensures listed { IfOk result (λ found. IfNone found (Grows leaf.entry.neighbours leaf.entry.region growth.old growth.new)) }
+    ensures leaves { IfOk result (λ found. IfNone found (growth.new.leaves ≡ growth.old.leaves)) }
+    ensures split { IfOk result (λ found. IfSome found (AddsSplit leaf.entry growth.old growth.new)) }
+{
+    let goal = goal_of(&leaf, growth);
+    let leaf = raise(growth.alloc, pool, leaf, &goal);
+    offer_routes(growth, pool)?;
+    if leaf.value() >= i128::from(growth.target()) {
+        growth.lay_aside(&leaf)?;
+        return Ok(None);
+    }
+    let Some(children) = children(growth, &leaf, pool)? else {
+        settle(&leaf, growth)?;
+        return Ok(None);
+    };
+    if growth.leaves >= growth.limit {
+        growth.stop_at(&leaf)?;
+        return Ok(None);
+    }
+    growth.split(children.arc)?;
+    Ok(Some(children))
+}
+
+/// Lists the tree below a leaf.
+pub(crate) fn grow<'i>(
+    leaf: Priced<'i>,
+    growth: &mut Growth<'i>,
+    pool: &mut RoutePool,
+) -> Result<(), AllocError>
+    requires growth { IsGrowth growth.old }
+    requires own { leaf.problem ≡ growth.old.instance.now }
+    ensures growth { OnOk result (IsGrowth growth.new) }
+    ensures grows { OnOk result (Grows leaf.entry.neighbours leaf.entry.region growth.old growth.new) }
+    ensures more { OnOk result (growth.old.leaves ≤ growth.new.leaves) }
+{
+    if growth.is_stopped {
+        return growth.lay_aside(&leaf);
+    }
+    let Some(children) = work_at(leaf, growth, pool)? else {
+        return Ok(());
+    };
+    grow(children.used, growth, pool)?;
+    grow(children.unused, growth, pool)?;
+    Ok(())
+}

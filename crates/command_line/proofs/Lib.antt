@@ -1,0 +1,3 @@
+mod Refusals
+mod Steps
+mod Named

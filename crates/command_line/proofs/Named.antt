@@ -1,0 +1,95 @@
+-- Rows that don't give a job, and rows that give one job alone.
+use Rattle.std.proofs.Common.{◌≡◌, ◌∙◌, ℕ, ◌≤◌, Bool, IsTrue, true, false, List, Option, Some, None, slice_index, ap, ap₂, arith, codes, refl, sym}
+use Rattle.std.specs.Str.Parse.{digits_value, without_leading_plus}
+use Rattle.clap.specs.Words.{Row, Text}
+use Rattle.command_line.specs.Commands.{HasFlag, HasNumber, IsNumberIf}
+use Rattle.command_line.specs.Jobs.{HasClosing, HasSettings, IsSameJob, Says, SaysAny}
+use Rattle.command_line.specs.declared.jobs.Job.{Job}
+use Rattle.command_line.specs.declared.jobs.Job.TheVariants.{Solve, Check}
+use Rattle.worker_turns.specs.declared.settings.Settings.{Settings}
+
+-- no command has both names
+one_name : (name : Text) → name ≡ codes "solve" → name ≡ codes "check" → ⊥
+one_name name solve check =
+    let bad : 115 ≡ 99 = ap (λ (l : List ℕ). slice_index l 0) (sym solve ∙ check) in
+    absurd (omega (arith, bad))
+
+-- no number of pairs is given
+pub no_check : (rows : List Row) → ((n : ℕ) → HasNumber (codes "states") rows n → ⊥) → (other : Job) → Says (codes "check") rows other → ⊥
+no_check rows none (Check instance certificate solution states) says = none states says.1.states_are
+no_check rows none (Solve instance solution certificate settings close leaves) says = absurd (one_name (codes "check") says.0 refl)
+
+-- one of the numbers of `solve` is not given
+pub no_number : (id : Text) (number : Settings → ℕ) (rows : List Row)
+    → ((settings : Settings) → HasSettings rows settings → HasNumber id rows (number settings))
+    → IsNumberIf id rows None → (other : Settings) → HasSettings rows other → ⊥
+no_number id number rows has none other settings = none (number other) (has other settings)
+
+-- no settings are given
+pub no_solve : (rows : List Row) → ((other : Settings) → HasSettings rows other → ⊥) → (other : Job) → Says (codes "solve") rows other → ⊥
+no_solve rows none (Solve instance solution certificate settings close leaves) says = none settings says.1.settings_are
+no_solve rows none (Check instance certificate solution states) says = absurd (one_name (codes "solve") refl says.0)
+
+some_is_one : {X : Type 0} (o : Option X) (x y : X) → o ≡ Some x → o ≡ Some y → x ≡ y
+some_is_one o x y p q = cc
+
+same_number : (id : Text) (rows : List Row) (m n : ℕ) → HasNumber id rows m → HasNumber id rows n → m ≡ n
+same_number id rows m n p q =
+    p.4 ∙ (ap (λ t. digits_value 10 (without_leading_plus t)) (some_is_one _ p.0 q.0 p.1 q.1) ∙ sym q.4)
+
+same_flag : (id : Text) (rows : List Row) (a b : Bool) → HasFlag id rows a → HasFlag id rows b → a ≡ b
+same_flag id rows true true p q = refl
+same_flag id rows false false p q = refl
+same_flag id rows true false p q = let bad : IsTrue false = q.1 (p.0 refl) in cc
+same_flag id rows false true p q = let bad : IsTrue false = p.1 (q.0 refl) in cc
+
+-- no closing is given where no number of leaves is
+pub no_leaves : (rows : List Row) → IsNumberIf (codes "leaves") rows None → (close : Bool) (leaves : ℕ) → HasClosing rows close leaves → ⊥
+no_leaves rows none close leaves has = none leaves has.leaves_are
+
+-- no job to solve is given where no closing is
+pub no_closing : (rows : List Row) → ((close : Bool) (leaves : ℕ) → HasClosing rows close leaves → ⊥) → (other : Job) → Says (codes "solve") rows other → ⊥
+no_closing rows none (Solve instance solution certificate settings close leaves) says = none close leaves says.1.closing_is
+no_closing rows none (Check instance certificate solution states) says = absurd (one_name (codes "solve") refl says.0)
+
+-- settings by their numbers
+abbrev with_numbers : ℕ → ℕ → ℕ → ℕ → ℕ → ℕ → Settings
+with_numbers searchers bounders turns seed neighbours labels = record {
+  searchers = searchers;
+  bounders = bounders;
+  turns = turns;
+  seed = seed;
+  neighbours = neighbours;
+  labels = labels;
+}
+
+same_settings : (rows : List Row) (a b : Settings) → HasSettings rows a → HasSettings rows b → a ≡ b
+same_settings rows a b p q =
+    ap₂ (λ s o. with_numbers s o a.turns a.seed a.neighbours a.labels)
+    (same_number _ rows _ _ p.searchers_are q.searchers_are) (same_number _ rows _ _ p.bounders_are q.bounders_are)
+    ∙ (ap₂ (λ t s. with_numbers b.searchers b.bounders t s a.neighbours a.labels)
+    (same_number _ rows _ _ p.turns_are q.turns_are) (same_number _ rows _ _ p.seed_is q.seed_is)
+    ∙ ap₂ (λ n l. with_numbers b.searchers b.bounders b.turns b.seed n l)
+    (same_number _ rows _ _ p.neighbours_are q.neighbours_are) (same_number _ rows _ _ p.labels_are q.labels_are))
+
+-- what a command and its rows say is one job
+pub same_job : (named : Option (Text × List Row)) (found other : Job) → SaysAny named found → SaysAny named other → IsSameJob found other
+same_job None found other says also = absurd says
+same_job (Some (name, rows)) (Solve instance solution certificate settings close leaves) (Solve second_instance second_solution second_certificate second_settings second_close second_leaves) (_, p) (_, q) = (
+  some_is_one _ _ _ p.instance_path q.instance_path,
+  some_is_one _ _ _ p.solution_path q.solution_path,
+  some_is_one _ _ _ p.certificate_path q.certificate_path,
+  same_settings rows settings second_settings p.settings_are q.settings_are,
+  same_flag (codes "close") rows close second_close p.closing_is.close_is q.closing_is.close_is,
+  same_number _ rows leaves second_leaves p.closing_is.leaves_are q.closing_is.leaves_are,
+)
+same_job (Some (name, rows)) (Check instance certificate solution states) (Check second_instance second_certificate second_solution second_states) (_, p) (_, q) = (
+  some_is_one _ _ _ p.instance_path q.instance_path,
+  some_is_one _ _ _ p.certificate_path q.certificate_path,
+  sym p.solution_path ∙ q.solution_path,
+  same_number _ rows states second_states p.states_are q.states_are,
+)
+same_job (Some (name, rows)) (Solve instance solution certificate settings close leaves) (Check second_instance second_certificate second_solution second_states) p q =
+    absurd (one_name name p.0 q.0)
+same_job (Some (name, rows)) (Check instance certificate solution states) (Solve second_instance second_solution second_certificate second_settings second_close second_leaves) p q =
+    absurd (one_name name q.0 p.0)

@@ -1,0 +1,34 @@
+use Rattle.std.proofs.Common.{codes}
+use Rattle.clap.specs.Words.{found_of, rows_of}
+use Rattle.command_line.proofs.Named.{no_number}
+use Rattle.command_line.proofs.commands.settings_of.Goals as goal
+
+pub returns-in_err-searchers : goal.returns-in_err-searchers
+returns-in_err-searchers c =
+    rw c.from_residual.ensures (no_number (codes "searchers") (λ s. s.searchers) (rows_of (found_of c.args.found.now))
+    (λ settings has. has.searchers_are) (rw c.in_err-searchers.was at c.number_of.ensures))
+
+pub returns-in_err-bounders : goal.returns-in_err-bounders
+returns-in_err-bounders c =
+    rw c.from_residual-in_err-bounders.ensures (no_number (codes "bounders") (λ s. s.bounders) (rows_of (found_of c.args.found.now))
+    (λ settings has. has.bounders_are) (rw c.in_err-bounders.was at c.number_of-2.ensures))
+
+pub returns-in_err-turns : goal.returns-in_err-turns
+returns-in_err-turns c =
+    rw c.from_residual-in_err-turns.ensures (no_number (codes "turns") (λ s. s.turns) (rows_of (found_of c.args.found.now))
+    (λ settings has. has.turns_are) (rw c.in_err-turns.was at c.number_of-3.ensures))
+
+pub returns-in_err-seed : goal.returns-in_err-seed
+returns-in_err-seed c =
+    rw c.from_residual-in_err-seed.ensures (no_number (codes "seed") (λ s. s.seed) (rows_of (found_of c.args.found.now))
+    (λ settings has. has.seed_is) (rw c.in_err-seed.was at c.number_of-4.ensures))
+
+pub returns-in_err-neighbours : goal.returns-in_err-neighbours
+returns-in_err-neighbours c =
+    rw c.from_residual-in_err-neighbours.ensures (no_number (codes "neighbours") (λ s. s.neighbours) (rows_of (found_of c.args.found.now))
+    (λ settings has. has.neighbours_are) (rw c.in_err-neighbours.was at c.number_of-5.ensures))
+
+pub returns-in_err-labels : goal.returns-in_err-labels
+returns-in_err-labels c =
+    rw c.from_residual-in_err-labels.ensures (no_number (codes "labels") (λ s. s.labels) (rows_of (found_of c.args.found.now))
+    (λ settings has. has.labels_are) (rw c.in_err-labels.was at c.number_of-6.ensures))

@@ -1,0 +1,363 @@
+//! The commands of the program, and the job that the words give.
+ghost use Rattle.std.specs.Prelude.{◌≡◌, [], false, map, codes, option_map};
+ghost use Rattle.std.specs.Prelude.{IfOk, IfErr, MatchOption};
+ghost use Rattle.clap.specs.Words.{app_of, rule_of, rows_of, found_of, first_of};
+ghost use Rattle.clap.specs.Words.{subcommand_rows_of};
+ghost use Rattle.command_line.specs.Commands.{AddsRules, HasFlag, HasShape, IsNumberIf, between, check_shape, closing_rules, flag_rule, number_option_rule, path_option_rule, path_rule, pricing_rules, program, search_rules, solve_shape, thread_rules};
+ghost use Rattle.command_line.specs.Jobs.{Gives, HasClosing, HasSettings, IsRefused, IsSameJob, Says, SaysAny};
+
+use crate::jobs::{Job, MOST_STATES, UsageFault};
+use clap::builder::ValueParser;
+use clap::error::ErrorKind;
+use clap::{Arg, ArgAction, ArgMatches, Command};
+use solomon_reader::{MOST_LEAVES, MOST_NEIGHBOURS};
+use std::alloc::{AllocError, Global};
+use worker_turns::{MOST_BOUNDERS, MOST_LABELS, MOST_SEARCHERS, MOST_TURNS, Settings};
+
+const PROGRAM: &str = "vrptw";
+
+/// A path that has to be given.
+fn path<'a>(alloc: Global, id: &'a str, help: &'a str) -> Arg<'a>
+    ensures rule { rule_of result ≡ path_rule id.entry.now }
+    ensures own { result.global ≡ false }
+{
+    Arg::new(alloc, id).required(true).help(help)
+}
+
+/// An option with a path, named after two dashes.
+fn path_option<'a>(alloc: Global, id: &'a str, help: &'a str) -> Arg<'a>
+    ensures rule { rule_of result ≡ path_option_rule id.entry.now }
+    ensures own { result.global ≡ false }
+{
+    Arg::new(alloc, id).long(id).help(help)
+}
+
+/// What takes the numbers from `least` to `most`.
+fn number_between<'a>(least: u32, most: u32) -> ValueParser<'a>
+    ensures { result ≡ between least most }
+{
+    ValueParser::signed(i64::from(least), i64::from(most))
+}
+
+/// An option with a number, named after two dashes.
+fn number_option<'a>(
+    alloc: Global,
+    id: &'a str,
+    parser: ValueParser<'a>,
+    default: &'a str,
+    help: &'a str,
+) -> Arg<'a>
+    ensures rule { rule_of result ≡ number_option_rule id.entry.now parser.entry default.entry.now }
+    ensures own { result.global ≡ false }
+{
+    Arg::new(alloc, id)
+        .long(id)
+        .value_parser(parser)
+        .default_value(default)
+        .help(help)
+}
+
+/// A flag, named after two dashes.
+fn flag<'a>(alloc: Global, id: &'a str, help: &'a str) -> Arg<'a>
+    ensures rule { rule_of result ≡ flag_rule id.entry.now }
+    ensures own { result.global ≡ false }
+{
+    Arg::new(alloc, id)
+        .long(id)
+        .action(ArgAction::SetTrue)
+        .help(help)
+}
+
+/// Adds the options that say how many threads work.
+fn with_thread_options<'a>(alloc: Global, command: Command<'a>) -> Result<Command<'a>, AllocError>
+    ensures { IfOk result (AddsRules thread_rules command.entry) }
+{
+    command
+        .arg(number_option(
+            alloc,
+            "searchers",
+            number_between(1, MOST_SEARCHERS),
+            "2",
+            "How many threads look for a plan, 1 to 32",
+        ))?
+        .arg(number_option(
+            alloc,
+            "bounders",
+            number_between(1, MOST_BOUNDERS),
+            "2",
+            "How many threads raise the bound, 1 to 32",
+        ))
+}
+
+/// Adds the options that say how plans are looked for.
+fn with_search_options<'a>(alloc: Global, command: Command<'a>) -> Result<Command<'a>, AllocError>
+    ensures { IfOk result (AddsRules search_rules command.entry) }
+{
+    command
+        .arg(number_option(
+            alloc,
+            "turns",
+            number_between(1, MOST_TURNS),
+            "200",
+            "How many turns each search takes, 1 to 1000000",
+        ))?
+        .arg(number_option(
+            alloc,
+            "seed",
+            number_between(0, u32::MAX),
+            "1",
+            "Where the random numbers start, 0 to 4294967295",
+        ))
+}
+
+/// Adds the options that say how the bound is priced.
+fn with_pricing_options<'a>(alloc: Global, command: Command<'a>) -> Result<Command<'a>, AllocError>
+    ensures { IfOk result (AddsRules pricing_rules command.entry) }
+{
+    command
+        .arg(number_option(
+            alloc,
+            "neighbours",
+            number_between(0, MOST_NEIGHBOURS),
+            "8",
+            "How many nearest customers the relaxed routes of a customer remember, 0 to 15",
+        ))?
+        .arg(number_option(
+            alloc,
+            "labels",
+            number_between(1, MOST_LABELS),
+            "1000000",
+            "How many labels one pricing makes at most, 1 to 100000000",
+        ))
+}
+
+/// Adds the flag and the option of the closing.
+fn with_closing_options<'a>(alloc: Global, command: Command<'a>) -> Result<Command<'a>, AllocError>
+    ensures { IfOk result (AddsRules closing_rules command.entry) }
+{
+    command
+        .arg(flag(
+            alloc,
+            "close",
+            "Closes an instance of at most 24 customers by one thread; of the other options only --neighbours and --leaves count",
+        ))?
+        .arg(number_option(
+            alloc,
+            "leaves",
+            number_between(1, MOST_LEAVES),
+            "100000",
+            "The most leaves of the tree that closes an instance, 1 to 100000",
+        ))
+}
+
+fn solve_command<'a>(alloc: Global) -> Result<Command<'a>, AllocError>
+    ensures { IfOk result (HasShape (record { top = solve_shape; subs = [] })) }
+{
+    let command = Command::new(alloc, "solve")
+        .about("Finds a plan and a certificate of a lower bound on every plan's cost")
+        .arg(path(alloc, "INSTANCE", "The file to read the instance from"))?
+        .arg(path(
+            alloc,
+            "SOLUTION",
+            "The file to write the plan to, emptied before the solving",
+        ))?
+        .arg(path(
+            alloc,
+            "CERTIFICATE",
+            "The file to write the certificate to, emptied before the solving; no two paths may be the same",
+        ))?;
+    let command = with_thread_options(alloc, command)?;
+    let command = with_search_options(alloc, command)?;
+    let command = with_pricing_options(alloc, command)?;
+    with_closing_options(alloc, command)
+}
+
+fn check_command<'a>(alloc: Global) -> Result<Command<'a>, AllocError>
+    ensures { IfOk result (HasShape (record { top = check_shape; subs = [] })) }
+{
+    Command::new(alloc, "check")
+        .about("Checks a certificate of a lower bound, and a plan if one is given")
+        .arg(path(alloc, "INSTANCE", "The file to read the instance from"))?
+        .arg(path(
+            alloc,
+            "CERTIFICATE",
+            "The file to read the certificate from",
+        ))?
+        .arg(path_option(alloc, "solution", "The file to read the plan from"))?
+        .arg(number_option(
+            alloc,
+            "states",
+            number_between(1, MOST_STATES),
+            "5000000",
+            "The most pairs of time and cost that the check of one leaf keeps, 1 to 50000000",
+        ))
+}
+
+fn vrptw_command<'a>(alloc: Global) -> Result<Command<'a>, AllocError>
+    ensures { IfOk result (λ c. app_of c ≡ program) }
+{
+    Command::new(alloc, PROGRAM)
+        .bin_name(PROGRAM)?
+        .about("Plans routes for vehicles with time windows, and proves how good they are")
+        .no_binary_name(true)
+        .subcommand_required(true)
+        .subcommand(solve_command(alloc)?)?
+        .subcommand(check_command(alloc)?)
+}
+
+/// The text that a parse has for an argument.
+fn text_of<'a>(found: &ArgMatches<'a>, id: &str) -> Option<&'a str>
+    ensures { option_map (λ s. s.now) result ≡ first_of id.now (rows_of (found_of found.now)) }
+{
+    found.get_str(id)
+}
+
+/// The number that a parse has for an argument.
+fn number_of(found: &ArgMatches<'_>, id: &str) -> Option<u32>
+    ensures { IsNumberIf id.now (rows_of (found_of found.now)) result }
+{
+    found.get_one::<u32>(id)
+}
+
+/// Whether a parse has a flag.
+fn flag_of(found: &ArgMatches<'_>, id: &str) -> bool
+    ensures { HasFlag id.now (rows_of (found_of found.now)) result }
+{
+    match text_of(found, id) {
+        Some(text) => text == "true",
+        None => false,
+    }
+}
+
+/// Whether to close the instance, and with how many leaves at most.
+fn closing_of(found: &ArgMatches<'_>) -> Option<(bool, u32)>
+    ensures { let rows = rows_of (found_of found.now) in
+        MatchOption result ((close : _) (leaves : _) → HasClosing rows close leaves → ⊥) (λ r. HasClosing rows r.0 r.1) }
+{
+    let leaves = number_of(found, "leaves")?;
+    // clap has refused other numbers; the proof knows it from here.
+    if leaves < 1 || leaves > MOST_LEAVES {
+        return None;
+    }
+    Some((flag_of(found, "close"), leaves))
+}
+
+/// The settings that the arguments of `solve` give.
+fn settings_of(found: &ArgMatches<'_>) -> Option<Settings>
+    ensures { let has = HasSettings (rows_of (found_of found.now)) in
+        MatchOption result ((other : _) → has other → ⊥) has }
+{
+    let searchers = number_of(found, "searchers")?;
+    let bounders = number_of(found, "bounders")?;
+    let turns = number_of(found, "turns")?;
+    let seed = number_of(found, "seed")?;
+    let neighbours = number_of(found, "neighbours")?;
+    let labels = number_of(found, "labels")?;
+    let settings = Settings {
+        searchers,
+        bounders,
+        turns,
+        seed,
+        neighbours,
+        labels,
+    };
+    // clap has refused other numbers; the proof knows it from here.
+    if !settings.is_within() {
+        return None;
+    }
+    Some(settings)
+}
+
+/// The job that the arguments of `solve` give.
+fn solve_job<'a>(found: &ArgMatches<'a>) -> Option<Job<'a>>
+    ensures { let says = Says (codes "solve") (rows_of (found_of found.now)) in
+        MatchOption result ((other : _) → says other → ⊥) says }
+{
+    let (close, leaves) = closing_of(found)?;
+    Some(Job::Solve {
+        instance: text_of(found, "INSTANCE")?,
+        solution: text_of(found, "SOLUTION")?,
+        certificate: text_of(found, "CERTIFICATE")?,
+        settings: settings_of(found)?,
+        close,
+        leaves,
+    })
+}
+
+/// The job that the arguments of `check` give.
+fn check_job<'a>(found: &ArgMatches<'a>) -> Option<Job<'a>>
+    ensures { let says = Says (codes "check") (rows_of (found_of found.now)) in
+        MatchOption result ((other : _) → says other → ⊥) says }
+{
+    let states = number_of(found, "states")?;
+    // clap has refused other numbers; the proof knows it from here.
+    if states < 1 || states > MOST_STATES {
+        return None;
+    }
+    Some(Job::Check {
+        instance: text_of(found, "INSTANCE")?,
+        certificate: text_of(found, "CERTIFICATE")?,
+        solution: text_of(found, "solution"),
+        states,
+    })
+}
+
+/// The job that the arguments of a command give.
+fn job_named<'a>(name: &str, found: &ArgMatches<'a>) -> Option<Job<'a>>
+    ensures { let says = Says name.now (rows_of (found_of found.now)) in
+        MatchOption result ((other : _) → says other → ⊥) says }
+{
+    if name == "solve" {
+        return solve_job(found);
+    }
+    if name == "check" {
+        return check_job(found);
+    }
+    None
+}
+
+/// The job that the matches of a parse give.
+fn job_found<'a>(matches: &ArgMatches<'a>) -> Option<Job<'a>>
+    ensures { let says = SaysAny (subcommand_rows_of matches.now) in
+        MatchOption result ((other : _) → says other → ⊥) says }
+{
+    let (name, found) = matches.subcommand()?;
+    job_named(name, found)
+}
+
+/// What is said where a parse names no command of the program.
+fn refusal(alloc: Global) -> UsageFault {
+    match Command::new(alloc, PROGRAM).error(ErrorKind::InvalidSubcommand, "no such command") {
+        Ok(error) => UsageFault::Usage(error),
+        Err(_) => UsageFault::Memory,
+    }
+}
+
+/// What is said of words that aren't UTF-8, as clap says it.
+pub fn wrong_words(alloc: Global) -> Result<String, AllocError> {
+    let mut command = vrptw_command(alloc)?;
+    let error = command.error(
+        ErrorKind::ValueValidation,
+        "invalid UTF-8 was detected in one or more arguments",
+    )?;
+    error.to_string(alloc)
+}
+
+/// The job that the words after the program's name ask for.
+///
+/// `Usage` says that the words give no job: they are wrong, or ask for help. `Memory` says that
+/// there was no memory to find out.
+pub fn job<'a>(alloc: Global, words: &'a [&'a str]) -> Result<Job<'a>, UsageFault>
+    ensures ok { IfOk result (Gives (map (λ s. s.now) words.now)) }
+    ensures err { IfErr result (IsRefused (map (λ s. s.now) words.now)) }
+
+    // The words give one job and no other.
+    ensures single { IfOk result (λ found. (other : _)
+        → Gives (map (λ s. s.now) words.now) other → IsSameJob found other) }
+{
+    let matches = vrptw_command(alloc)?.try_get_matches_from(words)?;
+    match job_found(&matches) {
+        Some(job) => Ok(job),
+        None => Err(refusal(alloc)),
+    }
+}

@@ -1,0 +1,146 @@
+//! The children of a leaf, with their prices.
+
+ghost use Rattle.std.specs.Prelude.{◌≡◌, ◌≢◌, length, None, IfOk, IfErr, IfNone, IfSome};
+ghost use Rattle.std.specs.List.{AllByRecursion};
+ghost use Rattle.solomon_reader.specs.Problem.{customer_count};
+ghost use Rattle.solomon_reader.specs.Region.{IsUndecided, used_child, unused_child};
+ghost use Rattle.solomon_reader.specs.CertificateText.{IsPrice};
+ghost use Rattle.branching.specs.Arcs.{pair};
+ghost use Rattle.branching.specs.Choosing.{IsSettled};
+ghost use Rattle.prices.specs.declared.fault.PriceFault.TheVariants.{LabelLimit, PriceRange};
+ghost use Rattle.price_ascent.specs.Branching.{AreChildren, IsPricedAt};
+
+use crate::pooled_route::GRAINS_OF_TENTH;
+use crate::route_pool::RoutePool;
+use branching::{Arc, Region, RegionFault};
+use prices::{PriceFault, Priced};
+use solomon_reader::Instance;
+use std::alloc::{AllocError, Global};
+
+/// The children of a leaf by an arc, with their prices.
+#[derive(Debug, Drop)]
+pub struct Children<'i> {
+    /// The arc that the leaf is branched on.
+    pub arc: Arc,
+    /// The child in which the arc is required.
+    pub used: Priced<'i>,
+    /// The child in which it is forbidden.
+    pub unused: Priced<'i>,
+}
+
+/// These prices at a region of a leaf's instance.
+fn price<'i>(
+    alloc: Global,
+    leaf: &Priced<'i>,
+    region: Region,
+    prices: Vec<i64>,
+    labels: Option<usize>,
+) -> Result<Priced<'i>, PriceFault>
+    requires size { region.size ≡ customer_count leaf.now.problem }
+    requires count { length prices.items ≡ customer_count leaf.now.problem }
+    requires in_range { AllByRecursion IsPrice prices.items }
+    ensures priced { IfOk result (IsPricedAt region leaf.now) }
+    ensures in_range { IfErr result (λ e. e ≢ PriceRange) }
+    ensures unlimited { IfErr result (λ e. e ≡ LabelLimit → labels ≢ None) }
+{
+    let instance = leaf.instance();
+    match Priced::of(alloc, instance, region, leaf.neighbours(), prices, labels) {
+        Ok(priced) => Ok(priced),
+        Err((_, _, fault)) => Err(fault),
+    }
+}
+
+/// A price in grains: with it for each customer a region without a relaxed route has a value above the
+/// cost of every plan.
+fn high_price(instance: &Instance) -> i64
+    ensures { IsPrice result }
+{
+    (instance.ceiling().get() as i64 + 1) * GRAINS_OF_TENTH
+}
+
+/// The high price for each customer.
+fn high_prices(alloc: Global, instance: &Instance) -> Result<Vec<i64>, AllocError>
+    ensures count { IfOk result (λ v. length v.items ≡ customer_count instance.now) }
+    ensures in_range { IfOk result (λ v. AllByRecursion IsPrice v.items) }
+{
+    let high = high_price(instance);
+    let mut prices = Vec::new(alloc);
+    for _customer in 1..instance.customer_count() + 1 {
+        prices.push(high)?;
+    }
+    Ok(prices)
+}
+
+/// A copy of a leaf's prices.
+fn prices_of(alloc: Global, leaf: &Priced<'_>) -> Result<Vec<i64>, AllocError>
+    ensures count { IfOk result (λ v. length v.items ≡ customer_count leaf.now.problem) }
+    ensures in_range { IfOk result (λ v. AllByRecursion IsPrice v.items) }
+{
+    let _value = leaf.value();
+    leaf.prices().to_vec(alloc)
+}
+
+/// The leaf's prices at a child's region; or where the child has no relaxed route, prices whose value is
+/// above every plan's cost.
+fn price_child<'i>(
+    alloc: Global,
+    leaf: &Priced<'i>,
+    region: Region,
+    labels: Option<usize>,
+) -> Result<Priced<'i>, PriceFault>
+    requires { region.size ≡ leaf.now.region.size }
+    ensures priced { IfOk result (IsPricedAt region leaf.now) }
+    ensures in_range { IfErr result (λ e. e ≢ PriceRange) }
+    ensures unlimited { IfErr result (λ e. e ≡ LabelLimit → labels ≢ None) }
+{
+    let _size = leaf.region();
+    let prices = prices_of(alloc, leaf)?;
+    let child = price(alloc, leaf, region, prices, labels)?;
+    if child.least().value.is_some() {
+        return Ok(child);
+    }
+    let prices = high_prices(alloc, leaf.instance())?;
+    price(alloc, leaf, child.region().try_clone()?, prices, labels)
+}
+
+/// The regions of both children by an arc: that in which it is required, and that in which it is
+/// forbidden.
+fn child_regions(region: &Region, arc: Arc) -> Result<(Region, Region), AllocError>
+    requires { IsUndecided region.now (pair arc) }
+    ensures used { IfOk result (λ r. r.0 ≡ used_child region.now (pair arc)) }
+    ensures unused { IfOk result (λ r. r.1 ≡ unused_child region.now (pair arc)) }
+{
+    match (region.used(arc), region.forbidden(arc)) {
+        (Ok(used), Ok(unused)) => Ok((used, unused)),
+        (Err(RegionFault::Memory), _) | (_, Err(RegionFault::Memory)) => Err(AllocError),
+        _ => unreachable!(),
+    }
+}
+
+/// The children of a leaf by the arc that the routes of the pool leave most open, with the leaf's prices
+/// or higher ones; nothing where every arc that the leaf's region allows is required. At most so many
+/// labels may be active at once in a pricing, if there is a limit; `LabelLimit` where they don't
+/// suffice, and `Memory`.
+pub fn branch<'i>(
+    alloc: Global,
+    leaf: &Priced<'i>,
+    pool: &RoutePool,
+    labels: Option<usize>,
+) -> Result<Option<Children<'i>>, PriceFault>
+    ensures settled { IfOk result (λ found. IfNone found (IsSettled leaf.now.region)) }
+    ensures children { IfOk result (λ found. IfSome found (AreChildren leaf.now)) }
+    ensures in_range { IfErr result (λ e. e ≢ PriceRange) }
+    ensures unlimited { IfErr result (λ e. e ≡ LabelLimit → labels ≢ None) }
+{
+    let arcs = pool.branching_arcs(leaf.instance())?;
+    let Some(arc) = leaf.region().choose(arcs.as_slice()) else {
+        return Ok(None);
+    };
+    let (used, unused) = child_regions(leaf.region(), arc)?;
+    let used = price_child(alloc, leaf, used, labels);
+    let unused = price_child(alloc, leaf, unused, labels);
+    match (used, unused) {
+        (Ok(used), Ok(unused)) => Ok(Some(Children { arc, used, unused })),
+        (Err(fault), _) | (_, Err(fault)) => Err(fault),
+    }
+}

@@ -1,0 +1,3 @@
+pub mod Gathering
+pub mod Settling
+pub mod Depths

@@ -1,0 +1,23 @@
+use Rattle.std.proofs.Common.{refl}
+use Rattle.solomon_reader.specs.CertificateText.{certificate_text}
+use Rattle.vrptw.proofs.BoundTexts.{bound_text}
+use Rattle.vrptw.proofs.writing.write_bound.Goals as goal
+
+pub returns-in-Ok : goal.returns-in-Ok
+returns-in-Ok g c = record {
+  text = certificate_text c.requires.certificate;
+  is = bound_text c.args.instance.now c.args.neighbours c.args.cert.now c.requires;
+  bytes = c.in-Ok.ensures.bytes c.requires.certificate c.requires.is;
+  fine = c.in-Ok.ensures.failures;
+}
+
+pub returns-in-Err : goal.returns-in-Err
+returns-in-Err g c = (
+  refl,
+  record {
+    text = certificate_text c.requires.certificate;
+    is = bound_text c.args.instance.now c.args.neighbours c.args.cert.now c.requires;
+    bytes = c.in-Err.ensures.bytes c.requires.certificate c.requires.is;
+    failed = c.in-Err.ensures.failures;
+  },
+)

@@ -1,0 +1,73 @@
+//! From the bytes of an instance to a plan that no plan is cheaper than.
+
+ghost use Rattle.std.specs.Prelude.{◌≡◌, IfOk, IfErr, IsTrue, ◌↔◌};
+ghost use Rattle.vrptw.specs.Closing.{Closes, IsDescended, IsLeafLimit};
+ghost use Rattle.vrptw.specs.declared.answer.SolveFault.TheVariants.{Memory};
+
+use crate::answer::{Answer, SolveFault};
+use crate::certifying::certify;
+use crate::solving::{descend, read_instance};
+use crate::writing::write_closed;
+use schedule::Feasible;
+use search_workers::{Closed, Settings, close_alone};
+use solomon_reader::MOST_LEAVES;
+use std::alloc::Global;
+use tenths::Sink;
+
+/// Whether a tree may have so many leaves.
+fn is_leaf_limit(leaves: u32) -> bool
+    ensures { IsTrue result ↔ IsLeafLimit leaves }
+{
+    leaves >= 1 && leaves <= MOST_LEAVES
+}
+
+/// A plan, if there is one, descended once more.
+fn descend_if<'i>(
+    alloc: Global,
+    plan: Option<Feasible<'i>>,
+    seed: u32,
+) -> Result<Option<Feasible<'i>>, SolveFault>
+    ensures plan { IfOk result (IsDescended plan.entry) }
+    ensures memory { IfErr result (λ e. e ≡ Memory) }
+{
+    match plan {
+        Some(plan) => Ok(Some(descend(alloc, plan, seed)?)),
+        None => Ok(None),
+    }
+}
+
+/// Closes the instance of a text, of at most 24 customers: writes a plan that no plan is cheaper than to
+/// the first sink, and then to the second the certificate whose bound is its cost; or where there is no
+/// plan, the certificate alone. The tree has at most so many leaves, 1 to 100,000. Of the settings only
+/// the neighbours have an effect. It works on the caller's thread and waits for nobody. The answer is
+/// `Best` or `NoPlan`.
+///
+/// The first refusal that holds is told: `Instance` with the text's first fault, `BadSettings` where a
+/// setting or the number of leaves is outside its range, `TooLarge` where there are more customers,
+/// `LeafLimit` where more leaves are needed, and `Memory` where a growth was refused; these come before
+/// the first write. `Device` where a sink failed, as `solve` tells it.
+pub fn close<X: Sink, Y: Sink>(
+    alloc: Global,
+    text: &[u8],
+    settings: &Settings,
+    leaf_limit: u32,
+    solution: &mut X,
+    certificate: &mut Y,
+) -> Result<Answer, SolveFault>
+    ensures { Closes text.now settings.now leaf_limit
+        (record { taken = X.taken solution.old; failures = X.failures solution.old })
+        (record { taken = X.taken solution.new; failures = X.failures solution.new })
+        (record { taken = Y.taken certificate.old; failures = Y.failures certificate.old })
+        (record { taken = Y.taken certificate.new; failures = Y.failures certificate.new })
+        result }
+{
+    let instance = read_instance(alloc, text)?;
+    if !settings.is_within() || !is_leaf_limit(leaf_limit) {
+        return Err(SolveFault::BadSettings);
+    }
+    let neighbours = settings.neighbours;
+    let Closed { plan, bound, nodes } = close_alone(alloc, &instance, neighbours, leaf_limit)?;
+    let plan = descend_if(alloc, plan, settings.seed)?;
+    let cert = certify(alloc, &instance, neighbours, bound, nodes)?;
+    write_closed(plan, &instance, neighbours, &cert, solution, certificate)
+}
