@@ -67,12 +67,15 @@ fn words_give_a_job(rt: HostRuntime) -> Result<(), Fail> {
                 solution,
                 certificate,
                 settings,
+                close,
+                leaves,
             },
         ) => {
             assert_eq!(rt; instance, "a");
             assert_eq!(rt; solution, "b");
             assert_eq!(rt; certificate, "c");
             assert_eq!(rt; settings, Settings::default());
+            assert_eq!(rt; (close, leaves), (false, 100_000));
             assert!(rt; settings.is_within());
         }
         _ => assert!(rt; false, "the words were refused"),
@@ -145,6 +148,32 @@ fn options_give_the_settings(rt: HostRuntime) -> Result<(), Fail> {
         labels: 9,
     };
     assert_eq!(rt; settings_given(rt.alloc(), &words), Some(settings));
+    Ok(())
+}
+
+/// Whether the job that these words give closes its instance, and its most leaves.
+fn closing_given(alloc: Global, words: &[&str]) -> Option<(bool, u32)> {
+    match job(alloc, words) {
+        Ok(Job::Solve { close, leaves, .. }) => Some((close, leaves)),
+        _ => None,
+    }
+}
+
+#[test]
+fn words_say_whether_to_close(rt: HostRuntime) -> Result<(), Fail> {
+    let rows: [(&[&str], Option<(bool, u32)>); 5] = [
+        (&["--close"], Some((true, 100_000))),
+        (&["--leaves", "1", "--close"], Some((true, 1))),
+        (&["--leaves=100000"], Some((false, 100_000))),
+        (&["--close", "--leaves", "0"], None),
+        (&["--close", "--leaves", "100001"], None),
+    ];
+    for (options, expected) in rows {
+        let mut words = Vec::from_slice(rt.alloc(), &["solve", "a", "b", "c"])?;
+        words.extend_from_slice(options)?;
+        let given = closing_given(rt.alloc(), words.as_slice());
+        assert_eq!(rt; given, expected);
+    }
     Ok(())
 }
 

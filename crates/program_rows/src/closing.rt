@@ -1,0 +1,214 @@
+//! Instances that are closed: costs and bounds by hand.
+
+use crate::program::run;
+use certificate::{CertNode, read};
+use row_texts::{DEPOT, instance_text, many_customers};
+use std::alloc::Global;
+use std::fs;
+use std::process::Abort;
+use std::test::Fail;
+use tenths::{MemorySink, Tenths, write_tenths};
+use vrptw::{Answer, Settings, SolveFault, close};
+
+/// An instance to close with a limit of leaves: its vehicles and their capacity, its customers, and the
+/// printed cost, or where there is no plan the bound.
+struct Row {
+    name: &'static str,
+    vehicles: (u32, u32),
+    customers: &'static str,
+    leaves: u32,
+    cost: Option<&'static str>,
+    bound: &'static str,
+}
+
+/// Instances at the depot (0,0) that is open from 0 to 1000.
+const ROWS: [Row; 9] = [
+    Row {
+        name: "one customer and one leaf",
+        vehicles: (1, 1),
+        customers: "1 3 4 1 0 1000 0\n",
+        leaves: 1,
+        cost: Some("10.0"),
+        bound: "10.0",
+    },
+    Row {
+        name: "one customer and many leaves",
+        vehicles: (1, 1),
+        customers: "1 3 4 1 0 1000 0\n",
+        leaves: 100,
+        cost: Some("10.0"),
+        bound: "10.0",
+    },
+    Row {
+        name: "too late for the customer",
+        vehicles: (1, 1),
+        customers: "1 3 4 1 0 4 0\n",
+        leaves: 1,
+        cost: None,
+        bound: "10.1",
+    },
+    Row {
+        name: "three plans of one cost",
+        vehicles: (3, 1),
+        customers: "1 3 4 1 0 1000 0\n2 0 5 1 0 1000 0\n3 5 0 1 0 1000 0\n",
+        leaves: 4_096,
+        cost: Some("30.0"),
+        bound: "30.0",
+    },
+    Row {
+        name: "a fleet of one",
+        vehicles: (1, 2),
+        customers: "1 3 4 1 0 1000 0\n2 6 8 1 0 1000 0\n",
+        leaves: 100,
+        cost: Some("20.0"),
+        bound: "20.0",
+    },
+    Row {
+        name: "one vehicle for two loads",
+        vehicles: (1, 1),
+        customers: "1 3 4 1 0 1000 0\n2 6 8 1 0 1000 0\n",
+        leaves: 100,
+        cost: None,
+        bound: "40.1",
+    },
+    Row {
+        name: "all at the depot without service",
+        vehicles: (1, 2),
+        customers: "1 0 0 1 0 1000 0\n2 0 0 1 0 1000 0\n",
+        leaves: 100,
+        cost: Some("0.0"),
+        bound: "0.0",
+    },
+    Row {
+        name: "windows of one moment leave one plan",
+        vehicles: (1, 2),
+        customers: "1 3 4 1 5 5 0\n2 6 8 1 10 10 0\n",
+        leaves: 100,
+        cost: Some("20.0"),
+        bound: "20.0",
+    },
+    Row {
+        name: "both at one moment",
+        vehicles: (1, 2),
+        customers: "1 3 4 1 10 10 0\n2 6 8 1 10 10 0\n",
+        leaves: 100,
+        cost: None,
+        bound: "40.1",
+    },
+];
+
+/// Asserts that a number of tenths is printed so.
+fn assert_tenths<R: Abort + AllocGlobal>(rt: &R, name: &str, tenths: Tenths, text: &str) {
+    let mut printed = MemorySink::new(rt.alloc());
+    assert!(rt; write_tenths(tenths, &mut printed).is_ok(), "{name}");
+    assert_eq!(rt; printed.as_slice(), text.as_bytes(), "{name}");
+}
+
+/// Asserts what comes of a row.
+fn check<R: Abort + AllocGlobal>(rt: &R, row: &Row) -> Result<(), Fail> {
+    let name = row.name;
+    let (fleet, capacity) = row.vehicles;
+    let text = instance_text(rt.alloc(), fleet, capacity, DEPOT, row.customers)?;
+    let mut solution = MemorySink::new(rt.alloc());
+    let mut certificate = MemorySink::new(rt.alloc());
+    let settings = Settings::default();
+    let answer = close(
+        rt.alloc(),
+        text.as_bytes(),
+        &settings,
+        row.leaves,
+        &mut solution,
+        &mut certificate,
+    );
+    match (answer, row.cost) {
+        (Ok(Answer::Best { cost }), Some(text)) => assert_tenths(rt, name, cost, text),
+        (Ok(Answer::NoPlan), None) => assert!(rt; solution.as_slice().is_empty(), "{name}"),
+        _ => assert!(rt; false, "{name}: {answer:?}"),
+    }
+    let cert = read(rt.alloc(), certificate.as_slice())?;
+    let parts = cert.parts();
+    assert_tenths(rt, name, parts.bound, row.bound);
+    let leaves = parts.nodes.iter().filter(|node| is_leaf(node)).count();
+    assert!(rt; leaves <= row.leaves as usize, "{name}");
+    Ok(())
+}
+
+fn is_leaf(node: &CertNode) -> bool {
+    match node {
+        CertNode::Leaf(_) => true,
+        CertNode::Split { .. } => false,
+    }
+}
+
+#[test]
+fn small_instances_are_closed(rt: HostRuntime) -> Result<(), Fail> {
+    for row in &ROWS {
+        check(&rt, row)?;
+    }
+    Ok(())
+}
+
+/// Four customers, of which two vehicles of capacity 3 serve two each: one leaf doesn't close them.
+fn four_customers(alloc: Global) -> Result<String, Fail> {
+    let customers = "1 5 7 1 0 1000 0\n2 4 7 1 0 1000 0\n3 2 1 1 0 1000 0\n4 8 2 2 0 1000 0\n";
+    Ok(instance_text(alloc, 4, 3, DEPOT, customers)?)
+}
+
+#[test]
+fn a_closing_that_is_refused_writes_nothing(rt: HostRuntime) -> Result<(), Fail> {
+    let small = four_customers(rt.alloc())?;
+    let customers = many_customers(rt.alloc(), 25)?;
+    let large = instance_text(rt.alloc(), 25, 1, DEPOT, customers.as_str())?;
+    let settings = Settings::default();
+    for (text, leaves, fault) in [
+        (small.as_str(), 1, SolveFault::LeafLimit),
+        (small.as_str(), 0, SolveFault::BadSettings),
+        (small.as_str(), 100_001, SolveFault::BadSettings),
+        (large.as_str(), 100, SolveFault::TooLarge),
+    ] {
+        let mut solution = MemorySink::new(rt.alloc());
+        let mut certificate = MemorySink::new(rt.alloc());
+        let answer = close(
+            rt.alloc(),
+            text.as_bytes(),
+            &settings,
+            leaves,
+            &mut solution,
+            &mut certificate,
+        );
+        assert_eq!(rt; answer, Err(fault), "{fault}");
+        assert!(rt;
+            solution.as_slice().is_empty() && certificate.as_slice().is_empty(),
+            "{fault}"
+        );
+    }
+    Ok(())
+}
+
+#[test]
+fn the_program_closes_and_checks(rt: HostRuntime) -> Result<(), Fail> {
+    let text = four_customers(rt.alloc())?;
+    fs::write(&rt, "closed", text.as_bytes())?;
+    let paths = ["closed", "closed_solution", "closed_certificate"];
+    let rows: [(&[&str], &str, &str, u8); 3] = [
+        (
+            &["--close", "--leaves", "1"],
+            "",
+            "vrptw: limit: LeafLimit\n",
+            7,
+        ),
+        (&["--close"], "BEST 34.0\n", "", 0),
+        (&["--neighbours", "0", "--close"], "BEST 34.0\n", "", 0),
+    ];
+    for (options, out, errors, status) in rows {
+        let mut words = Vec::from_slice(rt.alloc(), &["solve", paths[0], paths[1], paths[2]])?;
+        words.extend_from_slice(options)?;
+        let printed = run(&rt, words.as_slice());
+        assert_eq!(rt; printed.out.as_slice(), out.as_bytes());
+        assert_eq!(rt; printed.errors.as_slice(), errors.as_bytes());
+        assert_eq!(rt; printed.status, status);
+    }
+    let printed = run(&rt, &["check", paths[0], paths[2], "--solution", paths[1]]);
+    assert_eq!(rt; printed.out.as_slice(), b"BEST 34.0\n".as_slice());
+    Ok(())
+}
