@@ -7,9 +7,9 @@ use solomon_reader::{Instance, MOST_TIME};
 use std::alloc::{AllocError, Global};
 
 /// The most turns but the last one, and the fewest.
-const MOST_TURNS: u64 = 128;
+const MOST_TURNS: u64 = 160;
 
-const FEWEST_TURNS: u64 = 40;
+const FEWEST_TURNS: u64 = 80;
 
 /// When a route may leave a row, and where the row's bounds stand.
 #[derive(Clone, Copy, Debug)]

@@ -1,5 +1,6 @@
 -- How far a labeller has come.
 use Rattle.std.specs.Prelude.{◌≡◌, ℕ, ◌<◌, List, length, ℤ, Option}
+use Rattle.fronts.specs.declared.bound.Bound.{Bound}
 use Rattle.fronts.specs.declared.completions.Completions.{Completions}
 use Rattle.fronts.specs.declared.front.Front.{Front}
 use Rattle.fronts.specs.declared.task.Task.{Task}
@@ -8,6 +9,7 @@ use Rattle.labelling.specs.declared.label.Label.{Label}
 use Rattle.labelling.specs.declared.labeller.Labeller.{Labeller}
 use Rattle.labelling.specs.Arena.{label_in, state_at, IsArena, IsDominated, IsPruned, IsAdded, IsSameStop, TakesStep, TakesSteps, CountsEnd, IsComplete}
 use Rattle.labelling.specs.Cover.{Carries, IsCounted, IsPassed}
+use Rattle.fronts.specs.Completions.{IsBound}
 use Rattle.fronts.specs.Memories.{HasPlaces}
 use Rattle.fronts.specs.Tables.{Rows, IsAllowedRow}
 
@@ -40,6 +42,10 @@ IsPrunedIn c xs ys x = IsPruned c.task.now.instance.now c.task.now.region.now c.
 -- x was added to the labels, or one of them dominates it
 abbrev pub IsAddedTo : Labeller → Labeller → Label → Type 0
 IsAddedTo v w x = IsAdded (task_of v).instance.now (task_of v).region.now (task_of v).neighbours (task_of v).prices.now v.labels.items w.labels.items x
+
+-- what bounds all that may follow from a front
+abbrev pub IsBoundAt : Labeller → Front → Bound → Type 0
+IsBoundAt w f b = IsBound (task_of w).instance.now (task_of w).region.now (task_of w).neighbours (task_of w).prices.now f.last f.time b
 
 -- nothing that may come after the front costs less than the best
 abbrev pub PassesFront : Labeller → Option ℤ → Front → Type 0

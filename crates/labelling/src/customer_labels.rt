@@ -21,16 +21,15 @@ pub(crate) struct Entry {
 }
 
 impl Entry {
-    /// The entry of a label, which stands at an index.
-    pub(crate) fn new(completions: &Completions<'_, '_>, label: &Label, index: usize) -> Entry {
-        let bound = completions.at(label.front.last, label.front.time);
-        let capacity = u32::from(completions.task.instance.capacity());
+    /// The entry of a label, which stands at an index, and which another one of this load may dominate
+    /// even where it is lighter.
+    pub(crate) fn new(label: &Label, load: u32, index: usize) -> Entry {
         Entry {
             memory: label.memory,
             time: label.front.time,
             cost: label.front.cost,
             load: label.front.load,
-            most: capacity.saturating_sub(bound.room).max(label.front.load),
+            most: load.max(label.front.load),
             index,
         }
     }

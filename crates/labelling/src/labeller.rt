@@ -10,7 +10,7 @@ ghost use Rattle.labelling.specs.Answer.{HasLeastValue, HasItsRoute};
 ghost use Rattle.labelling.specs.Arena.{label_in, trace, IsPending, IsOnward, NonePending, IsInList, IsFirst, IsAnswer};
 ghost use Rattle.labelling.specs.Cover.{IsAtMost};
 ghost use Rattle.fronts.specs.Fronts.{IsBounded};
-ghost use Rattle.labelling.specs.Search.{task_of, IsSameTask, AreLabels, StandsAt, AreRowsFrom, ArePlacesFrom, IsAddedTo, PassesFront, PassesLabel, TakesStepTo, TakesStepsBelow, CountsEndOf, LosesNothing};
+ghost use Rattle.labelling.specs.Search.{task_of, IsSameTask, AreLabels, StandsAt, AreRowsFrom, ArePlacesFrom, IsAddedTo, IsBoundAt, PassesFront, PassesLabel, TakesStepTo, TakesStepsBelow, CountsEndOf, LosesNothing};
 ghost use Rattle.labelling.specs.declared.fault.LabelFault.TheVariants.{LabelLimit};
 
 use crate::best::Best;
@@ -20,7 +20,7 @@ use crate::label::Label;
 use crate::least_cost::Least;
 use crate::lookup::Lookup;
 use branching::Region;
-use fronts::{Completions, CustomerSet, Front, Memory, Task};
+use fronts::{Bound, Completions, CustomerSet, Front, Memory, Task};
 use solomon_reader::Instance;
 use std::alloc::{AllocError, Global};
 
@@ -150,12 +150,12 @@ impl<'t, 'i> Labeller<'t, 'i> {
         }
     }
 
-    /// Whether nothing that may come after a front costs less than the best.
-    fn is_passed(&self, front: &Front, best: Option<i64>) -> bool
-        requires { IsBounded (task_of self.now).instance.now front.now }
+    /// Whether nothing that may come after a front, which this bounds, costs less than the best.
+    fn is_passed(&self, front: &Front, bound: &Bound, best: Option<i64>) -> bool
+        requires front { IsBounded (task_of self.now).instance.now front.now }
+        requires bound { IsBoundAt self.now front.now bound.now }
         ensures { IsTrue result → PassesFront self.now best front.now }
     {
-        let bound = self.completions.at(front.last, front.time);
         is_at_most(best, front.cost + bound.least)
     }
 
@@ -164,12 +164,14 @@ impl<'t, 'i> Labeller<'t, 'i> {
         requires { IsBounded (task_of self.now).instance.now label.now.front }
         ensures { IsTrue result → PassesLabel self.now self.now.best.value label.now }
     {
+        let bound = self.completions.at(label.front.last, label.front.time);
         // Bounds hold where the last stop is remembered, as it is after each stop.
-        label.memory.contains(0) && self.is_passed(&label.front, self.best.value)
+        label.memory.contains(0) && self.is_passed(&label.front, &bound, self.best.value)
     }
 
-    /// Adds a label and drops those that it dominates, unless an active one dominates it.
-    fn add_label(&mut self, newer: &Label) -> Result<(), LabelFault>
+    /// Adds a label, after which at most so much may be loaded, and drops those that it dominates, unless
+    /// an active one dominates it.
+    fn add_label(&mut self, newer: &Label, room: u32) -> Result<(), LabelFault>
         ensures added { OnOk result (IsAddedTo self.old self.new newer.now) }
         ensures same { IsSameTask self.old self.new }
         ensures best { self.new.best ≡ self.old.best }
@@ -177,7 +179,8 @@ impl<'t, 'i> Labeller<'t, 'i> {
     {
         let completions = self.completions;
         let index = self.labels.len();
-        let entry = Entry::new(completions, newer, index);
+        let capacity = completions.task.instance.capacity();
+        let entry = Entry::new(newer, u32::from(capacity).saturating_sub(room), index);
         if self
             .lookup
             .is_dominated(completions, self.labels.as_slice(), newer, &entry)
@@ -221,11 +224,12 @@ impl<'t, 'i> Labeller<'t, 'i> {
             return Ok(());
         }
         let front = label.front.extend(task.instance, task.prices, j);
-        if self.is_passed(&front, best) {
+        let bound = self.completions.at(front.last, front.time);
+        if self.is_passed(&front, &bound, best) {
             return Ok(());
         }
         let newer = label.extend(task, index, front, j);
-        self.add_label(&newer)?;
+        self.add_label(&newer, bound.room)?;
         Ok(())
     }
 

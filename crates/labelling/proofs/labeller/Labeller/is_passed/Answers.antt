@@ -5,5 +5,5 @@ use Rattle.labelling.proofs.labeller.Labeller.is_passed.Goals as goal
 
 pub returns : goal.returns
 returns c = λ passed. record {
-  each = λ a last later cost remembered s h. at_most_more _ _ _ (omega (arith, ints, cost, (c.at-bound.ensures.holds a s last later remembered h).least)) (c.is_at_most.ensures.yes passed);
+  each = λ a last later cost remembered s h. at_most_more _ _ _ (omega (arith, ints, cost, (c.requires.bound.holds a s last later remembered h).least)) (c.is_at_most.ensures.yes passed);
 }
