@@ -1,38 +1,33 @@
 -- The list of labels grows, labels are dropped and extended, and what was said of it stays.
-use Rattle.std.proofs.Common.{◌≡◌, ◌≢◌, refl, ℕ, zero, suc, ◌+◌, ◌-◌, ◌<◌, ◌≤◌, true, false, List, [], ◌∷◌, ◌++◌, length, length-append, get_or, arith, ap, sym, ◌∙◌, ◌⊎◌, inl, inr, Option, Some, None, append-nil, append_assoc, reverse, take, drop}
-use Rattle.std.specs.Prelude.{ℤ, MatchOption}
+use Rattle.std.proofs.Common.{◌≡◌, ◌≢◌, refl, ℕ, zero, suc, ◌+◌, ◌-◌, ◌<◌, ◌≤◌, true, false, List, [], ◌∷◌, ◌++◌, length, length-append, get_or, eqb, arith, ap, sym, ◌∙◌, ◌⊎◌, inl, inr, Option, Some, None, append-nil, append_assoc, reverse, take, drop}
+use Rattle.std.specs.Prelude.{ℤ, MatchOption, IsTrue}
 use Rattle.std.proofs.Math.ListN.{set, length-set}
 use Rattle.std.proofs.lemmas.Int.{ints}
-use Rattle.std.proofs.lemmas.Bool.{cases_lt, cases_eq}
+use Rattle.std.proofs.lemmas.Bool.{cases_lt, cases_eq, eq-eqb, or_left}
 use Rattle.std.proofs.lemmas.List.{reverse-append, length-reverse, take_all, drop_all, get_or_read, get_or_append_left, get_or_push, get_or-set_same, get_or-set_other}
 use Rattle.std.proofs.lemmas.Nat.Bits.{bit_at-zero}
 use Rattle.solomon_reader.specs.Problem.{Problem, customer_count}
 use Rattle.solomon_reader.specs.Region.{Region}
 use Rattle.solomon_reader.specs.Relaxed.{IsRelaxed, reduced_cost}
-use Rattle.solomon_reader.specs.States.{State, start, step, CanStep, CanEnd, IsAsGood}
+use Rattle.solomon_reader.specs.States.{State, start, step, CanStep, CanEnd}
 use Rattle.solomon_reader.proofs.Completions.{reaches_none, reaches_more}
 use Rattle.labelling.specs.declared.least_cost.Least.{Least}
 use Rattle.labelling.specs.declared.best.Best.{Best}
 use Rattle.labelling.specs.declared.label.Label.{Label}
 use Rattle.labelling.specs.Answer.{HasLeastValue, HasItsRoute}
-use Rattle.labelling.specs.Arena.{label_in, state_at, trace, IsLabel, IsArena, IsPending, HasActive, HasPending, IsDominated, Dominates, HasDominating, inactive, IsPruned, IsExtension, IsAdded, IsSameStop, IsLater, IsGrown, IsMoved, TakesStep, TakesSteps, CountsEnd, EndsAt, IsAttained, IsComplete, IsOnward, NonePending, IsAnswer, IsInList, IsFirst, blank}
-use Rattle.labelling.specs.Cover.{IsAtMost, CoversAll}
-use Rattle.labelling.specs.Fronts.{end_cost, IsBounded, IsStart}
-use Rattle.labelling.specs.Memories.{place_of}
-use Rattle.solomon_reader.proofs.Goodness.{good_itself, good_same, good_through, reaches_same}
-use Rattle.labelling.proofs.Cover.{covers_grown, covers_retired, least_at_end}
+use Rattle.labelling.specs.Arena.{label_in, state_at, trace, IsLabel, IsArena, IsPending, HasActive, HasPending, IsDominated, inactive, IsPruned, IsExtension, IsAdded, IsSameStop, IsLater, IsGrown, IsMoved, IsMet, TakesStep, TakesSteps, CountsEnd, EndsAt, IsAttained, IsComplete, IsOnward, NonePending, IsAnswer, IsInList, IsFirst, blank}
+use Rattle.labelling.specs.Cover.{IsAtMost, CoversAll, Carries, IsCounted, IsPassed}
+use Rattle.fronts.specs.Fronts.{end_cost, IsBounded, IsStart, IsAfter}
+use Rattle.fronts.specs.declared.front.Front.{Front}
+use Rattle.fronts.specs.Memories.{place_of}
+use Rattle.solomon_reader.proofs.Goodness.{reaches_same}
+use Rattle.labelling.proofs.Carrying.{carries_itself, carries_same, carries_through}
+use Rattle.labelling.proofs.Cover.{at_most_more, covers_grown, covers_retired, least_at_end}
 use Rattle.labelling.proofs.Ends.{IsReached, least_value, least_route}
 
 -- a label that was read is the label of the list
 pub label_read : (xs : List Label) (m : ℕ) (r : Label) → m < length xs → r ≡ get_or xs m r → r ≡ label_in xs m
 label_read xs m r within is = get_or_read xs m r within is blank
-
--- the memories of labels at one stop are read by one list
-good_from : (p : Problem) (k : ℕ) (a b : Label) → Dominates a b → IsAsGood (state_at p k a) (state_at p k b)
-good_from p k a b h = record { last = h.last; time = h.time; load = h.load; cost = h.cost; memory = λ u t. h.memory (place_of p k b.front.last u) (rw h.last at t) }
-
-dominated_by : (p : Problem) (k : ℕ) (xs : List Label) (x : Label) → HasDominating xs x → IsDominated p k xs (state_at p k x)
-dominated_by p k xs x h = (state_at p k (label_in xs h.index), (record { index = h.index; within = h.within; active = h.active; is = refl }, good_from p k _ x h.dominates))
 
 pub first_is : (p : Problem) (xs : List Label) (l : Label) → xs ≡ l ∷ [] → IsStart p l.front → IsBounded p l.front → l.memory.bits ≡ 0 → l.parent ≡ 0 → l.stops ≡ 0 → IsPending l → IsFirst p xs
 first_is p xs l one start bounded memory parent stops pending = record {
@@ -100,11 +95,11 @@ module _ (p : Problem) (g : Region) (k : ℕ) (prices : List ℤ) where
 grown_none : (xs : List Label) → IsGrown xs xs
 grown_none xs = record { longer = omega arith; later = λ m w. later_itself _; fresh = λ m low high. absurd (omega (arith, low, high)) }
 
-moved_none : (p : Problem) (k : ℕ) (xs : List Label) → IsMoved p k xs xs
-moved_none p k xs = record { grown = grown_none xs; pending = λ a s. (a, (s, good_itself a)); active = λ a s. (a, (s, good_itself a)) }
+moved_none : (p : Problem) (g : Region) (k : ℕ) (prices : List ℤ) (xs : List Label) → IsMoved p g k prices xs xs
+moved_none p g k prices xs = record { grown = grown_none xs; pending = λ a s. (a, (s, carries_itself p g k prices a)); active = λ a s. (a, (s, carries_itself p g k prices a)) }
 
-dominated_through : (p : Problem) (k : ℕ) (xs ys : List Label) (a : State) → IsMoved p k xs ys → IsDominated p k xs a → IsDominated p k ys a
-dominated_through p k xs ys a moved (t, h) = let on = moved.active t h.0 in (on.0, (on.1.0, good_through _ _ _ on.1.1 h.1))
+dominated_through : (p : Problem) (g : Region) (k : ℕ) (prices : List ℤ) (xs ys : List Label) (a : State) → IsMoved p g k prices xs ys → IsDominated p g k prices xs a → IsDominated p g k prices ys a
+dominated_through p g k prices xs ys a moved (t, h) = let on = moved.active t h.0 in (on.0, (on.1.0, carries_through p g k prices _ _ _ on.1.1 h.1))
 
 grown_through : (xs ys zs : List Label) → IsGrown xs ys → IsGrown ys zs → IsGrown xs zs
 grown_through xs ys zs h e = record {
@@ -116,15 +111,15 @@ grown_through xs ys zs h e = record {
   ];
 }
 
-moved_through : (p : Problem) (k : ℕ) (xs ys zs : List Label) → IsMoved p k xs ys → IsMoved p k ys zs → IsMoved p k xs zs
-moved_through p k xs ys zs h e = record {
+moved_through : (p : Problem) (g : Region) (k : ℕ) (prices : List ℤ) (xs ys zs : List Label) → IsMoved p g k prices xs ys → IsMoved p g k prices ys zs → IsMoved p g k prices xs zs
+moved_through p g k prices xs ys zs h e = record {
   grown = grown_through xs ys zs h.grown e.grown;
-  pending = λ a s. (let t = h.pending a s in let u = e.pending t.0 t.1.0 in (u.0, (u.1.0, good_through _ _ _ u.1.1 t.1.1)));
-  active = λ a s. dominated_through p k ys zs a e (h.active a s);
+  pending = λ a s. (let t = h.pending a s in let u = e.pending t.0 t.1.0 in (u.0, (u.1.0, carries_through p g k prices _ _ _ u.1.1 t.1.1)));
+  active = λ a s. dominated_through p g k prices ys zs a e (h.active a s);
 }
 
 -- x was added, and what it dominates was dropped
-module _ (p : Problem) (k : ℕ) (xs zs : List Label) (x : Label) (unextended : IsPending x) (pruned : IsPruned xs zs x) where
+module _ (p : Problem) (g : Region) (k : ℕ) (prices : List ℤ) (xs zs : List Label) (x : Label) (unextended : IsPending x) (pruned : IsPruned p g k prices xs zs (state_at p k x)) where
   more : length (zs ++ (x ∷ [])) ≡ length xs + 1
   more = omega (arith, length-append zs (x ∷ []), pruned.same)
 
@@ -153,33 +148,46 @@ module _ (p : Problem) (k : ℕ) (xs zs : List Label) (x : Label) (unextended : 
   pending_new : HasPending p k (zs ++ (x ∷ [])) (state_at p k x)
   pending_new = record { index = length xs; within = omega (arith, more); unextended = rw new_at unextended; is = ap (state_at p k) new_at }
 
-  moved_added : IsMoved p k xs (zs ++ (x ∷ []))
+  moved_added : IsMoved p g k prices xs (zs ++ (x ∷ []))
   moved_added = record { grown = grown_added; pending = pending; active = active }
     where
-      pending : (a : State) → HasPending p k xs a → (t : State) × (HasPending p k (zs ++ (x ∷ [])) t × IsAsGood t a)
+      pending : (a : State) → HasPending p k xs a → (t : State) × (HasPending p k (zs ++ (x ∷ [])) t × Carries p g k prices t a)
       pending a s = elim (pruned.each s.index s.within) [
         | inl same ↦ (let e = old_at s.index s.within ∙ same in
-            (a, (record { index = s.index; within = omega (arith, s.within, more); unextended = rw e s.unextended; is = ap (state_at p k) e ∙ s.is }, good_itself a)))
-        | inr past ↦ (state_at p k x, (pending_new, rw s.is at (good_from p k x _ past.0)))
+            (a, (record { index = s.index; within = omega (arith, s.within, more); unextended = rw e s.unextended; is = ap (state_at p k) e ∙ s.is }, carries_itself p g k prices a)))
+        | inr past ↦ (state_at p k x, (pending_new, rw s.is at past.0))
       ]
 
-      active : (a : State) → HasActive p k xs a → IsDominated p k (zs ++ (x ∷ [])) a
+      active : (a : State) → HasActive p k xs a → IsDominated p g k prices (zs ++ (x ∷ [])) a
       active a s = elim (pruned.each s.index s.within) [
         | inl same ↦ (let e = old_at s.index s.within ∙ same in
-            (a, (record { index = s.index; within = omega (arith, s.within, more); active = rw e s.active; is = ap (state_at p k) e ∙ s.is }, good_itself a)))
-        | inr past ↦ (state_at p k x, (active_new, rw s.is at (good_from p k x _ past.0)))
+            (a, (record { index = s.index; within = omega (arith, s.within, more); active = rw e s.active; is = ap (state_at p k) e ∙ s.is }, carries_itself p g k prices a)))
+        | inr past ↦ (state_at p k x, (active_new, rw s.is at past.0))
       ]
 
-  dominated_added : IsDominated p k (zs ++ (x ∷ [])) (state_at p k x)
-  dominated_added = (state_at p k x, (active_new, good_itself (state_at p k x)))
+  dominated_added : IsDominated p g k prices (zs ++ (x ∷ [])) (state_at p k x)
+  dominated_added = (state_at p k x, (active_new, carries_itself p g k prices (state_at p k x)))
 
 module _ (p : Problem) (g : Region) (k : ℕ) (prices : List ℤ) where
   module _ (xs : List Label) (l : Label) (index j : ℕ) (arena : IsArena p g k prices xs) (within : index < length xs) (here : IsSameStop (label_in xs index) l) where
     pub label_here : IsLabel p g k prices xs l
     label_here = label_longer p g k prices xs xs (label_in xs index) l (grown_longer xs xs (grown_none xs)) arena (arena.each index within) here
 
-    pub step_refused : ¬ CanStep p g (state_at p k l) j → TakesStep p g k prices xs xs l j
-    step_refused cannot = record { moved = moved_none p k xs; labelled = arena; dominated = λ can. absurd (cannot can) }
+    pub step_refused : (b : Option ℤ) → ¬ CanStep p g (state_at p k l) j → TakesStep p g k prices b xs xs l j
+    step_refused b cannot = record { moved = moved_none p g k prices xs; labelled = arena; met = λ can. absurd (cannot can) }
+
+    -- nothing after the step costs less than the best
+    pub step_passed : (b : Option ℤ) (f : Front) → IsAfter p prices l.front j f → IsPassed p g k prices b f.last f.time f.cost → TakesStep p g k prices b xs xs l j
+    step_passed b f after passed = record { moved = moved_none p g k prices xs; labelled = arena; met = λ can. inr (counted can) }
+      where
+        remembers : IsTrue ((step p k prices (state_at p k l) j).memory j)
+        remembers = or_left (eqb j j) _ (eq-eqb j j refl)
+
+        at_j : (i : ℕ) → i ≡ j → IsPassed p g k prices b i f.time f.cost → IsCounted p g k prices b (step p k prices (state_at p k l) j)
+        at_j i same h = (rw same at h).each (step p k prices (state_at p k l) j) refl (omega (arith, after.time)) (omega (arith, ints, after.cost)) remembers
+
+        counted : CanStep p g (state_at p k l) j → IsCounted p g k prices b (step p k prices (state_at p k l) j)
+        counted can = at_j f.last after.last passed
 
     -- the extension is a label of the longer list
     extension_labelled : (ys : List Label) (x : Label) → IsGrown xs ys → IsExtension p k prices l index j x → CanStep p g (state_at p k l) j → IsLabel p g k prices ys x
@@ -207,44 +215,51 @@ module _ (p : Problem) (g : Region) (k : ℕ) (prices : List ℤ) where
             let one : l.stops + 1 ≡ suc l.stops = omega arith in
             rw (extension.stops, one, extension.parent, extension.same.last) (ap (λ r. r ++ (j ∷ [])) t)
 
-    pub step_taken : (ys : List Label) (x : Label) → IsExtension p k prices l index j x → CanStep p g (state_at p k l) j → IsAdded xs ys x → TakesStep p g k prices xs ys l j
-    step_taken ys x extension can (inl same) = rw same.0 (record {
-      moved = moved_none p k xs;
+    -- what may come after the step may come after x, at the same cost
+    met_by : (b : Option ℤ) (ys : List Label) (x : Label) → IsExtension p k prices l index j x → IsMet p g k prices b ys (state_at p k x) → IsMet p g k prices b ys (step p k prices (state_at p k l) j)
+    met_by b ys x extension (inl t) = inl (t.0, (t.1.0, carries_through p g k prices _ _ _ t.1.1 (carries_same p g k prices _ _ extension.same)))
+    met_by b ys x extension (inr counted) = inr (λ s h. (let on = (carries_same p g k prices _ _ extension.same).on s h in at_most_more b _ _ on.1 (counted s on.0)))
+
+    pub step_taken : (b : Option ℤ) (ys : List Label) (x : Label) → IsExtension p k prices l index j x → CanStep p g (state_at p k l) j → IsAdded p g k prices xs ys x → TakesStep p g k prices b xs ys l j
+    step_taken b ys x extension can (inl same) = rw same.0 (record {
+      moved = moved_none p g k prices xs;
       labelled = arena;
-      dominated = λ _. (let b = dominated_by p k xs x same.1 in (b.0, (b.1.0, good_through _ _ _ b.1.1 (good_same _ _ extension.same))));
+      met = λ _. met_by b xs x extension (inl same.1);
     })
-    step_taken ys x extension can (inr (zs, kept)) =
-        let grown : IsGrown xs (zs ++ (x ∷ [])) = grown_added p k xs zs x extension.unextended kept.0 in
-        let b = dominated_added p k xs zs x extension.unextended kept.0 in
+    step_taken b ys x extension can (inr (zs, kept)) =
+        let grown : IsGrown xs (zs ++ (x ∷ [])) = grown_added p g k prices xs zs x extension.unextended kept.0 in
         rw kept.1 (record {
-          moved = moved_added p k xs zs x extension.unextended kept.0;
+          moved = moved_added p g k prices xs zs x extension.unextended kept.0;
           labelled = record { each = each_of zs x grown kept.0 extension };
-          dominated = λ _. (b.0, (b.1.0, good_through _ _ _ b.1.1 (good_same _ _ extension.same)));
+          met = λ _. met_by b _ x extension (inl (dominated_added p g k prices xs zs x extension.unextended kept.0));
         })
       where
-        each_of : (zs : List Label) (x : Label) → IsGrown xs (zs ++ (x ∷ [])) → IsPruned xs zs x → IsExtension p k prices l index j x
+        each_of : (zs : List Label) (x : Label) → IsGrown xs (zs ++ (x ∷ [])) → IsPruned p g k prices xs zs (state_at p k x) → IsExtension p k prices l index j x
             → (m : ℕ) → m < length (zs ++ (x ∷ [])) → IsLabel p g k prices (zs ++ (x ∷ [])) (label_in (zs ++ (x ∷ [])) m)
         each_of zs x grown pruned extension m w = elim (cases_lt m (length xs)) [
           | inl old ↦ label_longer p g k prices xs (zs ++ (x ∷ [])) (label_in xs m) (label_in (zs ++ (x ∷ [])) m) (grown_longer xs _ grown) arena (arena.each m old) (grown.later m old).same
-          | inr new ↦ (let same : m ≡ length xs = omega (arith, new, w, more p k xs zs x extension.unextended pruned) in
-              rw (same, new_at p k xs zs x extension.unextended pruned) (extension_labelled (zs ++ (x ∷ [])) x grown extension can))
+          | inr new ↦ (let same : m ≡ length xs = omega (arith, new, w, more p g k prices xs zs x extension.unextended pruned) in
+              rw (same, new_at p g k prices xs zs x extension.unextended pruned) (extension_labelled (zs ++ (x ∷ [])) x grown extension can))
         ]
 
-  pub steps_none : (xs : List Label) (l : Label) → IsArena p g k prices xs → TakesSteps p g k prices xs xs l 1
-  steps_none xs l labelled = record { moved = moved_none p k xs; labelled = labelled; dominated = λ j below can. absurd (omega (arith, below, can.customer.0)) }
+  pub steps_none : (b : Option ℤ) (xs : List Label) (l : Label) → IsArena p g k prices xs → TakesSteps p g k prices b xs xs l 1
+  steps_none b xs l labelled = record { moved = moved_none p g k prices xs; labelled = labelled; met = λ j below can. absurd (omega (arith, below, can.customer.0)) }
 
-  pub steps_more : (xs ys zs : List Label) (l : Label) (i : ℕ) → TakesSteps p g k prices xs ys l i → TakesStep p g k prices ys zs l i → TakesSteps p g k prices xs zs l (i + 1)
-  steps_more xs ys zs l i steps stepped = record {
-    moved = moved_through p k xs ys zs steps.moved stepped.moved;
+  pub steps_more : (b : Option ℤ) (xs ys zs : List Label) (l : Label) (i : ℕ) → TakesSteps p g k prices b xs ys l i → TakesStep p g k prices b ys zs l i → TakesSteps p g k prices b xs zs l (i + 1)
+  steps_more b xs ys zs l i steps stepped = record {
+    moved = moved_through p g k prices xs ys zs steps.moved stepped.moved;
     labelled = stepped.labelled;
-    dominated = λ j below can. elim (cases_lt j i) [
-      | inl less ↦ dominated_through p k ys zs _ stepped.moved (steps.dominated j less can)
-      | inr more ↦ (let same : j ≡ i = omega arith in rw same (stepped.dominated (rw same at can)))
+    met = λ j below can. elim (cases_lt j i) [
+      | inl less ↦ elim (steps.met j less can) [
+        | inl dominated ↦ inl (dominated_through p g k prices ys zs _ stepped.moved dominated)
+        | inr counted ↦ inr counted
+      ]
+      | inr more ↦ (let same : j ≡ i = omega arith in rw same (stepped.met (rw same at can)))
     ];
   }
 
-  pub here_still : (xs ys : List Label) (l : Label) (index i : ℕ) → index < length xs → IsSameStop (label_in xs index) l → TakesSteps p g k prices xs ys l i → IsSameStop (label_in ys index) l
-  here_still xs ys l index i within here steps =
+  pub here_still : (b : Option ℤ) (xs ys : List Label) (l : Label) (index i : ℕ) → index < length xs → IsSameStop (label_in xs index) l → TakesSteps p g k prices b xs ys l i → IsSameStop (label_in ys index) l
+  here_still b xs ys l index i within here steps =
       let later = (steps.moved.grown.later index within).same in
       record {
         front = here.front ∙ sym later.front;
@@ -253,12 +268,20 @@ module _ (p : Problem) (g : Region) (k : ℕ) (prices : List ℤ) where
         stops = here.stops ∙ sym later.stops;
       }
 
+module _ (p : Problem) (g : Region) (k : ℕ) (prices : List ℤ) (l : Label) (b : Best) (counted : IsCounted p g k prices b.value (state_at p k l)) where
+  -- nothing after the label costs less than the best: it needs no step
+  pub end_passed : (index : ℕ) → CountsEnd p g k l index b b
+  end_passed index = record { lower = λ y h. h; counted = λ can. counted [] can; from = inl refl }
+
+  pub steps_passed : (xs : List Label) (i : ℕ) → IsArena p g k prices xs → TakesSteps p g k prices b.value xs xs l i
+  steps_passed xs i labelled = record { moved = moved_none p g k prices xs; labelled = labelled; met = λ j below can. inr (λ s h. counted (j ∷ s) (can, h)) }
+
 -- the label at an index was extended
 abbrev pub done : Label → Label
 done l = record l { extended = true }
 
 module _ (p : Problem) (g : Region) (k : ℕ) (prices : List ℤ) (xs ys : List Label) (index : ℕ) (b after : Best) (l : Label) (so_far : IsComplete p g k prices xs b) (within : index < length xs)
-    (here : label_in xs index ≡ l) (ending : CountsEnd p g k l index b after) (steps : TakesSteps p g k prices xs ys l (customer_count p + 1)) where
+    (here : label_in xs index ≡ l) (ending : CountsEnd p g k l index b after) (steps : TakesSteps p g k prices after.value xs ys l (customer_count p + 1)) where
   abbrev zs : List Label
   zs = set ys index (done (label_in ys index))
 
@@ -309,8 +332,8 @@ module _ (p : Problem) (g : Region) (k : ℕ) (prices : List ℤ) (xs ys : List 
         inr (record { index = s.index; within = omega (arith, s.within, count_zs); unextended = rw e s.unextended; is = ap (state_at p k) e ∙ s.is }))
   ]
 
-  each_step : (j : ℕ) → CanStep p g (state_at p k l) j → (t : State) × (HasActive p k ys t × IsAsGood t (step p k prices (state_at p k l) j))
-  each_step j can = steps.dominated j (omega (arith, can.customer.1)) can
+  each_step : (j : ℕ) → CanStep p g (state_at p k l) j → IsMet p g k prices after.value ys (step p k prices (state_at p k l) j)
+  each_step j can = steps.met j (omega (arith, can.customer.1)) can
 
   covers : CoversAll p g k prices after.value (HasPending p k zs) (HasActive p k zs)
   covers a active = covers_retired p g k prices after.value (HasPending p k ys) (HasPending p k zs) (HasActive p k ys) (state_at p k l) ending.counted each_step others
@@ -339,9 +362,9 @@ module _ (p : Problem) (g : Region) (k : ℕ) (prices : List ℤ) (xs ys : List 
   attained_by c (inl same) = rw same (attained_before b.value b.index so_far.attained)
   attained_by c (inr h) = rw (h.1.0, h.1.1) (ends_still index (end_cost p l.front) (record { within = within; can = rw here h.0; value = ap (λ (a : Label). end_cost p a.front) here }))
 
-  first : IsDominated p k zs (start p)
+  first : IsDominated p g k prices zs (start p)
   first =
-      let b = dominated_through p k xs ys (start p) steps.moved so_far.first in
+      let b = dominated_through p g k prices xs ys (start p) steps.moved so_far.first in
       (b.0, (active_zs b.0 b.1.0, b.1.1))
 
   complete_zs : IsComplete p g k prices zs after
@@ -414,7 +437,7 @@ module _ (p : Problem) (g : Region) (k : ℕ) (prices : List ℤ) where
       } in
       rw h.one (record {
         labelled = record { each = λ m w. (let e : m ≡ 0 = omega (arith, w) in rw e reached) };
-        first = (state_at p k h.label, (record { index = 0; within = omega arith; active = h.unextended.active; is = refl }, good_same _ _ (h.start k)));
+        first = (state_at p k h.label, (record { index = 0; within = omega arith; active = h.unextended.active; is = refl }, carries_same p g k prices _ _ (h.start k)));
         covers = λ a active s completes. inr (record { state = a; pending = to_pending a active; rest = s; short = omega arith; completes = completes; low = omega (arith, ints) });
         attained = rw value tt;
       })

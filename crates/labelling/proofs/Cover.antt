@@ -5,10 +5,9 @@ use Rattle.std.proofs.lemmas.Int.{ints}
 use Rattle.solomon_reader.specs.Problem.{Problem}
 use Rattle.solomon_reader.specs.Region.{Region}
 use Rattle.solomon_reader.specs.Relaxed.{IsRelaxed, reduced_cost}
-use Rattle.solomon_reader.specs.States.{State, start, step, CanStep, CanEnd, Completes, value_with, IsAsGood}
-use Rattle.labelling.specs.Cover.{IsAtMost, IsCovered, CoversAll}
+use Rattle.solomon_reader.specs.States.{State, start, step, CanStep, CanEnd, Completes, value_with}
+use Rattle.labelling.specs.Cover.{IsAtMost, IsCovered, CoversAll, Carries, IsCounted}
 use Rattle.solomon_reader.proofs.Completions.{completes_relaxed, value_is}
-use Rattle.solomon_reader.proofs.Goodness.{completes_too, value_no_greater}
 
 pub at_most_more : (b : Option ℤ) (y z : ℤ) → y ≤ℤ z → IsAtMost b y → IsAtMost b z
 at_most_more None y z le h = absurd h
@@ -19,10 +18,10 @@ module _ (p : Problem) (g : Region) (k : ℕ) (prices : List ℤ) where
   covered_more b Pending n m y z le low (inl h) = inl (at_most_more b y z low h)
   covered_more b Pending n m y z le low (inr w) = inr (record { state = w.state; pending = w.pending; rest = w.rest; short = omega (arith, w.short); completes = w.completes; low = omega (arith, ints, w.low) })
 
-  -- for each pending state one that is as good is pending afterwards, and the best hasn't grown
+  -- for each pending state one that carries it is pending afterwards, and the best hasn't grown
   pub covered_moved : (b c : Option ℤ) (Pending After : State → Type 0) (n : ℕ) (z : ℤ)
       → ((y : ℤ) → IsAtMost b y → IsAtMost c y)
-      → ((a : State) → Pending a → (t : State) × (After t × IsAsGood t a))
+      → ((a : State) → Pending a → (t : State) × (After t × Carries p g k prices t a))
       → IsCovered p g k prices b Pending n z → IsCovered p g k prices c After n z
   covered_moved b c Pending After n z found moved (inl h) = inl (found z h)
   covered_moved b c Pending After n z found moved (inr w) =
@@ -32,14 +31,14 @@ module _ (p : Problem) (g : Region) (k : ℕ) (prices : List ℤ) where
         pending = t.1.0;
         rest = w.rest;
         short = w.short;
-        completes = completes_too p g k prices w.rest t.0 w.state t.1.1 w.completes;
-        low = omega (arith, ints, w.low, value_no_greater p g k prices w.rest t.0 w.state t.1.1);
+        completes = (t.1.1.on w.rest w.completes).0;
+        low = omega (arith, ints, w.low, (t.1.1.on w.rest w.completes).1);
       })
 
-  -- what is active afterwards was so before, or is pending
+  -- what active afterwards stood before, or is pending
   pub covers_grown : (b c : Option ℤ) (Pending Active After Now : State → Type 0)
       → ((y : ℤ) → IsAtMost b y → IsAtMost c y)
-      → ((a : State) → Pending a → (t : State) × (After t × IsAsGood t a))
+      → ((a : State) → Pending a → (t : State) × (After t × Carries p g k prices t a))
       → ((a : State) → Now a → Active a ⊎ After a)
       → CoversAll p g k prices b Pending Active → CoversAll p g k prices c After Now
   covers_grown b c Pending Active After Now found moved grown covers a now s h =
@@ -48,10 +47,10 @@ module _ (p : Problem) (g : Region) (k : ℕ) (prices : List ℤ) where
         | inr after ↦ inr (record { state = a; pending = after; rest = s; short = omega arith; completes = h; low = omega (arith, ints) })
       ]
 
-  -- a state is retired: its own end was counted, and for each of its steps an active state is as good
+  -- a state is retired: its own end was counted, and each of its steps active or is beaten by what active
   module _ (b : Option ℤ) (Pending After Active : State → Type 0) (x : State)
       (counted : CanEnd p g x → IsAtMost b (value_with p k prices x []))
-      (steps : (j : ℕ) → CanStep p g x j → (t : State) × (Active t × IsAsGood t (step p k prices x j)))
+      (spread : (j : ℕ) → CanStep p g x j → ((t : State) × (Active t × Carries p g k prices t (step p k prices x j))) ⊎ IsCounted p g k prices b (step p k prices x j))
       (others : (a : State) → Pending a → (a ≡ x) ⊎ After a)
       (covers : CoversAll p g k prices b Pending Active) where
     ends_at_x : (n : ℕ) (z : ℤ) → Completes p g k prices x [] → value_with p k prices x [] ≤ℤ z → IsCovered p g k prices b After n z
@@ -59,12 +58,12 @@ module _ (p : Problem) (g : Region) (k : ℕ) (prices : List ℤ) where
 
     goes_on_at_x : (n : ℕ) (z : ℤ) (j : ℕ) (s : List ℕ) → ((y : ℤ) → IsCovered p g k prices b Pending n y → IsCovered p g k prices b After n y)
         → length s ≤ n → CanStep p g x j → Completes p g k prices (step p k prices x j) s → value_with p k prices (step p k prices x j) s ≤ℤ z → IsCovered p g k prices b After (suc n) z
-    goes_on_at_x n z j s again short can h low =
-        let t = steps j can in
-        let on = completes_too p g k prices s t.0 (step p k prices x j) t.1.1 h in
-        let le = value_no_greater p g k prices s t.0 (step p k prices x j) t.1.1 in
-        let now : IsCovered p g k prices b Pending n (value_with p k prices t.0 s) = covered_more b Pending (length s) n _ _ short (omega (arith, ints)) (covers t.0 t.1.0 s on) in
-        covered_more b After n (suc n) (value_with p k prices t.0 s) z (omega arith) (omega (arith, ints, le, low)) (again _ now)
+    goes_on_at_x n z j s again short can h low = elim (spread j can) [
+      | inl t ↦ (let on = t.1.1.on s h in
+          let now : IsCovered p g k prices b Pending n (value_with p k prices t.0 s) = covered_more b Pending (length s) n _ _ short (omega (arith, ints)) (covers t.0 t.1.0 s on.0) in
+          covered_more b After n (suc n) (value_with p k prices t.0 s) z (omega arith) (omega (arith, ints, on.1, low)) (again _ now))
+      | inr counted ↦ inl (at_most_more b _ z low (counted s h))
+    ]
 
     at_none : (z : ℤ) (rest : List ℕ) → length rest ≤ 0 → Completes p g k prices x rest → value_with p k prices x rest ≤ℤ z → IsCovered p g k prices b After 0 z
     at_none z [] short h low = ends_at_x 0 z h low
@@ -89,14 +88,14 @@ module _ (p : Problem) (g : Region) (k : ℕ) (prices : List ℤ) where
     pub covers_retired : CoversAll p g k prices b After Active
     covers_retired a active s h = retire (length s) _ (covers a active s h)
 
-  -- nothing is pending any more, and an active state is as good as the start
+  -- nothing is pending any more, and something as good as the start active
   pub least_at_end : (b : Option ℤ) (Pending Active : State → Type 0) → CoversAll p g k prices b Pending Active → ((a : State) → ¬ Pending a)
-      → (t : State) × (Active t × IsAsGood t (start p))
+      → (t : State) × (Active t × Carries p g k prices t (start p))
       → (r : List ℕ) → IsRelaxed p g k r → IsAtMost b (reduced_cost p prices r)
   least_at_end b Pending Active covers nothing first r relaxed =
       let from_start = completes_relaxed p g k prices r relaxed in
-      let le = value_no_greater p g k prices r first.0 (start p) first.1.1 in
-      elim (covers first.0 first.1.0 r (completes_too p g k prices r first.0 (start p) first.1.1 from_start)) [
-        | inl h ↦ rw (← value_is p g k prices r) (at_most_more b _ _ le h)
+      let on = first.1.1.on r from_start in
+      elim (covers first.0 first.1.0 r on.0) [
+        | inl h ↦ rw (← value_is p g k prices r) (at_most_more b _ _ on.1 h)
         | inr w ↦ absurd (nothing w.state w.pending)
       ]

@@ -1,8 +1,4 @@
-pub mod Flagged
-pub mod Tabled
-pub mod Narrowing
-pub mod Places
-pub mod Recalling
 pub mod Ends
+pub mod Carrying
 pub mod Cover
 pub mod Advancing

@@ -1,13 +1,13 @@
 -- Labels in a list that only grows, each with the index of its parent: the label before its last stop.
-use Rattle.std.specs.Prelude.{◌≡◌, ◌≢◌, ℕ, zero, suc, ◌+◌, ◌<◌, ◌≤◌, true, false, List, [], ◌∷◌, ◌++◌, length, slice_index_or, ℤ, pos, ◌≤ℤ◌, IsTrue, Some, ◌⊎◌, Option, MatchOption}
+use Rattle.std.specs.Prelude.{◌≡◌, ◌≢◌, ℕ, zero, suc, ◌+◌, ◌<◌, ◌≤◌, true, false, List, [], ◌∷◌, ◌++◌, length, slice_index_or, ℤ, pos, Some, ◌⊎◌, Option, MatchOption}
 use Rattle.solomon_reader.specs.Problem.{Problem}
 use Rattle.solomon_reader.specs.Region.{Region}
-use Rattle.solomon_reader.specs.States.{State, start, step, CanStep, CanEnd, IsAsGood, IsSameState, Reaches}
+use Rattle.solomon_reader.specs.States.{State, start, step, CanStep, CanEnd, IsSameState, Reaches}
 use Rattle.labelling.specs.declared.best.Best.{Best}
 use Rattle.labelling.specs.declared.label.Label.{Label}
-use Rattle.labelling.specs.Cover.{IsAtMost, CoversAll}
-use Rattle.labelling.specs.Fronts.{state_of, end_cost, IsBounded}
-use Rattle.labelling.specs.Memories.{has_bit, recalls}
+use Rattle.labelling.specs.Cover.{IsAtMost, CoversAll, Carries, IsCounted}
+use Rattle.fronts.specs.Fronts.{end_cost, IsBounded}
+use Rattle.fronts.specs.Memories.{state_with}
 
 abbrev pub blank : Label
 blank = record { front = record { last = 0; time = 0; load = 0; cost = pos 0 }; memory = record { bits = 0 }; parent = 0; stops = 0; active = false; extended = false }
@@ -17,7 +17,7 @@ label_in xs m = slice_index_or xs m blank
 
 -- the memory is read by the neighbour list of the last stop
 abbrev pub state_at : Problem → ℕ → Label → State
-state_at p k l = state_of l.front (recalls p k l.front.last l.memory.bits)
+state_at p k l = state_with p k l.front l.memory.bits
 
 -- the last n stops up to a label, by its parents
 abbrev pub trace : List Label → ℕ → Label → List ℕ
@@ -50,33 +50,18 @@ pub record HasPending (p : Problem) (k : ℕ) (xs : List Label) (a : State) : Ty
   pub unextended : IsPending (label_in xs index)
   pub is : state_at p k (label_in xs index) ≡ a
 
--- an active label is as good as the state
-abbrev pub IsDominated : Problem → ℕ → List Label → State → Type 0
-IsDominated p k xs a = (t : State) × (HasActive p k xs t × IsAsGood t a)
-
--- all that may come after b may come after a, at no greater cost
-pub record Dominates (a b : Label) : Type 0 where
-  pub last : a.front.last ≡ b.front.last
-  pub time : a.front.time ≤ b.front.time
-  pub load : a.front.load ≤ b.front.load
-  pub cost : a.front.cost ≤ℤ b.front.cost
-  pub memory : (i : ℕ) → IsTrue (has_bit a.memory.bits i) → IsTrue (has_bit b.memory.bits i)
-
--- an active label dominates x
-pub record HasDominating (xs : List Label) (x : Label) : Type 0 where
-  pub index : ℕ
-  pub within : index < length xs
-  pub active : (label_in xs index).active ≡ true
-  pub dominates : Dominates (label_in xs index) x
+-- all that may come after the state may come after an active label, at no greater cost
+abbrev pub IsDominated : Problem → Region → ℕ → List ℤ → List Label → State → Type 0
+IsDominated p g k prices xs a = (t : State) × (HasActive p k xs t × Carries p g k prices t a)
 
 abbrev pub inactive : Label → Label
 inactive l = record l { active = false }
 
--- labels that x dominates were dropped
-pub record IsPruned (xs ys : List Label) (x : Label) : Type 0 where
+-- labels were dropped after which may come nothing that may not come after a, at no greater cost
+pub record IsPruned (p : Problem) (g : Region) (k : ℕ) (prices : List ℤ) (xs ys : List Label) (a : State) : Type 0 where
   pub same : length ys ≡ length xs
   pub each : (m : ℕ) → m < length xs
-      → (label_in ys m ≡ label_in xs m) ⊎ (Dominates x (label_in xs m) × (label_in ys m ≡ inactive (label_in xs m)))
+      → (label_in ys m ≡ label_in xs m) ⊎ (Carries p g k prices a (state_at p k (label_in xs m)) × (label_in ys m ≡ inactive (label_in xs m)))
 
 -- x is l, which stands at the index, with a further stop at j
 pub record IsExtension (p : Problem) (k : ℕ) (prices : List ℤ) (l : Label) (index j : ℕ) (x : Label) : Type 0 where
@@ -87,9 +72,9 @@ pub record IsExtension (p : Problem) (k : ℕ) (prices : List ℤ) (l : Label) (
   pub stops : x.stops ≡ l.stops + 1
   pub unextended : IsPending x
 
--- x was added at the end and what it dominates was dropped, or an active label is as good
-abbrev pub IsAdded : List Label → List Label → Label → Type 0
-IsAdded xs ys x = ((ys ≡ xs) × HasDominating xs x) ⊎ ((zs : List Label) × (IsPruned xs zs x × (ys ≡ zs ++ (x ∷ []))))
+-- x was added at the end and what it dominates was dropped, or an active label dominates it
+abbrev pub IsAdded : Problem → Region → ℕ → List ℤ → List Label → List Label → Label → Type 0
+IsAdded p g k prices xs ys x = ((ys ≡ xs) × IsDominated p g k prices xs (state_at p k x)) ⊎ ((zs : List Label) × (IsPruned p g k prices xs zs (state_at p k x) × (ys ≡ zs ++ (x ∷ []))))
 
 pub record IsSameStop (a b : Label) : Type 0 where
   pub front : b.front ≡ a.front
@@ -108,23 +93,27 @@ pub record IsGrown (xs ys : List Label) : Type 0 where
   pub later : (m : ℕ) → m < length xs → IsLater (label_in xs m) (label_in ys m)
   pub fresh : (m : ℕ) → length xs ≤ m → m < length ys → (label_in ys m).extended ≡ false
 
--- for each state of an active or pending label there is still one that is as good
-pub record IsMoved (p : Problem) (k : ℕ) (xs ys : List Label) : Type 0 where
+-- all that may come after an active or pending label may still come after such a one, at no greater cost
+pub record IsMoved (p : Problem) (g : Region) (k : ℕ) (prices : List ℤ) (xs ys : List Label) : Type 0 where
   pub grown : IsGrown xs ys
-  pub pending : (a : State) → HasPending p k xs a → (t : State) × (HasPending p k ys t × IsAsGood t a)
-  pub active : (a : State) → HasActive p k xs a → IsDominated p k ys a
+  pub pending : (a : State) → HasPending p k xs a → (t : State) × (HasPending p k ys t × Carries p g k prices t a)
+  pub active : (a : State) → HasActive p k xs a → IsDominated p g k prices ys a
 
--- the step from l to j was taken, if it may be taken
-pub record TakesStep (p : Problem) (g : Region) (k : ℕ) (prices : List ℤ) (xs ys : List Label) (l : Label) (j : ℕ) : Type 0 where
-  pub moved : IsMoved p k xs ys
-  pub labelled : IsArena p g k prices ys
-  pub dominated : CanStep p g (state_at p k l) j → IsDominated p k ys (step p k prices (state_at p k l) j)
+-- all that may come after the state is covered by an active label, or costs no less than the best
+abbrev pub IsMet : Problem → Region → ℕ → List ℤ → Option ℤ → List Label → State → Type 0
+IsMet p g k prices b xs a = IsDominated p g k prices xs a ⊎ IsCounted p g k prices b a
 
--- each step from l to a customer below i was taken
-pub record TakesSteps (p : Problem) (g : Region) (k : ℕ) (prices : List ℤ) (xs ys : List Label) (l : Label) (i : ℕ) : Type 0 where
-  pub moved : IsMoved p k xs ys
+-- the step from l to j was taken, if it may be taken and may lead below the best
+pub record TakesStep (p : Problem) (g : Region) (k : ℕ) (prices : List ℤ) (b : Option ℤ) (xs ys : List Label) (l : Label) (j : ℕ) : Type 0 where
+  pub moved : IsMoved p g k prices xs ys
   pub labelled : IsArena p g k prices ys
-  pub dominated : (j : ℕ) → j < i → CanStep p g (state_at p k l) j → IsDominated p k ys (step p k prices (state_at p k l) j)
+  pub met : CanStep p g (state_at p k l) j → IsMet p g k prices b ys (step p k prices (state_at p k l) j)
+
+-- so was each step from l to a customer below i
+pub record TakesSteps (p : Problem) (g : Region) (k : ℕ) (prices : List ℤ) (b : Option ℤ) (xs ys : List Label) (l : Label) (i : ℕ) : Type 0 where
+  pub moved : IsMoved p g k prices xs ys
+  pub labelled : IsArena p g k prices ys
+  pub met : (j : ℕ) → j < i → CanStep p g (state_at p k l) j → IsMet p g k prices b ys (step p k prices (state_at p k l) j)
 
 -- the best c counts the end of l, which stands at the index, beside b
 pub record CountsEnd (p : Problem) (g : Region) (k : ℕ) (l : Label) (index : ℕ) (b c : Best) : Type 0 where
@@ -144,7 +133,7 @@ IsAttained p g k xs f = MatchOption f.value (Unit {0}) (λ z. EndsAt p g k xs f.
 -- all that may come after an active label is covered by the best so far, or by a pending label
 pub record IsComplete (p : Problem) (g : Region) (k : ℕ) (prices : List ℤ) (xs : List Label) (f : Best) : Type 0 where
   pub labelled : IsArena p g k prices xs
-  pub first : IsDominated p k xs (start p)
+  pub first : IsDominated p g k prices xs (start p)
   pub covers : CoversAll p g k prices f.value (HasPending p k xs) (HasActive p k xs)
   pub attained : IsAttained p g k xs f
 

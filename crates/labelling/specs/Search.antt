@@ -1,15 +1,24 @@
 -- How far a labeller has come.
-use Rattle.std.specs.Prelude.{◌≡◌, ℕ, ◌<◌, List, length}
+use Rattle.std.specs.Prelude.{◌≡◌, ℕ, ◌<◌, List, length, ℤ, Option}
+use Rattle.fronts.specs.declared.bound.Bound.{Bound}
+use Rattle.fronts.specs.declared.completions.Completions.{Completions}
+use Rattle.fronts.specs.declared.front.Front.{Front}
+use Rattle.fronts.specs.declared.task.Task.{Task}
 use Rattle.labelling.specs.declared.best.Best.{Best}
 use Rattle.labelling.specs.declared.label.Label.{Label}
 use Rattle.labelling.specs.declared.labeller.Labeller.{Labeller}
-use Rattle.labelling.specs.Arena.{label_in, IsArena, IsSameStop, TakesStep, TakesSteps, CountsEnd, IsComplete}
-use Rattle.labelling.specs.Memories.{HasPlaces}
-use Rattle.labelling.specs.Tables.{Rows, IsAllowedRow}
+use Rattle.labelling.specs.Arena.{label_in, state_at, IsArena, IsDominated, IsPruned, IsAdded, IsSameStop, TakesStep, TakesSteps, CountsEnd, IsComplete}
+use Rattle.labelling.specs.Cover.{Carries, IsCounted, IsPassed}
+use Rattle.fronts.specs.Completions.{IsBound}
+use Rattle.fronts.specs.Memories.{HasPlaces}
+use Rattle.fronts.specs.Tables.{Rows, IsAllowedRow}
+
+abbrev pub task_of : Labeller → Task
+task_of w = w.completions.now.task.now
 
 -- the same task and limit
 pub record IsSameTask (v w : Labeller) : Type 0 where
-  pub task : w.task.now ≡ v.task.now
+  pub task : task_of w ≡ task_of v
   pub limit : w.limit ≡ v.limit
 
 -- the label stands at the index, or stood there before it was dropped
@@ -17,30 +26,59 @@ pub record StandsAt (xs : List Label) (index : ℕ) (l : Label) : Type 0 where
   pub within : index < length xs
   pub here : IsSameStop (label_in xs index) l
 
+-- all that may come after b may come after a, at no greater cost
+abbrev pub CarriesIn : Completions → Label → Label → Type 0
+CarriesIn c a b = Carries c.task.now.instance.now c.task.now.region.now c.task.now.neighbours c.task.now.prices.now
+    (state_at c.task.now.instance.now c.task.now.neighbours a) (state_at c.task.now.instance.now c.task.now.neighbours b)
+
+-- all that may come after x may come after an active label, at no greater cost
+abbrev pub IsDominatedIn : Completions → List Label → Label → Type 0
+IsDominatedIn c xs x = IsDominated c.task.now.instance.now c.task.now.region.now c.task.now.neighbours c.task.now.prices.now xs (state_at c.task.now.instance.now c.task.now.neighbours x)
+
+-- labels that x dominates were dropped
+abbrev pub IsPrunedIn : Completions → List Label → List Label → Label → Type 0
+IsPrunedIn c xs ys x = IsPruned c.task.now.instance.now c.task.now.region.now c.task.now.neighbours c.task.now.prices.now xs ys (state_at c.task.now.instance.now c.task.now.neighbours x)
+
+-- x was added to the labels, or one of them dominates it
+abbrev pub IsAddedTo : Labeller → Labeller → Label → Type 0
+IsAddedTo v w x = IsAdded (task_of v).instance.now (task_of v).region.now (task_of v).neighbours (task_of v).prices.now v.labels.items w.labels.items x
+
+-- what bounds all that may follow from a front
+abbrev pub IsBoundAt : Labeller → Front → Bound → Type 0
+IsBoundAt w f b = IsBound (task_of w).instance.now (task_of w).region.now (task_of w).neighbours (task_of w).prices.now f.last f.time b
+
+-- nothing that may come after the front costs less than the best
+abbrev pub PassesFront : Labeller → Option ℤ → Front → Type 0
+PassesFront w b f = IsPassed (task_of w).instance.now (task_of w).region.now (task_of w).neighbours (task_of w).prices.now b f.last f.time f.cost
+
+-- nothing that may come after the label costs less than the best
+abbrev pub PassesLabel : Labeller → Option ℤ → Label → Type 0
+PassesLabel w b l = IsCounted (task_of w).instance.now (task_of w).region.now (task_of w).neighbours (task_of w).prices.now b (state_at (task_of w).instance.now (task_of w).neighbours l)
+
 -- each label is one of the task
 abbrev pub AreLabels : Labeller → Type 0
-AreLabels w = IsArena w.task.now.instance.now w.task.now.region.now w.task.now.neighbours w.task.now.prices.now w.labels.items
+AreLabels w = IsArena (task_of w).instance.now (task_of w).region.now (task_of w).neighbours (task_of w).prices.now w.labels.items
 
 -- the rows to which a route may go from a label
 abbrev pub AreRowsFrom : Labeller → Label → Rows → Type 0
-AreRowsFrom w l rows = IsAllowedRow w.task.now.region.now l.front.last rows
+AreRowsFrom w l rows = IsAllowedRow (task_of w).region.now l.front.last rows
 
 -- the places in the neighbour list of a label's last stop
 abbrev pub ArePlacesFrom : Labeller → Label → List ℕ → Type 0
-ArePlacesFrom w l places = HasPlaces w.task.now.instance.now w.task.now.neighbours l.front.last (length w.task.now.instance.now.rows) places
+ArePlacesFrom w l places = HasPlaces (task_of w).instance.now (task_of w).neighbours l.front.last (length (task_of w).instance.now.rows) places
 
--- the step from l to j was taken, if it may be taken
-abbrev pub TakesStepTo : Labeller → Labeller → Label → ℕ → Type 0
-TakesStepTo v w l j = TakesStep v.task.now.instance.now v.task.now.region.now v.task.now.neighbours v.task.now.prices.now v.labels.items w.labels.items l j
+-- the step from l to j was taken, if it may be taken and may lead below the best
+abbrev pub TakesStepTo : Labeller → Labeller → Option ℤ → Label → ℕ → Type 0
+TakesStepTo v w b l j = TakesStep (task_of v).instance.now (task_of v).region.now (task_of v).neighbours (task_of v).prices.now b v.labels.items w.labels.items l j
 
--- each step from l to a customer below i was taken
-abbrev pub TakesStepsBelow : Labeller → Labeller → Label → ℕ → Type 0
-TakesStepsBelow v w l i = TakesSteps v.task.now.instance.now v.task.now.region.now v.task.now.neighbours v.task.now.prices.now v.labels.items w.labels.items l i
+-- so was each step from l to a customer below i
+abbrev pub TakesStepsBelow : Labeller → Labeller → Option ℤ → Label → ℕ → Type 0
+TakesStepsBelow v w b l i = TakesSteps (task_of v).instance.now (task_of v).region.now (task_of v).neighbours (task_of v).prices.now b v.labels.items w.labels.items l i
 
 -- the best counts the end of l, which stands at the index, beside the labeller's best
 abbrev pub CountsEndOf : Labeller → Label → ℕ → Best → Type 0
-CountsEndOf w l index best = CountsEnd w.task.now.instance.now w.task.now.region.now w.task.now.neighbours l index w.best best
+CountsEndOf w l index best = CountsEnd (task_of w).instance.now (task_of w).region.now (task_of w).neighbours l index w.best best
 
 -- all that may come after an active label is covered by the best so far, or by a pending label
 abbrev pub LosesNothing : Labeller → Type 0
-LosesNothing w = IsComplete w.task.now.instance.now w.task.now.region.now w.task.now.neighbours w.task.now.prices.now w.labels.items w.best
+LosesNothing w = IsComplete (task_of w).instance.now (task_of w).region.now (task_of w).neighbours (task_of w).prices.now w.labels.items w.best

@@ -2,110 +2,152 @@
 //! the labels themselves.
 
 ghost use Rattle.std.specs.Prelude.{IsTrue};
-ghost use Rattle.labelling.specs.Arena.{HasDominating, IsPruned};
+ghost use Rattle.labelling.specs.Search.{IsDominatedIn, IsPrunedIn};
 
 use crate::label::Label;
-use crate::memory::Memory;
+use fronts::{Completions, Memory};
 use std::alloc::{AllocError, Global};
 
-/// A label, by what it dominates others of its customer and memory with.
+/// A label, by what it dominates others of its customer with.
 #[derive(Clone, Copy, Debug)]
-struct Entry {
+pub(crate) struct Entry {
+    memory: Memory,
     time: u64,
     cost: i64,
+    load: u32,
+    /// The greatest load with which another label may dominate it.
+    most: u32,
     index: usize,
 }
 
-/// The labels of one customer with one memory, in order of time; each later one costs less. Those
-/// that are later than a newer one and cost no less are left out: labels come in the order of their
-/// loads, so that the newer one dominates each further label that they dominate.
+impl Entry {
+    /// The entry of a label, which stands at an index, and which another one of this load may dominate
+    /// even where it is lighter.
+    pub(crate) fn new(label: &Label, load: u32, index: usize) -> Entry {
+        Entry {
+            memory: label.memory,
+            time: label.front.time,
+            cost: label.front.cost,
+            load: label.front.load,
+            most: load.max(label.front.load),
+            index,
+        }
+    }
+
+    /// Whether it may dominate another one that remembers no less. All three are compared without a
+    /// branch: mostly one of them fails, and which one cannot be foreseen.
+    fn may_dominate(&self, other: &Entry) -> bool {
+        (self.time <= other.time) & (self.cost <= other.cost) & (self.load <= other.most)
+    }
+}
+
+/// The labels of one customer with one memory, in order of time.
 #[derive(Drop)]
 struct MemoryGroup {
     memory: Memory,
     least_time: u64,
     least_cost: i64,
+    latest_time: u64,
+    greatest_cost: i64,
     entries: Vec<Entry>,
 }
 
 impl MemoryGroup {
-    /// The group of a label, still without it.
-    fn new(alloc: Global, label: &Label) -> MemoryGroup {
+    /// The group of an entry, still without it.
+    fn new(alloc: Global, entry: &Entry) -> MemoryGroup {
         MemoryGroup {
-            memory: label.memory,
-            least_time: label.front.time,
-            least_cost: label.front.cost,
+            memory: entry.memory,
+            least_time: entry.time,
+            least_cost: entry.cost,
+            latest_time: entry.time,
+            greatest_cost: entry.cost,
             entries: Vec::new(alloc),
         }
     }
 
     /// Whether one of its labels may dominate a newer one. All three are compared without a branch, as
-    /// in `Heaviest`.
-    fn may_dominate(&self, newer: &Label) -> bool {
+    /// in `may_dominate`.
+    fn may_dominate(&self, newer: &Entry) -> bool {
         self.memory.is_subset(newer.memory)
-            & (self.least_time <= newer.front.time)
-            & (self.least_cost <= newer.front.cost)
+            & (self.least_time <= newer.time)
+            & (self.least_cost <= newer.cost)
     }
 
     /// The index of a label that dominates a newer one, as far as the group tells.
-    fn find_dominating(&self, newer: &Label) -> Option<usize> {
+    fn find_dominating(&self, newer: &Entry) -> Option<usize> {
         if !self.may_dominate(newer) {
             return None;
         }
-        let entries = self.entries.as_slice();
-        let sooner = entries.partition_point(|entry| entry.time <= newer.front.time);
-        let entry = entries[..sooner].last()?;
-        if entry.cost > newer.front.cost {
-            return None;
+        for entry in &self.entries {
+            if entry.time > newer.time {
+                return None;
+            }
+            if entry.may_dominate(newer) {
+                return Some(entry.index);
+            }
         }
-        Some(entry.index)
+        None
     }
 
-    /// Adds a label, in place of those that are later and cost no less.
-    fn add(&mut self, label: &Label, index: usize) -> Result<(), AllocError> {
-        let entry = Entry {
-            time: label.front.time,
-            cost: label.front.cost,
-            index,
-        };
+    /// Whether a newer label may dominate one of its labels.
+    fn may_be_dominated(&self, newer: &Entry) -> bool {
+        newer.memory.is_subset(self.memory)
+            & (newer.time <= self.latest_time)
+            & (newer.cost <= self.greatest_cost)
+    }
+
+    /// Drops those of its labels that a newer one dominates, and says how many.
+    fn drop_dominated(
+        &mut self,
+        completions: &Completions<'_, '_>,
+        labels: &mut [Label],
+        label: &Label,
+        newer: &Entry,
+    ) -> usize
+        ensures { IsPrunedIn completions.now labels.old labels.new label.now }
+    {
+        if !self.may_be_dominated(newer) {
+            return 0;
+        }
+        let entries = self.entries.as_slice();
+        let start = entries.partition_point(|entry| entry.time < newer.time);
+        let later = &entries[start..];
+        if !later.iter().any(|entry| newer.may_dominate(entry)) {
+            return 0;
+        }
+        drop_each(completions, labels, later, label, newer);
+        let before = self.entries.len();
+        self.entries.retain(|entry| is_active(labels, entry.index));
+        before - self.entries.len()
+    }
+
+    /// Adds an entry.
+    fn add(&mut self, entry: &Entry) -> Result<(), AllocError> {
         let entries = self.entries.as_slice();
         let start = entries.partition_point(|other| other.time < entry.time);
-        let costlier = entries[start..].partition_point(|other| other.cost >= entry.cost);
-        drop(self.entries.drain(start..start + costlier));
-        self.entries.insert(start, entry)?;
+        self.entries.insert(start, *entry)?;
         self.least_time = self.least_time.min(entry.time);
         self.least_cost = self.least_cost.min(entry.cost);
+        self.latest_time = self.latest_time.max(entry.time);
+        self.greatest_cost = self.greatest_cost.max(entry.cost);
         Ok(())
     }
 }
 
-/// A label of the greatest load, by what another one dominates it with.
-#[derive(Clone, Copy, Debug)]
-struct Heaviest {
-    memory: Memory,
-    cost: i64,
-    time: u64,
-    index: usize,
-}
-
-impl Heaviest {
-    /// Whether a newer label may dominate it. All three are compared without a branch: mostly one of
-    /// them fails, and which one cannot be foreseen.
-    fn may_be_dominated(&self, newer: &Label) -> bool {
-        (newer.front.cost <= self.cost)
-            & (newer.front.time <= self.time)
-            & newer.memory.is_subset(self.memory)
-    }
-}
-
 /// Whether the label at an index is active and dominates a newer one.
-fn dominates_at(labels: &[Label], index: usize, newer: &Label) -> bool
-    ensures { IsTrue result → HasDominating labels.now newer.now }
+fn dominates_at(
+    completions: &Completions<'_, '_>,
+    labels: &[Label],
+    index: usize,
+    newer: &Label,
+) -> bool
+    ensures { IsTrue result → IsDominatedIn completions.now labels.now newer.now }
 {
     if index >= labels.len() {
         return false;
     }
     let label = labels[index];
-    label.active && label.dominates(newer)
+    label.active && label.dominates(completions, newer)
 }
 
 /// Whether the label at an index is active.
@@ -113,25 +155,37 @@ fn is_active(labels: &[Label], index: usize) -> bool {
     index < labels.len() && labels[index].active
 }
 
-/// Drops a label, if a newer one dominates it.
-fn drop_if_dominated(labels: &mut [Label], heaviest: &Heaviest, newer: &Label)
-    ensures { IsPruned labels.old labels.new newer.now }
+/// Drops the label of an entry, if a newer one dominates it.
+fn drop_if_dominated(
+    completions: &Completions<'_, '_>,
+    labels: &mut [Label],
+    entry: &Entry,
+    label: &Label,
+    newer: &Entry,
+)
+    ensures { IsPrunedIn completions.now labels.old labels.new label.now }
 {
-    let index = heaviest.index;
-    if !heaviest.may_be_dominated(newer) || index >= labels.len() {
+    let index = entry.index;
+    if !newer.may_dominate(entry) || index >= labels.len() {
         return;
     }
-    if newer.dominates(&labels[index]) {
+    if label.dominates(completions, &labels[index]) {
         labels[index].active = false;
     }
 }
 
-/// Drops those of some labels that a newer one dominates.
-fn drop_each(labels: &mut [Label], heaviest: &[Heaviest], newer: &Label)
-    ensures { IsPruned labels.old labels.new newer.now }
+/// Drops those labels of some entries that a newer one dominates.
+fn drop_each(
+    completions: &Completions<'_, '_>,
+    labels: &mut [Label],
+    entries: &[Entry],
+    label: &Label,
+    newer: &Entry,
+)
+    ensures { IsPrunedIn completions.now labels.old labels.new label.now }
 {
-    for label in heaviest {
-        drop_if_dominated(labels, label, newer);
+    for entry in entries {
+        drop_if_dominated(completions, labels, entry, label, newer);
     }
 }
 
@@ -139,10 +193,6 @@ fn drop_each(labels: &mut [Label], heaviest: &[Heaviest], newer: &Label)
 #[derive(Drop)]
 pub(crate) struct CustomerLabels {
     groups: Vec<MemoryGroup>,
-    /// Those of the greatest load so far. A new label is no lighter, so that it dominates no other
-    /// ones.
-    heaviest: Vec<Heaviest>,
-    load: u32,
 }
 
 impl CustomerLabels {
@@ -150,18 +200,22 @@ impl CustomerLabels {
     pub(crate) fn new(alloc: Global) -> CustomerLabels {
         CustomerLabels {
             groups: Vec::new(alloc),
-            heaviest: Vec::new(alloc),
-            load: 0,
         }
     }
 
     /// Whether an active label dominates a newer one.
-    pub(crate) fn is_dominated(&self, labels: &[Label], newer: &Label) -> bool
-        ensures { IsTrue result → HasDominating labels.now newer.now }
+    pub(crate) fn is_dominated(
+        &self,
+        completions: &Completions<'_, '_>,
+        labels: &[Label],
+        label: &Label,
+        newer: &Entry,
+    ) -> bool
+        ensures { IsTrue result → IsDominatedIn completions.now labels.now label.now }
     {
         for group in &self.groups {
             if let Some(index) = group.find_dominating(newer) {
-                if dominates_at(labels, index, newer) {
+                if dominates_at(completions, labels, index, label) {
                     return true;
                 }
             }
@@ -170,42 +224,31 @@ impl CustomerLabels {
     }
 
     /// Drops the labels that a newer one dominates, and says how many.
-    pub(crate) fn drop_dominated(&mut self, labels: &mut [Label], newer: &Label) -> usize
-        ensures { IsPruned labels.old labels.new newer.now }
+    pub(crate) fn drop_dominated(
+        &mut self,
+        completions: &Completions<'_, '_>,
+        labels: &mut [Label],
+        label: &Label,
+        newer: &Entry,
+    ) -> usize
+        ensures { IsPrunedIn completions.now labels.old labels.new label.now }
     {
-        if newer.front.load > self.load {
-            self.load = newer.front.load;
-            self.heaviest.clear();
+        let mut dropped: usize = 0;
+        for group in &mut self.groups {
+            let count = group.drop_dominated(completions, labels, label, newer);
+            dropped = dropped.saturating_add(count);
         }
-        let heaviest = self.heaviest.as_slice();
-        if !heaviest.iter().any(|label| label.may_be_dominated(newer)) {
-            return 0;
-        }
-        drop_each(labels, heaviest, newer);
-        let before = self.heaviest.len();
-        self.heaviest.retain(|label| is_active(labels, label.index));
-        before - self.heaviest.len()
+        dropped
     }
 
-    /// Adds a label, which stands at an index.
-    pub(crate) fn add(
-        &mut self,
-        alloc: Global,
-        label: &Label,
-        index: usize,
-    ) -> Result<(), AllocError> {
-        self.heaviest.push(Heaviest {
-            memory: label.memory,
-            cost: label.front.cost,
-            time: label.front.time,
-            index,
-        })?;
-        let memory = label.memory;
+    /// Adds an entry.
+    pub(crate) fn add(&mut self, alloc: Global, entry: &Entry) -> Result<(), AllocError> {
+        let memory = entry.memory;
         if let Some(m) = self.groups.iter().position(|g| g.memory.is_same(memory)) {
-            return self.groups[m].add(label, index);
+            return self.groups[m].add(entry);
         }
-        let mut group = MemoryGroup::new(alloc, label);
-        group.add(label, index)?;
+        let mut group = MemoryGroup::new(alloc, entry);
+        group.add(entry)?;
         self.groups.push(group)?;
         Ok(())
     }

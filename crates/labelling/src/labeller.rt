@@ -1,5 +1,5 @@
-//! The labeller. It drops each label that another one dominates, and extends the others in the order
-//! of their loads.
+//! The labeller. It drops each label that another one dominates, leaves out each that can't lead below
+//! the best so far, and extends the others in the order of their times.
 
 ghost use Rattle.std.specs.Prelude.{◌≡◌, ◌≢◌, ℕ, ◌+◌, ◌<◌, ◌≤◌, length, OnOk, IfOk, IfErr, IsTrue, IsFalse, None, ℤ, ◌≤ℤ◌};
 ghost use Rattle.std.specs.List.{AllByRecursion};
@@ -7,29 +7,31 @@ ghost use Rattle.solomon_reader.specs.Problem.{IsCustomer, customer_count};
 ghost use Rattle.solomon_reader.specs.CertificateText.{IsPrice};
 ghost use Rattle.solomon_reader.specs.declared.limits.TheConstants.{MOST_NEIGHBOURS};
 ghost use Rattle.labelling.specs.Answer.{HasLeastValue, HasItsRoute};
-ghost use Rattle.labelling.specs.Arena.{label_in, trace, IsPending, IsAdded, IsOnward, NonePending, IsInList, IsFirst, IsAnswer};
+ghost use Rattle.labelling.specs.Arena.{label_in, trace, IsPending, IsOnward, NonePending, IsInList, IsFirst, IsAnswer};
 ghost use Rattle.labelling.specs.Cover.{IsAtMost};
-ghost use Rattle.labelling.specs.Fronts.{IsBounded};
-ghost use Rattle.labelling.specs.Search.{IsSameTask, AreLabels, StandsAt, AreRowsFrom, ArePlacesFrom, TakesStepTo, TakesStepsBelow, CountsEndOf, LosesNothing};
+ghost use Rattle.fronts.specs.Fronts.{IsBounded};
+ghost use Rattle.labelling.specs.Search.{task_of, IsSameTask, AreLabels, StandsAt, AreRowsFrom, ArePlacesFrom, IsAddedTo, IsBoundAt, PassesFront, PassesLabel, TakesStepTo, TakesStepsBelow, CountsEndOf, LosesNothing};
 ghost use Rattle.labelling.specs.declared.fault.LabelFault.TheVariants.{LabelLimit};
 
 use crate::best::Best;
-use crate::customer_set::CustomerSet;
+use crate::customer_labels::Entry;
 use crate::fault::LabelFault;
-use crate::front::Front;
 use crate::label::Label;
 use crate::least_cost::Least;
 use crate::lookup::Lookup;
-use crate::memory::Memory;
-use crate::task::Task;
 use branching::Region;
+use fronts::{Bound, Completions, CustomerSet, Front, Memory, Task};
 use solomon_reader::Instance;
 use std::alloc::{AllocError, Global};
 
-/// A search for the least reduced cost: its labels, where they are looked up, and the best so far.
+/// How often the search dives for a cheap route before it goes on by time.
+const DIVES: usize = 10;
+
+/// A search for the least reduced cost: bounds on what may follow, its labels, where they are looked up,
+/// and the best so far.
 #[derive(Drop)]
 pub(crate) struct Labeller<'t, 'i> {
-    task: &'t Task<'i>,
+    completions: &'t Completions<'t, 'i>,
     limit: Option<usize>,
     labels: Vec<Label>,
     lookup: Lookup,
@@ -99,15 +101,19 @@ fn answer(alloc: Global, labels: &[Label], best: Best) -> Result<Least, AllocErr
 
 impl<'t, 'i> Labeller<'t, 'i> {
     /// The labeller of a task, with the empty beginning alone.
-    fn new(task: &'t Task<'i>, limit: Option<usize>) -> Result<Labeller<'t, 'i>, AllocError>
-        ensures task { IfOk result (λ w. w.task.now ≡ task.now) }
+    fn new(
+        completions: &'t Completions<'t, 'i>,
+        limit: Option<usize>,
+    ) -> Result<Labeller<'t, 'i>, AllocError>
+        ensures task { IfOk result (λ w. task_of w ≡ completions.now.task.now) }
         ensures limit { IfOk result (λ w. w.limit ≡ limit) }
         ensures complete { IfOk result LosesNothing }
     {
+        let task = completions.task;
         let labels = first_labels(task.alloc, task.instance)?;
         let lookup = Lookup::new(task.alloc, task.instance)?;
         Ok(Labeller {
-            task,
+            completions,
             limit,
             labels,
             lookup,
@@ -116,6 +122,22 @@ impl<'t, 'i> Labeller<'t, 'i> {
                 index: 0,
             },
         })
+    }
+
+    /// The labeller with other bounds on what may follow.
+    fn with(self, completions: &'t Completions<'t, 'i>) -> Labeller<'t, 'i>
+        requires task { completions.now.task.now ≡ task_of self }
+        requires complete { LosesNothing self }
+        ensures same { IsSameTask self.entry result }
+        ensures complete { LosesNothing result }
+    {
+        Labeller {
+            completions,
+            limit: self.limit,
+            labels: self.labels,
+            lookup: self.lookup,
+            best: self.best,
+        }
     }
 
     /// Whether as many labels are active as the caller allowed. The empty beginning isn't counted.
@@ -128,32 +150,61 @@ impl<'t, 'i> Labeller<'t, 'i> {
         }
     }
 
-    /// Adds a label and drops those that it dominates, unless an active one dominates it.
-    fn add_label(&mut self, newer: &Label) -> Result<(), LabelFault>
-        ensures added { OnOk result (IsAdded self.old.labels.items self.new.labels.items newer.now) }
+    /// Whether nothing that may come after a front, which this bounds, costs less than the best.
+    fn is_passed(&self, front: &Front, bound: &Bound, best: Option<i64>) -> bool
+        requires front { IsBounded (task_of self.now).instance.now front.now }
+        requires bound { IsBoundAt self.now front.now bound.now }
+        ensures { IsTrue result → PassesFront self.now best front.now }
+    {
+        is_at_most(best, front.cost + bound.least)
+    }
+
+    /// Whether nothing that may come after a label costs less than the best so far.
+    fn leads_nowhere(&self, label: &Label) -> bool
+        requires { IsBounded (task_of self.now).instance.now label.now.front }
+        ensures { IsTrue result → PassesLabel self.now self.now.best.value label.now }
+    {
+        let bound = self.completions.at(label.front.last, label.front.time);
+        // Bounds hold where the last stop is remembered, as it is after each stop.
+        label.memory.contains(0) && self.is_passed(&label.front, &bound, self.best.value)
+    }
+
+    /// Adds a label, after which at most so much may be loaded, and drops those that it dominates, unless
+    /// an active one dominates it.
+    fn add_label(&mut self, newer: &Label, room: u32) -> Result<(), LabelFault>
+        ensures added { OnOk result (IsAddedTo self.old self.new newer.now) }
         ensures same { IsSameTask self.old self.new }
         ensures best { self.new.best ≡ self.old.best }
         ensures unlimited { IfErr result (λ e. e ≡ LabelLimit → self.old.limit ≢ None) }
     {
-        if self.lookup.is_dominated(self.labels.as_slice(), newer) {
+        let completions = self.completions;
+        let index = self.labels.len();
+        let capacity = completions.task.instance.capacity();
+        let entry = Entry::new(newer, u32::from(capacity).saturating_sub(room), index);
+        if self
+            .lookup
+            .is_dominated(completions, self.labels.as_slice(), newer, &entry)
+        {
             return Ok(());
         }
         self.lookup
-            .drop_dominated(self.labels.as_mut_slice(), newer);
+            .drop_dominated(completions, self.labels.as_mut_slice(), newer, &entry);
         if self.is_full() {
             return Err(LabelFault::LabelLimit);
         }
-        let index = self.labels.len();
-        self.lookup.add(self.task.alloc, newer, index)?;
+        self.lookup
+            .add(completions.task.alloc, newer, &entry, index)?;
         self.labels.push(*newer)?;
         Ok(())
     }
 
-    /// Takes the step from the label at an index to a customer, if a route may go there.
+    /// Takes the step from the label at an index to a customer, if a route may go there and cost less
+    /// than the best.
     fn take_step(
         &mut self,
         label: &Label,
         index: usize,
+        best: Option<i64>,
         rows: &CustomerSet,
         places: &[u8],
         j: u16,
@@ -162,52 +213,64 @@ impl<'t, 'i> Labeller<'t, 'i> {
         requires index { StandsAt self.old.labels.items index label.now }
         requires rows { AreRowsFrom self.old label.now rows.now }
         requires places { ArePlacesFrom self.old label.now places.now }
-        requires j { IsCustomer self.old.task.now.instance.now j }
-        ensures stepped { OnOk result (TakesStepTo self.old self.new label.now j) }
+        requires j { IsCustomer (task_of self.old).instance.now j }
+        ensures stepped { OnOk result (TakesStepTo self.old self.new best label.now j) }
         ensures same { IsSameTask self.old self.new }
         ensures best { self.new.best ≡ self.old.best }
         ensures unlimited { IfErr result (λ e. e ≡ LabelLimit → self.old.limit ≢ None) }
     {
-        if !self.task.can_extend(label, rows, places, j) {
+        let task = self.completions.task;
+        if !task.can_step(&label.front, label.memory, rows, places, j) {
             return Ok(());
         }
-        let newer = self.task.extend(label, index, j);
-        self.add_label(&newer)?;
+        let front = label.front.extend(task.instance, task.prices, j);
+        let bound = self.completions.at(front.last, front.time);
+        if self.is_passed(&front, &bound, best) {
+            return Ok(());
+        }
+        let newer = label.extend(task, index, front, j);
+        self.add_label(&newer, bound.room)?;
         Ok(())
     }
 
-    /// Takes each step from the label at an index.
-    fn take_steps(&mut self, label: &Label, index: usize) -> Result<(), LabelFault>
+    /// Takes each step from the label at an index that may lead below the best.
+    fn take_steps(
+        &mut self,
+        label: &Label,
+        index: usize,
+        best: Option<i64>,
+    ) -> Result<(), LabelFault>
         requires labels { AreLabels self.old }
         requires index { StandsAt self.old.labels.items index label.now }
-        ensures stepped { OnOk result (TakesStepsBelow self.old self.new label.now (customer_count self.old.task.now.instance.now + 1)) }
+        ensures stepped { OnOk result (TakesStepsBelow self.old self.new best label.now (customer_count (task_of self.old).instance.now + 1)) }
         ensures same { IsSameTask self.old self.new }
         ensures best { self.new.best ≡ self.old.best }
         ensures unlimited { IfErr result (λ e. e ≡ LabelLimit → self.old.limit ≢ None) }
     {
-        let task = self.task;
+        let task = self.completions.task;
         let last = usize::from(label.front.last);
         let rows = &task.allowed_rows[last];
         let places = task.places[last].as_slice();
         for j in 1..task.instance.customer_count() + 1 {
-            self.take_step(label, index, rows, places, j)?;
+            self.take_step(label, index, best, rows, places, j)?;
         }
         Ok(())
     }
 
     /// The best with the return to the depot after the label at an index.
     fn best_with(&self, label: &Label, index: usize) -> Best
-        requires bounded { IsBounded self.now.task.now.instance.now label.now.front }
+        requires bounded { IsBounded (task_of self.now).instance.now label.now.front }
         ensures { CountsEndOf self.now label.now index result }
     {
-        let rows = &self.task.allowed_rows[usize::from(label.front.last)];
+        let task = self.completions.task;
+        let rows = &task.allowed_rows[usize::from(label.front.last)];
         if !rows.contains(0) {
             return self.best;
         }
-        if !label.front.is_back_in_time(self.task.instance) {
+        if !label.front.is_back_in_time(task.instance) {
             return self.best;
         }
-        let value = label.front.end_cost(self.task.instance);
+        let value = label.front.end_cost(task.instance);
         if is_at_most(self.best.value, value) {
             return self.best;
         }
@@ -242,46 +305,103 @@ impl<'t, 'i> Labeller<'t, 'i> {
             return Ok(());
         }
         let label = self.labels[index];
+        if self.leads_nowhere(&label) {
+            self.labels[index].extended = true;
+            return Ok(());
+        }
         let best = self.best_with(&label, index);
-        self.take_steps(&label, index)?;
+        self.take_steps(&label, index, best.value)?;
         self.labels[index].extended = true;
         self.best = best;
         Ok(())
     }
 
-    /// Extends the labels of a load.
-    fn extend_bucket(&mut self, load: u32) -> Result<(), LabelFault>
+    /// The index of a pending label from an index on after which the least may follow, as far as the
+    /// bounds tell.
+    fn most_promising(&self, from: usize) -> Option<usize> {
+        let mut promising = None;
+        let mut least = i128::MAX;
+        for index in from..self.labels.len() {
+            let label = self.labels[index];
+            let bound = self.completions.at(label.front.last, label.front.time);
+            let value = i128::from(label.front.cost) + i128::from(bound.least);
+            if label.active && !label.extended && value < least {
+                promising = Some(index);
+                least = value;
+            }
+        }
+        promising
+    }
+
+    /// Extends the label at an index, then the most promising one of those that this adds, and so on: so
+    /// that a cheap route is met early.
+    fn dive(&mut self, index: usize) -> Result<(), LabelFault>
         requires { LosesNothing self.old }
         ensures complete { OnOk result (LosesNothing self.new) }
         ensures same { IsSameTask self.old self.new }
         ensures unlimited { IfErr result (λ e. e ≡ LabelLimit → self.old.limit ≢ None) }
     {
-        let mut next = self.lookup.first(load);
-        for _turn in 0..self.labels.len() {
+        let mut next = Some(index);
+        for _stop in 0..u16::MAX {
             let Some(index) = next else {
                 break;
             };
+            let count = self.labels.len();
             self.extend_at(index)?;
-            next = self.lookup.after(index);
+            next = self.most_promising(count);
         }
         Ok(())
     }
 
-    /// Extends the labels in the order of their loads.
-    fn extend_by_load(&mut self) -> Result<(), LabelFault>
+    /// Dives from the most promising labels.
+    fn dive_often(&mut self) -> Result<(), LabelFault>
         requires { LosesNothing self.old }
         ensures complete { OnOk result (LosesNothing self.new) }
         ensures same { IsSameTask self.old self.new }
         ensures unlimited { IfErr result (λ e. e ≡ LabelLimit → self.old.limit ≢ None) }
     {
-        let capacity = self.task.instance.capacity();
-        for load in 0..u32::from(capacity) + 1 {
-            self.extend_bucket(load)?;
+        for _dive in 0..DIVES {
+            let Some(index) = self.most_promising(0) else {
+                break;
+            };
+            self.dive(index)?;
         }
         Ok(())
     }
 
-    /// Extends what is still pending: after the work by load nothing is, so that this makes sure alone.
+    /// Extends the labels of a turn of time, until there are more than so many.
+    fn extend_turn(&mut self, turn: usize, most: usize) -> Result<(), LabelFault>
+        requires { LosesNothing self.old }
+        ensures complete { OnOk result (LosesNothing self.new) }
+        ensures same { IsSameTask self.old self.new }
+        ensures unlimited { IfErr result (λ e. e ≡ LabelLimit → self.old.limit ≢ None) }
+    {
+        for _label in 0..usize::MAX {
+            if self.labels.len() > most {
+                break;
+            }
+            let Some(index) = self.lookup.take(turn) else {
+                break;
+            };
+            self.extend_at(index)?;
+        }
+        Ok(())
+    }
+
+    /// Extends the labels in the order of their times, until there are more than so many.
+    fn extend_by_time(&mut self, most: usize) -> Result<(), LabelFault>
+        requires { LosesNothing self.old }
+        ensures complete { OnOk result (LosesNothing self.new) }
+        ensures same { IsSameTask self.old self.new }
+        ensures unlimited { IfErr result (λ e. e ≡ LabelLimit → self.old.limit ≢ None) }
+    {
+        for turn in 0..self.lookup.turns() {
+            self.extend_turn(turn, most)?;
+        }
+        Ok(())
+    }
+
+    /// Extends what is still pending: after the work by time nothing is, so that this makes sure alone.
     fn extend_rest(&mut self) -> Result<(), LabelFault>
         requires { LosesNothing self.old }
         ensures complete { OnOk result (LosesNothing self.new) }
@@ -297,6 +417,19 @@ impl<'t, 'i> Labeller<'t, 'i> {
         }
         Ok(())
     }
+}
+
+/// The bounds of a task where the labels are many; few labels don't pay for them.
+fn completions_for<'t, 'i>(
+    task: &'t Task<'i>,
+    are_many: bool,
+) -> Result<Completions<'t, 'i>, AllocError>
+    ensures { IfOk result (λ c. c.task.now ≡ task.now) }
+{
+    if are_many {
+        return Completions::new(task);
+    }
+    Ok(Completions::unknown(task))
 }
 
 /// The least reduced cost over all relaxed routes of the region at these prices, and a route that
@@ -325,8 +458,14 @@ pub fn least(
 {
     instance.law_of_limits();
     let task = Task::new(alloc, instance, region, prices, neighbours)?;
-    let mut labeller = Labeller::new(&task, limit)?;
-    labeller.extend_by_load()?;
+    let unknown = Completions::unknown(&task);
+    let mut labeller = Labeller::new(&unknown, limit)?;
+    let few = 2 * usize::from(instance.customer_count());
+    labeller.extend_by_time(few)?;
+    let completions = completions_for(&task, labeller.labels.len() > few)?;
+    let mut labeller = labeller.with(&completions);
+    labeller.dive_often()?;
+    labeller.extend_by_time(usize::MAX)?;
     labeller.extend_rest()?;
     let least = answer(alloc, labeller.labels.as_slice(), labeller.best)?;
     Ok(least)

@@ -5,17 +5,11 @@
 mod best;
 mod buckets;
 mod customer_labels;
-mod customer_set;
 mod fault;
-mod front;
 mod label;
 mod labeller;
 mod least_cost;
 mod lookup;
-mod memory;
-mod neighbours;
-mod tables;
-mod task;
 
 pub use fault::LabelFault;
 pub use labeller::least;

@@ -1,15 +1,16 @@
 //! Where labels are looked up.
 
 ghost use Rattle.std.specs.Prelude.{IsTrue};
-ghost use Rattle.labelling.specs.Arena.{HasDominating, IsPruned};
+ghost use Rattle.labelling.specs.Search.{IsDominatedIn, IsPrunedIn};
 
 use crate::buckets::Buckets;
-use crate::customer_labels::CustomerLabels;
+use crate::customer_labels::{CustomerLabels, Entry};
 use crate::label::Label;
+use fronts::Completions;
 use solomon_reader::Instance;
 use std::alloc::{AllocError, Global};
 
-/// Where labels are looked up by customer and by load, and how many are active, the empty beginning
+/// Where labels are looked up by customer and by time, and how many are active, the empty beginning
 /// not counted.
 #[derive(Drop)]
 pub(crate) struct Lookup {
@@ -21,12 +22,13 @@ pub(crate) struct Lookup {
 impl Lookup {
     /// The lookup of the empty beginning alone.
     pub(crate) fn new(alloc: Global, instance: &Instance) -> Result<Lookup, AllocError> {
+        instance.law_of_limits();
         let mut customers = Vec::new(alloc);
         for _ in 0..instance.customer_count() + 1 {
             customers.push(CustomerLabels::new(alloc))?;
         }
-        let mut buckets = Buckets::new(alloc, instance.capacity())?;
-        buckets.add(0, 0)?;
+        let mut buckets = Buckets::new(alloc, instance.due(0))?;
+        buckets.add(instance.ready(0), 0)?;
         Ok(Lookup {
             customers,
             buckets,
@@ -39,34 +41,51 @@ impl Lookup {
         self.active
     }
 
-    /// The index of the first label of a load.
-    pub(crate) fn first(&self, load: u32) -> Option<usize> {
-        self.buckets.first(load)
+    /// The number of turns of time.
+    pub(crate) fn turns(&self) -> usize {
+        self.buckets.turns()
     }
 
-    /// The index of the label after another one of the same load.
-    pub(crate) fn after(&self, index: usize) -> Option<usize> {
-        self.buckets.after(index)
+    /// Takes the index of a label out of a turn of time.
+    pub(crate) fn take(&mut self, turn: usize) -> Option<usize> {
+        self.buckets.take(turn)
     }
 
     /// Whether an active label dominates a newer one.
-    pub(crate) fn is_dominated(&self, labels: &[Label], newer: &Label) -> bool
-        ensures { IsTrue result → HasDominating labels.now newer.now }
+    pub(crate) fn is_dominated(
+        &self,
+        completions: &Completions<'_, '_>,
+        labels: &[Label],
+        label: &Label,
+        newer: &Entry,
+    ) -> bool
+        ensures { IsTrue result → IsDominatedIn completions.now labels.now label.now }
     {
-        let customer = newer.front.last as usize;
+        let customer = label.front.last as usize;
         if customer >= self.customers.len() {
             return false;
         }
-        self.customers[customer].is_dominated(labels, newer)
+        self.customers[customer].is_dominated(completions, labels, label, newer)
     }
 
     /// Drops the labels that a newer one dominates.
-    pub(crate) fn drop_dominated(&mut self, labels: &mut [Label], newer: &Label)
-        ensures { IsPruned labels.old labels.new newer.now }
+    pub(crate) fn drop_dominated(
+        &mut self,
+        completions: &Completions<'_, '_>,
+        labels: &mut [Label],
+        label: &Label,
+        newer: &Entry,
+    )
+        ensures { IsPrunedIn completions.now labels.old labels.new label.now }
     {
-        let customer = newer.front.last as usize;
+        let customer = label.front.last as usize;
         if customer < self.customers.len() {
-            let dropped = self.customers[customer].drop_dominated(labels, newer);
+            let dropped = self.customers[customer].drop_dominated(
+                completions,
+                labels,
+                label,
+                newer,
+            );
             self.active = self.active.saturating_sub(dropped);
         }
     }
@@ -76,13 +95,14 @@ impl Lookup {
         &mut self,
         alloc: Global,
         label: &Label,
+        newer: &Entry,
         index: usize,
     ) -> Result<(), AllocError> {
         let customer = label.front.last as usize;
         if customer < self.customers.len() {
-            self.customers[customer].add(alloc, label, index)?;
+            self.customers[customer].add(alloc, newer)?;
         }
-        self.buckets.add(label.front.load, index)?;
+        self.buckets.add(label.front.time, index)?;
         self.active = self.active.saturating_add(1);
         Ok(())
     }

@@ -1,0 +1,196 @@
+-- Bounds on what may follow.
+use Rattle.std.proofs.Common.{◌≡◌, refl, ℕ, ◌+◌, ◌*◌, ◌-◌, ◌<◌, ◌≤◌, Bool, true, false, ◌&&◌, ◌||◌, eqb, List, [], ◌∷◌, arith, ap, sym, ◌∙◌, inl, inr, ◌⊎◌}
+use Rattle.std.specs.Prelude.{ℤ, pos, ◌+ℤ◌, ◌-ℤ◌, ◌≤ℤ◌, IsTrue}
+use Rattle.std.proofs.lemmas.Int.{ints}
+use Rattle.std.proofs.lemmas.Bool.{cases_lt, eq-eqb, or_left, or_right, and_from, both_ways}
+use Rattle.std.proofs.lemmas.List.Sums.{sum_by-cons}
+use Rattle.solomon_reader.specs.declared.limits.TheConstants.{MOST_PRICE, MOST_CAPACITY}
+use Rattle.solomon_reader.specs.Distance.{distance}
+use Rattle.solomon_reader.specs.Plan.{load_of}
+use Rattle.solomon_reader.specs.Problem.{Problem, IsCustomer, customer_count, demand}
+use Rattle.solomon_reader.specs.Region.{Region}
+use Rattle.solomon_reader.specs.Relaxed.{price_of}
+use Rattle.solomon_reader.specs.Remembering.{near}
+use Rattle.solomon_reader.specs.States.{State, begins, step, CanStep, CanEnd, Completes, value_with}
+use Rattle.fronts.specs.declared.front.Front.{Front}
+use Rattle.fronts.specs.declared.bound.Bound.{Bound}
+use Rattle.fronts.specs.Completions.{most_paid, IsSmall, StartsWith, Holds, IsBound, StartsBelow, IsBoundBelow, IsOnward, IsBelowStep, IsJoined}
+use Rattle.fronts.specs.Fronts.{bare_state, end_cost, IsTask, IsPriced, IsAfter}
+use Rattle.fronts.specs.Memories.{place_of}
+use Rattle.fronts.proofs.Places.{place_none}
+
+module _ (p : Problem) (g : Region) (k : ℕ) (prices : List ℤ) where
+  load_fits : (s : List ℕ) (a : State) → a.load ≤ p.capacity → Completes p g k prices a s → a.load + load_of p s ≤ p.capacity
+  load_fits [] a light h = omega arith
+  load_fits (j ∷ s) a light h = omega (arith, load_fits s (step p k prices a j) h.0.load h.1, sum_by-cons (demand p) j s)
+
+  pub room_whole : (s : List ℕ) (a : State) → Completes p g k prices a s → load_of p s ≤ p.capacity
+  room_whole [] a h = omega arith
+  room_whole (j ∷ s) a h = omega (arith, load_fits s (step p k prices a j) h.0.load h.1, sum_by-cons (demand p) j s)
+
+  module _ (task : IsTask p g prices) where
+    price_small : (j : ℕ) → IsCustomer p j → IsPriced (price_of prices j)
+    price_small j c = task.priced (j - 1) (pos 0) (omega (arith, task.count, c.0, c.1))
+
+    least_whole : (s : List ℕ) (a : State) → Completes p g k prices a s → a.cost ≤ℤ (value_with p k prices a s +ℤ pos (MOST_PRICE * load_of p s))
+    least_whole [] a h = omega (arith, ints)
+    least_whole (j ∷ s) a h =
+        omega (arith, ints, least_whole s (step p k prices a j) h.1, (price_small j h.0.customer).high, task.carried j h.0.customer, sum_by-cons (demand p) j s)
+
+    pub paid_little : p.capacity ≤ MOST_CAPACITY → (s : List ℕ) (a : State) → Completes p g k prices a s → a.cost ≤ℤ (value_with p k prices a s +ℤ pos most_paid)
+    paid_little held s a h = omega (arith, ints, least_whole s a h, room_whole s a h, held)
+
+  -- after a step to j that comes from v the next stop isn't v, where j's neighbour list holds v
+  pub never_back : (a : State) (s : List ℕ) (v j n : ℕ) → n ≡ v → IsTrue (a.memory v) → place_of p k j v < 16 → Completes p g k prices (step p k prices a j) s → ¬ StartsWith n s
+  never_back a [] v j n same remembered low h starts = starts
+  never_back a (i ∷ s) v j n same remembered low h starts =
+      let e : i ≡ v = starts ∙ same in
+      both_ways ((eqb v j) || (a.memory v && near p k j v)) (rw e at h.0.fresh) (or_right (eqb v j) _ (and_from _ _ remembered (listed (near p k j v) refl)))
+    where
+      listed : (b : Bool) → b ≡ near p k j v → near p k j v ≡ true
+      listed true e = sym e
+      listed false e = absurd (omega (arith, low, place_none p j k v (sym e)))
+
+module _ (p : Problem) (g : Region) (k : ℕ) (prices : List ℤ) (task : IsTask p g prices) (held : p.capacity ≤ MOST_CAPACITY) where
+  -- of anything that may follow
+  pub bound_whole : (v t : ℕ) (b : Bound) → p.capacity ≡ b.room → (b.least +ℤ pos most_paid) ≡ pos 0 → (b.other +ℤ pos most_paid) ≡ pos 0 → IsBound p g k prices v t b
+  bound_whole v t b room least other = record {
+    small = record {
+      room = omega (arith, room, held);
+      least = record { low = omega (arith, ints, least); high = omega (arith, ints, least) };
+      other = record { low = omega (arith, ints, other); high = omega (arith, ints, other) };
+    };
+    holds = λ a s last time remembered h. record {
+      room = omega (arith, room_whole p g k prices s a h, room);
+      least = omega (arith, ints, least, paid_little p g k prices task held s a h);
+      other = λ _. omega (arith, ints, other, paid_little p g k prices task held s a h);
+    };
+  }
+
+  module _ (f : Front) (v t : ℕ) (last_is : f.last ≡ v) (time_is : f.time ≡ t) (load : f.load ≡ 0) (cost : f.cost ≡ pos 0) where
+    begins_no_later : (a : State) (j : ℕ) → a.last ≡ v → t ≤ a.time → begins p (bare_state f) j ≤ begins p a j
+    begins_no_later a j last later = omega (arith, later, time_is, ap (λ (i : ℕ). distance p i j) last, ap (λ (i : ℕ). distance p i j) last_is)
+
+    can_step_sooner : (a : State) (j : ℕ) → a.last ≡ v → t ≤ a.time → CanStep p g a j → CanStep p g (bare_state f) j
+    can_step_sooner a j last later can = record {
+      customer = can.customer;
+      allowed = rw last_is (rw last at can.allowed);
+      load = omega (arith, load, can.load);
+      due = omega (arith, begins_no_later a j last later, can.due);
+      fresh = refl;
+    }
+
+    can_end_sooner : (a : State) → a.last ≡ v → t ≤ a.time → CanEnd p g a → CanEnd p g (bare_state f)
+    can_end_sooner a last later can = record {
+      allowed = rw last_is (rw last at can.allowed);
+      closing = omega (arith, later, time_is, can.closing, ap (λ (i : ℕ). distance p i 0) last, ap (λ (i : ℕ). distance p i 0) last_is);
+    }
+
+    pub bound_none : (b : Bound) → IsSmall b → b.other ≡ b.least → (CanEnd p g (bare_state f) → ⊥) ⊎ (b.least ≤ℤ end_cost p f) → IsBoundBelow p g k prices v t 1 b
+    bound_none b small same end = record { small = small; holds = holds }
+      where
+        ends : (a : State) → a.last ≡ v → t ≤ a.time → CanEnd p g a → b.least ≤ℤ end_cost p f
+        ends a last later can = elim end [
+          | inl never ↦ absurd (never (can_end_sooner a last later can))
+          | inr low ↦ low
+        ]
+
+        holds : (a : State) (s : List ℕ) → a.last ≡ v → t ≤ a.time → IsTrue (a.memory v) → StartsBelow 1 s → Completes p g k prices a s → Holds p k prices a s b
+        holds a [] last later remembered below h =
+            let low : (a.cost +ℤ b.least) ≤ℤ value_with p k prices a [] = omega (arith, ints, ends a last later h, cost, ap (λ (i : ℕ). distance p i 0) last, ap (λ (i : ℕ). distance p i 0) last_is) in
+            record { room = omega arith; least = low; other = λ _. omega (arith, ints, same, low) }
+        holds a (j ∷ s) last later remembered below h = absurd (omega (arith, below, h.0.customer.0))
+
+    pub bound_no : (j : ℕ) (b : Bound) → IsBoundBelow p g k prices v t j b → ¬ CanStep p g (bare_state f) j → IsBoundBelow p g k prices v t (j + 1) b
+    bound_no j b so_far cannot = record { small = so_far.small; holds = holds }
+      where
+        holds : (a : State) (s : List ℕ) → a.last ≡ v → t ≤ a.time → IsTrue (a.memory v) → StartsBelow (j + 1) s → Completes p g k prices a s → Holds p k prices a s b
+        holds a [] last later remembered below h = so_far.holds a [] last later remembered tt h
+        holds a (i ∷ s) last later remembered below h = elim (cases_lt i j) [
+          | inl less ↦ so_far.holds a (i ∷ s) last later remembered less h
+          | inr more ↦ (let same : i ≡ j = omega (arith, below, more) in absurd (cannot (can_step_sooner a j last later (rw same at h.0))))
+        ]
+
+    module _ (j : ℕ) (b : Bound) (next : Front) (on : Bound) (least z : ℤ) (is : z ≡ least) (out : Bound) (so_far : IsBoundBelow p g k prices v t j b) (after : IsAfter p prices f j next)
+        (bound : IsBound p g k prices j next.time on) (onward : IsOnward p g k prices v j next.time least) (joined_z : IsJoined b j next.load next.cost on.room z out) where
+      joined : IsJoined b j next.load next.cost on.room least out
+      joined = rw is at joined_z
+
+      soon : (a : State) → a.last ≡ v → t ≤ a.time → next.time ≤ (step p k prices a j).time
+      soon a last later = omega (arith, after.time, begins_no_later a j last later)
+
+      remembers : (a : State) → IsTrue ((step p k prices a j).memory j)
+      remembers a = or_left (eqb j j) _ (eq-eqb j j refl)
+
+      -- what is below the step is below the value with it
+      reach : (z : ℤ) → IsBelowStep next.cost least z → (a : State) (s : List ℕ) → a.last ≡ v → t ≤ a.time → IsTrue (a.memory v) → Completes p g k prices a (j ∷ s) → (a.cost +ℤ z) ≤ℤ value_with p k prices a (j ∷ s)
+      reach z below a s last later remembered h =
+          let paid = paid_little p g k prices task held (j ∷ s) a h in
+          let far : distance p a.last j ≡ distance p f.last j = omega (arith, ap (λ (i : ℕ). distance p i j) last, ap (λ (i : ℕ). distance p i j) last_is) in
+          let low : z ≤ℤ (value_with p k prices a (j ∷ s) -ℤ a.cost) =
+          below _ (omega (arith, ints, onward.least a s last remembered (soon a last later) h.0 h.1, after.cost, cost, far)) (omega (arith, ints, paid)) in
+          omega (arith, ints, low)
+
+      at_step : (a : State) (s : List ℕ) → a.last ≡ v → t ≤ a.time → IsTrue (a.memory v) → Completes p g k prices a (j ∷ s) → Holds p k prices a (j ∷ s) out
+      at_step a s last later remembered h =
+          let on_it = bound.holds (step p k prices a j) s refl (soon a last later) (remembers a) h.1 in
+          let whole = room_whole p g k prices (j ∷ s) a h in
+          record {
+            room = joined.step_room _ (omega (arith, on_it.room, after.load, load, sum_by-cons (demand p) j s)) (omega (arith, whole, held));
+            least = reach out.least joined.step_least a s last later remembered h;
+            other = λ apart. elim joined.other [
+              | inl next_is ↦ absurd (apart (sym next_is.0))
+              | inr kept ↦ reach out.other kept.1.1 a s last later remembered h
+            ];
+          }
+
+      older : (a : State) (s : List ℕ) → Holds p k prices a s b → Holds p k prices a s out
+      older a s h = record {
+        room = omega (arith, h.room, joined.room);
+        least = omega (arith, ints, h.least, joined.least);
+        other = λ apart. elim joined.other [
+          | inl next_is ↦ omega (arith, ints, h.least, next_is.1)
+          | inr kept ↦ omega (arith, ints, h.other (rw kept.0 at apart), kept.1.0)
+        ];
+      }
+
+      at_step_at : (i : ℕ) → i ≡ j → (a : State) (s : List ℕ) → a.last ≡ v → t ≤ a.time → IsTrue (a.memory v) → Completes p g k prices a (i ∷ s) → Holds p k prices a (i ∷ s) out
+      at_step_at i same a s last later remembered h = rw same (at_step a s last later remembered (rw same at h))
+
+      pub bound_yes : IsBoundBelow p g k prices v t (j + 1) out
+      bound_yes = record { small = joined.small; holds = holds }
+        where
+          holds : (a : State) (s : List ℕ) → a.last ≡ v → t ≤ a.time → IsTrue (a.memory v) → StartsBelow (j + 1) s → Completes p g k prices a s → Holds p k prices a s out
+          holds a [] last later remembered below h = older a [] (so_far.holds a [] last later remembered tt h)
+          holds a (i ∷ s) last later remembered below h = elim (cases_lt i j) [
+            | inl less ↦ older a (i ∷ s) (so_far.holds a (i ∷ s) last later remembered less h)
+            | inr more ↦ (let same : i ≡ j = omega (arith, below, more) in at_step_at i same a s last later remembered h)
+          ]
+
+  pub bound_all : (v t i : ℕ) (b : Bound) → customer_count p < i → IsBoundBelow p g k prices v t i b → IsBound p g k prices v t b
+  bound_all v t i b past so_far = record { small = so_far.small; holds = holds }
+    where
+      holds : (a : State) (s : List ℕ) → a.last ≡ v → t ≤ a.time → IsTrue (a.memory v) → Completes p g k prices a s → Holds p k prices a s b
+      holds a [] last later remembered h = so_far.holds a [] last later remembered tt h
+      holds a (i ∷ s) last later remembered h = so_far.holds a (i ∷ s) last later remembered (omega (arith, h.0.customer.1, past)) h
+
+module _ (p : Problem) (g : Region) (k : ℕ) (prices : List ℤ) where
+  -- a bound of an earlier time holds later
+  pub bound_later : (v t w u : ℕ) (b : Bound) → v ≡ w → t ≤ u → IsBound p g k prices v t b → IsBound p g k prices w u b
+  bound_later v t w u b same le h =
+      let later : IsBound p g k prices v u b = record { small = h.small; holds = λ a s last later remembered c. h.holds a s last (omega (arith, le, later)) remembered c } in
+      rw same at later
+
+  -- after a step to j that comes from v
+  pub onward_least : (v j t : ℕ) (on : Bound) (z : ℤ) → z ≡ on.least → IsBound p g k prices j t on → IsOnward p g k prices v j t z
+  onward_least v j t on z is h = rw is (record {
+    cut = h.small.least;
+    least = λ a s last remembered later can c. (h.holds (step p k prices a j) s refl later (or_left (eqb j j) _ (eq-eqb j j refl)) c).least;
+  })
+
+  pub onward_other : (v j t : ℕ) (on : Bound) (z : ℤ) → z ≡ on.other → on.next ≡ v → place_of p k j v < 16 → IsBound p g k prices j t on → IsOnward p g k prices v j t z
+  onward_other v j t on z is next low h = rw is (record {
+    cut = h.small.other;
+    least = λ a s last remembered later can c.
+        (h.holds (step p k prices a j) s refl later (or_left (eqb j j) _ (eq-eqb j j refl)) c).other (never_back p g k prices a s v j on.next next remembered low c);
+  })

@@ -1,0 +1,6 @@
+pub mod Flagged
+pub mod Tabled
+pub mod Narrowing
+pub mod Places
+pub mod Recalling
+pub mod Following

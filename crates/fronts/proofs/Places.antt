@@ -1,0 +1,178 @@
+-- The places in a neighbour list: each of its rows has one of its own.
+use Rattle.std.proofs.Common.{◌≡◌, ◌≢◌, refl, ℕ, ◌+◌, ◌<◌, ◌≤◌, Bool, true, false, eqb, cond, List, [], ◌∷◌, ◌++◌, length, length-append, get_or, arith, sym, ◌∙◌, ◌⊎◌, inl, inr}
+use Rattle.std.proofs.Math.ListN.{set, length-set}
+use Rattle.std.proofs.lemmas.List.{get_or_append_left, get_or_push, get_or-set_same, get_or-set_other}
+use Rattle.std.proofs.lemmas.Bool.{cases_order, cases_lt, cases_eq, cases_Bool, lt-ltb, ltb-true, leb-true, le-leb, eq-eqb, ne_eqb, eqb-true, or_cases, or_left, or_right, and_parts, and_from, and_right, false_from_ne_true, not_from_false, both_ways}
+use Rattle.solomon_reader.specs.Problem.{Problem, IsCustomer, customer_count}
+use Rattle.solomon_reader.specs.Distance.{distance}
+use Rattle.solomon_reader.specs.Relaxed.{rank, stands_before}
+use Rattle.solomon_reader.specs.Remembering.{ahead, near}
+use Rattle.fronts.specs.Memories.{place_of, HasPlaces, IsNeighbourList}
+use Rattle.solomon_reader.proofs.Ranks.{count_no_more, count_fewer}
+
+module _ (p : Problem) (v : ℕ) where
+  -- nearer, or as near with a lower number
+  abbrev IsBefore : ℕ → ℕ → Type 0
+  IsBefore u w = (distance p v u < distance p v w) ⊎ ((distance p v u ≡ distance p v w) × (u < w))
+
+  before_is : (u w : ℕ) → stands_before p v u w ≡ true → IsBefore u w
+  before_is u w h = elim (or_cases _ _ h) [
+    | inl nearer ↦ inl (ltb-true _ _ nearer)
+    | inr tied ↦ (let both = and_parts _ _ tied in inr (eqb-true _ _ both.0, ltb-true _ _ both.1))
+  ]
+
+  before_from : (u w : ℕ) → IsBefore u w → stands_before p v u w ≡ true
+  before_from u w (inl nearer) = or_left _ _ (lt-ltb _ _ nearer)
+  before_from u w (inr tied) = or_right _ _ (and_from _ _ (eq-eqb _ _ tied.0) (lt-ltb _ _ tied.1))
+
+  through : (t u w : ℕ) → IsBefore t u → IsBefore u w → IsBefore t w
+  through t u w (inl a) (inl b) = inl (omega arith)
+  through t u w (inl a) (inr b) = inl (omega (arith, a, b.0))
+  through t u w (inr a) (inl b) = inl (omega (arith, a.0, b))
+  through t u w (inr a) (inr b) = inr (a.0 ∙ b.0, omega (arith, a.1, b.1))
+
+  itself : (u : ℕ) → stands_before p v u u ≡ false
+  itself u = false_from_ne_true _ (λ h. elim (before_is u u h) [ inl a ↦ absurd (omega arith) | inr b ↦ absurd (omega (arith, b.1)) ])
+
+  -- what is ahead of the first is ahead of the second
+  ahead_too : (u w : ℕ) → IsBefore u w → (t : ℕ) → ahead p v u t ≡ true → ahead p v w t ≡ true
+  ahead_too u w h t e = let both = and_parts _ _ e in and_from _ _ both.0 (before_from t w (through t u w (before_is t u both.1) h))
+
+  pub rank_grows : (u w : ℕ) → stands_before p v u w ≡ true → rank p v u ≤ rank p v w
+  rank_grows u w h = count_no_more (ahead p v u) (ahead p v w) (ahead_too u w (before_is u w h)) (customer_count p)
+
+  rank_less : (u w : ℕ) → IsCustomer p u → u ≢ v → IsBefore u w → rank p v u < rank p v w
+  rank_less u w customer apart h =
+      count_fewer (ahead p v u) (ahead p v w) (ahead_too u w h) u (customer_count p) customer.0 customer.1
+      (and_right _ _ (itself u)) (and_from _ _ (not_from_false _ (ne_eqb u v apart)) (before_from u w h))
+
+  same_rank : (u w : ℕ) → IsCustomer p u → IsCustomer p w → u ≢ v → w ≢ v → rank p v u ≡ rank p v w → u ≡ w
+  same_rank u w customer other apart aside e = elim (cases_order (distance p v u) (distance p v w)) [
+    | inl tied ↦ elim (cases_order u w) [
+      | inl same ↦ same
+      | inr (inl below) ↦ absurd (omega (arith, e, rank_less u w customer apart (inr (tied, below))))
+      | inr (inr above) ↦ absurd (omega (arith, e, rank_less w u other aside (inr (sym tied, above))))
+    ]
+    | inr (inl nearer) ↦ absurd (omega (arith, e, rank_less u w customer apart (inl nearer)))
+    | inr (inr farther) ↦ absurd (omega (arith, e, rank_less w u other aside (inl farther)))
+  ]
+
+  module _ (k : ℕ) where
+    middle : (a b : Bool) (x y z : ℕ) → a ≡ false → b ≡ true → cond a x (cond b y z) ≡ y
+    middle a b x y z e h = rw (e, h) refl
+
+    otherwise : (a b : Bool) (x y z : ℕ) → a ≡ false → b ≡ false → cond a x (cond b y z) ≡ z
+    otherwise a b x y z e h = rw (e, h) refl
+
+    pub place_first : place_of p k v v ≡ 0
+    unfolding place_of
+    place_first = rw (eq-eqb v v refl) refl
+
+    near_is : (u : ℕ) → near p k v u ≡ true → (u ≡ v) ⊎ (IsCustomer p u × (rank p v u < k))
+    near_is u h = elim (or_cases _ _ h) [
+      | inl e ↦ inl (eqb-true u v e)
+      | inr t ↦ (let both = and_parts _ _ t in let range = and_parts _ _ both.0 in inr ((leb-true _ _ range.0, leb-true _ _ range.1), ltb-true _ _ both.1))
+    ]
+
+    near_from : (u : ℕ) → IsCustomer p u → rank p v u < k → near p k v u ≡ true
+    near_from u customer low = or_right (eqb u v) _ (and_from _ _ (and_from _ _ (le-leb _ _ customer.0) (le-leb _ _ customer.1)) (lt-ltb _ _ low))
+
+    pub place_ranked : (u : ℕ) → u ≢ v → IsCustomer p u → rank p v u < k → place_of p k v u ≡ rank p v u + 1
+    unfolding place_of
+    place_ranked u apart customer low = middle (eqb u v) (near p k v u) 0 (rank p v u + 1) 16 (ne_eqb u v apart) (near_from u customer low)
+
+    pub place_none : (u : ℕ) → near p k v u ≡ false → place_of p k v u ≡ 16
+    unfolding place_of
+    place_none u far = otherwise (eqb u v) (near p k v u) 0 (rank p v u + 1) 16 (false_from_ne_true (eqb u v) (λ e. both_ways (near p k v u) far (or_left _ _ e))) far
+
+    pub place_far : (u : ℕ) → u ≢ v → ¬ (IsCustomer p u × (rank p v u < k)) → place_of p k v u ≡ 16
+    place_far u apart out = place_none u (false_from_ne_true _ (λ h. elim (near_is u h) [ inl e ↦ apart e | inr c ↦ out c ]))
+
+    -- the depot stands in its own list alone
+    pub depot_first : v ≡ 0 → place_of p k v 0 ≡ 0
+    unfolding place_of
+    depot_first e = rw (eq-eqb 0 v (sym e)) refl
+
+    pub depot_far : v ≢ 0 → place_of p k v 0 ≡ 16
+    depot_far apart = place_far 0 (λ e. apart (sym e)) (λ h. absurd (omega (arith, h.0.0)))
+
+    -- a row of the list is v, at its first place, or a customer behind it
+    pub place_near : (u : ℕ) → near p k v u ≡ true → ((u ≡ v) × (place_of p k v u ≡ 0)) ⊎ ((u ≢ v) × (IsCustomer p u × ((rank p v u < k) × (place_of p k v u ≡ rank p v u + 1))))
+    place_near u h = elim (cases_eq u v) [
+      | inl same ↦ inl (same, rw same place_first)
+      | inr apart ↦ elim (near_is u h) [
+        | inl same ↦ absurd (apart same)
+        | inr c ↦ inr (apart, (c.0, (c.1, place_ranked u apart c.0 c.1)))
+      ]
+    ]
+
+    pub same_place : (u w : ℕ) → near p k v u ≡ true → near p k v w ≡ true → place_of p k v u ≡ place_of p k v w → u ≡ w
+    same_place u w h e same = elim (place_near u h) [
+      | inl a ↦ elim (place_near w e) [
+        | inl b ↦ a.0 ∙ sym b.0
+        | inr b ↦ absurd (omega (arith, same, a.1, b.1.1.1))
+      ]
+      | inr a ↦ elim (place_near w e) [
+        | inl b ↦ absurd (omega (arith, same, b.1, a.1.1.1))
+        | inr b ↦ same_rank u w a.1.0 b.1.0 a.0 b.0 (omega (arith, same, a.1.1.1, b.1.1.1))
+      ]
+    ]
+
+    module _ (few : k < 16) where
+      pub place_low : (u : ℕ) → near p k v u ≡ true → place_of p k v u < 16
+      place_low u h = elim (place_near u h) [ inl a ↦ omega (arith, a.1) | inr a ↦ omega (arith, few, a.1.1.0, a.1.1.1) ]
+
+      pub place_bound : (u : ℕ) → place_of p k v u ≤ 16
+      place_bound u = elim (cases_Bool (near p k v u)) [ inl h ↦ omega (arith, place_low u h) | inr h ↦ omega (arith, place_none u h) ]
+
+      pub near_at : (u : ℕ) → place_of p k v u < 16 → near p k v u ≡ true
+      near_at u low = elim (cases_Bool (near p k v u)) [ inl h ↦ h | inr h ↦ absurd (omega (arith, low, place_none u h)) ]
+
+      pub not_near : (u : ℕ) → 16 ≤ place_of p k v u → near p k v u ≡ false
+      not_near u high = false_from_ne_true _ (λ h. omega (arith, high, place_low u h))
+
+    pub places_none : HasPlaces p k v 0 []
+    places_none = record { count = refl; each = λ u below. absurd (omega arith) }
+
+    pub places_more : (i : ℕ) (places : List ℕ) (x : ℕ) → HasPlaces p k v i places → x ≡ place_of p k v i → HasPlaces p k v (i + 1) (places ++ (x ∷ []))
+    places_more i places x h here = record {
+      count = omega (arith, h.count, length-append places (x ∷ []));
+      each = λ u below. elim (cases_lt u i) [
+        | inl less ↦ get_or_append_left places (x ∷ []) 0 u (omega (arith, h.count, less)) ∙ h.each u less
+        | inr more ↦ (let same : u ≡ i = omega arith in rw same (get_or_push places x 0 i h.count ∙ here))
+      ];
+    }
+
+    -- the list without rows has the depot everywhere
+    pub listed_none : (list : List ℕ) → length list ≡ 16 → 1 ≤ length p.rows → ((m : ℕ) → get_or list m 0 ≡ 0) → IsNeighbourList p k v 0 list
+    listed_none list count some depots = record { count = count; rows = λ m low. omega (arith, some, depots m); listed = λ u below h. absurd (omega arith) }
+
+    module _ (few : k < 16) (i : ℕ) (list : List ℕ) (so_far : IsNeighbourList p k v i list) where
+      pub listed_no : 16 ≤ place_of p k v i → IsNeighbourList p k v (i + 1) list
+      listed_no high = record {
+        count = so_far.count;
+        rows = so_far.rows;
+        listed = λ u below h. elim (cases_eq u i) [
+          | inl same ↦ absurd (both_ways _ (not_near few i high) (rw same at h))
+          | inr apart ↦ so_far.listed u (omega arith) h
+        ];
+      }
+
+      pub listed_yes : (place : ℕ) → place ≡ place_of p k v i → place < 16 → i < length p.rows → IsNeighbourList p k v (i + 1) (set list place i)
+      listed_yes place is low within = record { count = length-set list place i ∙ so_far.count; rows = rows; listed = listed }
+        where
+          in_list : place < length list
+          in_list = omega (arith, low, so_far.count)
+
+          rows : (m : ℕ) → m < 16 → get_or (set list place i) m 0 < length p.rows
+          rows m below = elim (cases_eq m place) [
+            | inl same ↦ rw (same, get_or-set_same list place i 0 in_list) within
+            | inr apart ↦ rw (get_or-set_other list place m i 0 apart) (so_far.rows m below)
+          ]
+
+          listed : (u : ℕ) → u < i + 1 → near p k v u ≡ true → get_or (set list place i) (place_of p k v u) 0 ≡ u
+          listed u below h = elim (cases_eq u i) [
+            | inl same ↦ rw (same, ← is) (get_or-set_same list place i 0 in_list)
+            | inr apart ↦ get_or-set_other list place (place_of p k v u) i 0
+                (λ e. apart (same_place u i h (near_at few i (omega (arith, low, is))) (e ∙ is))) ∙ so_far.listed u (omega arith) h
+          ]

@@ -1,0 +1,25 @@
+-- Tables that grow, and what is read from them.
+use Rattle.std.proofs.Common.{◌≡◌, refl, ℕ, ◌+◌, ◌<◌, List, [], ◌∷◌, ◌++◌, length-append, get_or, arith, subst, sym, inl, inr}
+use Rattle.std.proofs.lemmas.Bool.{cases_lt}
+use Rattle.std.proofs.lemmas.List.{get_or_append_left, get_or_push}
+use Rattle.fronts.specs.Tables.{IsTable}
+
+module _ {X : Type 0} (T : ℕ → X → Type 0) where
+  pub table_more : (i : ℕ) (x : X) (table : List X) → IsTable T i table → T i x → IsTable T (i + 1) (table ++ (x ∷ []))
+  table_more i x table h here = record {
+    count = omega (arith, h.count, length-append table (x ∷ []));
+    each = λ m d below. elim (cases_lt m i) [
+      | inl less ↦ rw (get_or_append_left table (x ∷ []) d m (omega (arith, h.count, less))) (h.each m d less)
+      | inr more ↦ (let same : m ≡ i = omega arith in rw (same, get_or_push table x d i h.count) here)
+    ];
+  }
+
+  pub table_none : IsTable T 0 []
+  table_none = record { count = refl; each = λ m d below. absurd (omega arith) }
+
+  pub table_all : (i n : ℕ) (table : List X) → i ≡ n → IsTable T i table → IsTable T n table
+  table_all i n table same h = rw (← same) h
+
+  -- what was read is what the table has there
+  pub table_read : (i n : ℕ) (x : X) (table : List X) → IsTable T n table → i < n → x ≡ get_or table i x → T i x
+  table_read i n x table h within is = subst (T i) (sym is) (h.each i x within)

@@ -1,0 +1,5 @@
+use Rattle.fronts.specs.Memories.{IsNeighbourList}
+use Rattle.fronts.proofs.neighbours.neighbour_list.Given as goal
+
+abbrev pub invariant-loop-u : goal.invariant-loop-u
+invariant-loop-u l = IsNeighbourList l.instance l.k l.v l.u l.list

@@ -1,0 +1,70 @@
+-- What may follow from a row at a time or later, whatever was visited before.
+use Rattle.std.specs.Prelude.{◌≡◌, ℕ, ◌+◌, ◌*◌, ◌<◌, ◌≤◌, List, [], ◌∷◌, ℤ, pos, ◌+ℤ◌, ◌≤ℤ◌, IsTrue, ◌⊎◌}
+use Rattle.solomon_reader.specs.declared.limits.TheConstants.{MOST_PRICE, MOST_CAPACITY}
+use Rattle.solomon_reader.specs.Plan.{load_of}
+use Rattle.solomon_reader.specs.Problem.{Problem}
+use Rattle.solomon_reader.specs.Region.{Region}
+use Rattle.solomon_reader.specs.States.{State, step, CanStep, Completes, value_with}
+use Rattle.fronts.specs.declared.bound.Bound.{Bound}
+use Rattle.fronts.specs.declared.bound.RowBound.{RowBound}
+
+-- all prices of the customers of one vehicle together
+abbrev pub most_paid : ℕ
+most_paid = MOST_PRICE * MOST_CAPACITY
+
+-- no less than all prices together, and no more
+pub record IsCut (z : ℤ) : Type 0 where
+  pub low : pos 0 ≤ℤ (z +ℤ pos most_paid)
+  pub high : z ≤ℤ pos most_paid
+
+pub record IsSmall (b : Bound) : Type 0 where
+  pub room : b.room ≤ MOST_CAPACITY
+  pub least : IsCut b.least
+  pub other : IsCut b.other
+
+-- the first of the stops is n
+abbrev pub StartsWith : ℕ → List ℕ → Type 0
+StartsWith n [] = ⊥
+StartsWith n (j ∷ s) = j ≡ n
+
+-- the stops load no more than the room, and change the reduced cost by no less than the least; by no less than the other one, where they don't start with the next customer
+pub record Holds (p : Problem) (k : ℕ) (prices : List ℤ) (a : State) (s : List ℕ) (b : Bound) : Type 0 where
+  pub room : load_of p s ≤ b.room
+  pub least : (a.cost +ℤ b.least) ≤ℤ value_with p k prices a s
+  pub other : ¬ StartsWith b.next s → (a.cost +ℤ b.other) ≤ℤ value_with p k prices a s
+
+-- of all that may follow from v at t or later; v itself is remembered there
+pub record IsBound (p : Problem) (g : Region) (k : ℕ) (prices : List ℤ) (v t : ℕ) (b : Bound) : Type 0 where
+  pub small : IsSmall b
+  pub holds : (a : State) (s : List ℕ) → a.last ≡ v → t ≤ a.time → IsTrue (a.memory v) → Completes p g k prices a s → Holds p k prices a s b
+
+abbrev pub StartsBelow : ℕ → List ℕ → Type 0
+StartsBelow i [] = Unit {0}
+StartsBelow i (j ∷ s) = j < i
+
+-- the same of what ends or begins with a customer below i
+pub record IsBoundBelow (p : Problem) (g : Region) (k : ℕ) (prices : List ℤ) (v t i : ℕ) (b : Bound) : Type 0 where
+  pub small : IsSmall b
+  pub holds : (a : State) (s : List ℕ) → a.last ≡ v → t ≤ a.time → IsTrue (a.memory v) → StartsBelow i s → Completes p g k prices a s → Holds p k prices a s b
+
+abbrev pub IsRowBound : Problem → Region → ℕ → List ℤ → RowBound → Type 0
+IsRowBound p g k prices b = IsBound p g k prices b.row b.from b.bound
+
+-- what follows on a step from v to j that ends at t or later adds no less than z
+pub record IsOnward (p : Problem) (g : Region) (k : ℕ) (prices : List ℤ) (v j t : ℕ) (z : ℤ) : Type 0 where
+  pub cut : IsCut z
+  pub least : (a : State) (s : List ℕ) → a.last ≡ v → IsTrue (a.memory v) → t ≤ (step p k prices a j).time → CanStep p g a j → Completes p g k prices (step p k prices a j) s
+      → ((step p k prices a j).cost +ℤ z) ≤ℤ value_with p k prices (step p k prices a j) s
+
+-- z is at most what a step of this cost and what follows on it add
+abbrev pub IsBelowStep : ℤ → ℤ → ℤ → Type 0
+IsBelowStep cost least z = (y : ℤ) → (cost +ℤ least) ≤ℤ y → pos 0 ≤ℤ (y +ℤ pos most_paid) → z ≤ℤ y
+
+-- both, or one of them and a step to j of this load and cost, on which at most so much is loaded and at least so much added
+pub record IsJoined (b : Bound) (j load : ℕ) (cost : ℤ) (most : ℕ) (low : ℤ) (out : Bound) : Type 0 where
+  pub small : IsSmall out
+  pub room : b.room ≤ out.room
+  pub least : out.least ≤ℤ b.least
+  pub step_room : (x : ℕ) → x ≤ load + most → x ≤ MOST_CAPACITY → x ≤ out.room
+  pub step_least : IsBelowStep cost low out.least
+  pub other : ((out.next ≡ j) × (out.other ≤ℤ b.least)) ⊎ ((out.next ≡ b.next) × ((out.other ≤ℤ b.other) × IsBelowStep cost low out.other))

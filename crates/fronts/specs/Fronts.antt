@@ -1,0 +1,62 @@
+-- Fronts as states, and what the caller hands in.
+use Rattle.std.specs.Prelude.{◌≡◌, ℕ, ◌+◌, ◌*◌, ◌<◌, ◌≤◌, Bool, false, List, length, ℤ, pos, ◌+ℤ◌, ◌≤ℤ◌}
+use Rattle.std.specs.List.{All}
+use Rattle.solomon_reader.specs.declared.limits.TheConstants.{MOST_TIME, MOST_CAPACITY, MOST_PRICE, MOST_DISTANCE}
+use Rattle.solomon_reader.specs.Problem.{Problem, IsCustomer, customer_count, demand, ready, due, service}
+use Rattle.solomon_reader.specs.Distance.{distance}
+use Rattle.solomon_reader.specs.Region.{Region}
+use Rattle.solomon_reader.specs.States.{State, arc_value, begins}
+use Rattle.fronts.specs.declared.front.Front.{Front}
+
+abbrev pub state_of : Front → (ℕ → Bool) → State
+state_of f memory = record { last = f.last; time = f.time; load = f.load; cost = f.cost; memory = memory }
+
+-- the state of a front that remembers nothing
+abbrev pub bare_state : Front → State
+bare_state f = state_of f (λ _. false)
+
+-- the most that a stop adds to a reduced cost, or takes from it
+abbrev pub most_grains : ℕ
+most_grains = MOST_PRICE + 1000 * MOST_DISTANCE
+
+-- a price in its range
+pub record IsPriced (z : ℤ) : Type 0 where
+  pub low : pos 0 ≤ℤ (z +ℤ pos MOST_PRICE)
+  pub high : z ≤ℤ pos MOST_PRICE
+
+-- the numbers of a front are small; the reduced cost by its load, since each customer has a demand
+pub record IsBounded (p : Problem) (f : Front) : Type 0 where
+  pub last : f.last < length p.rows
+  pub time : f.time ≤ 20 * MOST_TIME
+  pub load : f.load ≤ p.capacity
+  pub held : p.capacity ≤ MOST_CAPACITY
+  pub low : pos 0 ≤ℤ (f.cost +ℤ pos (most_grains * f.load))
+  pub high : f.cost ≤ℤ pos (most_grains * f.load)
+
+pub record IsStart (p : Problem) (f : Front) : Type 0 where
+  pub last : f.last ≡ 0
+  pub time : f.time ≡ ready p 0
+  pub load : f.load ≡ 0
+  pub cost : f.cost ≡ pos 0
+
+pub record CanServe (p : Problem) (f : Front) (j : ℕ) : Type 0 where
+  pub load : f.load + demand p j ≤ p.capacity
+  pub due : begins p (bare_state f) j ≤ due p j
+
+-- x is the front after f and a stop at j
+pub record IsAfter (p : Problem) (prices : List ℤ) (f : Front) (j : ℕ) (x : Front) : Type 0 where
+  pub last : x.last ≡ j
+  pub time : x.time ≡ begins p (bare_state f) j + service p j
+  pub load : x.load ≡ f.load + demand p j
+  pub cost : x.cost ≡ f.cost +ℤ arc_value p prices f.last j
+
+-- the reduced cost with the return to the depot
+abbrev pub end_cost : Problem → Front → ℤ
+end_cost p f = f.cost +ℤ pos (1000 * distance p f.last 0)
+
+-- what the caller hands in
+pub record IsTask (p : Problem) (g : Region) (prices : List ℤ) : Type 0 where
+  pub size : g.size ≡ customer_count p
+  pub count : length prices ≡ customer_count p
+  pub priced : All IsPriced prices
+  pub carried : (i : ℕ) → IsCustomer p i → 1 ≤ demand p i

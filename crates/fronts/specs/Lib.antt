@@ -1,0 +1,5 @@
+pub mod Flags
+pub mod Fronts
+pub mod Memories
+pub mod Tables
+pub mod Completions

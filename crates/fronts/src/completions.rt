@@ -1,0 +1,298 @@
+//! Bounds on the completions of routes, by a table from the latest time back (the completion bounds of
+//! Christofides, Mingozzi and Toth 1981, at the times of windows). Of what is remembered a bound sees
+//! only that a route doesn't come back to a customer at once.
+
+ghost use Rattle.std.specs.Prelude.{◌≡◌, ◌+◌, ◌*◌, ◌<◌, ◌≤◌, ℕ, length, IfOk, IsTrue, IsFalse, pos, ◌+ℤ◌, ℤ, ◌≤ℤ◌, ◌⊎◌};
+ghost use Rattle.std.specs.List.{All};
+ghost use Rattle.solomon_reader.specs.Problem.{IsCustomer, customer_count};
+ghost use Rattle.solomon_reader.specs.declared.limits.TheConstants.{MOST_TIME, MOST_CAPACITY};
+ghost use Rattle.solomon_reader.specs.States.{CanStep, CanEnd};
+ghost use Rattle.fronts.specs.Completions.{most_paid, IsCut, IsSmall, IsBound, IsBoundBelow, IsRowBound, IsOnward, IsBelowStep, IsJoined};
+ghost use Rattle.fronts.specs.Fronts.{bare_state, most_grains, CanServe, IsBounded};
+ghost use Rattle.fronts.specs.Tables.{IsAllowedRow};
+
+use crate::bound::{Bound, RowBound};
+use crate::customer_set::CustomerSet;
+use crate::front::Front;
+use crate::neighbours::LIST_SIZE;
+use crate::task::Task;
+use crate::turns::Turns;
+use solomon_reader::{MOST_CAPACITY, MOST_PRICE, MOST_TIME};
+use std::alloc::AllocError;
+
+/// All prices of the customers of one vehicle together, in grains.
+const MOST_PAID: i64 = MOST_PRICE as i64 * MOST_CAPACITY as i64;
+
+/// What bounds all that may follow from any row at any time.
+fn unknown(task: &Task<'_>) -> Bound
+    ensures { (v t : ℕ) → IsBound task.now.instance.now task.now.region.now task.now.neighbours task.now.prices.now v t result }
+{
+    Bound {
+        room: u32::from(task.instance.capacity()),
+        next: 0,
+        least: -MOST_PAID,
+        other: -MOST_PAID,
+    }
+}
+
+/// What bounds all that may follow from a row at a time, as far as these bounds tell.
+fn bound_at(task: &Task<'_>, turns: &Turns, bounds: &[RowBound], v: u16, time: u64) -> Bound
+    requires { All (IsRowBound task.now.instance.now task.now.region.now task.now.neighbours task.now.prices.now) bounds.now }
+    ensures { IsBound task.now.instance.now task.now.region.now task.now.neighbours task.now.prices.now v time result }
+{
+    let place = turns.place(v, time);
+    if place >= bounds.len() {
+        return unknown(task);
+    }
+    let found = bounds[place];
+    if found.row != v || found.from > time {
+        return unknown(task);
+    }
+    found.bound
+}
+
+/// The lesser of two numbers.
+fn lesser(a: i64, b: i64) -> i64
+    ensures first { result ≤ℤ a }
+    ensures second { result ≤ℤ b }
+    ensures one { (result ≡ a) ⊎ (result ≡ b) }
+{
+    if a <= b { a } else { b }
+}
+
+/// What a step of this cost and what follows on it add, no less than all prices together.
+fn added(cost: i64, least: i64) -> i64
+    requires low { pos 0 ≤ℤ (cost +ℤ pos (most_grains * MOST_CAPACITY)) }
+    requires high { cost ≤ℤ pos (most_grains * MOST_CAPACITY) }
+    requires least { IsCut least }
+    ensures low { pos 0 ≤ℤ (result +ℤ pos most_paid) }
+    ensures high { result ≤ℤ pos (3 * most_paid) }
+    ensures least { IsBelowStep cost least result }
+{
+    let sum = cost + least;
+    if sum >= -MOST_PAID { sum } else { -MOST_PAID }
+}
+
+/// The least that follows on a step from v to j, where these bounds hold from then on. A route that comes
+/// from v goes back there at once only where j's neighbour list doesn't hold v.
+fn least_onward(task: &Task<'_>, on: Bound, v: u16, j: u16, time: u64) -> i64
+    requires on { IsBound task.now.instance.now task.now.region.now task.now.neighbours task.now.prices.now j time on }
+    requires v { v < length task.now.instance.now.rows }
+    requires j { IsCustomer task.now.instance.now j }
+    ensures { IsOnward task.now.instance.now task.now.region.now task.now.neighbours task.now.prices.now v j time result }
+{
+    if on.next != v || task.place(j, v) >= LIST_SIZE {
+        return on.least;
+    }
+    on.other
+}
+
+/// What bounds both what a bound does, and a step to customer j of this load and cost with what follows
+/// on it.
+fn joined(bound: Bound, j: u16, next: &Front, room: u32, least: i64) -> Bound
+    requires bound { IsSmall bound }
+    requires room { room ≤ MOST_CAPACITY }
+    requires least { IsCut least }
+    requires load { next.now.load ≤ MOST_CAPACITY }
+    requires low { pos 0 ≤ℤ (next.now.cost +ℤ pos (most_grains * MOST_CAPACITY)) }
+    requires high { next.now.cost ≤ℤ pos (most_grains * MOST_CAPACITY) }
+    ensures { IsJoined bound j next.now.load next.now.cost room least result }
+{
+    let room = (next.load + room).min(u32::from(MOST_CAPACITY));
+    let room = bound.room.max(room);
+    let value = added(next.cost, least);
+    if value < bound.least {
+        return Bound {
+            room,
+            next: j,
+            least: value,
+            other: bound.least,
+        };
+    }
+    Bound {
+        room,
+        next: bound.next,
+        least: bound.least,
+        other: lesser(bound.other, value),
+    }
+}
+
+/// Whether a front may end, whatever is remembered.
+fn can_end(task: &Task<'_>, front: &Front, rows: &CustomerSet) -> bool
+    requires rows { IsAllowedRow task.now.region.now front.now.last rows.now }
+    requires bounded { IsBounded task.now.instance.now front.now }
+    ensures no { IsFalse result → ¬ CanEnd task.now.instance.now task.now.region.now (bare_state front.now) }
+{
+    rows.contains(0) && front.is_back_in_time(task.instance)
+}
+
+/// Whether a front may go on to a customer, whatever is remembered.
+fn can_go(task: &Task<'_>, front: &Front, rows: &CustomerSet, j: u16) -> bool
+    requires rows { IsAllowedRow task.now.region.now front.now.last rows.now }
+    requires bounded { IsBounded task.now.instance.now front.now }
+    requires j { IsCustomer task.now.instance.now j }
+    ensures yes { IsTrue result → CanServe task.now.instance.now front.now j }
+    ensures no { IsFalse result → ¬ CanStep task.now.instance.now task.now.region.now (bare_state front.now) j }
+{
+    rows.contains(j) && front.can_serve(task.instance, j)
+}
+
+/// What bounds the end at a front.
+fn end_bound(task: &Task<'_>, front: &Front, rows: &CustomerSet) -> Bound
+    requires rows { IsAllowedRow task.now.region.now front.now.last rows.now }
+    requires bounded { IsBounded task.now.instance.now front.now }
+    requires load { front.now.load ≡ 0 }
+    requires cost { front.now.cost ≡ pos 0 }
+    ensures { IsBoundBelow task.now.instance.now task.now.region.now task.now.neighbours task.now.prices.now front.now.last front.now.time 1 result }
+{
+    let mut least = MOST_PAID;
+    if can_end(task, front, rows) {
+        least = lesser(front.end_cost(task.instance), MOST_PAID);
+    }
+    Bound {
+        room: 0,
+        next: 0,
+        least,
+        other: least,
+    }
+}
+
+/// What bounds steps to one more customer, too.
+fn with_step(
+    task: &Task<'_>,
+    turns: &Turns,
+    bounds: &[RowBound],
+    front: &Front,
+    rows: &CustomerSet,
+    j: u16,
+    bound: Bound,
+) -> Bound
+    requires bounds { All (IsRowBound task.now.instance.now task.now.region.now task.now.neighbours task.now.prices.now) bounds.now }
+    requires rows { IsAllowedRow task.now.region.now front.now.last rows.now }
+    requires bounded { IsBounded task.now.instance.now front.now }
+    requires load { front.now.load ≡ 0 }
+    requires cost { front.now.cost ≡ pos 0 }
+    requires j { IsCustomer task.now.instance.now j }
+    requires so_far { IsBoundBelow task.now.instance.now task.now.region.now task.now.neighbours task.now.prices.now front.now.last front.now.time j bound }
+    ensures { IsBoundBelow task.now.instance.now task.now.region.now task.now.neighbours task.now.prices.now front.now.last front.now.time (j + 1) result }
+{
+    if !can_go(task, front, rows, j) {
+        return bound;
+    }
+    let next = front.extend(task.instance, task.prices, j);
+    let on = bound_at(task, turns, bounds, j, next.time);
+    let least = least_onward(task, on, front.last, j, next.time);
+    joined(bound, j, &next, on.room, least)
+}
+
+/// What bounds all that may follow from a row at a time or later.
+fn bound_from(task: &Task<'_>, turns: &Turns, bounds: &[RowBound], v: u16, from: u64) -> Bound
+    requires bounds { All (IsRowBound task.now.instance.now task.now.region.now task.now.neighbours task.now.prices.now) bounds.now }
+    requires v { v < length task.now.instance.now.rows }
+    requires from { from ≤ 20 * MOST_TIME }
+    ensures { IsBound task.now.instance.now task.now.region.now task.now.neighbours task.now.prices.now v from result }
+{
+    let count = task.instance.customer_count();
+    let rows = &task.allowed_rows[usize::from(v)];
+    let front = Front {
+        last: v,
+        time: from,
+        load: 0,
+        cost: 0,
+    };
+    let mut bound = end_bound(task, &front, rows);
+    for j in 1..count + 1 {
+        bound = with_step(task, turns, bounds, &front, rows, j, bound);
+    }
+    bound
+}
+
+/// Puts in the bounds of a customer in a turn, if it has some.
+fn fill_at(task: &Task<'_>, turns: &Turns, bounds: &mut [RowBound], v: u16, turn: u64)
+    requires bounds { All (IsRowBound task.now.instance.now task.now.region.now task.now.neighbours task.now.prices.now) bounds.old }
+    requires v { v < length task.now.instance.now.rows }
+    ensures { All (IsRowBound task.now.instance.now task.now.region.now task.now.neighbours task.now.prices.now) bounds.new }
+{
+    let Some(from) = turns.start(v, turn) else {
+        return;
+    };
+    let bound = bound_from(task, turns, bounds, v, from);
+    let place = turns.place(v, from);
+    if place < bounds.len() {
+        bounds[place] = RowBound {
+            row: v,
+            from,
+            bound,
+        };
+    }
+}
+
+/// Puts in the bounds of all customers in a turn.
+fn fill_turn(task: &Task<'_>, turns: &Turns, bounds: &mut [RowBound], turn: u64)
+    requires { All (IsRowBound task.now.instance.now task.now.region.now task.now.neighbours task.now.prices.now) bounds.old }
+    ensures { All (IsRowBound task.now.instance.now task.now.region.now task.now.neighbours task.now.prices.now) bounds.new }
+{
+    for v in 1..task.instance.customer_count() + 1 {
+        fill_at(task, turns, bounds, v, turn);
+    }
+}
+
+/// Puts in all bounds, those of the last turn first.
+fn fill(task: &Task<'_>, turns: &Turns, bounds: &mut [RowBound])
+    requires { All (IsRowBound task.now.instance.now task.now.region.now task.now.neighbours task.now.prices.now) bounds.old }
+    ensures { All (IsRowBound task.now.instance.now task.now.region.now task.now.neighbours task.now.prices.now) bounds.new }
+{
+    let last = turns.last();
+    for past in 0..last.saturating_add(1) {
+        fill_turn(task, turns, bounds, last.saturating_sub(past));
+    }
+}
+
+/// Bounds on what may follow from each row at each time.
+#[derive(Drop)]
+pub struct Completions<'t, 'i> {
+    /// What they are the bounds of.
+    pub task: &'t Task<'i>,
+    turns: Turns,
+    bounds: Vec<RowBound>,
+    ghost hold: { All (IsRowBound task.now.instance.now task.now.region.now task.now.neighbours task.now.prices.now) bounds.items },
+}
+
+impl<'t, 'i> Completions<'t, 'i> {
+    /// Bounds that hold of anything.
+    pub fn unknown(task: &'t Task<'i>) -> Completions<'t, 'i>
+        ensures { result.task.now ≡ task.now }
+    {
+        Completions {
+            task,
+            turns: Turns::none(task.alloc),
+            bounds: Vec::new(task.alloc),
+        }
+    }
+
+    /// The bounds of a task.
+    pub fn new(task: &'t Task<'i>) -> Result<Completions<'t, 'i>, AllocError>
+        ensures { IfOk result (λ c. c.task.now ≡ task.now) }
+    {
+        let turns = Turns::new(task.alloc, task.instance)?;
+        let nothing = RowBound {
+            row: 0,
+            from: 0,
+            bound: unknown(task),
+        };
+        let mut bounds = vec![in task.alloc; nothing; turns.count()]?;
+        fill(task, &turns, bounds.as_mut_slice());
+        Ok(Completions {
+            task,
+            turns,
+            bounds,
+        })
+    }
+
+    /// What bounds all that may follow from a row at a time, in tenths.
+    pub fn at(&self, v: u16, time: u64) -> Bound
+        ensures { IsBound self.now.task.now.instance.now self.now.task.now.region.now self.now.task.now.neighbours self.now.task.now.prices.now v time result }
+    {
+        bound_at(self.task, &self.turns, self.bounds.as_slice(), v, time)
+    }
+}

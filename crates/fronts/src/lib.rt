@@ -1,0 +1,21 @@
+//! Where a vehicle stands after the first stops of a relaxed route (the ng-routes of Baldacci, Mingozzi
+//! and Roberti), what it remembers, where it may go, and bounds on what may follow.
+#![tactic(auto)]
+
+mod bound;
+mod completions;
+mod customer_set;
+mod front;
+mod memory;
+mod neighbours;
+mod tables;
+mod task;
+mod turns;
+
+pub use bound::{Bound, RowBound};
+pub use completions::Completions;
+pub use customer_set::CustomerSet;
+pub use front::Front;
+pub use memory::Memory;
+pub use neighbours::LIST_SIZE;
+pub use task::Task;

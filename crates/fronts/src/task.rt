@@ -1,0 +1,123 @@
+//! What a labeller works on.
+
+ghost use Rattle.std.specs.Prelude.{◌≡◌, ◌<◌, ◌≤◌, length, IfOk, IsTrue, IsFalse};
+ghost use Rattle.solomon_reader.specs.declared.limits.TheConstants.{MOST_NEIGHBOURS};
+ghost use Rattle.solomon_reader.specs.Problem.{IsCustomer};
+ghost use Rattle.solomon_reader.specs.States.{CanStep};
+ghost use Rattle.fronts.specs.Fronts.{IsTask, IsBounded};
+ghost use Rattle.fronts.specs.Memories.{place_of, state_with, HasPlaces, ArePlaces, IsWholeList, Keeps};
+ghost use Rattle.fronts.specs.Tables.{IsAllowedRow, IsTable};
+ghost use Rattle.fronts.specs.declared.neighbours.TheConstants.{LIST_SIZE};
+
+use crate::customer_set::CustomerSet;
+use crate::front::Front;
+use crate::memory::Memory;
+use crate::neighbours::LIST_SIZE;
+use crate::tables::{all_places, allowed_rows, neighbour_lists};
+use branching::Region;
+use solomon_reader::Instance;
+use std::alloc::{AllocError, Global};
+
+/// What the caller hands in, with the neighbour list of each row, the places of all rows in it, and the
+/// rows to which a route may go from it.
+#[derive(Drop)]
+pub struct Task<'i> {
+    pub alloc: Global,
+    pub instance: &'i Instance,
+    pub region: &'i Region,
+    pub prices: &'i [i64],
+    pub neighbours: u32,
+    pub places: Vec<Vec<u8>>,
+    pub neighbour_lists: Vec<[u16; LIST_SIZE as usize]>,
+    pub allowed_rows: Vec<CustomerSet>,
+    ghost task: { IsTask instance.now region.now prices.now },
+    ghost few: { neighbours < LIST_SIZE },
+    ghost placed: { IsTable (ArePlaces instance.now neighbours) (length instance.now.rows) places.items },
+    ghost near: { IsTable (IsWholeList instance.now neighbours) (length instance.now.rows) neighbour_lists.items },
+    ghost allowed: { IsTable (IsAllowedRow region.now) (length instance.now.rows) allowed_rows.items },
+}
+
+impl<'i> Task<'i> {
+    /// The task of these, with its tables.
+    pub fn new(
+        alloc: Global,
+        instance: &'i Instance,
+        region: &'i Region,
+        prices: &'i [i64],
+        neighbours: u32,
+    ) -> Result<Task<'i>, AllocError>
+        requires task { IsTask instance.now region.now prices.now }
+        requires few { neighbours ≤ MOST_NEIGHBOURS }
+        ensures instance { IfOk result (λ t. t.instance.now ≡ instance.now) }
+        ensures region { IfOk result (λ t. t.region.now ≡ region.now) }
+        ensures prices { IfOk result (λ t. t.prices.now ≡ prices.now) }
+        ensures neighbours { IfOk result (λ t. t.neighbours ≡ neighbours) }
+    {
+        instance.law_of_limits();
+        let places = all_places(alloc, instance, neighbours)?;
+        let neighbour_lists = neighbour_lists(alloc, instance, neighbours, places.as_slice())?;
+        let allowed_rows = allowed_rows(alloc, instance, region)?;
+        Ok(Task {
+            alloc,
+            instance,
+            region,
+            prices,
+            neighbours,
+            places,
+            neighbour_lists,
+            allowed_rows,
+        })
+    }
+
+    /// The place of u in the neighbour list of v.
+    pub(crate) fn place(&self, v: u16, u: u16) -> u8
+        requires v { v < length self.now.instance.now.rows }
+        requires u { u < length self.now.instance.now.rows }
+        ensures { result ≡ place_of self.now.instance.now self.now.neighbours v u }
+    {
+        let places = self.places[usize::from(v)].as_slice();
+        places[usize::from(u)]
+    }
+
+    /// Whether a route may go on from a front to a customer, where this is what it remembers, it may go
+    /// to these rows, and these are the places of the neighbour list of its last stop.
+    pub fn can_step(
+        &self,
+        front: &Front,
+        memory: Memory,
+        rows: &CustomerSet,
+        places: &[u8],
+        j: u16,
+    ) -> bool
+        requires j { IsCustomer self.now.instance.now j }
+        requires rows { IsAllowedRow self.now.region.now front.now.last rows.now }
+        requires places { HasPlaces self.now.instance.now self.now.neighbours front.now.last (length self.now.instance.now.rows) places.now }
+        requires bounded { IsBounded self.now.instance.now front.now }
+        ensures yes { IsTrue result → CanStep self.now.instance.now self.now.region.now (state_with self.now.instance.now self.now.neighbours front.now memory.bits) j }
+        ensures no { IsFalse result → ¬ CanStep self.now.instance.now self.now.region.now (state_with self.now.instance.now self.now.neighbours front.now memory.bits) j }
+    {
+        if !rows.contains(j) {
+            return false;
+        }
+        if memory.contains(places[usize::from(j)]) {
+            return false;
+        }
+        front.can_serve(self.instance, j)
+    }
+
+    /// What is remembered after a stop at v with this memory, and a further one at j.
+    pub fn remember(&self, v: u16, memory: Memory, j: u16) -> Memory
+        requires v { v < length self.now.instance.now.rows }
+        requires j { j < length self.now.instance.now.rows }
+        ensures { Keeps self.now.instance.now self.now.neighbours v memory.bits j result.bits }
+    {
+        let places = self.places[usize::from(v)].as_slice();
+        let list = self.neighbour_lists[usize::from(j)];
+        let mut after = Memory::empty().with_if(0, true);
+        for place in 1..self.neighbours as u8 + 1 {
+            let u = list[usize::from(place)];
+            after = after.with_if(place, memory.contains(places[usize::from(u)]));
+        }
+        after
+    }
+}

@@ -1,6 +1,0 @@
-use Rattle.labelling.specs.Memories.{ArePlaces}
-use Rattle.labelling.specs.Tables.{IsTable}
-use Rattle.labelling.proofs.tables.all_places.Given as goal
-
-abbrev pub invariant-loop-v : goal.invariant-loop-v
-invariant-loop-v l = IsTable (ArePlaces l.instance l.neighbours) l.v l.table.items

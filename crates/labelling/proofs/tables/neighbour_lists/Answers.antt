@@ -1,6 +1,0 @@
-use Rattle.labelling.specs.Memories.{IsWholeList}
-use Rattle.labelling.proofs.Tabled.{table_more}
-use Rattle.labelling.proofs.tables.neighbour_lists.Goals as goal
-
-pub loop-v-preserved : goal.loop-v-preserved
-loop-v-preserved c = rw c.in_ok-push.ensures.items (table_more (IsWholeList c.args.instance.now c.args.neighbours) c.loop-v.v _ c.loop-v.table.items c.loop-v.invariant c.neighbour_list.ensures)

@@ -1,7 +1,0 @@
-use Rattle.branching.specs.Arcs.{pair, Excludes}
-use Rattle.labelling.specs.Tables.{IsNarrowed}
-use Rattle.labelling.proofs.Narrowing.{Firsts}
-use Rattle.labelling.proofs.tables.require_each.Given as goal
-
-abbrev pub invariant-loop-arc : goal.invariant-loop-arc
-invariant-loop-arc l = IsNarrowed (λ b. Firsts (λ a. ¬ Excludes (pair a) b) l.arcs l.arc-index) l.initial.table l.table
