@@ -2,10 +2,13 @@ pub mod NumbersBefore
 pub mod CutStops
 pub mod ExactChanges
 pub mod GainSearching
+pub mod GainRanges
+pub mod BoundRows
+pub mod BoundChanges
 pub mod MoveChanges
 pub mod TwoRoutes
-pub mod Origins
 pub mod Renumbering
-pub mod LastingMarks
-pub mod ShiftedChains
-pub mod KeptMarks
+pub mod LastingBounds
+pub mod SwapBounds
+pub mod PassedRoutes
+pub mod ClosedRoutes

@@ -16,9 +16,8 @@ use Rattle.moves.specs.Order.{kind_of}
 use Rattle.moves.specs.Search.{numbers}
 use Rattle.moves.specs.Changes.{IsChainOf, rebuilt, swapped_within}
 use Rattle.gains.specs.Cuts.{IsCut, joint_of, change_apart, change_within}
-use Rattle.gains.specs.Gains.{first_taken, second_taken, taken_chain, first_chain_of, second_chain_of, IsShift, IsShiftKind, AreShifts}
+use Rattle.gains.specs.Gains.{first_taken, second_taken, taken_chain, first_chain_of, second_chain_of, IsShift, IsShiftKind, AreShifts, Starts}
 use Rattle.moves.proofs.Swaps.{cross_is, two_opt_star_is, exchange_apart_is, or_opt_later_is, or_opt_earlier_is, or_opt_back_is, or_opt_forward_is, position_apart_from}
-use Rattle.gains.proofs.GainSearching.{Starts}
 use Rattle.gains.proofs.ExactChanges.{exact_apart, exact_within}
 
 one_number : (xs ys : List ℕ) (i : ℕ) → xs ≡ ys → get_or xs i 0 ≡ get_or ys i 0

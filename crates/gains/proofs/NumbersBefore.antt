@@ -1,5 +1,5 @@
 -- Moves whose numbers are before a bound, which may be shorter.
-use Rattle.std.proofs.Common.{◌≡◌, refl, ℕ, ◌+◌, ◌<◌, ◌≤◌, List, [], ◌∷◌, ◌++◌, length, ap, arith, ◌⊎◌, inl, inr}
+use Rattle.std.proofs.Common.{◌≡◌, refl, ℕ, ◌+◌, ◌<◌, ◌≤◌, List, [], ◌∷◌, ◌++◌, length, get_or, ap, arith, ◌⊎◌, inl, inr}
 use Rattle.std.specs.Prelude.{ℤ, pos, ◌+ℤ◌}
 use Rattle.std.proofs.lemmas.Int.{ints}
 use Rattle.std.proofs.lemmas.Bool.{cases_lt}
@@ -9,7 +9,8 @@ use Rattle.moves.specs.declared.candidate.Move.{Move}
 use Rattle.moves.specs.declared.candidate.Move.TheVariants.{Relocate, Exchange, OrOpt, TwoOptStar, Cross}
 use Rattle.moves.specs.Values.{HasValue, IsWellFormed, after}
 use Rattle.moves.specs.Order.{AreBefore}
-use Rattle.moves.specs.Search.{numbers, IsNextWithin}
+use Rattle.moves.specs.Search.{numbers, IsNextWithin, IsInRange}
+use Rattle.gains.specs.Gains.{Starts, raised}
 
 -- a move has one value
 pub one_value : (p : Problem) (routes : List (List ℕ)) (n : Move) (u v : ℤ) → HasValue p routes n u → HasValue p routes n v → u ≡ v
@@ -22,11 +23,6 @@ one_value p routes n u v h k =
 pub irreflexive : (xs : List ℕ) → AreBefore xs xs → ⊥
 irreflexive [] h = h
 irreflexive (x ∷ xs) h = elim h [ inl less ↦ omega arith | inr e ↦ irreflexive xs e.1 ]
-
--- the bound x ∷ xs with its last number raised by one
-abbrev pub raised : ℕ → List ℕ → List ℕ
-raised x [] = (x + 1) ∷ []
-raised x (y ∷ ys) = x ∷ raised y ys
 
 pub before_longer : (xs ns : List ℕ) (low : ℕ) → AreBefore ns xs → AreBefore ns (xs ++ low ∷ [])
 before_longer [] ns low h = absurd h
@@ -67,20 +63,80 @@ pub itself_before_next : (x : ℕ) (xs : List ℕ) → AreBefore (x ∷ xs) (rai
 itself_before_next x [] = inl (omega arith)
 itself_before_next x (y ∷ ys) = inr (refl, itself_before_next y ys)
 
-pub before_or_same : (x : ℕ) (xs ns : List ℕ) → length ns ≡ length (x ∷ xs) → AreBefore ns (raised x xs) → AreBefore ns (x ∷ xs) ⊎ (ns ≡ x ∷ xs)
-before_or_same x [] [] e h = absurd h
-before_or_same x (y ∷ ys) [] e h = absurd h
-before_or_same x [] (n ∷ (m ∷ ms)) e h = absurd (omega arith)
-before_or_same x [] (n ∷ []) e h =
+-- what is before the next numbers is before these, or starts with them
+pub before_or_starts : (x : ℕ) (xs ns : List ℕ) → AreBefore ns (raised x xs) → AreBefore ns (x ∷ xs) ⊎ Starts (x ∷ xs) ns
+before_or_starts x [] [] h = absurd h
+before_or_starts x (y ∷ ys) [] h = absurd h
+before_or_starts x [] (n ∷ ns) h =
     elim h [
-      | inl less ↦ elim (cases_lt n x) [ inl lower ↦ inl (inl lower) | inr same ↦ let f : n ≡ x = omega arith in inr (ap (λ z. z ∷ []) f) ]
+      | inl less ↦ elim (cases_lt n x) [ inl lower ↦ inl (inl lower) | inr same ↦ inr (omega arith, tt) ]
       | inr e ↦ absurd e.1
     ]
-before_or_same x (y ∷ ys) (n ∷ ns) e h =
+before_or_starts x (y ∷ ys) (n ∷ ns) h =
     elim h [
       | inl less ↦ inl (inl less)
-      | inr f ↦ elim (before_or_same y ys ns (omega arith) f.1) [ inl b ↦ inl (inr (f.0, b)) | inr g ↦ inr (λ k. f.0 k ∷ g k) ]
+      | inr f ↦ elim (before_or_starts y ys ns f.1) [ inl b ↦ inl (inr (f.0, b)) | inr g ↦ inr (f.0, g) ]
     ]
+
+-- what is before these numbers is before all that starts with them
+pub before_start : (xs ys ns : List ℕ) → AreBefore ys xs → Starts xs ns → AreBefore ys ns
+before_start [] ys ns h s = absurd h
+before_start (x ∷ xs) [] ns h s = absurd h
+before_start (x ∷ xs) (y ∷ ys) [] h s = absurd s
+before_start (x ∷ xs) (y ∷ ys) (n ∷ ns) h s =
+    let e : n ≡ x = s.0 in elim h [ inl less ↦ inl (omega arith) | inr f ↦ let g : y ≡ x = f.0 in inr (omega arith, before_start xs ys ns f.1 s.1) ]
+
+-- as many numbers that start with these are these
+pub starts_same : (xs ns : List ℕ) → length ns ≡ length xs → Starts xs ns → ns ≡ xs
+starts_same [] [] e s = refl
+starts_same [] (n ∷ ns) e s = absurd (omega arith)
+starts_same (x ∷ xs) [] e s = absurd s
+starts_same (x ∷ xs) (n ∷ ns) e s = λ k. s.0 k ∷ starts_same xs ns (omega arith) s.1 k
+
+pub raised_append : (x : ℕ) (xs : List ℕ) (n : ℕ) → raised x (xs ++ n ∷ []) ≡ (x ∷ xs) ++ ((n + 1) ∷ [])
+raised_append x [] n = refl
+raised_append x (y ∷ ys) n = ap (λ zs. x ∷ zs) (raised_append y ys n)
+
+-- no number is earlier than the first
+pub empty_range : (xs : List ℕ) (low high : ℕ) (ns : List ℕ) → IsNextWithin xs low high ns → IsInRange xs 0 low ns → ⊥
+empty_range xs low high [] w h = absurd w
+empty_range [] low high (n ∷ ns) w h = omega (arith, h.1, w.0)
+empty_range (x ∷ xs) low high (n ∷ ns) w h = empty_range xs low high ns (w h.0) h.1
+
+-- a range that is longer by one
+pub longer_range : (xs : List ℕ) (now : ℕ) (ns : List ℕ) → IsInRange xs 0 (now + 1) ns → IsInRange xs 0 now ns ⊎ Starts (xs ++ now ∷ []) ns
+longer_range xs now [] h = absurd h
+longer_range [] now (n ∷ ns) h = let below : n < now + 1 = h.1 in elim (cases_lt n now) [ inl less ↦ inl (h.0, less) | inr past ↦ inr (omega arith, tt) ]
+longer_range (x ∷ xs) now (n ∷ ns) h = elim (longer_range xs now ns h.1) [ inl r ↦ inl (h.0, r) | inr s ↦ inr (h.0, s) ]
+
+-- the whole range
+pub whole_range : (xs : List ℕ) (low high end : ℕ) (ns : List ℕ) → high ≤ end → IsNextWithin xs low high ns → Starts xs ns → IsInRange xs 0 end ns
+whole_range xs low high end [] most w s = absurd w
+whole_range [] low high end (n ∷ ns) most w s = let last : n < high = w.1 in (omega arith, omega arith)
+whole_range (x ∷ xs) low high end (n ∷ ns) most w s = (s.0, whole_range xs low high end ns most (w s.0) s.1)
+
+-- the first three numbers of a move and its second route
+pub starts_into : (n : Move) (a i l b : ℕ) → Starts (a ∷ i ∷ l ∷ []) (numbers n) → get_or (numbers n) 3 0 ≡ b → Starts (a ∷ i ∷ l ∷ b ∷ []) (numbers n)
+starts_into (Relocate f t) a i l b s e = (s.0, (s.1.0, (s.1.1.0, (e, tt))))
+starts_into (Exchange f t) a i l b s e = (s.0, (s.1.0, (s.1.1.0, (e, tt))))
+starts_into (OrOpt c t) a i l b s e = (s.0, (s.1.0, (s.1.1.0, (e, tt))))
+starts_into (TwoOptStar f t) a i l b s e = (s.0, (s.1.0, (s.1.1.0, (e, tt))))
+starts_into (Cross f t) a i l b s e = (s.0, (s.1.0, (s.1.1.0, (e, tt))))
+
+-- the two routes of a move that starts with these numbers
+pub start_routes : (n : Move) (a i l b : ℕ) → Starts (a ∷ i ∷ l ∷ b ∷ []) (numbers n) → (get_or (numbers n) 0 0 ≡ a) × (get_or (numbers n) 3 0 ≡ b)
+start_routes (Relocate f t) a i l b s = (s.0, s.1.1.1.0)
+start_routes (Exchange f t) a i l b s = (s.0, s.1.1.1.0)
+start_routes (OrOpt c t) a i l b s = (s.0, s.1.1.1.0)
+start_routes (TwoOptStar f t) a i l b s = (s.0, s.1.1.1.0)
+start_routes (Cross f t) a i l b s = (s.0, s.1.1.1.0)
+
+pub starts_with : (n : Move) (a : ℕ) → get_or (numbers n) 0 0 ≡ a → Starts (a ∷ []) (numbers n)
+starts_with (Relocate f t) a e = (e, tt)
+starts_with (Exchange f t) a e = (e, tt)
+starts_with (OrOpt c t) a e = (e, tt)
+starts_with (TwoOptStar f t) a e = (e, tt)
+starts_with (Cross f t) a e = (e, tt)
 
 pub none_before : (n : Move) → AreBefore (numbers n) (0 ∷ []) → ⊥
 none_before (Relocate f t) h = grind arith

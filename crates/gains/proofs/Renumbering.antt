@@ -13,7 +13,7 @@ use Rattle.moves.specs.Values.{HasValue, IsWellFormed, after}
 use Rattle.moves.specs.Order.{kind_of}
 use Rattle.moves.specs.Changes.{Rebuilds, rebuilt, swapped, swapped_within}
 use Rattle.moves.proofs.Swaps.{swap_rebuilds, swap_within_rebuilds, cross_is, two_opt_star_is, exchange_apart_is, exchange_within_is, or_opt_later_is, or_opt_earlier_is, or_opt_forward_is, or_opt_back_is, position_apart_to, position_apart_from, position_within_to, position_within_from}
-use Rattle.gains.specs.Marks.{first_route, second_route}
+use Rattle.gains.specs.Bounds.{first_route, second_route}
 use Rattle.gains.proofs.TwoRoutes.{two_routes}
 
 -- the move with its routes under other numbers

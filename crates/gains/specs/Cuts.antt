@@ -1,5 +1,5 @@
 -- What stands round a chain of a route, and what its arcs cost.
-use Rattle.std.specs.Prelude.{◌≡◌, ℕ, ◌+◌, ◌≤◌, List, take, drop, ℤ, pos, ◌-ℤ◌, if◌then◌else◌}
+use Rattle.std.specs.Prelude.{◌≡◌, ℕ, ◌+◌, ◌≤◌, List, length, take, drop, ℤ, pos, ◌-ℤ◌, ◌≤ℤ◌, if◌then◌else◌}
 use Rattle.solomon_reader.specs.Problem.{Problem, customer_count}
 use Rattle.solomon_reader.specs.Distance.{distance}
 use Rattle.solomon_reader.specs.Moves.{has_stop, part}
@@ -13,6 +13,10 @@ pub record IsCut (r : List ℕ) (i l : ℕ) (c : Cut) : Type 0 where
   pub first : c.first ≡ first_of (part r i l)
   pub last : c.last ≡ last_of (part r i l)
   pub behind : c.behind ≡ first_of (drop (i + l) r)
+
+-- what stands round them
+abbrev pub cut_at : List ℕ → ℕ → ℕ → Cut
+cut_at r i l = record { before = last_from 0 (take i r); some = has_stop (part r i l); first = first_of (part r i l); last = last_of (part r i l); behind = first_of (drop (i + l) r) }
 
 -- the stops of a cut are rows of the instance
 pub record IsKnownCut (p : Problem) (c : Cut) : Type 0 where
@@ -39,3 +43,15 @@ abbrev pub change_within : Problem → Cut → Cut → ℤ
 change_within p c d =
     pos (distance p c.before d.first + distance p d.last c.first + distance p c.last d.behind)
     -ℤ pos (distance p c.before c.first + distance p c.last d.first + distance p d.last d.behind)
+
+-- the stops of a route are rows of the instance
+abbrev pub AreKnownCuts : Problem → List ℕ → Type 0
+AreKnownCuts p r = (i l : ℕ) → i + l ≤ length r → IsKnownCut p (cut_at r i l)
+
+-- no swap of the chain c with low to high stops of a route changes the cost by less
+abbrev pub IsLeastSwap : Problem → List ℕ → Cut → ℕ → ℕ → ℤ → Type 0
+IsLeastSwap p r c low high x = (i l : ℕ) → low ≤ l → l ≤ high → i + l ≤ length r → x ≤ℤ change_apart p c (cut_at r i l)
+
+-- the same from one position on
+abbrev pub IsLeastSwapAt : Problem → List ℕ → Cut → ℕ → ℕ → ℕ → ℤ → Type 0
+IsLeastSwapAt p r c low high i x = (l : ℕ) → low ≤ l → l ≤ high → i + l ≤ length r → x ≤ℤ change_apart p c (cut_at r i l)

@@ -1,4 +1,4 @@
 pub mod Cuts
 pub mod Gains
 pub mod TwoRoutes
-pub mod Marks
+pub mod Bounds

@@ -1,14 +1,18 @@
 //! The best move of a kind that makes a plan cheaper.
 
-ghost use Rattle.std.specs.Prelude.{◌≡◌, ◌+◌, [], ◌∷◌, true, slice_index_or};
+ghost use Rattle.std.specs.Prelude.{◌≡◌, [], ◌∷◌};
 ghost use Rattle.solomon_reader.specs.Lists.{lists};
 ghost use Rattle.segments.specs.PlanTrees.{problem_of};
 ghost use Rattle.moves.specs.Trees.{visits_of, AreOfPlan};
 ghost use Rattle.moves.specs.Search.{IsFirstLength};
-ghost use Rattle.gains.specs.Gains.{IsBestGainIfAny, IsBestGainBefore, IsFirstCut, AreOfChanged};
+ghost use Rattle.gains.specs.Gains.{IsBestGainIfAny, IsFirstCut, Searches};
+ghost use Rattle.gains.specs.Bounds.{AreBounds};
 
-use crate::comparing::{first_chain, next_gain};
+use crate::bounds::PairBounds;
+use crate::closing::is_closed;
+use crate::comparing::{first_chain, least_of, next_gain};
 use crate::cuts::{Cut, cut_of};
+use crate::passing::is_no_better;
 use moves::{
     Chain, Kind, Move, first_lengths, first_positions, route_count, second_lengths,
     second_positions, second_routes,
@@ -30,8 +34,7 @@ fn gain_at_position(
     requires routes { lists routes.now ≡ visits_of trees.now }
     requires length { IsFirstLength kind first.now.length }
     requires cut { IsFirstCut (visits_of trees.now) kind first.now cut.now }
-    requires best { IsBestGainBefore (problem_of trees.now) (visits_of trees.now) kind (first.now.route ∷ first.now.position ∷ first.now.length ∷ route ∷ position ∷ []) before }
-    ensures { IsBestGainBefore (problem_of trees.now) (visits_of trees.now) kind (first.now.route ∷ first.now.position ∷ first.now.length ∷ route ∷ (position + 1) ∷ []) result }
+    ensures { Searches (problem_of trees.now) (visits_of trees.now) kind first.now.route (first.now.position ∷ first.now.length ∷ route ∷ position ∷ []) before result }
 {
     let lengths = second_lengths(trees, kind, first, route, position);
     let mut best = before;
@@ -47,7 +50,7 @@ fn gain_at_position(
 }
 
 /// The better of what was found and the gains with these four first numbers.
-fn gain_into_route(
+pub fn gain_into_route(
     trees: &PlanTrees<'_>,
     routes: &[Vec<u16>],
     kind: Kind,
@@ -60,9 +63,11 @@ fn gain_into_route(
     requires routes { lists routes.now ≡ visits_of trees.now }
     requires length { IsFirstLength kind first.now.length }
     requires cut { IsFirstCut (visits_of trees.now) kind first.now cut.now }
-    requires best { IsBestGainBefore (problem_of trees.now) (visits_of trees.now) kind (first.now.route ∷ first.now.position ∷ first.now.length ∷ route ∷ []) before }
-    ensures { IsBestGainBefore (problem_of trees.now) (visits_of trees.now) kind (first.now.route ∷ first.now.position ∷ first.now.length ∷ (route + 1) ∷ []) result }
+    ensures { Searches (problem_of trees.now) (visits_of trees.now) kind first.now.route (first.now.position ∷ first.now.length ∷ route ∷ []) before result }
 {
+    if is_no_better(trees, routes, kind, first, cut, route, before) {
+        return before;
+    }
     let positions = second_positions(trees, kind, first, route);
     let mut best = before;
     for position in positions.start..positions.end {
@@ -71,22 +76,12 @@ fn gain_into_route(
     best
 }
 
-/// Whether a route is marked as changed; each is that has no mark.
-fn is_changed(changed: &[bool], route: u16) -> bool
-    ensures { result ≡ slice_index_or changed.now route true }
-{
-    match changed.get(usize::from(route)) {
-        Some(mark) => *mark,
-        None => true,
-    }
-}
-
 /// The better of what was found and the gains with these four first numbers, which are not looked
-/// for between two unchanged routes.
-fn gain_into_changed(
+/// for where a bound says that none is better.
+fn gain_into_bounded(
     trees: &PlanTrees<'_>,
     routes: &[Vec<u16>],
-    changed: &[bool],
+    bounds: &PairBounds,
     kind: Kind,
     first: &Chain,
     cut: &Cut,
@@ -95,35 +90,31 @@ fn gain_into_changed(
 ) -> Option<(Move, i64)>
     requires plan { AreOfPlan trees.now }
     requires routes { lists routes.now ≡ visits_of trees.now }
-    requires changed { AreOfChanged (problem_of trees.now) (visits_of trees.now) kind changed.now }
+    requires bounds { AreBounds (problem_of trees.now) (visits_of trees.now) kind bounds.now }
     requires length { IsFirstLength kind first.now.length }
     requires cut { IsFirstCut (visits_of trees.now) kind first.now cut.now }
-    requires best { IsBestGainBefore (problem_of trees.now) (visits_of trees.now) kind (first.now.route ∷ first.now.position ∷ first.now.length ∷ route ∷ []) before }
-    ensures { IsBestGainBefore (problem_of trees.now) (visits_of trees.now) kind (first.now.route ∷ first.now.position ∷ first.now.length ∷ (route + 1) ∷ []) result }
+    ensures { Searches (problem_of trees.now) (visits_of trees.now) kind first.now.route (first.now.position ∷ first.now.length ∷ route ∷ []) before result }
 {
-    let from = is_changed(changed, first.route);
-    let into = is_changed(changed, route);
-    if !from && !into {
-        return before;
+    match bounds.at(first.route, route) {
+        Some(bound) if bound >= least_of(before) => before,
+        _ => gain_into_route(trees, routes, kind, first, cut, route, before),
     }
-    gain_into_route(trees, routes, kind, first, cut, route, before)
 }
 
 /// The better of what was found and the gains with this first chain.
 fn gain_of_chain(
     trees: &PlanTrees<'_>,
     routes: &[Vec<u16>],
-    changed: &[bool],
+    bounds: &PairBounds,
     kind: Kind,
     first: &Chain,
     before: Option<(Move, i64)>,
 ) -> Option<(Move, i64)>
     requires plan { AreOfPlan trees.now }
     requires routes { lists routes.now ≡ visits_of trees.now }
-    requires changed { AreOfChanged (problem_of trees.now) (visits_of trees.now) kind changed.now }
+    requires bounds { AreBounds (problem_of trees.now) (visits_of trees.now) kind bounds.now }
     requires length { IsFirstLength kind first.now.length }
-    requires best { IsBestGainBefore (problem_of trees.now) (visits_of trees.now) kind (first.now.route ∷ first.now.position ∷ first.now.length ∷ []) before }
-    ensures { IsBestGainBefore (problem_of trees.now) (visits_of trees.now) kind (first.now.route ∷ first.now.position ∷ (first.now.length + 1) ∷ []) result }
+    ensures { Searches (problem_of trees.now) (visits_of trees.now) kind first.now.route (first.now.position ∷ first.now.length ∷ []) before result }
 {
     let Some(cut) = cut_of(routes, first_chain(trees, kind, *first)) else {
         return before;
@@ -131,7 +122,7 @@ fn gain_of_chain(
     let others = second_routes(trees, kind, first);
     let mut best = before;
     for route in others.start..others.end {
-        best = gain_into_changed(trees, routes, changed, kind, first, &cut, route, best);
+        best = gain_into_bounded(trees, routes, bounds, kind, first, &cut, route, best);
     }
     best
 }
@@ -140,7 +131,7 @@ fn gain_of_chain(
 fn gain_from_position(
     trees: &PlanTrees<'_>,
     routes: &[Vec<u16>],
-    changed: &[bool],
+    bounds: &PairBounds,
     kind: Kind,
     route: u16,
     position: u16,
@@ -148,9 +139,8 @@ fn gain_from_position(
 ) -> Option<(Move, i64)>
     requires plan { AreOfPlan trees.now }
     requires routes { lists routes.now ≡ visits_of trees.now }
-    requires changed { AreOfChanged (problem_of trees.now) (visits_of trees.now) kind changed.now }
-    requires best { IsBestGainBefore (problem_of trees.now) (visits_of trees.now) kind (route ∷ position ∷ []) before }
-    ensures { IsBestGainBefore (problem_of trees.now) (visits_of trees.now) kind (route ∷ (position + 1) ∷ []) result }
+    requires bounds { AreBounds (problem_of trees.now) (visits_of trees.now) kind bounds.now }
+    ensures { Searches (problem_of trees.now) (visits_of trees.now) kind route (position ∷ []) before result }
 {
     let lengths = first_lengths(trees, kind, route, position);
     let mut best = before;
@@ -160,7 +150,7 @@ fn gain_from_position(
             position,
             length,
         };
-        best = gain_of_chain(trees, routes, changed, kind, &first, best);
+        best = gain_of_chain(trees, routes, bounds, kind, &first, best);
     }
     best
 }
@@ -169,43 +159,44 @@ fn gain_from_position(
 fn gain_from_route(
     trees: &PlanTrees<'_>,
     routes: &[Vec<u16>],
-    changed: &[bool],
+    bounds: &PairBounds,
     kind: Kind,
     route: u16,
     before: Option<(Move, i64)>,
 ) -> Option<(Move, i64)>
     requires plan { AreOfPlan trees.now }
     requires routes { lists routes.now ≡ visits_of trees.now }
-    requires changed { AreOfChanged (problem_of trees.now) (visits_of trees.now) kind changed.now }
-    requires best { IsBestGainBefore (problem_of trees.now) (visits_of trees.now) kind (route ∷ []) before }
-    ensures { IsBestGainBefore (problem_of trees.now) (visits_of trees.now) kind ((route + 1) ∷ []) result }
+    requires bounds { AreBounds (problem_of trees.now) (visits_of trees.now) kind bounds.now }
+    ensures { Searches (problem_of trees.now) (visits_of trees.now) kind route [] before result }
 {
+    if is_closed(trees, bounds, kind, route, before) {
+        return before;
+    }
     let positions = first_positions(trees, kind, route);
     let mut best = before;
     for position in positions.start..positions.end {
-        best = gain_from_position(trees, routes, changed, kind, route, position, best);
+        best = gain_from_position(trees, routes, bounds, kind, route, position, best);
     }
     best
 }
 
 /// The best move of a kind where it makes the plan cheaper, with its value in tenths, and of several
-/// the first; `None` where no move of the kind does. The routes are those of the trees. Between two
-/// routes that aren't marked as changed no move of the kind may be a gain; a route without a mark is
-/// taken as changed. It takes no memory.
+/// the first; `None` where no move of the kind does. The routes are those of the trees. Two routes are
+/// passed over whose bound is no better than what was found. It takes no memory.
 pub fn best_gain(
     trees: &PlanTrees<'_>,
     routes: &[Vec<u16>],
-    changed: &[bool],
+    bounds: &PairBounds,
     kind: Kind,
 ) -> Option<(Move, i64)>
     requires plan { AreOfPlan trees.now }
     requires routes { lists routes.now ≡ visits_of trees.now }
-    requires changed { AreOfChanged (problem_of trees.now) (visits_of trees.now) kind changed.now }
+    requires bounds { AreBounds (problem_of trees.now) (visits_of trees.now) kind bounds.now }
     ensures { IsBestGainIfAny (problem_of trees.now) (visits_of trees.now) kind result }
 {
     let mut best = None;
     for route in 0..route_count(trees) {
-        best = gain_from_route(trees, routes, changed, kind, route, best);
+        best = gain_from_route(trees, routes, bounds, kind, route, best);
     }
     best
 }

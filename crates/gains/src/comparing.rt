@@ -5,14 +5,14 @@ ghost use Rattle.solomon_reader.specs.Lists.{lists};
 ghost use Rattle.segments.specs.PlanTrees.{problem_of};
 ghost use Rattle.moves.specs.Trees.{visits_of, AreOfPlan};
 ghost use Rattle.moves.specs.Search.{IsFirstLength, IsSecondLength};
-ghost use Rattle.gains.specs.Gains.{IsBestGainBefore, least_of, first_taken, second_taken, taken_chain, IsFirstCut, IsShiftKind, AreShifts};
+ghost use Rattle.gains.specs.Gains.{Searches, least_of, first_taken, second_taken, taken_chain, IsFirstCut, IsShiftKind, AreShifts};
 
 use crate::cuts::{Cut, change_apart, change_within, cut_of};
 use moves::{Chain, Kind, Move, candidate_of, stop_count, value};
 use segments::PlanTrees;
 
 /// What the next gain has to be below, in tenths.
-fn least_of(best: Option<(Move, i64)>) -> i64
+pub fn least_of(best: Option<(Move, i64)>) -> i64
     ensures { result ≡ least_of best }
 {
     match best {
@@ -48,7 +48,7 @@ fn second_chain(trees: &PlanTrees<'_>, kind: Kind, second: Chain) -> Chain
     Chain { length, ..second }
 }
 
-/// The better of what was found and a later move, where that is a gain.
+/// The better of what was found and a move, where that is a gain.
 fn better_gain(
     trees: &PlanTrees<'_>,
     kind: Kind,
@@ -59,8 +59,7 @@ fn better_gain(
     requires plan { AreOfPlan trees.now }
     requires first { IsFirstLength kind first.now.length }
     requires second { IsSecondLength kind second.now.length }
-    requires best { IsBestGainBefore (problem_of trees.now) (visits_of trees.now) kind (first.now.route ∷ first.now.position ∷ first.now.length ∷ second.now.route ∷ second.now.position ∷ second.now.length ∷ []) before }
-    ensures { IsBestGainBefore (problem_of trees.now) (visits_of trees.now) kind (first.now.route ∷ first.now.position ∷ first.now.length ∷ second.now.route ∷ second.now.position ∷ (second.now.length + 1) ∷ []) result }
+    ensures { Searches (problem_of trees.now) (visits_of trees.now) kind first.now.route (first.now.position ∷ first.now.length ∷ second.now.route ∷ second.now.position ∷ second.now.length ∷ []) before result }
 {
     let candidate = candidate_of(kind, first, second);
     match value(trees, &candidate) {
@@ -86,8 +85,7 @@ fn better_apart(
     requires second { IsSecondLength kind second.now.length }
     requires cut { IsFirstCut (visits_of trees.now) kind first.now cut.now }
     requires apart { first.now.route ≢ second.now.route }
-    requires best { IsBestGainBefore (problem_of trees.now) (visits_of trees.now) kind (first.now.route ∷ first.now.position ∷ first.now.length ∷ second.now.route ∷ second.now.position ∷ second.now.length ∷ []) before }
-    ensures { IsBestGainBefore (problem_of trees.now) (visits_of trees.now) kind (first.now.route ∷ first.now.position ∷ first.now.length ∷ second.now.route ∷ second.now.position ∷ (second.now.length + 1) ∷ []) result }
+    ensures { Searches (problem_of trees.now) (visits_of trees.now) kind first.now.route (first.now.position ∷ first.now.length ∷ second.now.route ∷ second.now.position ∷ second.now.length ∷ []) before result }
 {
     let taken = second_chain(trees, kind, *second);
     let Some(other) = cut_of(routes, taken) else {
@@ -116,8 +114,7 @@ fn better_shift(
     requires first { IsFirstLength kind first.now.length }
     requires second { IsSecondLength kind second.now.length }
     requires shifts { AreShifts (problem_of trees.now) (visits_of trees.now) kind first.now second.now front rear }
-    requires best { IsBestGainBefore (problem_of trees.now) (visits_of trees.now) kind (first.now.route ∷ first.now.position ∷ first.now.length ∷ second.now.route ∷ second.now.position ∷ second.now.length ∷ []) before }
-    ensures { IsBestGainBefore (problem_of trees.now) (visits_of trees.now) kind (first.now.route ∷ first.now.position ∷ first.now.length ∷ second.now.route ∷ second.now.position ∷ (second.now.length + 1) ∷ []) result }
+    ensures { Searches (problem_of trees.now) (visits_of trees.now) kind first.now.route (first.now.position ∷ first.now.length ∷ second.now.route ∷ second.now.position ∷ second.now.length ∷ []) before result }
 {
     let Some(one) = cut_of(routes, front) else {
         return better_gain(trees, kind, first, second, before);
@@ -157,8 +154,7 @@ fn better_within(
     requires first { IsFirstLength kind first.now.length }
     requires second { IsSecondLength kind second.now.length }
     requires within { first.now.route ≡ second.now.route }
-    requires best { IsBestGainBefore (problem_of trees.now) (visits_of trees.now) kind (first.now.route ∷ first.now.position ∷ first.now.length ∷ second.now.route ∷ second.now.position ∷ second.now.length ∷ []) before }
-    ensures { IsBestGainBefore (problem_of trees.now) (visits_of trees.now) kind (first.now.route ∷ first.now.position ∷ first.now.length ∷ second.now.route ∷ second.now.position ∷ (second.now.length + 1) ∷ []) result }
+    ensures { Searches (problem_of trees.now) (visits_of trees.now) kind first.now.route (first.now.position ∷ first.now.length ∷ second.now.route ∷ second.now.position ∷ second.now.length ∷ []) before result }
 {
     let chain = first_chain(trees, kind, *first);
     let shifts = is_shift(kind);
@@ -184,7 +180,7 @@ fn better_within(
     better_gain(trees, kind, first, second, before)
 }
 
-/// The better of what was found and a later move, where that is a gain.
+/// The better of what was found and a move, where that is a gain.
 pub fn next_gain(
     trees: &PlanTrees<'_>,
     routes: &[Vec<u16>],
@@ -199,8 +195,7 @@ pub fn next_gain(
     requires first { IsFirstLength kind first.now.length }
     requires second { IsSecondLength kind second.now.length }
     requires cut { IsFirstCut (visits_of trees.now) kind first.now cut.now }
-    requires best { IsBestGainBefore (problem_of trees.now) (visits_of trees.now) kind (first.now.route ∷ first.now.position ∷ first.now.length ∷ second.now.route ∷ second.now.position ∷ second.now.length ∷ []) before }
-    ensures { IsBestGainBefore (problem_of trees.now) (visits_of trees.now) kind (first.now.route ∷ first.now.position ∷ first.now.length ∷ second.now.route ∷ second.now.position ∷ (second.now.length + 1) ∷ []) result }
+    ensures { Searches (problem_of trees.now) (visits_of trees.now) kind first.now.route (first.now.position ∷ first.now.length ∷ second.now.route ∷ second.now.position ∷ second.now.length ∷ []) before result }
 {
     if first.route == second.route {
         return better_within(trees, routes, kind, first, second, before);

@@ -8,7 +8,7 @@ ghost use Rattle.solomon_reader.specs.Moves.{route};
 ghost use Rattle.solomon_reader.specs.declared.limits.TheConstants.{MOST_DISTANCE};
 ghost use Rattle.segments.specs.Segments.{last_from};
 ghost use Rattle.moves.specs.Changes.{IsChainOf};
-ghost use Rattle.gains.specs.Cuts.{IsCut, IsKnownCut, joint_of, change_apart, change_within};
+ghost use Rattle.gains.specs.Cuts.{IsCut, IsKnownCut, joint_of, change_apart, change_within, AreKnownCuts, IsLeastSwap, IsLeastSwapAt};
 
 use moves::Chain;
 use solomon_reader::Instance;
@@ -116,6 +116,87 @@ pub fn change_apart(instance: &Instance, one: &Cut, other: &Cut) -> i64
     let old = joint(instance, one.before, one, one.behind)
         + joint(instance, other.before, other, other.behind);
     new - old
+}
+
+/// By how much the cost changes where two chains of two routes change places, in tenths, from the arcs
+/// round the first and the arc past it.
+fn change_from(instance: &Instance, one: &Cut, other: &Cut, arcs: i64, past: i64) -> i64
+    requires one { IsKnownCut instance.now one.now }
+    requires other { IsKnownCut instance.now other.now }
+    requires arcs { arcs ≡ pos (joint_of instance.now one.now.before one.now one.now.behind) }
+    requires past { past ≡ pos (distance instance.now one.now.before one.now.behind) }
+    requires few_arcs { arcs ≤ℤ pos (2 * MOST_DISTANCE) }
+    requires few_past { past ≤ℤ pos (2 * MOST_DISTANCE) }
+    ensures { result ≡ change_apart instance.now one.now other.now }
+{
+    let first = if other.some {
+        joint(instance, one.before, other, one.behind)
+    } else {
+        past
+    };
+    let new = first + joint(instance, other.before, one, other.behind);
+    let old = arcs + joint(instance, other.before, other, other.behind);
+    new - old
+}
+
+/// The lesser of two numbers.
+fn lesser(one: i64, other: i64) -> i64
+    ensures one { result ≤ℤ one }
+    ensures other { result ≤ℤ other }
+{
+    if other < one { other } else { one }
+}
+
+/// The least of what swaps of a chain with some stops of a route from a position on change of the cost,
+/// or what was found before, if that is less.
+fn least_swap_at(
+    instance: &Instance,
+    stops: &[u16],
+    position: usize,
+    chain: &Cut,
+    low: usize,
+    high: usize,
+    arcs: i64,
+    past: i64,
+    before: i64,
+) -> i64
+    requires arcs { arcs ≡ pos (joint_of instance.now chain.now.before chain.now chain.now.behind) }
+    requires past { past ≡ pos (distance instance.now chain.now.before chain.now.behind) }
+    requires few_arcs { arcs ≤ℤ pos (2 * MOST_DISTANCE) }
+    requires few_past { past ≤ℤ pos (2 * MOST_DISTANCE) }
+    requires chain { IsKnownCut instance.now chain.now }
+    requires stops { AreKnownCuts instance.now stops.now }
+    requires position { position ≤ length stops.now }
+    requires few { high ≤ 3 }
+    ensures lower { result ≤ℤ before }
+    ensures least { IsLeastSwapAt instance.now stops.now chain.now low high position result }
+{
+    let most = high.min(stops.len() - position);
+    let mut least = before;
+    for count in low..most + 1 {
+        let other = cut_of_stops(stops, position, count);
+        least = lesser(least, change_from(instance, chain, &other, arcs, past));
+    }
+    least
+}
+
+/// A number of tenths, at most 0: no swap of a chain with some stops of a route changes the cost by
+/// less.
+pub fn least_swap(instance: &Instance, stops: &[u16], chain: &Cut, low: usize, high: usize) -> i64
+    requires chain { IsKnownCut instance.now chain.now }
+    requires stops { AreKnownCuts instance.now stops.now }
+    requires few { high ≤ 3 }
+    ensures { IsLeastSwap instance.now stops.now chain.now low high result }
+{
+    let arcs = joint(instance, chain.before, chain, chain.behind);
+    let past = arc(instance, chain.before, chain.behind);
+    let mut least = 0;
+    for position in 0..stops.len() + 1 {
+        least = least_swap_at(
+            instance, stops, position, chain, low, high, arcs, past, least,
+        );
+    }
+    least
 }
 
 /// The cost of an arc, in tenths.

@@ -14,13 +14,13 @@ use std::time::Instant;
 
 /// The best value of a kind of moves, if there is one, and the microseconds to find it.
 #[derive(Clone, Copy)]
-struct Found {
+pub(crate) struct Found {
     value: Option<i64>,
-    micros: u128,
+    pub(crate) micros: u128,
 }
 
 /// The best value of a kind, found in one thread, with the least microseconds of so many runs.
-fn found_alone<R: Runtime>(
+pub(crate) fn found_alone<R: Runtime>(
     rt: &R,
     trees: &PlanTrees<'_>,
     kind: Kind,
@@ -42,7 +42,7 @@ fn found_alone<R: Runtime>(
 }
 
 /// The same in several threads; where memory is refused, with no value.
-fn found_in_parallel<R: Runtime + AllocGlobal + Threads + Sync>(
+pub(crate) fn found_in_parallel<R: Runtime + AllocGlobal + Threads + Sync>(
     rt: &R,
     trees: &PlanTrees<'_>,
     kind: Kind,

@@ -1,13 +1,14 @@
 //! Small programs for the benchmark. Words: `labels` with an instance's file, a certificate's and the most
 //! labels, `ascent` with an instance's file and the number of neighbours, `book` with an instance's file
-//! and the number of leaves, `bests` with an instance's file and the number of runs, or `turns` with an
-//! instance's file and the number of turns; behind them `times` where the times are to be printed, too. More
+//! and the number of leaves, `bests` with an instance's file and the number of runs, or `turns` or `descents`
+//! with an instance's file and the number of turns; behind them `times` where the times are to be printed, too. More
 //! such words may follow. The status is 2 where the words or the files are not such.
 #![tactic(auto)]
 
 mod ascents;
 mod bests;
 mod books;
+mod descents;
 mod filling;
 mod labels;
 mod starts;
@@ -17,6 +18,7 @@ mod turns;
 use crate::ascents::tell_ascents;
 use crate::bests::tell_bests;
 use crate::books::tell_book;
+use crate::descents::tell_descents;
 use crate::labels::tell_labels;
 use crate::turns::tell_turns;
 use solomon_reader::Instance;
@@ -71,6 +73,7 @@ fn tell<R: Runtime + AllocGlobal + Threads + Sync>(
         "ascent" => tell_ascents(rt, &instance, number, times)?,
         "bests" => tell_bests(rt, &instance, number, times)?,
         "book" => tell_book(rt, &instance, number, times)?,
+        "descents" => tell_descents(rt, &instance, number, times)?,
         "turns" => tell_turns(rt, &instance, number, times)?,
         _ => return tell_labels_at(rt, &instance, words[2].as_str(), number as usize, times),
     }
@@ -81,7 +84,7 @@ fn tell<R: Runtime + AllocGlobal + Threads + Sync>(
 fn count_of(mode: &str) -> Option<usize> {
     match mode {
         "labels" => Some(4),
-        "ascent" | "bests" | "book" | "turns" => Some(3),
+        "ascent" | "bests" | "book" | "descents" | "turns" => Some(3),
         _ => None,
     }
 }

@@ -18,10 +18,10 @@ const RUNS: u32 = 5;
 /// The seed of the random words.
 const SEED: u64 = 1;
 
-type PlanSearcher<'i> = Searcher<'i, Xoshiro256PlusPlus>;
+pub(crate) type PlanSearcher<'i> = Searcher<'i, Xoshiro256PlusPlus>;
 
 /// That memory was refused.
-fn refused(_fault: SearchFault) -> io::Error {
+pub(crate) fn refused(_fault: SearchFault) -> io::Error {
     io::Error::from(io::ErrorKind::OutOfMemory)
 }
 
@@ -35,7 +35,7 @@ fn searcher_of<'i>(alloc: Global, plan: &Feasible<'i>) -> io::Result<PlanSearche
 }
 
 /// A searcher that has descended from the plan, and the least microseconds of some descents.
-fn descend_alone<'i, R: Runtime + AllocGlobal>(
+pub(crate) fn descend_alone<'i, R: Runtime + AllocGlobal>(
     rt: &R,
     plan: &Feasible<'i>,
 ) -> io::Result<(PlanSearcher<'i>, u128)> {

@@ -1,4 +1,5 @@
 pub mod TreeChanges
 pub mod KeptRoutes
 pub mod AppliedMoves
-pub mod MoreMarks
+pub mod BoundKinds
+pub mod KeptNumbers

@@ -2,7 +2,7 @@
 #![tactic(auto)]
 
 mod gaining;
-mod kind_marks;
+mod kind_bounds;
 mod plan;
 mod replacing;
 mod tree_plan;

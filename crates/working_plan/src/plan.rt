@@ -7,7 +7,7 @@ ghost use Rattle.moves.specs.Values.{after, HasValue, IsValue};
 ghost use Rattle.moves.specs.declared.fault.MoveFault.TheVariants.{NotFeasible};
 ghost use Rattle.working_plan.specs.Gains.{HasNoGain, IsBestGain};
 
-use crate::kind_marks::KindMarks;
+use crate::kind_bounds::KindBounds;
 use crate::tree_plan::TreePlan;
 use moves::{Kind, Move, MoveFault};
 use schedule::Feasible;
@@ -20,20 +20,19 @@ use tenths::Tenths;
 /// the routes as lists and the cost.
 #[derive(Drop)]
 pub struct WorkingPlan<'i> {
-    alloc: Global,
     plan: TreePlan<'i>,
-    marks: KindMarks,
+    bounds: KindBounds,
 }
 
 impl<'i> Model for WorkingPlan<'i> {
     ghost use Rattle.schedule.specs.Solution.{Solution};
-    ghost use Rattle.working_plan.specs.KindMarks.{AreOfEachKind};
+    ghost use Rattle.working_plan.specs.KindBounds.{AreOfEachKind};
 
     ghost Value = { Solution };
 
     ghost view = { λ w. w.plan };
 
-    ghost invariant = { λ w. AreOfEachKind w.plan.problem w.plan.routes w.marks };
+    ghost invariant = { λ w. AreOfEachKind w.plan.problem w.plan.routes w.bounds };
 }
 
 impl<'i> WorkingPlan<'i> {
@@ -41,9 +40,9 @@ impl<'i> WorkingPlan<'i> {
     pub fn new(alloc: Global, plan: &Feasible<'i>) -> Result<WorkingPlan<'i>, AllocError>
         ensures { IfOk result (λ w. w ≡ plan.now) }
     {
-        let marks = KindMarks::all(alloc, plan.routes().len())?;
+        let bounds = KindBounds::new(alloc, plan.routes().len());
         let plan = TreePlan::new(alloc, plan)?;
-        Ok(WorkingPlan { alloc, plan, marks })
+        Ok(WorkingPlan { plan, bounds })
     }
 
     /// A copy, unless memory runs out.
@@ -51,9 +50,8 @@ impl<'i> WorkingPlan<'i> {
         ensures { IfOk result (λ w. w ≡ self.now) }
     {
         Ok(WorkingPlan {
-            alloc: self.alloc,
             plan: self.plan.try_clone()?,
-            marks: self.marks.try_clone()?,
+            bounds: self.bounds.try_clone()?,
         })
     }
 
@@ -109,10 +107,10 @@ impl<'i> WorkingPlan<'i> {
         ensures unchanged { OnErr result (self.new ≡ self.old) }
         ensures refused { IfErr result (λ e. e ≡ NotFeasible → (v : ℤ) → ¬ HasValue self.old.problem self.old.routes candidate.now v) }
     {
-        let marks = self.marks.after(self.alloc, self.plan.routes(), candidate)?;
-        let _cost = self.plan.cost();
-        self.plan.apply(candidate)?;
-        self.marks = marks;
+        let _old = self.plan.cost();
+        let replaced = self.plan.apply(candidate)?;
+        let _new = self.plan.cost();
+        self.bounds.follow(&replaced, self.plan.routes().len());
         Ok(())
     }
 
@@ -123,10 +121,7 @@ impl<'i> WorkingPlan<'i> {
         ensures gain { IfSome result (λ m. IsBestGain self.old.problem self.old.routes kind m) }
         ensures none { IfNone result (HasNoGain self.old.problem self.old.routes kind) }
     {
-        let gain = self.plan.best_gain(self.marks.of(kind), kind);
-        if gain.is_none() {
-            self.marks.clear(kind);
-        }
-        gain
+        self.bounds.refresh(&self.plan, kind);
+        self.plan.best_gain(self.bounds.of(kind), kind)
     }
 }

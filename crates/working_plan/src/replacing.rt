@@ -11,8 +11,10 @@ ghost use Rattle.segments.specs.Trees.{items_of, IsTree};
 ghost use Rattle.segments.specs.PlanTrees.{problem_of, routes_of, AreTrees};
 ghost use Rattle.moves.specs.Trees.{visits_of, AreOfPlan};
 ghost use Rattle.moves.specs.Changes.{IsChainOf, joined, changed};
+ghost use Rattle.gains.specs.Bounds.{IsReplaced};
 ghost use Rattle.working_plan.specs.Replacing.{AreTreesOf, KeepsRoutes};
 
+use gains::Replaced;
 use moves::{Change, has_stop, visits_of_chains};
 use segments::{PlanTrees, RouteTree, Segment};
 use solomon_reader::Instance;
@@ -79,6 +81,23 @@ pub fn keeps_routes(trees: &PlanTrees<'_>, change: &Change) -> bool
     let second = has_stop(trees, change.second.chains.as_slice());
     let old_second = usize::from(change.second.route) < trees.count();
     first && second == old_second
+}
+
+/// The two routes that a change of a plan replaces.
+pub fn replaced_by(trees: &PlanTrees<'_>, change: &Change) -> Replaced
+    requires plan { AreOfPlan trees.now }
+    requires first { AllByRecursion (IsChainOf (visits_of trees.now)) change.now.first.chains.items }
+    requires second { AllByRecursion (IsChainOf (visits_of trees.now)) change.now.second.chains.items }
+    requires order { change.now.first.route < change.now.second.route }
+    requires known { change.now.second.route ≤ length (visits_of trees.now) }
+    ensures { IsReplaced (visits_of trees.now) (kept (changed (visits_of trees.now) change.now)) result }
+{
+    Replaced {
+        first: change.first.route,
+        first_goes: !has_stop(trees, change.first.chains.as_slice()),
+        second: change.second.route,
+        second_goes: !has_stop(trees, change.second.chains.as_slice()),
+    }
 }
 
 /// Changes a plan's routes in place, where no route goes and none comes; at `Err` nothing is changed.

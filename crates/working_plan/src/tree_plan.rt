@@ -9,11 +9,12 @@ ghost use Rattle.schedule.specs.Solution.{IsSolution};
 ghost use Rattle.moves.specs.Values.{after, HasValue, IsValue};
 ghost use Rattle.moves.specs.Changes.{IsChainOf, changed};
 ghost use Rattle.moves.specs.declared.fault.MoveFault.TheVariants.{NotFeasible};
-ghost use Rattle.gains.specs.Gains.{AreOfChanged};
+ghost use Rattle.gains.specs.Bounds.{AreBounds, IsReplaced};
 ghost use Rattle.working_plan.specs.Gains.{HasNoGain, IsBestGain};
 
 use crate::gaining::gain_of_kind;
-use crate::replacing::{keeps_routes, replace};
+use crate::replacing::{keeps_routes, replace, replaced_by};
+use gains::{PairBounds, Replaced, refresh};
 use moves::{Change, Kind, Move, MoveFault, change_of, routes_after, trees_of, value};
 use schedule::Feasible;
 use segments::PlanTrees;
@@ -173,8 +174,10 @@ impl<'i> TreePlan<'i> {
         value(&self.trees, candidate)
     }
 
-    /// Makes a move: `NotFeasible` exactly where it has no value, and `Memory`; the plan stays then.
-    pub fn apply(&mut self, candidate: &Move) -> Result<(), MoveFault>
+    /// Makes a move, and answers which routes it replaced: `NotFeasible` exactly where it has no value,
+    /// and `Memory`; the plan stays then.
+    pub fn apply(&mut self, candidate: &Move) -> Result<Replaced, MoveFault>
+        ensures replaced { IfOk result (λ r. IsReplaced self.old.routes self.new.routes r) }
         ensures problem { self.new.problem ≡ self.old.problem }
         ensures routes { OnOk result (self.new.routes ≡ after self.old.routes candidate.now) }
         ensures value { OnOk result (HasValue self.old.problem self.old.routes candidate.now (pos self.new.cost -ℤ pos self.old.cost)) }
@@ -187,6 +190,7 @@ impl<'i> TreePlan<'i> {
         let Some(change) = change_of(&self.trees, candidate) else {
             return Err(MoveFault::NotFeasible);
         };
+        let replaced = replaced_by(&self.trees, &change);
         match cost_after(self.cost, by) {
             Some(cost) if keeps_routes(&self.trees, &change) => {
                 replace(self.alloc, &mut self.routes, &mut self.trees, &change)?;
@@ -197,16 +201,24 @@ impl<'i> TreePlan<'i> {
                 *self = remade(self.alloc, instance, self.routes.as_slice(), &change)?;
             }
         }
-        Ok(())
+        Ok(replaced)
+    }
+
+    /// Finds the bounds of the moves of a kind, where they aren't known. It takes no memory.
+    pub fn refresh(&self, bounds: &mut PairBounds, kind: Kind)
+        requires { AreBounds self.now.problem self.now.routes kind bounds.old }
+        ensures { AreBounds self.now.problem self.now.routes kind bounds.new }
+    {
+        refresh(bounds, &self.trees, self.routes.as_slice(), kind);
     }
 
     /// The best move of a kind where it makes the plan cheaper, or `None` where no move of the kind
-    /// does. Each gain of the kind has a changed route. It takes no memory.
-    pub fn best_gain(&self, changed: &[bool], kind: Kind) -> Option<Move>
-        requires { AreOfChanged self.now.problem self.now.routes kind changed.now }
+    /// does. It takes no memory.
+    pub fn best_gain(&self, bounds: &PairBounds, kind: Kind) -> Option<Move>
+        requires { AreBounds self.now.problem self.now.routes kind bounds.now }
         ensures gain { IfSome result (λ m. IsBestGain self.now.problem self.now.routes kind m) }
         ensures none { IfNone result (HasNoGain self.now.problem self.now.routes kind) }
     {
-        gain_of_kind(&self.trees, self.routes.as_slice(), changed, kind)
+        gain_of_kind(&self.trees, self.routes.as_slice(), bounds, kind)
     }
 }

@@ -1,17 +1,21 @@
 use Rattle.std.proofs.Common.{[], ◌∷◌}
 use Rattle.segments.specs.PlanTrees.{problem_of}
 use Rattle.moves.specs.Trees.{visits_of}
-use Rattle.gains.proofs.GainSearching.{at_start, at_end}
+use Rattle.gains.proofs.GainRanges.{range_start, range_next, range_end}
 use Rattle.gains.proofs.choosing.gain_from_position.Goals as goal
 
 pub loop-length-init : goal.loop-length-init
 loop-length-init c =
     let range = c.first_lengths-lengths in
-    at_start (problem_of c.args.trees.now) (visits_of c.args.trees.now) c.args.kind c.args.before
-    (c.args.route ∷ c.args.position ∷ []) range.result.start range.result.end range.ensures.range c.requires.best
+    range_start (problem_of c.args.trees.now) (visits_of c.args.trees.now) c.args.kind c.args.before (c.args.route ∷ c.args.position ∷ []) range.result.start range.result.end range.ensures.range
+
+pub loop-length-preserved : goal.loop-length-preserved
+loop-length-preserved c =
+    range_next (problem_of c.args.trees.now) (visits_of c.args.trees.now) c.args.kind c.args.before c.args.route (c.args.position ∷ [])
+    c.loop-length.length c.loop-length.best c.gain_of_chain-best.result c.loop-length.invariant c.gain_of_chain-best.ensures
 
 pub returns : goal.returns
 returns c =
     let range = c.first_lengths-lengths in
-    at_end (problem_of c.args.trees.now) (visits_of c.args.trees.now) c.args.kind c.loop-length.best
-    c.args.route (c.args.position ∷ []) range.result.start range.result.end c.loop-length.length c.loop-length-test.false range.ensures.range c.loop-length.invariant
+    range_end (problem_of c.args.trees.now) (visits_of c.args.trees.now) c.args.kind c.args.before c.args.route (c.args.position ∷ [])
+    range.result.start range.result.end c.loop-length.length c.loop-length.best c.loop-length-test.false range.ensures.range c.loop-length.invariant

@@ -8,7 +8,7 @@ use Rattle.gains.specs.Cuts.{IsCut, change_apart}
 use Rattle.gains.specs.Gains.{least_of, taken_chain, second_taken}
 use Rattle.gains.proofs.CutStops.{known_cut}
 use Rattle.gains.proofs.MoveChanges.{second_stands, value_apart}
-use Rattle.gains.proofs.GainSearching.{passed}
+use Rattle.gains.proofs.GainSearching.{passes_six}
 use Rattle.gains.proofs.comparing.better_apart.Goals as goal
 
 pub returns-in_default : goal.returns-in_default
@@ -17,8 +17,8 @@ returns-in_default c =
     let routes = visits_of c.args.trees.now in
     let f = c.args.first.now in
     let s = c.args.second.now in
-    passed p routes c.args.kind c.args.before f.route (f.position ∷ f.length ∷ s.route ∷ s.position ∷ s.length ∷ []) refl
-    (λ n u e is h. absurd (c.in_default.ensures (rw (c.requires.routes, c.second_chain-taken.ensures) (second_stands p routes c.args.kind n f s u e is c.requires.apart h)))) c.requires.best
+    passes_six p routes c.args.kind c.args.before f.route (f.position ∷ f.length ∷ s.route ∷ s.position ∷ s.length ∷ []) refl
+    (λ n u e is h. absurd (c.in_default.ensures (rw (c.requires.routes, c.second_chain-taken.ensures) (second_stands p routes c.args.kind n f s u e is c.requires.apart h))))
 
 pub change_apart-requires-clause-one : goal.change_apart-requires-clause-one
 change_apart-requires-clause-one c =
@@ -38,5 +38,5 @@ returns-then-change_apart-least_of c =
     let cut : IsCut (route routes s.route) s.position t.length c.in-Some.other = rw (c.requires.routes, c.second_chain-taken.ensures) at c.in-Some.ensures.1 in
     let change : c.change_apart.result ≡ change_apart p c.args.cut.now c.in-Some.other = rw c.instance.ensures at c.change_apart.ensures in
     let high : least_of c.args.before ≤ℤ c.change_apart.result = grind (arith, ints) in
-    passed p routes c.args.kind c.args.before f.route (f.position ∷ f.length ∷ s.route ∷ s.position ∷ s.length ∷ []) refl
-    (λ n u e is h. rw (value_apart p routes c.args.kind n f s u e is c.requires.apart h c.args.cut.now c.in-Some.other c.requires.cut cut, ← change) high) c.requires.best
+    passes_six p routes c.args.kind c.args.before f.route (f.position ∷ f.length ∷ s.route ∷ s.position ∷ s.length ∷ []) refl
+    (λ n u e is h. rw (value_apart p routes c.args.kind n f s u e is c.requires.apart h c.args.cut.now c.in-Some.other c.requires.cut cut, ← change) high)

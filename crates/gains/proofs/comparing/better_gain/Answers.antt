@@ -4,7 +4,7 @@ use Rattle.std.proofs.lemmas.Int.{ints}
 use Rattle.segments.specs.PlanTrees.{problem_of}
 use Rattle.moves.specs.Trees.{visits_of}
 use Rattle.gains.specs.Gains.{least_of}
-use Rattle.gains.proofs.GainSearching.{passed_one, taken, no_less}
+use Rattle.gains.proofs.GainSearching.{passes_one, takes, no_less}
 use Rattle.gains.proofs.comparing.better_gain.Goals as goal
 
 pub returns-in-Some : goal.returns-in-Some
@@ -14,8 +14,8 @@ returns-in-Some c =
     let m = c.candidate_of-candidate in
     let low : c.in-Some.v <ℤ least_of c.args.before = grind (arith, ints) in
     let same : to_z w64 (of_z w64 c.in-Some.v) ≡ c.in-Some.v = omega (arith, ints) in
-    rw same (taken (problem_of c.args.trees.now) (visits_of c.args.trees.now) c.args.kind c.args.before m.result c.in-Some.v
-    f.route (f.position ∷ f.length ∷ s.route ∷ s.position ∷ s.length ∷ []) m.ensures.kind m.ensures.numbers refl c.in-Some.ensures low c.requires.best)
+    rw same (takes (problem_of c.args.trees.now) (visits_of c.args.trees.now) c.args.kind c.args.before m.result c.in-Some.v
+    f.route (f.position ∷ f.length ∷ s.route ∷ s.position ∷ s.length ∷ []) m.ensures.kind m.ensures.numbers refl c.in-Some.ensures low)
 
 pub returns-in_default : goal.returns-in_default
 returns-in_default c =
@@ -23,15 +23,15 @@ returns-in_default c =
     let s = c.args.second.now in
     let m = c.candidate_of-candidate in
     let high : least_of c.args.before ≤ℤ c.in-Some.v = grind (arith, ints) in
-    passed_one (problem_of c.args.trees.now) (visits_of c.args.trees.now) c.args.kind c.args.before m.result
+    passes_one (problem_of c.args.trees.now) (visits_of c.args.trees.now) c.args.kind c.args.before m.result
     f.route (f.position ∷ f.length ∷ s.route ∷ s.position ∷ s.length ∷ []) m.ensures.kind m.ensures.numbers refl
-    (λ u h. no_less (problem_of c.args.trees.now) (visits_of c.args.trees.now) m.result c.in-Some.v u _ c.in-Some.ensures h high) c.requires.best
+    (λ u h. no_less (problem_of c.args.trees.now) (visits_of c.args.trees.now) m.result c.in-Some.v u _ c.in-Some.ensures h high)
 
 pub returns-in_default-2 : goal.returns-in_default-2
 returns-in_default-2 c =
     let f = c.args.first.now in
     let s = c.args.second.now in
     let m = c.candidate_of-candidate in
-    passed_one (problem_of c.args.trees.now) (visits_of c.args.trees.now) c.args.kind c.args.before m.result
+    passes_one (problem_of c.args.trees.now) (visits_of c.args.trees.now) c.args.kind c.args.before m.result
     f.route (f.position ∷ f.length ∷ s.route ∷ s.position ∷ s.length ∷ []) m.ensures.kind m.ensures.numbers refl
-    (λ u h. absurd (c.in_default.ensures u h)) c.requires.best
+    (λ u h. absurd (c.in_default.ensures u h))

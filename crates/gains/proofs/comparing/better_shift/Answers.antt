@@ -9,7 +9,7 @@ use Rattle.gains.specs.Cuts.{IsCut, change_within}
 use Rattle.gains.specs.Gains.{least_of}
 use Rattle.gains.proofs.CutStops.{known_cut}
 use Rattle.gains.proofs.MoveChanges.{value_within}
-use Rattle.gains.proofs.GainSearching.{passed}
+use Rattle.gains.proofs.GainSearching.{passes_six}
 use Rattle.gains.proofs.comparing.better_shift.Goals as goal
 
 pub change_within-requires-clause-one : goal.change_within-requires-clause-one
@@ -33,5 +33,5 @@ returns-then-change_within-least_of c =
     let stands : IsChainOf routes rear = rw c.requires.routes at c.in-Some-cut_of.ensures.0 in
     let change : c.change_within.result ≡ change_within p c.in-Some.one c.in-Some-cut_of.other = rw c.instance.ensures at c.change_within.ensures in
     let high : least_of c.args.before ≤ℤ c.change_within.result = grind (arith, ints) in
-    passed p routes c.args.kind c.args.before f.route (f.position ∷ f.length ∷ s.route ∷ s.position ∷ s.length ∷ []) refl
-    (λ n u e is h. rw (value_within p routes n u front rear c.in-Some.one c.in-Some-cut_of.other (c.requires.shifts n u e is h) h stands one other c.if-one.true c.if-other.true, ← change) high) c.requires.best
+    passes_six p routes c.args.kind c.args.before f.route (f.position ∷ f.length ∷ s.route ∷ s.position ∷ s.length ∷ []) refl
+    (λ n u e is h. rw (value_within p routes n u front rear c.in-Some.one c.in-Some-cut_of.other (c.requires.shifts n u e is h) h stands one other c.if-one.true c.if-other.true, ← change) high)

@@ -1,0 +1,133 @@
+-- Bounds that are forgotten, taken out or given places, one after the other.
+use Rattle.std.proofs.Common.{◌≡◌, refl, sym, ap, subst, ◌∙◌, ℕ, ◌+◌, ◌≢◌, ◌<◌, ◌≤◌, [], length, get_or, set, arith, inl, inr, length-set}
+use Rattle.std.specs.List.{remove}
+use Rattle.std.specs.declared.alloc.Global.{Global}
+use Rattle.std.specs.Prelude.{None, Option, ℤ, List, Vec}
+use Rattle.std.proofs.lemmas.Bool.{cases_lt}
+use Rattle.std.proofs.lemmas.List.{get_or_past, get_or-set_same, length-map}
+use Rattle.gains.specs.Bounds.{rows_of, bound_of, skip, KeepsOrForgets}
+use Rattle.gains.specs.declared.bounds.PairBounds.{PairBounds}
+use Rattle.gains.proofs.BoundRows.{items_of, put_entry, none_put, other_row, this_row, row_at, row_taken, nothing_behind}
+
+-- the bounds into route r from the first n routes are forgotten
+pub record ForgottenInto (r n : ℕ) (old now : PairBounds) : Type 0 where
+  pub kept : KeepsOrForgets old now
+  pub into : (a : ℕ) → a < n → bound_of now a r ≡ None
+  pub long : length now.rows.items ≡ length old.rows.items
+
+-- the bounds from route r into the first n routes are forgotten
+pub record ForgottenFrom (r n : ℕ) (old now : PairBounds) : Type 0 where
+  pub kept : KeepsOrForgets old now
+  pub from : (b : ℕ) → b < n → bound_of now r b ≡ None
+  pub long : length (get_or (rows_of now) r []) ≡ length (get_or (rows_of old) r [])
+  pub rows : length now.rows.items ≡ length old.rows.items
+
+-- route r is taken out of the first n rows
+pub record TakenOut (r n : ℕ) (old now : PairBounds) : Type 0 where
+  pub done : (a b : ℕ) → a < n → bound_of now a b ≡ bound_of old a (skip r b)
+  pub rest : (a b : ℕ) → n ≤ a → bound_of now a b ≡ bound_of old a b
+  pub long : length now.rows.items ≡ length old.rows.items
+
+rows_long : (b : PairBounds) → length (rows_of b) ≡ length b.rows.items
+rows_long b = length-map b.rows.items (λ (v : Vec (Option ℤ) Global). v.items)
+
+-- a bound is forgotten
+pub one_forgotten : (old now next : PairBounds) (a b : ℕ) → KeepsOrForgets old now → rows_of next ≡ set (rows_of now) a (set (get_or (rows_of now) a []) b None) → KeepsOrForgets old next
+one_forgotten old now next a b kept is = λ c d.
+    elim (put_entry (rows_of now) a b None c d) [
+      | inl same ↦ elim (kept c d) [
+        | inl none ↦ inl (ap (λ r. get_or (get_or r c []) d None) is ∙ same ∙ none)
+        | inr before ↦ inr (ap (λ r. get_or (get_or r c []) d None) is ∙ same ∙ before)
+      ]
+      | inr new ↦ inl (ap (λ r. get_or (get_or r c []) d None) is ∙ new.1.1)
+    ]
+
+forgotten_there : (now next : PairBounds) (a b : ℕ) → rows_of next ≡ set (rows_of now) a (set (get_or (rows_of now) a []) b None) → bound_of next a b ≡ None
+forgotten_there now next a b is = ap (λ r. get_or (get_or r a []) b None) is ∙ none_put (rows_of now) a b
+
+still_forgotten : (now next : PairBounds) (a b c d : ℕ) → rows_of next ≡ set (rows_of now) a (set (get_or (rows_of now) a []) b None) → bound_of now c d ≡ None → bound_of next c d ≡ None
+still_forgotten now next a b c d is none =
+    elim (put_entry (rows_of now) a b None c d) [
+      | inl same ↦ ap (λ r. get_or (get_or r c []) d None) is ∙ same ∙ none
+      | inr new ↦ ap (λ r. get_or (get_or r c []) d None) is ∙ new.1.1
+    ]
+
+pub into_first : (r : ℕ) (old : PairBounds) → ForgottenInto r 0 old old
+into_first r old = record { kept = λ a b. inr refl; into = λ a h. absurd (omega (arith, h)); long = refl }
+
+pub into_next : (r n : ℕ) (old now next : PairBounds) → ForgottenInto r n old now → rows_of next ≡ set (rows_of now) n (set (get_or (rows_of now) n []) r None) → ForgottenInto r (n + 1) old next
+into_next r n old now next h is = record {
+  kept = one_forgotten old now next n r h.kept is;
+  into = λ a less. elim (cases_lt a n) [
+    | inl earlier ↦ still_forgotten now next n r a r is (h.into a earlier)
+    | inr past ↦ let e : n ≡ a = omega (arith, less, past) in subst (λ i. bound_of next i r ≡ None) e (forgotten_there now next n r is)
+  ];
+  long = sym (rows_long next) ∙ ap length is ∙ length-set (rows_of now) n (set (get_or (rows_of now) n []) r None) ∙ rows_long now ∙ h.long;
+}
+
+pub into_last : (r n : ℕ) (old now : PairBounds) → ForgottenInto r n old now → length old.rows.items ≤ n → (a : ℕ) → bound_of now a r ≡ None
+into_last r n old now h all a =
+    elim (cases_lt a n) [
+      | inl known ↦ h.into a known
+      | inr past ↦ ap (λ row. get_or row r None) (get_or_past (rows_of now) a [] (omega (arith, past, all, h.long, rows_long now)))
+    ]
+
+pub from_first : (r : ℕ) (old : PairBounds) → ForgottenFrom r 0 old old
+from_first r old = record { kept = λ a b. inr refl; from = λ b h. absurd (omega (arith, h)); long = refl; rows = refl }
+
+pub from_next : (r n : ℕ) (old now next : PairBounds) → r < length now.rows.items → ForgottenFrom r n old now → rows_of next ≡ set (rows_of now) r (set (get_or (rows_of now) r []) n None) → ForgottenFrom r (n + 1) old next
+from_next r n old now next known h is = record {
+  kept = one_forgotten old now next r n h.kept is;
+  from = λ b less. elim (cases_lt b n) [
+    | inl earlier ↦ still_forgotten now next r n r b is (h.from b earlier)
+    | inr past ↦ let e : n ≡ b = omega (arith, less, past) in subst (λ i. bound_of next r i ≡ None) e (forgotten_there now next r n is)
+  ];
+  long = ap (λ rows. length (get_or rows r [])) is ∙ ap length (get_or-set_same (rows_of now) r (set (get_or (rows_of now) r []) n None) [] (omega (arith, known, rows_long now))) ∙ length-set (get_or (rows_of now) r []) n None ∙ h.long;
+  rows = sym (rows_long next) ∙ ap length is ∙ length-set (rows_of now) r (set (get_or (rows_of now) r []) n None) ∙ rows_long now ∙ h.rows;
+}
+
+pub from_last : (r n : ℕ) (old now : PairBounds) → ForgottenFrom r n old now → (row : Vec (Option ℤ) Global) → r < length old.rows.items → row ≡ get_or old.rows.items r row → length row.items ≤ n → (b : ℕ) → bound_of now r b ≡ None
+from_last r n old now h row known is all b =
+    elim (cases_lt b n) [
+      | inl known ↦ h.from b known
+      | inr past ↦ get_or_past (get_or (rows_of now) r []) b None (omega (arith, past, all, h.long, ap length (row_at old.rows.items r row known is)))
+    ]
+
+-- the row of route r is taken out, if it is there
+pub row_out : (r : ℕ) (old : PairBounds) (items : List (Vec (Option ℤ) Global)) → items ≡ remove old.rows.items r → r < length old.rows.items
+    → (a b : ℕ) → get_or (get_or (items_of items) a []) b None ≡ bound_of old (skip r a) b
+row_out r old items is known a b = ap (λ row. get_or row b None) (ap (λ rows. get_or (items_of rows) a []) is ∙ row_taken old.rows.items r a known)
+
+pub no_row : (r : ℕ) (old : PairBounds) → length old.rows.items ≤ r → (a b : ℕ) → bound_of old a b ≡ bound_of old (skip r a) b
+no_row r old past a b = ap (λ row. get_or row b None) (nothing_behind (rows_of old) r a [] (omega (arith, past, rows_long old)))
+
+pub taken_first : (r : ℕ) (old : PairBounds) → TakenOut r 0 old old
+taken_first r old = record { done = λ a b h. absurd (omega (arith, h)); rest = λ a b h. refl; long = refl }
+
+pub taken_next : (r n : ℕ) (old now next : PairBounds) (row new : Vec (Option ℤ) Global) → TakenOut r n old now → n < length now.rows.items → row ≡ get_or now.rows.items n row
+    → ((i : ℕ) → get_or new.items i None ≡ get_or row.items (skip r i) None) → next.rows.items ≡ set now.rows.items n new → TakenOut r (n + 1) old next
+taken_next r n old now next row new h known is out e = record {
+  done = λ a b less. elim (cases_lt a n) [
+    | inl earlier ↦ other a b (λ same. omega (arith, same, earlier)) ∙ h.done a b earlier
+    | inr past ↦ let same : n ≡ a = omega (arith, less, past) in subst (λ i. bound_of next i b ≡ bound_of old i (skip r b)) same (here b)
+  ];
+  rest = λ a b more. other a b (λ same. omega (arith, same, more)) ∙ h.rest a b (omega (arith, more));
+  long = ap length e ∙ length-set now.rows.items n new ∙ h.long;
+}
+  where
+    other : (a b : ℕ) → a ≢ n → bound_of next a b ≡ bound_of now a b
+    other a b ne = ap (λ rows. get_or (get_or (items_of rows) a []) b None) e ∙ ap (λ x. get_or x b None) (other_row now.rows.items n new a ne)
+
+    here : (b : ℕ) → bound_of next n b ≡ bound_of old n (skip r b)
+    here b =
+        ap (λ rows. get_or (get_or (items_of rows) n []) b None) e ∙ ap (λ x. get_or x b None) (this_row now.rows.items n new known) ∙ out b
+        ∙ ap (λ x. get_or x (skip r b) None) (sym (row_at now.rows.items n row known is)) ∙ h.rest n (skip r b) (omega arith)
+
+pub taken_last : (r n : ℕ) (old now : PairBounds) → TakenOut r n old now → length old.rows.items ≤ n → (a b : ℕ) → bound_of now a b ≡ bound_of old a (skip r b)
+taken_last r n old now h all a b =
+    elim (cases_lt a n) [
+      | inl known ↦ h.done a b known
+      | inr past ↦
+          let none : get_or (rows_of now) a [] ≡ [] = get_or_past (rows_of now) a [] (omega (arith, past, all, h.long, rows_long now)) in
+          ap (λ row. get_or row b None) none ∙ sym (ap (λ row. get_or row (skip r b) None) none) ∙ h.rest a (skip r b) past
+    ]
