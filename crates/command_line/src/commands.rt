@@ -333,7 +333,8 @@ fn refusal(alloc: Global) -> UsageFault {
     }
 }
 
-/// What is said of words that aren't UTF-8, as clap says it.
+/// What is said of words that aren't UTF-8, as clap says it. No contract: the text is clap's own, and
+/// worked rows show it.
 pub fn wrong_words(alloc: Global) -> Result<String, AllocError> {
     let mut command = vrptw_command(alloc)?;
     let error = command.error(

@@ -1,6 +1,6 @@
 //! What labels remember.
 
-ghost use Rattle.std.specs.Prelude.{◌≡◌, ℕ, ◌<◌, ◌≤◌, ◌^◌, ◌==◌, ◌&&◌, ◌||◌, IsTrue};
+ghost use Rattle.std.specs.Prelude.{◌≡◌, ℕ, ◌<◌, ◌≤◌, ◌^◌, ◌==◌, ◌&&◌, ◌||◌, ◌↔◌, IsTrue};
 ghost use Rattle.fronts.specs.Memories.{has_bit};
 
 /// The customers that a route may not visit next, as places in the neighbour list of its last stop:
@@ -39,7 +39,9 @@ impl Memory {
     }
 
     /// Whether both hold the same places.
-    pub fn is_same(self, other: Memory) -> bool {
+    pub fn is_same(self, other: Memory) -> bool
+        ensures { IsTrue result ↔ (self.bits ≡ other.bits) }
+    {
         self.bits == other.bits
     }
 
