@@ -1,13 +1,18 @@
 """One run of the built program, judged by what stands in this folder."""
 import os
 import random as randomness
+import traceback
 
 import bounding
 import checking
 from building import build
 from cases import (LARGE, certificate_lines, certificate_of, instance_words, laid_out, mutated, plan_of, solution_lines,
                    solution_of, spoilt, tree_of)
+from closing import judge_close
+from devices import judge_device
 from instances import Fault, plan_cost, read
+from mutating import judge_bytes
+from refusing import judge_memory
 from rows import ROWS, status_of
 from moving import descend
 from running import Disagreement, demand, run, run_check, solve
@@ -117,33 +122,64 @@ def judge_echo(echo, folder, kind, text, reader):
     return "whole"
 
 
+class Programs:
+    """The paths of what is judged, and of the library that refuses allocations."""
+
+    def __init__(self, program, echo, timings, library):
+        self.program, self.echo, self.timings, self.library = program, echo, timings, library
+
+
+def judge_text(programs, folder, random, kind):
+    """A certificate or a solution with something wrong, by its reader alone."""
+    if kind == "certificates":
+        text = spoilt(random, certificate_lines(random))
+        return judge_echo(programs.echo, folder, "certificate", text, read_certificate)
+    text = spoilt(random, solution_lines(random))
+    return judge_echo(programs.echo, folder, "solution", text, read_solution)
+
+
+def judge_large(programs, folder, seed):
+    name, lines = LARGE[seed]
+    text = "".join(line + "\n" for line in lines()).encode()
+    return "%s: %s" % (name, judge_echo(programs.echo, folder, "certificate", text, read_certificate))
+
+
+# By the kind, what is judged: the programs, a folder, the random source and the run's number.
+JUDGES = {
+    "rows": lambda programs, folder, random, seed: judge_row(programs.program, folder, ROWS[seed]),
+    "devices": lambda programs, folder, random, seed: judge_device(programs.program, folder, seed),
+    "large": lambda programs, folder, random, seed: judge_large(programs, folder, seed),
+    "refusals": lambda programs, folder, random, seed: judge_refusal(programs.program, folder, random),
+    "solve": lambda programs, folder, random, seed: judge_solve(
+        programs.program, folder, random, random.randint(1, 8), 30, True),
+    "medium": lambda programs, folder, random, seed: judge_solve(
+        programs.program, folder, random, random.randint(9, 25), 3, False),
+    "close": lambda programs, folder, random, seed: judge_close(programs.program, folder, random),
+    "checks": lambda programs, folder, random, seed: judge_check(programs.program, folder, random),
+    "turns": lambda programs, folder, random, seed: judge_turns(programs.timings, folder, random,
+                                                                random.randint(1, 8)),
+    "certificates": lambda programs, folder, random, seed: judge_text(programs, folder, random, "certificates"),
+    "solutions": lambda programs, folder, random, seed: judge_text(programs, folder, random, "solutions"),
+    "memory": lambda programs, folder, random, seed: judge_memory(
+        programs.program, folder, programs.library, random, seed),
+    "instance_bytes": lambda programs, folder, random, seed: judge_bytes(
+        programs.program, folder, random, "instance"),
+    "certificate_bytes": lambda programs, folder, random, seed: judge_bytes(
+        programs.program, folder, random, "certificate"),
+    "solution_bytes": lambda programs, folder, random, seed: judge_bytes(
+        programs.program, folder, random, "solution"),
+}
+
+
 def judge(programs, folder, seed, kind):
     """One run by its seed: whether both agree, and what came of it or what doesn't agree."""
     random = randomness.Random("%d %s" % (seed, kind))
-    program, echo, timings = programs
     try:
-        if kind == "certificates":
-            text = spoilt(random, certificate_lines(random))
-            return True, judge_echo(echo, folder, "certificate", text, read_certificate)
-        if kind == "solutions":
-            text = spoilt(random, solution_lines(random))
-            return True, judge_echo(echo, folder, "solution", text, read_solution)
-        if kind == "large":
-            name, lines = LARGE[seed]
-            text = "".join(line + "\n" for line in lines()).encode()
-            return True, "%s: %s" % (name, judge_echo(echo, folder, "certificate", text, read_certificate))
-        if kind == "rows":
-            return True, judge_row(program, folder, ROWS[seed])
-        if kind == "turns":
-            return True, judge_turns(timings, folder, random, random.randint(1, 8))
-        if kind == "checks":
-            return True, judge_check(program, folder, random)
-        if kind == "refusals":
-            return True, judge_refusal(program, folder, random)
-        if kind == "solve":
-            return True, judge_solve(program, folder, random, random.randint(1, 8), 30, True)
-        return True, judge_solve(program, folder, random, random.randint(9, 25), 3, False)
-    except Disagreement as found:
+        return True, JUDGES[kind](programs, folder, random, seed)
+    except (Disagreement, TextFault, Fault) as found:
         return False, str(found)
     except bounding.TooLong:
         return True, "left out, too many routes or labels"
+    except Exception as found:
+        return False, "this folder failed: %s" % "".join(
+            traceback.format_exception(type(found), found, found.__traceback__)[-3:])
