@@ -3,7 +3,7 @@
 #![tactic(auto)]
 
 #[cfg(test)]
-mod closing;
+mod closed_rows;
 #[cfg(test)]
 mod program;
 #[cfg(test)]

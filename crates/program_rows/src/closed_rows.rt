@@ -2,23 +2,28 @@
 
 use crate::program::run;
 use certificate::{CertNode, read};
-use row_texts::{DEPOT, instance_text, many_customers};
+use row_texts::{DEPOT, instance_text, many_customers, three_apart};
 use std::alloc::Global;
 use std::fs;
 use std::process::Abort;
+use std::rt::Files;
+use std::sync::Wait;
 use std::test::Fail;
-use tenths::{MemorySink, Tenths, write_tenths};
-use vrptw::{Answer, Settings, SolveFault, close};
+use std::thread::Threads;
+use tenths::MemorySink;
+use vrptw::{Settings, SolveFault, close};
 
 /// An instance to close with a limit of leaves: its vehicles and their capacity, its customers, and the
-/// printed cost, or where there is no plan the bound.
+/// line that is printed, and the bound in tenths. Where a number of leaves is told, the tree has
+/// exactly so many.
 struct Row {
     name: &'static str,
     vehicles: (u32, u32),
     customers: &'static str,
     leaves: u32,
-    cost: Option<&'static str>,
-    bound: &'static str,
+    told: Option<usize>,
+    line: &'static str,
+    bound: u64,
 }
 
 /// Instances at the depot (0,0) that is open from 0 to 1000.
@@ -28,108 +33,121 @@ const ROWS: [Row; 9] = [
         vehicles: (1, 1),
         customers: "1 3 4 1 0 1000 0\n",
         leaves: 1,
-        cost: Some("10.0"),
-        bound: "10.0",
+        told: Some(1),
+        line: "BEST 10.0\n",
+        bound: 100,
     },
     Row {
         name: "one customer and many leaves",
         vehicles: (1, 1),
         customers: "1 3 4 1 0 1000 0\n",
         leaves: 100,
-        cost: Some("10.0"),
-        bound: "10.0",
+        told: Some(1),
+        line: "BEST 10.0\n",
+        bound: 100,
     },
     Row {
         name: "too late for the customer",
         vehicles: (1, 1),
         customers: "1 3 4 1 0 4 0\n",
         leaves: 1,
-        cost: None,
-        bound: "10.1",
+        told: Some(1),
+        line: "NO PLAN\n",
+        bound: 101,
     },
     Row {
         name: "three plans of one cost",
         vehicles: (3, 1),
         customers: "1 3 4 1 0 1000 0\n2 0 5 1 0 1000 0\n3 5 0 1 0 1000 0\n",
         leaves: 4_096,
-        cost: Some("30.0"),
-        bound: "30.0",
+        told: None,
+        line: "BEST 30.0\n",
+        bound: 300,
     },
     Row {
         name: "a fleet of one",
         vehicles: (1, 2),
         customers: "1 3 4 1 0 1000 0\n2 6 8 1 0 1000 0\n",
         leaves: 100,
-        cost: Some("20.0"),
-        bound: "20.0",
+        told: None,
+        line: "BEST 20.0\n",
+        bound: 200,
     },
     Row {
         name: "one vehicle for two loads",
         vehicles: (1, 1),
         customers: "1 3 4 1 0 1000 0\n2 6 8 1 0 1000 0\n",
         leaves: 100,
-        cost: None,
-        bound: "40.1",
+        told: None,
+        line: "NO PLAN\n",
+        bound: 401,
     },
     Row {
         name: "all at the depot without service",
         vehicles: (1, 2),
         customers: "1 0 0 1 0 1000 0\n2 0 0 1 0 1000 0\n",
         leaves: 100,
-        cost: Some("0.0"),
-        bound: "0.0",
+        told: None,
+        line: "BEST 0.0\n",
+        bound: 0,
     },
     Row {
         name: "windows of one moment leave one plan",
         vehicles: (1, 2),
         customers: "1 3 4 1 5 5 0\n2 6 8 1 10 10 0\n",
         leaves: 100,
-        cost: Some("20.0"),
-        bound: "20.0",
+        told: None,
+        line: "BEST 20.0\n",
+        bound: 200,
     },
     Row {
         name: "both at one moment",
         vehicles: (1, 2),
         customers: "1 3 4 1 10 10 0\n2 6 8 1 10 10 0\n",
         leaves: 100,
-        cost: None,
-        bound: "40.1",
+        told: None,
+        line: "NO PLAN\n",
+        bound: 401,
     },
 ];
 
-/// Asserts that a number of tenths is printed so.
-fn assert_tenths<R: Abort + AllocGlobal>(rt: &R, name: &str, tenths: Tenths, text: &str) {
-    let mut printed = MemorySink::new(rt.alloc());
-    assert!(rt; write_tenths(tenths, &mut printed).is_ok(), "{name}");
-    assert_eq!(rt; printed.as_slice(), text.as_bytes(), "{name}");
+/// The bound of a certificate's text in tenths, and how many leaves it has.
+fn bound_of(alloc: Global, text: &[u8]) -> Result<(u64, usize), Fail> {
+    let cert = read(alloc, text)?;
+    let parts = cert.parts();
+    let leaves = parts.nodes.iter().filter(|node| is_leaf(node)).count();
+    Ok((parts.bound.get(), leaves))
 }
 
 /// Asserts what comes of a row.
-fn check<R: Abort + AllocGlobal>(rt: &R, row: &Row) -> Result<(), Fail> {
+fn check<R: Abort + Files + AllocGlobal + Threads + Wait + Sync>(
+    rt: &R,
+    row: &Row,
+) -> Result<(), Fail> {
     let name = row.name;
     let (fleet, capacity) = row.vehicles;
     let text = instance_text(rt.alloc(), fleet, capacity, DEPOT, row.customers)?;
-    let mut solution = MemorySink::new(rt.alloc());
-    let mut certificate = MemorySink::new(rt.alloc());
-    let settings = Settings::default();
-    let answer = close(
-        rt.alloc(),
-        text.as_bytes(),
-        &settings,
-        row.leaves,
-        &mut solution,
-        &mut certificate,
+    fs::write(rt, "small", text.as_bytes())?;
+    let most = row.leaves;
+    let option = format!(in rt.alloc(); "--leaves={most}")?;
+    let printed = run(
+        rt,
+        &[
+            "solve",
+            "small",
+            "small_plan",
+            "small_bound",
+            "--close",
+            option.as_str(),
+        ],
     );
-    match (answer, row.cost) {
-        (Ok(Answer::Best { cost }), Some(text)) => assert_tenths(rt, name, cost, text),
-        (Ok(Answer::NoPlan), None) => assert!(rt; solution.as_slice().is_empty(), "{name}"),
-        _ => assert!(rt; false, "{name}: {answer:?}"),
-    }
-    let cert = read(rt.alloc(), certificate.as_slice())?;
-    let parts = cert.parts();
-    assert_tenths(rt, name, parts.bound, row.bound);
-    let leaves = parts.nodes.iter().filter(|node| is_leaf(node)).count();
-    assert!(rt; leaves <= row.leaves as usize, "{name}");
+    assert_eq!(rt; printed.out.as_slice(), row.line.as_bytes(), "{name}");
+    assert_eq!(rt; printed.status, 0, "{name}");
+    let text = fs::read(rt, "small_bound")?;
+    let (bound, leaves) = bound_of(rt.alloc(), text.as_slice())?;
+    assert_eq!(rt; bound, row.bound, "{name}");
+    assert!(rt; leaves <= most as usize, "{name}");
+    assert!(rt; row.told.is_none_or(|told| leaves == told), "{name}");
     Ok(())
 }
 
@@ -210,5 +228,23 @@ fn the_program_closes_and_checks(rt: HostRuntime) -> Result<(), Fail> {
     }
     let printed = run(&rt, &["check", paths[0], paths[2], "--solution", paths[1]]);
     assert_eq!(rt; printed.out.as_slice(), b"BEST 34.0\n".as_slice());
+    Ok(())
+}
+
+#[test]
+fn three_customers_are_closed(rt: HostRuntime) -> Result<(), Fail> {
+    let text = three_apart(rt.alloc())?;
+    fs::write(&rt, "three", text.as_bytes())?;
+    let paths = ["three", "three_solution", "three_certificate"];
+    let printed = run(
+        &rt,
+        &[
+            "solve", paths[0], paths[1], paths[2], "--close", "--leaves", "4097",
+        ],
+    );
+    assert_eq!(rt; printed.out.as_slice(), b"BEST 401.0\n".as_slice());
+    assert_eq!(rt; printed.status, 0);
+    let printed = run(&rt, &["check", paths[0], paths[2], "--solution", paths[1]]);
+    assert_eq!(rt; printed.out.as_slice(), b"BEST 401.0\n".as_slice());
     Ok(())
 }
