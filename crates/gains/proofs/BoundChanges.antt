@@ -3,21 +3,21 @@ use Rattle.std.proofs.Common.{◌≡◌, refl, sym, ap, subst, ◌∙◌, ℕ, �
 use Rattle.std.specs.List.{remove}
 use Rattle.std.specs.declared.alloc.Global.{Global}
 use Rattle.std.specs.Prelude.{None, Option, ℤ, List, Vec}
-use Rattle.std.proofs.lemmas.Bool.{cases_lt}
+use Rattle.std.proofs.lemmas.Bool.{cases_lt, cases_eq}
 use Rattle.std.proofs.lemmas.List.{get_or_past, get_or-set_same, length-map}
-use Rattle.gains.specs.Bounds.{rows_of, bound_of, skip, KeepsOrForgets}
+use Rattle.gains.specs.Bounds.{rows_of, bound_of, skip, IsForgotten}
 use Rattle.gains.specs.declared.bounds.PairBounds.{PairBounds}
 use Rattle.gains.proofs.BoundRows.{items_of, put_entry, none_put, other_row, this_row, row_at, row_taken, nothing_behind}
 
 -- the bounds into route r from the first n routes are forgotten
 pub record ForgottenInto (r n : ℕ) (old now : PairBounds) : Type 0 where
-  pub kept : KeepsOrForgets old now
+  pub kept : (a b : ℕ) → b ≢ r → bound_of now a b ≡ bound_of old a b
   pub into : (a : ℕ) → a < n → bound_of now a r ≡ None
   pub long : length now.rows.items ≡ length old.rows.items
 
 -- the bounds from route r into the first n routes are forgotten
 pub record ForgottenFrom (r n : ℕ) (old now : PairBounds) : Type 0 where
-  pub kept : KeepsOrForgets old now
+  pub kept : (a b : ℕ) → a ≢ r → bound_of now a b ≡ bound_of old a b
   pub from : (b : ℕ) → b < n → bound_of now r b ≡ None
   pub long : length (get_or (rows_of now) r []) ≡ length (get_or (rows_of old) r [])
   pub rows : length now.rows.items ≡ length old.rows.items
@@ -31,16 +31,10 @@ pub record TakenOut (r n : ℕ) (old now : PairBounds) : Type 0 where
 rows_long : (b : PairBounds) → length (rows_of b) ≡ length b.rows.items
 rows_long b = length-map b.rows.items (λ (v : Vec (Option ℤ) Global). v.items)
 
--- a bound is forgotten
-pub one_forgotten : (old now next : PairBounds) (a b : ℕ) → KeepsOrForgets old now → rows_of next ≡ set (rows_of now) a (set (get_or (rows_of now) a []) b None) → KeepsOrForgets old next
-one_forgotten old now next a b kept is = λ c d.
-    elim (put_entry (rows_of now) a b None c d) [
-      | inl same ↦ elim (kept c d) [
-        | inl none ↦ inl (ap (λ r. get_or (get_or r c []) d None) is ∙ same ∙ none)
-        | inr before ↦ inr (ap (λ r. get_or (get_or r c []) d None) is ∙ same ∙ before)
-      ]
-      | inr new ↦ inl (ap (λ r. get_or (get_or r c []) d None) is ∙ new.1.1)
-    ]
+-- each entry but the one that is forgotten is as it was
+still_known : (now next : PairBounds) (a b c d : ℕ) → rows_of next ≡ set (rows_of now) a (set (get_or (rows_of now) a []) b None) → ((c ≡ a) → (d ≡ b) → ⊥) → bound_of next c d ≡ bound_of now c d
+still_known now next a b c d is apart =
+    elim (put_entry (rows_of now) a b None c d) [ inl same ↦ ap (λ r. get_or (get_or r c []) d None) is ∙ same | inr new ↦ absurd (apart new.0 new.1.0) ]
 
 forgotten_there : (now next : PairBounds) (a b : ℕ) → rows_of next ≡ set (rows_of now) a (set (get_or (rows_of now) a []) b None) → bound_of next a b ≡ None
 forgotten_there now next a b is = ap (λ r. get_or (get_or r a []) b None) is ∙ none_put (rows_of now) a b
@@ -53,11 +47,11 @@ still_forgotten now next a b c d is none =
     ]
 
 pub into_first : (r : ℕ) (old : PairBounds) → ForgottenInto r 0 old old
-into_first r old = record { kept = λ a b. inr refl; into = λ a h. absurd (omega (arith, h)); long = refl }
+into_first r old = record { kept = λ a b _. refl; into = λ a h. absurd (omega (arith, h)); long = refl }
 
 pub into_next : (r n : ℕ) (old now next : PairBounds) → ForgottenInto r n old now → rows_of next ≡ set (rows_of now) n (set (get_or (rows_of now) n []) r None) → ForgottenInto r (n + 1) old next
 into_next r n old now next h is = record {
-  kept = one_forgotten old now next n r h.kept is;
+  kept = λ a b other. still_known now next n r a b is (λ _ same. other same) ∙ h.kept a b other;
   into = λ a less. elim (cases_lt a n) [
     | inl earlier ↦ still_forgotten now next n r a r is (h.into a earlier)
     | inr past ↦ let e : n ≡ a = omega (arith, less, past) in subst (λ i. bound_of next i r ≡ None) e (forgotten_there now next n r is)
@@ -73,11 +67,11 @@ into_last r n old now h all a =
     ]
 
 pub from_first : (r : ℕ) (old : PairBounds) → ForgottenFrom r 0 old old
-from_first r old = record { kept = λ a b. inr refl; from = λ b h. absurd (omega (arith, h)); long = refl; rows = refl }
+from_first r old = record { kept = λ a b _. refl; from = λ b h. absurd (omega (arith, h)); long = refl; rows = refl }
 
 pub from_next : (r n : ℕ) (old now next : PairBounds) → r < length now.rows.items → ForgottenFrom r n old now → rows_of next ≡ set (rows_of now) r (set (get_or (rows_of now) r []) n None) → ForgottenFrom r (n + 1) old next
 from_next r n old now next known h is = record {
-  kept = one_forgotten old now next r n h.kept is;
+  kept = λ a b other. still_known now next r n a b is (λ same _. other same) ∙ h.kept a b other;
   from = λ b less. elim (cases_lt b n) [
     | inl earlier ↦ still_forgotten now next r n r b is (h.from b earlier)
     | inr past ↦ let e : n ≡ b = omega (arith, less, past) in subst (λ i. bound_of next r i ≡ None) e (forgotten_there now next r n is)
@@ -92,6 +86,15 @@ from_last r n old now h row known is all b =
       | inl known ↦ h.from b known
       | inr past ↦ get_or_past (get_or (rows_of now) r []) b None (omega (arith, past, all, h.long, ap length (row_at old.rows.items r row known is)))
     ]
+
+-- all bounds of a route are forgotten
+pub forgotten : (r : ℕ) (old now next : PairBounds) → ((a b : ℕ) → b ≢ r → bound_of now a b ≡ bound_of old a b) → ((a : ℕ) → bound_of now a r ≡ None)
+    → ((a b : ℕ) → a ≢ r → bound_of next a b ≡ bound_of now a b) → ((b : ℕ) → bound_of next r b ≡ None) → IsForgotten r old next
+forgotten r old now next others into others_too from = record {
+  kept = λ a b x y. others_too a b x ∙ others a b y;
+  into = λ a. elim (cases_eq a r) [ inl e ↦ subst (λ i. bound_of next i r ≡ None) (sym e) (from r) | inr ne ↦ others_too a r ne ∙ into a ];
+  from = from;
+}
 
 -- the row of route r is taken out, if it is there
 pub row_out : (r : ℕ) (old : PairBounds) (items : List (Vec (Option ℤ) Global)) → items ≡ remove old.rows.items r → r < length old.rows.items

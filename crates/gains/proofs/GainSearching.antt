@@ -3,12 +3,15 @@ use Rattle.std.proofs.Common.{◌≡◌, refl, ℕ, ◌≤◌, Bool, true, false
 use Rattle.std.specs.Prelude.{ℤ, pos, ◌≤ℤ◌, ◌<ℤ◌, int_lt, Option, Some, None}
 use Rattle.std.proofs.lemmas.Int.{ints}
 use Rattle.solomon_reader.specs.Problem.{Problem}
+use Rattle.moves.specs.declared.candidate.Chain.{Chain}
 use Rattle.moves.specs.declared.candidate.Move.{Move}
 use Rattle.moves.specs.declared.candidate.Kind.{Kind}
 use Rattle.moves.specs.Values.{HasValue}
 use Rattle.moves.specs.Order.{kind_of, fields_of, AreBefore, IsBefore}
 use Rattle.moves.specs.Search.{numbers, TakesIn}
-use Rattle.gains.specs.Gains.{IsGain, IsBestGainIfAny, IsBestGainBefore, least_of, Starts, raised, Searches}
+use Rattle.gains.specs.declared.neighbourhood.Neighbourhood.{Neighbourhood}
+use Rattle.gains.specs.Gains.{IsGain, IsBestGainIfAny, IsBestGainBefore, least_of, Starts, raised}
+use Rattle.gains.specs.Searches.{instance_of, plan_of, GoesInto, Searches, SearchesAt, NoneIsBetter}
 use Rattle.moves.proofs.Searching.{asymmetric, widened, before_by_numbers, same_move, six}
 use Rattle.gains.proofs.NumbersBefore.{one_value, irreflexive, before_longer, before_shorter, before_raised, before_end, before_next, itself_before_next, before_or_starts, before_start, starts_same, none_before, all_before}
 
@@ -80,19 +83,6 @@ module _ (p : Problem) (routes : List (List ℕ)) (k : Kind) (r : Option (Move �
         ];
       }
 
-  pub passes : (x : ℕ) (xs : List ℕ) → ((n : Move) (u : ℤ) → kind_of n ≡ k → Starts (x ∷ xs) (numbers n) → HasValue p routes n u → least_of r ≤ℤ u) → Searches p routes k x xs r r
-  passes x xs high = record { best = passed x xs high; least = high; lower = itself (least_of r) }
-
-  -- the same by all six numbers
-  pub passes_six : (x : ℕ) (xs : List ℕ) → length (x ∷ xs) ≡ 6 → ((n : Move) (u : ℤ) → kind_of n ≡ k → numbers n ≡ x ∷ xs → HasValue p routes n u → least_of r ≤ℤ u) → Searches p routes k x xs r r
-  passes_six x xs full high = passes x xs (λ n u e s v. high n u e (starts_same (x ∷ xs) (numbers n) (six n ∙ sym full) s) v)
-
-  -- a move is passed by that is no better
-  pub passes_one : (m : Move) (x : ℕ) (xs : List ℕ) → kind_of m ≡ k → numbers m ≡ x ∷ xs → length (x ∷ xs) ≡ 6
-      → ((u : ℤ) → HasValue p routes m u → least_of r ≤ℤ u) → Searches p routes k x xs r r
-  passes_one m x xs same is full high =
-      passes_six x xs full (λ n u e f v. high u (subst (λ y. HasValue p routes y u) (same_move n m (e ∙ sym same) (f ∙ sym is)) v))
-
   -- what a gain has to be below is at most 0
   pub least_below : (xs : List ℕ) → IsBestGainBefore p routes k xs r → least_of r ≤ℤ pos 0
   least_below xs = by_best r
@@ -103,37 +93,6 @@ module _ (p : Problem) (routes : List (List ℕ)) (k : Kind) (r : Option (Move �
         where
           below : (v u : ℤ) → v ≡ u → u <ℤ pos 0 → v ≤ℤ pos 0
           below v u e l = omega (arith, ints)
-
-  -- a move is taken that is better
-  pub takes : (m : Move) (v : ℤ) (x : ℕ) (xs : List ℕ) → kind_of m ≡ k → numbers m ≡ x ∷ xs → length (x ∷ xs) ≡ 6
-      → HasValue p routes m v → v <ℤ least_of r → Searches p routes k x xs r (Some (m, v))
-  takes m v x xs same is full value low = record {
-    best = taken;
-    least = λ n u e s w. same_le v u (one_value p routes m v u value (subst (λ y. HasValue p routes y u) (is_m n e s) w));
-    lower = weaken v (least_of r) low;
-  }
-    where
-      is_m : (n : Move) → kind_of n ≡ k → Starts (x ∷ xs) (numbers n) → n ≡ m
-      is_m n e s = same_move n m (e ∙ sym same) (starts_same (x ∷ xs) (numbers n) (six n ∙ sym full) s ∙ sym is)
-
-      less_than : (o : Option (Move × ℤ)) → v <ℤ least_of o → IsBestGainBefore p routes k (x ∷ xs) o
-          → (n : Move) (u : ℤ) → ((kind_of n ≡ k) × AreBefore (numbers n) (x ∷ xs)) × IsGain p routes n → HasValue p routes n u → v <ℤ u
-      less_than None l b n u q w = absurd (b n u q w)
-      less_than (Some best) l b n u q w = less_le v best.1 u l (b.least n u q w)
-
-      taken : IsBestGainBefore p routes k (x ∷ xs) r → IsBestGainBefore p routes k (raised x xs) (Some (m, v))
-      taken h = record {
-        taken = ((same, subst (λ z. AreBefore z (raised x xs)) (sym is) (itself_before_next x xs)), (v, value, less_le v (least_of r) (pos 0) low (least_below (x ∷ xs) h)));
-        value = value;
-        least = λ n u q w. elim (before_or_starts x xs (numbers n) q.0.1) [
-          | inl b ↦ weaken v u (less_than r low h n u ((q.0.0, b), q.1) w)
-          | inr s ↦ same_le v u (one_value p routes m v u value (subst (λ y. HasValue p routes y u) (is_m n q.0.0 s) w))
-        ];
-        first = λ n u q w before. elim (before_or_starts x xs (numbers n) q.0.1) [
-          | inl b ↦ less_than r low h n u ((q.0.0, b), q.1) w
-          | inr s ↦ absurd (irreflexive (fields_of m) (subst (λ y. IsBefore y m) (is_m n q.0.0 s) before))
-        ];
-      }
 
   -- all moves of the kind were looked at
   pub at_last : (end : ℕ) → length routes ≤ end → IsBestGainBefore p routes k (end ∷ []) r → IsBestGainIfAny p routes k r
@@ -157,3 +116,66 @@ module _ (p : Problem) (routes : List (List ℕ)) (k : Kind) (r : Option (Move �
             },
             low,
           )
+
+-- each move goes into some route
+pub goes_into_any : (into : Option ℕ) (n : Move) → into ≡ None → GoesInto into n
+goes_into_any into n e = subst (λ o. GoesInto o n) (sym e) tt
+
+module _ (m : Neighbourhood) (r : Option (Move × ℤ)) where
+  abbrev p : Problem
+  p = instance_of m
+
+  abbrev routes : List (List ℕ)
+  routes = plan_of m
+
+  pub passes : (x : ℕ) (xs : List ℕ) → ((n : Move) (u : ℤ) → kind_of n ≡ m.kind → Starts (x ∷ xs) (numbers n) → HasValue p routes n u → least_of r ≤ℤ u) → Searches m x xs r r
+  passes x xs high = record { best = λ _. passed p routes m.kind r x xs high; least = λ n u e _. high n u e; lower = itself (least_of r) }
+
+  pub passes_none : (x : ℕ) (xs : List ℕ) → NoneIsBetter m (x ∷ xs) r → Searches m x xs r r
+  passes_none x xs none = passes x xs none.least
+
+  -- the same by all six numbers
+  pub passes_six : (f s : Chain)
+      → ((n : Move) (u : ℤ) → kind_of n ≡ m.kind → numbers n ≡ f.route ∷ f.position ∷ f.length ∷ s.route ∷ s.position ∷ s.length ∷ [] → HasValue p routes n u → least_of r ≤ℤ u)
+      → SearchesAt m f s r r
+  passes_six f s high =
+      passes f.route (f.position ∷ f.length ∷ s.route ∷ s.position ∷ s.length ∷ []) (λ n u e t v. high n u e (starts_same (f.route ∷ f.position ∷ f.length ∷ s.route ∷ s.position ∷ s.length ∷ []) (numbers n) (six n) t) v)
+
+  -- a move is passed by that is no better
+  pub passes_one : (o : Move) (f s : Chain) → kind_of o ≡ m.kind → numbers o ≡ f.route ∷ f.position ∷ f.length ∷ s.route ∷ s.position ∷ s.length ∷ []
+      → ((u : ℤ) → HasValue p routes o u → least_of r ≤ℤ u) → SearchesAt m f s r r
+  passes_one o f s same is high = passes_six f s (λ n u e t v. high u (subst (λ y. HasValue p routes y u) (same_move n o (e ∙ sym same) (t ∙ sym is)) v))
+
+  -- a move is taken that is better
+  pub takes : (o : Move) (v : ℤ) (f s : Chain) → kind_of o ≡ m.kind → numbers o ≡ f.route ∷ f.position ∷ f.length ∷ s.route ∷ s.position ∷ s.length ∷ []
+      → HasValue p routes o v → v <ℤ least_of r → SearchesAt m f s r (Some (o, v))
+  takes o v f s same is value low = record {
+    best = λ _. taken;
+    least = λ n u e _ t w. same_le v u (one_value p routes o v u value (subst (λ y. HasValue p routes y u) (is_it n e t) w));
+    lower = weaken v (least_of r) low;
+  }
+    where
+      xs : List ℕ
+      xs = f.position ∷ f.length ∷ s.route ∷ s.position ∷ s.length ∷ []
+
+      is_it : (n : Move) → kind_of n ≡ m.kind → Starts (f.route ∷ xs) (numbers n) → n ≡ o
+      is_it n e t = same_move n o (e ∙ sym same) (starts_same (f.route ∷ xs) (numbers n) (six n) t ∙ sym is)
+
+      less_than : (b : Option (Move × ℤ)) → v <ℤ least_of b → IsBestGainBefore p routes m.kind (f.route ∷ xs) b
+          → (n : Move) (u : ℤ) → ((kind_of n ≡ m.kind) × AreBefore (numbers n) (f.route ∷ xs)) × IsGain p routes n → HasValue p routes n u → v <ℤ u
+      less_than None l b n u q w = absurd (b n u q w)
+      less_than (Some best) l b n u q w = less_le v best.1 u l (b.least n u q w)
+
+      taken : IsBestGainBefore p routes m.kind (f.route ∷ xs) r → IsBestGainBefore p routes m.kind (raised f.route xs) (Some (o, v))
+      taken h = record {
+        taken = ((same, subst (λ z. AreBefore z (raised f.route xs)) (sym is) (itself_before_next f.route xs)), (v, value, less_le v (least_of r) (pos 0) low (least_below p routes m.kind r (f.route ∷ xs) h)));
+        value = value;
+        least = λ n u q w. elim (before_or_starts f.route xs (numbers n) q.0.1) [
+          | inl b ↦ weaken v u (less_than r low h n u ((q.0.0, b), q.1) w)
+          | inr t ↦ same_le v u (one_value p routes o v u value (subst (λ y. HasValue p routes y u) (is_it n q.0.0 t) w))
+        ];
+        first = λ n u q w before. elim (before_or_starts f.route xs (numbers n) q.0.1) [
+          | inl b ↦ less_than r low h n u ((q.0.0, b), q.1) w
+          | inr t ↦ absurd (irreflexive (fields_of o) (subst (λ y. IsBefore y o) (is_it n q.0.0 t) before))
+        ];
+      }

@@ -46,36 +46,35 @@ module _ (r : Replaced) (count : ℕ) (old b1 b2 b3 b4 b5 new : PairBounds) (fir
   from_b2 : (c d : ℕ) → bound_of b5 c d ≡ bound_of b4 c d → bound_of new c d ≡ bound_of b2 (C c) (C d)
   from_b2 c d h = same c d ∙ h ∙ out_too c d ∙ out (skip_if r.first_goes r.first c) (skip_if r.first_goes r.first d)
 
-  unknown_first : (c d : ℕ) → bound_of b1 (C c) (C d) ≡ None → bound_of b5 c d ≡ bound_of b4 c d → bound_of new c d ≡ None
-  unknown_first c d none h = elim (second.kept (C c) (C d)) [ inl gone ↦ from_b2 c d h ∙ gone | inr kept ↦ from_b2 c d h ∙ kept ∙ none ]
+  kept_last : (c d : ℕ) → c ≢ count → d ≢ count → bound_of new c d ≡ bound_of b2 (C c) (C d)
+  kept_last c d x y = from_b2 c d (last.kept c d x y)
+
+  kept_second : (c d : ℕ) → c ≢ count → d ≢ count → C c ≢ r.second → C d ≢ r.second → bound_of new c d ≡ bound_of b1 (C c) (C d)
+  kept_second c d x y z w = kept_last c d x y ∙ second.kept (C c) (C d) z w
+
+  kept_all : (c d : ℕ) → IsOther r count c → IsOther r count d → bound_of new c d ≡ bound_of old (C c) (C d)
+  kept_all c d x y = kept_second c d x.known y.known x.second y.second ∙ first.kept (C c) (C d) x.first y.first
 
   abbrev Each : ℕ → ℕ → Type 0
   Each c d = (bound_of new c d ≡ None) ⊎ (IsOther r count c × (IsOther r count d × (bound_of new c d ≡ bound_of old (origin_of r c) (origin_of r d))))
 
-  others : (c d : ℕ) → bound_of b5 c d ≡ bound_of b4 c d → bound_of b2 (C c) (C d) ≡ bound_of b1 (C c) (C d) → bound_of b1 (C c) (C d) ≡ bound_of old (C c) (C d)
-      → ((C c ≡ r.first) ⊎ (C c ≢ r.first)) → ((C d ≡ r.first) ⊎ (C d ≢ r.first)) → ((C c ≡ r.second) ⊎ (C c ≢ r.second)) → ((C d ≡ r.second) ⊎ (C d ≢ r.second))
-      → ((c ≡ count) ⊎ (c ≢ count)) → ((d ≡ count) ⊎ (d ≢ count)) → Each c d
-  others c d h k l (inl e) y z w u v = inl (unknown_first c d (subst (λ i. bound_of b1 i (C d) ≡ None) (sym e) (first.from (C d))) h)
-  others c d h k l x (inl e) z w u v = inl (unknown_first c d (subst (λ i. bound_of b1 (C c) i ≡ None) (sym e) (first.into (C c))) h)
-  others c d h k l x y (inl e) w u v = inl (from_b2 c d h ∙ subst (λ i. bound_of b2 i (C d) ≡ None) (sym e) (second.from (C d)))
-  others c d h k l x y z (inl e) u v = inl (from_b2 c d h ∙ subst (λ i. bound_of b2 (C c) i ≡ None) (sym e) (second.into (C c)))
-  others c d h k l x y z w (inl e) v = inl (none_last c d (subst (λ i. bound_of b5 i d ≡ None) (sym e) (last.from d)))
-  others c d h k l x y z w u (inl e) = inl (none_last c d (subst (λ i. bound_of b5 c i ≡ None) (sym e) (last.into c)))
-  others c d h k l (inr x) (inr y) (inr z) (inr w) (inr u) (inr v) =
-      inr (record { first = x; second = z; known = u }, (record { first = y; second = w; known = v }, from_b2 c d h ∙ k ∙ l))
+  each_of : (c d : ℕ) → ((c ≡ count) ⊎ (c ≢ count)) → ((d ≡ count) ⊎ (d ≢ count)) → ((C c ≡ r.second) ⊎ (C c ≢ r.second)) → ((C d ≡ r.second) ⊎ (C d ≢ r.second))
+      → ((C c ≡ r.first) ⊎ (C c ≢ r.first)) → ((C d ≡ r.first) ⊎ (C d ≢ r.first)) → Each c d
+  each_of c d (inl e) y z w u v = inl (none_last c d (subst (λ i. bound_of b5 i d ≡ None) (sym e) (last.from d)))
+  each_of c d x (inl e) z w u v = inl (none_last c d (subst (λ i. bound_of b5 c i ≡ None) (sym e) (last.into c)))
+  each_of c d (inr x) (inr y) (inl e) w u v = inl (kept_last c d x y ∙ subst (λ i. bound_of b2 i (C d) ≡ None) (sym e) (second.from (C d)))
+  each_of c d (inr x) (inr y) z (inl e) u v = inl (kept_last c d x y ∙ subst (λ i. bound_of b2 (C c) i ≡ None) (sym e) (second.into (C c)))
+  each_of c d (inr x) (inr y) (inr z) (inr w) (inl e) v = inl (kept_second c d x y z w ∙ subst (λ i. bound_of b1 i (C d) ≡ None) (sym e) (first.from (C d)))
+  each_of c d (inr x) (inr y) (inr z) (inr w) u (inl e) = inl (kept_second c d x y z w ∙ subst (λ i. bound_of b1 (C c) i ≡ None) (sym e) (first.into (C c)))
+  each_of c d (inr x) (inr y) (inr z) (inr w) (inr u) (inr v) =
+      let one : IsOther r count c = record { first = u; second = z; known = x } in
+      let other : IsOther r count d = record { first = v; second = w; known = y } in
+      inr (one, (other, kept_all c d one other))
 
   pub followed : Follows r count old new
   followed = record {
-    each = λ c d. elim (last.kept c d) [
-      | inl none ↦ inl (none_last c d none)
-      | inr h ↦ elim (second.kept (C c) (C d)) [
-        | inl none ↦ inl (from_b2 c d h ∙ none)
-        | inr k ↦ elim (first.kept (C c) (C d)) [
-          | inl none ↦ inl (from_b2 c d h ∙ k ∙ none)
-          | inr l ↦ others c d h k l (cases_eq (C c) r.first) (cases_eq (C d) r.first) (cases_eq (C c) r.second) (cases_eq (C d) r.second) (cases_eq c count) (cases_eq d count)
-        ]
-      ]
-    ];
+    kept = kept_all;
+    each = λ c d. each_of c d (cases_eq c count) (cases_eq d count) (cases_eq (C c) r.second) (cases_eq (C d) r.second) (cases_eq (C c) r.first) (cases_eq (C d) r.first);
   }
 
 skip_order : (r c d : ℕ) → c < d → skip r c < skip r d

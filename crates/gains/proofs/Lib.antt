@@ -11,4 +11,4 @@ pub mod Renumbering
 pub mod LastingBounds
 pub mod SwapBounds
 pub mod PassedRoutes
-pub mod ClosedRoutes
+pub mod PassedByBounds

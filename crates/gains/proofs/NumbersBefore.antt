@@ -115,14 +115,6 @@ whole_range xs low high end [] most w s = absurd w
 whole_range [] low high end (n ∷ ns) most w s = let last : n < high = w.1 in (omega arith, omega arith)
 whole_range (x ∷ xs) low high end (n ∷ ns) most w s = (s.0, whole_range xs low high end ns most (w s.0) s.1)
 
--- the first three numbers of a move and its second route
-pub starts_into : (n : Move) (a i l b : ℕ) → Starts (a ∷ i ∷ l ∷ []) (numbers n) → get_or (numbers n) 3 0 ≡ b → Starts (a ∷ i ∷ l ∷ b ∷ []) (numbers n)
-starts_into (Relocate f t) a i l b s e = (s.0, (s.1.0, (s.1.1.0, (e, tt))))
-starts_into (Exchange f t) a i l b s e = (s.0, (s.1.0, (s.1.1.0, (e, tt))))
-starts_into (OrOpt c t) a i l b s e = (s.0, (s.1.0, (s.1.1.0, (e, tt))))
-starts_into (TwoOptStar f t) a i l b s e = (s.0, (s.1.0, (s.1.1.0, (e, tt))))
-starts_into (Cross f t) a i l b s e = (s.0, (s.1.0, (s.1.1.0, (e, tt))))
-
 -- the two routes of a move that starts with these numbers
 pub start_routes : (n : Move) (a i l b : ℕ) → Starts (a ∷ i ∷ l ∷ b ∷ []) (numbers n) → (get_or (numbers n) 0 0 ≡ a) × (get_or (numbers n) 3 0 ≡ b)
 start_routes (Relocate f t) a i l b s = (s.0, s.1.1.1.0)

@@ -45,13 +45,9 @@ skip (suc r) (suc c) = suc (skip r c)
 abbrev pub skip_if : Bool → ℕ → ℕ → ℕ
 skip_if goes r c = if goes then skip r c else c
 
--- each bound is as it was or unknown
-abbrev pub KeepsOrForgets : PairBounds → PairBounds → Type 0
-KeepsOrForgets old new = (a b : ℕ) → (bound_of new a b ≡ None) ⊎ (bound_of new a b ≡ bound_of old a b)
-
--- no bound of route r is known, and each other is as it was or unknown
+-- no bound of route r is known, and each other is as it was
 pub record IsForgotten (r : ℕ) (old new : PairBounds) : Type 0 where
-  pub kept : KeepsOrForgets old new
+  pub kept : (a b : ℕ) → a ≢ r → b ≢ r → bound_of new a b ≡ bound_of old a b
   pub into : (a : ℕ) → bound_of new a r ≡ None
   pub from : (b : ℕ) → bound_of new r b ≡ None
 
@@ -72,8 +68,9 @@ pub record IsOther (r : Replaced) (count c : ℕ) : Type 0 where
   pub second : origin_of r c ≢ r.second
   pub known : c ≢ count
 
--- after two routes were replaced each bound is unknown or that of two other routes
+-- after two routes were replaced each bound is unknown or that of two other routes, and all of these are as they were
 pub record Follows (r : Replaced) (count : ℕ) (old new : PairBounds) : Type 0 where
+  pub kept : (c d : ℕ) → IsOther r count c → IsOther r count d → bound_of new c d ≡ bound_of old (origin_of r c) (origin_of r d)
   pub each : (c d : ℕ) → (bound_of new c d ≡ None) ⊎ (IsOther r count c × (IsOther r count d × (bound_of new c d ≡ bound_of old (origin_of r c) (origin_of r d))))
 
 -- two routes of the old plan were replaced, and the new one has the others in their order

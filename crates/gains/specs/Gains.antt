@@ -1,5 +1,5 @@
 -- Moves that make a plan cheaper, and the best of them.
-use Rattle.std.specs.Prelude.{◌≡◌, ℕ, ◌+◌, ◌<◌, slice_index_or, List, ◌∷◌, [], ◌++◌, length, ◌-◌, ℤ, pos, ◌<ℤ◌, ◌≤ℤ◌, Option, Some, None, MatchOption}
+use Rattle.std.specs.Prelude.{◌≡◌, ℕ, ◌+◌, ◌<◌, List, ◌∷◌, [], length, ◌-◌, ℤ, pos, ◌<ℤ◌, Option, Some, None, MatchOption}
 use Rattle.solomon_reader.specs.Problem.{Problem}
 use Rattle.solomon_reader.specs.Moves.{route}
 use Rattle.moves.specs.declared.candidate.Chain.{Chain}
@@ -12,7 +12,7 @@ use Rattle.moves.specs.declared.candidate.Kind.{Kind}
 use Rattle.moves.specs.declared.candidate.Kind.TheVariants as kind
 use Rattle.moves.specs.Values.{HasValue, after}
 use Rattle.moves.specs.Order.{kind_of, AreBefore, IsBestOf, IsFirstLeast}
-use Rattle.moves.specs.Search.{numbers, IsInRange}
+use Rattle.moves.specs.Search.{numbers}
 
 -- the move leaves a cheaper plan
 abbrev pub IsGain : Problem → List (List ℕ) → Move → Type 0
@@ -105,28 +105,6 @@ abbrev pub raised : ℕ → List ℕ → List ℕ
 raised x [] = (x + 1) ∷ []
 raised x (y ∷ ys) = x ∷ raised y ys
 
--- A search goes through the moves of the kind with these first numbers: from the best of the gains before them it comes to the best of those before the next, and what the next gain has to be below then is at most what it was, and at most the value of each of these moves.
-pub record Searches (p : Problem) (routes : List (List ℕ)) (k : Kind) (x : ℕ) (xs : List ℕ) (before result : Option (Move × ℤ)) : Type 0 where
-  pub best : IsBestGainBefore p routes k (x ∷ xs) before → IsBestGainBefore p routes k (raised x xs) result
-  pub least : (n : Move) (u : ℤ) → kind_of n ≡ k → Starts (x ∷ xs) (numbers n) → HasValue p routes n u → least_of result ≤ℤ u
-  pub lower : least_of result ≤ℤ least_of before
-
--- The same with a next number before high.
-pub record SearchesRange (p : Problem) (routes : List (List ℕ)) (k : Kind) (xs : List ℕ) (high : ℕ) (before result : Option (Move × ℤ)) : Type 0 where
-  pub best : IsBestGainBefore p routes k xs before → IsBestGainBefore p routes k (xs ++ high ∷ []) result
-  pub least : (n : Move) (u : ℤ) → kind_of n ≡ k → IsInRange xs 0 high (numbers n) → HasValue p routes n u → least_of result ≤ℤ u
-  pub lower : least_of result ≤ℤ least_of before
-
--- A search goes through the moves of the kind with these first numbers into route b.
-pub record SearchesInto (p : Problem) (routes : List (List ℕ)) (k : Kind) (b : ℕ) (xs : List ℕ) (before result : Option (Move × ℤ)) : Type 0 where
-  pub least : (n : Move) (u : ℤ) → kind_of n ≡ k → Starts xs (numbers n) → slice_index_or (numbers n) 3 0 ≡ b → HasValue p routes n u → least_of result ≤ℤ u
-  pub lower : least_of result ≤ℤ least_of before
-
--- The same with a next number before high.
-pub record SearchesRangeInto (p : Problem) (routes : List (List ℕ)) (k : Kind) (b : ℕ) (xs : List ℕ) (high : ℕ) (before result : Option (Move × ℤ)) : Type 0 where
-  pub least : (n : Move) (u : ℤ) → kind_of n ≡ k → IsInRange xs 0 high (numbers n) → slice_index_or (numbers n) 3 0 ≡ b → HasValue p routes n u → least_of result ≤ℤ u
-  pub lower : least_of result ≤ℤ least_of before
-
 -- a move of the kind takes low to high stops of the second route
 abbrev pub TakesBetween : Kind → ℕ → ℕ → Type 0
 TakesBetween kind.Relocate low high = (low ≡ 0) × (high ≡ 0)
@@ -134,7 +112,3 @@ TakesBetween kind.Exchange low high = (low ≡ 1) × (high ≡ 1)
 TakesBetween kind.OrOpt low high = (low ≡ 0) × (high ≡ 0)
 TakesBetween kind.TwoOptStar low high = ⊥
 TakesBetween kind.Cross low high = (low ≡ 1) × (high ≡ 3)
-
--- no move of the kind with these first numbers is better than what was found
-pub record NoneIsBetter (p : Problem) (routes : List (List ℕ)) (k : Kind) (xs : List ℕ) (before : Option (Move × ℤ)) : Type 0 where
-  pub least : (n : Move) (u : ℤ) → kind_of n ≡ k → Starts xs (numbers n) → HasValue p routes n u → least_of before ≤ℤ u

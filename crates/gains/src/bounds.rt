@@ -1,7 +1,7 @@
 //! Bounds of what the moves between two routes change of the cost.
 
-ghost use Rattle.std.specs.Prelude.{◌≡◌, ℕ, [], None, IfOk, slice_index_or, slice_set};
-ghost use Rattle.gains.specs.Bounds.{rows_of, bound_of, skip, skip_if, Follows, KeepsOrForgets, IsForgotten, IsTakenOut, IsSameBounds};
+ghost use Rattle.std.specs.Prelude.{◌≡◌, ◌≢◌, ℕ, [], None, IfOk, slice_index_or, slice_set};
+ghost use Rattle.gains.specs.Bounds.{rows_of, bound_of, skip, skip_if, Follows, IsForgotten, IsTakenOut, IsSameBounds};
 
 use crate::replaced::Replaced;
 use std::alloc::{AllocError, Global};
@@ -84,7 +84,7 @@ impl PairBounds {
 
     /// Forgets all bounds of the moves into a route.
     fn forget_into(&mut self, route: usize)
-        ensures kept { KeepsOrForgets self.old self.new }
+        ensures kept { (a b : ℕ) → b ≢ route → bound_of self.new a b ≡ bound_of self.old a b }
         ensures into { (a : ℕ) → bound_of self.new a route ≡ None }
     {
         for first in 0..self.rows.len() {
@@ -94,7 +94,7 @@ impl PairBounds {
 
     /// Forgets all bounds of the moves from a route.
     fn forget_from(&mut self, route: usize)
-        ensures kept { KeepsOrForgets self.old self.new }
+        ensures kept { (a b : ℕ) → a ≢ route → bound_of self.new a b ≡ bound_of self.old a b }
         ensures from { (b : ℕ) → bound_of self.new route b ≡ None }
     {
         if route < self.rows.len() {

@@ -3,11 +3,10 @@
 
 mod bounds;
 mod choosing;
-mod closing;
 mod comparing;
 mod cuts;
 mod laws;
-mod pairs;
+mod neighbourhood;
 mod passing;
 mod refreshing;
 mod replaced;

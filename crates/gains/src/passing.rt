@@ -1,16 +1,33 @@
-//! Routes that are passed over by the change of cost alone.
+//! Routes that are passed over, since no move from one into the other is better than what was found.
 
-ghost use Rattle.std.specs.Prelude.{◌≡◌, ◌≢◌, ◌≤◌, [], ◌∷◌, IsTrue, IfSome};
+ghost use Rattle.std.specs.Prelude.{◌≡◌, ◌≤◌, [], ◌∷◌, length, IsTrue, IfSome};
 ghost use Rattle.solomon_reader.specs.Lists.{lists};
 ghost use Rattle.solomon_reader.specs.Moves.{route};
-ghost use Rattle.segments.specs.PlanTrees.{problem_of};
 ghost use Rattle.moves.specs.Trees.{visits_of, AreOfPlan};
-ghost use Rattle.gains.specs.Gains.{IsFirstCut, TakesBetween, NoneIsBetter};
+ghost use Rattle.gains.specs.Bounds.{lowest_second, end_of_seconds, IsPassed};
+ghost use Rattle.gains.specs.Gains.{least_of, IsFirstCut, TakesBetween};
+ghost use Rattle.gains.specs.Searches.{plan_of, IsOfPlan, NoneIsBetter};
 
 use crate::comparing::least_of;
 use crate::cuts::{Cut, least_swap};
-use moves::{Chain, Kind, MOST_CHAIN, Move};
+use crate::neighbourhood::Neighbourhood;
+use moves::{Chain, Kind, MOST_CHAIN, Move, route_count};
 use segments::PlanTrees;
+use std::ops::Range;
+
+/// The routes that moves of a kind from a route go into.
+pub fn seconds_of(trees: &PlanTrees<'_>, kind: Kind, first: u16) -> Range<u16>
+    requires { AreOfPlan trees.now }
+    ensures start { result.start ≤ lowest_second kind first }
+    ensures end { end_of_seconds kind (length (visits_of trees.now)) ≡ result.end }
+{
+    let count = route_count(trees);
+    match kind {
+        Kind::Relocate | Kind::OrOpt => 0..count + 1,
+        Kind::Exchange => first..count,
+        Kind::TwoOptStar | Kind::Cross => first.saturating_add(1)..count,
+    }
+}
 
 /// How many stops of the second route a move of a kind takes, at least and at most; `None` where that
 /// depends on the place.
@@ -35,31 +52,52 @@ fn stops_of(routes: &[Vec<u16>], number: u16) -> &[u16]
     }
 }
 
-/// Whether the changes of cost tell that no move with this first chain into a route is better than what
-/// was found.
-pub fn is_no_better(
-    trees: &PlanTrees<'_>,
-    routes: &[Vec<u16>],
-    kind: Kind,
-    first: &Chain,
-    cut: &Cut,
-    route: u16,
-    before: Option<(Move, i64)>,
-) -> bool
-    requires plan { AreOfPlan trees.now }
-    requires routes { lists routes.now ≡ visits_of trees.now }
-    requires cut { IsFirstCut (visits_of trees.now) kind first.now cut.now }
-    ensures { IsTrue result → NoneIsBetter (problem_of trees.now) (visits_of trees.now) kind (first.now.route ∷ first.now.position ∷ first.now.length ∷ route ∷ []) before }
-{
-    if first.route == route {
-        return false;
+impl Neighbourhood<'_, '_> {
+    /// Whether the bound of two routes says that no move between them is better than what was found.
+    pub fn is_passed(&self, first: u16, second: u16, before: Option<(Move, i64)>) -> bool
+        ensures { IsTrue result → IsPassed self.now.bounds.now first second (least_of before) }
+    {
+        match self.bounds.at(first, second) {
+            Some(bound) => least_of(before) <= bound,
+            None => false,
+        }
     }
-    let Some((low, high)) = second_counts(kind) else {
-        return false;
-    };
-    let least = least_swap(trees.instance(), stops_of(routes, route), cut, low, high);
-    if least < least_of(before) {
-        return false;
+
+    /// Whether the bounds say that no move from a route is better than what was found.
+    pub fn are_all_passed(&self, first: u16, before: Option<(Move, i64)>) -> bool
+        requires { IsOfPlan self.now }
+        ensures { IsTrue result → NoneIsBetter self.now (first ∷ []) before }
+    {
+        let seconds = seconds_of(self.trees, self.kind, first);
+        for second in seconds.start..seconds.end {
+            if !self.is_passed(first, second, before) {
+                return false;
+            }
+        }
+        true
     }
-    true
+
+    /// Whether the changes of cost tell that no move with this first chain into a route is better than
+    /// what was found.
+    pub fn is_no_better(
+        &self,
+        first: &Chain,
+        cut: &Cut,
+        route: u16,
+        before: Option<(Move, i64)>,
+    ) -> bool
+        requires plan { IsOfPlan self.now }
+        requires cut { IsFirstCut (plan_of self.now) self.now.kind first.now cut.now }
+        ensures { IsTrue result → NoneIsBetter self.now (first.now.route ∷ first.now.position ∷ first.now.length ∷ route ∷ []) before }
+    {
+        if first.route == route {
+            return false;
+        }
+        let Some((low, high)) = second_counts(self.kind) else {
+            return false;
+        };
+        let stops = stops_of(self.routes, route);
+        let least = least_swap(self.trees.instance(), stops, cut, low, high);
+        least_of(before) <= least
+    }
 }

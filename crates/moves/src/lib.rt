@@ -14,7 +14,7 @@ mod sizes;
 mod trees;
 mod valuing;
 
-pub use applying::{apply, routes_after, visits_of_chains};
+pub use applying::{apply, visits_of_chains};
 pub use candidate::{Chain, KINDS, Kind, Move, Place};
 pub use change::{Change, NewRoute};
 pub use changing::change_of;

@@ -1,10 +1,13 @@
--- A plan after a move that was made in place.
-use Rattle.std.proofs.Common.{◌≡◌, refl, ℕ, List, sym, ◌∙◌, arith, inl, inr}
-use Rattle.std.specs.Prelude.{ℤ, pos, ◌+ℤ◌}
+-- A plan after a move that was made in place, or wasn't.
+use Rattle.std.proofs.Common.{◌≡◌, refl, ℕ, ◌≤◌, List, sym, ◌∙◌, arith, inl, inr}
+use Rattle.std.specs.Prelude.{ℤ, pos, ◌+ℤ◌, ◌≤ℤ◌}
 use Rattle.std.specs.List.{All}
 use Rattle.std.proofs.lemmas.Int.{ints}
 use Rattle.std.proofs.lemmas.List.Elements.{All-from_recursion}
-use Rattle.solomon_reader.specs.Problem.{Problem, IsCustomer}
+use Rattle.tenths.specs.declared.value.TheConstants.{MOST_TENTHS}
+use Rattle.solomon_reader.specs.declared.limits.TheConstants.{MOST_CUSTOMERS}
+use Rattle.solomon_reader.specs.Problem.{Problem, IsCustomer, customer_count}
+use Rattle.solomon_reader.specs.Layout.{IsWithinLimits}
 use Rattle.solomon_reader.specs.Plan.{IsPlan, plan_cost}
 use Rattle.solomon_reader.specs.Moves.{kept}
 use Rattle.segments.specs.PlanTrees.{problem_of}
@@ -17,6 +20,7 @@ use Rattle.moves.specs.Changes.{IsEmptyOrFitting, IsChangeTo, joined, changed}
 use Rattle.moves.proofs.Rebuilding.{rebuilt_parts}
 use Rattle.moves.proofs.PlanStops.{visits_are, are_of_plan}
 use Rattle.working_plan.specs.Replacing.{AreTreesOf}
+use Rattle.working_plan.proofs.PlanCosts.{cost_within}
 
 known_list : (p : Problem) (r : List ℕ) → IsEmptyOrFitting p r → All (λ i. IsCustomer p i) r
 known_list p r h = elim h [ inl e ↦ (λ k d in_list. absurd (omega arith)) | inr f ↦ All-from_recursion (IsCustomer p) r f.known ]
@@ -46,3 +50,21 @@ applied old new routes later m v c cost next visits exact value to same made tre
   where
     same_cost : (new old cost next : ℕ) (v : ℤ) → pos new ≡ pos old +ℤ v → cost ≡ old → pos next ≡ pos cost +ℤ v → next ≡ new
     same_cost new old cost next v e f g = omega (arith, ints)
+
+-- where none was made the plan is as it was
+pub none_applied : (old new : PlanTrees) (routes later : List (List ℕ)) (cost : ℕ) → AreOfPlan old → visits_of old ≡ routes → cost ≡ plan_cost (problem_of old) routes
+    → problem_of new ≡ problem_of old → later ≡ routes → AreTreesOf later new
+    → AreOfPlan new × (visits_of new ≡ later) × (cost ≡ plan_cost (problem_of new) later)
+none_applied old new routes later cost plan visits exact same e trees = (
+  are_of_plan new (problem_of new) later refl trees.stops trees.trees (rw (same, e) (rw visits at plan.plan)),
+  visits_are new (problem_of new) later trees.stops,
+  rw (same, e) exact,
+)
+
+-- the cost after a move is within the limit of costs
+pub cost_fits : (p : Problem) (routes : List (List ℕ)) (m : Move) (v : ℤ) (cost : ℕ) → IsWithinLimits p → customer_count p ≤ MOST_CUSTOMERS
+    → HasValue p routes m v → cost ≡ plan_cost p routes → (pos cost +ℤ v) ≤ℤ pos MOST_TENTHS
+cost_fits p routes m v cost limits few value exact = sum_fits _ _ cost v value.exact exact (cost_within p (after routes m) limits few value.plan)
+  where
+    sum_fits : (new old cost : ℕ) (v : ℤ) → pos new ≡ pos old +ℤ v → cost ≡ old → new ≤ MOST_TENTHS → (pos cost +ℤ v) ≤ℤ pos MOST_TENTHS
+    sum_fits new old cost v e f g = omega (arith, ints)

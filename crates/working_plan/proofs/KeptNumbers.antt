@@ -8,6 +8,8 @@ use Rattle.solomon_reader.specs.Moves.{route, has_stop, kept}
 use Rattle.moves.proofs.Swaps.{rebuilt-known}
 use Rattle.gains.specs.declared.replaced.Replaced.{Replaced}
 use Rattle.gains.specs.Bounds.{skip_if, IsReplaced}
+use Rattle.working_plan.specs.Replacing.{HaveStops}
+use Rattle.working_plan.proofs.KeptRoutes.{fitting_stops, kept_all}
 
 abbrev gone : List ℕ → Bool
 gone r = not (has_stop r)
@@ -15,13 +17,8 @@ gone r = not (has_stop r)
 -- each route has a stop, but for route b
 abbrev StandBut : List (List ℕ) → ℕ → Type 0
 StandBut [] b = Unit {0}
-StandBut (r ∷ routes) zero = AllByRecursion (λ (q : List ℕ). has_stop q ≡ true) routes
+StandBut (r ∷ routes) zero = HaveStops routes
 StandBut (r ∷ routes) (suc b) = (has_stop r ≡ true) × StandBut routes b
-
-kept_all : (routes : List (List ℕ)) → AllByRecursion (λ (q : List ℕ). has_stop q ≡ true) routes → kept routes ≡ routes
-kept_all [] all = refl
-kept_all ([] ∷ routes) all = let h = all.0 in absurd (grind arith)
-kept_all ((i ∷ r) ∷ routes) all = ap (λ (q : List (List ℕ)). (i ∷ r) ∷ q) (kept_all routes all.1)
 
 skip_zero : (g : Bool) (n : ℕ) → skip_if g (suc n) 0 ≡ 0
 skip_zero true n = refl
@@ -57,12 +54,7 @@ two ((i ∷ r) ∷ routes) (suc a) x (suc b) y s order h (suc c) =
 
 stands_but : (p : Problem) (routes : List (List ℕ)) (b : ℕ) → AllByRecursion (IsFitting p) routes → StandBut routes b
 stands_but p [] b all = tt
-stands_but p (r ∷ routes) zero all = stand p routes all.1
-  where
-    stand : (p : Problem) (routes : List (List ℕ)) → AllByRecursion (IsFitting p) routes → AllByRecursion (λ (q : List ℕ). has_stop q ≡ true) routes
-    stand p [] all = tt
-    stand p ([] ∷ routes) all = absurd (omega (arith, all.0.some))
-    stand p ((i ∷ r) ∷ routes) all = (refl, stand p routes all.1)
+stands_but p (r ∷ routes) zero all = fitting_stops p routes all.1
 stands_but p ([] ∷ routes) (suc b) all = absurd (omega (arith, all.0.some))
 stands_but p ((i ∷ r) ∷ routes) (suc b) all = (refl, stands_but p routes b all.1)
 

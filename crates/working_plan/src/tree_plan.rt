@@ -1,21 +1,19 @@
 //! A plan with the trees of its routes, which are changed in place.
 
-ghost use Rattle.std.specs.Prelude.{◌≡◌, ◌<◌, ◌≤◌, length, ℤ, pos, ◌+ℤ◌, ◌-ℤ◌, IfOk, IfErr, OnOk, OnErr, IfSome, IfNone};
-ghost use Rattle.std.specs.List.{AllByRecursion};
+ghost use Rattle.std.specs.Prelude.{◌≡◌, ℤ, pos, ◌+ℤ◌, ◌-ℤ◌, ◌≤ℤ◌, IfOk, IfErr, OnOk, OnErr, IfSome, IfNone};
+ghost use Rattle.tenths.specs.declared.value.TheConstants.{MOST_TENTHS};
 ghost use Rattle.solomon_reader.specs.Lists.{lists};
 ghost use Rattle.solomon_reader.specs.Plan.{IsPlan};
-ghost use Rattle.solomon_reader.specs.Moves.{kept};
 ghost use Rattle.schedule.specs.Solution.{IsSolution};
 ghost use Rattle.moves.specs.Values.{after, HasValue, IsValue};
-ghost use Rattle.moves.specs.Changes.{IsChainOf, changed};
 ghost use Rattle.moves.specs.declared.fault.MoveFault.TheVariants.{NotFeasible};
 ghost use Rattle.gains.specs.Bounds.{AreBounds, IsReplaced};
 ghost use Rattle.working_plan.specs.Gains.{HasNoGain, IsBestGain};
 
 use crate::gaining::gain_of_kind;
-use crate::replacing::{keeps_routes, replace, replaced_by};
+use crate::replacing::{replace, replaced_by};
 use gains::{PairBounds, Replaced, refresh};
-use moves::{Change, Kind, Move, MoveFault, change_of, routes_after, trees_of, value};
+use moves::{Kind, Move, MoveFault, change_of, trees_of, value};
 use schedule::Feasible;
 use segments::PlanTrees;
 use solomon_reader::Instance;
@@ -73,35 +71,14 @@ fn copy_of(alloc: Global, routes: &[Vec<u16>]) -> Result<Vec<Vec<u16>>, AllocErr
     Ok(copy)
 }
 
-/// A cost after a change of it, both in tenths, where it is within the limit.
-fn cost_after(cost: Tenths, change: i64) -> Option<Tenths>
-    ensures { IfSome result (λ c. pos c ≡ pos cost +ℤ change) }
+/// A cost after a change of it, both in tenths.
+fn cost_after(cost: Tenths, change: i64) -> Tenths
+    requires some { pos 0 ≤ℤ (pos cost +ℤ change) }
+    requires within { (pos cost +ℤ change) ≤ℤ pos MOST_TENTHS }
+    ensures { pos result ≡ pos cost +ℤ change }
 {
-    let sum = i64::try_from(cost.get()).ok()?.checked_add(change)?;
-    Tenths::new(u64::try_from(sum).ok()?)
-}
-
-/// The plan after a change, made anew.
-fn remade<'i>(
-    alloc: Global,
-    instance: &'i Instance,
-    routes: &[Vec<u16>],
-    change: &Change,
-) -> Result<TreePlan<'i>, AllocError>
-    requires first { AllByRecursion (IsChainOf (lists routes.now)) change.now.first.chains.items }
-    requires second { AllByRecursion (IsChainOf (lists routes.now)) change.now.second.chains.items }
-    requires order { change.now.first.route < change.now.second.route }
-    requires known { change.now.second.route ≤ length routes.now }
-    requires plan { IsPlan instance.now (kept (changed (lists routes.now) change.now)) }
-    ensures problem { IfOk result (λ w. w.problem ≡ instance.now) }
-    ensures routes { IfOk result (λ w. w.routes ≡ kept (changed (lists routes.now) change.now)) }
-    ensures solution { IfOk result (λ w. IsSolution w) }
-{
-    let Ok(after) = routes_after(alloc, routes, change) else {
-        return Err(AllocError);
-    };
-    let plan = plan_of(instance, after);
-    TreePlan::new(alloc, &plan)
+    let sum = cost.get() as i64 + change;
+    Tenths::new(sum as u64).unwrap()
 }
 
 impl<'i> TreePlan<'i> {
@@ -191,16 +168,10 @@ impl<'i> TreePlan<'i> {
             return Err(MoveFault::NotFeasible);
         };
         let replaced = replaced_by(&self.trees, &change);
-        match cost_after(self.cost, by) {
-            Some(cost) if keeps_routes(&self.trees, &change) => {
-                replace(self.alloc, &mut self.routes, &mut self.trees, &change)?;
-                self.cost = cost;
-            }
-            _ => {
-                let instance = self.trees.instance();
-                *self = remade(self.alloc, instance, self.routes.as_slice(), &change)?;
-            }
-        }
+        self.trees.law_of_limits();
+        let cost = cost_after(self.cost, by);
+        replace(self.alloc, &mut self.routes, &mut self.trees, &change)?;
+        self.cost = cost;
         Ok(replaced)
     }
 

@@ -2,8 +2,15 @@ use Rattle.std.proofs.Common.{◌≡◌, arith, to_z, of_z, w64}
 use Rattle.std.proofs.lemmas.Int.{ints}
 use Rattle.solomon_reader.specs.Lists.{lists}
 use Rattle.segments.specs.PlanTrees.{problem_of}
-use Rattle.working_plan.proofs.AppliedMoves.{first_known, second_known, applied}
+use Rattle.working_plan.proofs.AppliedMoves.{first_known, second_known, cost_fits, applied, none_applied}
 use Rattle.working_plan.proofs.tree_plan.TreePlan.apply.Goals as goal
+
+pub cost_after-cost-requires-clause-within : goal.cost_after-cost-requires-clause-within
+cost_after-cost-requires-clause-within c =
+    let same : to_z w64 (of_z w64 c.in-Some.by) ≡ c.in-Some.by = omega (arith, ints) in
+    rw same
+    (cost_fits (problem_of c.self.inside.trees) (lists c.self.inside.routes.items) c.args.candidate.now c.in-Some.by c.self.inside.cost
+    c.law_of_limits.ensures.limits c.law_of_limits.ensures.customers (rw c.self.invariant.1 at c.in-Some.ensures) c.self.invariant.2)
 
 pub replace-requires-clause-first_known : goal.replace-requires-clause-first_known
 replace-requires-clause-first_known c =
@@ -15,11 +22,15 @@ replace-requires-clause-second_known c =
     second_known (problem_of c.self.inside.trees) (lists c.self.inside.routes.items) c.args.candidate.now c.in-Some.by c.in-Some-change_of.change
     (rw c.self.invariant.1 at c.self.invariant.0.plan) (rw c.self.invariant.1 at c.in-Some.ensures) (rw c.self.invariant.1 at c.in-Some-change_of.ensures.1)
 
-pub invariant_of-self-then-keeps_routes : goal.invariant_of-self-then-keeps_routes
-invariant_of-self-then-keeps_routes c =
+pub invariant_of-self : goal.invariant_of-self
+invariant_of-self c =
+    none_applied c.self.inside.trees c.replace.new.trees (lists c.self.inside.routes.items) (lists c.replace.new.routes.items) c.self.inside.cost
+    c.self.invariant.0 c.self.invariant.1 c.self.invariant.2 c.in_err-replace.ensures.problem c.in_err-replace.ensures.unchanged c.in_err-replace.ensures.trees
+
+pub invariant_of-self-2 : goal.invariant_of-self-2
+invariant_of-self-2 c =
     let same : to_z w64 (of_z w64 c.in-Some.by) ≡ c.in-Some.by = omega (arith, ints) in
     applied c.self.inside.trees c.replace.new.trees (lists c.self.inside.routes.items) (lists c.replace.new.routes.items)
-    c.args.candidate.now c.in-Some.by c.in-Some-change_of.change c.self.inside.cost c.in-Some-cost_after.cost
+    c.args.candidate.now c.in-Some.by c.in-Some-change_of.change c.self.inside.cost c.cost_after-cost.result
     c.self.invariant.1 c.self.invariant.2 (rw c.self.invariant.1 at c.in-Some.ensures) (rw c.self.invariant.1 at c.in-Some-change_of.ensures.1)
-    c.in_ok-replace-in-Some-cost_after.ensures.problem c.in_ok-replace-in-Some-cost_after.ensures.routes
-    c.in_ok-replace-in-Some-cost_after.ensures.trees (rw same at c.in-Some-cost_after.ensures)
+    c.in_ok-replace.ensures.problem c.in_ok-replace.ensures.routes c.in_ok-replace.ensures.trees (rw same at c.cost_after-cost.ensures)

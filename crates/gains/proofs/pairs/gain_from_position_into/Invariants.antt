@@ -1,8 +1,0 @@
-use Rattle.std.proofs.Common.{[], ◌∷◌}
-use Rattle.segments.specs.PlanTrees.{problem_of}
-use Rattle.moves.specs.Trees.{visits_of}
-use Rattle.gains.specs.Gains.{SearchesRangeInto}
-use Rattle.gains.proofs.pairs.gain_from_position_into.Given as goal
-
-abbrev pub invariant-loop-length : goal.invariant-loop-length
-invariant-loop-length l = SearchesRangeInto (problem_of l.trees) (visits_of l.trees) l.kind l.into (l.route ∷ l.position ∷ []) l.length l.fn.before l.best
