@@ -8,9 +8,9 @@ mod customer_set;
 mod front;
 mod memory;
 mod neighbours;
+mod slots;
 mod tables;
 mod task;
-mod turns;
 
 pub use bound::{Bound, RowBound};
 pub use completions::Completions;

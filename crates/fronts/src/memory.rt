@@ -47,7 +47,7 @@ impl Memory {
 
     /// Whether the other one holds each place of this one.
     pub fn is_subset(self, other: Memory) -> bool
-        ensures { IsTrue result → (i : ℕ) → IsTrue (has_bit self.bits i) → IsTrue (has_bit other.bits i) }
+        ensures { IsTrue result ↔ ((i : ℕ) → IsTrue (has_bit self.bits i) → IsTrue (has_bit other.bits i)) }
     {
         self.bits & other.bits == self.bits
     }

@@ -1,6 +1,6 @@
 //! Labels: the first stops of relaxed routes, with what the further ones depend on.
 
-ghost use Rattle.std.specs.Prelude.{◌≡◌, ◌+◌, ◌≤◌, IsTrue};
+ghost use Rattle.std.specs.Prelude.{◌≡◌, ◌+◌, ◌≤◌, ◌↔◌, IsTrue};
 ghost use Rattle.solomon_reader.specs.Problem.{IsCustomer};
 ghost use Rattle.solomon_reader.specs.States.{CanStep};
 ghost use Rattle.fronts.specs.Fronts.{IsAfter, IsBounded};
@@ -30,7 +30,7 @@ pub struct Label {
 
 /// Whether so much may be loaded beside a load.
 fn fits(capacity: u16, load: u32, room: u32) -> bool
-    ensures { IsTrue result → load + room ≤ capacity }
+    ensures { IsTrue result ↔ (load + room ≤ capacity) }
 {
     load.saturating_add(room) <= u32::from(capacity)
 }

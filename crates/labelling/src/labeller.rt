@@ -369,8 +369,8 @@ impl<'t, 'i> Labeller<'t, 'i> {
         Ok(())
     }
 
-    /// Extends the labels of a turn of time, until there are more than so many.
-    fn extend_turn(&mut self, turn: usize, most: usize) -> Result<(), LabelFault>
+    /// Extends the labels of a slot of time, until there are more than so many.
+    fn extend_slot(&mut self, slot: usize, most: usize) -> Result<(), LabelFault>
         requires { LosesNothing self.old }
         ensures complete { OnOk result (LosesNothing self.new) }
         ensures same { IsSameTask self.old self.new }
@@ -380,7 +380,7 @@ impl<'t, 'i> Labeller<'t, 'i> {
             if self.labels.len() > most {
                 break;
             }
-            let Some(index) = self.lookup.take(turn) else {
+            let Some(index) = self.lookup.take(slot) else {
                 break;
             };
             self.extend_at(index)?;
@@ -395,8 +395,8 @@ impl<'t, 'i> Labeller<'t, 'i> {
         ensures same { IsSameTask self.old self.new }
         ensures unlimited { IfErr result (λ e. e ≡ LabelLimit → self.old.limit ≢ None) }
     {
-        for turn in 0..self.lookup.turns() {
-            self.extend_turn(turn, most)?;
+        for slot in 0..self.lookup.slots() {
+            self.extend_slot(slot, most)?;
         }
         Ok(())
     }
@@ -456,6 +456,28 @@ pub fn least(
     ensures route { IfOk result (λ l. HasItsRoute instance.now region.now neighbours prices.now l) }
     ensures unlimited { IfErr result (λ e. e ≡ LabelLimit → limit ≢ None) }
 {
+    let (least, _labels) = least_counted(alloc, instance, region, prices, neighbours, limit)?;
+    Ok(least)
+}
+
+/// What `least` answers, with how many labels it made, so that a caller knows how dear such an answer
+/// is. No clause says that it counts right.
+pub fn least_counted(
+    alloc: Global,
+    instance: &Instance,
+    region: &Region,
+    prices: &[i64],
+    neighbours: u32,
+    limit: Option<usize>,
+) -> Result<(Least, usize), LabelFault>
+    requires size { region.now.size ≡ customer_count instance.now }
+    requires count { length prices.now ≡ customer_count instance.now }
+    requires priced { AllByRecursion IsPrice prices.now }
+    requires few { neighbours ≤ MOST_NEIGHBOURS }
+    ensures value { IfOk result (λ l. HasLeastValue instance.now region.now neighbours prices.now l.0) }
+    ensures route { IfOk result (λ l. HasItsRoute instance.now region.now neighbours prices.now l.0) }
+    ensures unlimited { IfErr result (λ e. e ≡ LabelLimit → limit ≢ None) }
+{
     instance.law_of_limits();
     let task = Task::new(alloc, instance, region, prices, neighbours)?;
     let unknown = Completions::unknown(&task);
@@ -468,5 +490,5 @@ pub fn least(
     labeller.extend_by_time(usize::MAX)?;
     labeller.extend_rest()?;
     let least = answer(alloc, labeller.labels.as_slice(), labeller.best)?;
-    Ok(least)
+    Ok((least, labeller.labels.len()))
 }

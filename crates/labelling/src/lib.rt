@@ -12,5 +12,5 @@ mod least_cost;
 mod lookup;
 
 pub use fault::LabelFault;
-pub use labeller::least;
+pub use labeller::{least, least_counted};
 pub use least_cost::Least;

@@ -41,14 +41,14 @@ impl Lookup {
         self.active
     }
 
-    /// The number of turns of time.
-    pub(crate) fn turns(&self) -> usize {
-        self.buckets.turns()
+    /// The number of slots of time.
+    pub(crate) fn slots(&self) -> usize {
+        self.buckets.slots()
     }
 
-    /// Takes the index of a label out of a turn of time.
-    pub(crate) fn take(&mut self, turn: usize) -> Option<usize> {
-        self.buckets.take(turn)
+    /// Takes the index of a label out of a slot of time.
+    pub(crate) fn take(&mut self, slot: usize) -> Option<usize> {
+        self.buckets.take(slot)
     }
 
     /// Whether an active label dominates a newer one.

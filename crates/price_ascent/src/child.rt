@@ -7,6 +7,7 @@ ghost use Rattle.solomon_reader.specs.Region.{IsUndecided, used_child, unused_ch
 ghost use Rattle.solomon_reader.specs.CertificateText.{IsPrice};
 ghost use Rattle.branching.specs.Arcs.{pair};
 ghost use Rattle.branching.specs.Choosing.{IsSettled};
+ghost use Rattle.prices.specs.Narrowing.{IsNarrower};
 ghost use Rattle.prices.specs.declared.fault.PriceFault.TheVariants.{LabelLimit, PriceRange};
 ghost use Rattle.price_ascent.specs.Branching.{AreChildren, IsPricedAt};
 
@@ -80,9 +81,16 @@ fn prices_of(alloc: Global, leaf: &Priced<'_>) -> Result<Vec<i64>, AllocError>
     leaf.prices().to_vec(alloc)
 }
 
-/// The leaf's prices at a child's region; or where the child has no relaxed route, prices whose value is
-/// above every plan's cost.
-fn price_child<'i>(
+/// The leaf's prices at a region that allows no other arcs, where their value is known to stay.
+fn narrow<'i>(leaf: &Priced<'i>, region: &Region) -> Result<Option<Priced<'i>>, AllocError>
+    requires { IsNarrower region.now leaf.now.region }
+    ensures { IfOk result (λ found. IfSome found (IsPricedAt region.now leaf.now)) }
+{
+    leaf.narrowed(region)
+}
+
+/// The leaf's prices at another region, priced anew.
+fn price_again<'i>(
     alloc: Global,
     leaf: &Priced<'i>,
     region: Region,
@@ -95,7 +103,27 @@ fn price_child<'i>(
 {
     let _size = leaf.region();
     let prices = prices_of(alloc, leaf)?;
-    let child = price(alloc, leaf, region, prices, labels)?;
+    price(alloc, leaf, region, prices, labels)
+}
+
+/// The leaf's prices at a child's region, priced anew only where the route of the least reduced cost
+/// isn't allowed there; or where the child has no relaxed route, prices whose value is
+/// above every plan's cost.
+fn price_child<'i>(
+    alloc: Global,
+    leaf: &Priced<'i>,
+    region: Region,
+    labels: Option<usize>,
+) -> Result<Priced<'i>, PriceFault>
+    requires { IsNarrower region leaf.now.region }
+    ensures priced { IfOk result (IsPricedAt region leaf.now) }
+    ensures in_range { IfErr result (λ e. e ≢ PriceRange) }
+    ensures unlimited { IfErr result (λ e. e ≡ LabelLimit → labels ≢ None) }
+{
+    let child = match narrow(leaf, &region)? {
+        Some(child) => child,
+        None => price_again(alloc, leaf, region, labels)?,
+    };
     if child.least().value.is_some() {
         return Ok(child);
     }
@@ -109,6 +137,8 @@ fn child_regions(region: &Region, arc: Arc) -> Result<(Region, Region), AllocErr
     requires { IsUndecided region.now (pair arc) }
     ensures used { IfOk result (λ r. r.0 ≡ used_child region.now (pair arc)) }
     ensures unused { IfOk result (λ r. r.1 ≡ unused_child region.now (pair arc)) }
+    ensures used_narrower { IfOk result (λ r. IsNarrower r.0 region.now) }
+    ensures unused_narrower { IfOk result (λ r. IsNarrower r.1 region.now) }
 {
     match (region.used(arc), region.forbidden(arc)) {
         (Ok(used), Ok(unused)) => Ok((used, unused)),

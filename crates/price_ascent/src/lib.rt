@@ -16,7 +16,7 @@ mod starting;
 mod trial;
 
 pub use child::{Children, branch};
-pub use goal::Goal;
+pub use goal::{Goal, IDLE_PRICINGS, counted_routes};
 pub use raising::raise;
 pub use route_pool::RoutePool;
-pub use starting::{first_prices, first_rise, start_from};
+pub use starting::{first_prices, first_rise, rise_at, start_from};

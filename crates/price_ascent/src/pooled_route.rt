@@ -4,6 +4,7 @@ use crate::arc_flow::ArcFlow;
 use crate::floor::scaled;
 use crate::trial::Trial;
 use branching::Region;
+use prices::allows_route;
 use solomon_reader::Instance;
 use std::alloc::{AllocError, Global};
 
@@ -56,18 +57,6 @@ fn weight_of(stops: &[u16]) -> i64 {
     weight
 }
 
-/// Whether a region allows each arc of a route.
-fn is_allowed(region: &Region, stops: &[u16]) -> bool {
-    let mut from = 0;
-    for stop in stops {
-        if !region.allows(from, *stop) {
-            return false;
-        }
-        from = *stop;
-    }
-    region.allows(from, 0)
-}
-
 impl PooledRoute {
     /// A route that was met at this pricing.
     pub(crate) fn new(
@@ -110,7 +99,7 @@ impl PooledRoute {
 
     /// Lets the route count in a region only where each of its arcs is allowed.
     pub(crate) fn enter(&mut self, region: &Region) {
-        self.is_allowed = is_allowed(region, self.stops.as_slice());
+        self.is_allowed = allows_route(region, self.stops.as_slice());
         if !self.is_allowed {
             self.multiplier = 0;
         }

@@ -39,6 +39,20 @@ impl RoutePool {
         }
     }
 
+    /// A pool of these routes of an instance, each its customers in order, unless memory runs out. No
+    /// contract: any prices are sound, whatever stands in a pool.
+    pub fn of_routes(
+        alloc: Global,
+        instance: &Instance,
+        routes: &[Vec<u16>],
+    ) -> Result<RoutePool, AllocError> {
+        let mut pool = RoutePool::new(alloc);
+        for route in routes {
+            pool.add(instance, route.as_slice())?;
+        }
+        Ok(pool)
+    }
+
     /// Adds a route of an instance, by its customers in order: a relaxed one, or one of a plan. Twice
     /// the same is kept once, and the empty one isn't kept. Where the pool is full, the route that was
     /// of least use makes room. No contract: any prices are sound, whatever stands in a pool.
@@ -58,6 +72,12 @@ impl RoutePool {
     /// begin with it. No contract: any rise serves.
     pub fn rise(&self) -> i64 {
         self.rise
+    }
+
+    /// How many pricings the pool has seen: those of trials, and one for each leaf that was raised. No
+    /// contract: it only measures.
+    pub fn pricings(&self) -> u64 {
+        self.pricings
     }
 
     /// The arcs that the routes of the pool use, with what they carry.

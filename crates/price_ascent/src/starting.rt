@@ -14,6 +14,9 @@ use solomon_reader::{Instance, MOST_PRICE};
 use std::alloc::{AllocError, Global};
 use tenths::Tenths;
 
+/// The first rise below the root is so many times that of the root.
+const CHILD_RISE: i64 = 6;
+
 /// What the way there and back costs the customers in the mean, in grains.
 fn mean_way(instance: &Instance) -> i64 {
     let count = instance.customer_count();
@@ -33,6 +36,17 @@ pub fn first_rise(instance: &Instance, cost: Option<Tenths>) -> i64 {
             grains / i64::from(instance.customer_count()) / 10
         }
         None => mean_way(instance) / 50,
+    }
+}
+
+/// A first rise of each price at a leaf, in grains: that of the root, or below it, where prices start
+/// from those of the parent, six times that. No contract: any rise serves.
+pub fn rise_at(leaf: &Priced<'_>, cost: Option<Tenths>) -> i64 {
+    let first = first_rise(leaf.instance(), cost);
+    if leaf.region().is_root() {
+        first
+    } else {
+        first.saturating_mul(CHILD_RISE)
     }
 }
 

@@ -1,4 +1,5 @@
 pub mod Faults
 pub mod Pricing
+pub mod Narrowing
 pub mod Steps
 pub mod Ascents

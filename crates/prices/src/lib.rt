@@ -4,6 +4,7 @@
 mod ascent;
 mod fault;
 mod improving;
+mod narrowing;
 mod priced;
 mod range;
 mod stepping;
@@ -11,4 +12,5 @@ mod valuing;
 
 pub use fault::PriceFault;
 pub use improving::improve;
+pub use narrowing::allows_route;
 pub use priced::Priced;

@@ -1,6 +1,6 @@
 //! Prices with their value.
 
-ghost use Rattle.std.specs.Prelude.{◌≡◌, ◌≢◌, ◌≤◌, ◌↔◌, length, pos, IfOk, IfErr, None};
+ghost use Rattle.std.specs.Prelude.{◌≡◌, ◌≢◌, ◌≤◌, ◌↔◌, length, pos, IfOk, IfErr, IfSome, None};
 ghost use Rattle.std.specs.List.{AllByRecursion};
 ghost use Rattle.solomon_reader.specs.Problem.{customer_count};
 ghost use Rattle.solomon_reader.specs.Region.{root_region};
@@ -9,14 +9,16 @@ ghost use Rattle.solomon_reader.specs.declared.limits.TheConstants.{MOST_NEIGHBO
 ghost use Rattle.labelling.specs.declared.fault.LabelFault.TheVariants as label;
 ghost use Rattle.prices.specs.Pricing.{IsPricing};
 ghost use Rattle.prices.specs.Steps.{IsGuide};
+ghost use Rattle.prices.specs.Narrowing.{IsNarrower, IsSameAt};
 ghost use Rattle.labelling.specs.Answer.{HasLeastValue, HasItsRoute};
 ghost use Rattle.prices.specs.declared.fault.PriceFault.TheVariants.{LabelLimit, PriceRange};
 
 use crate::fault::PriceFault;
+use crate::narrowing::stays_least;
 use crate::range::are_prices;
 use crate::valuing::{least_of, sum_of, value_of};
 use branching::Region;
-use labelling::{LabelFault, Least, least};
+use labelling::{LabelFault, Least, least_counted};
 use solomon_reader::Instance;
 use std::alloc::{AllocError, Global};
 use std::marker::Model;
@@ -32,6 +34,7 @@ pub struct Priced<'i> {
     prices: Vec<i64>,
     value: u128,
     least: Least,
+    labels: usize,
 }
 
 impl<'i> Model for Priced<'i> {
@@ -56,7 +59,8 @@ impl<'i> Model for Priced<'i> {
         × HasItsRoute f.instance.now f.region f.neighbours f.prices.items f.least };
 }
 
-/// The value of the prices in tenths, and the least reduced cost that gives it.
+/// The value of the prices in tenths, the least reduced cost that gives it, and how many labels were
+/// made for it.
 fn evaluate(
     alloc: Global,
     instance: &Instance,
@@ -64,7 +68,7 @@ fn evaluate(
     neighbours: u32,
     prices: &[i64],
     limit: Option<usize>,
-) -> Result<(u128, Least), LabelFault>
+) -> Result<(u128, Least, usize), LabelFault>
     requires size { region.now.size ≡ customer_count instance.now }
     requires count { length prices.now ≡ customer_count instance.now }
     requires priced { AllByRecursion IsPrice prices.now }
@@ -75,14 +79,14 @@ fn evaluate(
     ensures unlimited { IfErr result (λ e. e ≡ label.LabelLimit → limit ≢ None) }
 {
     instance.law_of_limits();
-    let found = least(alloc, instance, region, prices, neighbours, limit)?;
+    let (found, labels) = least_counted(alloc, instance, region, prices, neighbours, limit)?;
     let value = value_of(
         instance.fleet(),
         instance.fewest_routes(),
         sum_of(prices),
         least_of(found.value),
     );
-    Ok((value, found))
+    Ok((value, found, labels))
 }
 
 /// A price of zero for each customer.
@@ -144,13 +148,14 @@ impl<'i> Priced<'i> {
             prices.as_slice(),
             limit,
         ) {
-            Ok((value, least)) => Ok(Priced {
+            Ok((value, least, labels)) => Ok(Priced {
                 instance,
                 region,
                 neighbours,
                 prices,
                 value,
                 least,
+                labels,
             }),
             Err(fault) => Err((region, prices, PriceFault::from(fault))),
         }
@@ -174,7 +179,7 @@ impl<'i> Priced<'i> {
     {
         let prices = no_prices(alloc, instance)?;
         let region = Region::root(alloc, instance.customer_count());
-        let (value, least) = evaluate(
+        let (value, least, labels) = evaluate(
             alloc,
             instance,
             &region,
@@ -189,6 +194,7 @@ impl<'i> Priced<'i> {
             prices,
             value,
             least,
+            labels,
         })
     }
 
@@ -242,6 +248,36 @@ impl<'i> Priced<'i> {
         &self.least
     }
 
+    /// How many labels were made to find the least reduced cost. No contract: it only measures how dear
+    /// a pricing was.
+    pub fn labels(&self) -> usize {
+        self.labels
+    }
+
+    /// The same prices at a region that allows no other arcs, where the value stays since the route of
+    /// the least reduced cost is allowed there, too, or there is none; nothing where the route isn't
+    /// allowed. It takes no pricing.
+    pub fn narrowed(&self, region: &Region) -> Result<Option<Priced<'i>>, AllocError>
+        requires { IsNarrower region.now self.now.region }
+        ensures { IfOk result (λ found. IfSome found (IsSameAt region.now self.now)) }
+    {
+        if !stays_least(region, &self.least) {
+            return Ok(None);
+        }
+        let region = region.try_clone()?;
+        let prices = self.prices.clone()?;
+        let least = copy_of(&self.least)?;
+        Ok(Some(Priced {
+            instance: self.instance,
+            region,
+            neighbours: self.neighbours,
+            prices,
+            value: self.value,
+            least,
+            labels: self.labels,
+        }))
+    }
+
     /// The route that a step goes by: one of the least reduced cost where that is below zero, else the
     /// empty one.
     pub(crate) fn guide(&self) -> &[u16]
@@ -268,6 +304,7 @@ impl<'i> Priced<'i> {
             prices,
             value: self.value,
             least,
+            labels: self.labels,
         })
     }
 }

@@ -8,4 +8,4 @@ returns-then-self-other c = λ _. carries_ahead _ _ _ _ (state_at _ _ c.args.sel
 
 pub returns : goal.returns
 returns c = λ fits. carries_light _ _ _ _ (state_at _ _ c.args.self.now) (state_at _ _ c.args.other.now) (c.is_ahead.ensures c.if-not-is_ahead.false)
-    (λ s h. omega (arith, (c.at-bound.ensures.holds (state_at _ _ c.args.other.now) s refl (omega arith) (remembers_last _ _ c.args.other.now (sym c.contains.ensures ∙ c.if-not-contains.false)) h).room, c.fits.ensures fits))
+    (λ s h. omega (arith, (c.at-bound.ensures.holds (state_at _ _ c.args.other.now) s refl (omega arith) (remembers_last _ _ c.args.other.now (sym c.contains.ensures ∙ c.if-not-contains.false)) h).room, c.fits.ensures.0 fits))

@@ -1,6 +1,6 @@
 use Rattle.std.proofs.Common.{◌∙◌}
 use Rattle.labelling.proofs.Advancing.{value_at_end, route_at_end}
-use Rattle.labelling.proofs.labeller.least.Goals as goal
+use Rattle.labelling.proofs.labeller.least_counted.Goals as goal
 
 pub returns-clause-value : goal.returns-clause-value
 returns-clause-value c =

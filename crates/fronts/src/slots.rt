@@ -1,4 +1,4 @@
-//! The turns of time for which bounds are kept.
+//! The slots of time for which bounds are kept.
 
 ghost use Rattle.std.specs.Prelude.{◌<◌, ◌≤◌, ◌*◌, length, IfSome};
 ghost use Rattle.solomon_reader.specs.declared.limits.TheConstants.{MOST_TIME};
@@ -6,34 +6,34 @@ ghost use Rattle.solomon_reader.specs.declared.limits.TheConstants.{MOST_TIME};
 use solomon_reader::{Instance, MOST_TIME};
 use std::alloc::{AllocError, Global};
 
-/// The most turns but the last one, and the fewest.
-const MOST_TURNS: u64 = 160;
+/// The most slots but the last one, and the fewest.
+const MOST_SLOTS: u64 = 160;
 
-const FEWEST_TURNS: u64 = 80;
+const FEWEST_SLOTS: u64 = 80;
 
 /// When a route may leave a row, and where the row's bounds stand.
 #[derive(Clone, Copy, Debug)]
-struct RowTurns {
+struct RowSlots {
     /// The earliest time, in tenths.
     earliest: u64,
-    /// The first turn.
+    /// The first slot.
     first: u64,
-    /// The last turn.
+    /// The last slot.
     last: u64,
-    /// The place of the bound of the last turn; those of earlier ones stand behind it.
+    /// The place of the bound of the last slot; those of earlier ones stand behind it.
     place: usize,
 }
 
-/// Turns of one length, from time 0 on. Each row has a bound for each turn in which a route may leave it.
+/// Slots of one length, from time 0 on. Each row has a bound for each slot in which a route may leave it.
 #[derive(Drop)]
-pub(crate) struct Turns {
-    /// How long a turn is, in tenths.
+pub(crate) struct Slots {
+    /// How long a slot is, in tenths.
     width: u64,
-    /// The last turn of all rows.
+    /// The last slot of all rows.
     last: u64,
     /// How many bounds there are.
     count: usize,
-    rows: Vec<RowTurns>,
+    rows: Vec<RowSlots>,
 }
 
 /// The shortest way from a row to a customer, with the service there, in tenths.
@@ -59,17 +59,17 @@ fn shortest(instance: &Instance) -> u64 {
     shortest
 }
 
-/// How long a turn is: no longer than the shortest way, unless there were too many, so that each step
-/// leads from the beginning of a turn into a later one.
+/// How long a slot is: no longer than the shortest way, unless there were too many, so that each step
+/// leads from the beginning of a slot into a later one.
 fn width_of(instance: &Instance) -> u64 {
     instance.law_of_limits();
     let due = instance.due(0);
-    let longest = due / FEWEST_TURNS + 1;
-    shortest(instance).max(due / MOST_TURNS + 1).min(longest)
+    let longest = due / FEWEST_SLOTS + 1;
+    shortest(instance).max(due / MOST_SLOTS + 1).min(longest)
 }
 
-/// The turns of a customer, whose bounds stand from a place on.
-fn row_turns(instance: &Instance, width: u64, place: usize, v: u16) -> RowTurns
+/// The slots of a customer, whose bounds stand from a place on.
+fn row_slots(instance: &Instance, width: u64, place: usize, v: u16) -> RowSlots
     requires { v < length instance.now.rows }
 {
     let home = instance.distance(v, 0).get();
@@ -82,7 +82,7 @@ fn row_turns(instance: &Instance, width: u64, place: usize, v: u16) -> RowTurns
         .saturating_add(instance.service(v));
     let served = instance.due(v).saturating_add(instance.service(v));
     let latest = served.min(instance.due(0).saturating_sub(home));
-    RowTurns {
+    RowSlots {
         earliest,
         first: earliest / width.max(1),
         last: latest / width.max(1),
@@ -90,20 +90,20 @@ fn row_turns(instance: &Instance, width: u64, place: usize, v: u16) -> RowTurns
     }
 }
 
-impl RowTurns {
-    /// The number of its turns.
+impl RowSlots {
+    /// The number of its slots.
     fn count(self) -> usize {
         if self.first > self.last {
             return 0;
         }
-        (self.last - self.first).min(MOST_TURNS) as usize + 1
+        (self.last - self.first).min(MOST_SLOTS) as usize + 1
     }
 }
 
-impl Turns {
-    /// No turns.
-    pub(crate) fn none(alloc: Global) -> Turns {
-        Turns {
+impl Slots {
+    /// No slots.
+    pub(crate) fn none(alloc: Global) -> Slots {
+        Slots {
             width: 1,
             last: 0,
             count: 0,
@@ -111,31 +111,31 @@ impl Turns {
         }
     }
 
-    /// The turns of an instance.
-    pub(crate) fn new(alloc: Global, instance: &Instance) -> Result<Turns, AllocError> {
+    /// The slots of an instance.
+    pub(crate) fn new(alloc: Global, instance: &Instance) -> Result<Slots, AllocError> {
         let width = width_of(instance);
-        let mut turns = Turns {
+        let mut slots = Slots {
             width,
             last: 0,
             count: 0,
             rows: Vec::new(alloc),
         };
-        turns.rows.push(RowTurns {
+        slots.rows.push(RowSlots {
             earliest: 0,
             first: 1,
             last: 0,
             place: 0,
         })?;
         for v in 1..instance.customer_count() + 1 {
-            let row = row_turns(instance, width, turns.count, v);
-            turns.last = turns.last.max(row.last);
-            turns.count = turns.count.saturating_add(row.count());
-            turns.rows.push(row)?;
+            let row = row_slots(instance, width, slots.count, v);
+            slots.last = slots.last.max(row.last);
+            slots.count = slots.count.saturating_add(row.count());
+            slots.rows.push(row)?;
         }
-        Ok(turns)
+        Ok(slots)
     }
 
-    /// The last turn of all rows.
+    /// The last slot of all rows.
     pub(crate) fn last(&self) -> u64 {
         self.last
     }
@@ -145,15 +145,15 @@ impl Turns {
         self.count
     }
 
-    /// The time from which on the bound of a row in a turn holds, in tenths, if the row has one.
-    pub(crate) fn start(&self, v: u16, turn: u64) -> Option<u64>
+    /// The time from which on the bound of a row in a slot holds, in tenths, if the row has one.
+    pub(crate) fn start(&self, v: u16, slot: u64) -> Option<u64>
         ensures { IfSome result (λ from. from ≤ 20 * MOST_TIME) }
     {
         let row = self.rows.get(usize::from(v))?;
-        if turn < row.first || turn > row.last {
+        if slot < row.first || slot > row.last {
             return None;
         }
-        let from = turn.saturating_mul(self.width).max(row.earliest);
+        let from = slot.saturating_mul(self.width).max(row.earliest);
         Some(from.min(20 * u64::from(MOST_TIME)))
     }
 
@@ -164,8 +164,8 @@ impl Turns {
             return usize::MAX;
         }
         let row = self.rows[row];
-        let turn = time / self.width.max(1);
+        let slot = time / self.width.max(1);
         row.place
-            .saturating_add(row.last.saturating_sub(turn) as usize)
+            .saturating_add(row.last.saturating_sub(slot) as usize)
     }
 }
