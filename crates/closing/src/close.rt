@@ -5,9 +5,10 @@ ghost use Rattle.solomon_reader.specs.declared.limits.TheConstants.{MOST_LEAVES,
 ghost use Rattle.closing.specs.Closing.{IsClosed, IsLeftOpen};
 
 use crate::closed::{CloseAloneFault, Closed, MOST_CLOSED};
-use crate::first::{first_leaf, first_plan, first_pool};
+use crate::first::{first_leaf, first_plan};
 use crate::growing::grow;
 use crate::growth::Growth;
+use price_ascent::RoutePool;
 use settling::depth_holds;
 use solomon_reader::Instance;
 use std::alloc::Global;
@@ -33,14 +34,33 @@ pub fn close_alone<'i>(
     ensures closed { IfOk result (IsClosed instance.now neighbours leaf_limit) }
     ensures left_open { IfErr result (IsLeftOpen instance.now neighbours leaf_limit) }
 {
+    let (closed, _pricings) = close_counted(alloc, instance, neighbours, leaf_limit)?;
+    Ok(closed)
+}
+
+/// What `close_alone` answers, with how often prices were priced for it; the first prices of a leaf count
+/// once, too. No clause says that it counts right.
+pub fn close_counted<'i>(
+    alloc: Global,
+    instance: &'i Instance,
+    neighbours: u32,
+    leaf_limit: u32,
+) -> Result<(Closed<'i>, u64), CloseAloneFault>
+    requires few { neighbours ≤ MOST_NEIGHBOURS }
+    requires some { 1 ≤ leaf_limit }
+    requires most { leaf_limit ≤ MOST_LEAVES }
+    ensures closed { IfOk result (λ r. IsClosed instance.now neighbours leaf_limit r.0) }
+    ensures left_open { IfErr result (IsLeftOpen instance.now neighbours leaf_limit) }
+{
     if instance.customer_count() > MOST_CLOSED {
         return Err(CloseAloneFault::TooLarge);
     }
     let plan = first_plan(alloc, instance)?;
     let root = first_leaf(alloc, instance, neighbours, plan.as_ref())?;
-    let mut pool = first_pool(alloc, instance, plan.as_ref())?;
     let mut growth = Growth::new(alloc, instance, leaf_limit, plan);
+    let mut pool = RoutePool::of_routes(alloc, instance, growth.routes())?;
     grow(root, &mut growth, &mut pool)?;
     depth_holds();
-    growth.finish(neighbours)
+    let closed = growth.finish(neighbours)?;
+    Ok((closed, pool.pricings()))
 }

@@ -8,7 +8,7 @@ ghost use Rattle.search.specs.Searching.{plan_of};
 
 use insertion::{Built, InsertFault, Weights, build};
 use labelling::LabelFault;
-use price_ascent::{RoutePool, start_from};
+use price_ascent::start_from;
 use prices::Priced;
 use rand_core::{Rng, SeedableRng};
 use rand_xoshiro::Xoshiro256PlusPlus;
@@ -121,20 +121,4 @@ pub(crate) fn first_leaf<'i>(
         Some(plan) => Ok(start_from(alloc, root, plan.routes(), None)),
         None => Ok(root),
     }
-}
-
-/// A pool of the routes of a plan, if there is one.
-pub(crate) fn first_pool(
-    alloc: Global,
-    instance: &Instance,
-    plan: Option<&Feasible<'_>>,
-) -> Result<RoutePool, AllocError> {
-    let mut pool = RoutePool::new(alloc);
-    let Some(plan) = plan else {
-        return Ok(pool);
-    };
-    for route in plan.routes() {
-        pool.add(instance, route.as_slice())?;
-    }
-    Ok(pool)
 }

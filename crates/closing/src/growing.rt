@@ -6,7 +6,9 @@ ghost use Rattle.price_ascent.specs.Branching.{AreChildren};
 ghost use Rattle.closing.specs.Growing.{Grows, IsGrowth, IsSameTree, AddsSplit};
 
 use crate::growth::Growth;
-use price_ascent::{Children, Goal, RoutePool, branch, first_rise, raise};
+use price_ascent::{
+    Children, Goal, IDLE_PRICINGS, RoutePool, branch, counted_routes, raise, rise_at,
+};
 use prices::{PriceFault, Priced};
 use schedule::Feasible;
 use settling::settled_leaf;
@@ -17,45 +19,23 @@ const ROOT_PRICINGS: u32 = 100;
 
 const LEAF_PRICINGS: u32 = 20;
 
-/// The raising of a leaf ends after so many pricings in a row without a gain.
-const IDLE_PRICINGS: u32 = 15;
-
-/// The first rise at another leaf is so many times that of the root.
-const CHILD_RISE: i64 = 6;
-
-/// How many routes more than a plan's count where prices are raised, and how many more than the
-/// fewest where there is no plan.
-const MORE_THAN_PLAN: usize = 2;
-
-const MORE_THAN_FEWEST: usize = 3;
-
-/// How many routes count where prices are raised.
-fn counted_routes(growth: &Growth<'_>) -> u16 {
-    let routes = match &growth.best {
-        Some(plan) => plan.routes().len().saturating_add(MORE_THAN_PLAN),
-        None => (growth.instance.fewest_routes() as usize).saturating_add(MORE_THAN_FEWEST),
-    };
-    routes.min(usize::from(u16::MAX)) as u16
-}
-
 /// How far the prices of a leaf are raised: to the least cost known.
 fn goal_of(leaf: &Priced<'_>, growth: &Growth<'_>) -> Goal {
-    let cost = match &growth.best {
-        Some(plan) => Some(plan.cost()),
-        None => None,
+    let (cost, routes) = match &growth.best {
+        Some(plan) => (Some(plan.cost()), Some(plan.routes())),
+        None => (None, None),
     };
-    let first = first_rise(growth.instance, cost);
-    let (rise, pricings) = if leaf.region().is_root() {
-        (first, ROOT_PRICINGS)
-    } else {
-        (first.saturating_mul(CHILD_RISE), LEAF_PRICINGS)
-    };
+    let is_root = leaf.region().is_root();
     Goal {
-        rise,
-        pricings,
+        rise: rise_at(leaf, cost),
+        pricings: if is_root {
+            ROOT_PRICINGS
+        } else {
+            LEAF_PRICINGS
+        },
         idle_pricings: IDLE_PRICINGS,
         value: i128::from(growth.target()),
-        routes: counted_routes(growth),
+        routes: counted_routes(growth.instance, routes),
         labels: None,
     }
 }

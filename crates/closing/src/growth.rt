@@ -98,6 +98,14 @@ impl<'i> Growth<'i> {
         }
     }
 
+    /// The routes of the best plan, or none.
+    pub(crate) fn routes(&self) -> &[Vec<u16>] {
+        match &self.best {
+            Some(plan) => plan.routes(),
+            None => &[],
+        }
+    }
+
     /// Takes a plan where it is cheaper than the best.
     pub(crate) fn offer(&mut self, plan: Feasible<'i>)
         requires growth { IsGrowth self.old }

@@ -8,5 +8,5 @@ mod first;
 mod growing;
 mod growth;
 
-pub use close::close_alone;
+pub use close::{close_alone, close_counted};
 pub use closed::{CloseAloneFault, Closed, MOST_CLOSED};

@@ -8,7 +8,7 @@ use crate::starts::plan_of;
 use crate::turns::{descend_alone, refused};
 use moves::{KINDS, Move, apply, best, trees_of};
 use schedule::Feasible;
-use search::SearchFault;
+use search::{ROUNDS, SearchFault};
 use segments::PlanTrees;
 use solomon_reader::Instance;
 use std::alloc::Global;
@@ -19,9 +19,6 @@ use std::time::Instant;
 
 /// The most moves of a plain descent.
 const MOST_MOVES: u32 = 100_000;
-
-/// How many rounds a turn makes.
-const ROUNDS: u32 = 10;
 
 /// How often the best moves of a kind are sought; the fastest counts.
 const RUNS: u32 = 5;

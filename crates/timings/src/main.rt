@@ -1,5 +1,5 @@
 //! Small programs for the benchmark. Words: `labels` with an instance's file, a certificate's and the most
-//! labels, `ascent` with an instance's file and the number of neighbours, `book` with an instance's file
+//! labels, `ascent` or `closing` with an instance's file and the number of neighbours, `book` with an instance's file
 //! and the number of leaves, `bests` with an instance's file and the number of runs, or `turns` or `descents`
 //! with an instance's file and the number of turns; behind them `times` where the times are to be printed, too. More
 //! such words may follow. The status is 2 where the words or the files are not such.
@@ -8,6 +8,7 @@
 mod ascents;
 mod bests;
 mod books;
+mod closes;
 mod descents;
 mod filling;
 mod labels;
@@ -18,6 +19,7 @@ mod turns;
 use crate::ascents::tell_ascents;
 use crate::bests::tell_bests;
 use crate::books::tell_book;
+use crate::closes::tell_closing;
 use crate::descents::tell_descents;
 use crate::labels::tell_labels;
 use crate::turns::tell_turns;
@@ -73,6 +75,7 @@ fn tell<R: Runtime + AllocGlobal + Threads + Sync>(
         "ascent" => tell_ascents(rt, &instance, number, times)?,
         "bests" => tell_bests(rt, &instance, number, times)?,
         "book" => tell_book(rt, &instance, number, times)?,
+        "closing" => tell_closing(rt, &instance, number)?,
         "descents" => tell_descents(rt, &instance, number, times)?,
         "turns" => tell_turns(rt, &instance, number, times)?,
         _ => return tell_labels_at(rt, &instance, words[2].as_str(), number as usize, times),
@@ -84,7 +87,7 @@ fn tell<R: Runtime + AllocGlobal + Threads + Sync>(
 fn count_of(mode: &str) -> Option<usize> {
     match mode {
         "labels" => Some(4),
-        "ascent" | "bests" | "book" | "descents" | "turns" => Some(3),
+        "ascent" | "bests" | "book" | "closing" | "descents" | "turns" => Some(3),
         _ => None,
     }
 }

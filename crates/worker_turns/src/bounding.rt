@@ -6,7 +6,7 @@ ghost use Rattle.ceiling.specs.Seats.{IsSeatOf};
 use crate::gate::{Gate, GatePoint};
 use crate::hub::Hub;
 use crate::nodes::{Nodes, Taken};
-use crate::pricing::goal_of;
+use crate::pricing::{goal_of, is_dear};
 use crate::refusal::Refusal;
 use crate::settings::Settings;
 use crate::spot::Spot;
@@ -30,8 +30,7 @@ fn split<'i, H: Hub<'i>, G: Gate>(
     match hub.split(number, arc, used, unused) {
         Ok((first, second)) => {
             spot.pass(GatePoint::Split);
-            nodes.push(first, first_value)?;
-            nodes.push(second, second_value)
+            nodes.push_children((first, first_value), (second, second_value))
         }
         Err((_, _, fault)) => Err(Refusal::from(fault)),
     }
@@ -45,8 +44,9 @@ fn reprice<'i, H: Hub<'i>>(hub: &mut H, number: u32, leaf: Priced<'i>) -> Result
     }
 }
 
-/// Gives a leaf its raised prices where they end the work at it, or the root, to which the next turn
-/// returns; splits it elsewhere, with the raised prices at both children.
+/// Gives a leaf its raised prices where they end the work at it, or where the next turn returns to it: to
+/// the root as long as it rises, and to a leaf whose pricings are dear once, to split it; splits it
+/// elsewhere, with the raised prices at both children.
 fn bring<'i, H: Hub<'i>, G: Gate>(
     spot: &Spot<'_, G>,
     hub: &mut H,
@@ -60,7 +60,7 @@ fn bring<'i, H: Hub<'i>, G: Gate>(
     if leaf.value() >= i128::from(target) {
         return reprice(hub, number, leaf);
     }
-    if is_raised && leaf.region().is_root() {
+    if is_raised && (leaf.region().is_root() || is_dear(&leaf)) {
         nodes.keep(number);
         return reprice(hub, number, leaf);
     }
@@ -101,6 +101,29 @@ fn offer_routes<'i, H: Hub<'i>, G: Gate>(
     }
 }
 
+/// The leaf with prices of a higher value, if some are found. A dear leaf to which the worker returns
+/// stays as it is: it is to be split.
+fn raise_leaf<'i, H: Hub<'i>, G: Gate>(
+    spot: &Spot<'_, G>,
+    hub: &mut H,
+    taken: Taken,
+    leaf: Priced<'i>,
+    labels: usize,
+    nodes: &mut Nodes<'_>,
+    seat: &mut CeilingSeat,
+) -> Priced<'i>
+    requires { IsSeatOf spot.now.ceiling.now seat.old }
+    ensures { IsSeatOf spot.now.ceiling.now seat.new }
+{
+    if taken.is_again && !leaf.region().is_root() {
+        return leaf;
+    }
+    let cost = hub.gap().cost;
+    let target = spot.ceiling.cost(seat);
+    let goal = goal_of(&leaf, nodes, cost, taken.is_again, target, labels);
+    raise(spot.alloc, &mut nodes.pool, leaf, &goal)
+}
+
 /// Raises the value of a leaf, and brings what came of it to the book.
 fn work_at<'i, H: Hub<'i>, G: Gate>(
     spot: &Spot<'_, G>,
@@ -115,10 +138,7 @@ fn work_at<'i, H: Hub<'i>, G: Gate>(
     ensures { IsSeatOf spot.now.ceiling.now seat.new }
 {
     let before = leaf.value();
-    let cost = hub.gap().cost;
-    let target = spot.ceiling.cost(seat);
-    let goal = goal_of(&leaf, nodes, cost, taken.is_again, target, labels);
-    let leaf = raise(spot.alloc, &mut nodes.pool, leaf, &goal);
+    let leaf = raise_leaf(spot, hub, taken, leaf, labels, nodes, seat);
     spot.pass(GatePoint::Priced);
     offer_routes(spot, hub, leaf.instance(), &nodes.pool, seat)?;
     let target = spot.ceiling.cost(seat);

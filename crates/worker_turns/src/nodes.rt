@@ -7,16 +7,10 @@ ghost use Rattle.node_pool.specs.Ends.{deque_at};
 
 use crate::refusal::Refusal;
 use node_pool::{Hand, Pass, Stolen, Thief};
-use price_ascent::RoutePool;
+use price_ascent::{RoutePool, counted_routes};
 use schedule::Feasible;
 use solomon_reader::Instance;
 use std::alloc::{AllocError, Global};
-
-/// How many routes more than a plan's count where prices are raised, and how many more than the
-/// fewest where there is no plan.
-const MORE_THAN_PLAN: u64 = 2;
-
-const MORE_THAN_FEWEST: u64 = 3;
 
 /// A leaf that waits for its turn, with its value in tenths when it was made.
 #[derive(Clone, Copy, Debug)]
@@ -85,31 +79,6 @@ fn steal(deques: &[Thief], place: usize, pass: &mut Pass) -> Option<u32>
     None
 }
 
-/// A pool of the routes of a plan, if there is one.
-fn pool_of(
-    alloc: Global,
-    instance: &Instance,
-    plan: Option<&Feasible<'_>>,
-) -> Result<RoutePool, AllocError> {
-    let mut pool = RoutePool::new(alloc);
-    let Some(plan) = plan else {
-        return Ok(pool);
-    };
-    for route in plan.routes() {
-        pool.add(instance, route.as_slice())?;
-    }
-    Ok(pool)
-}
-
-/// How many routes count where prices are raised.
-fn counted_routes(instance: &Instance, plan: Option<&Feasible<'_>>) -> u16 {
-    let routes = match plan {
-        Some(plan) => (plan.routes().len() as u64).saturating_add(MORE_THAN_PLAN),
-        None => u64::from(instance.fewest_routes()).saturating_add(MORE_THAN_FEWEST),
-    };
-    routes.min(u64::from(u16::MAX)) as u16
-}
-
 impl<'p> Nodes<'p> {
     /// The nodes of the worker whose deque stands at this place, and the routes of a plan to begin
     /// with, if there is one; refused where memory is. No contract: it decides only how the worker works.
@@ -124,7 +93,8 @@ impl<'p> Nodes<'p> {
     ) -> Result<Nodes<'p>, AllocError>
         requires { All (λ t. FitsAt (deque_at t) pass) deques.now }
     {
-        let pool = pool_of(alloc, instance, plan)?;
+        let routes = plan.map(|plan| plan.routes());
+        let pool = RoutePool::of_routes(alloc, instance, routes.unwrap_or(&[]))?;
         Ok(Nodes {
             open: Vec::new(alloc),
             own,
@@ -134,43 +104,59 @@ impl<'p> Nodes<'p> {
             pass,
             current: None,
             pool,
-            routes: counted_routes(instance, plan),
+            routes: counted_routes(instance, routes),
         })
     }
 
     /// Keeps a leaf of this value, in tenths, that waits for its turn. Where memory is refused, the
     /// worker's work ends.
-    pub(crate) fn push(&mut self, number: u32, value: i128) -> Result<(), Refusal> {
+    fn push(&mut self, number: u32, value: i128) -> Result<(), Refusal> {
         match self.open.push(OpenNode { number, value }) {
             Ok(()) => Ok(()),
             Err(_) => Err(Refusal::EndsWork),
         }
     }
 
-    /// Puts a leaf into the worker's own deque, for others to steal.
-    fn share(&mut self, node: OpenNode) -> Result<(), Refusal> {
-        match self.own.push(node.number) {
+    /// Puts the leaf of the least value that is left into the worker's own deque, for others to steal.
+    fn share_next(&mut self) -> Result<(), Refusal> {
+        let Some(next) = take_least(&mut self.open) else {
+            return Ok(());
+        };
+        match self.own.push(next.number) {
             Ok(()) => {
-                self.shared_value = node.value;
+                self.shared_value = next.value;
                 Ok(())
             }
             // A deque that takes no more leaves the worker its leaves.
-            Err(_) => self.push(node.number, node.value),
+            Err(_) => self.push(next.number, next.value),
         }
     }
 
     /// Takes the leaf of the least value that the worker made and nobody stole, and shares the next.
-    fn take_own(&mut self) -> Result<Option<u32>, Refusal> {
+    fn take_own(&mut self) -> Result<Option<OpenNode>, Refusal> {
         if let Some(number) = self.own.pop() {
             self.push(number, self.shared_value)?;
         }
         let Some(least) = take_least(&mut self.open) else {
             return Ok(None);
         };
-        if let Some(next) = take_least(&mut self.open) {
-            self.share(next)?;
+        self.share_next()?;
+        Ok(Some(least))
+    }
+
+    /// Keeps both children of a leaf, with their values in tenths, and shares one leaf at once: a worker
+    /// that has none may be looking. Where memory is refused, the worker's work ends.
+    pub(crate) fn push_children(
+        &mut self,
+        first: (u32, i128),
+        second: (u32, i128),
+    ) -> Result<(), Refusal> {
+        self.push(first.0, first.1)?;
+        self.push(second.0, second.1)?;
+        match self.take_own()? {
+            Some(least) => self.push(least.number, least.value),
+            None => Ok(()),
         }
-        Ok(Some(least.number))
     }
 
     /// Notes the leaf to go on with.
@@ -188,9 +174,9 @@ impl<'p> Nodes<'p> {
                 is_again: true,
             }));
         }
-        if let Some(number) = self.take_own()? {
+        if let Some(least) = self.take_own()? {
             return Ok(Some(Taken {
-                number,
+                number: least.number,
                 is_stolen: false,
                 is_again: false,
             }));

@@ -1,7 +1,7 @@
 //! How far the prices of a leaf are raised.
 
 use crate::nodes::Nodes;
-use price_ascent::{Goal, first_rise};
+use price_ascent::{Goal, IDLE_PRICINGS, rise_at};
 use prices::Priced;
 use tenths::Tenths;
 
@@ -15,11 +15,16 @@ const LEAST_PRICINGS: u32 = 3;
 
 const MOST_PRICINGS: u32 = 16;
 
-/// A turn ends after so many pricings in a row without a gain.
-const IDLE_PRICINGS: u32 = 15;
+/// A turn makes so many labels at a leaf, if its pricings make as many as the last one.
+const LEAF_LABELS: usize = 20_000;
 
-/// The first rise at a child is so many times that of the root.
-const CHILD_RISE: i64 = 6;
+/// A pricing that makes more labels is dear.
+const FEW_LABELS: usize = 10_000;
+
+/// Whether the pricings at a leaf are dear, so that a turn raises it and the next one splits it.
+pub(crate) fn is_dear(leaf: &Priced<'_>) -> bool {
+    leaf.labels() > FEW_LABELS
+}
 
 /// How many pricings a turn makes at a leaf: fewer where each is dear.
 fn pricings_at(leaf: &Priced<'_>) -> u32 {
@@ -27,17 +32,9 @@ fn pricings_at(leaf: &Priced<'_>) -> u32 {
         return ROOT_PRICINGS;
     }
     let customers = u32::from(leaf.instance().customer_count());
-    (LEAF_PRICINGS / customers / customers).clamp(LEAST_PRICINGS, MOST_PRICINGS)
-}
-
-/// The rise of the prices that a turn begins with, where the least cost of a plan is known or not.
-fn rise_at(leaf: &Priced<'_>, cost: Option<Tenths>) -> i64 {
-    let first = first_rise(leaf.instance(), cost);
-    if leaf.region().is_root() {
-        first
-    } else {
-        first.saturating_mul(CHILD_RISE)
-    }
+    let usual = (LEAF_PRICINGS / customers / customers).clamp(LEAST_PRICINGS, MOST_PRICINGS);
+    let affordable = (LEAF_LABELS / leaf.labels().max(1)).max(1);
+    affordable.min(usual as usize) as u32
 }
 
 /// How far the prices of a leaf are to be raised: from where the worker ended at it in the turn before,
