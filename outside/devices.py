@@ -64,6 +64,7 @@ def front(name, size, program, folder):
     put(path_in(folder, name), TEXTS[name][:size])
     texts = [got(path_in(folder, each)) for each in ("instance", "certificate", "solution")]
     out, errors, status = checking.check(*texts, bounding.least_by_routes)
+    demand(name == "instance" or errors == "vrptw: %s: Truncated\n" % name, "%d bytes: %s" % (size, errors))
     expect(program, folder, check_words(program, folder), (out.encode(), errors.encode(), status))
     if name == "instance":
         is_whole = status == 0
@@ -106,6 +107,15 @@ def refused_instance(streams, wanted):
     def case(program, folder):
         put(path_in(folder, "instance"), INSTANCE[:-4])
         expect(program, folder, solve_words(program, folder), wanted, b"", b"", streams)
+    return case
+
+
+def spoilt_first(words_of, plan, bound):
+    """The instance begins with a byte that isn't ASCII."""
+    def case(program, folder):
+        put(path_in(folder, "instance"), b"\x80" + INSTANCE[1:])
+        refused = (b"", b"vrptw: instance: NotAscii offset 0\n", 3)
+        expect(program, folder, words_of(program, folder), refused, plan, bound)
     return case
 
 
@@ -287,6 +297,8 @@ INPUTS = [
     ("no instance, solve", plain(solve_words, FAILED, instance="none")),
     ("no instance, close", plain(close_words, FAILED, instance="none")),
     ("a folder in place of the instance, solve", plain(solve_words, FAILED, folder_named="d", instance="d")),
+    ("a byte that isn't ASCII in front, solve", spoilt_first(solve_words, b"", b"")),
+    ("a byte that isn't ASCII in front, check", spoilt_first(check_words, None, None)),
     ("an empty instance", plain(solve_words, (b"", b"vrptw: instance: Truncated\n", 3), b"", b"",
                                 instance="/dev/null")),
     ("an instance without an end", endless),

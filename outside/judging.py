@@ -6,6 +6,7 @@ import traceback
 import bounding
 import checking
 from building import build
+from calling import judge_call
 from cases import (LARGE, certificate_lines, certificate_of, instance_words, laid_out, mutated, plan_of, solution_lines,
                    solution_of, spoilt, tree_of)
 from closing import judge_close
@@ -125,8 +126,8 @@ def judge_echo(echo, folder, kind, text, reader):
 class Programs:
     """The paths of what is judged, and of the library that refuses allocations."""
 
-    def __init__(self, program, echo, timings, library):
-        self.program, self.echo, self.timings, self.library = program, echo, timings, library
+    def __init__(self, program, echo, timings, calls, library):
+        self.program, self.echo, self.timings, self.calls, self.library = program, echo, timings, calls, library
 
 
 def judge_text(programs, folder, random, kind):
@@ -149,6 +150,7 @@ JUDGES = {
     "rows": lambda programs, folder, random, seed: judge_row(programs.program, folder, ROWS[seed]),
     "devices": lambda programs, folder, random, seed: judge_device(programs.program, folder, seed),
     "large": lambda programs, folder, random, seed: judge_large(programs, folder, seed),
+    "calls": lambda programs, folder, random, seed: judge_call(programs.calls, folder, programs.library, seed),
     "refusals": lambda programs, folder, random, seed: judge_refusal(programs.program, folder, random),
     "solve": lambda programs, folder, random, seed: judge_solve(
         programs.program, folder, random, random.randint(1, 8), 30, True),

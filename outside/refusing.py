@@ -1,6 +1,6 @@
 """Runs of the program in which allocations are refused, by the library that `refusing.c` is.
 
-Each run is one of `solve`, `check` or `solve --close` on one of two instances, and one way to refuse: the allocation of
+Each run is one of `solve`, `check` or `solve --close` on one of three instances, and one way to refuse: the allocation of
 one number, that one and all after it, or one thread. Every other run of a case takes the next number in turn, from 1,
 and the others draw theirs."""
 import functools
@@ -20,11 +20,12 @@ LONGEST = 120
 # What stands in both files before a run.
 OLD = b"as it was before\n"
 EXAMPLE = os.path.join(os.path.dirname(os.path.dirname(os.path.abspath(__file__))), "examples", "c1_25.txt")
+TWO = ["T"] + HEAD[:3] + ["2", "1"] + HEAD[5:] + "0 0 0 0 0 1000 0  1 3 4 1 0 1000 0  2 6 8 1 0 1000 0".split()
 THREE = ["T"] + HEAD[:3] + ["2", "2"] + HEAD[5:] + ("0 0 1 0 0 1000 0  1 100 1 1 0 1000 0  2 100 2 1 0 1000 0  "
                                                   "3 100 0 1 0 1000 0").split()
 FEW = ["--searchers", "1", "--bounders", "1", "--turns", "2"]
 ANSWERS = {"BEST": 0, "NO": 0, "GAP": 1, "OPEN": 1}
-CASES = [(size, words, way) for size in (3, 25) for words in (["solve"] + FEW, ["check"], ["solve", "--close"])
+CASES = [(size, words, way) for size in (2, 3, 25) for words in (["solve"] + FEW, ["check"], ["solve", "--close"])
          for way in ("one", "all after", "thread") if way != "thread" or words[-1] == "2"]
 
 
@@ -38,7 +39,9 @@ def build(folder):
 
 @functools.lru_cache(None)
 def instance_text(size):
-    return " ".join(THREE).encode() + b"\n" if size == 3 else got(EXAMPLE)
+    if size == 25:
+        return got(EXAMPLE)
+    return " ".join(TWO if size == 2 else THREE).encode() + b"\n"
 
 
 def variables_of(folder, library, way, number):
@@ -147,7 +150,7 @@ def judge_texts(program, folder, size, out, status, solution, certificate, told)
     demand((solution == b"") == (out.split()[0] in ("NO", "OPEN")), "%s: a solution's text beside %r" % (told, out))
     checked = run_check(program, folder, text, certificate, solution or None)
     demand(checked == wanted, "%s: %r, check: %r" % (told, out, checked))
-    if size == 3:
+    if size < 25:
         judge_plan(read(text), solution)
     try:
         checked = checking.check(text, certificate, solution or None, least)

@@ -159,3 +159,17 @@ fn what_stands_is_audited(rt: HostRuntime) -> Result<(), Fail> {
     assert_eq!(rt; stands.as_slice(), [5, 6].as_slice());
     Ok(())
 }
+
+#[test]
+fn what_was_popped_makes_no_room(rt: HostRuntime) -> Result<(), Fail> {
+    let (mut hand, _thief, _first, _second) = ends(rt.alloc())?;
+    for number in [7, 8, 9] {
+        assert_eq!(rt; hand.push(number), Ok(()));
+    }
+    for number in [7, 8, 9] {
+        assert_eq!(rt; hand.pop(), Some(number));
+    }
+    assert_eq!(rt; hand.pop(), None);
+    assert_eq!(rt; hand.push(10), Err((10, PoolFault::Full)));
+    Ok(())
+}

@@ -1,0 +1,230 @@
+//! Calls of a book that has no room for a further event without a growth: two customers in a line, which
+//! one vehicle can serve.
+
+use branching::{Arc, Region};
+use incumbent_book::{Book, Offered};
+use prices::Priced;
+use row_texts::{DEPOT, instance_text};
+use schedule::Feasible;
+use solomon_reader::{Instance, read};
+use std::alloc::Global;
+use std::io;
+use std::rt::Runtime;
+
+/// The size of the instance.
+const SIZE: u16 = 2;
+
+/// How many events a book has room for at first.
+const FIRST_ROOM: u32 = 16;
+
+/// The arc from the first customer to the second.
+const ONWARD: Arc = Arc { from: 1, to: 2 };
+
+fn instance_of(alloc: Global) -> Option<Instance> {
+    let customers = "1 3 4 1 0 1000 0\n2 6 8 1 0 1000 0\n";
+    let text = instance_text(alloc, 2, 2, DEPOT, customers).ok()?;
+    read(alloc, text.as_bytes()).ok()
+}
+
+/// The plan of one route for both customers.
+fn together<'i>(alloc: Global, instance: &'i Instance) -> Option<Feasible<'i>> {
+    let mut routes = Vec::new(alloc);
+    routes.push(Vec::from_slice(alloc, &[1, 2]).ok()?).ok()?;
+    Feasible::check(instance, routes).ok()
+}
+
+/// The plan of a route for each customer.
+fn apart<'i>(alloc: Global, instance: &'i Instance) -> Option<Feasible<'i>> {
+    let mut routes = Vec::new(alloc);
+    routes.push(Vec::from_slice(alloc, &[1]).ok()?).ok()?;
+    routes.push(Vec::from_slice(alloc, &[2]).ok()?).ok()?;
+    Feasible::check(instance, routes).ok()
+}
+
+/// Prices at a region, with one neighbour.
+fn priced_at<'i>(
+    alloc: Global,
+    instance: &'i Instance,
+    region: Region,
+    prices: [i64; 2],
+) -> Option<Priced<'i>> {
+    if instance.customer_count() != SIZE || region.size() != SIZE {
+        return None;
+    }
+    let list = Vec::from_slice(alloc, &prices).ok()?;
+    Priced::of(alloc, instance, region, 1, list, None).ok()
+}
+
+/// A book whose room for events is full of offers of the dearer plan.
+fn book_of<'i>(alloc: Global, instance: &'i Instance) -> Option<Book<'i>> {
+    let root = Priced::root(alloc, instance, 1, None).ok()?;
+    let mut book = Book::new(alloc, root).ok()?;
+    for _ in 0..FIRST_ROOM {
+        book.offer(0, apart(alloc, instance)?).ok()?;
+    }
+    Some(book)
+}
+
+/// Prints how many events a book has, its best cost and its bound, behind what came of a call.
+fn tell_book<R: Runtime>(rt: &R, book: &Book<'_>) -> io::Result<()> {
+    let (events, gap) = (book.history().len(), book.gap());
+    let (cost, bound) = (gap.cost.map_or(0, |cost| cost.get()), gap.bound.get());
+    println!(rt; "events {events} cost {cost} bound {bound}")
+}
+
+/// Prints the reply to an offer.
+fn tell_reply<R: Runtime>(rt: &R, reply: &Offered<'_>) -> io::Result<()> {
+    match reply {
+        Offered::Better { before } => {
+            let before = before.map_or(0, |cost| cost.get());
+            print!(rt; "Better {before} ")
+        }
+        Offered::NotBetter { best, plan } => {
+            let (best, routes) = (best.get(), plan.routes());
+            print!(rt; "NotBetter {best} {routes:?} ")
+        }
+    }
+}
+
+/// Offers a plan and prints what came of it: the plan, if it was refused.
+fn offer_once<'i, R: Runtime>(
+    rt: &R,
+    book: &mut Book<'i>,
+    plan: Feasible<'i>,
+) -> io::Result<Option<Feasible<'i>>> {
+    let back = match book.offer(0, plan) {
+        Ok(reply) => {
+            tell_reply(rt, &reply)?;
+            None
+        }
+        Err((plan, fault)) => {
+            let (cost, routes) = (plan.cost().get(), plan.routes());
+            print!(rt; "{fault} back {cost} {routes:?} ")?;
+            Some(plan)
+        }
+    };
+    tell_book(rt, book)?;
+    Ok(back)
+}
+
+pub(crate) fn tell_offers<R: Runtime + AllocGlobal>(rt: &R) -> io::Result<bool> {
+    let Some(instance) = instance_of(rt.alloc()) else {
+        return Ok(false);
+    };
+    let Some(mut book) = book_of(rt.alloc(), &instance) else {
+        return Ok(false);
+    };
+    let (Some(plan), Some(other)) = (
+        together(rt.alloc(), &instance),
+        together(rt.alloc(), &instance),
+    ) else {
+        return Ok(false);
+    };
+    println!(rt; "ready")?;
+    let back = offer_once(rt, &mut book, plan)?;
+    offer_once(rt, &mut book, back.unwrap_or(other))?;
+    Ok(true)
+}
+
+/// Prints prices that came back, with their value.
+fn tell_back<R: Runtime>(rt: &R, priced: &Priced<'_>) -> io::Result<()> {
+    let (value, prices) = (priced.value(), priced.prices());
+    print!(rt; "back {value} {prices:?} ")
+}
+
+/// Gives the root new prices and prints what came of it: the prices, if they were refused.
+fn reprice_once<'i, R: Runtime>(
+    rt: &R,
+    book: &mut Book<'i>,
+    priced: Priced<'i>,
+) -> io::Result<Option<Priced<'i>>> {
+    let mut back = None;
+    match book.reprice(0, 0, priced) {
+        Ok(()) => print!(rt; "Ok ")?,
+        Err((priced, fault)) => {
+            print!(rt; "{fault} ")?;
+            tell_back(rt, &priced)?;
+            back = Some(priced);
+        }
+    }
+    tell_book(rt, book)?;
+    Ok(back)
+}
+
+/// Prices of 200 tenths at the root.
+fn higher<'i>(alloc: Global, instance: &'i Instance) -> Option<Priced<'i>> {
+    let root = Region::root(alloc, SIZE);
+    priced_at(alloc, instance, root, [100_000, 100_000])
+}
+
+pub(crate) fn tell_reprices<R: Runtime + AllocGlobal>(rt: &R) -> io::Result<bool> {
+    let Some(instance) = instance_of(rt.alloc()) else {
+        return Ok(false);
+    };
+    let Some(mut book) = book_of(rt.alloc(), &instance) else {
+        return Ok(false);
+    };
+    let (Some(priced), Some(other)) = (higher(rt.alloc(), &instance), higher(rt.alloc(), &instance))
+    else {
+        return Ok(false);
+    };
+    println!(rt; "ready")?;
+    let back = reprice_once(rt, &mut book, priced)?;
+    reprice_once(rt, &mut book, back.unwrap_or(other))?;
+    Ok(true)
+}
+
+/// Prices for both children of the root.
+#[derive(Drop)]
+struct Children<'i> {
+    used: Priced<'i>,
+    unused: Priced<'i>,
+}
+
+/// Prices of 0 at both children.
+fn children_of<'i>(alloc: Global, instance: &'i Instance) -> Option<Children<'i>> {
+    let root = Region::root(alloc, SIZE);
+    let used = priced_at(alloc, instance, root.used(ONWARD).ok()?, [0, 0])?;
+    let unused = priced_at(alloc, instance, root.forbidden(ONWARD).ok()?, [0, 0])?;
+    Some(Children { used, unused })
+}
+
+/// Splits the root and prints what came of it: the prices, if they were refused.
+fn split_once<'i, R: Runtime>(
+    rt: &R,
+    book: &mut Book<'i>,
+    children: Children<'i>,
+) -> io::Result<Option<Children<'i>>> {
+    let Children { used, unused } = children;
+    let mut back = None;
+    match book.split(0, 0, ONWARD, used, unused) {
+        Ok((used, unused)) => print!(rt; "Ok {used} {unused} ")?,
+        Err((used, unused, fault)) => {
+            print!(rt; "{fault} ")?;
+            tell_back(rt, &used)?;
+            tell_back(rt, &unused)?;
+            back = Some(Children { used, unused });
+        }
+    }
+    tell_book(rt, book)?;
+    Ok(back)
+}
+
+pub(crate) fn tell_splits<R: Runtime + AllocGlobal>(rt: &R) -> io::Result<bool> {
+    let Some(instance) = instance_of(rt.alloc()) else {
+        return Ok(false);
+    };
+    let Some(mut book) = book_of(rt.alloc(), &instance) else {
+        return Ok(false);
+    };
+    let (Some(children), Some(other)) = (
+        children_of(rt.alloc(), &instance),
+        children_of(rt.alloc(), &instance),
+    ) else {
+        return Ok(false);
+    };
+    println!(rt; "ready")?;
+    let back = split_once(rt, &mut book, children)?;
+    split_once(rt, &mut book, back.unwrap_or(other))?;
+    Ok(true)
+}
