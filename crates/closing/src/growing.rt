@@ -58,7 +58,7 @@ fn offer_routes(growth: &mut Growth<'_>, pool: &RoutePool) -> Result<(), AllocEr
 fn children<'i>(
     growth: &Growth<'i>,
     leaf: &Priced<'i>,
-    pool: &RoutePool,
+    pool: &mut RoutePool,
 ) -> Result<Option<Children<'i>>, AllocError>
     ensures settled { IfOk result (λ found. IfNone found (IsSettled leaf.now.region)) }
     ensures children { IfOk result (λ found. IfSome found (AreChildren leaf.now)) }

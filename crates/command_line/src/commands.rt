@@ -99,7 +99,7 @@ fn with_search_options<'a>(alloc: Global, command: Command<'a>) -> Result<Comman
             "turns",
             number_between(1, MOST_TURNS),
             "200",
-            "How many turns each search takes, 1 to 1000000",
+            "How many turns each worker makes, 1 to 1000000",
         ))?
         .arg(number_option(
             alloc,
@@ -127,7 +127,7 @@ fn with_pricing_options<'a>(alloc: Global, command: Command<'a>) -> Result<Comma
             "labels",
             number_between(1, MOST_LABELS),
             "1000000",
-            "How many labels one pricing makes at most, 1 to 100000000",
+            "How many labels may be active at once in a pricing, 1 to 100000000",
         ))
 }
 

@@ -12,6 +12,7 @@ ghost use Rattle.prices.specs.declared.fault.PriceFault.TheVariants.{LabelLimit,
 ghost use Rattle.price_ascent.specs.Branching.{AreChildren, IsPricedAt};
 
 use crate::pooled_route::GRAINS_OF_TENTH;
+use crate::pricing::price;
 use crate::route_pool::RoutePool;
 use branching::{Arc, Region, RegionFault};
 use prices::{PriceFault, Priced};
@@ -27,28 +28,6 @@ pub struct Children<'i> {
     pub used: Priced<'i>,
     /// The child in which it is forbidden.
     pub unused: Priced<'i>,
-}
-
-/// These prices at a region of a leaf's instance.
-fn price<'i>(
-    alloc: Global,
-    leaf: &Priced<'i>,
-    region: Region,
-    prices: Vec<i64>,
-    labels: Option<usize>,
-) -> Result<Priced<'i>, PriceFault>
-    requires size { region.size ≡ customer_count leaf.now.problem }
-    requires count { length prices.items ≡ customer_count leaf.now.problem }
-    requires in_range { AllByRecursion IsPrice prices.items }
-    ensures priced { IfOk result (IsPricedAt region leaf.now) }
-    ensures in_range { IfErr result (λ e. e ≢ PriceRange) }
-    ensures unlimited { IfErr result (λ e. e ≡ LabelLimit → labels ≢ None) }
-{
-    let instance = leaf.instance();
-    match Priced::of(alloc, instance, region, leaf.neighbours(), prices, labels) {
-        Ok(priced) => Ok(priced),
-        Err((_, _, fault)) => Err(fault),
-    }
 }
 
 /// A price in grains: with it for each customer a region without a relaxed route has a value above the
@@ -92,6 +71,7 @@ fn narrow<'i>(leaf: &Priced<'i>, region: &Region) -> Result<Option<Priced<'i>>, 
 /// The leaf's prices at another region, priced anew.
 fn price_again<'i>(
     alloc: Global,
+    pool: &mut RoutePool,
     leaf: &Priced<'i>,
     region: Region,
     labels: Option<usize>,
@@ -103,7 +83,7 @@ fn price_again<'i>(
 {
     let _size = leaf.region();
     let prices = prices_of(alloc, leaf)?;
-    price(alloc, leaf, region, prices, labels)
+    price(alloc, pool, leaf, region, prices, labels)
 }
 
 /// The leaf's prices at a child's region, priced anew only where the route of the least reduced cost
@@ -111,6 +91,7 @@ fn price_again<'i>(
 /// above every plan's cost.
 fn price_child<'i>(
     alloc: Global,
+    pool: &mut RoutePool,
     leaf: &Priced<'i>,
     region: Region,
     labels: Option<usize>,
@@ -122,13 +103,14 @@ fn price_child<'i>(
 {
     let child = match narrow(leaf, &region)? {
         Some(child) => child,
-        None => price_again(alloc, leaf, region, labels)?,
+        None => price_again(alloc, pool, leaf, region, labels)?,
     };
     if child.least().value.is_some() {
         return Ok(child);
     }
     let prices = high_prices(alloc, leaf.instance())?;
-    price(alloc, leaf, child.region().try_clone()?, prices, labels)
+    let region = child.region().try_clone()?;
+    price(alloc, pool, leaf, region, prices, labels)
 }
 
 /// The regions of both children by an arc: that in which it is required, and that in which it is
@@ -154,7 +136,7 @@ fn child_regions(region: &Region, arc: Arc) -> Result<(Region, Region), AllocErr
 pub fn branch<'i>(
     alloc: Global,
     leaf: &Priced<'i>,
-    pool: &RoutePool,
+    pool: &mut RoutePool,
     labels: Option<usize>,
 ) -> Result<Option<Children<'i>>, PriceFault>
     ensures settled { IfOk result (λ found. IfNone found (IsSettled leaf.now.region)) }
@@ -167,8 +149,8 @@ pub fn branch<'i>(
         return Ok(None);
     };
     let (used, unused) = child_regions(leaf.region(), arc)?;
-    let used = price_child(alloc, leaf, used, labels);
-    let unused = price_child(alloc, leaf, unused, labels);
+    let used = price_child(alloc, pool, leaf, used, labels);
+    let unused = price_child(alloc, pool, leaf, unused, labels);
     match (used, unused) {
         (Ok(used), Ok(unused)) => Ok(Some(Children { arc, used, unused })),
         (Err(fault), _) | (_, Err(fault)) => Err(fault),

@@ -10,6 +10,7 @@ mod floor;
 mod goal;
 mod merit;
 mod pooled_route;
+mod pricing;
 mod raising;
 mod route_pool;
 mod starting;

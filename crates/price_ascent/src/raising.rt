@@ -1,9 +1,11 @@
 //! The raising of a leaf's value.
 
 ghost use Rattle.std.specs.Prelude.{◌≡◌, ◌≤◌, IfOk};
+ghost use Rattle.price_ascent.specs.Branching.{IsPricedAt};
 
 use crate::ascent::Ascent;
 use crate::goal::Goal;
+use crate::pricing::price;
 use crate::route_pool::RoutePool;
 use crate::trial::Trial;
 use prices::{PriceFault, Priced};
@@ -12,21 +14,16 @@ use std::alloc::Global;
 /// The prices of a trial with their value, at the leaf of other prices.
 fn price_trial<'i>(
     alloc: Global,
+    pool: &mut RoutePool,
     leaf: &Priced<'i>,
     trial: &Trial,
     labels: Option<usize>,
 ) -> Result<Priced<'i>, PriceFault>
-    ensures problem { IfOk result (λ f. f.problem ≡ leaf.now.problem) }
-    ensures region { IfOk result (λ f. f.region ≡ leaf.now.region) }
-    ensures neighbours { IfOk result (λ f. f.neighbours ≡ leaf.now.neighbours) }
+    ensures { IfOk result (IsPricedAt leaf.now.region leaf.now) }
 {
-    let instance = leaf.instance();
     let region = leaf.region().try_clone()?;
-    let prices = trial.prices(alloc, instance)?;
-    match Priced::of(alloc, instance, region, leaf.neighbours(), prices, labels) {
-        Ok(next) => Ok(next),
-        Err((_, _, fault)) => Err(fault),
-    }
+    let prices = trial.prices(alloc, leaf.instance())?;
+    price(alloc, pool, leaf, region, prices, labels)
 }
 
 /// Of two prices of one leaf those of the higher value; of equal values the first.
@@ -74,7 +71,7 @@ pub fn raise<'i>(alloc: Global, pool: &mut RoutePool, priced: Priced<'i>, goal: 
         let Ok(trial) = ascent.trial(alloc, pool) else {
             return best;
         };
-        let Ok(next) = price_trial(alloc, &best, &trial, goal.labels) else {
+        let Ok(next) = price_trial(alloc, pool, &best, &trial, goal.labels) else {
             ascent.draw_back(pool);
             return best;
         };

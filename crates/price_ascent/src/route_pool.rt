@@ -24,8 +24,10 @@ pub struct RoutePool {
     routes: Vec<PooledRoute>,
     /// The rise by which the multipliers are measured, in grains.
     rise: i64,
-    /// How many pricings the pool has seen.
+    /// How many pricings were made for it.
     pricings: u64,
+    /// How many labels they made.
+    labels: u64,
 }
 
 impl RoutePool {
@@ -36,6 +38,7 @@ impl RoutePool {
             routes: Vec::new(alloc),
             rise: 1,
             pricings: 0,
+            labels: 0,
         }
     }
 
@@ -74,10 +77,21 @@ impl RoutePool {
         self.rise
     }
 
-    /// How many pricings the pool has seen: those of trials, and one for each leaf that was raised. No
-    /// contract: it only measures.
+    /// How many pricings were made with the pool: those of trials, and of children that don't keep
+    /// their parent's value. No contract: it only measures.
     pub fn pricings(&self) -> u64 {
         self.pricings
+    }
+
+    /// How many labels these pricings made. No contract: it only measures.
+    pub fn labels(&self) -> u64 {
+        self.labels
+    }
+
+    /// Counts a pricing that made so many labels.
+    pub(crate) fn count(&mut self, labels: usize) {
+        self.pricings = self.pricings.saturating_add(1);
+        self.labels = self.labels.saturating_add(labels as u64);
     }
 
     /// The arcs that the routes of the pool use, with what they carry.
@@ -140,7 +154,6 @@ impl RoutePool {
 
     /// Measures the multipliers by another rise.
     pub(crate) fn scale(&mut self, rise: i64) {
-        self.pricings = self.pricings.saturating_add(1);
         for route in self.routes.iter_mut() {
             route.scale(self.rise, rise, self.pricings);
         }

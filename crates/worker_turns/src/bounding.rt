@@ -6,7 +6,7 @@ ghost use Rattle.ceiling.specs.Seats.{IsSeatOf};
 use crate::gate::{Gate, GatePoint};
 use crate::hub::Hub;
 use crate::nodes::{Nodes, Taken};
-use crate::pricing::{goal_of, is_dear};
+use crate::pricing::{goal_of, is_ahead};
 use crate::refusal::Refusal;
 use crate::settings::Settings;
 use crate::spot::Spot;
@@ -44,9 +44,8 @@ fn reprice<'i, H: Hub<'i>>(hub: &mut H, number: u32, leaf: Priced<'i>) -> Result
     }
 }
 
-/// Gives a leaf its raised prices where they end the work at it, or where the next turn returns to it: to
-/// the root as long as it rises, and to a leaf whose pricings are dear once, to split it; splits it
-/// elsewhere, with the raised prices at both children.
+/// Gives the root its raised prices, to which the next turn returns as long as it rises, and another leaf
+/// where they end the work at it; splits it elsewhere, with the raised prices at both children.
 fn bring<'i, H: Hub<'i>, G: Gate>(
     spot: &Spot<'_, G>,
     hub: &mut H,
@@ -60,11 +59,11 @@ fn bring<'i, H: Hub<'i>, G: Gate>(
     if leaf.value() >= i128::from(target) {
         return reprice(hub, number, leaf);
     }
-    if is_raised && (leaf.region().is_root() || is_dear(&leaf)) {
+    if is_raised && leaf.region().is_root() {
         nodes.keep(number);
         return reprice(hub, number, leaf);
     }
-    match branch(spot.alloc, &leaf, &nodes.pool, Some(labels)) {
+    match branch(spot.alloc, &leaf, &mut nodes.pool, Some(labels)) {
         Ok(Some(children)) => split(spot, hub, number, children, nodes),
         Ok(None) | Err(PriceFault::LabelLimit | PriceFault::PriceRange) => {
             reprice(hub, number, leaf)
@@ -101,8 +100,7 @@ fn offer_routes<'i, H: Hub<'i>, G: Gate>(
     }
 }
 
-/// The leaf with prices of a higher value, if some are found. A dear leaf to which the worker returns
-/// stays as it is: it is to be split.
+/// The leaf with prices of a higher value, if some are found.
 fn raise_leaf<'i, H: Hub<'i>, G: Gate>(
     spot: &Spot<'_, G>,
     hub: &mut H,
@@ -115,9 +113,6 @@ fn raise_leaf<'i, H: Hub<'i>, G: Gate>(
     requires { IsSeatOf spot.now.ceiling.now seat.old }
     ensures { IsSeatOf spot.now.ceiling.now seat.new }
 {
-    if taken.is_again && !leaf.region().is_root() {
-        return leaf;
-    }
     let cost = hub.gap().cost;
     let target = spot.ceiling.cost(seat);
     let goal = goal_of(&leaf, nodes, cost, taken.is_again, target, labels);
@@ -155,19 +150,20 @@ fn work_at<'i, H: Hub<'i>, G: Gate>(
     )
 }
 
-/// Takes a node, unless there is none or cost and bound have met, and works at it, unless its value
-/// reaches the cost.
+/// Takes a node, unless there is none, cost and bound have met, or the worker is ahead of the turns that
+/// it made, and works at it, unless its value reaches the cost.
 fn turn<'i, H: Hub<'i>, G: Gate>(
     spot: &Spot<'_, G>,
     hub: &mut H,
     labels: usize,
+    made: u32,
     nodes: &mut Nodes<'_>,
     seat: &mut CeilingSeat,
 ) -> Result<(), Refusal>
     requires { IsSeatOf spot.now.ceiling.now seat.old }
     ensures { IsSeatOf spot.now.ceiling.now seat.new }
 {
-    if spot.is_closed(seat) {
+    if spot.is_closed(seat) || is_ahead(nodes, made) {
         return Ok(());
     }
     let Some(taken) = nodes.take()? else {
@@ -190,10 +186,11 @@ fn turn<'i, H: Hub<'i>, G: Gate>(
 /// tree or deque ends the work, and answers how many.
 ///
 /// In each turn the worker takes the open node of its own that has the least value or steals one, and
-/// raises the value of the
-/// leaf. It gives the leaf the new prices at the root and where the value reaches the ceiling, else
-/// splits it; a leaf whose value had reached the ceiling is laid aside.
-/// A refusal of the hub ends the turn. Where the words for cost and bound have met, a turn does nothing.
+/// raises the value of the leaf. It gives the leaf the new prices at the root and where the value reaches
+/// the ceiling, else splits it; a leaf whose value had reached the ceiling is laid aside.
+/// A refusal of the hub ends the turn. Where the words for cost and bound have met, a turn does nothing,
+/// and where the pricings so far made more labels than the turns so far are worth, so that dear pricings
+/// don't make the work endless.
 pub fn bound_worker<'i, H: Hub<'i>, G: Gate>(
     alloc: Global,
     hub: &mut H,
@@ -217,7 +214,7 @@ pub fn bound_worker<'i, H: Hub<'i>, G: Gate>(
     let labels = settings.labels as usize;
     for made in 0..settings.turns {
         spot.pass(GatePoint::Start);
-        let done = turn(&spot, hub, labels, &mut nodes, seat);
+        let done = turn(&spot, hub, labels, made, &mut nodes, seat);
         spot.pass(GatePoint::End);
         if let Err(Refusal::EndsWork) = done {
             return made + 1;

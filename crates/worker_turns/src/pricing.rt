@@ -1,4 +1,4 @@
-//! How far the prices of a leaf are raised.
+//! How far the prices of a leaf are raised, and how much work a turn is worth.
 
 use crate::nodes::Nodes;
 use price_ascent::{Goal, IDLE_PRICINGS, rise_at};
@@ -15,26 +15,21 @@ const LEAST_PRICINGS: u32 = 3;
 
 const MOST_PRICINGS: u32 = 16;
 
-/// A turn makes so many labels at a leaf, if its pricings make as many as the last one.
-const LEAF_LABELS: usize = 20_000;
+/// How many labels a turn is worth.
+const TURN_LABELS: u64 = 20_000;
 
-/// A pricing that makes more labels is dear.
-const FEW_LABELS: usize = 10_000;
-
-/// Whether the pricings at a leaf are dear, so that a turn raises it and the next one splits it.
-pub(crate) fn is_dear(leaf: &Priced<'_>) -> bool {
-    leaf.labels() > FEW_LABELS
+/// Whether a worker's pricings have made more labels than the turns are worth that it made.
+pub(crate) fn is_ahead(nodes: &Nodes<'_>, made: u32) -> bool {
+    nodes.pool.labels() > u64::from(made) * TURN_LABELS
 }
 
-/// How many pricings a turn makes at a leaf: fewer where each is dear.
+/// How many pricings a turn makes at a leaf.
 fn pricings_at(leaf: &Priced<'_>) -> u32 {
     if leaf.region().is_root() {
         return ROOT_PRICINGS;
     }
     let customers = u32::from(leaf.instance().customer_count());
-    let usual = (LEAF_PRICINGS / customers / customers).clamp(LEAST_PRICINGS, MOST_PRICINGS);
-    let affordable = (LEAF_LABELS / leaf.labels().max(1)).max(1);
-    affordable.min(usual as usize) as u32
+    (LEAF_PRICINGS / customers / customers).clamp(LEAST_PRICINGS, MOST_PRICINGS)
 }
 
 /// How far the prices of a leaf are to be raised: from where the worker ended at it in the turn before,

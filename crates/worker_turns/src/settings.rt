@@ -9,7 +9,7 @@ pub const MOST_SEARCHERS: u32 = 32;
 pub const MOST_BOUNDERS: u32 = 32;
 /// The most turns of one worker.
 pub const MOST_TURNS: u32 = 1_000_000;
-/// The most labels of one pricing.
+/// The most labels that may be active at once in a pricing.
 pub const MOST_LABELS: u32 = 100_000_000;
 
 /// How much work goes into a plan and a bound. Any numbers can stand in it:
@@ -27,7 +27,7 @@ pub struct Settings {
     /// How many nearest customers the relaxed routes of a customer remember: 0 to
     /// `MOST_NEIGHBOURS`, by default 8.
     pub neighbours: u32,
-    /// How many labels one pricing makes at most: 1 to `MOST_LABELS`, by default 1,000,000.
+    /// How many labels may be active at once in a pricing: 1 to `MOST_LABELS`, by default 1,000,000.
     pub labels: u32,
 }
 

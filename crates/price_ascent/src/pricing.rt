@@ -1,0 +1,43 @@
+//! Pricings for the leaves that a pool serves.
+
+ghost use Rattle.std.specs.Prelude.{◌≡◌, ◌≢◌, length, None, IfOk, IfErr};
+ghost use Rattle.std.specs.List.{AllByRecursion};
+ghost use Rattle.solomon_reader.specs.Problem.{customer_count};
+ghost use Rattle.solomon_reader.specs.CertificateText.{IsPrice};
+ghost use Rattle.prices.specs.declared.fault.PriceFault.TheVariants.{LabelLimit, PriceRange};
+ghost use Rattle.price_ascent.specs.Branching.{IsPricedAt};
+
+use crate::route_pool::RoutePool;
+use branching::Region;
+use prices::{PriceFault, Priced};
+use std::alloc::Global;
+
+/// These prices at a region of a leaf's instance. The pool counts the labels that they took: where
+/// they were refused, as many as may be active at once.
+pub(crate) fn price<'i>(
+    alloc: Global,
+    pool: &mut RoutePool,
+    leaf: &Priced<'i>,
+    region: Region,
+    prices: Vec<i64>,
+    labels: Option<usize>,
+) -> Result<Priced<'i>, PriceFault>
+    requires size { region.size ≡ customer_count leaf.now.problem }
+    requires count { length prices.items ≡ customer_count leaf.now.problem }
+    requires in_range { AllByRecursion IsPrice prices.items }
+    ensures priced { IfOk result (IsPricedAt region leaf.now) }
+    ensures in_range { IfErr result (λ e. e ≢ PriceRange) }
+    ensures unlimited { IfErr result (λ e. e ≡ LabelLimit → labels ≢ None) }
+{
+    let instance = leaf.instance();
+    match Priced::of(alloc, instance, region, leaf.neighbours(), prices, labels) {
+        Ok(priced) => {
+            pool.count(priced.labels());
+            Ok(priced)
+        }
+        Err((_, _, fault)) => {
+            pool.count(labels.unwrap_or(0));
+            Err(fault)
+        }
+    }
+}
