@@ -2,11 +2,15 @@
 
 It makes a call twice, and prints `ready` and what came of each. Where no allocation is refused, both answers are those
 that stand here, by hand or by this folder. Where one is, that call may say so, with the state that it leaves, and the
-call after it answers as if nothing had been refused."""
+call after it answers as if nothing had been refused. What `solve` answers is judged by its texts."""
+import functools
+from collections import Counter
+
 import bounding
 from building import build
 from instances import plan_cost, read
 from moving import first_gain
+from refused_solving import ANSWERED, SIZES, judge_solved
 from refusing import counted, variables_of
 from rows import DEPOT, INSTANCES, certificate_text, instance_text
 from running import Disagreement, demand, run, shown
@@ -88,6 +92,7 @@ def read_line():
     return "Ok Cert { parts: CertParts { %s, nodes: [%s] } }" % (head, ", ".join(nodes(found.tree)))
 
 
+@functools.lru_cache(None)
 def calls_of():
     """All calls by name."""
     steps, better = descended(), improved()
@@ -106,7 +111,7 @@ def calls_of():
                       ["Memory %s %s" % (plan_back, full)], ["Memory %s events 17 cost 200 bound 100" % plan_back]),
         "reprice": Call("Ok events 17 cost 300 bound 200", "NotHigher %s events 17 cost 300 bound 200" % prices_back,
                         ["Memory %s %s" % (prices_back, full)]),
-        "split": Call("Ok 1 2 events 17 cost 300 bound 100", "NotALeaf %s events 17 cost 300 bound 100" % children_back,
+        "split": Call("Ok 3 4 events 17 cost 300 bound 100", "NotALeaf %s events 17 cost 300 bound 100" % children_back,
                       ["Memory %s %s" % (children_back, full)]),
         "read": alike(read_line(), ["Memory"]),
         "write": alike(written("Ok", CERTIFICATE),
@@ -116,31 +121,43 @@ def calls_of():
 
 
 NAMES = ["build", "apply", "descend", "least", "improve", "offer", "reprice", "split", "read", "write", "check"]
+NAMES += list(SIZES)
+BEFORE, AS_USUAL = "before the call", "as usual"
+# What a run may come to that no refusal in a call can be seen from.
+UNMET = {BEFORE, AS_USUAL, ANSWERED}
 
 
 def judge_call(program, folder, library, number):
     """A call with each of its allocations refused in turn, until a run meets no refusal. Answers how many were."""
-    name, before, came = NAMES[number], 0, {"refused": 0, "as usual": 0}
-    call = calls_of()[name]
-    for refused in range(1, MOST):
-        out, errors, status = run([program, name], variables_of(folder, library, "one", refused), (), LONGEST)
-        told = "%s, allocation %d: %r" % (name, refused, (out, errors, status))
-        lines = shown(out).splitlines()
-        if counted(folder)[2] == 0:
-            demand((lines, status) == (["ready", call.first, call.second], 0), told)
-            demand(came["refused"] > 0, "%s: no allocation was refused" % name)
-            return "%s: %d refused before the call; in it %d refused, %d as usual" % (
-                name, before, came["refused"], came["as usual"])
-        if not lines:
+    name, came = NAMES[number], Counter()
+    for allocation in range(1, MOST):
+        out, errors, status = run([program, name], variables_of(folder, library, "one", allocation), (), LONGEST)
+        told = "%s, allocation %d: %r" % (name, allocation, (out, errors, status))
+        lines, refused = shown(out).splitlines(), counted(folder)[2]
+        if refused and not lines:
             demand(status == 1, told)
-            before += 1
+            came[BEFORE] += 1
             continue
         demand(status == 0 and lines[0] == "ready" and len(lines) == 3, told)
-        came[judge_lines(call, lines[1], lines[2], told)] += 1
+        found = judge_lines(name, lines[1:], refused, told)
+        if refused == 0:
+            demand(set(came) - UNMET, "%s: no allocation was refused" % name)
+            return "%s: %s" % (name, ", ".join("%d %s" % (came[what], what) for what in sorted(came)))
+        came[found] += 1
     raise Disagreement("%s: more than %d allocations" % (name, MOST))
 
 
-def judge_lines(call, first, second, told):
+def judge_lines(name, lines, refused, told):
+    """What came of the call that was refused, if one was. Answers it in a word or two."""
+    if name in SIZES:
+        return judge_solved(name, lines, refused, told)
+    call = calls_of()[name]
+    if refused == 0:
+        demand(lines == [call.first, call.second], told)
+    return judge_both(call, lines[0], lines[1], told)
+
+
+def judge_both(call, first, second, told):
     """One of two calls may have been refused: the first, and then the second answers as the first would have."""
     if first != call.first:
         demand(first in call.refused[0] and second == call.first, told)
@@ -148,4 +165,4 @@ def judge_lines(call, first, second, told):
     if second != call.second:
         demand(second in call.refused[1], told)
         return "refused"
-    return "as usual"
+    return AS_USUAL

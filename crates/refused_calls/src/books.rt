@@ -1,5 +1,5 @@
-//! Calls of a book that has no room for a further event without a growth: two customers in a line, which
-//! one vehicle can serve.
+//! Calls of a book that has no room for a further event without a growth, nor, where a leaf is split, for
+//! its children: two customers in a line, which one vehicle can serve.
 
 use branching::{Arc, Region};
 use incumbent_book::{Book, Offered};
@@ -19,6 +19,12 @@ const FIRST_ROOM: u32 = 16;
 
 /// The arc from the first customer to the second.
 const ONWARD: Arc = Arc { from: 1, to: 2 };
+
+/// The arc from the second customer to the first.
+const BACK: Arc = Arc { from: 2, to: 1 };
+
+/// The leaf at which the first of both is forbidden, once the root is split by it.
+const APART: u32 = 2;
 
 fn instance_of(alloc: Global) -> Option<Instance> {
     let customers = "1 3 4 1 0 1000 0\n2 6 8 1 0 1000 0\n";
@@ -55,14 +61,19 @@ fn priced_at<'i>(
     Priced::of(alloc, instance, region, 1, list, None).ok()
 }
 
-/// A book whose room for events is full of offers of the dearer plan.
-fn book_of<'i>(alloc: Global, instance: &'i Instance) -> Option<Book<'i>> {
+/// A book to which the dearer plan was offered so many times.
+fn offered_book<'i>(alloc: Global, instance: &'i Instance, offers: u32) -> Option<Book<'i>> {
     let root = Priced::root(alloc, instance, 1, None).ok()?;
     let mut book = Book::new(alloc, root).ok()?;
-    for _ in 0..FIRST_ROOM {
+    for _ in 0..offers {
         book.offer(0, apart(alloc, instance)?).ok()?;
     }
     Some(book)
+}
+
+/// A book whose room for events is full.
+fn book_of<'i>(alloc: Global, instance: &'i Instance) -> Option<Book<'i>> {
+    offered_book(alloc, instance, FIRST_ROOM)
 }
 
 /// Prints how many events a book has, its best cost and its bound, behind what came of a call.
@@ -174,22 +185,41 @@ pub(crate) fn tell_reprices<R: Runtime + AllocGlobal>(rt: &R) -> io::Result<bool
     Ok(true)
 }
 
-/// Prices for both children of the root.
+/// Prices for both children of a leaf.
 #[derive(Drop)]
 struct Children<'i> {
     used: Priced<'i>,
     unused: Priced<'i>,
 }
 
-/// Prices of 0 at both children.
-fn children_of<'i>(alloc: Global, instance: &'i Instance) -> Option<Children<'i>> {
-    let root = Region::root(alloc, SIZE);
-    let used = priced_at(alloc, instance, root.used(ONWARD).ok()?, [0, 0])?;
-    let unused = priced_at(alloc, instance, root.forbidden(ONWARD).ok()?, [0, 0])?;
+/// Prices of 0 at both children of a region by an arc.
+fn children_at<'i>(
+    alloc: Global,
+    instance: &'i Instance,
+    region: &Region,
+    arc: Arc,
+) -> Option<Children<'i>> {
+    let used = priced_at(alloc, instance, region.used(arc).ok()?, [0, 0])?;
+    let unused = priced_at(alloc, instance, region.forbidden(arc).ok()?, [0, 0])?;
     Some(Children { used, unused })
 }
 
-/// Splits the root and prints what came of it: the prices, if they were refused.
+/// Prices of 0 at both children of the leaf that is to be split.
+fn children_of<'i>(alloc: Global, instance: &'i Instance) -> Option<Children<'i>> {
+    let apart = Region::root(alloc, SIZE).forbidden(ONWARD).ok()?;
+    children_at(alloc, instance, &apart, BACK)
+}
+
+/// A book of two leaves whose rooms for events and for nodes are full.
+fn split_book<'i>(alloc: Global, instance: &'i Instance) -> Option<Book<'i>> {
+    let mut book = offered_book(alloc, instance, FIRST_ROOM - 1)?;
+    let root = Region::root(alloc, SIZE);
+    let Children { used, unused } = children_at(alloc, instance, &root, ONWARD)?;
+    book.split(0, 0, ONWARD, used, unused).ok()?;
+    Some(book)
+}
+
+/// Splits a leaf and prints what came of it: the prices, if they were refused.
 fn split_once<'i, R: Runtime>(
     rt: &R,
     book: &mut Book<'i>,
@@ -197,7 +227,7 @@ fn split_once<'i, R: Runtime>(
 ) -> io::Result<Option<Children<'i>>> {
     let Children { used, unused } = children;
     let mut back = None;
-    match book.split(0, 0, ONWARD, used, unused) {
+    match book.split(0, APART, BACK, used, unused) {
         Ok((used, unused)) => print!(rt; "Ok {used} {unused} ")?,
         Err((used, unused, fault)) => {
             print!(rt; "{fault} ")?;
@@ -214,7 +244,7 @@ pub(crate) fn tell_splits<R: Runtime + AllocGlobal>(rt: &R) -> io::Result<bool> 
     let Some(instance) = instance_of(rt.alloc()) else {
         return Ok(false);
     };
-    let Some(mut book) = book_of(rt.alloc(), &instance) else {
+    let Some(mut book) = split_book(rt.alloc(), &instance) else {
         return Ok(false);
     };
     let (Some(children), Some(other)) = (
