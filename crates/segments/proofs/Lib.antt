@@ -4,6 +4,7 @@ pub mod Closed
 pub mod Pairs
 pub mod Heights
 pub mod TreeLevels
+pub mod EndJoins
 pub mod Stops
 pub mod KnownRoutes
 pub mod RouteChanges

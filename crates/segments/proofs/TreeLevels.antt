@@ -12,12 +12,12 @@ use Rattle.segments.specs.Trees.{IsBeginning}
 use Rattle.segments.proofs.Pairs.{length-pairs, pairs-same, total-some, total-level, beside-none}
 use Rattle.segments.proofs.Heights.{last-one, inner-more, height-of-levels}
 
-pushed-before : {X : Type 0} (vs : List X) (v : X) (j : ℕ) (d : X) → j < length vs → get_or (vs ++ (v ∷ [])) j d ≡ get_or vs j d
+pub pushed-before : {X : Type 0} (vs : List X) (v : X) (j : ℕ) (d : X) → j < length vs → get_or (vs ++ (v ∷ [])) j d ≡ get_or vs j d
 pushed-before [] v j d h = absurd (omega arith)
 pushed-before (w ∷ vs) v zero d h = refl
 pushed-before (w ∷ vs) v (suc j) d h = pushed-before vs v j d (omega arith)
 
-pushed-last : {X : Type 0} (vs : List X) (v : X) (j : ℕ) (d : X) → j ≡ length vs → get_or (vs ++ (v ∷ [])) j d ≡ v
+pub pushed-last : {X : Type 0} (vs : List X) (v : X) (j : ℕ) (d : X) → j ≡ length vs → get_or (vs ++ (v ∷ [])) j d ≡ v
 pushed-last [] v zero d h = refl
 pushed-last [] v (suc j) d h = absurd (omega arith)
 pushed-last (w ∷ vs) v zero d h = absurd (omega arith)

@@ -1,6 +1,7 @@
 //! Segments of routes, and lists of items that may be joined.
 #![tactic(auto)]
 
+mod ends;
 mod fault;
 mod laws;
 mod levels;
