@@ -77,18 +77,29 @@ fn a_plan_has_a_tree_for_each_route(rt: HostRuntime) -> Result<(), Fail> {
     Ok(())
 }
 
-#[test]
-fn lists_are_joined_up_to_eight_numbers(rt: HostRuntime) -> Result<(), Fail> {
-    let mut items = Vec::new(rt.alloc());
+/// How many numbers eight joined lists of one number have, whether nine of them can be joined, and how many
+/// numbers the last eight of these have.
+fn lengths_of_joins(alloc: Global) -> Result<(Option<usize>, bool, Option<usize>), Fail> {
+    let mut items = Vec::new(alloc);
     for number in 0..8 {
         items.push(Few::one(number))?;
     }
-    let mut tree = RouteTree::new(rt.alloc(), &(), items).map_err(|(_, fault)| fault)?;
-    assert_eq!(rt; tree.whole().map(|list| list.len()), Some(8));
-    assert_eq!(rt; tree.len(), 8);
+    let mut tree = RouteTree::new(alloc, &(), items).map_err(|(_, fault)| fault)?;
+    if tree.len() != 8 {
+        return Err(Fail::from("not eight lists"));
+    }
+    let eight = tree.whole().map(|list| list.len());
     tree.splice(&(), 3, 3, &[Few::one(9)])?;
-    assert!(rt; tree.whole().is_none());
-    assert_eq!(rt; tree.len(), 9);
-    assert_eq!(rt; tree.span(&(), 1, 9).map(|list| list.len()), Some(8));
+    if tree.len() != 9 {
+        return Err(Fail::from("not nine lists"));
+    }
+    let last = tree.span(&(), 1, 9).map(|list| list.len());
+    Ok((eight, tree.whole().is_some(), last))
+}
+
+#[test]
+fn lists_are_joined_up_to_eight_numbers(rt: HostRuntime) -> Result<(), Fail> {
+    let found = lengths_of_joins(rt.alloc())?;
+    assert_eq!(rt; found, (Some(8), false, Some(8)));
     Ok(())
 }
