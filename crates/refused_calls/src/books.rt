@@ -118,23 +118,39 @@ fn offer_once<'i, R: Runtime>(
     Ok(back)
 }
 
-pub(crate) fn tell_offers<R: Runtime + AllocGlobal>(rt: &R) -> io::Result<bool> {
-    let Some(instance) = instance_of(rt.alloc()) else {
-        return Ok(false);
-    };
-    let Some(mut book) = book_of(rt.alloc(), &instance) else {
+/// Offers a plan twice: once more the one that came back, or else another.
+fn offer_twice<'i, R: Runtime>(
+    rt: &R,
+    book: &mut Book<'i>,
+    plan: Feasible<'i>,
+    other: Feasible<'i>,
+) -> io::Result<()> {
+    println!(rt; "ready")?;
+    let back = offer_once(rt, book, plan)?;
+    offer_once(rt, book, back.unwrap_or(other))?;
+    Ok(())
+}
+
+/// Offers to a full book, if memory was there for it and the plans.
+fn tell_offers_to<R: Runtime + AllocGlobal>(rt: &R, instance: &Instance) -> io::Result<bool> {
+    let Some(mut book) = book_of(rt.alloc(), instance) else {
         return Ok(false);
     };
     let (Some(plan), Some(other)) = (
-        together(rt.alloc(), &instance),
-        together(rt.alloc(), &instance),
+        together(rt.alloc(), instance),
+        together(rt.alloc(), instance),
     ) else {
         return Ok(false);
     };
-    println!(rt; "ready")?;
-    let back = offer_once(rt, &mut book, plan)?;
-    offer_once(rt, &mut book, back.unwrap_or(other))?;
+    offer_twice(rt, &mut book, plan, other)?;
     Ok(true)
+}
+
+pub(crate) fn tell_offers<R: Runtime + AllocGlobal>(rt: &R) -> io::Result<bool> {
+    match instance_of(rt.alloc()) {
+        Some(instance) => tell_offers_to(rt, &instance),
+        None => Ok(false),
+    }
 }
 
 /// Prints prices that came back, with their value.
@@ -168,21 +184,37 @@ fn higher<'i>(alloc: Global, instance: &'i Instance) -> Option<Priced<'i>> {
     priced_at(alloc, instance, root, [100_000, 100_000])
 }
 
-pub(crate) fn tell_reprices<R: Runtime + AllocGlobal>(rt: &R) -> io::Result<bool> {
-    let Some(instance) = instance_of(rt.alloc()) else {
+/// Gives the root new prices twice: once more those that came back, or else others.
+fn reprice_twice<'i, R: Runtime>(
+    rt: &R,
+    book: &mut Book<'i>,
+    priced: Priced<'i>,
+    other: Priced<'i>,
+) -> io::Result<()> {
+    println!(rt; "ready")?;
+    let back = reprice_once(rt, book, priced)?;
+    reprice_once(rt, book, back.unwrap_or(other))?;
+    Ok(())
+}
+
+/// Gives the root of a full book new prices, if memory was there for it and them.
+fn tell_reprices_of<R: Runtime + AllocGlobal>(rt: &R, instance: &Instance) -> io::Result<bool> {
+    let Some(mut book) = book_of(rt.alloc(), instance) else {
         return Ok(false);
     };
-    let Some(mut book) = book_of(rt.alloc(), &instance) else {
-        return Ok(false);
-    };
-    let (Some(priced), Some(other)) = (higher(rt.alloc(), &instance), higher(rt.alloc(), &instance))
+    let (Some(priced), Some(other)) = (higher(rt.alloc(), instance), higher(rt.alloc(), instance))
     else {
         return Ok(false);
     };
-    println!(rt; "ready")?;
-    let back = reprice_once(rt, &mut book, priced)?;
-    reprice_once(rt, &mut book, back.unwrap_or(other))?;
+    reprice_twice(rt, &mut book, priced, other)?;
     Ok(true)
+}
+
+pub(crate) fn tell_reprices<R: Runtime + AllocGlobal>(rt: &R) -> io::Result<bool> {
+    match instance_of(rt.alloc()) {
+        Some(instance) => tell_reprices_of(rt, &instance),
+        None => Ok(false),
+    }
 }
 
 /// Prices for both children of a leaf.
@@ -240,21 +272,37 @@ fn split_once<'i, R: Runtime>(
     Ok(back)
 }
 
-pub(crate) fn tell_splits<R: Runtime + AllocGlobal>(rt: &R) -> io::Result<bool> {
-    let Some(instance) = instance_of(rt.alloc()) else {
-        return Ok(false);
-    };
-    let Some(mut book) = split_book(rt.alloc(), &instance) else {
+/// Splits a leaf twice: once more with the prices that came back, or else with others.
+fn split_twice<'i, R: Runtime>(
+    rt: &R,
+    book: &mut Book<'i>,
+    children: Children<'i>,
+    other: Children<'i>,
+) -> io::Result<()> {
+    println!(rt; "ready")?;
+    let back = split_once(rt, book, children)?;
+    split_once(rt, book, back.unwrap_or(other))?;
+    Ok(())
+}
+
+/// Splits a leaf of a full book, if memory was there for it and the prices.
+fn tell_splits_of<R: Runtime + AllocGlobal>(rt: &R, instance: &Instance) -> io::Result<bool> {
+    let Some(mut book) = split_book(rt.alloc(), instance) else {
         return Ok(false);
     };
     let (Some(children), Some(other)) = (
-        children_of(rt.alloc(), &instance),
-        children_of(rt.alloc(), &instance),
+        children_of(rt.alloc(), instance),
+        children_of(rt.alloc(), instance),
     ) else {
         return Ok(false);
     };
-    println!(rt; "ready")?;
-    let back = split_once(rt, &mut book, children)?;
-    split_once(rt, &mut book, back.unwrap_or(other))?;
+    split_twice(rt, &mut book, children, other)?;
     Ok(true)
+}
+
+pub(crate) fn tell_splits<R: Runtime + AllocGlobal>(rt: &R) -> io::Result<bool> {
+    match instance_of(rt.alloc()) {
+        Some(instance) => tell_splits_of(rt, &instance),
+        None => Ok(false),
+    }
 }

@@ -24,6 +24,21 @@ fn instance_of(alloc: Global) -> Option<Instance> {
     read(alloc, text.as_bytes()).ok()
 }
 
+/// Looks for the least reduced cost of a region, and prints what came of it.
+fn find_once<R: Runtime + AllocGlobal>(
+    rt: &R,
+    instance: &Instance,
+    region: &Region,
+) -> io::Result<()> {
+    match least(rt.alloc(), instance, region, &PRICES, 0, None) {
+        Ok(found) => {
+            let (value, route) = (found.value, found.route);
+            println!(rt; "Ok {value:?} {route:?}")
+        }
+        Err(fault) => println!(rt; "{fault}"),
+    }
+}
+
 pub(crate) fn tell_least<R: Runtime + AllocGlobal>(rt: &R) -> io::Result<bool> {
     let Some(instance) = instance_of(rt.alloc()) else {
         return Ok(false);
@@ -34,13 +49,7 @@ pub(crate) fn tell_least<R: Runtime + AllocGlobal>(rt: &R) -> io::Result<bool> {
     let region = Region::root(rt.alloc(), SIZE);
     println!(rt; "ready")?;
     for _ in 0..2 {
-        match least(rt.alloc(), &instance, &region, &PRICES, 0, None) {
-            Ok(found) => {
-                let (value, route) = (found.value, found.route);
-                println!(rt; "Ok {value:?} {route:?}")?;
-            }
-            Err(fault) => println!(rt; "{fault}")?,
-        }
+        find_once(rt, &instance, &region)?;
     }
     Ok(true)
 }
@@ -52,13 +61,11 @@ fn improve_once<R: Runtime + AllocGlobal>(rt: &R, priced: Priced<'_>) -> io::Res
     println!(rt; "best {value} {prices:?}")
 }
 
-pub(crate) fn tell_improved<R: Runtime + AllocGlobal>(rt: &R) -> io::Result<bool> {
-    let Some(instance) = instance_of(rt.alloc()) else {
-        return Ok(false);
-    };
+/// Improves the prices of two roots, if memory was there for them.
+fn tell_improved_at<R: Runtime + AllocGlobal>(rt: &R, instance: &Instance) -> io::Result<bool> {
     let (Ok(priced), Ok(other)) = (
-        Priced::root(rt.alloc(), &instance, 1, None),
-        Priced::root(rt.alloc(), &instance, 1, None),
+        Priced::root(rt.alloc(), instance, 1, None),
+        Priced::root(rt.alloc(), instance, 1, None),
     ) else {
         return Ok(false);
     };
@@ -66,4 +73,11 @@ pub(crate) fn tell_improved<R: Runtime + AllocGlobal>(rt: &R) -> io::Result<bool
     improve_once(rt, priced)?;
     improve_once(rt, other)?;
     Ok(true)
+}
+
+pub(crate) fn tell_improved<R: Runtime + AllocGlobal>(rt: &R) -> io::Result<bool> {
+    match instance_of(rt.alloc()) {
+        Some(instance) => tell_improved_at(rt, &instance),
+        None => Ok(false),
+    }
 }

@@ -48,17 +48,22 @@ fn tell_plan<R: Runtime>(rt: &R, what: &str, plan: &Feasible<'_>) -> io::Result<
     println!(rt; "{what} {cost} {routes:?}")
 }
 
+/// Builds a plan, and prints what came of it.
+fn build_once<R: Runtime + AllocGlobal>(rt: &R, instance: &Instance) -> io::Result<()> {
+    match build(rt.alloc(), instance, &Weights::plain()) {
+        Ok(Built::Whole(plan)) => tell_plan(rt, "Whole", &plan),
+        Ok(Built::Part { routes, left }) => println!(rt; "Part {routes:?} {left:?}"),
+        Err(fault) => println!(rt; "{fault}"),
+    }
+}
+
 pub(crate) fn tell_built<R: Runtime + AllocGlobal>(rt: &R) -> io::Result<bool> {
     let Some(instance) = instance_of(rt.alloc()) else {
         return Ok(false);
     };
     println!(rt; "ready")?;
     for _ in 0..2 {
-        match build(rt.alloc(), &instance, &Weights::plain()) {
-            Ok(Built::Whole(plan)) => tell_plan(rt, "Whole", &plan)?,
-            Ok(Built::Part { routes, left }) => println!(rt; "Part {routes:?} {left:?}")?,
-            Err(fault) => println!(rt; "{fault}")?,
-        }
+        build_once(rt, &instance)?;
     }
     Ok(true)
 }
@@ -81,6 +86,18 @@ fn apply_once<'i, R: Runtime + AllocGlobal>(
     }
 }
 
+/// Makes the move twice: once more in the plan that came back, or else in another.
+fn apply_twice<'i, R: Runtime + AllocGlobal>(
+    rt: &R,
+    plan: Feasible<'i>,
+    other: Feasible<'i>,
+) -> io::Result<()> {
+    println!(rt; "ready")?;
+    let back = apply_once(rt, plan)?;
+    apply_once(rt, back.unwrap_or(other))?;
+    Ok(())
+}
+
 pub(crate) fn tell_applied<R: Runtime + AllocGlobal>(rt: &R) -> io::Result<bool> {
     let Some(instance) = instance_of(rt.alloc()) else {
         return Ok(false);
@@ -91,30 +108,41 @@ pub(crate) fn tell_applied<R: Runtime + AllocGlobal>(rt: &R) -> io::Result<bool>
     ) else {
         return Ok(false);
     };
-    println!(rt; "ready")?;
-    let back = apply_once(rt, plan)?;
-    apply_once(rt, back.unwrap_or(other))?;
+    apply_twice(rt, plan, other)?;
     Ok(true)
 }
 
-pub(crate) fn tell_descents<R: Runtime + AllocGlobal>(rt: &R) -> io::Result<bool> {
-    let Some(instance) = instance_of(rt.alloc()) else {
-        return Ok(false);
-    };
-    let Some(plan) = crossed(rt.alloc(), &instance) else {
+/// Descends, and prints what came of it.
+fn descend_once<R: Runtime>(
+    rt: &R,
+    searcher: &mut Searcher<'_, Xoshiro256PlusPlus>,
+) -> io::Result<()> {
+    match searcher.descend() {
+        Ok(()) => tell_plan(rt, "Ok", searcher.plan()),
+        Err(fault) => {
+            print!(rt; "{fault} ")?;
+            tell_plan(rt, "held", searcher.plan())
+        }
+    }
+}
+
+/// Descends twice from the plan whose routes cross, if memory was there for it.
+fn tell_descents_of<R: Runtime + AllocGlobal>(rt: &R, instance: &Instance) -> io::Result<bool> {
+    let Some(plan) = crossed(rt.alloc(), instance) else {
         return Ok(false);
     };
     let random = Xoshiro256PlusPlus::seed_from_u64(1);
     let mut searcher = Searcher::new(rt.alloc(), plan, random);
     println!(rt; "ready")?;
     for _ in 0..2 {
-        match searcher.descend() {
-            Ok(()) => tell_plan(rt, "Ok", searcher.plan())?,
-            Err(fault) => {
-                print!(rt; "{fault} ")?;
-                tell_plan(rt, "held", searcher.plan())?;
-            }
-        }
+        descend_once(rt, &mut searcher)?;
     }
     Ok(true)
+}
+
+pub(crate) fn tell_descents<R: Runtime + AllocGlobal>(rt: &R) -> io::Result<bool> {
+    match instance_of(rt.alloc()) {
+        Some(instance) => tell_descents_of(rt, &instance),
+        None => Ok(false),
+    }
 }

@@ -8,7 +8,7 @@ use std::rt::Runtime;
 use std::sync::Wait;
 use std::thread::Threads;
 use tenths::MemorySink;
-use vrptw::{NoGate, Settings, solve};
+use vrptw::{Answer, NoGate, Settings, SolveFault, solve};
 
 /// Few turns of one worker of each kind.
 fn few_turns() -> Settings {
@@ -24,6 +24,27 @@ fn few_turns() -> Settings {
 fn tell_text<R: Runtime>(rt: &R, sink: &MemorySink) -> io::Result<()> {
     let taken = str::from_utf8(sink.as_slice()).unwrap_or("");
     print!(rt; " {taken:?}")
+}
+
+/// Prints the answer.
+fn tell_answer<R: Runtime>(rt: &R, answer: Result<Answer, SolveFault>) -> io::Result<()> {
+    match answer {
+        Ok(answer) => print!(rt; "Ok {answer:?}"),
+        Err(fault) => print!(rt; "{fault}"),
+    }
+}
+
+/// Prints the answer and both texts.
+fn tell_all<R: Runtime>(
+    rt: &R,
+    answer: Result<Answer, SolveFault>,
+    solution: &MemorySink,
+    certificate: &MemorySink,
+) -> io::Result<()> {
+    tell_answer(rt, answer)?;
+    tell_text(rt, solution)?;
+    tell_text(rt, certificate)?;
+    println!(rt; "")
 }
 
 /// Solves an instance, and prints the answer and both texts.
@@ -42,13 +63,7 @@ fn solve_once<R: Runtime + AllocGlobal + Threads + Wait + Sync>(
         &mut solution,
         &mut certificate,
     );
-    match answer {
-        Ok(answer) => print!(rt; "Ok {answer:?}")?,
-        Err(fault) => print!(rt; "{fault}")?,
-    }
-    tell_text(rt, &solution)?;
-    tell_text(rt, &certificate)?;
-    println!(rt; "")
+    tell_all(rt, answer, &solution, &certificate)
 }
 
 /// Solves an instance twice, if memory was there for its text.

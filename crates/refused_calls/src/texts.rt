@@ -1,7 +1,7 @@
 //! A certificate, read, written and checked with its solution: three customers, of which two are served by
 //! one vehicle.
 
-use certificate::{read, write};
+use certificate::{Cert, read, write};
 use checker::check;
 use row_texts::three_apart;
 use std::io;
@@ -17,15 +17,36 @@ const SOLUTION: &[u8] = b"Route #1: 2 1\nRoute #2: 3\nCost 401.0\n";
 /// The most pairs of time and cost of a check.
 const STATES: usize = 1_000_000;
 
+/// Reads the certificate, and prints what came of it.
+fn read_once<R: Runtime + AllocGlobal>(rt: &R) -> io::Result<()> {
+    match read(rt.alloc(), CERTIFICATE) {
+        Ok(cert) => println!(rt; "Ok {cert:?}"),
+        Err(fault) => println!(rt; "{fault}"),
+    }
+}
+
 pub(crate) fn tell_read<R: Runtime + AllocGlobal>(rt: &R) -> io::Result<bool> {
     println!(rt; "ready")?;
     for _ in 0..2 {
-        match read(rt.alloc(), CERTIFICATE) {
-            Ok(cert) => println!(rt; "Ok {cert:?}")?,
-            Err(fault) => println!(rt; "{fault}")?,
-        }
+        read_once(rt)?;
     }
     Ok(true)
+}
+
+/// Prints the bytes of a sink as a text in quotes.
+fn tell_taken<R: Runtime>(rt: &R, sink: &MemorySink) -> io::Result<()> {
+    let taken = str::from_utf8(sink.as_slice()).unwrap_or("");
+    println!(rt; "{taken:?}")
+}
+
+/// Writes the certificate, and prints what came of it.
+fn write_once<R: Runtime + AllocGlobal>(rt: &R, cert: &Cert) -> io::Result<()> {
+    let mut sink = MemorySink::new(rt.alloc());
+    match write(cert, &mut sink) {
+        Ok(()) => print!(rt; "Ok ")?,
+        Err(fault) => print!(rt; "{fault} ")?,
+    }
+    tell_taken(rt, &sink)
 }
 
 pub(crate) fn tell_written<R: Runtime + AllocGlobal>(rt: &R) -> io::Result<bool> {
@@ -34,15 +55,17 @@ pub(crate) fn tell_written<R: Runtime + AllocGlobal>(rt: &R) -> io::Result<bool>
     };
     println!(rt; "ready")?;
     for _ in 0..2 {
-        let mut sink = MemorySink::new(rt.alloc());
-        match write(&cert, &mut sink) {
-            Ok(()) => print!(rt; "Ok ")?,
-            Err(fault) => print!(rt; "{fault} ")?,
-        }
-        let taken = str::from_utf8(sink.as_slice()).unwrap_or("");
-        println!(rt; "{taken:?}")?;
+        write_once(rt, &cert)?;
     }
     Ok(true)
+}
+
+/// Checks the certificate with its solution, and prints what came of it.
+fn check_once<R: Runtime + AllocGlobal>(rt: &R, instance: &[u8]) -> io::Result<()> {
+    match check(rt.alloc(), instance, CERTIFICATE, Some(SOLUTION), STATES) {
+        Ok(verdict) => println!(rt; "Ok {verdict:?}"),
+        Err(fault) => println!(rt; "{fault}"),
+    }
 }
 
 pub(crate) fn tell_checks<R: Runtime + AllocGlobal>(rt: &R) -> io::Result<bool> {
@@ -51,16 +74,7 @@ pub(crate) fn tell_checks<R: Runtime + AllocGlobal>(rt: &R) -> io::Result<bool> 
     };
     println!(rt; "ready")?;
     for _ in 0..2 {
-        match check(
-            rt.alloc(),
-            instance.as_bytes(),
-            CERTIFICATE,
-            Some(SOLUTION),
-            STATES,
-        ) {
-            Ok(verdict) => println!(rt; "Ok {verdict:?}")?,
-            Err(fault) => println!(rt; "{fault}")?,
-        }
+        check_once(rt, instance.as_bytes())?;
     }
     Ok(true)
 }
