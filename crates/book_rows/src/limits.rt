@@ -34,12 +34,28 @@ fn split_twice<'i, R: Abort + Wait + AllocGlobal>(
 ) -> Result<(), Fail> {
     let root = Region::root(rt.alloc(), 2);
     let made = split_by(rt, instance, book, 0, &root, ONWARD, [0, 0])?;
-    assert_eq!(rt; made, Ok((1, 2)), "{leaves}");
     let used = root.used(ONWARD)?;
     let deeper = split_by(rt, instance, book, 1, &used, BACK, [200_000, 0])?;
-    assert_eq!(rt; deeper, Err(fault), "{leaves}");
+    assert_eq!(rt; (made, deeper), (Ok((1, 2)), Err(fault)), "{leaves}");
     Ok(())
 }
+
+/// Offers a plan until the book is full.
+fn offer_until_full<'i, R: Abort + AllocGlobal>(
+    rt: &R,
+    instance: &'i Instance,
+    book: &mut Book<'i>,
+    faults: &[Option<BookFault>],
+) -> Result<(), Fail> {
+    for expected in faults {
+        let told = offer_fault(rt, instance, book, &[&[1, 2]])?;
+        assert_eq!(rt; told, *expected);
+    }
+    Ok(())
+}
+
+/// The fault of two offers and of a third, which is one too many.
+const TWO_OFFERS: [Option<BookFault>; 3] = [None, None, Some(BookFault::JournalFull)];
 
 /// A book with these limits splits the root, refuses to split a child, and takes two offers.
 fn fill<'i, R: Abort + Wait + AllocGlobal>(
@@ -56,10 +72,7 @@ fn fill<'i, R: Abort + Wait + AllocGlobal>(
     };
     let mut book = book_with(rt.alloc(), instance, limits)?;
     split_twice(rt, instance, &mut book, leaves, fault)?;
-    for expected in [None, None, Some(BookFault::JournalFull)] {
-        let told = offer_fault(rt, instance, &mut book, &[&[1, 2]])?;
-        assert_eq!(rt; told, expected, "{leaves}");
-    }
+    offer_until_full(rt, instance, &mut book, &TWO_OFFERS)?;
     let foreign = offer_fault(rt, other, &mut book, &[&[1]])?;
     assert_eq!(rt; foreign, Some(BookFault::ForeignInstance), "{leaves}");
     Ok(())
@@ -90,6 +103,20 @@ fn split_fault<'i, R: Wait + AllocGlobal>(
     Ok(split_by(rt, instance, book, 0, &root, ONWARD, [0, 0])?.err())
 }
 
+/// A book of one event and one leaf refuses a split and a second offer.
+fn fill_small<'i, R: Abort + Wait + AllocGlobal>(
+    rt: &R,
+    instance: &'i Instance,
+    book: &mut Book<'i>,
+) -> Result<(), Fail> {
+    let split = split_fault(rt, instance, book)?;
+    assert_eq!(rt;
+        (split, book.history().len()),
+        (Some(BookFault::LeavesFull), 0)
+    );
+    offer_until_full(rt, instance, book, &[None, Some(BookFault::JournalFull)])
+}
+
 #[test]
 fn a_book_of_one_event_and_one_leaf(rt: HostRuntime) -> Result<(), Fail> {
     let instance = in_line(rt.alloc())?;
@@ -99,14 +126,7 @@ fn a_book_of_one_event_and_one_leaf(rt: HostRuntime) -> Result<(), Fail> {
         depth: 1,
     };
     let mut book = book_with(rt.alloc(), &instance, limits)?;
-    let split = split_fault(&rt, &instance, &mut book)?;
-    assert_eq!(rt; split, Some(BookFault::LeavesFull));
-    assert!(rt; book.history().is_empty());
-    for expected in [None, Some(BookFault::JournalFull)] {
-        let told = offer_fault(&rt, &instance, &mut book, &[&[1, 2]])?;
-        assert_eq!(rt; told, expected);
-    }
-    Ok(())
+    fill_small(&rt, &instance, &mut book)
 }
 
 /// The fault of a book that opens with prices 0 at a region, if it was refused.
@@ -132,14 +152,16 @@ fn openings_are_refused(rt: HostRuntime) -> Result<(), Fail> {
     let instance = in_line(rt.alloc())?;
     let root = Region::root(rt.alloc(), 2);
     let child = root.used(ONWARD)?;
-    let told = opening_fault(rt.alloc(), &instance, child, None)?;
-    assert_eq!(rt; told, Some(OpenFault::NotRoot));
+    let of_child = opening_fault(rt.alloc(), &instance, child, None)?;
     let limits = Limits {
         events: 1,
         leaves: 0,
         depth: 1,
     };
-    let told = opening_fault(rt.alloc(), &instance, root, Some(limits))?;
-    assert_eq!(rt; told, Some(OpenFault::BadLimits));
+    let of_limits = opening_fault(rt.alloc(), &instance, root, Some(limits))?;
+    assert_eq!(rt;
+        (of_child, of_limits),
+        (Some(OpenFault::NotRoot), Some(OpenFault::BadLimits))
+    );
     Ok(())
 }

@@ -34,14 +34,17 @@ pub fn offer_plans<'i, R: Abort + Wait + AllocGlobal, A: Asked<'i>>(
     instance: &'i Instance,
     asked: &mut A,
 ) -> Result<(), Fail> {
-    let first = offer(rt, instance, asked, &[&[1], &[2]])?;
-    assert_eq!(rt; first, (true, None));
-    let cheaper = offer(rt, instance, asked, &[&[1, 2]])?;
-    assert_eq!(rt; cheaper, (true, Some(Tenths::from(300))));
-    let dearer = offer(rt, instance, asked, &[&[1], &[2]])?;
-    assert_eq!(rt; dearer, (false, Some(Tenths::from(200))));
-    let as_dear = offer(rt, instance, asked, &[&[1, 2]])?;
-    assert_eq!(rt; as_dear, (false, Some(Tenths::from(200))));
+    let (apart, together): (&[&[u16]], &[&[u16]]) = (&[&[1], &[2]], &[&[1, 2]]);
+    let rows = [
+        (apart, (true, None)),
+        (together, (true, Some(300))),
+        (apart, (false, Some(200))),
+        (together, (false, Some(200))),
+    ];
+    for (routes, (is_better, cost)) in rows {
+        let told = offer(rt, instance, asked, routes)?;
+        assert_eq!(rt; told, (is_better, cost.map(|cost| Tenths::from(cost))));
+    }
     Ok(())
 }
 
@@ -66,11 +69,12 @@ fn split_root<'i, R: Abort + Wait + AllocGlobal, A: Asked<'i>>(
     root: &Region,
 ) -> Result<(), Fail> {
     let made = split_by(rt, instance, asked, 0, root, ONWARD, [0, 0])?;
-    assert_eq!(rt; made, Ok((1, 2)));
     let again = split_by(rt, instance, asked, 0, root, ONWARD, [0, 0])?;
-    assert_eq!(rt; again, Err(BookFault::NotALeaf));
-    assert_eq!(rt; asked.ask_value(rt, 1), Ok(200));
-    assert_eq!(rt; asked.ask_value(rt, 2), Ok(100));
+    let values = (asked.ask_value(rt, 1), asked.ask_value(rt, 2));
+    assert_eq!(rt;
+        (made, again, values),
+        (Ok((1, 2)), Err(BookFault::NotALeaf), (Ok(200), Ok(100)))
+    );
     Ok(())
 }
 
@@ -81,15 +85,20 @@ fn raise_unused<'i, R: Abort + Wait + AllocGlobal, A: Asked<'i>>(
     asked: &mut A,
     unused: &Region,
 ) -> Result<(), Fail> {
-    for expected in [Ok(()), Err(BookFault::NotHigher)] {
-        let prices = [100_000, 100_000];
-        let told = reprice(rt, instance, asked, 2, unused.try_clone()?, prices)?;
-        assert_eq!(rt; told, expected);
-    }
-    assert_eq!(rt; asked.ask_value(rt, 2), Ok(200));
-    assert_eq!(rt; asked.ask_value(rt, 0), Err(LookFault::NotALeaf));
+    let prices = [100_000, 100_000];
+    let raised = reprice(rt, instance, asked, 2, unused.try_clone()?, prices)?;
+    let again = reprice(rt, instance, asked, 2, unused.try_clone()?, prices)?;
+    let values = (asked.ask_value(rt, 2), asked.ask_value(rt, 0));
     let lower = split_by(rt, instance, asked, 2, unused, BACK, [0, 0])?;
-    assert_eq!(rt; lower, Err(BookFault::Lower));
+    assert_eq!(rt;
+        (raised, again, values, lower),
+        (
+            Ok(()),
+            Err(BookFault::NotHigher),
+            (Ok(200), Err(LookFault::NotALeaf)),
+            Err(BookFault::Lower)
+        )
+    );
     Ok(())
 }
 
@@ -101,9 +110,11 @@ fn reprice_used<'i, R: Abort + Wait + AllocGlobal, A: Asked<'i>>(
     root: &Region,
 ) -> Result<(), Fail> {
     let elsewhere = reprice(rt, instance, asked, 1, root.try_clone()?, [200_000, 0])?;
-    assert_eq!(rt; elsewhere, Err(BookFault::WrongRegion));
     let as_high = reprice(rt, instance, asked, 1, root.used(ONWARD)?, [200_000, 0])?;
-    assert_eq!(rt; as_high, Err(BookFault::NotHigher));
+    assert_eq!(rt;
+        (elsewhere, as_high),
+        (Err(BookFault::WrongRegion), Err(BookFault::NotHigher))
+    );
     Ok(())
 }
 
@@ -130,20 +141,27 @@ fn prices_at(nodes: &[TreeNode], index: usize) -> Option<&[i64]> {
 
 /// Asserts the nodes of the tree.
 fn assert_nodes<R: Abort>(rt: &R, nodes: &[TreeNode]) {
-    assert_eq!(rt; nodes.len(), 3);
-    let is_split = matches!(&nodes[0], TreeNode::Split(arc) if *arc == ONWARD);
-    assert!(rt; is_split);
-    assert_eq!(rt; prices_at(nodes, 1), Some([0, 0].as_slice()));
-    assert_eq!(rt; prices_at(nodes, 2), Some([100_000, 100_000].as_slice()));
+    let is_split = matches!(nodes.first(), Some(TreeNode::Split(arc)) if *arc == ONWARD);
+    let leaves = (prices_at(nodes, 1), prices_at(nodes, 2));
+    let expected = (Some([0, 0].as_slice()), Some([100_000, 100_000].as_slice()));
+    assert_eq!(rt; (nodes.len(), is_split, leaves), (3, true, expected));
+}
+
+/// The outcome's bound in tenths, its neighbours, how many events it has, whether it has a plan, and the
+/// size of its instance.
+fn told_of(outcome: &Outcome<'_>) -> (u64, u32, usize, bool, u16) {
+    (
+        outcome.bound().get(),
+        outcome.neighbours(),
+        outcome.history().len(),
+        outcome.plan().is_some(),
+        outcome.instance().customer_count(),
+    )
 }
 
 /// Asserts the outcome's bound and its tree.
 pub fn assert_outcome<R: Abort + AllocGlobal>(rt: &R, outcome: &Outcome<'_>) -> Result<(), Fail> {
-    assert_eq!(rt; outcome.bound(), Tenths::from(200));
-    assert_eq!(rt; outcome.neighbours(), 1);
-    assert_eq!(rt; outcome.history().len(), 6);
-    assert!(rt; outcome.plan().is_some());
-    assert_eq!(rt; outcome.instance().customer_count(), 2);
+    assert_eq!(rt; told_of(outcome), (200, 1, 6, true, 2));
     let nodes = outcome.nodes(rt.alloc())?;
     assert_nodes(rt, nodes.as_slice());
     Ok(())
@@ -153,10 +171,11 @@ pub fn assert_outcome<R: Abort + AllocGlobal>(rt: &R, outcome: &Outcome<'_>) -> 
 fn assert_gap<R: Abort>(rt: &R, book: &Book<'_>) {
     let mut steps = Steps::new();
     let gap = book.gap_counted(&mut steps);
-    assert_eq!(rt; steps.get(), 1);
-    assert_eq!(rt; gap.cost, Some(Tenths::from(200)));
-    assert_eq!(rt; gap.bound, Tenths::from(200));
-    assert_eq!(rt; book.history().len(), 6);
+    let of_plan = Tenths::from(200);
+    assert_eq!(rt;
+        (steps.get(), gap.cost, gap.bound, book.history().len()),
+        (1, Some(of_plan), of_plan, 6)
+    );
 }
 
 #[test]

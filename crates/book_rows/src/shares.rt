@@ -130,6 +130,26 @@ fn both<'i, J: Naming + Send, R: Abort + Threads + Wait + Eprint + Sync + AllocG
     })
 }
 
+/// What closing leaves, which needs both shares.
+fn close_with_both<'i, J: Naming, R: Abort>(
+    rt: &R,
+    desk: Desk<'i, J>,
+    mut shares: Vec<Share<J>>,
+    first: Share<J>,
+    second: Share<J>,
+) -> Result<Outcome<'i>, Fail> {
+    shares.push(first)?;
+    let Err((desk, mut shares, fault)) = desk.close(shares) else {
+        return Err(Fail::from("closed with one share"));
+    };
+    assert_eq!(rt; (fault, shares.len()), (DeskFault::MissingShare, 1));
+    shares.push(second)?;
+    match desk.close(shares) {
+        Ok(outcome) => Ok(outcome),
+        Err(_) => Err(Fail::from("not closed with both shares")),
+    }
+}
+
 /// The gap told at a desk of two shares, and what closing leaves, which needs both.
 fn run<'i, J: Naming + Send, R: Abort + Threads + Wait + Eprint + Sync + AllocGlobal>(
     rt: &R,
@@ -151,17 +171,8 @@ fn run<'i, J: Naming + Send, R: Abort + Threads + Wait + Eprint + Sync + AllocGl
     let first = shares.pop().expect(rt, "two shares");
     assert!(rt; first.worker() == 0 && second.worker() == 1);
     let (gap, first, second) = both(rt, &desk, first, second, instance)?;
-    shares.push(first)?;
-    let Err((desk, mut shares, fault)) = desk.close(shares) else {
-        return Err(Fail::from("closed with one share"));
-    };
-    assert_eq!(rt; fault, DeskFault::MissingShare);
-    assert_eq!(rt; shares.len(), 1);
-    shares.push(second)?;
-    match desk.close(shares) {
-        Ok(outcome) => Ok((gap, outcome)),
-        Err(_) => Err(Fail::from("not closed with both shares")),
-    }
+    let outcome = close_with_both(rt, desk, shares, first, second)?;
+    Ok((gap, outcome))
 }
 
 #[test]
@@ -169,7 +180,7 @@ fn a_second_share_is_told_what_the_first_did(rt: HostRuntime) -> Result<(), Fail
     let instance = in_line(rt.alloc())?;
     let book = book_with(rt.alloc(), &instance, Limits::MOST)?;
     let (gap, outcome) = run::<Brand, _>(&rt, &instance, book, Blanks::new(2))?;
-    assert_eq!(rt; gap.cost, Some(Tenths::from(200)));
-    assert_eq!(rt; gap.bound, Tenths::from(200));
+    let of_plan = Tenths::from(200);
+    assert_eq!(rt; (gap.cost, gap.bound), (Some(of_plan), of_plan));
     assert_outcome(&rt, &outcome)
 }

@@ -1,9 +1,9 @@
 //! Instances that are closed: costs and bounds by hand.
 
-use crate::program::run;
+use crate::program::{assert_run, write_text};
 use certificate::{CertNode, read};
 use row_texts::{DEPOT, instance_text, many_customers, three_apart};
-use std::alloc::Global;
+use std::alloc::{AllocError, Global};
 use std::fs;
 use std::process::Abort;
 use std::rt::Files;
@@ -11,7 +11,7 @@ use std::sync::Wait;
 use std::test::Fail;
 use std::thread::Threads;
 use tenths::MemorySink;
-use vrptw::{Settings, SolveFault, close};
+use vrptw::{Answer, Settings, SolveFault, close};
 
 /// An instance to close with a limit of leaves: its vehicles and their capacity, its customers, and the
 /// line that is printed, and the bound in tenths. Where a number of leaves is told, the tree has
@@ -119,36 +119,36 @@ fn bound_of(alloc: Global, text: &[u8]) -> Result<(u64, usize), Fail> {
     Ok((parts.bound.get(), leaves))
 }
 
+/// Asserts the bound that was written for a row, and how many leaves it has.
+fn assert_bound<R: Abort + Files + AllocGlobal>(rt: &R, row: &Row) -> Result<(), Fail> {
+    let text = fs::read(rt, "small_bound")?;
+    let (bound, leaves) = bound_of(rt.alloc(), text.as_slice())?;
+    let is_within = leaves <= row.leaves as usize;
+    let expected = (row.bound, true, row.told.unwrap_or(leaves));
+    assert_eq!(rt; (bound, is_within, leaves), expected, "{}", row.name);
+    Ok(())
+}
+
 /// Asserts what comes of a row.
 fn check<R: Abort + Files + AllocGlobal + Threads + Wait + Sync>(
     rt: &R,
     row: &Row,
 ) -> Result<(), Fail> {
-    let name = row.name;
     let (fleet, capacity) = row.vehicles;
     let text = instance_text(rt.alloc(), fleet, capacity, DEPOT, row.customers)?;
     fs::write(rt, "small", text.as_bytes())?;
     let most = row.leaves;
     let option = format!(in rt.alloc(); "--leaves={most}")?;
-    let printed = run(
-        rt,
-        &[
-            "solve",
-            "small",
-            "small_plan",
-            "small_bound",
-            "--close",
-            option.as_str(),
-        ],
-    );
-    assert_eq!(rt; printed.out.as_slice(), row.line.as_bytes(), "{name}");
-    assert_eq!(rt; printed.status, 0, "{name}");
-    let text = fs::read(rt, "small_bound")?;
-    let (bound, leaves) = bound_of(rt.alloc(), text.as_slice())?;
-    assert_eq!(rt; bound, row.bound, "{name}");
-    assert!(rt; leaves <= most as usize, "{name}");
-    assert!(rt; row.told.is_none_or(|told| leaves == told), "{name}");
-    Ok(())
+    let words = [
+        "solve",
+        "small",
+        "small_plan",
+        "small_bound",
+        "--close",
+        option.as_str(),
+    ];
+    assert_run(rt, row.name, &words, row.line, "", 0);
+    assert_bound(rt, row)
 }
 
 fn is_leaf(node: &CertNode) -> bool {
@@ -167,84 +167,82 @@ fn small_instances_are_closed(rt: HostRuntime) -> Result<(), Fail> {
 }
 
 /// Four customers, of which two vehicles of capacity 3 serve two each: one leaf doesn't close them.
-fn four_customers(alloc: Global) -> Result<String, Fail> {
+fn four_customers(alloc: Global) -> Result<String, AllocError> {
     let customers = "1 5 7 1 0 1000 0\n2 4 7 1 0 1000 0\n3 2 1 1 0 1000 0\n4 8 2 2 0 1000 0\n";
-    Ok(instance_text(alloc, 4, 3, DEPOT, customers)?)
+    instance_text(alloc, 4, 3, DEPOT, customers)
+}
+
+/// What closing answers for a text, and whether anything was written.
+fn closed(alloc: Global, text: &str, leaves: u32) -> (Result<Answer, SolveFault>, bool) {
+    let mut solution = MemorySink::new(alloc);
+    let mut certificate = MemorySink::new(alloc);
+    let answer = close(
+        alloc,
+        text.as_bytes(),
+        &Settings::default(),
+        leaves,
+        &mut solution,
+        &mut certificate,
+    );
+    let is_empty = solution.as_slice().is_empty() && certificate.as_slice().is_empty();
+    (answer, !is_empty)
 }
 
 #[test]
 fn a_closing_that_is_refused_writes_nothing(rt: HostRuntime) -> Result<(), Fail> {
     let small = four_customers(rt.alloc())?;
+    for (leaves, fault) in [
+        (1, SolveFault::LeafLimit),
+        (0, SolveFault::BadSettings),
+        (100_001, SolveFault::BadSettings),
+    ] {
+        let told = closed(rt.alloc(), small.as_str(), leaves);
+        assert_eq!(rt; told, (Err(fault), false), "{fault}");
+    }
+    Ok(())
+}
+
+#[test]
+fn an_instance_too_large_to_close_writes_nothing(rt: HostRuntime) -> Result<(), Fail> {
     let customers = many_customers(rt.alloc(), 25)?;
     let large = instance_text(rt.alloc(), 25, 1, DEPOT, customers.as_str())?;
-    let settings = Settings::default();
-    for (text, leaves, fault) in [
-        (small.as_str(), 1, SolveFault::LeafLimit),
-        (small.as_str(), 0, SolveFault::BadSettings),
-        (small.as_str(), 100_001, SolveFault::BadSettings),
-        (large.as_str(), 100, SolveFault::TooLarge),
-    ] {
-        let mut solution = MemorySink::new(rt.alloc());
-        let mut certificate = MemorySink::new(rt.alloc());
-        let answer = close(
-            rt.alloc(),
-            text.as_bytes(),
-            &settings,
-            leaves,
-            &mut solution,
-            &mut certificate,
-        );
-        assert_eq!(rt; answer, Err(fault), "{fault}");
-        assert!(rt;
-            solution.as_slice().is_empty() && certificate.as_slice().is_empty(),
-            "{fault}"
-        );
-    }
+    let told = closed(rt.alloc(), large.as_str(), 100);
+    assert_eq!(rt; told, (Err(SolveFault::TooLarge), false));
     Ok(())
 }
 
 #[test]
 fn the_program_closes_and_checks(rt: HostRuntime) -> Result<(), Fail> {
-    let text = four_customers(rt.alloc())?;
-    fs::write(&rt, "closed", text.as_bytes())?;
-    let paths = ["closed", "closed_solution", "closed_certificate"];
-    let rows: [(&[&str], &str, &str, u8); 3] = [
-        (
-            &["--close", "--leaves", "1"],
-            "",
-            "vrptw: limit: LeafLimit\n",
-            7,
-        ),
-        (&["--close"], "BEST 34.0\n", "", 0),
-        (&["--neighbours", "0", "--close"], "BEST 34.0\n", "", 0),
+    write_text(&rt, "closed", four_customers(rt.alloc()))?;
+    let (instance, solution, certificate) = ("closed", "closed_solution", "closed_certificate");
+    let rows: [(&str, &str, &str, u8); 3] = [
+        ("--leaves=1", "", "vrptw: limit: LeafLimit\n", 7),
+        ("--leaves=100000", "BEST 34.0\n", "", 0),
+        ("--neighbours=0", "BEST 34.0\n", "", 0),
     ];
-    for (options, out, errors, status) in rows {
-        let mut words = Vec::from_slice(rt.alloc(), &["solve", paths[0], paths[1], paths[2]])?;
-        words.extend_from_slice(options)?;
-        let printed = run(&rt, words.as_slice());
-        assert_eq!(rt; printed.out.as_slice(), out.as_bytes());
-        assert_eq!(rt; printed.errors.as_slice(), errors.as_bytes());
-        assert_eq!(rt; printed.status, status);
+    for (option, out, errors, status) in rows {
+        let words = ["solve", instance, solution, certificate, "--close", option];
+        assert_run(&rt, option, &words, out, errors, status);
     }
-    let printed = run(&rt, &["check", paths[0], paths[2], "--solution", paths[1]]);
-    assert_eq!(rt; printed.out.as_slice(), b"BEST 34.0\n".as_slice());
+    let words = ["check", instance, certificate, "--solution", solution];
+    assert_run(&rt, "check", &words, "BEST 34.0\n", "", 0);
     Ok(())
 }
 
 #[test]
 fn three_customers_are_closed(rt: HostRuntime) -> Result<(), Fail> {
-    let text = three_apart(rt.alloc())?;
-    fs::write(&rt, "three", text.as_bytes())?;
-    let paths = ["three", "three_solution", "three_certificate"];
-    let printed = run(
-        &rt,
-        &[
-            "solve", paths[0], paths[1], paths[2], "--close", "--leaves", "4097",
-        ],
-    );
-    assert_eq!(rt; printed.out.as_slice(), b"BEST 401.0\n".as_slice());
-    assert_eq!(rt; printed.status, 0);
-    let printed = run(&rt, &["check", paths[0], paths[2], "--solution", paths[1]]);
-    assert_eq!(rt; printed.out.as_slice(), b"BEST 401.0\n".as_slice());
+    write_text(&rt, "three", three_apart(rt.alloc()))?;
+    let (instance, solution, certificate) = ("three", "three_solution", "three_certificate");
+    let words = [
+        "solve",
+        instance,
+        solution,
+        certificate,
+        "--close",
+        "--leaves=4097",
+    ];
+    assert_run(&rt, "solve", &words, "BEST 401.0\n", "", 0);
+    let words = ["check", instance, certificate, "--solution", solution];
+    assert_run(&rt, "check", &words, "BEST 401.0\n", "", 0);
     Ok(())
 }

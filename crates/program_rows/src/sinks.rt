@@ -7,9 +7,11 @@ use certificate::read;
 use http_server::Log;
 use row_texts::two_in_line;
 use std::alloc::Global;
+use std::sync::Wait;
 use std::test::Fail;
+use std::thread::Threads;
 use tenths::{MemorySink, Sink, SinkFault};
-use vrptw::{Settings, SolveFault};
+use vrptw::{Answer, Settings, SolveFault};
 
 /// A sink that takes a number of writes, and then fails.
 #[derive(Drop)]
@@ -73,79 +75,96 @@ const MANY_WRITES: usize = 200;
 
 const FEW_WRITES: usize = 3;
 
+/// The answer where the first sink fails after so many writes, whether that holds a beginning that isn't
+/// the whole text, and whether the second stays empty.
+fn first_fails<R: AllocGlobal + Threads + Wait + Sync>(
+    rt: &R,
+    text: &str,
+    left: usize,
+) -> (Result<Answer, SolveFault>, bool, bool) {
+    let mut solution = FailingSink::new(rt.alloc(), left);
+    let mut certificate = MemorySink::new(rt.alloc());
+    let settings = Settings::default();
+    let answer = solve_text(rt, text, &settings, &mut solution, &mut certificate);
+    let written = solution.inner.as_slice();
+    let is_part = SOLUTION.starts_with(written) && written.len() < SOLUTION.len();
+    (answer, is_part, certificate.as_slice().is_empty())
+}
+
 #[test]
 fn a_first_sink_that_fails_at_any_write_leaves_the_second_empty(
     rt: HostRuntime,
 ) -> Result<(), Fail> {
     let text = two_in_line(rt.alloc())?;
-    let settings = Settings::default();
     for left in 0..MANY_WRITES {
-        let mut solution = FailingSink::new(rt.alloc(), left);
-        let mut certificate = MemorySink::new(rt.alloc());
-        let answer = solve_text(
-            &rt,
-            text.as_str(),
-            &settings,
-            &mut solution,
-            &mut certificate,
-        );
-        if answer.is_ok() {
+        let told = first_fails(&rt, text.as_str(), left);
+        if told.0.is_ok() {
             assert!(rt; left > FEW_WRITES, "{left} writes");
             return Ok(());
         }
-        assert_eq!(rt; answer, Err(SolveFault::Device), "{left} writes");
-        let written = solution.inner.as_slice();
-        assert!(rt;
-            SOLUTION.starts_with(written) && written.len() < SOLUTION.len(),
+        assert_eq!(rt;
+            told,
+            (Err(SolveFault::Device), true, true),
             "{left} writes"
         );
-        assert!(rt; certificate.as_slice().is_empty(), "{left} writes");
     }
-    assert!(rt; false, "a solution of many writes");
-    Ok(())
+    Err(Fail::from("a solution of many writes"))
+}
+
+/// The answer where the second sink fails after so many writes, whether the first holds the whole text,
+/// and whether the second holds a beginning that isn't a certificate.
+fn second_fails<R: AllocGlobal + Threads + Wait + Sync>(
+    rt: &R,
+    text: &str,
+    left: usize,
+) -> (Result<Answer, SolveFault>, bool, bool) {
+    let mut solution = MemorySink::new(rt.alloc());
+    let mut certificate = FailingSink::new(rt.alloc(), left);
+    let settings = Settings::default();
+    let answer = solve_text(rt, text, &settings, &mut solution, &mut certificate);
+    let written = certificate.inner.as_slice();
+    let begins = HEAD.starts_with(written) || written.starts_with(HEAD);
+    let is_part = begins && read(rt.alloc(), written).is_err();
+    (answer, solution.as_slice() == SOLUTION, is_part)
 }
 
 #[test]
 fn a_second_sink_that_fails_at_any_write_holds_a_beginning(rt: HostRuntime) -> Result<(), Fail> {
     let text = two_in_line(rt.alloc())?;
-    let settings = Settings::default();
     for left in 0..MANY_WRITES {
-        let mut solution = MemorySink::new(rt.alloc());
-        let mut certificate = FailingSink::new(rt.alloc(), left);
-        let answer = solve_text(
-            &rt,
-            text.as_str(),
-            &settings,
-            &mut solution,
-            &mut certificate,
-        );
-        if answer.is_ok() {
+        let told = second_fails(&rt, text.as_str(), left);
+        if told.0.is_ok() {
             assert!(rt; left > FEW_WRITES, "{left} writes");
             return Ok(());
         }
-        assert_eq!(rt; answer, Err(SolveFault::Device), "{left} writes");
-        assert_eq!(rt; solution.as_slice(), SOLUTION, "{left} writes");
-        let written = certificate.inner.as_slice();
-        assert!(rt;
-            HEAD.starts_with(written) || written.starts_with(HEAD),
+        assert_eq!(rt;
+            told,
+            (Err(SolveFault::Device), true, true),
             "{left} writes"
         );
-        assert!(rt; read(rt.alloc(), written).is_err(), "{left} writes");
     }
-    assert!(rt; false, "a certificate of many writes");
-    Ok(())
+    Err(Fail::from("a certificate of many writes"))
+}
+
+/// How many neighbours a certificate has that begins as expected, if it is one.
+fn neighbours_in(alloc: Global, text: &[u8]) -> Option<u32> {
+    let cert = read(alloc, text).ok()?;
+    if text.starts_with(HEAD) {
+        return Some(cert.parts().neighbours);
+    }
+    None
 }
 
 #[test]
 fn bytes_taken_one_at_a_time_make_both_texts(rt: HostRuntime) -> Result<(), Fail> {
     let text = two_in_line(rt.alloc())?;
-    let settings = Settings::default();
     let mut solution = DrippingSink {
         inner: MemorySink::new(rt.alloc()),
     };
     let mut certificate = DrippingSink {
         inner: MemorySink::new(rt.alloc()),
     };
+    let settings = Settings::default();
     let answer = solve_text(
         &rt,
         text.as_str(),
@@ -153,10 +172,8 @@ fn bytes_taken_one_at_a_time_make_both_texts(rt: HostRuntime) -> Result<(), Fail
         &mut solution,
         &mut certificate,
     );
-    assert!(rt; answer.is_ok());
-    assert_eq!(rt; solution.inner.as_slice(), SOLUTION);
-    assert!(rt; certificate.inner.as_slice().starts_with(HEAD));
-    let cert = read(rt.alloc(), certificate.inner.as_slice())?;
-    assert_eq!(rt; cert.parts().neighbours, 8);
+    let neighbours = neighbours_in(rt.alloc(), certificate.inner.as_slice());
+    let told = (answer.is_ok(), solution.inner.as_slice(), neighbours);
+    assert_eq!(rt; told, (true, SOLUTION, Some(8)));
     Ok(())
 }

@@ -4,96 +4,99 @@ use crate::shared::solve_text;
 use certificate::read;
 use row_texts::two_in_line;
 use std::alloc::Global;
+use std::sync::Wait;
 use std::test::Fail;
+use std::thread::Threads;
 use tenths::MemorySink;
-use vrptw::{Job, Settings, SolveFault, job};
+use vrptw::{Answer, Job, Settings, SolveFault, job};
+
+/// How many neighbours the certificate has that these settings lead to.
+fn neighbours_of<R: AllocGlobal + Threads + Wait + Sync>(
+    rt: &R,
+    text: &str,
+    settings: &Settings,
+) -> Result<u32, Fail> {
+    let mut solution = MemorySink::new(rt.alloc());
+    let mut certificate = MemorySink::new(rt.alloc());
+    solve_text(rt, text, settings, &mut solution, &mut certificate)?;
+    let cert = read(rt.alloc(), certificate.as_slice())?;
+    Ok(cert.parts().neighbours)
+}
 
 #[test]
 fn the_neighbours_of_the_settings_stand_in_the_certificate(rt: HostRuntime) -> Result<(), Fail> {
     let text = two_in_line(rt.alloc())?;
     for neighbours in [0, 1, 15] {
-        let mut settings = Settings::default();
-        settings.neighbours = neighbours;
-        let mut solution = MemorySink::new(rt.alloc());
-        let mut certificate = MemorySink::new(rt.alloc());
-        let answer = solve_text(
-            &rt,
-            text.as_str(),
-            &settings,
-            &mut solution,
-            &mut certificate,
-        );
-        assert!(rt; answer.is_ok(), "{neighbours}");
-        let cert = read(rt.alloc(), certificate.as_slice())?;
-        assert_eq!(rt; cert.parts().neighbours, neighbours, "{neighbours}");
+        let settings = settings_with("neighbours", neighbours);
+        let told = neighbours_of(&rt, text.as_str(), &settings)?;
+        assert_eq!(rt; told, neighbours);
     }
     Ok(())
+}
+
+/// What these settings lead to, and whether nothing was written.
+fn answer_of<R: AllocGlobal + Threads + Wait + Sync>(
+    rt: &R,
+    text: &str,
+    settings: &Settings,
+) -> (Result<Answer, SolveFault>, bool) {
+    let mut solution = MemorySink::new(rt.alloc());
+    let mut certificate = MemorySink::new(rt.alloc());
+    let answer = solve_text(rt, text, settings, &mut solution, &mut certificate);
+    let is_empty = solution.as_slice().is_empty() && certificate.as_slice().is_empty();
+    (answer, is_empty)
 }
 
 #[test]
 fn settings_have_ranges_and_limit_the_labels(rt: HostRuntime) -> Result<(), Fail> {
     let text = two_in_line(rt.alloc())?;
-    for (neighbours, labels, fault) in [
-        (16, 1_000_000, SolveFault::BadSettings),
-        (8, 1, SolveFault::LabelLimit),
+    for (option, number, fault) in [
+        ("neighbours", 16, SolveFault::BadSettings),
+        ("labels", 1, SolveFault::LabelLimit),
     ] {
-        let mut settings = Settings::default();
-        settings.neighbours = neighbours;
-        settings.labels = labels;
-        let mut solution = MemorySink::new(rt.alloc());
-        let mut certificate = MemorySink::new(rt.alloc());
-        let answer = solve_text(
-            &rt,
-            text.as_str(),
-            &settings,
-            &mut solution,
-            &mut certificate,
-        );
-        assert_eq!(rt; answer, Err(fault), "{fault}");
-        assert!(rt;
-            solution.as_slice().is_empty() && certificate.as_slice().is_empty(),
-            "{fault}"
-        );
+        let told = answer_of(&rt, text.as_str(), &settings_with(option, number));
+        assert_eq!(rt; told, (Err(fault), true), "{option}");
     }
     Ok(())
 }
 
 #[test]
-fn words_give_a_job(rt: HostRuntime) -> Result<(), Fail> {
-    match job(rt.alloc(), &["solve", "a", "b", "c"]) {
-        Ok(
-            Job::Solve {
-                instance,
-                solution,
-                certificate,
-                settings,
-                close,
-                leaves,
-            },
-        ) => {
-            assert_eq!(rt; instance, "a");
-            assert_eq!(rt; solution, "b");
-            assert_eq!(rt; certificate, "c");
-            assert_eq!(rt; settings, Settings::default());
-            assert_eq!(rt; (close, leaves), (false, 100_000));
-            assert!(rt; settings.is_within());
-        }
-        _ => assert!(rt; false, "the words were refused"),
-    }
-    match job(rt.alloc(), &["check", "a", "b", "--solution", "c"]) {
-        Ok(
-            Job::Check {
-                instance,
-                certificate,
-                solution,
-                states,
-            },
-        ) => {
-            assert_eq!(rt; (instance, certificate, solution), ("a", "b", Some("c")));
-            assert_eq!(rt; states, 5_000_000);
-        }
-        _ => assert!(rt; false, "the words were refused"),
-    }
+fn words_give_a_job_to_solve(rt: HostRuntime) -> Result<(), Fail> {
+    let Ok(
+        Job::Solve {
+            instance,
+            solution,
+            certificate,
+            settings,
+            close,
+            leaves,
+        },
+    ) = job(rt.alloc(), &["solve", "a", "b", "c"])
+    else {
+        return Err(Fail::from("the words were refused"));
+    };
+    let paths = (instance, solution, certificate);
+    let told = (paths, settings, settings.is_within(), close, leaves);
+    let expected = (("a", "b", "c"), Settings::default(), true, false, 100_000);
+    assert_eq!(rt; told, expected);
+    Ok(())
+}
+
+#[test]
+fn words_give_a_job_to_check(rt: HostRuntime) -> Result<(), Fail> {
+    let Ok(
+        Job::Check {
+            instance,
+            certificate,
+            solution,
+            states,
+        },
+    ) = job(rt.alloc(), &["check", "a", "b", "--solution", "c"])
+    else {
+        return Err(Fail::from("the words were refused"));
+    };
+    let told = (instance, certificate, solution, states);
+    assert_eq!(rt; told, ("a", "b", Some("c"), 5_000_000));
     Ok(())
 }
 
@@ -177,6 +180,12 @@ fn words_say_whether_to_close(rt: HostRuntime) -> Result<(), Fail> {
     Ok(())
 }
 
+/// The settings of the job to solve with this number of one option, if it is one.
+fn setting_given(alloc: Global, option: &str, number: i64) -> Result<Option<Settings>, Fail> {
+    let word = format!(in alloc; "--{option}={number}")?;
+    Ok(settings_given(alloc, &["solve", "a", "b", "c", word.as_str()]))
+}
+
 #[test]
 fn options_have_ranges(rt: HostRuntime) -> Result<(), Fail> {
     // A number below the range, the range, and a number above it.
@@ -190,16 +199,12 @@ fn options_have_ranges(rt: HostRuntime) -> Result<(), Fail> {
     ];
     for (option, below, least, most, above) in rows {
         for number in [least, most] {
-            let word = format!(in rt.alloc(); "--{option}={number}")?;
-            let words = ["solve", "a", "b", "c", word.as_str()];
-            let settings = settings_given(rt.alloc(), &words);
-            assert_eq!(rt; settings, Some(settings_with(option, number)), "{word}");
+            let settings = setting_given(rt.alloc(), option, i64::from(number))?;
+            assert_eq!(rt; settings, Some(settings_with(option, number)), "{option}");
         }
         for number in [below, above] {
-            let word = format!(in rt.alloc(); "--{option}={number}")?;
-            let words = ["solve", "a", "b", "c", word.as_str()];
-            let settings = settings_given(rt.alloc(), &words);
-            assert_eq!(rt; settings, None, "{word}");
+            let settings = setting_given(rt.alloc(), option, number)?;
+            assert_eq!(rt; settings, None, "{option}");
         }
     }
     Ok(())

@@ -2,7 +2,7 @@
 //! its children: two customers in a line, which one vehicle can serve.
 
 use branching::{Arc, Region};
-use incumbent_book::{Book, Offered};
+use incumbent_book::{Book, BookFault, Offered};
 use prices::Priced;
 use row_texts::{DEPOT, instance_text};
 use schedule::Feasible;
@@ -97,25 +97,35 @@ fn tell_reply<R: Runtime>(rt: &R, reply: &Offered<'_>) -> io::Result<()> {
     }
 }
 
+/// Prints that a plan was refused, and came back.
+fn tell_refused_plan<R: Runtime>(
+    rt: &R,
+    book: &Book<'_>,
+    plan: &Feasible<'_>,
+    fault: BookFault,
+) -> io::Result<()> {
+    let (cost, routes) = (plan.cost().get(), plan.routes());
+    print!(rt; "{fault} back {cost} {routes:?} ")?;
+    tell_book(rt, book)
+}
+
 /// Offers a plan and prints what came of it: the plan, if it was refused.
 fn offer_once<'i, R: Runtime>(
     rt: &R,
     book: &mut Book<'i>,
     plan: Feasible<'i>,
 ) -> io::Result<Option<Feasible<'i>>> {
-    let back = match book.offer(0, plan) {
+    match book.offer(0, plan) {
         Ok(reply) => {
             tell_reply(rt, &reply)?;
-            None
+            tell_book(rt, book)?;
+            Ok(None)
         }
         Err((plan, fault)) => {
-            let (cost, routes) = (plan.cost().get(), plan.routes());
-            print!(rt; "{fault} back {cost} {routes:?} ")?;
-            Some(plan)
+            tell_refused_plan(rt, book, &plan, fault)?;
+            Ok(Some(plan))
         }
-    };
-    tell_book(rt, book)?;
-    Ok(back)
+    }
 }
 
 /// Offers a plan twice: once more the one that came back, or else another.
@@ -159,23 +169,35 @@ fn tell_back<R: Runtime>(rt: &R, priced: &Priced<'_>) -> io::Result<()> {
     print!(rt; "back {value} {prices:?} ")
 }
 
+/// Prints that prices were refused, and came back.
+fn tell_refused_prices<R: Runtime>(
+    rt: &R,
+    book: &Book<'_>,
+    priced: &Priced<'_>,
+    fault: BookFault,
+) -> io::Result<()> {
+    print!(rt; "{fault} ")?;
+    tell_back(rt, priced)?;
+    tell_book(rt, book)
+}
+
 /// Gives the root new prices and prints what came of it: the prices, if they were refused.
 fn reprice_once<'i, R: Runtime>(
     rt: &R,
     book: &mut Book<'i>,
     priced: Priced<'i>,
 ) -> io::Result<Option<Priced<'i>>> {
-    let mut back = None;
     match book.reprice(0, 0, priced) {
-        Ok(()) => print!(rt; "Ok ")?,
+        Ok(()) => {
+            print!(rt; "Ok ")?;
+            tell_book(rt, book)?;
+            Ok(None)
+        }
         Err((priced, fault)) => {
-            print!(rt; "{fault} ")?;
-            tell_back(rt, &priced)?;
-            back = Some(priced);
+            tell_refused_prices(rt, book, &priced, fault)?;
+            Ok(Some(priced))
         }
     }
-    tell_book(rt, book)?;
-    Ok(back)
 }
 
 /// Prices of 200 tenths at the root.
@@ -251,6 +273,19 @@ fn split_book<'i>(alloc: Global, instance: &'i Instance) -> Option<Book<'i>> {
     Some(book)
 }
 
+/// Prints that the prices of both children were refused, and came back.
+fn tell_refused_children<R: Runtime>(
+    rt: &R,
+    book: &Book<'_>,
+    children: &Children<'_>,
+    fault: BookFault,
+) -> io::Result<()> {
+    print!(rt; "{fault} ")?;
+    tell_back(rt, &children.used)?;
+    tell_back(rt, &children.unused)?;
+    tell_book(rt, book)
+}
+
 /// Splits a leaf and prints what came of it: the prices, if they were refused.
 fn split_once<'i, R: Runtime>(
     rt: &R,
@@ -258,18 +293,18 @@ fn split_once<'i, R: Runtime>(
     children: Children<'i>,
 ) -> io::Result<Option<Children<'i>>> {
     let Children { used, unused } = children;
-    let mut back = None;
     match book.split(0, APART, BACK, used, unused) {
-        Ok((used, unused)) => print!(rt; "Ok {used} {unused} ")?,
+        Ok((used, unused)) => {
+            print!(rt; "Ok {used} {unused} ")?;
+            tell_book(rt, book)?;
+            Ok(None)
+        }
         Err((used, unused, fault)) => {
-            print!(rt; "{fault} ")?;
-            tell_back(rt, &used)?;
-            tell_back(rt, &unused)?;
-            back = Some(Children { used, unused });
+            let children = Children { used, unused };
+            tell_refused_children(rt, book, &children, fault)?;
+            Ok(Some(children))
         }
     }
-    tell_book(rt, book)?;
-    Ok(back)
 }
 
 /// Splits a leaf twice: once more with the prices that came back, or else with others.

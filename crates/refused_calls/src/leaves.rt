@@ -24,21 +24,6 @@ fn instance_of(alloc: Global) -> Option<Instance> {
     read(alloc, text.as_bytes()).ok()
 }
 
-/// Looks for the least reduced cost of a region, and prints what came of it.
-fn find_once<R: Runtime + AllocGlobal>(
-    rt: &R,
-    instance: &Instance,
-    region: &Region,
-) -> io::Result<()> {
-    match least(rt.alloc(), instance, region, &PRICES, 0, None) {
-        Ok(found) => {
-            let (value, route) = (found.value, found.route);
-            println!(rt; "Ok {value:?} {route:?}")
-        }
-        Err(fault) => println!(rt; "{fault}"),
-    }
-}
-
 pub(crate) fn tell_least<R: Runtime + AllocGlobal>(rt: &R) -> io::Result<bool> {
     let Some(instance) = instance_of(rt.alloc()) else {
         return Ok(false);
@@ -49,7 +34,13 @@ pub(crate) fn tell_least<R: Runtime + AllocGlobal>(rt: &R) -> io::Result<bool> {
     let region = Region::root(rt.alloc(), SIZE);
     println!(rt; "ready")?;
     for _ in 0..2 {
-        find_once(rt, &instance, &region)?;
+        match least(rt.alloc(), &instance, &region, &PRICES, 0, None) {
+            Ok(found) => {
+                let (value, route) = (found.value, found.route);
+                println!(rt; "Ok {value:?} {route:?}")?;
+            }
+            Err(fault) => println!(rt; "{fault}")?,
+        }
     }
     Ok(true)
 }
