@@ -83,7 +83,24 @@ fn tell_kind<R: Runtime + AllocGlobal + Threads + Sync>(
     println!(rt; "{kind:?} value {one} {other}")
 }
 
-/// Prints a line for each kind of moves, and the number of the plan's routes.
+/// Prints the number of a plan's routes, and a line for each kind of moves.
+fn tell_kinds<R: Runtime + AllocGlobal + Threads + Sync>(
+    rt: &R,
+    trees: &PlanTrees<'_>,
+    runs: u32,
+    times: bool,
+) -> io::Result<()>
+    requires { AreOfPlan trees.now }
+{
+    let count = trees.count();
+    println!(rt; "routes {count}")?;
+    for kind in KINDS {
+        tell_kind(rt, trees, kind, runs, times)?;
+    }
+    Ok(())
+}
+
+/// The same for the plan that insertion builds.
 pub(crate) fn tell_bests<R: Runtime + AllocGlobal + Threads + Sync>(
     rt: &R,
     instance: &Instance,
@@ -93,13 +110,8 @@ pub(crate) fn tell_bests<R: Runtime + AllocGlobal + Threads + Sync>(
     let Some(plan) = plan_of(rt.alloc(), instance) else {
         return println!(rt; "no plan");
     };
-    let Ok(trees) = trees_of(rt.alloc(), &plan) else {
-        return println!(rt; "no plan");
-    };
-    let count = trees.count();
-    println!(rt; "routes {count}")?;
-    for kind in KINDS {
-        tell_kind(rt, &trees, kind, runs, times)?;
+    match trees_of(rt.alloc(), &plan) {
+        Ok(trees) => tell_kinds(rt, &trees, runs, times),
+        Err(_) => println!(rt; "no plan"),
     }
-    Ok(())
 }

@@ -6,6 +6,19 @@ use solomon_reader::Instance;
 use std::io;
 use std::rt::Runtime;
 
+/// Fills a book up to so many leaves, and prints what it holds then.
+fn tell_step<R: Runtime + AllocGlobal>(
+    rt: &R,
+    filling: &mut Filling<'_>,
+    size: u32,
+    times: bool,
+) -> io::Result<()> {
+    filling.grow(rt, size)?;
+    filling.raise_some(rt)?;
+    filling.look(rt)?;
+    filling.tell(rt, times)
+}
+
 /// Fills a book step by step, ten times as many leaves at each, and prints what it holds then.
 pub(crate) fn tell_book<R: Runtime + AllocGlobal>(
     rt: &R,
@@ -19,13 +32,9 @@ pub(crate) fn tell_book<R: Runtime + AllocGlobal>(
     let mut filling = Filling::new(book);
     let mut size = 100;
     for _ in 0..7 {
-        if size > leaves {
-            break;
+        if size <= leaves {
+            tell_step(rt, &mut filling, size, times)?;
         }
-        filling.grow(rt, size)?;
-        filling.raise_some(rt)?;
-        filling.look(rt)?;
-        filling.tell(rt, times)?;
         size = size.saturating_mul(10);
     }
     tell_texts(rt, filling.into_book(), times)

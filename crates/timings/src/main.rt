@@ -56,6 +56,27 @@ fn tell_labels_at<R: Runtime + AllocGlobal>(
     Ok(true)
 }
 
+/// Prints what a mode prints of an instance, and says whether its last words are right.
+fn tell_mode<R: Runtime + AllocGlobal + Threads + Sync>(
+    rt: &R,
+    instance: &Instance,
+    mode: &str,
+    path: &str,
+    number: u32,
+    times: bool,
+) -> io::Result<bool> {
+    match mode {
+        "ascent" => tell_ascents(rt, instance, number, times)?,
+        "bests" => tell_bests(rt, instance, number, times)?,
+        "book" => tell_book(rt, instance, number, times)?,
+        "closing" => tell_closing(rt, instance, number)?,
+        "descents" => tell_descents(rt, instance, number, times)?,
+        "turns" => tell_turns(rt, instance, number, times)?,
+        _ => return tell_labels_at(rt, instance, path, number as usize, times),
+    }
+    Ok(true)
+}
+
 /// Prints what a mode prints by its words, the mode among them, and says whether they are right.
 fn tell<R: Runtime + AllocGlobal + Threads + Sync>(
     rt: &R,
@@ -68,19 +89,11 @@ fn tell<R: Runtime + AllocGlobal + Threads + Sync>(
     let Some(number) = last_number(words) else {
         return Ok(false);
     };
-    let Some(instance) = instance_of(rt, words[1].as_str())? else {
-        return Ok(false);
-    };
-    match words[0].as_str() {
-        "ascent" => tell_ascents(rt, &instance, number, times)?,
-        "bests" => tell_bests(rt, &instance, number, times)?,
-        "book" => tell_book(rt, &instance, number, times)?,
-        "closing" => tell_closing(rt, &instance, number)?,
-        "descents" => tell_descents(rt, &instance, number, times)?,
-        "turns" => tell_turns(rt, &instance, number, times)?,
-        _ => return tell_labels_at(rt, &instance, words[2].as_str(), number as usize, times),
+    let (mode, path) = (words[0].as_str(), words[2].as_str());
+    match instance_of(rt, words[1].as_str())? {
+        Some(instance) => tell_mode(rt, &instance, mode, path, number, times),
+        None => Ok(false),
     }
-    Ok(true)
 }
 
 /// How many words a mode has, itself among them; none is of another name.
@@ -92,9 +105,12 @@ fn count_of(mode: &str) -> Option<usize> {
     }
 }
 
-fn run<R: Runtime + AllocGlobal + Threads + Sync>(rt: &R) -> io::Result<bool> {
-    let words: Vec<String> = env::args(rt)?.skip(1).collect(rt.alloc())?;
-    let mut rest = words.as_slice();
+/// Prints what all the words ask for, and says whether they are right.
+fn tell_all<R: Runtime + AllocGlobal + Threads + Sync>(
+    rt: &R,
+    words: &[String],
+) -> io::Result<bool> {
+    let mut rest = words;
     for _ in 0..words.len() {
         let Some(mode) = rest.first() else {
             return Ok(true);
@@ -113,6 +129,11 @@ fn run<R: Runtime + AllocGlobal + Threads + Sync>(rt: &R) -> io::Result<bool> {
         rest = if times { &behind[1..] } else { behind };
     }
     Ok(!words.is_empty())
+}
+
+fn run<R: Runtime + AllocGlobal + Threads + Sync>(rt: &R) -> io::Result<bool> {
+    let words: Vec<String> = env::args(rt)?.skip(1).collect(rt.alloc())?;
+    tell_all(rt, words.as_slice())
 }
 
 fn main(rt: HostRuntime) -> io::Result<ExitCode> {

@@ -57,19 +57,12 @@ fn read_timed<R: Runtime + AllocGlobal>(
     Ok((found, begin.elapsed(rt)?.as_millis()))
 }
 
-/// Prints the size of the text of a book's certificate, whether it is read as what was written, and
-/// the milliseconds of both.
-pub(crate) fn tell_texts<R: Runtime + AllocGlobal>(
-    rt: &R,
-    book: Book<'_>,
-    times: bool,
-) -> io::Result<()> {
-    let Some(cert) = cert_of(rt.alloc(), &book.finish()) else {
-        return println!(rt; "no certificate");
-    };
+/// Prints the size of a certificate's text, whether it is read as what was written, and the
+/// milliseconds of both.
+fn tell_text<R: Runtime + AllocGlobal>(rt: &R, cert: &Cert, times: bool) -> io::Result<()> {
     let nodes = cert.parts().nodes.len();
     let mut sink = MemorySink::new(rt.alloc());
-    let (written, writing) = write_timed(rt, &cert, &mut sink)?;
+    let (written, writing) = write_timed(rt, cert, &mut sink)?;
     let (again, reading) = read_timed(rt, sink.as_slice(), nodes)?;
     let bytes = sink.as_slice().len();
     if !times {
@@ -78,4 +71,16 @@ pub(crate) fn tell_texts<R: Runtime + AllocGlobal>(
     println!(rt;
         "{nodes} nodes, {bytes} bytes, written {written}, read {again}; ms: writing {writing} reading {reading}"
     )
+}
+
+/// The same for the certificate of a book.
+pub(crate) fn tell_texts<R: Runtime + AllocGlobal>(
+    rt: &R,
+    book: Book<'_>,
+    times: bool,
+) -> io::Result<()> {
+    match cert_of(rt.alloc(), &book.finish()) {
+        Some(cert) => tell_text(rt, &cert, times),
+        None => println!(rt; "no certificate"),
+    }
 }

@@ -34,36 +34,68 @@ fn searcher_of<'i>(alloc: Global, plan: &Feasible<'i>) -> io::Result<PlanSearche
     Ok(Searcher::new(alloc, copy, random))
 }
 
+/// A searcher that has descended from the plan, and the microseconds of the descent.
+fn descend_once<'i, R: Runtime + AllocGlobal>(
+    rt: &R,
+    plan: &Feasible<'i>,
+) -> io::Result<(PlanSearcher<'i>, u128)> {
+    let mut searcher = searcher_of(rt.alloc(), plan)?;
+    let begin = Instant::now(rt)?;
+    searcher.descend().map_err(refused)?;
+    let micros = begin.elapsed(rt)?.as_micros();
+    Ok((searcher, micros))
+}
+
 /// A searcher that has descended from the plan, and the least microseconds of some descents.
 pub(crate) fn descend_alone<'i, R: Runtime + AllocGlobal>(
     rt: &R,
     plan: &Feasible<'i>,
 ) -> io::Result<(PlanSearcher<'i>, u128)> {
-    let mut searcher = searcher_of(rt.alloc(), plan)?;
-    let mut micros = u128::MAX;
-    for _ in 0..RUNS {
-        searcher = searcher_of(rt.alloc(), plan)?;
-        let begin = Instant::now(rt)?;
-        searcher.descend().map_err(refused)?;
-        micros = micros.min(begin.elapsed(rt)?.as_micros());
+    let mut least = u128::MAX;
+    for _ in 1..RUNS {
+        let (_searcher, micros) = descend_once(rt, plan)?;
+        least = least.min(micros);
     }
-    Ok((searcher, micros))
+    let (searcher, micros) = descend_once(rt, plan)?;
+    Ok((searcher, least.min(micros)))
 }
 
-/// The cost that a descent in several threads comes to, and the least microseconds of some.
+/// The cost that a descent in several threads comes to, and its microseconds.
+fn descend_in_parallel_once<R: Runtime + AllocGlobal + Threads + Sync>(
+    rt: &R,
+    plan: &Feasible<'_>,
+) -> io::Result<(u64, u128)> {
+    let mut searcher = searcher_of(rt.alloc(), plan)?;
+    let begin = Instant::now(rt)?;
+    searcher.descend_parallel(rt).map_err(refused)?;
+    let micros = begin.elapsed(rt)?.as_micros();
+    Ok((searcher.plan().cost().get(), micros))
+}
+
+/// The cost that descents in several threads come to, and the least microseconds of some.
 fn descend_in_parallel<R: Runtime + AllocGlobal + Threads + Sync>(
     rt: &R,
     plan: &Feasible<'_>,
 ) -> io::Result<(u64, u128)> {
-    let (mut cost, mut micros) = (0, u128::MAX);
+    let (mut cost, mut least) = (0, u128::MAX);
     for _ in 0..RUNS {
-        let mut searcher = searcher_of(rt.alloc(), plan)?;
-        let begin = Instant::now(rt)?;
-        searcher.descend_parallel(rt).map_err(refused)?;
-        micros = micros.min(begin.elapsed(rt)?.as_micros());
-        cost = searcher.plan().cost().get();
+        let (found, micros) = descend_in_parallel_once(rt, plan)?;
+        (cost, least) = (found, least.min(micros));
     }
-    Ok((cost, micros))
+    Ok((cost, least))
+}
+
+/// Makes this many turns: their microseconds.
+pub(crate) fn turn_all<R: Runtime>(
+    rt: &R,
+    searcher: &mut PlanSearcher<'_>,
+    turns: u32,
+) -> io::Result<u128> {
+    let begin = Instant::now(rt)?;
+    for _ in 0..turns {
+        searcher.turn().map_err(refused)?;
+    }
+    Ok(begin.elapsed(rt)?.as_micros())
 }
 
 /// Prints a line of a cost, with microseconds where times are to be printed.
@@ -88,25 +120,42 @@ fn tell_routes<R: Runtime>(rt: &R, plan: &Feasible<'_>) -> io::Result<()> {
     Ok(())
 }
 
-/// Prints the costs after a descent and after this many turns, and the routes then.
+/// Makes this many turns, and prints the cost and the routes that they come to.
+fn tell_turned<R: Runtime>(
+    rt: &R,
+    searcher: &mut PlanSearcher<'_>,
+    turns: u32,
+    times: bool,
+) -> io::Result<()> {
+    let micros = turn_all(rt, searcher, turns)?;
+    tell_cost(rt, "turns", searcher.plan().cost().get(), micros, times)?;
+    tell_routes(rt, searcher.plan())
+}
+
+/// Prints the costs of a plan after a descent and after this many turns, and the routes then.
+fn tell_turns_from<R: Runtime + AllocGlobal + Threads + Sync>(
+    rt: &R,
+    plan: &Feasible<'_>,
+    turns: u32,
+    times: bool,
+) -> io::Result<()> {
+    let (cost, parallel) = descend_in_parallel(rt, plan)?;
+    let (mut searcher, alone) = descend_alone(rt, plan)?;
+    tell_cost(rt, "descent", searcher.plan().cost().get(), alone, times)?;
+    tell_cost(rt, "parallel", cost, parallel, times)?;
+    tell_turned(rt, &mut searcher, turns, times)
+}
+
+/// Prints the costs after a descent from the plan that insertion builds and after this many turns, and
+/// the routes then.
 pub(crate) fn tell_turns<R: Runtime + AllocGlobal + Threads + Sync>(
     rt: &R,
     instance: &Instance,
     turns: u32,
     times: bool,
 ) -> io::Result<()> {
-    let Some(plan) = plan_of(rt.alloc(), instance) else {
-        return println!(rt; "no plan");
-    };
-    let (mut searcher, alone) = descend_alone(rt, &plan)?;
-    tell_cost(rt, "descent", searcher.plan().cost().get(), alone, times)?;
-    let (cost, parallel) = descend_in_parallel(rt, &plan)?;
-    tell_cost(rt, "parallel", cost, parallel, times)?;
-    let begin = Instant::now(rt)?;
-    for _ in 0..turns {
-        searcher.turn().map_err(refused)?;
+    match plan_of(rt.alloc(), instance) {
+        Some(plan) => tell_turns_from(rt, &plan, turns, times),
+        None => println!(rt; "no plan"),
     }
-    let micros = begin.elapsed(rt)?.as_micros();
-    tell_cost(rt, "turns", searcher.plan().cost().get(), micros, times)?;
-    tell_routes(rt, searcher.plan())
 }

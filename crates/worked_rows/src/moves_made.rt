@@ -12,6 +12,7 @@ use schedule::Feasible;
 use search::Searcher;
 use solomon_reader::Instance;
 use std::alloc::Global;
+use std::process::Abort;
 use std::test::Fail;
 use std::thread::Threads;
 
@@ -144,9 +145,24 @@ fn outcome_of_value(row: &Row, value: Option<i64>) -> Outcome {
     }
 }
 
+/// A name, a plan, a move, and its value.
+type Case = (&'static str, &'static Row, Move, Option<i64>);
+
+/// Asserts that the value of a move is told, and that the cost changes by it where the move is made.
+fn assert_outcome<R: Abort + AllocGlobal>(rt: &R, case: &Case) -> Result<(), Fail> {
+    let (name, row, candidate, value) = *case;
+    let expected = outcome_of_value(row, value);
+    assert_eq!(rt;
+        outcome_of_move(rt.alloc(), row, candidate)?,
+        expected,
+        "{name}"
+    );
+    Ok(())
+}
+
 #[test]
-fn moves_change_the_cost_by_their_values(rt: HostRuntime) -> Result<(), Fail> {
-    let rows: [(&str, &Row, Move, Option<i64>); 24] = [
+fn moves_of_crossed_and_slanted_routes_have_values(rt: HostRuntime) -> Result<(), Fail> {
+    let rows: [Case; 7] = [
         (
             "ends of crossed routes",
             &CROSSED,
@@ -189,6 +205,16 @@ fn moves_change_the_cost_by_their_values(rt: HostRuntime) -> Result<(), Fail> {
             relocate(at(0, 0), at(1, 0)),
             Some(-63),
         ),
+    ];
+    for case in rows {
+        assert_outcome(&rt, &case)?;
+    }
+    Ok(())
+}
+
+#[test]
+fn moves_of_single_customers_have_values(rt: HostRuntime) -> Result<(), Fail> {
+    let rows: [Case; 6] = [
         (
             "before the hurried customer",
             &HURRIED,
@@ -225,6 +251,16 @@ fn moves_change_the_cost_by_their_values(rt: HostRuntime) -> Result<(), Fail> {
             exchange(at(1, 0), at(0, 1)),
             None,
         ),
+    ];
+    for case in rows {
+        assert_outcome(&rt, &case)?;
+    }
+    Ok(())
+}
+
+#[test]
+fn moves_of_chains_have_values(rt: HostRuntime) -> Result<(), Fail> {
+    let rows: [Case; 4] = [
         (
             "a chain before the hurried customer",
             &HURRIED,
@@ -249,6 +285,16 @@ fn moves_change_the_cost_by_their_values(rt: HostRuntime) -> Result<(), Fail> {
             or_opt(chain(0, 0, 2), at(2, 0)),
             Some(0),
         ),
+    ];
+    for case in rows {
+        assert_outcome(&rt, &case)?;
+    }
+    Ok(())
+}
+
+#[test]
+fn moves_of_ends_have_values(rt: HostRuntime) -> Result<(), Fail> {
+    let rows: [Case; 3] = [
         (
             "the hurried customer behind a whole route",
             &HURRIED,
@@ -267,6 +313,16 @@ fn moves_change_the_cost_by_their_values(rt: HostRuntime) -> Result<(), Fail> {
             two_opt_star(at(0, 0), at(1, 1)),
             Some(200),
         ),
+    ];
+    for case in rows {
+        assert_outcome(&rt, &case)?;
+    }
+    Ok(())
+}
+
+#[test]
+fn moves_of_two_chains_have_values(rt: HostRuntime) -> Result<(), Fail> {
+    let rows: [Case; 4] = [
         (
             "a chain of two and one of one",
             &HURRIED,
@@ -292,13 +348,8 @@ fn moves_change_the_cost_by_their_values(rt: HostRuntime) -> Result<(), Fail> {
             Some(-200),
         ),
     ];
-    for (name, row, candidate, value) in rows {
-        let expected = outcome_of_value(row, value);
-        assert_eq!(rt;
-            outcome_of_move(rt.alloc(), row, candidate)?,
-            expected,
-            "{name}"
-        );
+    for case in rows {
+        assert_outcome(&rt, &case)?;
     }
     Ok(())
 }

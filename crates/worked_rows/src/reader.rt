@@ -11,7 +11,6 @@ const ONE_CUSTOMER: &str = "1 3 4 1 0 1000 0\n";
 
 #[test]
 fn an_instance_is_read(rt: HostRuntime) -> Result<(), Fail> {
-    let instance = instance_of(rt.alloc(), 1, 1, DEPOT, ONE_CUSTOMER)?;
     let customer = Row {
         x: 3,
         y: 4,
@@ -20,11 +19,17 @@ fn an_instance_is_read(rt: HostRuntime) -> Result<(), Fail> {
         due: 1000,
         service: 0,
     };
-    assert_eq!(rt; instance.name(), b"T".as_slice());
-    assert_eq!(rt; instance.fleet(), 1);
-    assert_eq!(rt; instance.capacity(), 1);
-    assert_eq!(rt; instance.customer_count(), 1);
-    assert_eq!(rt; instance.rows().last().copied(), Some(customer));
+    let instance = instance_of(rt.alloc(), 1, 1, DEPOT, ONE_CUSTOMER)?;
+    let sizes = (
+        instance.fleet(),
+        instance.capacity(),
+        instance.customer_count(),
+    );
+    let last = instance.rows().last().copied();
+    assert_eq!(rt;
+        (instance.name(), sizes, last),
+        (b"T".as_slice(), (1, 1, 1), Some(customer))
+    );
     Ok(())
 }
 
@@ -112,14 +117,18 @@ fn each_fault_of_other_bytes_is_told(rt: HostRuntime) {
     }
 }
 
+/// The fault of an instance of this many customers.
+fn fault_of_many(alloc: Global, count: u32) -> Result<Option<ReadFault>, AllocError> {
+    let customers = many_customers(alloc, count)?;
+    fault_of(alloc, DEPOT, customers.as_str())
+}
+
 #[test]
 fn four_hundred_customers_are_the_most(rt: HostRuntime) -> Result<(), Fail> {
-    let most = many_customers(rt.alloc(), 400)?;
-    assert_eq!(rt; fault_of(rt.alloc(), DEPOT, most.as_str())?, None);
-    let more = many_customers(rt.alloc(), 401)?;
-    assert_eq!(rt;
-        fault_of(rt.alloc(), DEPOT, more.as_str())?,
-        Some(ReadFault::TooManyCustomers)
+    let told = (
+        fault_of_many(rt.alloc(), 400)?,
+        fault_of_many(rt.alloc(), 401)?,
     );
+    assert_eq!(rt; told, (None, Some(ReadFault::TooManyCustomers)));
     Ok(())
 }

@@ -36,12 +36,9 @@ fn two_stops_on_a_line_are_joined(rt: HostRuntime) -> Result<(), Fail> {
     let customers = "1 3 4 1 0 1000 0\n2 6 8 1 0 1000 0\n";
     let instance = instance_of(rt.alloc(), 2, 2, DEPOT, customers)?;
     let Joined { whole, last } = joins_of_two(rt.alloc(), &instance)?;
-    assert_eq!(rt; whole.latest(), 9950);
-    assert_eq!(rt; whole.duration(), 50);
-    assert_eq!(rt; whole.earliest(), 50);
-    assert_eq!(rt; whole.load(), 2);
-    assert_eq!(rt; whole.cost(), 50);
-    assert_eq!(rt; last.first(), 2);
+    let times = (whole.latest(), whole.duration(), whole.earliest());
+    let told = (times, whole.load(), whole.cost(), last.first());
+    assert_eq!(rt; told, ((9950, 50, 50), 2, 50, 2));
     Ok(())
 }
 
