@@ -155,7 +155,7 @@ def put_back(instance, words, routes, customer, known):
         for j in range(stops(routes, b) + 1 if b != a else 0):
             way = [0] + routes[b] + [0]
             detour = arc[way[j]][customer] + arc[customer][way[j + 1]] - arc[way[j]][way[j + 1]]
-            if (best is None or detour < best[0]) and below(words, 20) != 0:
+            if (best is None or detour < best[0]) and below(words, 100) != 0:
                 after = moved_chain(routes, a, i, 1, b, j)
                 if is_plan(instance, after):
                     best = (detour, after)
@@ -187,11 +187,12 @@ def turn(instance, words, routes):
     current = descend(instance, routes)
     best = current
     for number in range(ROUNDS):
-        first = 60 * plan_cost(instance, current) // (100 * instance.count)
+        least = plan_cost(instance, best)
+        first = 120 * least // (100 * instance.count)
         after = descend(instance, shaken(instance, words, current))
         threshold = first * (ROUNDS - number) // ROUNDS
         if plan_cost(instance, after) < plan_cost(instance, best):
             best = after
-        if plan_cost(instance, after) < plan_cost(instance, current) + threshold:
+        if plan_cost(instance, after) < least + threshold:
             current = after
     return best if plan_cost(instance, best) < plan_cost(instance, routes) else routes

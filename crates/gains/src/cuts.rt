@@ -26,6 +26,7 @@ pub struct Cut {
 }
 
 /// The stop at a position, and the depot behind the last.
+#[inline(always)]
 fn stop_at(stops: &[u16], position: usize) -> u16
     ensures { result ≡ slice_index_or stops.now position 0 }
 {
@@ -36,6 +37,7 @@ fn stop_at(stops: &[u16], position: usize) -> u16
 }
 
 /// The stop before a position, and the depot before the first.
+#[inline(always)]
 #[tactic(auto, using(crate::proofs::CutStops::before_position))]
 fn stop_before(stops: &[u16], position: usize) -> u16
     requires { position ≤ length stops.now }
@@ -48,6 +50,7 @@ fn stop_before(stops: &[u16], position: usize) -> u16
 }
 
 /// What stands round the stops from a position on.
+#[inline(always)]
 fn cut_of_stops(stops: &[u16], position: usize, count: usize) -> Cut
     requires { position + count ≤ length stops.now }
     ensures { IsCut stops.now position count result }
@@ -89,6 +92,7 @@ pub fn cut_of(routes: &[Vec<u16>], chain: Chain) -> Option<Cut>
 }
 
 /// What the arcs to and from a chain between two stops cost, in tenths.
+#[inline(always)]
 fn joint(instance: &Instance, before: u16, chain: &Cut, behind: u16) -> i64
     requires before { before ≤ customer_count instance.now }
     requires chain { IsKnownCut instance.now chain.now }
@@ -120,6 +124,7 @@ pub fn change_apart(instance: &Instance, one: &Cut, other: &Cut) -> i64
 
 /// By how much the cost changes where two chains of two routes change places, in tenths, from the arcs
 /// round the first and the arc past it.
+#[inline(always)]
 fn change_from(instance: &Instance, one: &Cut, other: &Cut, arcs: i64, past: i64) -> i64
     requires one { IsKnownCut instance.now one.now }
     requires other { IsKnownCut instance.now other.now }
@@ -140,6 +145,7 @@ fn change_from(instance: &Instance, one: &Cut, other: &Cut, arcs: i64, past: i64
 }
 
 /// The lesser of two numbers.
+#[inline(always)]
 fn lesser(one: i64, other: i64) -> i64
     ensures one { result ≤ℤ one }
     ensures other { result ≤ℤ other }
@@ -149,6 +155,7 @@ fn lesser(one: i64, other: i64) -> i64
 
 /// The least of what swaps of a chain with some stops of a route from a position on change of the cost,
 /// or what was found before, if that is less.
+#[inline(always)]
 fn least_swap_at(
     instance: &Instance,
     stops: &[u16],
@@ -180,9 +187,10 @@ fn least_swap_at(
     least
 }
 
-/// A number of tenths, at most 0: no swap of a chain with some stops of a route changes the cost by
-/// less.
-pub fn least_swap(instance: &Instance, stops: &[u16], chain: &Cut, low: usize, high: usize) -> i64
+/// A number of tenths, at most 0: no swap of a chain with low to high stops of a route changes the cost
+/// by less.
+#[inline(always)]
+fn least_of_swaps(instance: &Instance, stops: &[u16], chain: &Cut, low: usize, high: usize) -> i64
     requires chain { IsKnownCut instance.now chain.now }
     requires stops { AreKnownCuts instance.now stops.now }
     requires few { high ≤ 3 }
@@ -197,6 +205,23 @@ pub fn least_swap(instance: &Instance, stops: &[u16], chain: &Cut, low: usize, h
         );
     }
     least
+}
+
+/// A number of tenths, at most 0: no swap of a chain with some stops of a route changes the cost by
+/// less.
+pub fn least_swap(instance: &Instance, stops: &[u16], chain: &Cut, low: usize, high: usize) -> i64
+    requires chain { IsKnownCut instance.now chain.now }
+    requires stops { AreKnownCuts instance.now stops.now }
+    requires few { high ≤ 3 }
+    ensures { IsLeastSwap instance.now stops.now chain.now low high result }
+{
+    // known counts make the loop over them go
+    match (low, high) {
+        (0, 0) => least_of_swaps(instance, stops, chain, 0, 0),
+        (1, 1) => least_of_swaps(instance, stops, chain, 1, 1),
+        (1, 3) => least_of_swaps(instance, stops, chain, 1, 3),
+        _ => least_of_swaps(instance, stops, chain, low, high),
+    }
 }
 
 /// The cost of an arc, in tenths.

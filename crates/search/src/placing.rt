@@ -13,7 +13,7 @@ use solomon_reader::Instance;
 use working_plan::WorkingPlan;
 
 /// One time in how many a better place is passed over.
-const PASSED_OVER: usize = 20;
+const PASSED_OVER: usize = 100;
 
 /// A place for a customer, and by how many tenths its route gets longer there.
 #[derive(Clone, Copy, Debug, PartialEq, Eq)]

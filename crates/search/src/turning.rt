@@ -16,9 +16,9 @@ use working_plan::WorkingPlan;
 /// How many rounds a turn makes.
 pub const ROUNDS: u32 = 12;
 
-/// A first round goes on from a plan that is dearer by less than this many hundredths of the cost of a
-/// customer on the average; the threshold falls to 0 with the rounds.
-const HUNDREDTHS: u64 = 60;
+/// A first round goes on from a plan that is dearer than the cheapest by less than this many hundredths
+/// of the cost of a customer on the average; the threshold falls to 0 with the rounds.
+const HUNDREDTHS: u64 = 120;
 
 /// The plan that the rounds go on from, and the cheapest that they came to.
 #[derive(Drop)]
@@ -27,7 +27,8 @@ struct Held<'i> {
     best: WorkingPlan<'i>,
 }
 
-/// By how many tenths a plan has to be cheaper than dearer by, so that the rounds go on from it.
+/// A round goes on from a plan that is dearer than the cheapest, which is this one, by fewer tenths than
+/// that.
 fn threshold_of(plan: &WorkingPlan<'_>, round: u32) -> u64 {
     let customers = u64::from(plan.instance().customer_count());
     let first = HUNDREDTHS.saturating_mul(plan.cost().get()) / (100 * customers);
@@ -50,18 +51,18 @@ fn make_round<'i, R: Rng>(
 }
 
 /// Holds the next plan as the cheapest where it is cheaper than that, and goes on from it where it is
-/// dearer than the one before by less than the threshold.
+/// dearer than the cheapest before it by less than the threshold.
 fn hold<'i>(held: Held<'i>, next: WorkingPlan<'i>, threshold: u64) -> Result<Held<'i>, AllocError>
     ensures current { IfOk result (λ h. (h.current ≡ next.entry) ⊎ (h.current ≡ held.entry.current)) }
     ensures best { IfOk result (λ h. IsCheaper held.entry.best next.entry h.best) }
 {
     let Held { current, best } = held;
+    let most = best.cost().get().saturating_add(threshold);
     let best = if next.cost().get() < best.cost().get() {
         next.try_clone()?
     } else {
         best
     };
-    let most = current.cost().get().saturating_add(threshold);
     if next.cost().get() < most {
         return Ok(Held {
             current: next,
@@ -85,7 +86,7 @@ fn begin<'i>(alloc: Global, plan: &Feasible<'i>) -> Result<Held<'i>, SearchFault
 }
 
 /// The cheapest plan that a descent and rounds of shakes and descents lead to, each from a plan that
-/// was come to before: the last one, or where that was dearer by too much the one before it.
+/// was come to before: the last one, or where that was too dear the one before it.
 pub fn find_by_rounds<'i, R: Rng>(
     alloc: Global,
     plan: &Feasible<'i>,
@@ -96,7 +97,7 @@ pub fn find_by_rounds<'i, R: Rng>(
 {
     let mut held = begin(alloc, plan)?;
     for round in 0..ROUNDS {
-        let threshold = threshold_of(&held.current, round);
+        let threshold = threshold_of(&held.best, round);
         let next = make_round(alloc, &held.current, random)?;
         held = hold(held, next, threshold)?;
     }

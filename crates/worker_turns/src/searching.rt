@@ -15,11 +15,26 @@ use search::Searcher;
 use solomon_reader::Instance;
 use std::alloc::Global;
 
-/// What a search worker has: a plan to change, or no more than its random words.
+/// After this many turns that found nothing cheaper a worker begins anew.
+const IDLE_TURNS: u32 = 40;
+
+/// What a search worker has: a plan to change, and how many turns in a row found nothing cheaper; or no
+/// more than its random words.
 #[derive(Drop)]
 enum Quest<'i, R> {
-    At(Searcher<'i, R>),
+    At {
+        searcher: Searcher<'i, R>,
+        idle: u32,
+    },
     Nowhere(R),
+}
+
+/// A worker that changes this plan.
+fn quest_at<'i, R: Rng + Drop>(alloc: Global, plan: Feasible<'i>, random: R) -> Quest<'i, R> {
+    Quest::At {
+        searcher: Searcher::new(alloc, plan, random),
+        idle: 0,
+    }
 }
 
 /// Weights from the next three words.
@@ -38,10 +53,50 @@ fn begin<'i, R: Rng + Drop>(
 ) -> Result<Quest<'i, R>, Refusal> {
     let weights = draw_weights(&mut random);
     match build(alloc, instance, &weights) {
-        Ok(Built::Whole(plan)) => Ok(Quest::At(Searcher::new(alloc, plan, random))),
+        Ok(Built::Whole(plan)) => Ok(quest_at(alloc, plan, random)),
         Ok(Built::Part { .. }) => Ok(Quest::Nowhere(random)),
         Err(InsertFault::Memory) => Err(Refusal::EndsWork),
     }
+}
+
+/// Goes on from a plan that is built by an insertion with drawn weights, where that builds one.
+fn begin_anew<'i, R: Rng + Drop>(
+    alloc: Global,
+    instance: &'i Instance,
+    searcher: &mut Searcher<'i, R>,
+) -> Result<(), Refusal> {
+    let spared = searcher.next_word();
+    let from_depot = searcher.next_word();
+    let detour = searcher.next_word();
+    let weights = Weights::of_words(spared, from_depot, detour);
+    match build(alloc, instance, &weights) {
+        Ok(Built::Whole(plan)) => {
+            searcher.go_on_from(plan);
+            Ok(())
+        }
+        Ok(Built::Part { .. }) => Ok(()),
+        Err(InsertFault::Memory) => Err(Refusal::EndsWork),
+    }
+}
+
+/// Makes a turn, after it began anew where too many turns found nothing cheaper; answers how many turns
+/// in a row have found nothing cheaper now.
+fn go_on<'i, R: Rng + Drop>(
+    alloc: Global,
+    instance: &'i Instance,
+    searcher: &mut Searcher<'i, R>,
+    idle: u32,
+) -> Result<u32, Refusal> {
+    let is_anew = idle >= IDLE_TURNS;
+    if is_anew {
+        begin_anew(alloc, instance, searcher)?;
+    }
+    let before = searcher.plan().cost().get();
+    searcher.turn()?;
+    if is_anew || searcher.plan().cost().get() < before {
+        return Ok(0);
+    }
+    Ok(idle + 1)
 }
 
 /// Looks for a plan once, from the one that the worker has or from nothing.
@@ -51,9 +106,9 @@ fn seek<'i, R: Rng + Drop>(
     quest: Quest<'i, R>,
 ) -> Result<Quest<'i, R>, Refusal> {
     match quest {
-        Quest::At(mut searcher) => {
-            searcher.turn()?;
-            Ok(Quest::At(searcher))
+        Quest::At { mut searcher, idle } => {
+            let idle = go_on(alloc, instance, &mut searcher, idle)?;
+            Ok(Quest::At { searcher, idle })
         }
         Quest::Nowhere(random) => begin(alloc, instance, random),
     }
@@ -92,7 +147,7 @@ fn turn<'i, H: Hub<'i>, G: Gate, R: Rng + Drop>(
     ensures { IsSeatOf spot.now.ceiling.now seat.new }
 {
     if spot.is_closed(seat) {
-        if let Quest::At(_) = &quest {
+        if let Quest::At { .. } = &quest {
             spot.pass(GatePoint::Offered);
         }
         return Some(quest);
@@ -101,7 +156,7 @@ fn turn<'i, H: Hub<'i>, G: Gate, R: Rng + Drop>(
         return None;
     };
     let offered = match &quest {
-        Quest::At(searcher) => offer(spot, hub, searcher.plan(), seat),
+        Quest::At { searcher, .. } => offer(spot, hub, searcher.plan(), seat),
         Quest::Nowhere(_) => Ok(()),
     };
     match offered {
@@ -114,7 +169,8 @@ fn turn<'i, H: Hub<'i>, G: Gate, R: Rng + Drop>(
 /// answers how many.
 ///
 /// In each turn the worker changes its plan by a turn of a searcher, or builds one with drawn weights
-/// where it has none, and offers the plan that it has then. A refusal of the hub ends the turn, and
+/// where it has none, and offers the plan that it has then. After 40 turns that found nothing cheaper it
+/// goes on from another plan, which is built with drawn weights. A refusal of the hub ends the turn, and
 /// the worker keeps its plan. Where the words for cost and bound have met, a turn does nothing.
 pub fn search_worker<'i, H: Hub<'i>, G: Gate, R: Rng + Drop>(
     alloc: Global,
@@ -139,7 +195,7 @@ pub fn search_worker<'i, H: Hub<'i>, G: Gate, R: Rng + Drop>(
         ceiling,
     };
     let mut quest = match plan {
-        Some(plan) => Quest::At(Searcher::new(alloc, plan, random)),
+        Some(plan) => quest_at(alloc, plan, random),
         None => Quest::Nowhere(random),
     };
     for made in 0..turns {

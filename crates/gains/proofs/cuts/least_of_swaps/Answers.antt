@@ -2,7 +2,7 @@ use Rattle.std.proofs.Common.{◌≡◌, arith, to_z, of_z, w64}
 use Rattle.std.specs.Prelude.{◌≤ℤ◌}
 use Rattle.std.proofs.lemmas.Int.{ints}
 use Rattle.gains.proofs.SwapBounds.{position_next}
-use Rattle.gains.proofs.cuts.least_swap.Goals as goal
+use Rattle.gains.proofs.cuts.least_of_swaps.Goals as goal
 
 pub loop-position-preserved : goal.loop-position-preserved
 loop-position-preserved c = λ j m less from most fits.

@@ -1,7 +1,7 @@
 use Rattle.std.proofs.Common.{ℕ, ◌+◌, ◌<◌, ◌≤◌, length}
 use Rattle.std.specs.Prelude.{◌≤ℤ◌}
 use Rattle.gains.specs.Cuts.{cut_at, change_apart}
-use Rattle.gains.proofs.cuts.least_swap.Given as goal
+use Rattle.gains.proofs.cuts.least_of_swaps.Given as goal
 
 abbrev pub invariant-loop-position : goal.invariant-loop-position
 invariant-loop-position l =
