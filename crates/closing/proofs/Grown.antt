@@ -1,5 +1,6 @@
 -- Trees that were added.
 use Rattle.std.proofs.Common.{◌≡◌, refl, ℕ, ◌+◌, ◌*◌, ◌≤◌, min, [], ◌∷◌, ◌++◌, map, append_assoc, arith, ap, sym, subst, ◌∙◌}
+use Rattle.std.specs.Prelude.{Option, None, Some, Result, Ok, Err, IfOk, IfSome}
 use Rattle.std.proofs.lemmas.List.{map-append}
 use Rattle.std.proofs.lemmas.Nat.{mul-le}
 use Rattle.solomon_reader.specs.declared.limits.TheConstants.{MOST_LEAVES}
@@ -44,7 +45,7 @@ same_grows k g old middle new same grows = record {
 }
 
 -- children at raised prices are children of the leaf
-pub same_children : (f raised : Pricing) (c : Children) → raised.problem ≡ f.problem → raised.region ≡ f.region → raised.neighbours ≡ f.neighbours → AreChildren raised c → AreChildren f c
+same_children : (f raised : Pricing) (c : Children) → raised.problem ≡ f.problem → raised.region ≡ f.region → raised.neighbours ≡ f.neighbours → AreChildren raised c → AreChildren f c
 same_children f raised c problem region neighbours are = record {
   undecided = rw region at are.undecided;
   used = record {
@@ -58,6 +59,23 @@ same_children f raised c problem region neighbours are = record {
     neighbours = are.unused.neighbours ∙ neighbours;
   };
 }
+
+-- a split of a leaf at raised prices is a split of the leaf
+raised_split : (f raised : Pricing) (old new : Growth) (c : Children) → raised.problem ≡ f.problem → raised.region ≡ f.region → raised.neighbours ≡ f.neighbours → AddsSplit raised old new c → AddsSplit f old new c
+raised_split f raised old new c problem region neighbours adds = record {
+  children = same_children f raised c problem region neighbours adds.children;
+  task = adds.task;
+  nodes = adds.nodes;
+  leaves = adds.leaves;
+  bound = adds.bound;
+}
+
+-- what was split at raised prices, if anything, was split at the leaf
+pub splits_raised : {E : Type 0} (f raised : Pricing) (old new : Growth) (r : Result (Option Children) E) → raised.problem ≡ f.problem → raised.region ≡ f.region → raised.neighbours ≡ f.neighbours
+    → IfOk r (λ found. IfSome found (AddsSplit raised old new)) → IfOk r (λ found. IfSome found (AddsSplit f old new))
+splits_raised f raised old new (Err e) problem region neighbours h = tt
+splits_raised f raised old new (Ok None) problem region neighbours h = tt
+splits_raised f raised old new (Ok (Some c)) problem region neighbours h = raised_split f raised old new c problem region neighbours h
 
 -- a split that is added after a plan was offered is added to what was there before
 pub same_split : (f : Pricing) (old middle new : Growth) (c : Children) → IsSameTree old middle → AddsSplit f middle new c → AddsSplit f old new c

@@ -90,10 +90,41 @@ fn settle<'i>(leaf: &Priced<'i>, growth: &mut Growth<'i>) -> Result<(), AllocErr
     growth.lay_aside(&settled)
 }
 
-/// Works at a leaf: raises its value, and where that stays below the target, splits it by the arc that
-/// the routes met leave most open, as long as there may be more leaves. Lists the leaf, or the split
-/// whose children it answers.
+/// Takes the routes met where they are a cheaper plan, and lists a leaf whose value reaches the target.
+/// Splits another by the arc that the routes met leave most open, as long as there may be more leaves,
+/// and lists the split whose children it answers, or the leaf.
 fn work_at<'i>(
+    leaf: &Priced<'i>,
+    growth: &mut Growth<'i>,
+    pool: &mut RoutePool,
+) -> Result<Option<Children<'i>>, AllocError>
+    requires growth { IsGrowth growth.old }
+    requires going { growth.old.is_stopped ≡ false }
+    requires own { leaf.now.problem ≡ growth.old.instance.now }
+    ensures growth { OnOk result (IsGrowth growth.new) }
+    ensures listed { IfOk result (λ found. IfNone found (Grows leaf.now.neighbours leaf.now.region growth.old growth.new)) }
+    ensures leaves { IfOk result (λ found. IfNone found (growth.new.leaves ≡ growth.old.leaves)) }
+    ensures split { IfOk result (λ found. IfSome found (AddsSplit leaf.now growth.old growth.new)) }
+{
+    offer_routes(growth, pool)?;
+    if leaf.value() >= i128::from(growth.target()) {
+        growth.lay_aside(leaf)?;
+        return Ok(None);
+    }
+    let Some(children) = children(growth, leaf, pool)? else {
+        settle(leaf, growth)?;
+        return Ok(None);
+    };
+    if growth.leaves >= growth.limit {
+        growth.stop_at(leaf)?;
+        return Ok(None);
+    }
+    growth.split(children.arc)?;
+    Ok(Some(children))
+}
+
+/// Raises the value of a leaf, and works at it.
+fn raise_and_work<'i>(
     leaf: Priced<'i>,
     growth: &mut Growth<'i>,
     pool: &mut RoutePool,
@@ -107,22 +138,8 @@ fn work_at<'i>(
     ensures split { IfOk result (λ found. IfSome found (AddsSplit leaf.entry growth.old growth.new)) }
 {
     let goal = goal_of(&leaf, growth);
-    let leaf = raise(growth.alloc, pool, leaf, &goal);
-    offer_routes(growth, pool)?;
-    if leaf.value() >= i128::from(growth.target()) {
-        growth.lay_aside(&leaf)?;
-        return Ok(None);
-    }
-    let Some(children) = children(growth, &leaf, pool)? else {
-        settle(&leaf, growth)?;
-        return Ok(None);
-    };
-    if growth.leaves >= growth.limit {
-        growth.stop_at(&leaf)?;
-        return Ok(None);
-    }
-    growth.split(children.arc)?;
-    Ok(Some(children))
+    let raised = raise(growth.alloc, pool, leaf, &goal);
+    work_at(&raised, growth, pool)
 }
 
 /// Lists the tree below a leaf.
@@ -140,7 +157,7 @@ pub(crate) fn grow<'i>(
     if growth.is_stopped {
         return growth.lay_aside(&leaf);
     }
-    let Some(children) = work_at(leaf, growth, pool)? else {
+    let Some(children) = raise_and_work(leaf, growth, pool)? else {
         return Ok(());
     };
     grow(children.used, growth, pool)?;

@@ -417,6 +417,24 @@ impl<'t, 'i> Labeller<'t, 'i> {
         }
         Ok(())
     }
+
+    /// Extends all labels, the most promising first, and answers the least reduced cost with its route,
+    /// and how many labels there are.
+    fn extend_all(&mut self) -> Result<(Least, usize), LabelFault>
+        requires { LosesNothing self.old }
+        ensures value { let task = task_of self.old in
+            IfOk result (λ l. HasLeastValue task.instance.now task.region.now task.neighbours task.prices.now l.0) }
+        ensures route { let task = task_of self.old in
+            IfOk result (λ l. HasItsRoute task.instance.now task.region.now task.neighbours task.prices.now l.0) }
+        ensures unlimited { IfErr result (λ e. e ≡ LabelLimit → self.old.limit ≢ None) }
+    {
+        self.dive_often()?;
+        self.extend_by_time(usize::MAX)?;
+        self.extend_rest()?;
+        let alloc = self.completions.task.alloc;
+        let least = answer(alloc, self.labels.as_slice(), self.best)?;
+        Ok((least, self.labels.len()))
+    }
 }
 
 /// The bounds of a task where the labels are many; few labels don't pay for them.
@@ -430,6 +448,21 @@ fn completions_for<'t, 'i>(
         return Completions::new(task);
     }
     Ok(Completions::unknown(task))
+}
+
+/// What `least_counted` answers, from the tables of its task.
+fn least_of_task(task: &Task<'_>, limit: Option<usize>) -> Result<(Least, usize), LabelFault>
+    ensures value { IfOk result (λ l. HasLeastValue task.now.instance.now task.now.region.now task.now.neighbours task.now.prices.now l.0) }
+    ensures route { IfOk result (λ l. HasItsRoute task.now.instance.now task.now.region.now task.now.neighbours task.now.prices.now l.0) }
+    ensures unlimited { IfErr result (λ e. e ≡ LabelLimit → limit ≢ None) }
+{
+    let unknown = Completions::unknown(task);
+    let mut labeller = Labeller::new(&unknown, limit)?;
+    let few = 2 * usize::from(task.instance.customer_count());
+    labeller.extend_by_time(few)?;
+    let completions = completions_for(task, labeller.labels.len() > few)?;
+    let mut labeller = labeller.with(&completions);
+    labeller.extend_all()
 }
 
 /// The least reduced cost over all relaxed routes of the region at these prices, and a route that
@@ -480,15 +513,5 @@ pub fn least_counted(
 {
     instance.law_of_limits();
     let task = Task::new(alloc, instance, region, prices, neighbours)?;
-    let unknown = Completions::unknown(&task);
-    let mut labeller = Labeller::new(&unknown, limit)?;
-    let few = 2 * usize::from(instance.customer_count());
-    labeller.extend_by_time(few)?;
-    let completions = completions_for(&task, labeller.labels.len() > few)?;
-    let mut labeller = labeller.with(&completions);
-    labeller.dive_often()?;
-    labeller.extend_by_time(usize::MAX)?;
-    labeller.extend_rest()?;
-    let least = answer(alloc, labeller.labels.as_slice(), labeller.best)?;
-    Ok((least, labeller.labels.len()))
+    least_of_task(&task, limit)
 }

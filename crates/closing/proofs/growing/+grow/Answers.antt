@@ -4,5 +4,5 @@ use Rattle.closing.proofs.growing.+grow.Goals as goal
 
 pub returns-clause-grows : goal.returns-clause-grows
 returns-clause-grows t c =
-    let adds : AddsSplit c.args.leaf c.args.growth.now c.work_at.new.growth c.in-Some.children = rw c.in-Some.is at c.in_ok-children.ensures.split in
+    let adds : AddsSplit c.args.leaf c.args.growth.now c.raise_and_work.new.growth c.in-Some.children = rw c.in-Some.is at c.in_ok-children.ensures.split in
     split_grows c.args.leaf c.in-Some.children _ _ _ _ adds c.in_ok-grow.ensures.grows c.in_ok-grow-2.ensures.grows
