@@ -1,6 +1,6 @@
 //! A run of all workers.
 
-ghost use Rattle.std.specs.Prelude.{◌≡◌, ◌≢◌, ◌≤◌, ◌<◌, ◌+◌, ◌-◌, ◌^◌, ◌⊎◌, [], length, map, is_some, true, IfOk, IfErr, vec_len, vec_capacity};
+ghost use Rattle.std.specs.Prelude.{◌≡◌, ◌≢◌, ◌≤◌, ◌<◌, ◌+◌, ◌-◌, ◌^◌, ◌⊎◌, [], length, map, is_some, true, IfOk, IfErr, IfNone, IfSome, vec_len, vec_capacity};
 ghost use Rattle.std.specs.List.{All};
 ghost use Rattle.node_pool.specs.Deques.{FitsAt};
 ghost use Rattle.node_pool.specs.Ends.{deque_at};
@@ -125,39 +125,65 @@ struct Kit<J: Naming> {
     passes: Vec<Pass>,
 }
 
+/// The last worker that is left of a kit.
+fn next_worker<'a, 'i, R: Wait, J: Naming, G>(
+    rt: &'a R,
+    desk: &'a Desk<'i, J>,
+    site: &'a Site<'a, 'i, G>,
+    plan: Option<&Feasible<'i>>,
+    kit: &mut Kit<J>,
+    deques: &'a [Thief],
+) -> Result<Option<Worker<'a, 'i, AtDesk<'a, 'i, R, J>, G>>, AllocError>
+    requires few { vec_len kit.old.shares ≤ 2 ^ 16 }
+    requires seats { vec_len kit.old.seats ≡ vec_len kit.old.shares }
+    requires own { All (IsSeatOf site.now.ceiling.now) kit.old.seats.items }
+    requires hands { vec_len kit.old.hands ≡ vec_len kit.old.shares - site.now.settings.now.searchers }
+    requires passes { vec_len kit.old.passes ≡ vec_len kit.old.hands }
+    requires fits { All (λ p. All (λ t. FitsAt (deque_at t) p) deques.now) kit.old.passes.items }
+    ensures none { IfOk result (λ found. IfNone found (vec_len kit.old.shares ≡ 0)) }
+    ensures left { IfOk result (λ found. IfSome found (λ _. vec_len kit.new.shares + 1 ≡ vec_len kit.old.shares)) }
+    ensures site { IfOk result (λ found. IfSome found (λ w. w.site.now.ceiling.now ≡ site.now.ceiling.now)) }
+    ensures seats { IfOk result (λ found. IfSome found (λ _. vec_len kit.new.seats ≡ vec_len kit.new.shares)) }
+    ensures own { IfOk result (λ found. IfSome found (λ _. All (IsSeatOf site.now.ceiling.now) kit.new.seats.items)) }
+    ensures hands { IfOk result (λ found. IfSome found (λ _. vec_len kit.new.hands ≡ vec_len kit.new.shares - site.now.settings.now.searchers)) }
+    ensures passes { IfOk result (λ found. IfSome found (λ _. vec_len kit.new.passes ≡ vec_len kit.new.hands)) }
+    ensures fits { IfOk result (λ found. IfSome found (λ _. All (λ p. All (λ t. FitsAt (deque_at t) p) deques.now) kit.new.passes.items)) }
+{
+    let Some(number) = kit.shares.len().checked_sub(1) else {
+        return Ok(None);
+    };
+    let task = next_task(number, site, plan, &mut kit.hands, deques, &mut kit.passes)?;
+    let Some(share) = kit.shares.pop() else {
+        unreachable!()
+    };
+    let Some(seat) = kit.seats.pop() else {
+        unreachable!()
+    };
+    let hub = AtDesk { rt, desk, share };
+    Ok(Some(seat_worker(site, hub, number as u16, seat, task)))
+}
+
 /// The workers of a run, the last first.
 fn post_workers<'a, 'i, R: Wait, J: Naming, G>(
     rt: &'a R,
     desk: &'a Desk<'i, J>,
     site: &'a Site<'a, 'i, G>,
     plan: Option<&Feasible<'i>>,
-    kit: Kit<J>,
+    kit: &mut Kit<J>,
     deques: &'a [Thief],
 ) -> Result<Vec<Worker<'a, 'i, AtDesk<'a, 'i, R, J>, G>>, AllocError>
-    requires few { vec_len kit.shares ≤ 2 ^ 16 }
-    requires seats { vec_len kit.seats ≡ vec_len kit.shares }
-    requires own { All (IsSeatOf site.now.ceiling.now) kit.seats.items }
-    requires hands { vec_len kit.hands ≡ vec_len kit.shares - site.now.settings.now.searchers }
-    requires passes { vec_len kit.passes ≡ vec_len kit.hands }
-    requires fits { All (λ p. All (λ t. FitsAt (deque_at t) p) deques.now) kit.passes.items }
-    ensures len { IfOk result (λ v. vec_len v ≡ vec_len kit.shares) }
+    requires few { vec_len kit.old.shares ≤ 2 ^ 16 }
+    requires seats { vec_len kit.old.seats ≡ vec_len kit.old.shares }
+    requires own { All (IsSeatOf site.now.ceiling.now) kit.old.seats.items }
+    requires hands { vec_len kit.old.hands ≡ vec_len kit.old.shares - site.now.settings.now.searchers }
+    requires passes { vec_len kit.old.passes ≡ vec_len kit.old.hands }
+    requires fits { All (λ p. All (λ t. FitsAt (deque_at t) p) deques.now) kit.old.passes.items }
+    ensures len { IfOk result (λ v. vec_len v ≡ vec_len kit.old.shares) }
     ensures site { IfOk result (λ v. All (λ w. w.site.now.ceiling.now ≡ site.now.ceiling.now) v.items) }
 {
-    let Kit {
-        mut shares,
-        mut seats,
-        mut hands,
-        mut passes,
-    } = kit;
-    let mut crew = Vec::with_capacity(site.alloc, shares.len())?;
-    while let Some(share) = shares.pop() {
-        let Some(seat) = seats.pop() else {
-            unreachable!()
-        };
-        let number = shares.len();
-        let task = next_task(number, site, plan, &mut hands, deques, &mut passes)?;
-        let hub = AtDesk { rt, desk, share };
-        crew.push_reserved(seat_worker(site, hub, number as u16, seat, task));
+    let mut crew = Vec::with_capacity(site.alloc, kit.shares.len())?;
+    while let Some(worker) = next_worker(rt, desk, site, plan, kit, deques)? {
+        crew.push_reserved(worker);
     }
     Ok(crew)
 }
@@ -199,16 +225,16 @@ fn work_together<'i, R: Threads + Wait + Sync, J: Naming + Send + Sync, G: Gate 
     desk: &Desk<'i, J>,
     site: &Site<'_, 'i, G>,
     plan: Option<&Feasible<'i>>,
-    kit: Kit<J>,
+    kit: &mut Kit<J>,
     deques: &[Thief],
 ) -> Result<(Vec<Share<J>>, Vec<CeilingSeat>), RunFault>
-    requires few { vec_len kit.shares ≤ 2 ^ 16 }
-    requires seats { vec_len kit.seats ≡ vec_len kit.shares }
-    requires own { All (IsSeatOf site.now.ceiling.now) kit.seats.items }
-    requires hands { vec_len kit.hands ≡ vec_len kit.shares - site.now.settings.now.searchers }
-    requires passes { vec_len kit.passes ≡ vec_len kit.hands }
-    requires fits { All (λ p. All (λ t. FitsAt (deque_at t) p) deques.now) kit.passes.items }
-    ensures shares { IfOk result (λ r. vec_len r.0 ≡ vec_len kit.shares) }
+    requires few { vec_len kit.old.shares ≤ 2 ^ 16 }
+    requires seats { vec_len kit.old.seats ≡ vec_len kit.old.shares }
+    requires own { All (IsSeatOf site.now.ceiling.now) kit.old.seats.items }
+    requires hands { vec_len kit.old.hands ≡ vec_len kit.old.shares - site.now.settings.now.searchers }
+    requires passes { vec_len kit.old.passes ≡ vec_len kit.old.hands }
+    requires fits { All (λ p. All (λ t. FitsAt (deque_at t) p) deques.now) kit.old.passes.items }
+    ensures shares { IfOk result (λ r. vec_len r.0 ≡ vec_len kit.old.shares) }
     ensures seats { IfOk result (λ r. All (IsSeatOf site.now.ceiling.now) r.1.items) }
     ensures refused { IfErr result (λ e. (e ≡ refusal.Memory) ⊎ (e ≡ refusal.NoThread)) }
 {
@@ -234,6 +260,33 @@ fn deques(alloc: Global, bounders: usize) -> Result<(Vec<Hand>, Vec<Thief>, Vec<
         let _ = hand.push(ROOT);
     }
     Ok((hands, thieves, passes))
+}
+
+/// Gives each bound worker a deque, lets all workers work, and answers their shares and seats.
+fn work_with_deques<'i, R: Threads + Wait + Sync, J: Naming + Send + Sync, G: Gate + Sync>(
+    rt: &R,
+    desk: &Desk<'i, J>,
+    site: &Site<'_, 'i, G>,
+    plan: Option<&Feasible<'i>>,
+    shares: Vec<Share<J>>,
+    seats: Vec<CeilingSeat>,
+) -> Result<(Vec<Share<J>>, Vec<CeilingSeat>), RunFault>
+    requires few { vec_len shares ≤ 2 ^ 16 }
+    requires workers { vec_len shares ≡ site.now.settings.now.searchers + site.now.settings.now.bounders }
+    requires seats { vec_len seats ≡ vec_len shares }
+    requires own { All (IsSeatOf site.now.ceiling.now) seats.items }
+    ensures shares { IfOk result (λ r. vec_len r.0 ≡ vec_len shares) }
+    ensures seats { IfOk result (λ r. All (IsSeatOf site.now.ceiling.now) r.1.items) }
+    ensures refused { IfErr result (λ e. (e ≡ refusal.Memory) ⊎ (e ≡ refusal.NoThread)) }
+{
+    let (hands, thieves, passes) = deques(site.alloc, site.settings.bounders as usize)?;
+    let mut kit = Kit {
+        shares,
+        seats,
+        hands,
+        passes,
+    };
+    work_together(rt, desk, site, plan, &mut kit, thieves.as_slice())
 }
 
 /// Lets all workers work at a book, and answers what it leaves.
@@ -267,13 +320,6 @@ fn run_at_desk<'i, R: Threads + Wait + Sync, J: Naming + Send + Sync, G: Gate + 
     let Ok((ceiling, seats)) = Ceiling::new(alloc, workers as usize, most, 0) else {
         return Err(RunFault::Memory);
     };
-    let (hands, thieves, passes) = deques(alloc, settings.bounders as usize)?;
-    let kit = Kit {
-        shares,
-        seats,
-        hands,
-        passes,
-    };
     let site = Site {
         alloc,
         instance,
@@ -281,7 +327,7 @@ fn run_at_desk<'i, R: Threads + Wait + Sync, J: Naming + Send + Sync, G: Gate + 
         gate,
         ceiling: &ceiling,
     };
-    let (shares, seats) = work_together(rt, &desk, &site, plan, kit, thieves.as_slice())?;
+    let (shares, seats) = work_with_deques(rt, &desk, &site, plan, shares, seats)?;
     let _ = ceiling.close(seats);
     match desk.close(shares) {
         Ok(outcome) => Ok(outcome),

@@ -1,16 +1,15 @@
 use Rattle.std.proofs.Common.{rules, ◌≡◌}
-use Rattle.std.proofs.lemmas.List.Elements.{All-pop, All-push}
-use Rattle.ceiling.specs.Seats.{IsSeatOf}
+use Rattle.std.proofs.lemmas.List.Elements.{All-push}
 use Rattle.search_workers.proofs.running.post_workers.Goals as goal
 
-pub loop-share-preserved : goal.loop-share-preserved
-loop-share-preserved g c =
-    let was = c.loop-share.invariant in (
+pub loop-crew-preserved : goal.loop-crew-preserved
+loop-crew-preserved g c =
+    let was = c.loop-crew.invariant in (
       search rules,
-      rw c.push_reserved.ensures.items (All-push (λ w. w.site.now.ceiling.now ≡ c.args.site.now.ceiling.now) c.loop-share.crew.items c.seat_worker.result was.1 c.seat_worker.ensures),
+      rw c.push_reserved.ensures.items (All-push (λ w. w.site.now.ceiling.now ≡ c.args.site.now.ceiling.now) c.loop-crew.crew.items c.in-Some.worker was.1 (search rules)),
       search rules,
       search rules,
-      (All-pop (IsSeatOf c.args.site.now.ceiling.now) c.loop-share.seats.items c.pop-in-Some.new.self.items c.pop-in-Some.result c.pop-in-Some.ensures.items was.4).0,
+      search rules,
       search rules,
       search rules,
       search rules,
