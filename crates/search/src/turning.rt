@@ -1,6 +1,6 @@
 //! Turns: rounds of shakes and descents.
 
-ghost use Rattle.std.specs.Prelude.{◌≡◌, ◌⊎◌, ℕ, List, IfOk};
+ghost use Rattle.std.specs.Prelude.{◌≡◌, ◌⊎◌, ℕ, List, IfOk, OnOk};
 ghost use Rattle.solomon_reader.specs.Moves.{IsLocalOptimum};
 ghost use Rattle.search.specs.Searching.{Descends};
 ghost use Rattle.search.specs.Turning.{IsRound, IsCheaper, AreRounds, IsCheapest};
@@ -52,24 +52,18 @@ fn make_round<'i, R: Rng>(
 
 /// Holds the next plan as the cheapest where it is cheaper than that, and goes on from it where it is
 /// dearer than the cheapest before it by less than the threshold.
-fn hold<'i>(held: Held<'i>, next: WorkingPlan<'i>, threshold: u64) -> Result<Held<'i>, AllocError>
-    ensures current { IfOk result (λ h. (h.current ≡ next.entry) ⊎ (h.current ≡ held.entry.current)) }
-    ensures best { IfOk result (λ h. IsCheaper held.entry.best next.entry h.best) }
+fn hold<'i>(held: &mut Held<'i>, next: WorkingPlan<'i>, threshold: u64) -> Result<(), AllocError>
+    ensures current { OnOk result ((held.new.current ≡ next.entry) ⊎ (held.new.current ≡ held.old.current)) }
+    ensures best { OnOk result (IsCheaper held.old.best next.entry held.new.best) }
 {
-    let Held { current, best } = held;
-    let most = best.cost().get().saturating_add(threshold);
-    let best = if next.cost().get() < best.cost().get() {
-        next.try_clone()?
-    } else {
-        best
-    };
-    if next.cost().get() < most {
-        return Ok(Held {
-            current: next,
-            best,
-        });
+    let most = held.best.cost().get().saturating_add(threshold);
+    if next.cost().get() < held.best.cost().get() {
+        held.best = next.try_clone()?;
     }
-    Ok(Held { current, best })
+    if next.cost().get() < most {
+        held.current = next;
+    }
+    Ok(())
 }
 
 /// The plan that the rounds of a turn begin with: a descent from the plan held.
@@ -99,7 +93,7 @@ pub fn find_by_rounds<'i, R: Rng>(
     for round in 0..ROUNDS {
         let threshold = threshold_of(&held.best, round);
         let next = make_round(alloc, &held.current, random)?;
-        held = hold(held, next, threshold)?;
+        hold(&mut held, next, threshold)?;
     }
     Ok(held.best.into_plan())
 }

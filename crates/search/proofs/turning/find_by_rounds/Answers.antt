@@ -8,5 +8,5 @@ loop-round-init g c =
 
 pub loop-round-preserved : goal.loop-round-preserved
 loop-round-preserved g c =
-    held_next c.args.plan.now c.loop-round.round c.loop-round.held.current c.loop-round.held.best c.in_ok-next.next c.in_ok-held-2.held.current c.in_ok-held-2.held.best
-    c.loop-round.invariant c.in_ok-next.ensures.problem c.in_ok-next.ensures.round c.in_ok-held-2.ensures.current c.in_ok-held-2.ensures.best
+    held_next c.args.plan.now c.loop-round.round c.loop-round.held.current c.loop-round.held.best c.in_ok-next.next c.hold.new.held.current c.hold.new.held.best
+    c.loop-round.invariant c.in_ok-next.ensures.problem c.in_ok-next.ensures.round c.in_ok-hold.ensures.current c.in_ok-hold.ensures.best
