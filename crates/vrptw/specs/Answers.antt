@@ -85,6 +85,18 @@ abbrev pub WritesBoth : Problem → ℕ → Held → Held → Held → Held → 
 WritesBoth p k s s' c c' (Ok answer) = Answers p k s s' c c' answer
 WritesBoth p k s s' c c' (Err e) = (e ≡ fault.Device) × Breaks p k s s' c c'
 
+-- what becomes of an outcome: both texts are written, or memory was refused before the first write
+abbrev pub WritesOutcome : Problem → ℕ → Held → Held → Held → Held → Result Answer SolveFault → Type 0
+WritesOutcome p k s s' c c' (Ok answer) = Answers p k s s' c c' answer
+WritesOutcome p k s s' c c' (Err fault.Memory) = (s' ≡ s) × (c' ≡ c)
+WritesOutcome p k s s' c c' (Err (fault.Instance f)) = ⊥
+WritesOutcome p k s s' c c' (Err fault.BadSettings) = ⊥
+WritesOutcome p k s s' c c' (Err fault.LabelLimit) = ⊥
+WritesOutcome p k s s' c c' (Err fault.NoThread) = ⊥
+WritesOutcome p k s s' c c' (Err fault.LeafLimit) = ⊥
+WritesOutcome p k s s' c c' (Err fault.TooLarge) = ⊥
+WritesOutcome p k s s' c c' (Err fault.Device) = Breaks p k s s' c c'
+
 -- why a text gives no instance: it has this fault, or memory was refused
 abbrev pub RefusesText : List ℕ → SolveFault → Type 0
 RefusesText text fault.Memory = Unit {0}

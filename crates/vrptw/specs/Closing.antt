@@ -55,6 +55,18 @@ abbrev pub WritesClosed : Problem → ℕ → Held → Held → Held → Held �
 WritesClosed p k s s' c c' (Ok answer) = ClosesWith p k s s' c c' answer
 WritesClosed p k s s' c c' (Err e) = (e ≡ fault.Device) × ClosingBreaks p k s s' c c'
 
+-- what becomes of what a closing found: both texts are written, or memory was refused before the first write
+abbrev pub WritesFound : Problem → ℕ → Held → Held → Held → Held → Result Answer SolveFault → Type 0
+WritesFound p k s s' c c' (Ok answer) = ClosesWith p k s s' c c' answer
+WritesFound p k s s' c c' (Err fault.Memory) = (s' ≡ s) × (c' ≡ c)
+WritesFound p k s s' c c' (Err (fault.Instance f)) = ⊥
+WritesFound p k s s' c c' (Err fault.BadSettings) = ⊥
+WritesFound p k s s' c c' (Err fault.LabelLimit) = ⊥
+WritesFound p k s s' c c' (Err fault.NoThread) = ⊥
+WritesFound p k s s' c c' (Err fault.LeafLimit) = ⊥
+WritesFound p k s s' c c' (Err fault.TooLarge) = ⊥
+WritesFound p k s s' c c' (Err fault.Device) = ClosingBreaks p k s s' c c'
+
 -- what is told of a closing's fault
 abbrev pub IsFaultOfClosing : CloseAloneFault → SolveFault → Type 0
 IsFaultOfClosing alone.Memory told = told ≡ fault.Memory

@@ -1,7 +1,9 @@
 //! From the bytes of an instance to a plan that no plan is cheaper than.
 
-ghost use Rattle.std.specs.Prelude.{◌≡◌, IfOk, IfErr, IsTrue, ◌↔◌};
-ghost use Rattle.vrptw.specs.Closing.{Closes, IsDescended, IsLeafLimit};
+ghost use Rattle.std.specs.Prelude.{◌≡◌, ℕ, ◌≤◌, IfOk, IfErr, IsTrue, ◌↔◌};
+ghost use Rattle.solomon_reader.specs.declared.limits.TheConstants.{MOST_NEIGHBOURS};
+ghost use Rattle.closing.specs.Closing.{IsClosed};
+ghost use Rattle.vrptw.specs.Closing.{AreWithin, Closes, IsDescended, IsLeafLimit, WritesFound};
 ghost use Rattle.vrptw.specs.declared.answer.SolveFault.TheVariants.{Memory};
 
 use crate::answer::{Answer, SolveFault};
@@ -10,7 +12,7 @@ use crate::solving::{descend, read_instance};
 use crate::writing::write_closed;
 use schedule::Feasible;
 use search_workers::{Closed, Settings, close_alone};
-use solomon_reader::MOST_LEAVES;
+use solomon_reader::{Instance, MOST_LEAVES};
 use std::alloc::Global;
 use tenths::Sink;
 
@@ -19,6 +21,13 @@ fn is_leaf_limit(leaves: u32) -> bool
     ensures { IsTrue result ↔ IsLeafLimit leaves }
 {
     leaves >= 1 && leaves <= MOST_LEAVES
+}
+
+/// Whether the settings and the number of leaves are within their ranges.
+fn are_within(settings: &Settings, leaf_limit: u32) -> bool
+    ensures { IsTrue result ↔ AreWithin settings.now leaf_limit }
+{
+    settings.is_within() && is_leaf_limit(leaf_limit)
 }
 
 /// A plan, if there is one, descended once more.
@@ -34,6 +43,30 @@ fn descend_if<'i>(
         Some(plan) => Ok(Some(descend(alloc, plan, seed)?)),
         None => Ok(None),
     }
+}
+
+/// Writes what a closing found: its plan, if there is one, descended once more, and then the certificate.
+fn write_found<X: Sink, Y: Sink>(
+    alloc: Global,
+    instance: &Instance,
+    settings: &Settings,
+    closed: Closed<'_>,
+    solution: &mut X,
+    certificate: &mut Y,
+) -> Result<Answer, SolveFault>
+    requires few { settings.now.neighbours ≤ MOST_NEIGHBOURS }
+    requires closed { (limit : ℕ) × IsClosed instance.now settings.now.neighbours limit closed }
+    ensures { WritesFound instance.now settings.now.neighbours
+        (record { taken = X.taken solution.old; failures = X.failures solution.old })
+        (record { taken = X.taken solution.new; failures = X.failures solution.new })
+        (record { taken = Y.taken certificate.old; failures = Y.failures certificate.old })
+        (record { taken = Y.taken certificate.new; failures = Y.failures certificate.new }) result }
+{
+    let Closed { plan, bound, nodes } = closed;
+    let neighbours = settings.neighbours;
+    let plan = descend_if(alloc, plan, settings.seed)?;
+    let cert = certify(alloc, instance, neighbours, bound, nodes)?;
+    write_closed(plan, instance, neighbours, &cert, solution, certificate)
 }
 
 /// Closes the instance of a text, of at most 24 customers: writes a plan that no plan is cheaper than to
@@ -62,12 +95,9 @@ pub fn close<X: Sink, Y: Sink>(
         result }
 {
     let instance = read_instance(alloc, text)?;
-    if !settings.is_within() || !is_leaf_limit(leaf_limit) {
+    if !are_within(settings, leaf_limit) {
         return Err(SolveFault::BadSettings);
     }
-    let neighbours = settings.neighbours;
-    let Closed { plan, bound, nodes } = close_alone(alloc, &instance, neighbours, leaf_limit)?;
-    let plan = descend_if(alloc, plan, settings.seed)?;
-    let cert = certify(alloc, &instance, neighbours, bound, nodes)?;
-    write_closed(plan, &instance, neighbours, &cert, solution, certificate)
+    let closed = close_alone(alloc, &instance, settings.neighbours, leaf_limit)?;
+    write_found(alloc, &instance, settings, closed, solution, certificate)
 }

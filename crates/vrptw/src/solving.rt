@@ -5,7 +5,8 @@ ghost use Rattle.solomon_reader.specs.Layout.{IsInstance};
 ghost use Rattle.solomon_reader.specs.History.{costs_of};
 ghost use Rattle.solomon_reader.specs.Moves.{IsLocalOptimum};
 ghost use Rattle.schedule.specs.Solution.{IsSolution};
-ghost use Rattle.vrptw.specs.Answers.{Solves, RefusesText};
+ghost use Rattle.insertion.specs.Building.{IsServedAlone};
+ghost use Rattle.vrptw.specs.Answers.{Solves, RefusesText, WritesOutcome};
 ghost use Rattle.vrptw.specs.declared.answer.SolveFault.TheVariants.{Memory};
 
 use crate::answer::{Answer, SolveFault};
@@ -72,6 +73,26 @@ fn last_plan<'i>(
     Ok(Some(lower))
 }
 
+/// Writes an outcome: its plan, if it has one, descended once more, and then its certificate.
+fn write_outcome<X: Sink, Y: Sink>(
+    alloc: Global,
+    outcome: &Outcome<'_>,
+    seed: u32,
+    solution: &mut X,
+    certificate: &mut Y,
+) -> Result<Answer, SolveFault>
+    requires { costs_of outcome.now.past ≡ [] → ¬ IsServedAlone outcome.now.problem }
+    ensures { WritesOutcome outcome.now.problem outcome.now.neighbours
+        (record { taken = X.taken solution.old; failures = X.failures solution.old })
+        (record { taken = X.taken solution.new; failures = X.failures solution.new })
+        (record { taken = Y.taken certificate.old; failures = Y.failures certificate.old })
+        (record { taken = Y.taken certificate.new; failures = Y.failures certificate.new }) result }
+{
+    let plan = last_plan(alloc, outcome, seed)?;
+    let cert = certify_outcome(alloc, outcome)?;
+    write_both(plan.as_ref(), outcome, &cert, solution, certificate)
+}
+
 /// Solves the instance of a text: writes a plan to the first sink, if one was found, and then to
 /// the second the certificate of a lower bound on the cost of every plan. No single move of the five
 /// kinds makes the plan cheaper.
@@ -99,7 +120,5 @@ pub fn solve<R: Threads + Wait + Sync, G: Gate + Sync, X: Sink, Y: Sink>(
 {
     let instance = read_instance(alloc, text)?;
     let outcome = run(rt, alloc, &instance, settings, gate)?;
-    let plan = last_plan(alloc, &outcome, settings.seed)?;
-    let cert = certify_outcome(alloc, &outcome)?;
-    write_both(plan.as_ref(), &outcome, &cert, solution, certificate)
+    write_outcome(alloc, &outcome, settings.seed, solution, certificate)
 }

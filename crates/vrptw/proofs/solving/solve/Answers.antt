@@ -10,4 +10,4 @@ returns-in_err-outcome g c =
 pub returns : goal.returns
 returns g c =
     solved c.args.text.now c.args.settings.now c.in_ok-instance.instance _ _ _ _ c.in_ok-instance.ensures.found c.in_ok-outcome.ensures.within c.in_ok-outcome.outcome.problem c.in_ok-outcome.outcome.neighbours
-    c.write_both.result c.in_ok-outcome.ensures.problem c.in_ok-outcome.ensures.neighbours c.write_both.ensures
+    c.write_outcome.result c.in_ok-outcome.ensures.problem c.in_ok-outcome.ensures.neighbours c.write_outcome.ensures
