@@ -1,7 +1,9 @@
-//! Worked rows of the workers: over fakes in place of the book, and in threads that are held at the
-//! points of their turns.
+//! Worked rows of the book, alone and at a desk, and of the workers: over fakes in place of the book, and
+//! in threads that are held at the points of their turns.
 #![tactic(auto)]
 
+#[cfg(test)]
+mod asked;
 #[cfg(test)]
 mod bounds;
 #[cfg(test)]
@@ -9,8 +11,14 @@ mod fake;
 #[cfg(test)]
 mod held;
 #[cfg(test)]
+mod limits;
+#[cfg(test)]
 mod meeting;
 #[cfg(test)]
+mod offers;
+#[cfg(test)]
 mod plans;
+#[cfg(test)]
+mod shares;
 #[cfg(test)]
 mod words;

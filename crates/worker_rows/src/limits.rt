@@ -1,0 +1,167 @@
+//! Books with small limits, and values that are foreign to a book.
+
+use crate::asked::{BACK, ONWARD, book_with, in_line, plan_of, priced_at, split_by};
+use branching::Region;
+use incumbent_book::{Book, BookFault, Limits, OpenFault};
+use row_texts::one_customer;
+use solomon_reader::{Instance, read};
+use std::alloc::Global;
+use std::process::Abort;
+use std::sync::Wait;
+use std::test::Fail;
+
+/// The fault of an offer of one route for both customers, if it was refused.
+fn offer_fault<'i, R: AllocGlobal>(
+    rt: &R,
+    instance: &'i Instance,
+    book: &mut Book<'i>,
+    routes: &[&[u16]],
+) -> Result<Option<BookFault>, Fail> {
+    let plan = plan_of(rt.alloc(), instance, routes)?;
+    Ok(match book.offer(0, plan) {
+        Ok(_) => None,
+        Err((_, fault)) => Some(fault),
+    })
+}
+
+/// Splits the root, and is refused to split a child.
+fn split_twice<'i, R: Abort + Wait + AllocGlobal>(
+    rt: &R,
+    instance: &'i Instance,
+    book: &mut Book<'i>,
+    leaves: u32,
+    fault: BookFault,
+) -> Result<(), Fail> {
+    let root = Region::root(rt.alloc(), 2);
+    let made = split_by(rt, instance, book, 0, &root, ONWARD, [0, 0])?;
+    let used = root.used(ONWARD)?;
+    let deeper = split_by(rt, instance, book, 1, &used, BACK, [200_000, 0])?;
+    assert_eq!(rt; (made, deeper), (Ok((1, 2)), Err(fault)), "{leaves}");
+    Ok(())
+}
+
+/// Offers a plan until the book is full.
+fn offer_until_full<'i, R: Abort + AllocGlobal>(
+    rt: &R,
+    instance: &'i Instance,
+    book: &mut Book<'i>,
+    faults: &[Option<BookFault>],
+) -> Result<(), Fail> {
+    for expected in faults {
+        let told = offer_fault(rt, instance, book, &[&[1, 2]])?;
+        assert_eq!(rt; told, *expected);
+    }
+    Ok(())
+}
+
+/// The fault of two offers and of a third, which is one too many.
+const TWO_OFFERS: [Option<BookFault>; 3] = [None, None, Some(BookFault::JournalFull)];
+
+/// A book with these limits splits the root, refuses to split a child, and takes two offers.
+fn fill<'i, R: Abort + Wait + AllocGlobal>(
+    rt: &R,
+    instance: &'i Instance,
+    other: &'i Instance,
+    leaves: u32,
+    fault: BookFault,
+) -> Result<(), Fail> {
+    let limits = Limits {
+        events: 3,
+        leaves,
+        depth: 1,
+    };
+    let mut book = book_with(rt.alloc(), instance, limits)?;
+    split_twice(rt, instance, &mut book, leaves, fault)?;
+    offer_until_full(rt, instance, &mut book, &TWO_OFFERS)?;
+    let foreign = offer_fault(rt, other, &mut book, &[&[1]])?;
+    assert_eq!(rt; foreign, Some(BookFault::ForeignInstance), "{leaves}");
+    Ok(())
+}
+
+/// The instance of one customer.
+fn alone(alloc: Global) -> Result<Instance, Fail> {
+    let text = one_customer(alloc)?;
+    Ok(read(alloc, text.as_bytes())?)
+}
+
+#[test]
+fn a_full_book_refuses(rt: HostRuntime) -> Result<(), Fail> {
+    let instance = in_line(rt.alloc())?;
+    let other = alone(rt.alloc())?;
+    fill(&rt, &instance, &other, 2, BookFault::LeavesFull)?;
+    fill(&rt, &instance, &other, 3, BookFault::TooDeep)?;
+    Ok(())
+}
+
+/// The fault of a split of the root, if it was refused.
+fn split_fault<'i, R: Wait + AllocGlobal>(
+    rt: &R,
+    instance: &'i Instance,
+    book: &mut Book<'i>,
+) -> Result<Option<BookFault>, Fail> {
+    let root = Region::root(rt.alloc(), 2);
+    Ok(split_by(rt, instance, book, 0, &root, ONWARD, [0, 0])?.err())
+}
+
+/// A book of one event and one leaf refuses a split and a second offer.
+fn fill_small<'i, R: Abort + Wait + AllocGlobal>(
+    rt: &R,
+    instance: &'i Instance,
+    book: &mut Book<'i>,
+) -> Result<(), Fail> {
+    let split = split_fault(rt, instance, book)?;
+    assert_eq!(rt;
+        (split, book.history().len()),
+        (Some(BookFault::LeavesFull), 0)
+    );
+    offer_until_full(rt, instance, book, &[None, Some(BookFault::JournalFull)])
+}
+
+#[test]
+fn a_book_of_one_event_and_one_leaf(rt: HostRuntime) -> Result<(), Fail> {
+    let instance = in_line(rt.alloc())?;
+    let limits = Limits {
+        events: 1,
+        leaves: 1,
+        depth: 1,
+    };
+    let mut book = book_with(rt.alloc(), &instance, limits)?;
+    fill_small(&rt, &instance, &mut book)
+}
+
+/// The fault of a book that opens with prices 0 at a region, if it was refused.
+fn opening_fault(
+    alloc: Global,
+    instance: &Instance,
+    region: Region,
+    limits: Option<Limits>,
+) -> Result<Option<OpenFault>, Fail> {
+    let priced = priced_at(alloc, instance, region, [0, 0])?;
+    let opened = match limits {
+        Some(limits) => Book::with_limits(alloc, priced, limits),
+        None => Book::new(alloc, priced),
+    };
+    Ok(match opened {
+        Ok(_) => None,
+        Err((_, fault)) => Some(fault),
+    })
+}
+
+#[test]
+fn openings_are_refused(rt: HostRuntime) -> Result<(), Fail> {
+    let instance = in_line(rt.alloc())?;
+    let root = Region::root(rt.alloc(), 2);
+    let child = root.used(ONWARD)?;
+    let of_child = opening_fault(rt.alloc(), &instance, child, None)?;
+    let limits = Limits {
+        events: 1,
+        leaves: 0,
+        depth: 1,
+    };
+    let of_limits = opening_fault(rt.alloc(), &instance, root, Some(limits))?;
+    assert_eq!(rt;
+        (of_child, of_limits),
+        (Some(OpenFault::NotRoot), Some(OpenFault::BadLimits))
+    );
+    Ok(())
+}

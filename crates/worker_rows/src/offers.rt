@@ -1,0 +1,190 @@
+//! Offers, new prices and splits of a book.
+
+use crate::asked::{Asked, BACK, ONWARD, book_with, in_line, plan_of, priced_at, split_by};
+use branching::{Region, TreeNode};
+use desk::LookFault;
+use incumbent_book::{Book, BookFault, Limits, Offered, Outcome, Steps};
+use solomon_reader::Instance;
+use std::process::Abort;
+use std::sync::Wait;
+use std::test::Fail;
+use tenths::Tenths;
+
+/// Offers a plan: whether it was better, and the best cost that was known.
+fn offer<'i, R: Wait + AllocGlobal, A: Asked<'i>>(
+    rt: &R,
+    instance: &'i Instance,
+    asked: &mut A,
+    routes: &[&[u16]],
+) -> Result<(bool, Option<Tenths>), Fail> {
+    let plan = plan_of(rt.alloc(), instance, routes)?;
+    let reply = match asked.ask_offer(rt, plan) {
+        Ok(reply) => reply,
+        Err(_) => return Err(Fail::from("an offer was refused")),
+    };
+    match &reply {
+        Offered::Better { before } => Ok((true, *before)),
+        Offered::NotBetter { best, .. } => Ok((false, Some(*best))),
+    }
+}
+
+/// Offers plans of 300, 200, 300 and 200 tenths.
+pub fn offer_plans<'i, R: Abort + Wait + AllocGlobal, A: Asked<'i>>(
+    rt: &R,
+    instance: &'i Instance,
+    asked: &mut A,
+) -> Result<(), Fail> {
+    let (apart, together): (&[&[u16]], &[&[u16]]) = (&[&[1], &[2]], &[&[1, 2]]);
+    let rows = [
+        (apart, (true, None)),
+        (together, (true, Some(300))),
+        (apart, (false, Some(200))),
+        (together, (false, Some(200))),
+    ];
+    for (routes, (is_better, cost)) in rows {
+        let told = offer(rt, instance, asked, routes)?;
+        assert_eq!(rt; told, (is_better, cost.map(|cost| Tenths::from(cost))));
+    }
+    Ok(())
+}
+
+/// Gives a leaf new prices at a region: what comes of it.
+fn reprice<'i, R: Wait + AllocGlobal, A: Asked<'i>>(
+    rt: &R,
+    instance: &'i Instance,
+    asked: &mut A,
+    leaf: u32,
+    region: Region,
+    prices: [i64; 2],
+) -> Result<Result<(), BookFault>, Fail> {
+    let priced = priced_at(rt.alloc(), instance, region, prices)?;
+    Ok(asked.ask_reprice(rt, leaf, priced))
+}
+
+/// Splits the root, and is refused to split it again.
+fn split_root<'i, R: Abort + Wait + AllocGlobal, A: Asked<'i>>(
+    rt: &R,
+    instance: &'i Instance,
+    asked: &mut A,
+    root: &Region,
+) -> Result<(), Fail> {
+    let made = split_by(rt, instance, asked, 0, root, ONWARD, [0, 0])?;
+    let again = split_by(rt, instance, asked, 0, root, ONWARD, [0, 0])?;
+    let values = (asked.ask_value(rt, 1), asked.ask_value(rt, 2));
+    assert_eq!(rt;
+        (made, again, values),
+        (Ok((1, 2)), Err(BookFault::NotALeaf), (Ok(200), Ok(100)))
+    );
+    Ok(())
+}
+
+/// Gives the child without the arc a higher value, and is refused an equal and a lower one.
+fn raise_unused<'i, R: Abort + Wait + AllocGlobal, A: Asked<'i>>(
+    rt: &R,
+    instance: &'i Instance,
+    asked: &mut A,
+    unused: &Region,
+) -> Result<(), Fail> {
+    let prices = [100_000, 100_000];
+    let raised = reprice(rt, instance, asked, 2, unused.try_clone()?, prices)?;
+    let again = reprice(rt, instance, asked, 2, unused.try_clone()?, prices)?;
+    let values = (asked.ask_value(rt, 2), asked.ask_value(rt, 0));
+    let lower = split_by(rt, instance, asked, 2, unused, BACK, [0, 0])?;
+    assert_eq!(rt;
+        (raised, again, values, lower),
+        (
+            Ok(()),
+            Err(BookFault::NotHigher),
+            (Ok(200), Err(LookFault::NotALeaf)),
+            Err(BookFault::Lower)
+        )
+    );
+    Ok(())
+}
+
+/// Is refused prices of another region, and as high ones, for the child with the arc.
+fn reprice_used<'i, R: Abort + Wait + AllocGlobal, A: Asked<'i>>(
+    rt: &R,
+    instance: &'i Instance,
+    asked: &mut A,
+    root: &Region,
+) -> Result<(), Fail> {
+    let elsewhere = reprice(rt, instance, asked, 1, root.try_clone()?, [200_000, 0])?;
+    let as_high = reprice(rt, instance, asked, 1, root.used(ONWARD)?, [200_000, 0])?;
+    assert_eq!(rt;
+        (elsewhere, as_high),
+        (Err(BookFault::WrongRegion), Err(BookFault::NotHigher))
+    );
+    Ok(())
+}
+
+/// Splits the root, and gives the child without the arc a higher value.
+pub fn branch<'i, R: Abort + Wait + AllocGlobal, A: Asked<'i>>(
+    rt: &R,
+    instance: &'i Instance,
+    asked: &mut A,
+) -> Result<(), Fail> {
+    let root = Region::root(rt.alloc(), 2);
+    split_root(rt, instance, asked, &root)?;
+    let unused = root.forbidden(ONWARD)?;
+    raise_unused(rt, instance, asked, &unused)?;
+    reprice_used(rt, instance, asked, &root)
+}
+
+/// The prices of the leaf at an index of the nodes, if a leaf stands there.
+fn prices_at(nodes: &[TreeNode], index: usize) -> Option<&[i64]> {
+    match nodes.get(index) {
+        Some(TreeNode::Leaf(prices)) => Some(prices.as_slice()),
+        _ => None,
+    }
+}
+
+/// Asserts the nodes of the tree.
+fn assert_nodes<R: Abort>(rt: &R, nodes: &[TreeNode]) {
+    let is_split = matches!(nodes.first(), Some(TreeNode::Split(arc)) if *arc == ONWARD);
+    let leaves = (prices_at(nodes, 1), prices_at(nodes, 2));
+    let expected = (Some([0, 0].as_slice()), Some([100_000, 100_000].as_slice()));
+    assert_eq!(rt; (nodes.len(), is_split, leaves), (3, true, expected));
+}
+
+/// The outcome's bound in tenths, its neighbours, how many events it has, whether it has a plan, and the
+/// size of its instance.
+fn told_of(outcome: &Outcome<'_>) -> (u64, u32, usize, bool, u16) {
+    (
+        outcome.bound().get(),
+        outcome.neighbours(),
+        outcome.history().len(),
+        outcome.plan().is_some(),
+        outcome.instance().customer_count(),
+    )
+}
+
+/// Asserts the outcome's bound and its tree.
+pub fn assert_outcome<R: Abort + AllocGlobal>(rt: &R, outcome: &Outcome<'_>) -> Result<(), Fail> {
+    assert_eq!(rt; told_of(outcome), (200, 1, 6, true, 2));
+    let nodes = outcome.nodes(rt.alloc())?;
+    assert_nodes(rt, nodes.as_slice());
+    Ok(())
+}
+
+/// Asserts the gap of the book, and what it took to find it.
+fn assert_gap<R: Abort>(rt: &R, book: &Book<'_>) {
+    let mut steps = Steps::new();
+    let gap = book.gap_counted(&mut steps);
+    let of_plan = Tenths::from(200);
+    assert_eq!(rt;
+        (steps.get(), gap.cost, gap.bound, book.history().len()),
+        (1, Some(of_plan), of_plan, 6)
+    );
+}
+
+#[test]
+fn a_book_keeps_the_cheapest_plan_and_raises_its_bound(rt: HostRuntime) -> Result<(), Fail> {
+    let instance = in_line(rt.alloc())?;
+    let mut book = book_with(rt.alloc(), &instance, Limits::MOST)?;
+    assert_eq!(rt; book.gap().bound, Tenths::from(100));
+    offer_plans(&rt, &instance, &mut book)?;
+    branch(&rt, &instance, &mut book)?;
+    assert_gap(&rt, &book);
+    assert_outcome(&rt, &book.finish())
+}

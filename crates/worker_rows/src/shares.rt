@@ -1,0 +1,186 @@
+//! The same calls at a desk: one share makes them, and another asks what came of them.
+
+ghost use Rattle.std.specs.Prelude.{◌≡◌};
+ghost use Rattle.desk.specs.Opening.{HasPlanIf};
+ghost use Rattle.desk.specs.Tally.{each};
+ghost use Rattle.desk.specs.Blanks.{names_of, parts_of};
+
+use crate::asked::{Asked, book_with, in_line};
+use crate::offers::{assert_outcome, branch, offer_plans};
+use branching::Arc;
+use desk::{Blanks, Desk, DeskFault, LookFault, Naming, Share};
+use incumbent_book::{Book, BookFault, Gap, Limits, Offered, Outcome};
+use prices::Priced;
+use schedule::Feasible;
+use solomon_reader::Instance;
+use std::io::Eprint;
+use std::marker::Brand;
+use std::process::{Abort, Termination};
+use std::sync::Wait;
+use std::test::Fail;
+use std::thread;
+use std::thread::Threads;
+use tenths::Tenths;
+
+/// A desk, and the share of one worker.
+#[derive(Drop)]
+struct Place<'a, 'i, J: Naming> {
+    desk: &'a Desk<'i, J>,
+    share: Share<J>,
+}
+
+impl<'a, 'i, J: Naming> Asked<'i> for Place<'a, 'i, J> {
+    fn ask_offer<R: Wait>(&mut self, rt: &R, plan: Feasible<'i>) -> Result<Offered<'i>, BookFault> {
+        match self.desk.offer(rt, &mut self.share, plan) {
+            Ok(reply) => Ok(reply),
+            Err((_, fault)) => Err(fault),
+        }
+    }
+
+    fn ask_reprice<R: Wait>(
+        &mut self,
+        rt: &R,
+        leaf: u32,
+        priced: Priced<'i>,
+    ) -> Result<(), BookFault> {
+        match self.desk.reprice(rt, &mut self.share, leaf, priced) {
+            Ok(()) => Ok(()),
+            Err((_, fault)) => Err(fault),
+        }
+    }
+
+    fn ask_split<R: Wait>(
+        &mut self,
+        rt: &R,
+        leaf: u32,
+        arc: Arc,
+        used: Priced<'i>,
+        unused: Priced<'i>,
+    ) -> Result<(u32, u32), BookFault> {
+        match self
+            .desk
+            .split(rt, &mut self.share, leaf, arc, used, unused)
+        {
+            Ok(made) => Ok(made),
+            Err((_, _, fault)) => Err(fault),
+        }
+    }
+
+    fn ask_value<R: Wait>(&mut self, rt: &R, leaf: u32) -> Result<i128, LookFault> {
+        Ok(self.desk.look(rt, &mut self.share, leaf)?.value())
+    }
+}
+
+/// Offers plans and branches with a share.
+fn work<'i, J: Naming, R: Abort + Wait + AllocGlobal>(
+    rt: &R,
+    desk: &Desk<'i, J>,
+    share: Share<J>,
+    instance: &'i Instance,
+) -> Result<Share<J>, Fail> {
+    let mut place = Place { desk, share };
+    offer_plans(rt, instance, &mut place)?;
+    branch(rt, instance, &mut place)?;
+    let Place { desk: _, share } = place;
+    Ok(share)
+}
+
+/// The share after `work`, or none where that failed; a thread can't hand a failure on, so it is
+/// printed.
+fn work_apart<'i, J: Naming, R: Abort + Wait + Eprint + AllocGlobal>(
+    rt: &R,
+    desk: &Desk<'i, J>,
+    share: Share<J>,
+    instance: &'i Instance,
+) -> Option<Share<J>> {
+    match work(rt, desk, share, instance) {
+        Ok(share) => Some(share),
+        Err(fail) => {
+            Err::<(), Fail>(fail).report(rt);
+            None
+        }
+    }
+}
+
+/// The gap that a share is told.
+fn ask<'i, J: Naming, R: Wait>(rt: &R, desk: &Desk<'i, J>, mut share: Share<J>) -> (Gap, Share<J>) {
+    (desk.gap(rt, &mut share), share)
+}
+
+/// The first share's calls in a thread, and then the second's question in another.
+fn both<'i, J: Naming + Send, R: Abort + Threads + Wait + Eprint + Sync + AllocGlobal>(
+    rt: &R,
+    desk: &Desk<'i, J>,
+    first: Share<J>,
+    second: Share<J>,
+    instance: &'i Instance,
+) -> Result<(Gap, Share<J>, Share<J>), Fail> {
+    thread::scope(thread::scope_env(), rt, |scope| {
+        let Ok(worker) = scope.spawn(move || work_apart(rt, desk, first, instance)) else {
+            return Err(Fail::from("no thread"));
+        };
+        let Some(first) = worker.join(rt) else {
+            return Err(Fail::from("the first share's calls failed"));
+        };
+        let Ok(worker) = scope.spawn(move || ask(rt, desk, second)) else {
+            return Err(Fail::from("no thread"));
+        };
+        let (gap, second) = worker.join(rt);
+        Ok((gap, first, second))
+    })
+}
+
+/// What closing leaves, which needs both shares.
+fn close_with_both<'i, J: Naming, R: Abort>(
+    rt: &R,
+    desk: Desk<'i, J>,
+    mut shares: Vec<Share<J>>,
+    first: Share<J>,
+    second: Share<J>,
+) -> Result<Outcome<'i>, Fail> {
+    shares.push(first)?;
+    let Err((desk, mut shares, fault)) = desk.close(shares) else {
+        return Err(Fail::from("closed with one share"));
+    };
+    assert_eq!(rt; (fault, shares.len()), (DeskFault::MissingShare, 1));
+    shares.push(second)?;
+    match desk.close(shares) {
+        Ok(outcome) => Ok(outcome),
+        Err(_) => Err(Fail::from("not closed with both shares")),
+    }
+}
+
+/// The gap told at a desk of two shares, and what closing leaves, which needs both.
+fn run<'i, J: Naming + Send, R: Abort + Threads + Wait + Eprint + Sync + AllocGlobal>(
+    rt: &R,
+    instance: &'i Instance,
+    book: Book<'i>,
+    blanks: Blanks,
+) -> Result<(Gap, Outcome<'i>), Fail>
+    requires problem { book.problem ≡ J.problem }
+    requires neighbours { book.neighbours ≡ J.neighbours }
+    requires served { HasPlanIf J.has_plan book.past }
+    requires workers { J.workers ≡ 2 }
+    requires names { names_of blanks ≡ J.names }
+    requires parts { parts_of blanks ≡ each J.workers }
+{
+    let Ok((desk, mut shares)) = Desk::<J>::open(rt.alloc(), book, 2, blanks) else {
+        return Err(Fail::from("no desk"));
+    };
+    let second = shares.pop().expect(rt, "two shares");
+    let first = shares.pop().expect(rt, "two shares");
+    assert!(rt; first.worker() == 0 && second.worker() == 1);
+    let (gap, first, second) = both(rt, &desk, first, second, instance)?;
+    let outcome = close_with_both(rt, desk, shares, first, second)?;
+    Ok((gap, outcome))
+}
+
+#[test]
+fn a_second_share_is_told_what_the_first_did(rt: HostRuntime) -> Result<(), Fail> {
+    let instance = in_line(rt.alloc())?;
+    let book = book_with(rt.alloc(), &instance, Limits::MOST)?;
+    let (gap, outcome) = run::<Brand, _>(&rt, &instance, book, Blanks::new(2))?;
+    let of_plan = Tenths::from(200);
+    assert_eq!(rt; (gap.cost, gap.bound), (Some(of_plan), of_plan));
+    assert_outcome(&rt, &outcome)
+}
