@@ -6,7 +6,7 @@ use Rattle.std.proofs.lemmas.Nat.{mul-le}
 use Rattle.solomon_reader.specs.declared.limits.TheConstants.{MOST_LEAVES}
 use Rattle.solomon_reader.specs.Problem.{Problem, customer_count}
 use Rattle.solomon_reader.specs.Region.{Region, used_child, unused_child, root_region}
-use Rattle.settling.specs.Depths.{DepthHolds}
+use Rattle.closing.specs.Depths.{DepthHolds}
 use Rattle.solomon_reader.specs.Bound.{version_2, Tree, leaf, split, leaf_node, split_node, preorder, HasBound, ceiling_of}
 use Rattle.prices.specs.Pricing.{Pricing, IsPricing}
 use Rattle.branching.specs.Arcs.{pair}

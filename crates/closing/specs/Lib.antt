@@ -1,2 +1,5 @@
+pub mod Gathering
+pub mod Settling
+pub mod Depths
 pub mod Closing
 pub mod Growing

@@ -8,8 +8,8 @@ use crate::closed::{CloseAloneFault, Closed, MOST_CLOSED};
 use crate::first::{first_leaf, first_plan};
 use crate::growing::grow;
 use crate::growth::Growth;
+use crate::laws::depth_holds;
 use price_ascent::RoutePool;
-use settling::depth_holds;
 use solomon_reader::Instance;
 use std::alloc::Global;
 

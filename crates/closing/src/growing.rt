@@ -6,12 +6,12 @@ ghost use Rattle.price_ascent.specs.Branching.{AreChildren};
 ghost use Rattle.closing.specs.Growing.{Grows, IsGrowth, IsSameTree, AddsSplit};
 
 use crate::growth::Growth;
+use crate::leaf::settled_leaf;
 use price_ascent::{
     Children, Goal, IDLE_PRICINGS, RoutePool, branch, counted_routes, raise, rise_at,
 };
 use prices::{PriceFault, Priced};
 use schedule::Feasible;
-use settling::settled_leaf;
 use std::alloc::AllocError;
 
 /// The most pricings at the root, and at another leaf.

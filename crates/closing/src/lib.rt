@@ -1,12 +1,23 @@
 //! Closing of small instances: a plan with the proof that no plan is cheaper, or the proof that there is
-//! no plan.
+//! no plan. A leaf whose region leaves no arc open is settled at once: such a region leaves at most one
+//! route from each customer, so prices are told at which the leaf's value is the cost of its one plan,
+//! or above the ceiling where it has none.
 #![tactic(auto)]
 
+mod chain;
 mod close;
 mod closed;
+mod fee;
 mod first;
+mod gathering;
 mod growing;
 mod growth;
+mod laws;
+mod leaf;
+mod serving;
+mod settling;
 
 pub use close::{close_alone, close_counted};
 pub use closed::{CloseAloneFault, Closed, MOST_CLOSED};
+pub use laws::depth_holds;
+pub use leaf::settled_leaf;

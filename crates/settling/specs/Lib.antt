@@ -1,3 +1,0 @@
-pub mod Gathering
-pub mod Settling
-pub mod Depths
