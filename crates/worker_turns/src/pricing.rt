@@ -16,7 +16,7 @@ const LEAST_PRICINGS: u32 = 3;
 const MOST_PRICINGS: u32 = 16;
 
 /// How many labels a turn is worth.
-const TURN_LABELS: u64 = 8_000;
+const TURN_LABELS: u64 = 6_000;
 
 /// Whether a worker's pricings have made more labels than the turns that it made so far are worth.
 pub(crate) fn is_ahead(nodes: &Nodes<'_>, made: u32) -> bool {
