@@ -1,4 +1,4 @@
-"""Calls of the library in which each allocation is refused in turn, by the program `refused_calls`.
+"""Calls of the library in which each allocation is refused in turn, by the program `instruments`.
 
 It makes a call twice, and prints `ready` and what came of each. Where no allocation is refused, both answers are those
 that stand here, by hand or by this folder. Where one is, that call may say so, with the state that it leaves, and the
@@ -131,7 +131,8 @@ def judge_call(program, folder, library, number):
     """A call with each of its allocations refused in turn, until a run meets no refusal. Answers how many were."""
     name, came = NAMES[number], Counter()
     for allocation in range(1, MOST):
-        out, errors, status = run([program, name], variables_of(folder, library, "one", allocation), (), LONGEST)
+        variables = variables_of(folder, library, "one", allocation)
+        out, errors, status = run([program, "call", name], variables, (), LONGEST)
         told = "%s, allocation %d: %r" % (name, allocation, (out, errors, status))
         lines, refused = shown(out).splitlines(), counted(folder)[2]
         if refused and not lines:

@@ -18,6 +18,7 @@ from rows import ROWS, status_of
 from moving import descend
 from running import Disagreement, demand, run, run_check, solve
 from solving import judge_solve
+from spellings import SPELLINGS
 from texts import TextFault, read_certificate, read_solution, shown
 from turning import Words, turn
 
@@ -58,7 +59,7 @@ def judge_check(program, folder, random):
     return " ".join(word for word in (wanted[0] or wanted[1]).split() if word.isalpha() or word.endswith(":"))
 
 
-def judge_turns(timings, folder, random, count):
+def judge_turns(instruments, folder, random, count):
     """Descents and turns from a built plan: what the program comes to against the turns of this folder, word by
     word. Answers what came of it."""
     text = laid_out(random, instance_words(random, count))
@@ -66,7 +67,7 @@ def judge_turns(timings, folder, random, count):
     path = os.path.join(folder, "instance")
     with open(path, "wb") as file:
         file.write(text)
-    told = run([timings, "turns", path, str(number)])[0].decode().splitlines()
+    told = run([instruments, "turns", path, str(number)])[0].decode().splitlines()
     routes, left = build(instance)
     if left:
         demand(told == ["no plan"], "turns without a plan: %r" % told)
@@ -108,49 +109,61 @@ def judge_row(program, folder, row):
     return " ".join(word for word in said.split() if word.isalpha() or word.endswith(":"))
 
 
-def judge_echo(echo, folder, kind, text, reader):
-    """A text: read and written again, or the fault of this folder's reader."""
+def echoed(instruments, folder, kind, text, said):
+    """A text through the program of instruments: the fault that is said of it, or the text again where none is."""
     path = os.path.join(folder, kind)
     with open(path, "wb") as file:
         file.write(text)
-    out, _, status = run([echo, kind, path])
+    out, _, status = run([instruments, "echo", kind, path])
+    wanted = (b"%s\n" % said.encode(), 1) if said else (text, 0)
+    demand((out, status) == wanted, "%s %r, of which is said %r: %r" % (kind, text[:200], said, out[:80]))
+    return said.split()[0] if said else "whole"
+
+
+def judge_echo(instruments, folder, kind, text, reader):
+    """A text: read and written again, or the fault of this folder's reader."""
     try:
         reader(text)
     except TextFault as fault:
-        demand(out == b"%s\n" % str(fault).encode() and status == 1, "%s: %r" % (fault, out[:80]))
-        return str(fault).split()[0]
-    demand(out == text and status == 0, "a text that isn't written again: %r" % out[:80])
-    return "whole"
+        return echoed(instruments, folder, kind, text, str(fault))
+    return echoed(instruments, folder, kind, text, "")
+
+
+def judge_spelling(instruments, folder, row):
+    """A text that was made by hand: read and written again, or the fault that was found by hand."""
+    kind, text, said = row
+    return "%s %s" % (kind, echoed(instruments, folder, kind, text.encode(), said))
 
 
 class Programs:
     """The paths of what is judged, and of the library that refuses allocations."""
 
-    def __init__(self, program, echo, timings, calls, library):
-        self.program, self.echo, self.timings, self.calls, self.library = program, echo, timings, calls, library
+    def __init__(self, program, instruments, library):
+        self.program, self.instruments, self.library = program, instruments, library
 
 
 def judge_text(programs, folder, random, kind):
     """A certificate or a solution with something wrong, by its reader alone."""
     if kind == "certificates":
         text = spoilt(random, certificate_lines(random))
-        return judge_echo(programs.echo, folder, "certificate", text, read_certificate)
+        return judge_echo(programs.instruments, folder, "certificate", text, read_certificate)
     text = spoilt(random, solution_lines(random))
-    return judge_echo(programs.echo, folder, "solution", text, read_solution)
+    return judge_echo(programs.instruments, folder, "solution", text, read_solution)
 
 
 def judge_large(programs, folder, seed):
     name, lines = LARGE[seed]
     text = "".join(line + "\n" for line in lines()).encode()
-    return "%s: %s" % (name, judge_echo(programs.echo, folder, "certificate", text, read_certificate))
+    return "%s: %s" % (name, judge_echo(programs.instruments, folder, "certificate", text, read_certificate))
 
 
 # By the kind, what is judged: the programs, a folder, the random source and the run's number.
 JUDGES = {
     "rows": lambda programs, folder, random, seed: judge_row(programs.program, folder, ROWS[seed]),
     "devices": lambda programs, folder, random, seed: judge_device(programs.program, folder, seed),
+    "spellings": lambda programs, folder, random, seed: judge_spelling(programs.instruments, folder, SPELLINGS[seed]),
     "large": lambda programs, folder, random, seed: judge_large(programs, folder, seed),
-    "calls": lambda programs, folder, random, seed: judge_call(programs.calls, folder, programs.library, seed),
+    "calls": lambda programs, folder, random, seed: judge_call(programs.instruments, folder, programs.library, seed),
     "refusals": lambda programs, folder, random, seed: judge_refusal(programs.program, folder, random),
     "solve": lambda programs, folder, random, seed: judge_solve(
         programs.program, folder, random, random.randint(1, 8), 30, True),
@@ -158,7 +171,7 @@ JUDGES = {
         programs.program, folder, random, random.randint(9, 25), 3, False),
     "close": lambda programs, folder, random, seed: judge_close(programs.program, folder, random),
     "checks": lambda programs, folder, random, seed: judge_check(programs.program, folder, random),
-    "turns": lambda programs, folder, random, seed: judge_turns(programs.timings, folder, random,
+    "turns": lambda programs, folder, random, seed: judge_turns(programs.instruments, folder, random,
                                                                 random.randint(1, 8)),
     "certificates": lambda programs, folder, random, seed: judge_text(programs, folder, random, "certificates"),
     "solutions": lambda programs, folder, random, seed: judge_text(programs, folder, random, "solutions"),

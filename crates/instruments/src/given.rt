@@ -1,0 +1,189 @@
+//! Calls of a book that has no room for a further event without a growth, nor, where a leaf is split, for
+//! its children: two customers in a line, which one vehicle can serve.
+
+use crate::starts::{Host, book_of, made, plan_at, priced_at};
+use branching::{Arc, Region};
+use incumbent_book::{Book, Offered};
+use prices::Priced;
+use schedule::Feasible;
+use solomon_reader::Instance;
+use std::alloc::Global;
+use std::io;
+
+/// How many events a book has room for at first.
+const FIRST_ROOM: u32 = 16;
+
+/// The arc from the first customer to the second.
+const ONWARD: Arc = Arc { from: 1, to: 2 };
+
+/// The arc from the second customer to the first.
+const BACK: Arc = Arc { from: 2, to: 1 };
+
+/// The leaf at which the first of both is forbidden, once the root is split by it.
+const APART: u32 = 2;
+
+/// What a book is given: a plan, prices for the root, or prices for both children of a leaf.
+#[derive(Drop)]
+enum Given<'i> {
+    Plan(Feasible<'i>),
+    Root(Priced<'i>),
+    Children(Priced<'i>, Priced<'i>),
+}
+
+/// What a call gave back, where it was refused.
+type Back<'i> = io::Result<Option<Given<'i>>>;
+
+/// The same price for both customers at a region, with one neighbour.
+fn even_at<'i>(
+    alloc: Global,
+    instance: &'i Instance,
+    region: Region,
+    price: i64,
+) -> Option<Priced<'i>> {
+    let prices = Vec::from_slice(alloc, &[price, price]).ok()?;
+    priced_at(alloc, instance, region, 1, prices, None)
+}
+
+/// Prices of 0 at both children of a region by an arc.
+fn children_at<'i>(
+    alloc: Global,
+    instance: &'i Instance,
+    region: &Region,
+    arc: Arc,
+) -> Option<Given<'i>> {
+    let used = even_at(alloc, instance, region.used(arc).ok()?, 0)?;
+    let unused = even_at(alloc, instance, region.forbidden(arc).ok()?, 0)?;
+    Some(Given::Children(used, unused))
+}
+
+/// What the call of a name gives a book.
+fn given_of<'i>(alloc: Global, instance: &'i Instance, name: &str) -> Option<Given<'i>> {
+    let root = Region::root(alloc, 2);
+    match name {
+        "offer" => Some(Given::Plan(plan_at(alloc, instance, &[[1, 2]])?)),
+        "reprice" => Some(Given::Root(even_at(alloc, instance, root, 100_000)?)),
+        _ => children_at(alloc, instance, &root.forbidden(ONWARD).ok()?, BACK),
+    }
+}
+
+/// Offers a plan of a route for each customer so many times, and says whether there was memory.
+fn fill<'i>(alloc: Global, instance: &'i Instance, book: &mut Book<'i>, offers: u32) -> Option<()> {
+    for _ in 0..offers {
+        book.offer(0, plan_at(alloc, instance, &[[1], [2]])?).ok()?;
+    }
+    Some(())
+}
+
+/// Prints how many events a book has, its best cost and its bound, behind what came of a call.
+fn tell_book<R: Host>(rt: &R, book: &Book<'_>) -> io::Result<()> {
+    let (events, gap) = (book.history().len(), book.gap());
+    let (cost, bound) = (gap.cost.map_or(0, |cost| cost.get()), gap.bound.get());
+    println!(rt; "events {events} cost {cost} bound {bound}")
+}
+
+/// Prints prices that came back, with their value.
+fn tell_prices<R: Host>(rt: &R, priced: &Priced<'_>) -> io::Result<()> {
+    let (value, prices) = (priced.value(), priced.prices());
+    print!(rt; "back {value} {prices:?} ")
+}
+
+/// Prints what came back.
+fn tell_back<R: Host>(rt: &R, given: &Given<'_>) -> io::Result<()> {
+    match given {
+        Given::Plan(plan) => {
+            let (cost, routes) = (plan.cost().get(), plan.routes());
+            print!(rt; "back {cost} {routes:?} ")
+        }
+        Given::Root(priced) => tell_prices(rt, priced),
+        Given::Children(used, unused) => {
+            tell_prices(rt, used)?;
+            tell_prices(rt, unused)
+        }
+    }
+}
+
+/// Prints the reply to an offer.
+fn tell_reply<R: Host>(rt: &R, reply: &Offered<'_>) -> io::Result<()> {
+    match reply {
+        Offered::Better { before } => {
+            let before = before.map_or(0, |cost| cost.get());
+            print!(rt; "Better {before} ")
+        }
+        Offered::NotBetter { best, plan } => {
+            let (best, routes) = (best.get(), plan.routes());
+            print!(rt; "NotBetter {best} {routes:?} ")
+        }
+    }
+}
+
+/// That a call was accepted, once its reply is printed.
+fn told<'i>(printed: io::Result<()>) -> Back<'i> {
+    printed?;
+    Ok(None)
+}
+
+/// Gives a book what its call takes, and prints the reply.
+fn give<'i, R: Host>(rt: &R, book: &mut Book<'i>, given: Given<'i>) -> Back<'i> {
+    let (back, fault) = match given {
+        Given::Plan(plan) => match book.offer(0, plan) {
+            Ok(reply) => return told(tell_reply(rt, &reply)),
+            Err((plan, fault)) => (Given::Plan(plan), fault),
+        },
+        Given::Root(priced) => match book.reprice(0, 0, priced) {
+            Ok(()) => return told(print!(rt; "Ok ")),
+            Err((priced, fault)) => (Given::Root(priced), fault),
+        },
+        Given::Children(used, unused) => match book.split(0, APART, BACK, used, unused) {
+            Ok((used, unused)) => return told(print!(rt; "Ok {used} {unused} ")),
+            Err((used, unused, fault)) => (Given::Children(used, unused), fault),
+        },
+    };
+    print!(rt; "{fault} ")?;
+    tell_back(rt, &back)?;
+    Ok(Some(back))
+}
+
+/// Makes a call and prints what came of it.
+fn call<'i, R: Host>(rt: &R, book: &mut Book<'i>, given: Given<'i>) -> Back<'i> {
+    let back = give(rt, book, given)?;
+    tell_book(rt, book)?;
+    Ok(back)
+}
+
+/// Makes the call of a name twice: once more with what came back, or else with other such values.
+fn give_twice<'i, R: Host>(
+    rt: &R,
+    book: &mut Book<'i>,
+    instance: &'i Instance,
+    name: &str,
+) -> io::Result<()> {
+    let given = made(given_of(rt.alloc(), instance, name))?;
+    let other = made(given_of(rt.alloc(), instance, name))?;
+    println!(rt; "ready")?;
+    let back = call(rt, book, given)?;
+    call(rt, book, back.unwrap_or(other))?;
+    Ok(())
+}
+
+/// Splits the root of a book.
+fn split_root<'i>(alloc: Global, instance: &'i Instance, book: &mut Book<'i>) -> Option<()> {
+    match children_at(alloc, instance, &Region::root(alloc, 2), ONWARD)? {
+        Given::Children(used, unused) => {
+            book.split(0, 0, ONWARD, used, unused).ok()?;
+            Some(())
+        }
+        _ => None,
+    }
+}
+
+/// Makes the call of a name twice on a book whose room is full.
+pub(crate) fn tell_given<R: Host>(rt: &R, instance: &Instance, name: &str) -> io::Result<()> {
+    let mut book = made(book_of(rt.alloc(), instance, 1))?;
+    if name == "split" {
+        made(fill(rt.alloc(), instance, &mut book, FIRST_ROOM - 1))?;
+        made(split_root(rt.alloc(), instance, &mut book))?;
+    } else {
+        made(fill(rt.alloc(), instance, &mut book, FIRST_ROOM))?;
+    }
+    give_twice(rt, &mut book, instance, name)
+}

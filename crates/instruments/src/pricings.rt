@@ -1,0 +1,262 @@
+//! How dear pricings are: how many labels are active at once, what the root of an instance comes to after
+//! some numbers of pricings, and what it takes to close an instance.
+
+use crate::starts::{Asked, Host, made, plan_of, priced_at, wrong};
+use branching::{Arc, Region, TreeNode};
+use certificate::{Cert, CertNode};
+use closing::close_counted;
+use labelling::least;
+use price_ascent::{Goal, RoutePool, first_prices, first_rise, raise};
+use prices::Priced;
+use schedule::Feasible;
+use solomon_reader::{Instance, MOST_LEAVES, MOST_NEIGHBOURS};
+use std::alloc::{AllocError, Global};
+use std::time::Instant;
+use std::{fs, io};
+
+/// The most labels of a pricing.
+const MOST_LABELS: usize = 1_000_000;
+
+const LIMIT: Option<usize> = Some(MOST_LABELS);
+
+/// Whether so many labels suffice.
+fn suffices(alloc: Global, leaf: &Priced<'_>, most: usize) -> bool {
+    let _value = leaf.value();
+    let (region, prices) = (leaf.region(), leaf.prices());
+    least(
+        alloc,
+        leaf.instance(),
+        region,
+        prices,
+        leaf.neighbours(),
+        Some(most),
+    )
+    .is_ok()
+}
+
+/// The least number of labels that suffices, by halving.
+fn labels_of(alloc: Global, leaf: &Priced<'_>) -> usize {
+    let mut too_few = 0;
+    let mut enough = MOST_LABELS;
+    for _ in 0..usize::BITS {
+        let width = enough.saturating_sub(too_few);
+        if width < 2 {
+            return enough;
+        }
+        let middle = too_few.saturating_add(width / 2);
+        if suffices(alloc, leaf, middle) {
+            enough = middle;
+        } else {
+            too_few = middle;
+        }
+    }
+    enough
+}
+
+/// A price of zero for each customer.
+fn zeros(alloc: Global, count: u16) -> Result<Vec<i64>, AllocError> {
+    vec![in alloc; 0; usize::from(count)]
+}
+
+/// The prices of the first leaf of a certificate.
+fn leaf_prices(alloc: Global, cert: &Cert) -> Option<Vec<i64>> {
+    for node in &cert.parts().nodes {
+        if let CertNode::Leaf(prices) = node {
+            return Vec::from_slice(alloc, prices.as_slice()).ok();
+        }
+    }
+    None
+}
+
+/// Prints a leaf's value in tenths, its labels, and the milliseconds of one pricing.
+fn tell_leaf<R: Host>(rt: &R, leaf: &Priced<'_>, times: bool) -> io::Result<()> {
+    let value = leaf.value();
+    let begin = Instant::now(rt)?;
+    suffices(rt.alloc(), leaf, MOST_LABELS);
+    let milliseconds = begin.elapsed(rt)?.as_millis();
+    let labels = labels_of(rt.alloc(), leaf);
+    print!(rt; " value {value} labels {labels}")?;
+    tell_end(rt, milliseconds, times)
+}
+
+/// Prints the line of these prices at the root, with so many neighbours.
+fn tell_root<R: Host>(rt: &R, asked: &Asked<'_>, prices: Vec<i64>) -> io::Result<()> {
+    let root = Region::root(rt.alloc(), asked.instance.customer_count());
+    match priced_at(
+        rt.alloc(),
+        asked.instance,
+        root,
+        asked.number,
+        prices,
+        LIMIT,
+    ) {
+        Some(leaf) => tell_leaf(rt, &leaf, asked.times),
+        None => println!(rt; " value - labels above {MOST_LABELS}"),
+    }
+}
+
+/// Prints the line of prices of zero, and that of the certificate's first leaf.
+fn tell_roots<R: Host>(rt: &R, asked: &Asked<'_>, cert: &Cert) -> io::Result<()> {
+    let zero = made(zeros(rt.alloc(), asked.instance.customer_count()).ok())?;
+    print!(rt; "zero")?;
+    tell_root(rt, asked, zero)?;
+    print!(rt; "certificate")?;
+    tell_root(rt, asked, made(leaf_prices(rt.alloc(), cert))?)
+}
+
+/// The same for the certificate of a file, with as many neighbours as it says.
+pub(crate) fn tell_labels<R: Host>(
+    rt: &R,
+    instance: &Instance,
+    path: &str,
+    times: bool,
+) -> io::Result<()> {
+    let text = fs::read(rt, path)?;
+    let Ok(cert) = certificate::read(rt.alloc(), text.as_slice()) else {
+        return Err(wrong());
+    };
+    let number = cert.parts().neighbours;
+    let asked = Asked {
+        instance,
+        number,
+        times,
+    };
+    tell_roots(rt, &asked, &cert)
+}
+
+/// The numbers of pricings.
+const COUNTS: [u32; 5] = [10, 25, 50, 100, 200];
+
+/// How many routes more than a plan's count, and how many more than the fewest where there is none.
+const MORE_THAN_PLAN: u64 = 2;
+
+const MORE_THAN_FEWEST: u64 = 3;
+
+/// The plan to start from, if there is one.
+type Start<'s, 'p> = Option<&'s Feasible<'p>>;
+
+/// The root at prices of zero, or at the first prices of a plan.
+fn root_of<'i>(
+    alloc: Global,
+    instance: &'i Instance,
+    start: Start<'_, '_>,
+    neighbours: u32,
+) -> Option<Priced<'i>> {
+    let prices = match start {
+        Some(plan) => first_prices(alloc, instance, plan.routes()).ok()?,
+        None => zeros(alloc, instance.customer_count()).ok()?,
+    };
+    let region = Region::root(alloc, instance.customer_count());
+    priced_at(alloc, instance, region, neighbours, prices, LIMIT)
+}
+
+/// A pool with the routes of a plan.
+fn pool_of(alloc: Global, instance: &Instance, start: Start<'_, '_>) -> Option<RoutePool> {
+    let mut pool = RoutePool::new(alloc);
+    if let Some(plan) = start {
+        for route in plan.routes() {
+            pool.add(instance, route.as_slice()).ok()?;
+        }
+    }
+    Some(pool)
+}
+
+/// The goal of so many pricings.
+fn goal_of(instance: &Instance, start: Start<'_, '_>, pricings: u32) -> Goal {
+    let (cost, few, more) = match start {
+        Some(plan) => (
+            Some(plan.cost()),
+            plan.routes().len() as u64,
+            MORE_THAN_PLAN,
+        ),
+        None => (None, u64::from(instance.fewest_routes()), MORE_THAN_FEWEST),
+    };
+    Goal {
+        rise: first_rise(instance, cost),
+        pricings,
+        idle_pricings: pricings,
+        value: i128::MAX,
+        routes: few.saturating_add(more).min(u64::from(u16::MAX)) as u16,
+        labels: LIMIT,
+    }
+}
+
+/// The arc that the pool would branch a leaf on.
+fn arc_of(pool: &RoutePool, leaf: &Priced<'_>) -> Option<Arc> {
+    let rows = pool.branching_arcs(leaf.instance()).ok()?;
+    leaf.region().choose(rows.as_slice())
+}
+
+/// Prints the milliseconds where times are to be printed, and ends the line.
+fn tell_end<R: Host>(rt: &R, milliseconds: u128, times: bool) -> io::Result<()> {
+    if times {
+        return println!(rt; " ms {milliseconds}");
+    }
+    println!(rt; "")
+}
+
+/// Raises the root by the routes of a pool, and prints its value and the arc, if there is one.
+fn tell_raised<R: Host>(
+    rt: &R,
+    pool: &mut RoutePool,
+    root: Priced<'_>,
+    goal: &Goal,
+    times: bool,
+) -> io::Result<()> {
+    let begin = Instant::now(rt)?;
+    let best = raise(rt.alloc(), pool, root, goal);
+    let milliseconds = begin.elapsed(rt)?.as_millis();
+    let (pricings, value) = (goal.pricings, best.value());
+    print!(rt; "pricings {pricings} value {value}")?;
+    if let Some(Arc { from, to }) = arc_of(pool, &best) {
+        print!(rt; " arc {from} {to}")?;
+    }
+    tell_end(rt, milliseconds, times)
+}
+
+/// Prints the values from one start.
+fn tell_from<R: Host>(rt: &R, asked: &Asked<'_>, start: Start<'_, '_>) -> io::Result<()> {
+    let name = if start.is_some() { "plan" } else { "zero" };
+    for pricings in COUNTS {
+        print!(rt; "{name} ")?;
+        let root = made(root_of(rt.alloc(), asked.instance, start, asked.number))?;
+        let mut pool = made(pool_of(rt.alloc(), asked.instance, start))?;
+        let goal = goal_of(asked.instance, start, pricings);
+        tell_raised(rt, &mut pool, root, &goal, asked.times)?;
+    }
+    Ok(())
+}
+
+/// Prints the values from both starts, from the second only where insertion builds a plan.
+pub(crate) fn tell_ascents<R: Host>(rt: &R, asked: &Asked<'_>) -> io::Result<()> {
+    tell_from(rt, asked, None)?;
+    match plan_of(rt.alloc(), asked.instance) {
+        Some(plan) => tell_from(rt, asked, Some(&plan)),
+        None => Ok(()),
+    }
+}
+
+/// How many of the nodes are leaves.
+fn leaves_of(nodes: &[TreeNode]) -> usize {
+    let mut leaves: usize = 0;
+    for node in nodes {
+        if let TreeNode::Leaf(_) = node {
+            leaves = leaves.saturating_add(1);
+        }
+    }
+    leaves
+}
+
+/// Closes an instance, and prints the bound in tenths, the leaves of the tree and the pricings.
+pub(crate) fn tell_closing<R: Host>(rt: &R, asked: &Asked<'_>) -> io::Result<()> {
+    if asked.number > MOST_NEIGHBOURS {
+        return Err(wrong());
+    }
+    match close_counted(rt.alloc(), asked.instance, asked.number, MOST_LEAVES) {
+        Ok((closed, pricings)) => {
+            let (bound, leaves) = (closed.bound.get(), leaves_of(closed.nodes.as_slice()));
+            println!(rt; "bound {bound} leaves {leaves} pricings {pricings}")
+        }
+        Err(fault) => println!(rt; "{fault}"),
+    }
+}
