@@ -2,7 +2,8 @@
 //! instance's file and a certificate's, `ascent` or `closing` with an instance's file and the number of
 //! neighbours, `book` with an instance's file and the number of leaves, `turns` or `descents` with an
 //! instance's file and the number of turns, each with `times` behind where the times are to be printed, too;
-//! `echo` with `certificate` or `solution` and a file; `call` with the names of calls. More such words may
+//! `echo` with `certificate` or `solution` and a file; `rows` with `plan` and the file of a script; `call` with
+//! the names of calls. More such words may
 //! follow, but behind `call` all are names. The status is 1 where the words or the files are not such, or
 //! memory was refused.
 #![tactic(auto)]
@@ -21,6 +22,7 @@ use crate::echoes::tell_echo;
 use crate::pricings::{tell_ascents, tell_closing, tell_labels};
 use crate::starts::{Asked, Host, wrong};
 use crate::turns::{tell_descents, tell_turns};
+use plan_rows::tell_rows;
 use solomon_reader::Instance;
 use std::sync::Wait;
 use std::thread::Threads;
@@ -33,6 +35,12 @@ fn instance_of<R: Host>(rt: &R, path: &str) -> io::Result<Instance> {
         Ok(instance) => Ok(instance),
         Err(_) => Err(wrong()),
     }
+}
+
+/// Prints the rows of a script.
+fn tell_rows_of<R: Host + Threads>(rt: &R, path: &str) -> io::Result<()> {
+    let script = fs::read_to_string(rt, path)?;
+    tell_rows(rt, script.as_str())
 }
 
 /// Prints what a mode measures.
@@ -55,8 +63,10 @@ fn tell<R: Host + Threads>(
     second: &str,
     times: bool,
 ) -> io::Result<()> {
-    if mode == "echo" {
-        return tell_echo(rt, first, second);
+    match (mode, first) {
+        ("echo", _) => return tell_echo(rt, first, second),
+        ("rows", "plan") => return tell_rows_of(rt, second),
+        _ => {}
     }
     let instance = instance_of(rt, first)?;
     if mode == "labels" {

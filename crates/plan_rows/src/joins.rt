@@ -1,0 +1,73 @@
+//! Stops and lists, joined in trees.
+
+use crate::few::Few;
+use crate::words::{named, then, told};
+use segments::{Linked, RouteTree, Segment};
+use solomon_reader::Instance;
+use std::alloc::Global;
+
+/// The join of two stops by a tree into which the first was put later, and the last in that tree.
+fn joined_by_tree(
+    alloc: Global,
+    instance: &Instance,
+    first: &Segment,
+    second: &Segment,
+) -> Option<(Option<Segment>, Option<Segment>)> {
+    let items = vec![in alloc; *second].ok()?;
+    let mut tree = RouteTree::new(alloc, instance, items).ok()?;
+    tree.splice(instance, 0, 0, &[*first]).ok()?;
+    if tree.len() != 2 {
+        return None;
+    }
+    Some((tree.whole().copied(), tree.span(instance, 1, 2)))
+}
+
+/// The numbers of a join, if there is one.
+fn told_join(alloc: Global, join: Option<Segment>) -> Option<String> {
+    let Some(join) = join else {
+        return told(alloc, "none");
+    };
+    let times = [
+        Some(join.latest()),
+        Some(join.duration()),
+        Some(join.earliest()),
+    ];
+    let sums = [Some(i64::from(join.load())), Some(i64::from(join.cost()))];
+    let text = named(alloc, "latest duration earliest", &times)?;
+    then(text, " ", named(alloc, "load cost", &sums)?.as_str())
+}
+
+/// The joins of customers 1 and 2, alone and by a tree, and who is last in that.
+pub(crate) fn told_joins(alloc: Global, instance: &Instance) -> Option<String> {
+    if instance.customer_count() != 2 {
+        return None;
+    }
+    let (first, second) = (Segment::stop(instance, 1), Segment::stop(instance, 2));
+    let alone = told_join(alloc, Segment::join(instance, &first, &second))?;
+    let (whole, last) = joined_by_tree(alloc, instance, &first, &second)?;
+    let text = then(alone, "\n", told_join(alloc, whole)?.as_str())?;
+    let last = named(alloc, "last", &[last.map(|stop| i64::from(stop.first()))])?;
+    then(text, "\n", last.as_str())
+}
+
+/// How many numbers eight joined lists of one number have, and how many nine, and their last eight.
+pub(crate) fn told_lists(alloc: Global) -> Option<String> {
+    let mut items = Vec::new(alloc);
+    for number in 0..8 {
+        items.push(Few::one(number)).ok()?;
+    }
+    let mut tree = RouteTree::new(alloc, &(), items).ok()?;
+    let eight = tree.whole().and_then(|list| i64::try_from(list.len()).ok());
+    if tree.len() != 8 {
+        return None;
+    }
+    tree.splice(&(), 3, 3, &[Few::one(9)]).ok()?;
+    if tree.len() != 9 {
+        return None;
+    }
+    let nine = tree.whole().and_then(|list| i64::try_from(list.len()).ok());
+    let last = tree
+        .span(&(), 1, 9)
+        .and_then(|list| i64::try_from(list.len()).ok());
+    named(alloc, "eight nine last", &[eight, nine, last])
+}

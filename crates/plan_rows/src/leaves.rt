@@ -1,0 +1,157 @@
+//! Prices at leaves: their values, steps, and the least reduced costs.
+
+use crate::words::{amounts_of, listed, named, number_at, pair_of, then, told};
+use branching::{Arc, Region};
+use labelling::least;
+use prices::{Priced, improve};
+use solomon_reader::{Instance, MOST_NEIGHBOURS};
+use std::alloc::Global;
+
+/// The root, or its child where an arc is used or unused, as `used:0,1`.
+fn region_of(alloc: Global, size: u16, word: &str) -> Option<Region> {
+    let root = Region::root(alloc, size);
+    if word == "root" {
+        return Some(root);
+    }
+    let (choice, arc) = word.split_once(':')?;
+    let (from, to) = pair_of(arc)?;
+    match choice {
+        "used" => root.used(Arc { from, to }).ok(),
+        "unused" => root.forbidden(Arc { from, to }).ok(),
+        _ => None,
+    }
+}
+
+/// The leaf of prices at a region, or why there is none and what came back; none where they do not fit
+/// the instance.
+fn leaf_at<'i>(
+    alloc: Global,
+    instance: &'i Instance,
+    region: Region,
+    neighbours: u64,
+    prices: Vec<i64>,
+    limit: Option<usize>,
+) -> Option<Result<Priced<'i>, Option<String>>> {
+    let count = instance.customer_count();
+    if region.size() != count || prices.len() != usize::from(count) {
+        return None;
+    }
+    if neighbours > u64::from(MOST_NEIGHBOURS) {
+        return None;
+    }
+    match Priced::of(alloc, instance, region, neighbours as u32, prices, limit) {
+        Ok(leaf) => Some(Ok(leaf)),
+        Err((region, prices, fault)) => {
+            let fault = fault.to_string(alloc).ok()?;
+            Some(Err(told_back(alloc, fault, region.size(), prices.as_slice())))
+        }
+    }
+}
+
+/// Why prices gave no leaf, and what came back.
+fn told_back(alloc: Global, fault: String, size: u16, prices: &[i64]) -> Option<String> {
+    let back = named(alloc, "back_customers", &[Some(i64::from(size))])?;
+    let text = then(fault, " ", back.as_str())?;
+    then(text, " ", listed(alloc, "prices", prices)?.as_str())
+}
+
+/// The leaf of a command that names a region, the neighbours, the prices and perhaps a limit of labels.
+fn leaf_by<'i>(
+    alloc: Global,
+    instance: &'i Instance,
+    words: &[&str],
+) -> Option<Result<Priced<'i>, Option<String>>> {
+    let region = region_of(alloc, instance.customer_count(), words.get(1)?)?;
+    let prices = amounts_of(alloc, words.get(3)?)?;
+    let limit = match words.get(4) {
+        Some(word) => Some(word.parse::<usize>().ok()?),
+        None => None,
+    };
+    leaf_at(alloc, instance, region, number_at(words, 2)?, prices, limit)
+}
+
+/// The value of a leaf, its prices, and what else it was made of.
+fn told_value(alloc: Global, leaf: &Priced<'_>) -> Option<String> {
+    let count = i64::from(leaf.instance().customer_count());
+    let value = i64::try_from(leaf.value()).ok()?;
+    let numbers = [Some(value), Some(count), Some(i64::from(leaf.neighbours()))];
+    let text = named(alloc, "value customers neighbours", &numbers)?;
+    then(text, " ", listed(alloc, "prices", leaf.prices())?.as_str())
+}
+
+/// The leaf of a command.
+pub(crate) fn told_leaf(alloc: Global, instance: &Instance, words: &[&str]) -> Option<String> {
+    match leaf_by(alloc, instance, words)? {
+        Ok(leaf) => told_value(alloc, &leaf),
+        Err(back) => back,
+    }
+}
+
+/// A least reduced cost.
+fn told_cost(alloc: Global, cost: Option<i128>) -> Option<String> {
+    named(alloc, "least", &[i64::try_from(cost?).ok()])
+}
+
+/// The least reduced cost at a leaf's prices, found with at most so many labels.
+fn told_least_within(alloc: Global, leaf: &Priced<'_>, limit: u64) -> Option<String> {
+    let _value = leaf.value();
+    let found = least(
+        alloc,
+        leaf.instance(),
+        leaf.region(),
+        leaf.prices(),
+        leaf.neighbours(),
+        Some(limit as usize),
+    );
+    match found {
+        Ok(found) => told_cost(alloc, found.value),
+        Err(fault) => fault.to_string(alloc).ok(),
+    }
+}
+
+/// The least reduced cost at the prices of a command: as a leaf keeps it, or found with a limit.
+pub(crate) fn told_least(alloc: Global, instance: &Instance, words: &[&str]) -> Option<String> {
+    let leaf = leaf_by(alloc, instance, words.get(..4)?)?.ok()?;
+    match number_at(words, 4) {
+        Some(limit) => told_least_within(alloc, &leaf, limit),
+        None => told_cost(alloc, leaf.least().value),
+    }
+}
+
+/// Whether two leaves have the same prices, value and least route.
+fn are_same(leaf: &Priced<'_>, other: &Priced<'_>) -> bool {
+    leaf.prices() == other.prices()
+        && leaf.value() == other.value()
+        && leaf.least().route.as_slice() == other.least().route.as_slice()
+}
+
+/// What steps make of the prices of a command: the leaf before them and behind them, and its least reduced
+/// cost, if a copy is the same.
+pub(crate) fn told_steps(alloc: Global, instance: &Instance, words: &[&str]) -> Option<String> {
+    let steps = amounts_of(alloc, words.get(4)?)?;
+    let leaf = leaf_by(alloc, instance, words.get(..4)?)?.ok()?;
+    let text = told_value(alloc, &leaf)?;
+    let leaf = improve(alloc, leaf, steps.as_slice(), None);
+    let text = then(text, "\n", told_value(alloc, &leaf)?.as_str())?;
+    if !are_same(&leaf.try_clone().ok()?, &leaf) {
+        return told(alloc, "copied otherwise");
+    }
+    then(text, "\n", told_cost(alloc, leaf.least().value)?.as_str())
+}
+
+/// Whether a copy of the root's region allows an arc.
+pub(crate) fn told_allowed(alloc: Global, instance: &Instance, words: &[&str]) -> Option<String> {
+    let (from, to) = pair_of(words.get(1)?)?;
+    let leaf = Priced::root(alloc, instance, 8, None).ok()?;
+    let root = leaf.region().try_clone().ok()?;
+    let text = named(alloc, "customers", &[Some(i64::from(root.size()))])?;
+    then(
+        text,
+        " ",
+        if root.allows(from, to) {
+            "allowed"
+        } else {
+            "not allowed"
+        },
+    )
+}

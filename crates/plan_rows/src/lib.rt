@@ -1,0 +1,220 @@
+//! Rows of the library: the calls of a script, each printed with what came of it below, on lines that begin
+//! with two blanks. A line that begins with `#` is a title.
+//!
+//! In texts `|` stands for a line feed, `^` for a carriage return, `~` for the byte 128 and `_` for a
+//! blank. A list is a word with commas between its numbers, and a hyphen where there is none. Among prices
+//! and steps `9*0` stands for nine zeros. A place is a route and a position, and a chain has its length
+//! behind them. Commands:
+//!
+//! - `instance FLEET CAPACITY ROWS` and `bytes TEXT` read an instance, to which later commands refer;
+//!   `line FLEET CAPACITY COUNT,X,Y,STEP ROWS` reads one of the depot, so many customers from (X,Y) on,
+//!   each a step to the right of the one before, and the rows. `same FLEET CAPACITY ROWS` compares one.
+//! - `arc FROM TO`, `ceiling`, `walk ROUTE` and `joins` ask the instance, `build MU LAMBDA A1` builds a plan,
+//!   and `allows FROM,TO` asks the root. A region is `root`, `used:FROM,TO` or `unused:FROM,TO`;
+//!   `leaf REGION NEIGHBOURS PRICES` values prices, with a limit of labels if one is behind them, and so does
+//!   `least` labels; `steps REGION NEIGHBOURS PRICES STEPS` improves prices.
+//! - `plan ROUTES` checks a plan, to which `routes`, `copy`, `trees`, `move KIND FROM TO`, `best KIND`, `bests`,
+//!   `shake COUNT WORDS`, `turn WORDS` and `descend` refer; the plan behind a descent is the next one.
+//! - `root NUMBER`, `distances POINTS`, `tenths TEXT`, `text TENTHS`, `pieces WORD WORD`, `lists` and
+//!   `parts VERSION NEIGHBOURS NODES`, which makes a certificate, stand alone.
+#![tactic(auto)]
+
+mod candidates;
+pub mod few;
+mod instances;
+mod joins;
+mod leaves;
+mod numbers;
+mod parts;
+mod plans;
+pub mod script;
+mod words;
+
+use crate::candidates::{told_best, told_bests, told_move};
+use crate::instances::{
+    line_text_by, read_told, text_by, told_arc, told_build, told_same, told_walk,
+};
+use crate::joins::{told_joins, told_lists};
+use crate::leaves::{told_allowed, told_leaf, told_least, told_steps};
+use crate::numbers::{told_count, told_distances, told_pieces, told_root, told_tenths};
+use crate::parts::told_parts;
+use crate::plans::{
+    copies_of, descended, descended_in_threads, routes_of, told_copy, told_ends, told_plan,
+    told_shake, told_trees, told_turn,
+};
+use crate::words::{behind, text_of, told_routes};
+use schedule::Feasible;
+use solomon_reader::Instance;
+use std::alloc::Global;
+use std::io;
+use std::rt::Runtime;
+use std::thread::Threads;
+
+/// The instance and the routes to which commands refer.
+#[derive(Drop)]
+struct State {
+    instance: Option<Instance>,
+    routes: Vec<Vec<u16>>,
+}
+
+/// What comes of a call that needs no instance.
+fn told_alone(alloc: Global, line: &str, words: &[&str]) -> Option<String> {
+    match *words.first()? {
+        "root" => told_root(alloc, words),
+        "distances" => told_distances(alloc, words.get(1..)?),
+        "tenths" => told_tenths(alloc, text_of(alloc, behind(line, 1))?.as_slice()),
+        "text" => told_count(alloc, words),
+        "pieces" => told_pieces(alloc, words),
+        "lists" => told_lists(alloc),
+        "parts" => told_parts(alloc, words),
+        _ => None,
+    }
+}
+
+/// What comes of a call that needs an instance.
+fn told_of(alloc: Global, instance: &Instance, line: &str, words: &[&str]) -> Option<String> {
+    match *words.first()? {
+        "same" => told_same(alloc, instance, text_by(alloc, line, words)?.as_str()),
+        "arc" => told_arc(alloc, instance, words),
+        "ceiling" => instance.ceiling().get().to_string(alloc).ok(),
+        "walk" => told_walk(alloc, instance, words),
+        "joins" => told_joins(alloc, instance),
+        "build" => told_build(alloc, instance, words),
+        "leaf" => told_leaf(alloc, instance, words),
+        "steps" => told_steps(alloc, instance, words),
+        "least" => told_least(alloc, instance, words),
+        "allows" => told_allowed(alloc, instance, words),
+        _ => None,
+    }
+}
+
+/// What comes of a call that needs a plan.
+fn told_of_plan<R: AllocGlobal + Threads + Sync>(
+    rt: &R,
+    instance: &Instance,
+    plan: Feasible<'_>,
+    words: &[&str],
+) -> Option<String> {
+    match *words.first()? {
+        "routes" => told_routes(rt.alloc(), "routes", plan.routes()),
+        "copy" => told_copy(rt.alloc(), instance, &plan),
+        "trees" => told_trees(rt.alloc(), instance, &plan),
+        "move" => told_move(rt.alloc(), plan, words),
+        "best" => told_best(rt, &plan, words),
+        "bests" => told_bests(rt, &plan),
+        "shake" => told_shake(rt.alloc(), plan, words),
+        "turn" => told_turn(rt.alloc(), plan, words),
+        _ => None,
+    }
+}
+
+/// The plan of the routes, if they are one.
+fn plan_of<'i>(alloc: Global, instance: &'i Instance, routes: &[Vec<u16>]) -> Option<Feasible<'i>> {
+    Feasible::check(instance, copies_of(alloc, routes)?).ok()
+}
+
+/// Descends, holds the routes at the end of the descent in one thread, and tells the costs.
+fn descend<R: AllocGlobal + Threads + Sync>(
+    rt: &R,
+    instance: &Instance,
+    routes: &mut Vec<Vec<u16>>,
+) -> Option<String> {
+    let other = descended_in_threads(rt, plan_of(rt.alloc(), instance, routes.as_slice())?)?;
+    let end = descended(
+        rt.alloc(),
+        plan_of(rt.alloc(), instance, routes.as_slice())?,
+    )?;
+    *routes = copies_of(rt.alloc(), end.routes())?;
+    told_ends(rt.alloc(), &end, &other)
+}
+
+/// What comes of a call that needs an instance or a plan.
+fn told_held<R: AllocGlobal + Threads + Sync>(
+    rt: &R,
+    state: &mut State,
+    line: &str,
+    words: &[&str],
+) -> Option<String> {
+    let instance = state.instance.as_ref()?;
+    match words {
+        ["plan", routes @ ..] => {
+            state.routes = routes_of(rt.alloc(), routes)?;
+            told_plan(rt.alloc(), instance, routes_of(rt.alloc(), routes)?)
+        }
+        ["descend"] => descend(rt, instance, &mut state.routes),
+        [
+            "routes" | "copy" | "trees" | "move" | "best" | "bests" | "shake" | "turn",
+            ..
+        ] => {
+            let plan = plan_of(rt.alloc(), instance, state.routes.as_slice())?;
+            told_of_plan(rt, instance, plan, words)
+        }
+        _ => told_of(rt.alloc(), instance, line, words),
+    }
+}
+
+/// Reads an instance, which is held, and tells what was read.
+fn read_held(alloc: Global, state: &mut State, text: &[u8]) -> Option<String> {
+    let (found, outcome) = read_told(alloc, text);
+    state.instance = found;
+    outcome
+}
+
+/// What comes of a command, if it is one.
+fn told_command<R: AllocGlobal + Threads + Sync>(
+    rt: &R,
+    state: &mut State,
+    line: &str,
+    words: &[&str],
+) -> Option<String> {
+    let alloc = rt.alloc();
+    match *words.first()? {
+        "instance" => read_held(alloc, state, text_by(alloc, line, words)?.as_bytes()),
+        "line" => read_held(alloc, state, line_text_by(alloc, line, words)?.as_bytes()),
+        "bytes" => read_held(alloc, state, text_of(alloc, behind(line, 1))?.as_slice()),
+        _ => match told_alone(alloc, line, words) {
+            Some(outcome) => Some(outcome),
+            None => told_held(rt, state, line, words),
+        },
+    }
+}
+
+/// Prints the lines of an outcome.
+fn tell<R: Runtime>(rt: &R, outcome: &str) -> io::Result<()> {
+    for line in outcome.lines() {
+        println!(rt; "  {line}")?;
+    }
+    Ok(())
+}
+
+/// Prints a line, and what comes of it where it is a command.
+fn tell_line<R: Runtime + AllocGlobal + Threads + Sync>(
+    rt: &R,
+    state: &mut State,
+    line: &str,
+) -> io::Result<()> {
+    println!(rt; "{line}")?;
+    if line.is_empty() || line.starts_with('#') {
+        return Ok(());
+    }
+    let words: Vec<&str> = line.split_whitespace().collect(rt.alloc())?;
+    match told_command(rt, state, line, words.as_slice()) {
+        Some(outcome) => tell(rt, outcome.as_str()),
+        None => tell(rt, "not understood"),
+    }
+}
+
+/// Prints the lines of a script, and what comes of each command, or that it isn't understood.
+pub fn tell_rows<R: Runtime + AllocGlobal + Threads + Sync>(
+    rt: &R,
+    script: &str,
+) -> io::Result<()> {
+    let mut state = State {
+        instance: None,
+        routes: Vec::new(rt.alloc()),
+    };
+    for line in script.lines() {
+        tell_line(rt, &mut state, line)?;
+    }
+    Ok(())
+}

@@ -1,0 +1,112 @@
+//! Plans, their copies and trees, and what a searcher makes of them.
+
+use crate::script::Script;
+use crate::words::{list_of, named, small_at, then, told_routes};
+use rand_core::SeedableRng;
+use rand_xoshiro::Xoshiro256PlusPlus;
+use schedule::Feasible;
+use search::Searcher;
+use segments::PlanTrees;
+use solomon_reader::Instance;
+use std::alloc::Global;
+use std::thread::Threads;
+
+/// Routes, each a word.
+pub(crate) fn routes_of(alloc: Global, words: &[&str]) -> Option<Vec<Vec<u16>>> {
+    let mut routes = Vec::new(alloc);
+    for word in words {
+        routes.push(list_of(alloc, word)?).ok()?;
+    }
+    Some(routes)
+}
+
+/// Lists of their own with the customers of the routes.
+pub(crate) fn copies_of(alloc: Global, routes: &[Vec<u16>]) -> Option<Vec<Vec<u16>>> {
+    let mut copies = Vec::new(alloc);
+    for route in routes {
+        copies
+            .push(Vec::from_slice(alloc, route.as_slice()).ok()?)
+            .ok()?;
+    }
+    Some(copies)
+}
+
+/// The cost of the plan of routes, or their fault.
+pub(crate) fn told_plan(
+    alloc: Global,
+    instance: &Instance,
+    routes: Vec<Vec<u16>>,
+) -> Option<String> {
+    match Feasible::check(instance, routes) {
+        Ok(plan) => named(alloc, "cost", &[Some(plan.cost().get() as i64)]),
+        Err((_routes, fault)) => fault.to_string(alloc).ok(),
+    }
+}
+
+/// The cost and the routes of a copy of a plan, if it is of the instance.
+pub(crate) fn told_copy(alloc: Global, instance: &Instance, plan: &Feasible<'_>) -> Option<String> {
+    let copy = plan.try_clone().ok()?;
+    if *copy.instance() != *instance {
+        return None;
+    }
+    let cost = named(alloc, "cost", &[Some(copy.cost().get() as i64)])?;
+    then(
+        cost,
+        " ",
+        told_routes(alloc, "routes", copy.routes())?.as_str(),
+    )
+}
+
+/// How many stops the trees of a plan of two routes have, if they are of the instance.
+pub(crate) fn told_trees(
+    alloc: Global,
+    instance: &Instance,
+    plan: &Feasible<'_>,
+) -> Option<String> {
+    let mut trees = PlanTrees::new(alloc, plan).ok()?;
+    if trees.count() != 2 || *trees.instance() != *instance {
+        return None;
+    }
+    let first = i64::try_from(trees.route(0).len()).ok();
+    let second = i64::try_from(trees.route_mut(1).len()).ok();
+    named(alloc, "stops stops", &[first, second])
+}
+
+/// The plan at which a descent ends.
+pub(crate) fn descended<'i>(alloc: Global, plan: Feasible<'i>) -> Option<Feasible<'i>> {
+    let mut searcher = Searcher::new(alloc, plan, Xoshiro256PlusPlus::seed_from_u64(1));
+    searcher.descend().ok()?;
+    Some(searcher.into_plan())
+}
+
+/// The plan at which a descent in several threads ends.
+pub(crate) fn descended_in_threads<'i, R: AllocGlobal + Threads + Sync>(
+    rt: &R,
+    plan: Feasible<'i>,
+) -> Option<Feasible<'i>> {
+    let mut searcher = Searcher::new(rt.alloc(), plan, Xoshiro256PlusPlus::seed_from_u64(1));
+    searcher.descend_parallel(rt).ok()?;
+    Some(searcher.into_plan())
+}
+
+/// The costs at which both descents end.
+pub(crate) fn told_ends(alloc: Global, end: &Feasible<'_>, other: &Feasible<'_>) -> Option<String> {
+    let (cost, other) = (end.cost().get() as i64, other.cost().get() as i64);
+    named(alloc, "cost in_threads", &[Some(cost), Some(other)])
+}
+
+/// The routes behind so many moves of a shake by random words.
+pub(crate) fn told_shake(alloc: Global, plan: Feasible<'_>, words: &[&str]) -> Option<String> {
+    let draws = list_of(alloc, words.get(2)?)?;
+    let mut searcher = Searcher::new(alloc, plan, Script::new(draws.as_slice()));
+    searcher.shake(u32::from(small_at(words, 1)?)).ok()?;
+    told_routes(alloc, "routes", searcher.plan().routes())
+}
+
+/// The routes behind a turn by random words.
+pub(crate) fn told_turn(alloc: Global, plan: Feasible<'_>, words: &[&str]) -> Option<String> {
+    let draws = list_of(alloc, words.get(1)?)?;
+    let mut searcher = Searcher::new(alloc, plan, Script::new(draws.as_slice()));
+    searcher.turn().ok()?;
+    told_routes(alloc, "routes", searcher.plan().routes())
+}
