@@ -1,11 +1,10 @@
 //! Measures for the benchmark, and calls and texts for the programs of `outside/`. Words: `labels` with an
 //! instance's file and a certificate's, `ascent` or `closing` with an instance's file and the number of
 //! neighbours, `book` with an instance's file and the number of leaves, `turns` or `descents` with an
-//! instance's file and the number of turns, each with `times` behind where the times are to be printed, too;
-//! `echo` with `certificate` or `solution` and a file; `rows` with `plan` and the file of a script; `call` with
-//! the names of calls. More such words may
-//! follow, but behind `call` all are names. The status is 1 where the words or the files are not such, or
-//! memory was refused.
+//! instance's file and the number of turns, each with `times` behind where the times are to be printed,
+//! too; `echo` with `certificate` or `solution` and a file; `rows` with `plan` or `program` and the file of
+//! a script; `call` with the names of calls. More such words may follow, but behind `call` all are names.
+//! The status is 1 where the words or the files are not such, or memory was refused.
 #![tactic(auto)]
 
 mod books;
@@ -22,7 +21,6 @@ use crate::echoes::tell_echo;
 use crate::pricings::{tell_ascents, tell_closing, tell_labels};
 use crate::starts::{Asked, Host, wrong};
 use crate::turns::{tell_descents, tell_turns};
-use plan_rows::tell_rows;
 use solomon_reader::Instance;
 use std::sync::Wait;
 use std::thread::Threads;
@@ -37,10 +35,14 @@ fn instance_of<R: Host>(rt: &R, path: &str) -> io::Result<Instance> {
     }
 }
 
-/// Prints the rows of a script.
-fn tell_rows_of<R: Host + Threads>(rt: &R, path: &str) -> io::Result<()> {
+/// Prints the rows of a script, of the library or of the program.
+fn tell_rows<R: Host + Threads + Wait>(rt: &R, kind: &str, path: &str) -> io::Result<()> {
     let script = fs::read_to_string(rt, path)?;
-    tell_rows(rt, script.as_str())
+    match kind {
+        "plan" => plan_rows::tell_rows(rt, script.as_str()),
+        "program" => program_rows::tell_rows(rt, script.as_str()),
+        _ => Err(wrong()),
+    }
 }
 
 /// Prints what a mode measures.
@@ -56,16 +58,16 @@ fn measure<R: Host + Threads>(rt: &R, mode: &str, asked: &Asked<'_>) -> io::Resu
 }
 
 /// Prints what a mode and the two words behind it ask for.
-fn tell<R: Host + Threads>(
+fn tell<R: Host + Threads + Wait>(
     rt: &R,
     mode: &str,
     first: &str,
     second: &str,
     times: bool,
 ) -> io::Result<()> {
-    match (mode, first) {
-        ("echo", _) => return tell_echo(rt, first, second),
-        ("rows", "plan") => return tell_rows_of(rt, second),
+    match mode {
+        "echo" => return tell_echo(rt, first, second),
+        "rows" => return tell_rows(rt, first, second),
         _ => {}
     }
     let instance = instance_of(rt, first)?;
@@ -84,7 +86,10 @@ fn tell<R: Host + Threads>(
 }
 
 /// Prints what the first of the words ask for, and answers the words behind them.
-fn tell_first<'w, R: Host + Threads>(rt: &R, words: &'w [String]) -> io::Result<&'w [String]> {
+fn tell_first<'w, R: Host + Threads + Wait>(
+    rt: &R,
+    words: &'w [String],
+) -> io::Result<&'w [String]> {
     if words.len() < 3 {
         return Err(wrong());
     }

@@ -1,14 +1,102 @@
-//! Worked rows of the solver and of the program: small instances with answers that were computed by
-//! hand, from bytes to bytes and with real files, and sinks that fail.
+//! Rows of the solver and of the program: the commands of a script, each printed with what came of it below,
+//! on lines that begin with two blanks. A line without words, or with `#` as the first, is only printed. In
+//! texts a bar stands for a line feed and a tilde for the byte 1.
+//!
+//! - `file NAME FLEET CAPACITY LINES` writes an instance, and `show NAME` prints a file's text;
+//! - `run WORDS` runs the program, and prints its status and both streams; `streams WORDS` says only whether
+//!   a stream is empty;
+//! - `solve NAME OPTIONS` solves an instance and checks what was written: the line printed depends on how
+//!   far the bound came, so that it is held against the cost and the bound written;
+//! - `bound NAME` prints a certificate's bound and leaves, of which `bound NAME MOST` says only that they
+//!   are so many at most;
+//! - `library NAME OPTION NUMBER` calls the library with one setting, or with the most `leaves` to close;
+//! - `job WORDS` prints what the words ask for, and `unheard KIND` what is said where they can't be had;
+//! - `sinks WHICH NAME` tries sinks that fail or take little.
 #![tactic(auto)]
 
-#[cfg(test)]
-mod closed_rows;
-#[cfg(test)]
-mod program;
-#[cfg(test)]
-mod shared;
-#[cfg(test)]
+mod answers;
+mod bounds;
+mod jobs;
+mod library;
+mod runs;
 mod sinks;
-#[cfg(test)]
-mod solver;
+mod texts;
+
+use crate::answers::tell_solving;
+use crate::bounds::tell_bound;
+use crate::jobs::{tell_job, tell_unheard};
+use crate::library::tell_library;
+use crate::runs::{tell_run, tell_streams};
+use crate::sinks::tell_sinks;
+use crate::texts::{tell_file, write_file};
+use std::io;
+use std::rt::Runtime;
+use std::sync::Wait;
+use std::thread::Threads;
+
+/// Does what a command of one word asks for, and says whether it was understood.
+fn tell_one<R: Runtime + AllocGlobal>(rt: &R, command: &str, rest: &[&str]) -> io::Result<bool> {
+    let [word] = rest else {
+        return Ok(false);
+    };
+    match command {
+        "show" => tell_file(rt, word),
+        "unheard" => tell_unheard(rt, word),
+        _ => Ok(false),
+    }
+}
+
+/// Does what a command that starts no thread asks for, and says whether it was understood.
+fn obey_alone<R: Runtime + AllocGlobal>(rt: &R, command: &str, rest: &[&str]) -> io::Result<bool> {
+    match command {
+        "#" => Ok(true),
+        "file" => write_file(rt, rest),
+        "bound" => tell_bound(rt, rest),
+        "job" => tell_job(rt, rest),
+        _ => tell_one(rt, command, rest),
+    }
+}
+
+/// Does what a command asks for, and says whether it was understood.
+fn obey<R: Runtime + AllocGlobal + Threads + Wait + Sync>(
+    rt: &R,
+    command: &str,
+    rest: &[&str],
+) -> io::Result<bool> {
+    match command {
+        "run" => tell_run(rt, rest),
+        "streams" => tell_streams(rt, rest),
+        "solve" => tell_solving(rt, rest),
+        "library" => tell_library(rt, rest),
+        "sinks" => tell_sinks(rt, rest),
+        _ => obey_alone(rt, command, rest),
+    }
+}
+
+/// Prints a line of the script, and what comes of it.
+fn tell_line<R: Runtime + AllocGlobal + Threads + Wait + Sync>(
+    rt: &R,
+    line: &str,
+) -> io::Result<()> {
+    rt.println(line)?;
+    let words: Vec<&str> = line.split_whitespace().collect(rt.alloc())?;
+    let [command, rest @ ..] = words.as_slice() else {
+        return Ok(());
+    };
+    if obey(rt, command, rest)? {
+        return Ok(());
+    }
+    rt.println("  not understood")
+}
+
+/// Prints the lines of a script, and what comes of each command, or that it isn't understood. Files are
+/// written into the folder that the program runs in.
+pub fn tell_rows<R: Runtime + AllocGlobal + Threads + Wait + Sync>(
+    rt: &R,
+    script: &str,
+) -> io::Result<()> {
+    for line in script.lines() {
+        tell_line(rt, line)?;
+    }
+    Ok(())
+}

@@ -2,36 +2,47 @@
 
 ghost use Rattle.std.specs.Prelude.{◌+◌, length, Some};
 
-use crate::shared::solve_text;
-use certificate::read;
+use crate::bounds::bound_of;
 use http_server::Log;
-use row_texts::two_in_line;
 use std::alloc::Global;
+use std::rt::Runtime;
 use std::sync::Wait;
-use std::test::Fail;
 use std::thread::Threads;
+use std::{fs, io};
 use tenths::{MemorySink, Sink, SinkFault};
-use vrptw::{Answer, Settings, SolveFault};
+use vrptw::{Answer, NoGate, Settings, SolveFault, solve};
 
-/// A sink that takes a number of writes, and then fails.
+/// A sink that takes a number of writes, and then fails. It may take one byte at a time.
 #[derive(Drop)]
-struct FailingSink {
+pub struct Tight {
     inner: MemorySink,
     left: usize,
+    drips: bool,
     failed: Log<(), ()>,
 }
 
-impl FailingSink {
-    fn new(alloc: Global, left: usize) -> FailingSink {
-        FailingSink {
+impl Tight {
+    fn new(alloc: Global, left: usize, drips: bool) -> Tight {
+        Tight {
             inner: MemorySink::new(alloc),
             left,
+            drips,
             failed: Log::new(),
         }
     }
+
+    /// A sink that takes all that is written to it.
+    pub fn open(alloc: Global) -> Tight {
+        Tight::new(alloc, usize::MAX, false)
+    }
+
+    /// The bytes taken so far.
+    pub fn as_slice(&self) -> &[u8] {
+        self.inner.as_slice()
+    }
 }
 
-impl Sink for FailingSink {
+impl Sink for Tight {
     ghost taken = { λ s. Some s.inner.0 };
 
     ghost failures = { λ s. s.inner.1 + length s.failed.items };
@@ -42,32 +53,36 @@ impl Sink for FailingSink {
             return Err(SinkFault);
         }
         self.left -= 1;
-        self.inner.write(bytes)
-    }
-}
-
-/// A sink that takes one byte at a time.
-#[derive(Drop)]
-struct DrippingSink {
-    inner: MemorySink,
-}
-
-impl Sink for DrippingSink {
-    ghost taken = { λ s. Some s.inner.0 };
-
-    ghost failures = { λ s. s.inner.1 };
-
-    fn write(&mut self, bytes: &[u8]) -> Result<usize, SinkFault> {
-        if bytes.len() > 1 {
+        if self.drips && bytes.len() > 1 {
             return self.inner.write(&bytes[..1]);
         }
         self.inner.write(bytes)
     }
 }
 
+/// The answer of the solver for a text.
+pub fn solve_text<R: Runtime + AllocGlobal + Threads + Wait + Sync>(
+    rt: &R,
+    text: &[u8],
+    settings: &Settings,
+    solution: &mut Tight,
+    certificate: &mut Tight,
+) -> Result<Answer, SolveFault> {
+    solve(
+        rt,
+        rt.alloc(),
+        text,
+        settings,
+        &NoGate,
+        solution,
+        certificate,
+    )
+}
+
+/// The solution of two customers on a line, with a vehicle for each.
 const SOLUTION: &[u8] = b"Route #1: 2\nRoute #2: 1\nCost 30.0\n";
 
-/// How the certificate begins, whatever the workers do.
+/// How their certificate begins, whatever the workers do.
 const HEAD: &[u8] = b"VRPTW-CERT 2\nINSTANCE T\nCUSTOMERS 2\nNEIGHBOURS 8\n";
 
 /// With so many writes both texts are whole, and with so few neither.
@@ -75,105 +90,104 @@ const MANY_WRITES: usize = 200;
 
 const FEW_WRITES: usize = 3;
 
-/// The answer where the first sink fails after so many writes, whether that holds a beginning that isn't
-/// the whole text, and whether the second stays empty.
-fn first_fails<R: AllocGlobal + Threads + Wait + Sync>(
+/// Whether both texts are whole.
+fn are_whole(alloc: Global, solution: &[u8], certificate: &[u8]) -> bool {
+    let has_head = certificate.starts_with(HEAD);
+    solution == SOLUTION && has_head && bound_of(alloc, certificate).is_some()
+}
+
+/// Whether the texts are what may stand where the first sink failed, or else the second.
+fn are_cut(alloc: Global, is_first: bool, solution: &[u8], certificate: &[u8]) -> bool {
+    if is_first {
+        let begins = SOLUTION.starts_with(solution) && solution.len() < SOLUTION.len();
+        return begins && certificate.is_empty();
+    }
+    let begins = HEAD.starts_with(certificate) || certificate.starts_with(HEAD);
+    solution == SOLUTION && begins && bound_of(alloc, certificate).is_none()
+}
+
+/// Whether these sinks hold both texts in the end, or else what may stand where the first failed, or else the
+/// second; none where they hold neither.
+fn ends_whole<R: Runtime + AllocGlobal + Threads + Wait + Sync>(
     rt: &R,
-    text: &str,
-    left: usize,
-) -> (Result<Answer, SolveFault>, bool, bool) {
-    let mut solution = FailingSink::new(rt.alloc(), left);
-    let mut certificate = MemorySink::new(rt.alloc());
+    text: &[u8],
+    is_first: bool,
+    mut first: Tight,
+    mut second: Tight,
+) -> Option<bool> {
     let settings = Settings::default();
-    let answer = solve_text(rt, text, &settings, &mut solution, &mut certificate);
-    let written = solution.inner.as_slice();
-    let is_part = SOLUTION.starts_with(written) && written.len() < SOLUTION.len();
-    (answer, is_part, certificate.as_slice().is_empty())
+    let answer = solve_text(rt, text, &settings, &mut first, &mut second);
+    let (solution, certificate) = (first.as_slice(), second.as_slice());
+    let (is_right, is_whole) = match answer {
+        Ok(_) => (are_whole(rt.alloc(), solution, certificate), true),
+        Err(SolveFault::Device) => (are_cut(rt.alloc(), is_first, solution, certificate), false),
+        Err(_) => (false, false),
+    };
+    if is_right { Some(is_whole) } else { None }
 }
 
-#[test]
-fn a_first_sink_that_fails_at_any_write_leaves_the_second_empty(
-    rt: HostRuntime,
-) -> Result<(), Fail> {
-    let text = two_in_line(rt.alloc())?;
-    for left in 0..MANY_WRITES {
-        let told = first_fails(&rt, text.as_str(), left);
-        if told.0.is_ok() {
-            assert!(rt; left > FEW_WRITES, "{left} writes");
-            return Ok(());
-        }
-        assert_eq!(rt;
-            told,
-            (Err(SolveFault::Device), true, true),
-            "{left} writes"
-        );
-    }
-    Err(Fail::from("a solution of many writes"))
-}
-
-/// The answer where the second sink fails after so many writes, whether the first holds the whole text,
-/// and whether the second holds a beginning that isn't a certificate.
-fn second_fails<R: AllocGlobal + Threads + Wait + Sync>(
+/// Whether a sink that fails at any write leaves what may stand there, and one that takes many writes
+/// doesn't fail.
+fn fails_well<R: Runtime + AllocGlobal + Threads + Wait + Sync>(
     rt: &R,
-    text: &str,
-    left: usize,
-) -> (Result<Answer, SolveFault>, bool, bool) {
-    let mut solution = MemorySink::new(rt.alloc());
-    let mut certificate = FailingSink::new(rt.alloc(), left);
-    let settings = Settings::default();
-    let answer = solve_text(rt, text, &settings, &mut solution, &mut certificate);
-    let written = certificate.inner.as_slice();
-    let begins = HEAD.starts_with(written) || written.starts_with(HEAD);
-    let is_part = begins && read(rt.alloc(), written).is_err();
-    (answer, solution.as_slice() == SOLUTION, is_part)
-}
-
-#[test]
-fn a_second_sink_that_fails_at_any_write_holds_a_beginning(rt: HostRuntime) -> Result<(), Fail> {
-    let text = two_in_line(rt.alloc())?;
+    text: &[u8],
+    is_first: bool,
+) -> bool {
     for left in 0..MANY_WRITES {
-        let told = second_fails(&rt, text.as_str(), left);
-        if told.0.is_ok() {
-            assert!(rt; left > FEW_WRITES, "{left} writes");
-            return Ok(());
+        let failing = Tight::new(rt.alloc(), left, false);
+        let open = Tight::open(rt.alloc());
+        let (first, second) = if is_first {
+            (failing, open)
+        } else {
+            (open, failing)
+        };
+        match ends_whole(rt, text, is_first, first, second) {
+            Some(false) => {}
+            Some(true) => return left > FEW_WRITES,
+            None => return false,
         }
-        assert_eq!(rt;
-            told,
-            (Err(SolveFault::Device), true, true),
-            "{left} writes"
-        );
     }
-    Err(Fail::from("a certificate of many writes"))
+    false
 }
 
-/// How many neighbours a certificate has that begins as expected, if it is one.
-fn neighbours_in(alloc: Global, text: &[u8]) -> Option<u32> {
-    let cert = read(alloc, text).ok()?;
-    if text.starts_with(HEAD) {
-        return Some(cert.parts().neighbours);
-    }
-    None
+/// Whether bytes that are taken one at a time make both texts.
+fn drips_well<R: Runtime + AllocGlobal + Threads + Wait + Sync>(rt: &R, text: &[u8]) -> bool {
+    let first = Tight::new(rt.alloc(), usize::MAX, true);
+    let second = Tight::new(rt.alloc(), usize::MAX, true);
+    ends_whole(rt, text, true, first, second) == Some(true)
 }
 
-#[test]
-fn bytes_taken_one_at_a_time_make_both_texts(rt: HostRuntime) -> Result<(), Fail> {
-    let text = two_in_line(rt.alloc())?;
-    let mut solution = DrippingSink {
-        inner: MemorySink::new(rt.alloc()),
+/// Whether the sinks that a word names do as they should.
+fn does_well<R: Runtime + AllocGlobal + Threads + Wait + Sync>(
+    rt: &R,
+    which: &str,
+    text: &[u8],
+) -> Option<bool> {
+    match which {
+        "first" => Some(fails_well(rt, text, true)),
+        "second" => Some(fails_well(rt, text, false)),
+        "dripping" => Some(drips_well(rt, text)),
+        _ => None,
+    }
+}
+
+/// Prints whether the sinks that the first word names do as they should, where the instance of the second
+/// is solved, and says whether the words were understood.
+pub fn tell_sinks<R: Runtime + AllocGlobal + Threads + Wait + Sync>(
+    rt: &R,
+    words: &[&str],
+) -> io::Result<bool> {
+    let [which, path] = words else {
+        return Ok(false);
     };
-    let mut certificate = DrippingSink {
-        inner: MemorySink::new(rt.alloc()),
+    let text = fs::read(rt, path)?;
+    let Some(is_right) = does_well(rt, which, text.as_slice()) else {
+        return Ok(false);
     };
-    let settings = Settings::default();
-    let answer = solve_text(
-        &rt,
-        text.as_str(),
-        &settings,
-        &mut solution,
-        &mut certificate,
-    );
-    let neighbours = neighbours_in(rt.alloc(), certificate.inner.as_slice());
-    let told = (answer.is_ok(), solution.inner.as_slice(), neighbours);
-    assert_eq!(rt; told, (true, SOLUTION, Some(8)));
-    Ok(())
+    rt.println(if is_right {
+        "  holds"
+    } else {
+        "  doesn't hold"
+    })?;
+    Ok(true)
 }
