@@ -202,7 +202,9 @@ fn best_of_all<R: Host + Threads>(
 
 /// Prints the microseconds of the best moves in one thread and in several, which find the same changes.
 fn tell_best<R: Host + Threads>(rt: &R, plan: &Feasible<'_>, times: bool) -> io::Result<()> {
-    let trees = made(trees_of(rt.alloc(), plan).ok())?;
+    let Ok(trees) = trees_of(rt.alloc(), plan) else {
+        return Err(wrong());
+    };
     let (one, alone) = best_of_all(rt, &trees, false)?;
     let (other, parallel) = best_of_all(rt, &trees, true)?;
     if one != other {
