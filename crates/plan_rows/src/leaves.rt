@@ -125,33 +125,51 @@ fn are_same(leaf: &Priced<'_>, other: &Priced<'_>) -> bool {
         && leaf.least().route.as_slice() == other.least().route.as_slice()
 }
 
+/// Whether a copy of a leaf is the same.
+fn is_copied(leaf: &Priced<'_>) -> Option<bool> {
+    let copy = leaf.try_clone().ok()?;
+    Some(are_same(&copy, leaf))
+}
+
+/// A leaf behind what was told before it, with its least reduced cost, if a copy is the same.
+fn told_behind(alloc: Global, before: String, leaf: &Priced<'_>) -> Option<String> {
+    if !is_copied(leaf)? {
+        return told(alloc, "copied otherwise");
+    }
+    let text = then(before, "\n", told_value(alloc, leaf)?.as_str())?;
+    then(text, "\n", told_cost(alloc, leaf.least().value)?.as_str())
+}
+
+/// What steps make of a leaf.
+fn told_improved(alloc: Global, leaf: Priced<'_>, steps: &[i64]) -> Option<String> {
+    let before = told_value(alloc, &leaf)?;
+    let better = improve(alloc, leaf, steps, None);
+    told_behind(alloc, before, &better)
+}
+
 /// What steps make of the prices of a command: the leaf before them and behind them, and its least reduced
 /// cost, if a copy is the same.
 pub(crate) fn told_steps(alloc: Global, instance: &Instance, words: &[&str]) -> Option<String> {
     let steps = amounts_of(alloc, words.get(4)?)?;
     let leaf = leaf_by(alloc, instance, words.get(..4)?)?.ok()?;
-    let text = told_value(alloc, &leaf)?;
-    let leaf = improve(alloc, leaf, steps.as_slice(), None);
-    let text = then(text, "\n", told_value(alloc, &leaf)?.as_str())?;
-    if !are_same(&leaf.try_clone().ok()?, &leaf) {
-        return told(alloc, "copied otherwise");
-    }
-    then(text, "\n", told_cost(alloc, leaf.least().value)?.as_str())
+    told_improved(alloc, leaf, steps.as_slice())
+}
+
+/// A copy of the root's region.
+fn root_of(alloc: Global, instance: &Instance) -> Option<Region> {
+    let leaf = Priced::root(alloc, instance, 8, None).ok()?;
+    leaf.region().try_clone().ok()
 }
 
 /// Whether a copy of the root's region allows an arc.
 pub(crate) fn told_allowed(alloc: Global, instance: &Instance, words: &[&str]) -> Option<String> {
     let (from, to) = pair_of(words.get(1)?)?;
-    let leaf = Priced::root(alloc, instance, 8, None).ok()?;
-    let root = leaf.region().try_clone().ok()?;
-    let text = named(alloc, "customers", &[Some(i64::from(root.size()))])?;
+    let root = root_of(alloc, instance)?;
+    let (size, is_allowed) = (i64::from(root.size()), root.allows(from, to));
+    let text = named(alloc, "customers", &[Some(size)])?;
     then(
         text,
         " ",
-        if root.allows(from, to) {
-            "allowed"
-        } else {
-            "not allowed"
-        },
+        if is_allowed { "allowed" } else { "not allowed" },
     )
 }
