@@ -1,15 +1,14 @@
 //! Sinks that fail, and sinks that take little at a time.
 
-ghost use Rattle.std.specs.Prelude.{◌+◌, length, Some};
+ghost use Rattle.std.specs.Prelude.{◌+◌, Some};
 
 use crate::bounds::bound_of;
-use http_server::Log;
 use std::alloc::Global;
 use std::rt::Runtime;
 use std::sync::Wait;
 use std::thread::Threads;
 use std::{fs, io};
-use tenths::{MemorySink, Sink, SinkFault};
+use tenths::{FailureCount, MemorySink, Sink, SinkFault};
 use vrptw::{Answer, NoGate, Settings, SolveFault, solve};
 
 /// A sink that takes a number of writes, and then fails. It may take one byte at a time.
@@ -18,7 +17,7 @@ pub struct Tight {
     inner: MemorySink,
     left: usize,
     drips: bool,
-    failed: Log<(), ()>,
+    failed: FailureCount,
 }
 
 impl Tight {
@@ -27,7 +26,7 @@ impl Tight {
             inner: MemorySink::new(alloc),
             left,
             drips,
-            failed: Log::new(),
+            failed: FailureCount::none(),
         }
     }
 
@@ -45,11 +44,11 @@ impl Tight {
 impl Sink for Tight {
     ghost taken = { λ s. Some s.inner.0 };
 
-    ghost failures = { λ s. s.inner.1 + length s.failed.items };
+    ghost failures = { λ s. s.inner.1 + s.failed.count };
 
     fn write(&mut self, bytes: &[u8]) -> Result<usize, SinkFault> {
         if self.left == 0 {
-            self.failed = self.failed.and(&(), &());
+            self.failed = self.failed.and_one();
             return Err(SinkFault);
         }
         self.left -= 1;

@@ -2,6 +2,7 @@
 //! parts, with the numbers in them.
 #![tactic(auto)]
 
+mod failure_count;
 mod laws;
 mod lines;
 mod numbers;
@@ -13,6 +14,7 @@ mod table;
 mod value;
 mod writing;
 
+pub use failure_count::FailureCount;
 pub use laws::one_text_each;
 pub use lines::Lines;
 pub use numbers::{NUMBER_CAP, number, read_tenths, signed};

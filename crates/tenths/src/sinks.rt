@@ -1,9 +1,9 @@
 //! A sink in memory, and one over a writer of the standard library.
 
-ghost use Rattle.std.specs.Prelude.{◌≡◌, ◌+◌, [], length, Some};
+ghost use Rattle.std.specs.Prelude.{◌≡◌, ◌+◌, [], Some};
 
+use crate::failure_count::FailureCount;
 use crate::sink::{Sink, SinkFault};
-use http_server::Log;
 use std::alloc::Global;
 use std::io::Write;
 use std::marker::Model;
@@ -12,15 +12,15 @@ use std::marker::Model;
 #[derive(Drop)]
 pub struct MemorySink {
     bytes: Vec<u8>,
-    failed: Log<(), ()>,
+    failed: FailureCount,
 }
 
 impl Model for MemorySink {
-    ghost use Rattle.std.specs.Prelude.{ℕ, List, length};
+    ghost use Rattle.std.specs.Prelude.{ℕ, List};
 
     ghost Value = { List ℕ × ℕ };
 
-    ghost view = { λ s. (s.bytes.items, length s.failed.items) };
+    ghost view = { λ s. (s.bytes.items, s.failed.count) };
 }
 
 impl MemorySink {
@@ -30,7 +30,7 @@ impl MemorySink {
     {
         MemorySink {
             bytes: Vec::new(alloc),
-            failed: Log::new(),
+            failed: FailureCount::none(),
         }
     }
 
@@ -50,7 +50,7 @@ impl Sink for MemorySink {
     /// Refused where memory is.
     fn write(&mut self, bytes: &[u8]) -> Result<usize, SinkFault> {
         if self.bytes.extend_from_slice(bytes).is_err() {
-            self.failed = self.failed.and(&(), &());
+            self.failed = self.failed.and_one();
             return Err(SinkFault);
         }
         Ok(bytes.len())
@@ -61,15 +61,15 @@ impl Sink for MemorySink {
 #[derive(Drop)]
 pub struct StdSink<W: Write> {
     inner: W,
-    failed: Log<(), ()>,
+    failed: FailureCount,
 }
 
 impl<W: Write> Model for StdSink<W> {
-    ghost use Rattle.std.specs.Prelude.{ℕ, length};
+    ghost use Rattle.std.specs.Prelude.{ℕ};
 
     ghost Value = { W × ℕ };
 
-    ghost view = { λ s. (s.inner, length s.failed.items) };
+    ghost view = { λ s. (s.inner, s.failed.count) };
 }
 
 impl<W: Write> StdSink<W> {
@@ -79,7 +79,7 @@ impl<W: Write> StdSink<W> {
     {
         StdSink {
             inner,
-            failed: Log::new(),
+            failed: FailureCount::none(),
         }
     }
 }
@@ -93,7 +93,7 @@ impl<W: Write> Sink for StdSink<W> {
         match self.inner.write(bytes) {
             Ok(count) if 0 < count || bytes.is_empty() => Ok(count),
             _ => {
-                self.failed = self.failed.and(&(), &());
+                self.failed = self.failed.and_one();
                 Err(SinkFault)
             }
         }
