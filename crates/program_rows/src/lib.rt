@@ -11,11 +11,14 @@
 //!   are so many at most;
 //! - `library NAME OPTION NUMBER` calls the library with one setting, or with the most `leaves` to close;
 //! - `job WORDS` prints what the words ask for, and `unheard KIND` what is said where they can't be had;
-//! - `sinks WHICH NAME` tries sinks that fail or take little.
+//! - `sinks WHICH NAME` tries sinks that fail or take little;
+//! - `held NAME` solves an instance while each of four workers is held at each of seven points of its turns,
+//!   until the others have ended theirs, and prints the costs that the checker accepts.
 #![tactic(auto)]
 
 mod answers;
 mod bounds;
+mod held;
 mod jobs;
 mod library;
 mod runs;
@@ -24,6 +27,7 @@ mod texts;
 
 use crate::answers::tell_solving;
 use crate::bounds::tell_bound;
+use crate::held::tell_held;
 use crate::jobs::{tell_job, tell_unheard};
 use crate::library::tell_library;
 use crate::runs::{tell_run, tell_streams};
@@ -69,6 +73,7 @@ fn obey<R: Runtime + AllocGlobal + Threads + Wait + Sync>(
         "solve" => tell_solving(rt, rest),
         "library" => tell_library(rt, rest),
         "sinks" => tell_sinks(rt, rest),
+        "held" => tell_held(rt, rest),
         _ => obey_alone(rt, command, rest),
     }
 }

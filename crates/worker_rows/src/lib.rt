@@ -1,5 +1,5 @@
-//! Worked rows of the book, alone and at a desk, and of the workers: over fakes in place of the book, and
-//! in threads that are held at the points of their turns.
+//! Worked rows of what threads share without a lock, of the book, alone and at a desk, and of the workers:
+//! over fakes in place of the book, and in threads that meet at the points of their turns.
 #![tactic(auto)]
 
 #[cfg(test)]
@@ -7,9 +7,9 @@ mod asked;
 #[cfg(test)]
 mod bounds;
 #[cfg(test)]
-mod fake;
+mod deques;
 #[cfg(test)]
-mod held;
+mod fake;
 #[cfg(test)]
 mod limits;
 #[cfg(test)]
@@ -18,6 +18,8 @@ mod meeting;
 mod offers;
 #[cfg(test)]
 mod plans;
+#[cfg(test)]
+mod seats;
 #[cfg(test)]
 mod shares;
 #[cfg(test)]

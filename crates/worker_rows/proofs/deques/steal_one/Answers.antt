@@ -1,4 +1,4 @@
-use Rattle.thread_rows.proofs.deques.steal_one.Goals as goal
+use Rattle.worker_rows.proofs.deques.steal_one.Goals as goal
 
 pub returns-in-One : goal.returns-in-One
 returns-in-One c = c.steal.ensures.same _ c.loop.invariant

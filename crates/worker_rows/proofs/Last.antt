@@ -1,12 +1,12 @@
 -- The last deque of a pool, with its two ends.
-use Rattle.std.proofs.Common.{◌≡◌, ◌∙◌, ◌+◌, List, [], ◌∷◌, ◌++◌, length, refl, sym, ap, subst, length-append, arith}
+use Rattle.std.proofs.Common.{◌≡◌, ◌∙◌, List, [], ◌∷◌, ◌++◌, length, refl, sym, ap, subst, length-append, arith}
 use Rattle.std.specs.Prelude.{map}
 use Rattle.std.specs.List.{All}
 use Rattle.std.proofs.lemmas.List.{get_or_push, map_push, same_from_push}
 use Rattle.node_pool.specs.declared.hand.Hand.{Hand}
 use Rattle.node_pool.specs.declared.thief.Thief.{Thief}
 use Rattle.node_pool.specs.declared.pass.Pass.{Pass}
-use Rattle.node_pool.specs.Deques.{Deque, FitsAt, IsFresh}
+use Rattle.node_pool.specs.Deques.{FitsAt, IsFresh}
 use Rattle.node_pool.specs.Ends.{deque_at, deque_of, deques_at, deques_of}
 
 -- both last ends are of one deque

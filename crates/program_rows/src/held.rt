@@ -1,16 +1,15 @@
-//! Each worker is held at each point until all others have ended their third turns; what is written
+//! Workers that are held: one at a point of its turns, until all others have ended theirs. What is written
 //! then is accepted by the checker.
 
 use checker::{Verdict, check};
-use row_texts::{three_apart, two_in_line};
-use search_workers::{Gate, GatePoint, Settings};
+use std::rt::Runtime;
 use std::sync::Wait;
 use std::sync::atomic::{AtomicBool, AtomicUsize, Ordering};
-use std::test::Fail;
 use std::thread::{self, Threads};
 use std::time::{Clock, Duration};
+use std::{fs, io};
 use tenths::MemorySink;
-use vrptw::{Answer, solve};
+use vrptw::{Gate, GatePoint, Settings, solve};
 
 /// How often a held worker looks.
 const LOOKS: u32 = 10_000;
@@ -20,6 +19,9 @@ const WORKERS: u16 = 4;
 
 /// The turns of each.
 const TURNS: u32 = 3;
+
+/// The most pairs that a check may keep.
+const STATES: usize = 1_000_000;
 
 /// All points of a turn.
 const POINTS: [GatePoint; 7] = [
@@ -70,13 +72,22 @@ impl<'a, R: Clock> Gate for Hold<'a, R> {
     }
 }
 
-/// Solves while a worker is held at a point, and has the texts checked: the cost and bound.
-fn solve_held<R: AllocGlobal + Threads + Wait + Clock + Sync>(
+/// The cost in tenths of a verdict with a plan.
+fn cost_of(verdict: Verdict) -> Option<u64> {
+    match verdict {
+        Verdict::Best { cost } | Verdict::Gap { cost, .. } => Some(cost.get()),
+        _ => None,
+    }
+}
+
+/// Solves while a worker is held at a point, and has both texts checked: the cost in tenths, or none where
+/// they aren't accepted.
+fn cost_held<R: Runtime + AllocGlobal + Threads + Wait + Sync>(
     rt: &R,
-    text: &str,
+    text: &[u8],
     worker: u16,
     point: GatePoint,
-) -> Result<Verdict, Fail> {
+) -> Option<u64> {
     let gate = Hold {
         rt,
         worker,
@@ -88,52 +99,49 @@ fn solve_held<R: AllocGlobal + Threads + Wait + Clock + Sync>(
         turns: TURNS,
         ..Settings::default()
     };
-    let mut solution = MemorySink::new(rt.alloc());
-    let mut certificate = MemorySink::new(rt.alloc());
-    let answer = solve(
+    let mut first = MemorySink::new(rt.alloc());
+    let mut second = MemorySink::new(rt.alloc());
+    solve(
         rt,
         rt.alloc(),
-        text.as_bytes(),
+        text,
         &settings,
         &gate,
-        &mut solution,
-        &mut certificate,
-    );
-    if answer.is_err() {
-        return Err(Fail::from("no answer"));
-    }
-    match check(
-        rt.alloc(),
-        text.as_bytes(),
-        certificate.as_slice(),
-        Some(solution.as_slice()),
-        1_000_000,
-    ) {
-        Ok(verdict) => Ok(verdict),
-        Err(_) => Err(Fail::from("refused by the checker")),
-    }
+        &mut first,
+        &mut second,
+    )
+    .ok()?;
+    let (plan, certificate) = (Some(first.as_slice()), second.as_slice());
+    cost_of(check(rt.alloc(), text, certificate, plan, STATES).ok()?)
 }
 
-/// The cost of a verdict with a plan, in tenths.
-fn cost_of(verdict: Verdict) -> Option<u64> {
-    match verdict {
-        Verdict::Best { cost } | Verdict::Gap { cost, .. } => Some(cost.get()),
-        _ => None,
-    }
-}
-
-#[test]
-fn a_held_worker_spoils_nothing(rt: HostRuntime) -> Result<(), Fail> {
-    for (text, cost) in [
-        (two_in_line(rt.alloc())?, 300),
-        (three_apart(rt.alloc())?, 4010),
-    ] {
-        for worker in 0..WORKERS {
-            for point in POINTS {
-                let verdict = solve_held(&rt, text.as_str(), worker, point)?;
-                assert!(rt; cost_of(verdict) == Some(cost), "{worker} {point:?}");
-            }
+/// Prints the costs where a worker is held at each of the points.
+fn tell_worker<R: Runtime + AllocGlobal + Threads + Wait + Sync>(
+    rt: &R,
+    text: &[u8],
+    worker: u16,
+) -> io::Result<()> {
+    print!(rt; "  worker {worker}")?;
+    for point in POINTS {
+        match cost_held(rt, text, worker, point) {
+            Some(cost) => print!(rt; " {cost}")?,
+            None => print!(rt; " refused")?,
         }
     }
-    Ok(())
+    println!(rt; "")
+}
+
+/// Solves the instance of a file while each worker is held at each point, and prints the costs in tenths.
+pub fn tell_held<R: Runtime + AllocGlobal + Threads + Wait + Sync>(
+    rt: &R,
+    words: &[&str],
+) -> io::Result<bool> {
+    let [path] = words else {
+        return Ok(false);
+    };
+    let text = fs::read(rt, path)?;
+    for worker in 0..WORKERS {
+        tell_worker(rt, text.as_slice(), worker)?;
+    }
+    Ok(true)
 }

@@ -127,49 +127,72 @@ fn stands_with(alloc: Global, hand: Hand, first: Pass, second: Pass) -> Result<V
     }
 }
 
+/// Whether a number is refused, since the deque had as many as it takes.
+fn is_full(hand: &mut Hand, number: u32) -> bool
+    ensures { deque_of hand.new ≡ deque_of hand.old }
+{
+    hand.push(number) == Err((number, PoolFault::Full))
+}
+
+/// Pushes 7, 8 and 9, and is refused 10.
+fn is_filled(hand: &mut Hand) -> bool
+    ensures { deque_of hand.new ≡ deque_of hand.old }
+{
+    let pushed = [hand.push(7), hand.push(8), hand.push(9)];
+    pushed == [Ok(()), Ok(()), Ok(())] && is_full(hand, 10)
+}
+
+/// Whether all numbers are gone, for the hand, the thief and the audit, and none can be pushed.
+fn is_done(
+    alloc: Global,
+    mut hand: Hand,
+    thief: &Thief,
+    mut first: Pass,
+    second: Pass,
+) -> Result<bool, Fail>
+    requires thief { deque_at thief.now ≡ deque_of hand }
+    requires first { FitsAt (deque_at thief.now) first }
+    requires second { FitsAt (deque_at thief.now) second }
+{
+    let is_empty = hand.pop().is_none() && thief.steal(&mut first) == Stolen::Empty;
+    let is_full = is_full(&mut hand, 11);
+    let stands = stands_with(alloc, hand, first, second)?;
+    Ok(is_empty && is_full && stands.is_empty())
+}
+
 #[test]
 fn each_number_is_taken_once(rt: HostRuntime) -> Result<(), Fail> {
     let (mut hand, thief, first, second) = ends(rt.alloc())?;
-    assert_eq!(rt; hand.push(7), Ok(()));
-    assert_eq!(rt; hand.push(8), Ok(()));
-    assert_eq!(rt; hand.push(9), Ok(()));
-    assert_eq!(rt; hand.push(10), Err((10, PoolFault::Full)));
-    let ((mut hand, popped), ((mut first, one), (second, other))) = take_three(
+    let is_filled = is_filled(&mut hand);
+    let ((hand, popped), ((first, one), (second, other))) = take_three(
         &rt, hand, &thief, first, second,
     );
     let mut taken = [popped, one, other];
     taken.sort_unstable();
-    assert_eq!(rt; taken, [Some(7), Some(8), Some(9)]);
-    assert_eq!(rt; hand.pop(), None);
-    assert_eq!(rt; thief.steal(&mut first), Stolen::Empty);
-    assert_eq!(rt; hand.push(11), Err((11, PoolFault::Full)));
-    let stands = stands_with(rt.alloc(), hand, first, second)?;
-    assert_eq!(rt; stands.len(), 0);
+    let is_done = is_done(rt.alloc(), hand, &thief, first, second)?;
+    assert!(rt; is_filled && is_done && taken == [Some(7), Some(8), Some(9)]);
     Ok(())
 }
 
 #[test]
 fn what_stands_is_audited(rt: HostRuntime) -> Result<(), Fail> {
     let (mut hand, thief, mut first, second) = ends(rt.alloc())?;
-    assert_eq!(rt; hand.push(4), Ok(()));
-    assert_eq!(rt; hand.push(5), Ok(()));
-    assert_eq!(rt; hand.push(6), Ok(()));
-    assert_eq!(rt; thief.steal(&mut first), Stolen::One(4));
+    let is_filled = is_filled(&mut hand);
+    let stolen = thief.steal(&mut first);
     let stands = stands_with(rt.alloc(), hand, first, second)?;
-    assert_eq!(rt; stands.as_slice(), [5, 6].as_slice());
+    assert!(rt; is_filled && stolen == Stolen::One(7) && stands.as_slice() == [8, 9].as_slice());
     Ok(())
+}
+
+/// Pops what was pushed, and finds no more.
+fn is_emptied(hand: &mut Hand) -> bool {
+    [hand.pop(), hand.pop(), hand.pop(), hand.pop()] == [Some(7), Some(8), Some(9), None]
 }
 
 #[test]
 fn what_was_popped_makes_no_room(rt: HostRuntime) -> Result<(), Fail> {
     let (mut hand, _thief, _first, _second) = ends(rt.alloc())?;
-    for number in [7, 8, 9] {
-        assert_eq!(rt; hand.push(number), Ok(()));
-    }
-    for number in [7, 8, 9] {
-        assert_eq!(rt; hand.pop(), Some(number));
-    }
-    assert_eq!(rt; hand.pop(), None);
-    assert_eq!(rt; hand.push(10), Err((10, PoolFault::Full)));
+    let is_emptied = is_filled(&mut hand) && is_emptied(&mut hand);
+    assert!(rt; is_emptied && is_full(&mut hand, 10));
     Ok(())
 }

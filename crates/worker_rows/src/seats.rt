@@ -1,0 +1,110 @@
+//! Two seats move the words of a ceiling, each from a thread of its own.
+
+ghost use Rattle.std.specs.Prelude.{IfOk};
+ghost use Rattle.ceiling.specs.Seats.{IsSeatOf};
+
+use ceiling::{Ceiling, CeilingFault, CeilingSeat};
+use std::alloc::Global;
+use std::test::Fail;
+use std::thread::{Threads, join};
+
+/// A ceiling of 1001 above 0, and its two seats.
+fn opened(alloc: Global) -> Result<(Ceiling, CeilingSeat, CeilingSeat), Fail>
+    ensures first { IfOk result (λ r. IsSeatOf r.0 r.1) }
+    ensures second { IfOk result (λ r. IsSeatOf r.0 r.2) }
+{
+    let (ceiling, mut seats) = Ceiling::new(alloc, 2, 1001, 0)?;
+    let second = seats.pop().ok_or("two seats")?;
+    let first = seats.pop().ok_or("a seat")?;
+    Ok((ceiling, first, second))
+}
+
+/// What an offer is answered, and the seat.
+fn offer(ceiling: &Ceiling, mut seat: CeilingSeat, cost: u64) -> (u64, CeilingSeat)
+    requires { IsSeatOf ceiling.now seat }
+    ensures { IsSeatOf ceiling.now result.1 }
+{
+    (ceiling.offer(&mut seat, cost), seat)
+}
+
+/// One seat offers 500 while the other offers 450: what each is answered, and the seats.
+fn offer_both<R: Threads + Sync>(
+    rt: &R,
+    ceiling: &Ceiling,
+    first: CeilingSeat,
+    second: CeilingSeat,
+) -> ((u64, CeilingSeat), (u64, CeilingSeat))
+    requires first { IsSeatOf ceiling.now first }
+    requires second { IsSeatOf ceiling.now second }
+    ensures first { IsSeatOf ceiling.now result.0.1 }
+    ensures second { IsSeatOf ceiling.now result.1.1 }
+{
+    join(
+        rt,
+        || -> (u64, CeilingSeat)
+            requires { IsSeatOf ceiling.now first }
+            ensures { IsSeatOf ceiling.entry.now result.1 }
+        { offer(ceiling, first, 500) },
+        || -> (u64, CeilingSeat)
+            requires { IsSeatOf ceiling.now second }
+            ensures { IsSeatOf ceiling.entry.now result.1 }
+        { offer(ceiling, second, 450) },
+    )
+}
+
+/// What closing with both seats tells, after it was refused with one.
+fn closed(
+    alloc: Global,
+    ceiling: Ceiling,
+    first: CeilingSeat,
+    second: CeilingSeat,
+) -> Result<(u64, u64), Fail>
+    requires first { IsSeatOf ceiling first }
+    requires second { IsSeatOf ceiling second }
+{
+    let mut seats = Vec::new(alloc);
+    seats.push(first)?;
+    let Err((ceiling, mut seats, CeilingFault::MissingSeat)) = ceiling.close(seats) else {
+        return Err(Fail::from("closed with one seat"));
+    };
+    seats.push(second)?;
+    match ceiling.close(seats) {
+        Ok(words) => Ok(words),
+        Err(_) => Err(Fail::from("not closed with both seats")),
+    }
+}
+
+#[test]
+fn both_seats_are_told_the_least_cost(rt: HostRuntime) -> Result<(), Fail> {
+    let (ceiling, first, second) = opened(rt.alloc())?;
+    let ((one, mut first), (other, mut second)) = offer_both(&rt, &ceiling, first, second);
+    let later = (ceiling.offer(&mut second, 440), ceiling.cost(&mut first));
+    let closed = closed(rt.alloc(), ceiling, first, second)?;
+    assert!(rt; (one == 500 || one == 450) && other == 450);
+    assert!(rt; later == (440, 440) && closed == (440, 0));
+    Ok(())
+}
+
+/// What both seats are told of the bound while one puts 30 and 20.
+fn raised(ceiling: &Ceiling, first: &mut CeilingSeat, second: &mut CeilingSeat) -> [u64; 4]
+    requires first { IsSeatOf ceiling.now first.old }
+    requires second { IsSeatOf ceiling.now second.old }
+    ensures first { IsSeatOf ceiling.now first.new }
+    ensures second { IsSeatOf ceiling.now second.new }
+{
+    [
+        ceiling.floor(second),
+        ceiling.raise(first, 30),
+        ceiling.raise(first, 20),
+        ceiling.floor(second),
+    ]
+}
+
+#[test]
+fn both_seats_are_told_the_greatest_bound(rt: HostRuntime) -> Result<(), Fail> {
+    let (ceiling, mut first, mut second) = opened(rt.alloc())?;
+    let told = raised(&ceiling, &mut first, &mut second);
+    let closed = closed(rt.alloc(), ceiling, first, second)?;
+    assert!(rt; told == [0, 30, 30, 30] && closed == (1001, 30));
+    Ok(())
+}
