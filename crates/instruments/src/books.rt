@@ -14,13 +14,6 @@ use tenths::MemorySink;
 /// By how many grains the prices of a leaf rise.
 const RISE: i64 = 1_000;
 
-/// The arc by which the nodes of a level are split.
-fn arc_of(level: u32) -> Arc {
-    let from = u16::try_from(level).unwrap_or(0).saturating_add(1);
-    let to = from.saturating_add(1);
-    Arc { from, to }
-}
-
 /// A leaf's prices, each raised, at a region.
 fn raised_at<'i>(alloc: Global, leaf: &Priced<'i>, region: Region, by: i64) -> Option<Priced<'i>> {
     let mut prices = Vec::new(alloc);
@@ -37,14 +30,11 @@ fn raised_at<'i>(alloc: Global, leaf: &Priced<'i>, region: Region, by: i64) -> O
     )
 }
 
-/// The prices of the child of a leaf where an arc is used.
-fn used_of<'i>(alloc: Global, leaf: &Priced<'i>, arc: Arc) -> Option<Priced<'i>> {
-    raised_at(alloc, leaf, leaf.region().used(arc).ok()?, 0)
-}
-
-/// The prices of the child of a leaf where an arc is forbidden.
-fn unused_of<'i>(alloc: Global, leaf: &Priced<'i>, arc: Arc) -> Option<Priced<'i>> {
-    raised_at(alloc, leaf, leaf.region().forbidden(arc).ok()?, 0)
+/// The prices of both children of a leaf by an arc: where it is used, and where it is forbidden.
+fn children_of<'i>(alloc: Global, leaf: &Priced<'i>, arc: Arc) -> Option<(Priced<'i>, Priced<'i>)> {
+    let used = raised_at(alloc, leaf, leaf.region().used(arc).ok()?, 0)?;
+    let unused = raised_at(alloc, leaf, leaf.region().forbidden(arc).ok()?, 0)?;
+    Some((used, unused))
 }
 
 /// A leaf's prices, each raised, at its region.
@@ -53,14 +43,16 @@ fn higher_of<'i>(alloc: Global, leaf: &Priced<'i>) -> Option<Priced<'i>> {
 }
 
 /// Splits a leaf, and answers the nanoseconds of that call. Node m is the one that split m splits, so that
-/// the levels are filled one after the other.
+/// the levels are filled one after the other, each by an arc of its own.
 pub(crate) fn split<R: Host>(rt: &R, book: &mut Book<'_>, number: u32) -> io::Result<u128> {
-    let arc = arc_of(number.saturating_add(1).ilog2());
+    let level = number.saturating_add(1).ilog2();
+    let from = u16::try_from(level).unwrap_or(0).saturating_add(1);
+    let to = from.saturating_add(1);
+    let arc = Arc { from, to };
     let Some(leaf) = book.leaf(number) else {
         return Err(wrong());
     };
-    let used = made(used_of(rt.alloc(), leaf, arc))?;
-    let unused = made(unused_of(rt.alloc(), leaf, arc))?;
+    let (used, unused) = made(children_of(rt.alloc(), leaf, arc))?;
     let begin = Instant::now(rt)?;
     let accepted = book.split(0, number, arc, used, unused).is_ok();
     let nanoseconds = begin.elapsed(rt)?.as_nanos();
@@ -164,18 +156,15 @@ pub(crate) fn tell_book<R: Host>(rt: &R, asked: &Asked<'_>) -> io::Result<()> {
     tell_texts(rt, book, asked.times)
 }
 
-fn node_of(node: TreeNode) -> CertNode {
-    match node {
-        TreeNode::Split(Arc { from, to }) => CertNode::Split { from, to },
-        TreeNode::Leaf(prices) => CertNode::Leaf(prices),
-    }
-}
-
 /// The certificate of an outcome.
 fn cert_of(alloc: Global, outcome: &Outcome<'_>) -> Option<Cert> {
     let mut nodes = Vec::new(alloc);
     for node in outcome.nodes(alloc).ok()? {
-        nodes.push(node_of(node)).ok()?;
+        let same = match node {
+            TreeNode::Split(Arc { from, to }) => CertNode::Split { from, to },
+            TreeNode::Leaf(prices) => CertNode::Leaf(prices),
+        };
+        nodes.push(same).ok()?;
     }
     let parts = CertParts {
         version: Version::Two,

@@ -57,25 +57,26 @@ const CANDIDATE: Move = Move::TwoOptStar {
     },
 };
 
+/// How often each call is made.
+const CALLS: u32 = 2;
+
 /// Prints what became of a call, and a plan.
 fn tell_plan<R: Host>(rt: &R, what: &str, plan: &Feasible<'_>) -> io::Result<()> {
     let (cost, routes) = (plan.cost().get(), plan.routes());
     println!(rt; "{what} {cost} {routes:?}")
 }
 
-/// Builds a plan, and prints what came of it.
-fn build_once<R: Host>(rt: &R, instance: &Instance) -> io::Result<()> {
-    match build(rt.alloc(), instance, &Weights::plain()) {
-        Ok(Built::Whole(plan)) => tell_plan(rt, "Whole", &plan),
-        Ok(Built::Part { .. }) => println!(rt; "Part"),
-        Err(fault) => println!(rt; "{fault}"),
-    }
-}
-
+/// Builds a plan twice, and prints what came of it.
 fn tell_built<R: Host>(rt: &R, instance: &Instance) -> io::Result<()> {
     println!(rt; "ready")?;
-    build_once(rt, instance)?;
-    build_once(rt, instance)
+    for _ in 0..CALLS {
+        match build(rt.alloc(), instance, &Weights::plain()) {
+            Ok(Built::Whole(plan)) => tell_plan(rt, "Whole", &plan)?,
+            Ok(Built::Part { .. }) => println!(rt; "Part")?,
+            Err(fault) => println!(rt; "{fault}")?,
+        }
+    }
+    Ok(())
 }
 
 /// Makes the move and prints what came of it: the plan, if it was refused.
@@ -103,24 +104,25 @@ fn tell_applied<R: Host>(rt: &R, instance: &Instance) -> io::Result<()> {
     Ok(())
 }
 
-/// Descends, and prints what came of it.
-fn descend_once<R: Host>(rt: &R, searcher: &mut PlanSearcher<'_>) -> io::Result<()> {
-    match searcher.descend() {
-        Ok(()) => tell_plan(rt, "Ok", searcher.plan()),
-        Err(fault) => {
-            print!(rt; "{fault} ")?;
-            tell_plan(rt, "held", searcher.plan())
+/// Descends twice, and prints what came of it.
+fn descend_twice<R: Host>(rt: &R, searcher: &mut PlanSearcher<'_>) -> io::Result<()> {
+    for _ in 0..CALLS {
+        match searcher.descend() {
+            Ok(()) => tell_plan(rt, "Ok", searcher.plan())?,
+            Err(fault) => {
+                print!(rt; "{fault} ")?;
+                tell_plan(rt, "held", searcher.plan())?;
+            }
         }
     }
+    Ok(())
 }
 
 /// Descends twice from the plan whose routes cross.
 fn tell_descents<R: Host>(rt: &R, instance: &Instance) -> io::Result<()> {
     let plan = made(plan_at(rt.alloc(), instance, &ROUTES))?;
-    let mut searcher = searcher_of(rt.alloc(), plan);
     println!(rt; "ready")?;
-    descend_once(rt, &mut searcher)?;
-    descend_once(rt, &mut searcher)
+    descend_twice(rt, &mut searcher_of(rt.alloc(), plan))
 }
 
 /// Prices at which a relaxed route that remembers nobody visits the second customer twice.
@@ -175,18 +177,16 @@ const SOLUTION: &[u8] = b"Route #1: 2 1\nRoute #2: 3\nCost 401.0\n";
 /// The most pairs of time and cost of a check.
 const STATES: usize = 1_000_000;
 
-/// Reads the certificate, and prints what came of it.
-fn read_once<R: Host>(rt: &R) -> io::Result<()> {
-    match certificate::read(rt.alloc(), CERTIFICATE) {
-        Ok(cert) => println!(rt; "Ok {cert:?}"),
-        Err(fault) => println!(rt; "{fault}"),
-    }
-}
-
+/// Reads the certificate twice, and prints what came of it.
 fn tell_read<R: Host>(rt: &R) -> io::Result<()> {
     println!(rt; "ready")?;
-    read_once(rt)?;
-    read_once(rt)
+    for _ in 0..CALLS {
+        match certificate::read(rt.alloc(), CERTIFICATE) {
+            Ok(cert) => println!(rt; "Ok {cert:?}")?,
+            Err(fault) => println!(rt; "{fault}")?,
+        }
+    }
+    Ok(())
 }
 
 /// Prints the bytes of a sink as a text in quotes, behind a blank.
@@ -213,37 +213,34 @@ fn tell_written<R: Host>(rt: &R) -> io::Result<()> {
     write_once(rt, &cert)
 }
 
-/// Checks the certificate with its solution, and prints what came of it.
-fn check_once<R: Host>(rt: &R, instance: &[u8]) -> io::Result<()> {
-    match check(rt.alloc(), instance, CERTIFICATE, Some(SOLUTION), STATES) {
-        Ok(verdict) => println!(rt; "Ok {verdict:?}"),
-        Err(fault) => println!(rt; "{fault}"),
+/// Checks the certificate with its solution twice, and prints what came of it.
+fn check_twice<R: Host>(rt: &R, instance: &[u8]) -> io::Result<()> {
+    for _ in 0..CALLS {
+        match check(rt.alloc(), instance, CERTIFICATE, Some(SOLUTION), STATES) {
+            Ok(verdict) => println!(rt; "Ok {verdict:?}")?,
+            Err(fault) => println!(rt; "{fault}")?,
+        }
     }
+    Ok(())
 }
 
 fn tell_checks<R: Host>(rt: &R) -> io::Result<()> {
     let instance = made(three_apart(rt.alloc()).ok())?;
     println!(rt; "ready")?;
-    check_once(rt, instance.as_bytes())?;
-    check_once(rt, instance.as_bytes())
+    check_twice(rt, instance.as_bytes())
 }
 
-/// Few turns of one worker of each kind.
-fn few_turns() -> Settings {
-    Settings {
-        searchers: 1,
-        bounders: 1,
-        turns: 2,
-        ..Settings::default()
-    }
-}
-
-/// Solves an instance, and prints the answer and both texts.
+/// Solves an instance by few turns of one worker of each kind, and prints the answer and both texts.
 fn solve_once<R: Host + Threads + Wait>(rt: &R, text: &[u8]) -> io::Result<()> {
     let alloc = rt.alloc();
     let mut solution = MemorySink::new(alloc);
     let mut certificate = MemorySink::new(alloc);
-    let settings = few_turns();
+    let settings = Settings {
+        searchers: 1,
+        bounders: 1,
+        turns: 2,
+        ..Settings::default()
+    };
     let answer = solve(
         rt,
         alloc,

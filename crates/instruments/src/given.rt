@@ -143,13 +143,6 @@ fn give<'i, R: Host>(rt: &R, book: &mut Book<'i>, given: Given<'i>) -> Back<'i> 
     Ok(Some(back))
 }
 
-/// Makes a call and prints what came of it.
-fn call<'i, R: Host>(rt: &R, book: &mut Book<'i>, given: Given<'i>) -> Back<'i> {
-    let back = give(rt, book, given)?;
-    tell_book(rt, book)?;
-    Ok(back)
-}
-
 /// Makes the call of a name twice: once more with what came back, or else with other such values.
 fn give_twice<'i, R: Host>(
     rt: &R,
@@ -160,9 +153,10 @@ fn give_twice<'i, R: Host>(
     let given = made(given_of(rt.alloc(), instance, name))?;
     let other = made(given_of(rt.alloc(), instance, name))?;
     println!(rt; "ready")?;
-    let back = call(rt, book, given)?;
-    call(rt, book, back.unwrap_or(other))?;
-    Ok(())
+    let back = give(rt, book, given)?;
+    tell_book(rt, book)?;
+    give(rt, book, back.unwrap_or(other))?;
+    tell_book(rt, book)
 }
 
 /// Splits the root of a book.

@@ -45,18 +45,6 @@ fn tell_rows<R: Host + Threads + Wait>(rt: &R, kind: &str, path: &str) -> io::Re
     }
 }
 
-/// Prints what a mode measures.
-fn measure<R: Host + Threads>(rt: &R, mode: &str, asked: &Asked<'_>) -> io::Result<()> {
-    match mode {
-        "ascent" => tell_ascents(rt, asked),
-        "book" => tell_book(rt, asked),
-        "closing" => tell_closing(rt, asked),
-        "descents" => tell_descents(rt, asked),
-        "turns" => tell_turns(rt, asked),
-        _ => Err(wrong()),
-    }
-}
-
 /// Prints what a mode and the two words behind it ask for.
 fn tell<R: Host + Threads + Wait>(
     rt: &R,
@@ -82,7 +70,14 @@ fn tell<R: Host + Threads + Wait>(
         number,
         times,
     };
-    measure(rt, mode, &asked)
+    match mode {
+        "ascent" => tell_ascents(rt, &asked),
+        "book" => tell_book(rt, &asked),
+        "closing" => tell_closing(rt, &asked),
+        "descents" => tell_descents(rt, &asked),
+        "turns" => tell_turns(rt, &asked),
+        _ => Err(wrong()),
+    }
 }
 
 /// Prints what the first of the words ask for, and answers the words behind them.

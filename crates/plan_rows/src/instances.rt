@@ -119,17 +119,6 @@ pub(crate) fn told_walk(alloc: Global, instance: &Instance, words: &[&str]) -> O
     named(alloc, "cost load finish", &numbers)
 }
 
-/// What a build ends with.
-fn told_built(alloc: Global, built: &Built<'_>) -> Option<String> {
-    match built {
-        Built::Whole(plan) => told_routes(alloc, "whole", plan.routes()),
-        Built::Part { routes, left } => {
-            let part = told_routes(alloc, "part", routes.as_slice())?;
-            then(part, " ", listed(alloc, "left", left.as_slice())?.as_str())
-        }
-    }
-}
-
 /// What a build by the weights of a command ends with.
 pub(crate) fn told_build(alloc: Global, instance: &Instance, words: &[&str]) -> Option<String> {
     let (mu, lambda, a1) = (
@@ -140,5 +129,11 @@ pub(crate) fn told_build(alloc: Global, instance: &Instance, words: &[&str]) -> 
     let Some(weights) = Weights::new(mu, lambda, a1) else {
         return told(alloc, "weights out of range");
     };
-    told_built(alloc, &build(alloc, instance, &weights).ok()?)
+    match build(alloc, instance, &weights).ok()? {
+        Built::Whole(plan) => told_routes(alloc, "whole", plan.routes()),
+        Built::Part { routes, left } => {
+            let part = told_routes(alloc, "part", routes.as_slice())?;
+            then(part, " ", listed(alloc, "left", left.as_slice())?.as_str())
+        }
+    }
 }

@@ -155,16 +155,11 @@ pub(crate) fn told_steps(alloc: Global, instance: &Instance, words: &[&str]) -> 
     told_improved(alloc, leaf, steps.as_slice())
 }
 
-/// A copy of the root's region.
-fn root_of(alloc: Global, instance: &Instance) -> Option<Region> {
-    let leaf = Priced::root(alloc, instance, 8, None).ok()?;
-    leaf.region().try_clone().ok()
-}
-
 /// Whether a copy of the root's region allows an arc.
 pub(crate) fn told_allowed(alloc: Global, instance: &Instance, words: &[&str]) -> Option<String> {
     let (from, to) = pair_of(words.get(1)?)?;
-    let root = root_of(alloc, instance)?;
+    let leaf = Priced::root(alloc, instance, 8, None).ok()?;
+    let root = leaf.region().try_clone().ok()?;
     let (size, is_allowed) = (i64::from(root.size()), root.allows(from, to));
     let text = named(alloc, "customers", &[Some(size)])?;
     then(

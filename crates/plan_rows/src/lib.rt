@@ -39,10 +39,10 @@ use crate::leaves::{told_allowed, told_leaf, told_least, told_steps};
 use crate::numbers::{told_count, told_distances, told_pieces, told_root, told_tenths};
 use crate::parts::told_parts;
 use crate::plans::{
-    copies_of, descended, descended_in_threads, routes_of, told_copy, told_ends, told_plan,
-    told_shake, told_trees, told_turn,
+    copies_of, descended, descended_in_threads, routes_of, told_copy, told_plan, told_shake,
+    told_trees, told_turn,
 };
-use crate::words::{behind, text_of, told_routes};
+use crate::words::{behind, named, text_of, told_routes};
 use schedule::Feasible;
 use solomon_reader::Instance;
 use std::alloc::Global;
@@ -124,8 +124,12 @@ fn descend<R: AllocGlobal + Threads + Sync>(
         rt.alloc(),
         plan_of(rt.alloc(), instance, routes.as_slice())?,
     )?;
+    let costs = [
+        Some(end.cost().get() as i64),
+        Some(other.cost().get() as i64),
+    ];
     *routes = copies_of(rt.alloc(), end.routes())?;
-    told_ends(rt.alloc(), &end, &other)
+    named(rt.alloc(), "cost in_threads", &costs)
 }
 
 /// What comes of a call that needs an instance or a plan.

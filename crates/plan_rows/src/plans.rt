@@ -89,12 +89,6 @@ pub(crate) fn descended_in_threads<'i, R: AllocGlobal + Threads + Sync>(
     Some(searcher.into_plan())
 }
 
-/// The costs at which both descents end.
-pub(crate) fn told_ends(alloc: Global, end: &Feasible<'_>, other: &Feasible<'_>) -> Option<String> {
-    let (cost, other) = (end.cost().get() as i64, other.cost().get() as i64);
-    named(alloc, "cost in_threads", &[Some(cost), Some(other)])
-}
-
 /// The routes behind so many moves of a shake by random words.
 pub(crate) fn told_shake(alloc: Global, plan: Feasible<'_>, words: &[&str]) -> Option<String> {
     let draws = list_of(alloc, words.get(2)?)?;
