@@ -71,8 +71,10 @@ fn tell_built<R: Host>(rt: &R, instance: &Instance) -> io::Result<()> {
     println!(rt; "ready")?;
     for _ in 0..CALLS {
         match build(rt.alloc(), instance, &Weights::plain()) {
-            Ok(Built::Whole(plan)) => tell_plan(rt, "Whole", &plan)?,
-            Ok(Built::Part { .. }) => println!(rt; "Part")?,
+            Ok(built) => match &built {
+                Built::Whole(plan) => tell_plan(rt, "Whole", plan)?,
+                Built::Part { .. } => println!(rt; "Part")?,
+            },
             Err(fault) => println!(rt; "{fault}")?,
         }
     }
