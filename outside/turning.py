@@ -2,7 +2,7 @@
 from instances import is_plan, plan_cost
 from moving import KINDS, descend, kept, moved_chain
 
-ROUNDS = 10
+ROUNDS = 12
 MASK = 2**64 - 1
 
 

@@ -14,7 +14,7 @@ use std::alloc::{AllocError, Global};
 use working_plan::WorkingPlan;
 
 /// How many rounds a turn makes.
-pub const ROUNDS: u32 = 10;
+pub const ROUNDS: u32 = 12;
 
 /// A first round goes on from a plan that is dearer than the cheapest by less than this many hundredths
 /// of the cost of a customer on the average; the threshold falls to 0 with the rounds.
