@@ -1,5 +1,5 @@
 -- The stops round a chain, by their positions.
-use Rattle.std.proofs.Common.{◌≡◌, refl, ℕ, zero, suc, ◌+◌, ◌-◌, ◌<◌, ◌≤◌, true, false, List, [], ◌∷◌, length, get_or, take, drop, ap, ◌∙◌, arith, length-drop}
+use Rattle.std.proofs.Common.{◌≡◌, refl, ℕ, zero, suc, ◌+◌, ◌-◌, ◌<◌, ◌≤◌, true, false, List, [], ◌∷◌, length, get_or, take, drop, ap, ◌∙◌, subst, arith, length-drop}
 use Rattle.std.specs.List.{AllByRecursion}
 use Rattle.std.proofs.lemmas.List.{get_or_past, get_or-drop}
 use Rattle.solomon_reader.specs.Problem.{Problem, IsCustomer, customer_count}
@@ -7,7 +7,7 @@ use Rattle.solomon_reader.specs.Plan.{IsPlan, IsFitting}
 use Rattle.solomon_reader.specs.Moves.{route, has_stop, part}
 use Rattle.segments.specs.Segments.{first_of, last_of, last_from}
 use Rattle.gains.specs.declared.cuts.Cut.{Cut}
-use Rattle.gains.specs.Cuts.{IsCut, IsKnownCut}
+use Rattle.gains.specs.Cuts.{IsCut, IsKnownCut, AreKnownCuts}
 
 pub last_taken : (x : ℕ) (r : List ℕ) (i : ℕ) → i < length r → last_from x (take (suc i) r) ≡ get_or r i 0
 last_taken x [] i h = absurd (omega arith)
@@ -60,6 +60,13 @@ module _ (r : List ℕ) (i l : ℕ) where
 
   pub nothing_last : l ≡ 0 → 0 ≡ last_of (part r i l)
   nothing_last e = rw e refl
+
+-- the stops round a gap of a known route
+pub known_gap : (p : Problem) (r : List ℕ) (k : ℕ) → AreKnownCuts p r → k ≤ length r → (last_from 0 (take k r) ≤ customer_count p) × (first_of (drop k r) ≤ customer_count p)
+known_gap p r k known fits =
+    let cut = known k 0 (omega (arith, fits)) in
+    let none : k + 0 ≡ k = omega arith in
+    (cut.before, subst (λ i. first_of (drop i r) ≤ customer_count p) none cut.behind)
 
 known_at : (p : Problem) (r : List ℕ) → AllByRecursion (IsCustomer p) r → (k : ℕ) → get_or r k 0 ≤ customer_count p
 known_at p [] all k = let h : 0 ≤ k = omega arith in let e : get_or {A = ℕ} [] k 0 ≡ 0 = get_or_past {X = ℕ} [] k 0 h in omega (arith, e)

@@ -57,7 +57,7 @@ cost-replaced p r i l c =
     ∙ back-append p 0 (take i r) (c ++ drop (i + l) r)
     ∙ ap (λ n. inner_from p 0 (take i r) + n) (through p (last_from 0 (take i r)) c (drop (i + l) r))
 
-itself : (r : List ℕ) (i l : ℕ) → take i r ++ part r i l ++ drop (i + l) r ≡ r
+pub itself : (r : List ℕ) (i l : ℕ) → take i r ++ part r i l ++ drop (i + l) r ≡ r
 itself r i l =
     append_assoc (take i r) (part r i l) (drop (i + l) r)
     ∙ ap (λ q. take i r ++ (part r i l ++ q)) (sym (drop-drop l i r))

@@ -10,5 +10,8 @@ pub mod TwoRoutes
 pub mod Renumbering
 pub mod LastingBounds
 pub mod SwapBounds
+pub mod ShiftBounds
+pub mod EndChanges
 pub mod PassedRoutes
+pub mod PassedShifts
 pub mod PassedByBounds

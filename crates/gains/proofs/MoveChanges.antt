@@ -133,7 +133,7 @@ module _ (p : Problem) (routes : List (List ℕ)) (k : Kind) (n : Move) (f s : C
 
 -- RELOCATIONS AND OR-OPTS WITHIN A ROUTE
 
-back_is : (routes : List (List ℕ)) (a i l b j : ℕ) → a ≡ b → j ≤ i → IsOrOpt routes a i l b j → after_or_opt routes a i l b j ≡ rebuilt routes a (swapped_within (route routes a) j (i - j) i l) (length routes) []
+pub back_is : (routes : List (List ℕ)) (a i l b j : ℕ) → a ≡ b → j ≤ i → IsOrOpt routes a i l b j → after_or_opt routes a i l b j ≡ rebuilt routes a (swapped_within (route routes a) j (i - j) i l) (length routes) []
 back_is routes a i l b j same before = subst (λ x. IsOrOpt routes a i l x j → after_or_opt routes a i l x j ≡ rebuilt routes a (swapped_within (route routes a) j (i - j) i l) (length routes) []) same
     (λ w. or_opt_back_is routes a i l j w before)
 
@@ -142,7 +142,7 @@ forward_is : (routes : List (List ℕ)) (a i l b j : ℕ) → a ≡ b → i ≤ 
 forward_is routes a i l b j same behind = subst (λ x. IsOrOpt routes a i l x j → after_or_opt routes a i l x j ≡ rebuilt routes a (swapped_within (route routes a) i l (i + l) (j - i)) (length routes) []) same
     (λ w. or_opt_forward_is routes a i l j w behind)
 
-or_opt_of : (routes : List (List ℕ)) (n : Move) → IsShiftKind (kind_of n) → IsWellFormed routes n
+pub or_opt_of : (routes : List (List ℕ)) (n : Move) → IsShiftKind (kind_of n) → IsWellFormed routes n
     → let s = first_chain_of routes n in let t = second_chain_of routes n in IsOrOpt routes s.route s.position s.length t.route t.position
     × (after routes n ≡ after_or_opt routes s.route s.position s.length t.route t.position)
 or_opt_of routes (Relocate f t) k w = (w, refl)

@@ -21,7 +21,7 @@ use Rattle.gains.proofs.SwapBounds.{low_enough}
 pub known_cuts : (p : Problem) (routes : List (List ℕ)) (b : ℕ) → IsPlan p routes → AreKnownCuts p (route routes b)
 known_cuts p routes b plan i l fits = known_cut p routes b i l (cut_at (route routes b) i l) plan (record { before = refl; some = refl; first = refl; last = refl; behind = refl })
 
-all_numbers : (n : Move) (a i l b : ℕ) → Starts (a ∷ i ∷ l ∷ b ∷ []) (numbers n) → numbers n ≡ a ∷ i ∷ l ∷ b ∷ get_or (numbers n) 4 0 ∷ get_or (numbers n) 5 0 ∷ []
+pub all_numbers : (n : Move) (a i l b : ℕ) → Starts (a ∷ i ∷ l ∷ b ∷ []) (numbers n) → numbers n ≡ a ∷ i ∷ l ∷ b ∷ get_or (numbers n) 4 0 ∷ get_or (numbers n) 5 0 ∷ []
 all_numbers (Relocate f t) a i l b s = λ k. s.0 k ∷ s.1.0 k ∷ s.1.1.0 k ∷ s.1.1.1.0 k ∷ t.position ∷ 0 ∷ []
 all_numbers (Exchange f t) a i l b s = λ k. s.0 k ∷ s.1.0 k ∷ s.1.1.0 k ∷ s.1.1.1.0 k ∷ t.position ∷ 0 ∷ []
 all_numbers (OrOpt c t) a i l b s = λ k. s.0 k ∷ s.1.0 k ∷ s.1.1.0 k ∷ s.1.1.1.0 k ∷ t.position ∷ 0 ∷ []

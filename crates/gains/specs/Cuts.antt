@@ -1,5 +1,5 @@
 -- What stands round a chain of a route, and what its arcs cost.
-use Rattle.std.specs.Prelude.{◌≡◌, ℕ, ◌+◌, ◌≤◌, List, length, take, drop, ℤ, pos, ◌-ℤ◌, ◌≤ℤ◌, if◌then◌else◌}
+use Rattle.std.specs.Prelude.{◌≡◌, ℕ, ◌+◌, ◌<◌, ◌≤◌, List, length, take, drop, ℤ, pos, ◌-ℤ◌, ◌≤ℤ◌, if◌then◌else◌}
 use Rattle.solomon_reader.specs.Problem.{Problem, customer_count}
 use Rattle.solomon_reader.specs.Distance.{distance}
 use Rattle.solomon_reader.specs.Moves.{has_stop, part}
@@ -38,6 +38,18 @@ abbrev pub change_apart : Problem → Cut → Cut → ℤ
 change_apart p c d =
     pos (joint_of p c.before d c.behind + joint_of p d.before c d.behind) -ℤ pos (joint_of p c.before c c.behind + joint_of p d.before d d.behind)
 
+-- by how much the cost changes where the ends behind two gaps, between x and y and between u and v, change places
+abbrev pub ends_change : Problem → ℕ → ℕ → ℕ → ℕ → ℤ
+ends_change p x y u v = pos (distance p x v + distance p u y) -ℤ pos (distance p x y + distance p u v)
+
+-- the same at the front of a chain and at gap k of a route
+abbrev pub front_change : Problem → List ℕ → Cut → ℕ → ℤ
+front_change p r c k = ends_change p c.before c.first (last_from 0 (take k r)) (first_of (drop k r))
+
+-- and behind the chain
+abbrev pub rear_change : Problem → List ℕ → Cut → ℕ → ℤ
+rear_change p r c k = ends_change p c.last c.behind (last_from 0 (take k r)) (first_of (drop k r))
+
 -- by how much the cost changes where two chains of a route change places, the second of which stands right behind the first; both have stops
 abbrev pub change_within : Problem → Cut → Cut → ℤ
 change_within p c d =
@@ -55,3 +67,7 @@ IsLeastSwap p r c low high x = (i l : ℕ) → low ≤ l → l ≤ high → i + 
 -- the same from one position on
 abbrev pub IsLeastSwapAt : Problem → List ℕ → Cut → ℕ → ℕ → ℕ → ℤ → Type 0
 IsLeastSwapAt p r c low high i x = (l : ℕ) → low ≤ l → l ≤ high → i + l ≤ length r → x ≤ℤ change_apart p c (cut_at r i l)
+
+-- the chain c, put into any of some gaps of a route, changes the cost by no less
+abbrev pub IsLeastShift : Problem → List ℕ → Cut → ℕ → ℕ → ℤ → Type 0
+IsLeastShift p r c from to x = (i : ℕ) → from ≤ i → i < to → i ≤ length r → x ≤ℤ change_apart p c (cut_at r i 0)

@@ -19,7 +19,7 @@ pub fn least_of(best: Option<(Move, i64)>) -> i64
 }
 
 /// Whether a move of a kind puts a chain elsewhere.
-fn is_shift(kind: Kind) -> bool
+pub fn is_shift(kind: Kind) -> bool
     ensures { IsTrue result ↔ IsShiftKind kind }
 {
     match kind {

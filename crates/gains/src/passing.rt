@@ -8,8 +8,8 @@ ghost use Rattle.gains.specs.Bounds.{lowest_second, end_of_seconds, IsPassed};
 ghost use Rattle.gains.specs.Gains.{least_of, IsFirstCut, TakesBetween};
 ghost use Rattle.gains.specs.Searches.{plan_of, IsOfPlan, NoneIsBetter};
 
-use crate::comparing::least_of;
-use crate::cuts::{Cut, least_swap};
+use crate::comparing::{is_shift, least_of};
+use crate::cuts::{Cut, least_shift, least_swap};
 use crate::neighbourhood::Neighbourhood;
 use moves::{Chain, Kind, MOST_CHAIN, Move, route_count};
 use segments::PlanTrees;
@@ -77,6 +77,27 @@ impl Neighbourhood<'_, '_> {
         true
     }
 
+    /// Whether the changes of cost tell that no move that puts this first chain elsewhere in its route is
+    /// better than what was found; they don't tell that of other kinds of moves.
+    fn is_no_better_within(&self, first: &Chain, cut: &Cut, before: Option<(Move, i64)>) -> bool
+        requires plan { IsOfPlan self.now }
+        requires cut { IsFirstCut (plan_of self.now) self.now.kind first.now cut.now }
+        ensures { IsTrue result → NoneIsBetter self.now (first.now.route ∷ first.now.position ∷ first.now.length ∷ first.now.route ∷ []) before }
+    {
+        if !is_shift(self.kind) {
+            return false;
+        }
+        let chain = self.first_chain(*first);
+        let stops = stops_of(self.routes, first.route);
+        let ends = stops.len() + 1;
+        let from = usize::from(chain.position);
+        let to = from + usize::from(chain.length) + 1;
+        let instance = self.trees.instance();
+        let least = least_shift(instance, stops, cut, 0..from.min(ends), 0);
+        let least = least_shift(instance, stops, cut, to..ends, least);
+        least_of(before) <= least
+    }
+
     /// Whether the changes of cost tell that no move with this first chain into a route is better than
     /// what was found.
     pub fn is_no_better(
@@ -91,7 +112,7 @@ impl Neighbourhood<'_, '_> {
         ensures { IsTrue result → NoneIsBetter self.now (first.now.route ∷ first.now.position ∷ first.now.length ∷ route ∷ []) before }
     {
         if first.route == route {
-            return false;
+            return self.is_no_better_within(first, cut, before);
         }
         let Some((low, high)) = second_counts(self.kind) else {
             return false;
