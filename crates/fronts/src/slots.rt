@@ -29,6 +29,9 @@ struct RowSlots {
 pub(crate) struct Slots {
     /// How long a slot is, in tenths.
     width: u64,
+    /// What a time is multiplied by to get its slot in units of 2 to the power of -32, since dividing
+    /// takes most of the time of a look-up.
+    inverse: u64,
     /// The last slot of all rows.
     last: u64,
     /// How many bounds there are.
@@ -68,6 +71,13 @@ fn width_of(instance: &Instance) -> u64 {
     shortest(instance).max(due / MOST_SLOTS + 1).min(longest)
 }
 
+/// 2 to the power of 32 divided by the length of a slot, rounded up. Where a time times that length passes
+/// 2 to the power of 32, a time at the very end of a slot may count for the next one, whose bound doesn't
+/// hold then.
+fn inverse_of(width: u64) -> u64 {
+    (1u64 << 32) / width.max(1) + 1
+}
+
 /// The slots of a customer, whose bounds stand from a place on.
 fn row_slots(instance: &Instance, width: u64, place: usize, v: u16) -> RowSlots
     requires { v < length instance.now.rows }
@@ -105,6 +115,7 @@ impl Slots {
     pub(crate) fn none(alloc: Global) -> Slots {
         Slots {
             width: 1,
+            inverse: inverse_of(1),
             last: 0,
             count: 0,
             rows: Vec::new(alloc),
@@ -116,6 +127,7 @@ impl Slots {
         let width = width_of(instance);
         let mut slots = Slots {
             width,
+            inverse: inverse_of(width),
             last: 0,
             count: 0,
             rows: Vec::new(alloc),
@@ -164,7 +176,7 @@ impl Slots {
             return usize::MAX;
         }
         let row = self.rows[row];
-        let slot = time / self.width.max(1);
+        let slot = time.saturating_mul(self.inverse) >> 32;
         row.place
             .saturating_add(row.last.saturating_sub(slot) as usize)
     }
