@@ -1,15 +1,14 @@
 -- Swaps of chains as two exchanges of ends.
-use Rattle.std.proofs.Common.{◌≡◌, refl, sym, ap, subst, ◌∙◌, ℕ, ◌+◌, ◌*◌, ◌<◌, ◌≤◌, true, List, length, take, drop, arith, inl, inr}
+use Rattle.std.proofs.Common.{◌≡◌, sym, ap, subst, ◌∙◌, ℕ, ◌+◌, ◌*◌, ◌<◌, ◌≤◌, true, List, length, take, drop, arith, inl, inr}
 use Rattle.std.specs.Prelude.{ℤ, pos, ◌+ℤ◌, ◌-ℤ◌, ◌≤ℤ◌}
 use Rattle.std.proofs.lemmas.Int.{ints}
 use Rattle.std.proofs.lemmas.Bool.{cases_lt}
 use Rattle.solomon_reader.specs.Problem.{Problem}
 use Rattle.solomon_reader.specs.Distance.{distance}
-use Rattle.solomon_reader.specs.Moves.{part, has_stop}
 use Rattle.solomon_reader.specs.declared.limits.TheConstants.{MOST_DISTANCE}
-use Rattle.segments.specs.Segments.{first_of, last_of, last_from}
+use Rattle.segments.specs.Segments.{first_of, last_from}
 use Rattle.gains.specs.declared.cuts.Cut.{Cut}
-use Rattle.gains.specs.Cuts.{cut_at, joint_of, change_apart, front_change, rear_change}
+use Rattle.gains.specs.Cuts.{cut_at, change_apart, front_change, rear_change}
 use Rattle.gains.proofs.CutStops.{first_dropped, before_position, first_position, last_position, some_position}
 use Rattle.gains.proofs.ShiftBounds.{joint_some}
 use Rattle.gains.proofs.SwapBounds.{low_enough}

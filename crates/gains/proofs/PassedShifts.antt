@@ -13,7 +13,7 @@ use Rattle.moves.specs.Values.{HasValue, after}
 use Rattle.moves.specs.Changes.{rebuilt, swapped_within}
 use Rattle.moves.proofs.Swaps.{position_within_from}
 use Rattle.gains.specs.declared.cuts.Cut.{Cut}
-use Rattle.gains.specs.Cuts.{IsCut, cut_at, change_apart, change_within, IsLeastShift}
+use Rattle.gains.specs.Cuts.{IsCut, cut_at, change_within, IsLeastShift}
 use Rattle.gains.specs.Gains.{Starts, IsFirstCut, IsShiftKind, first_taken, taken_chain}
 use Rattle.gains.proofs.CutStops.{some_position}
 use Rattle.gains.proofs.MoveChanges.{first_chain, second_chain, or_opt_of, back_is, shifts_back, shifts_forward, value_within}

@@ -1,22 +1,20 @@
 -- Chains that go elsewhere in their own route: what that changes of the cost is what their going into a gap of another route like it would.
-use Rattle.std.proofs.Common.{◌≡◌, refl, sym, subst, ap, ◌∙◌, ℕ, ◌+◌, ◌-◌, ◌<◌, ◌≤◌, true, List, [], ◌∷◌, ◌++◌, length, get_or, take, drop, arith, append-nil, inl, inr}
-use Rattle.std.specs.Prelude.{ℤ, pos, ◌+ℤ◌, ◌-ℤ◌, ◌≤ℤ◌}
+use Rattle.std.proofs.Common.{◌≡◌, refl, sym, ap, ◌∙◌, ℕ, ◌+◌, ◌-◌, ◌<◌, ◌≤◌, true, List, [], ◌++◌, length, take, drop, arith, append-nil}
+use Rattle.std.specs.Prelude.{ℤ, pos, ◌+ℤ◌, ◌-ℤ◌}
 use Rattle.std.proofs.lemmas.Int.{ints}
-use Rattle.std.proofs.lemmas.Bool.{cases_lt}
 use Rattle.std.proofs.lemmas.List.{get_or_past}
 use Rattle.solomon_reader.specs.Problem.{Problem}
 use Rattle.solomon_reader.specs.Distance.{distance}
 use Rattle.solomon_reader.specs.Plan.{route_cost, plan_cost}
-use Rattle.solomon_reader.specs.Moves.{route, part, has_stop}
-use Rattle.segments.specs.Segments.{first_of, last_of, last_from}
+use Rattle.solomon_reader.specs.Moves.{route, part}
+use Rattle.segments.specs.Segments.{first_of}
 use Rattle.moves.specs.Changes.{rebuilt, swapped_within}
 use Rattle.moves.proofs.Rebuilding.{rebuilt_cost}
 use Rattle.moves.proofs.Swaps.{swap_within_rebuilds}
 use Rattle.gains.specs.declared.cuts.Cut.{Cut}
-use Rattle.gains.specs.Cuts.{IsCut, cut_at, joint_of, change_apart, change_within, IsLeastSwapAt, IsLeastShift}
+use Rattle.gains.specs.Cuts.{IsCut, cut_at, joint_of, change_apart, change_within}
 use Rattle.gains.proofs.ExactChanges.{itself}
 use Rattle.gains.proofs.CutStops.{first_dropped, before_position, first_position, last_position, some_position}
-use Rattle.gains.proofs.SwapBounds.{low_enough}
 
 pub cut_is_at : (r : List ℕ) (i l : ℕ) → IsCut r i l (cut_at r i l)
 cut_is_at r i l = record { before = refl; some = refl; first = refl; last = refl; behind = refl }
@@ -60,17 +58,6 @@ module _ (p : Problem) (r : List ℕ) where
       rw (joint_some p g.before c g.behind some_c, joint_some p c.before c c.behind some_c)
       (sums_back _ _ _ _ _ _ _ _ _ _ _ _ refl (ap (distance p c.last) first) (ap (λ x. distance p x c.behind) last)
       (ap (distance p f.before) first) (ap (λ x. distance p x c.first) last) refl)
-
--- one gap more
-pub gap_next : (p : Problem) (r : List ℕ) (c : Cut) (from n : ℕ) (x y : ℤ) → ((i : ℕ) → from ≤ i → i < n → i ≤ length r → x ≤ℤ change_apart p c (cut_at r i 0)) → y ≤ℤ x
-    → IsLeastSwapAt p r c 0 0 n y → (i : ℕ) → from ≤ i → i < n + 1 → i ≤ length r → y ≤ℤ change_apart p c (cut_at r i 0)
-gap_next p r c from n x y h less here i above below fits =
-    elim (cases_lt i n) [
-      | inl earlier ↦ low_enough y x (change_apart p c (cut_at r i 0)) less (h i above earlier fits)
-      | inr past ↦
-          let e : n ≡ i = omega (arith, below, past) in
-          subst (λ k. y ≤ℤ change_apart p c (cut_at r k 0)) e (here 0 (omega arith) (omega arith) (omega (arith, fits, e)))
-    ]
 
 -- a chain that stays changes nothing
 same_route : (r : List ℕ) (i l : ℕ) → swapped_within r i 0 i l ≡ r

@@ -5,7 +5,7 @@ use Rattle.std.proofs.lemmas.Int.{ints}
 use Rattle.std.proofs.lemmas.Bool.{cases_lt}
 use Rattle.solomon_reader.specs.Problem.{Problem}
 use Rattle.gains.specs.declared.cuts.Cut.{Cut}
-use Rattle.gains.specs.Cuts.{IsCut, IsKnownCut, cut_at, change_apart, AreKnownCuts, IsLeastSwapAt}
+use Rattle.gains.specs.Cuts.{IsCut, IsKnownCut, cut_at, change_apart, AreKnownCuts, IsLeastSwapAt, IsLeastSwapIn}
 
 pub low_enough : (v u x : ℤ) → v ≤ℤ u → u ≤ℤ x → v ≤ℤ x
 low_enough v u x h k = omega (arith, ints)
@@ -29,12 +29,11 @@ module _ (p : Problem) (r : List ℕ) (c : Cut) (low : ℕ) where
       ]
 
   -- one position more
-  pub position_next : (high n : ℕ) (x y : ℤ) → ((j l : ℕ) → j < n → low ≤ l → l ≤ high → j + l ≤ length r → x ≤ℤ change_apart p c (cut_at r j l)) → y ≤ℤ x
-      → IsLeastSwapAt p r c low high n y → (j l : ℕ) → j < n + 1 → low ≤ l → l ≤ high → j + l ≤ length r → y ≤ℤ change_apart p c (cut_at r j l)
-  position_next high n x y h less here j l below from most fits =
+  pub position_next : (high from n : ℕ) (x y : ℤ) → IsLeastSwapIn p r c low high from n x → y ≤ℤ x → IsLeastSwapAt p r c low high n y → IsLeastSwapIn p r c low high from (n + 1) y
+  position_next high from n x y h less here j l above below least most fits =
       elim (cases_lt j n) [
-        | inl earlier ↦ low_enough y x (change_apart p c (cut_at r j l)) less (h j l earlier from most fits)
+        | inl earlier ↦ low_enough y x (change_apart p c (cut_at r j l)) less (h j l above earlier least most fits)
         | inr past ↦
             let e : n ≡ j = omega (arith, below, past) in
-            subst (λ i. y ≤ℤ change_apart p c (cut_at r i l)) e (here l from most (omega (arith, fits, e)))
+            subst (λ i. y ≤ℤ change_apart p c (cut_at r i l)) e (here l least most (omega (arith, fits, e)))
       ]

@@ -8,7 +8,7 @@ ghost use Rattle.solomon_reader.specs.Moves.{route};
 ghost use Rattle.solomon_reader.specs.declared.limits.TheConstants.{MOST_DISTANCE};
 ghost use Rattle.segments.specs.Segments.{first_of, last_from};
 ghost use Rattle.moves.specs.Changes.{IsChainOf};
-ghost use Rattle.gains.specs.Cuts.{IsCut, IsKnownCut, joint_of, change_apart, change_within, ends_change, AreKnownCuts, IsLeastSwap, IsLeastSwapAt, IsLeastShift};
+ghost use Rattle.gains.specs.Cuts.{IsCut, IsKnownCut, joint_of, change_apart, change_within, ends_change, AreKnownCuts, IsLeastSwap, IsLeastSwapAt, IsLeastSwapIn, IsLeastShift};
 
 use moves::Chain;
 use solomon_reader::{Instance, MOST_DISTANCE};
@@ -153,6 +153,7 @@ fn change_from(instance: &Instance, one: &Cut, other: &Cut, arcs: i64, past: i64
 fn lesser(one: i64, other: i64) -> i64
     ensures one { result ≤ℤ one }
     ensures other { result ≤ℤ other }
+    ensures is { (result ≡ one) ⊎ (result ≡ other) }
 {
     if other < one { other } else { one }
 }
@@ -191,6 +192,36 @@ fn least_swap_at(
     least
 }
 
+/// The least of what swaps of a chain with low to high stops of a route, from one of some positions on,
+/// change of the cost, in tenths, or what was found before, if that is less.
+#[inline(always)]
+fn least_swap_in(
+    instance: &Instance,
+    stops: &[u16],
+    chain: &Cut,
+    low: usize,
+    high: usize,
+    positions: Range<usize>,
+    before: i64,
+) -> i64
+    requires chain { IsKnownCut instance.now chain.now }
+    requires stops { AreKnownCuts instance.now stops.now }
+    requires positions { positions.end ≤ length stops.now + 1 }
+    requires few { high ≤ 3 }
+    ensures lower { result ≤ℤ before }
+    ensures least { IsLeastSwapIn instance.now stops.now chain.now low high positions.start positions.end result }
+{
+    let arcs = joint(instance, chain.before, chain, chain.behind);
+    let past = arc(instance, chain.before, chain.behind);
+    let mut least = before;
+    for position in positions.start..positions.end {
+        least = least_swap_at(
+            instance, stops, position, chain, low, high, arcs, past, least,
+        );
+    }
+    least
+}
+
 /// A number of tenths, at most 0: no swap of a chain with low to high stops of a route changes the cost
 /// by less.
 #[inline(always)]
@@ -200,15 +231,7 @@ fn least_of_swaps(instance: &Instance, stops: &[u16], chain: &Cut, low: usize, h
     requires few { high ≤ 3 }
     ensures { IsLeastSwap instance.now stops.now chain.now low high result }
 {
-    let arcs = joint(instance, chain.before, chain, chain.behind);
-    let past = arc(instance, chain.before, chain.behind);
-    let mut least = 0;
-    for position in 0..stops.len() + 1 {
-        least = least_swap_at(
-            instance, stops, position, chain, low, high, arcs, past, least,
-        );
-    }
-    least
+    least_swap_in(instance, stops, chain, low, high, 0..stops.len() + 1, 0)
 }
 
 /// What the exchange of the ends behind two gaps changes of the cost, in tenths. A gap is given by the
@@ -246,9 +269,7 @@ fn least_front(last: (i64, i64, i64), most: usize) -> i64
     if most < 2 {
         return last.0;
     }
-    let (one, two, three) = last;
-    let least = if two < one { two } else { one };
-    if three < least { three } else { least }
+    lesser(lesser(last.0, last.1), last.2)
 }
 
 /// The least of what swaps of a chain with one to so many stops of a route change of the cost, in tenths,
@@ -306,13 +327,7 @@ pub fn least_shift(
     ensures lower { result ≤ℤ before }
     ensures least { IsLeastShift instance.now stops.now chain.now gaps.start gaps.end result }
 {
-    let arcs = joint(instance, chain.before, chain, chain.behind);
-    let past = arc(instance, chain.before, chain.behind);
-    let mut least = before;
-    for position in gaps.start..gaps.end {
-        least = least_swap_at(instance, stops, position, chain, 0, 0, arcs, past, least);
-    }
-    least
+    least_swap_in(instance, stops, chain, 0, 0, gaps, before)
 }
 
 /// The cost of an arc, in tenths.

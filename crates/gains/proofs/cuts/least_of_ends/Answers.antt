@@ -1,8 +1,8 @@
-use Rattle.std.proofs.Common.{◌≡◌, ◌+◌, ◌*◌, ◌<◌, ◌≤◌, length, arith, to_z, of_z, w64, inl, inr}
+use Rattle.std.proofs.Common.{◌≡◌, ◌*◌, arith, to_z, of_z, w64, inl, inr}
 use Rattle.std.specs.Prelude.{pos, ◌+ℤ◌, ◌≤ℤ◌}
 use Rattle.std.proofs.lemmas.Int.{ints}
 use Rattle.solomon_reader.specs.declared.limits.TheConstants.{MOST_DISTANCE}
-use Rattle.gains.specs.Cuts.{IsKnownCut, cut_at, front_change, rear_change}
+use Rattle.gains.specs.Cuts.{front_change, rear_change}
 use Rattle.gains.proofs.CutStops.{known_gap}
 use Rattle.gains.proofs.EndChanges.{so_far_next}
 use Rattle.gains.proofs.cuts.least_of_ends.Goals as goal
