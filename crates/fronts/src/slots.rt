@@ -29,8 +29,8 @@ struct RowSlots {
 pub(crate) struct Slots {
     /// How long a slot is, in tenths.
     width: u64,
-    /// What a time is multiplied by to get its slot in units of 2 to the power of -32, since dividing
-    /// takes most of the time of a look-up.
+    /// What a time is multiplied by to get its slot in units of 2 to the power of -32, in place of a
+    /// division.
     inverse: u64,
     /// The last slot of all rows.
     last: u64,
@@ -71,9 +71,10 @@ fn width_of(instance: &Instance) -> u64 {
     shortest(instance).max(due / MOST_SLOTS + 1).min(longest)
 }
 
-/// 2 to the power of 32 divided by the length of a slot, rounded up. Where a time times that length passes
-/// 2 to the power of 32, a time at the very end of a slot may count for the next one, whose bound doesn't
-/// hold then.
+/// 2 to the power of 32 divided by the length of a slot, without the rest, and 1: more than the exact
+/// quotient, so that a time at the very beginning of a slot counts for it. Where a time times that length
+/// reaches 2 to the power of 32, a time at the very end of a slot may count for the next one, whose bound
+/// doesn't hold then.
 fn inverse_of(width: u64) -> u64 {
     (1u64 << 32) / width.max(1) + 1
 }
