@@ -152,32 +152,42 @@ def head_lines(count):
     return ["VRPTW-CERT 2", "INSTANCE T", "CUSTOMERS %d" % count, "NEIGHBOURS 8", "BOUND 0.0", "TREE"]
 
 
+def arcs_of(count):
+    """All arcs of so many customers, in order of (from, to)."""
+    return [(i, j) for i in range(count + 1) for j in range(count + 1) if i != j]
+
+
 def deep_lines(depth):
-    """A certificate of 30 customers whose tree is one path of splits with a leaf beside each."""
-    arcs = [(i, j) for i in range(31) for j in range(31) if i != j][:depth]
-    leaf = "P" + " 0" * 30
-    return head_lines(30) + ["S %d %d" % arc for arc in arcs] + [leaf] * (depth + 1) + ["END"]
+    """A certificate of 25 customers whose tree is one path of splits with a leaf beside each."""
+    leaf = "P" + " 0" * 25
+    splits = ["S %d %d" % arc for arc in arcs_of(25)[:depth]]
+    return head_lines(25) + splits + [leaf] * (depth + 1) + ["END"]
 
 
-def wide_lines(leaves):
-    """A certificate of 25 customers with so many leaves, level by level as far as they go."""
-    arcs = [(i, j) for i in range(26) for j in range(26) if i != j]
+def wide_lines(leaves, count):
+    """A certificate with so many leaves, level by level as far as they go."""
+    arcs, leaf = arcs_of(count), "P" + " 0" * count
     lines = []
 
-    def add(count, depth):
-        if count == 1:
-            lines.append("P" + " 100000" * 25)
+    def add(leaves, depth):
+        if leaves == 1:
+            lines.append(leaf)
             return
         lines.append("S %d %d" % arcs[depth])
-        add(count - count // 2, depth + 1)
-        add(count // 2, depth + 1)
+        add(leaves - leaves // 2, depth + 1)
+        add(leaves // 2, depth + 1)
 
     add(leaves, 0)
-    return head_lines(25) + lines + ["END"]
+    return head_lines(count) + lines + ["END"]
 
 
-LARGE = [("600 arcs on a path", lambda: deep_lines(600)), ("601 arcs on a path", lambda: deep_lines(601)),
-         ("100,000 leaves", lambda: wide_lines(100000)), ("100,001 leaves", lambda: wide_lines(100001))]
+# By the name, a certificate's lines, and the fault that was found by hand, or none. Six lines stand before a tree. In
+# the full tree of depth 17 (131,072 leaves) 100,000 leaves and 100,011 splits stand before leaf 100,001.
+LARGE = [("600 arcs on a path", lambda: deep_lines(600), ""),
+         ("601 arcs on a path", lambda: deep_lines(601), "TooDeep line 607"),
+         ("100,000 leaves", lambda: wide_lines(100_000, 25), ""),
+         ("100,001 leaves", lambda: wide_lines(100_001, 25), "TooManyLeaves line 200007"),
+         ("a full tree of depth 17", lambda: wide_lines(2 ** 17, 4), "TooManyLeaves line 200018")]
 
 WRONG_WORDS = ["", "0", "00", "-0", "+5", "007", "-3", "1.0", "x", "S", "P", "END", "1000000000000", "1000000000001",
                "-1000000000001", "26", "10000", "99999999999999999999", "VRPTW-CERT", "3"]

@@ -120,13 +120,18 @@ def echoed(instruments, folder, kind, text, said):
     return said.split()[0] if said else "whole"
 
 
-def judge_echo(instruments, folder, kind, text, reader):
-    """A text: read and written again, or the fault of this folder's reader."""
+def said_of(reader, text):
+    """The fault of this folder's reader, or none."""
     try:
         reader(text)
     except TextFault as fault:
-        return echoed(instruments, folder, kind, text, str(fault))
-    return echoed(instruments, folder, kind, text, "")
+        return str(fault)
+    return ""
+
+
+def judge_echo(instruments, folder, kind, text, reader):
+    """A text: read and written again, or the fault of this folder's reader."""
+    return echoed(instruments, folder, kind, text, said_of(reader, text))
 
 
 def judge_spelling(instruments, folder, row):
@@ -152,9 +157,11 @@ def judge_text(programs, folder, random, kind):
 
 
 def judge_large(programs, folder, seed):
-    name, lines = LARGE[seed]
+    """A certificate at a limit: read and written again, or the fault that was found by hand. So this folder's reader."""
+    name, lines, said = LARGE[seed]
     text = "".join(line + "\n" for line in lines()).encode()
-    return "%s: %s" % (name, judge_echo(programs.instruments, folder, "certificate", text, read_certificate))
+    demand(said_of(read_certificate, text) == said, "%s: this folder: %s" % (name, said_of(read_certificate, text)))
+    return "%s: %s" % (name, echoed(programs.instruments, folder, "certificate", text, said))
 
 
 # By the kind, what is judged: the programs, a folder, the random source and the run's number.
