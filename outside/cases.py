@@ -70,12 +70,17 @@ def mutated(random, words):
     return text
 
 
+def arcs_of(count):
+    """All arcs of so many customers, in order of (from, to)."""
+    return [(i, j) for i in range(count + 1) for j in range(count + 1) if i != j]
+
+
 def tree_lines(random, count, path, depth):
     """The lines of a random tree below a path."""
     if depth == 0 or random.randrange(3) == 0:
         prices = [random.choice([0, 7, -20, 100000, random.randrange(-10 ** 12, 10 ** 12)]) for _ in range(count)]
         return ["P " + " ".join(str(price) for price in prices)]
-    arcs = [(i, j) for i in range(count + 1) for j in range(count + 1) if i != j and (i, j) not in path]
+    arcs = [arc for arc in arcs_of(count) if arc not in path]
     if not arcs:
         return tree_lines(random, count, path, 0)
     arc = random.choice(arcs)
@@ -150,11 +155,6 @@ def solution_lines(random):
 
 def head_lines(count):
     return ["VRPTW-CERT 2", "INSTANCE T", "CUSTOMERS %d" % count, "NEIGHBOURS 8", "BOUND 0.0", "TREE"]
-
-
-def arcs_of(count):
-    """All arcs of so many customers, in order of (from, to)."""
-    return [(i, j) for i in range(count + 1) for j in range(count + 1) if i != j]
 
 
 def deep_lines(depth):

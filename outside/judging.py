@@ -157,10 +157,12 @@ def judge_text(programs, folder, random, kind):
 
 
 def judge_large(programs, folder, seed):
-    """A certificate at a limit: read and written again, or the fault that was found by hand. So this folder's reader."""
+    """A certificate at a limit: read and written again, or the fault that was found by hand, which this folder's reader
+    tells, too."""
     name, lines, said = LARGE[seed]
     text = "".join(line + "\n" for line in lines()).encode()
-    demand(said_of(read_certificate, text) == said, "%s: this folder: %s" % (name, said_of(read_certificate, text)))
+    found = said_of(read_certificate, text)
+    demand(found == said, "%s: this folder: %s" % (name, found))
     return "%s: %s" % (name, echoed(programs.instruments, folder, "certificate", text, said))
 
 
