@@ -5,6 +5,7 @@ A case is a name and a function of the program and a folder, which holds the thr
 """
 import functools
 import os
+import shutil
 import threading
 
 import bounding
@@ -196,13 +197,24 @@ def into_a_pipe(name, text):
     return case
 
 
-def without_permission(name):
-    """A text that may not be read; the superuser may."""
+def bound_by_permissions(words):
+    """The words of a run that files' permissions bind, the superuser's too, or None where that can't be had."""
+    if os.geteuid() != 0:
+        return words
+    dropper = shutil.which("setpriv")
+    return dropper and [dropper, "--bounding-set=-dac_override,-dac_read_search"] + words
+
+
+def without_permission(words_of, name, mode, plan=None, bound=None):
+    """A file that may not be read, or an output that may not be written and stays as it was."""
     def case(program, folder):
-        if os.geteuid() == 0:
-            return "left out, the superuser may read all"
-        os.chmod(path_in(folder, name), 0)
-        expect(program, folder, check_words(program, folder), FAILED)
+        words = bound_by_permissions(words_of(program, folder))
+        if words is None:
+            return "left out, the superuser may do all"
+        if name not in TEXTS:
+            put(path_in(folder, name), OLD)
+        os.chmod(path_in(folder, name), mode)
+        expect(program, folder, words, FAILED, plan, bound)
         return None
     return case
 
@@ -281,6 +293,8 @@ OUTPUTS = [
     ("a folder in place of the certificate", plain(solve_words, FAILED, b"", folder_named="d", certificate="d")),
     ("the solution in no folder", plain(solve_words, FAILED, solution=DEEP)),
     ("the certificate in no folder", plain(solve_words, FAILED, b"", certificate=DEEP)),
+    ("the solution without permission", without_permission(solve_words, "plan", 0o400, OLD)),
+    ("the certificate without permission", without_permission(solve_words, "bound", 0o400, b"", OLD)),
     ("the solution with a long name", plain(solve_words, FAILED, solution=LONG)),
     ("the solution without a name", plain(solve_words, FAILED, solution="")),
     ("the solution's reader leaves", reader_that_leaves("plan", None, b"")),
@@ -308,7 +322,8 @@ INPUTS = [
      ] + [("a folder in place of the %s, check" % name, plain(check_words, FAILED, folder_named="d", **{name: "d"}))
           for name in TEXTS
           ] + [("the %s from a pipe" % name, from_a_pipe(name)) for name in TEXTS
-               ] + [("the %s without permission" % name, without_permission(name)) for name in TEXTS]
+               ] + [("the %s without permission, check" % name, without_permission(check_words, name, 0))
+                    for name in TEXTS]
 WORDS = [("wrong words", wrong_word(word)) for word in (
     [], [""], ["solve"], ["check", "a"], ["solve", "a", "b"], ["solve", "a", "b", "c", "d"], ["solve", "--turns"],
     ["check", "a", "b", "--solution"], ["close"], [b"solve", b"\xff", b"b", b"c"], [b"check", b"a", b"\xc3"],
