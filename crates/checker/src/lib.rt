@@ -1,5 +1,5 @@
 //! A checker of certificates and solutions, apart from the solver: it shares no code with it but the
-//! readers of the texts.
+//! instance and the readers of the texts.
 #![tactic(auto)]
 
 mod checking;

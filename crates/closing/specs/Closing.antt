@@ -1,9 +1,10 @@
 -- What it is to close an instance.
-use Rattle.std.specs.Prelude.{◌≡◌, ℕ, ◌+◌, ◌<◌, ◌≤◌, List, Option, Some, None, option_map, IfSome}
+use Rattle.std.specs.Prelude.{◌≡◌, ℕ, ◌+◌, ◌<◌, ◌≤◌, List, Option, Some, None, option_map, IfSome, MatchOption}
 use Rattle.solomon_reader.specs.Problem.{Problem, customer_count}
 use Rattle.solomon_reader.specs.Duality.{IsPlanCost}
 use Rattle.solomon_reader.specs.Bound.{ceiling_of}
 use Rattle.schedule.specs.Solution.{Solution}
+use Rattle.insertion.specs.Building.{IsServedAlone}
 use Rattle.branching.specs.Nodes.{IsListedTree}
 use Rattle.branching.specs.declared.tree_node.TreeNode.{TreeNode}
 use Rattle.closing.specs.declared.closed.Closed.{Closed}
@@ -29,10 +30,10 @@ pub record IsClosed (p : Problem) (k limit : ℕ) (c : Closed) : Type 0 where
   pub tree : IsListedTree p k c.nodes.items c.bound leaves
   pub within : leaves ≤ limit
 
--- A tree with exactly as many leaves as the limit allows, whose bound is below the cost told, which a plan has, or at most the ceiling where none is told.
+-- A tree with exactly as many leaves as the limit allows, whose bound is below the cost told, which a plan has, or at most the ceiling where none is told. A cost is told where there is a vehicle for each customer and each can be served alone.
 pub record IsStopped (p : Problem) (k limit : ℕ) (cost : Option ℕ) (bound : ℕ) (nodes : List TreeNode) : Type 0 where
   pub small : customer_count p ≤ MOST_CLOSED
-  pub plan : IfSome cost (IsPlanCost p)
+  pub plan : MatchOption cost (¬ IsServedAlone p) (IsPlanCost p)
   pub below : bound < known_or_above p cost
   pub tree : IsListedTree p k nodes bound limit
 

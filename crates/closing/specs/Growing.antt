@@ -1,11 +1,12 @@
 -- A tree that grows.
-use Rattle.std.specs.Prelude.{◌≡◌, ℕ, ◌+◌, ◌<◌, ◌≤◌, min, true, false, [], ◌∷◌, ◌++◌, map, IfSome}
+use Rattle.std.specs.Prelude.{◌≡◌, ℕ, ◌+◌, ◌<◌, ◌≤◌, min, true, false, [], ◌∷◌, ◌++◌, map, MatchOption}
 use Rattle.solomon_reader.specs.Bound.{version_2, Tree, split_node, preorder, HasBound, ceiling_of}
 use Rattle.solomon_reader.specs.CertificateText.{IsTreeAt, leaf_count}
 use Rattle.solomon_reader.specs.Region.{Region}
 use Rattle.branching.specs.Arcs.{pair}
 use Rattle.branching.specs.Nodes.{node_of}
 use Rattle.prices.specs.Pricing.{Pricing}
+use Rattle.insertion.specs.Building.{IsServedAlone}
 use Rattle.price_ascent.specs.Branching.{AreChildren}
 use Rattle.price_ascent.specs.declared.child.Children.{Children}
 use Rattle.closing.specs.Closing.{known_or_above, costs}
@@ -15,9 +16,9 @@ use Rattle.closing.specs.declared.growth.Growth.{Growth}
 abbrev pub target_of : Growth → ℕ
 target_of t = known_or_above t.instance.now (costs t.best)
 
--- The bound is below the target only where the growth has stopped, and then there are as many leaves as the limit allows.
+-- A plan is known where there is a vehicle for each customer and each can be served alone. The bound is below the target only where the growth has stopped, and then there are as many leaves as the limit allows.
 pub record IsGrowth (t : Growth) : Type 0 where
-  pub best : IfSome t.best (λ f. f.problem ≡ t.instance.now)
+  pub best : MatchOption t.best (¬ IsServedAlone t.instance.now) (λ f. f.problem ≡ t.instance.now)
   pub low : t.bound ≤ ceiling_of t.instance.now + 1
   pub room : t.leaves ≤ t.limit
   pub going : t.is_stopped ≡ false → target_of t ≤ t.bound

@@ -21,7 +21,7 @@ use std::alloc::Global;
 /// on the caller's thread and waits for nobody.
 ///
 /// `TooLarge` where there are more customers, `LeafLimit` where more leaves are needed, with the least
-/// cost found, the bound and the tree, and `Memory`.
+/// cost found, if there is one, the bound and the tree, and `Memory`.
 pub fn close_alone<'i>(
     alloc: Global,
     instance: &'i Instance,

@@ -32,7 +32,8 @@ pub enum CloseAloneFault {
     /// The tree has as many leaves as the caller allowed, and its bound is below the cost.
     #[error("LeafLimit")]
     LeafLimit {
-        /// The cost of the cheapest plan found, if one was.
+        /// The cost of a plan, the cheapest found; told where one was, and so where there is a vehicle
+        /// for each customer and each can be served alone.
         cost: Option<Tenths>,
         /// The bound of the tree.
         bound: Tenths,

@@ -1,9 +1,10 @@
 //! What a closing begins with: a plan, and prices at the root.
 
-ghost use Rattle.std.specs.Prelude.{◌≡◌, ◌≤◌, IfOk, IfSome};
+ghost use Rattle.std.specs.Prelude.{◌≡◌, ◌≤◌, IfOk, MatchOption};
 ghost use Rattle.solomon_reader.specs.Problem.{customer_count};
 ghost use Rattle.solomon_reader.specs.Region.{root_region};
 ghost use Rattle.solomon_reader.specs.declared.limits.TheConstants.{MOST_NEIGHBOURS};
+ghost use Rattle.insertion.specs.Building.{IsServedAlone};
 ghost use Rattle.search.specs.Searching.{plan_of};
 
 use insertion::{Built, InsertFault, Weights, build};
@@ -32,7 +33,7 @@ fn build_with<'i>(
     instance: &'i Instance,
     weights: &Weights,
 ) -> Result<Option<Feasible<'i>>, AllocError>
-    ensures { IfOk result (λ plan. IfSome plan (λ f. f.problem ≡ instance.now)) }
+    ensures { IfOk result (λ plan. MatchOption plan (¬ IsServedAlone instance.now) (λ f. f.problem ≡ instance.now)) }
 {
     match build(alloc, instance, weights) {
         Ok(Built::Whole(plan)) => Ok(Some(plan)),
@@ -48,7 +49,7 @@ fn built_plan<'i, R: Rng>(
     instance: &'i Instance,
     random: &mut R,
 ) -> Result<Option<Feasible<'i>>, AllocError>
-    ensures { IfOk result (λ plan. IfSome plan (λ f. f.problem ≡ instance.now)) }
+    ensures { IfOk result (λ plan. MatchOption plan (¬ IsServedAlone instance.now) (λ f. f.problem ≡ instance.now)) }
 {
     if let Some(plan) = build_with(alloc, instance, &Weights::plain())? {
         return Ok(Some(plan));
@@ -91,7 +92,7 @@ pub(crate) fn first_plan<'i>(
     alloc: Global,
     instance: &'i Instance,
 ) -> Result<Option<Feasible<'i>>, AllocError>
-    ensures { IfOk result (λ plan. IfSome plan (λ f. f.problem ≡ instance.now)) }
+    ensures { IfOk result (λ plan. MatchOption plan (¬ IsServedAlone instance.now) (λ f. f.problem ≡ instance.now)) }
 {
     let mut random = Xoshiro256PlusPlus::seed_from_u64(SEED);
     let Some(plan) = built_plan(alloc, instance, &mut random)? else {

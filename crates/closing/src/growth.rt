@@ -1,10 +1,11 @@
 //! A tree that grows.
 
-ghost use Rattle.std.specs.Prelude.{◌≡◌, ◌+◌, ◌<◌, ◌≤◌, min, false, true, [], IfSome, OnOk, ◌++◌, ◌∷◌, map, IfOk, IfErr};
+ghost use Rattle.std.specs.Prelude.{◌≡◌, ◌+◌, ◌<◌, ◌≤◌, min, false, true, [], MatchOption, OnOk, ◌++◌, ◌∷◌, map, IfOk, IfErr};
 ghost use Rattle.solomon_reader.specs.Problem.{customer_count};
 ghost use Rattle.solomon_reader.specs.Bound.{ceiling_of, split_node};
 ghost use Rattle.branching.specs.Arcs.{pair};
 ghost use Rattle.branching.specs.Nodes.{node_of, IsListedTree};
+ghost use Rattle.insertion.specs.Building.{IsServedAlone};
 ghost use Rattle.prices.specs.Pricing.{IsPricing};
 ghost use Rattle.closing.specs.Closing.{IsClosed, IsLeftOpen};
 ghost use Rattle.closing.specs.declared.closed.TheConstants.{MOST_CLOSED};
@@ -64,7 +65,7 @@ impl<'i> Growth<'i> {
         limit: u32,
         best: Option<Feasible<'i>>,
     ) -> Growth<'i>
-        requires own { IfSome best (λ f. f.problem ≡ instance.now) }
+        requires own { MatchOption best (¬ IsServedAlone instance.now) (λ f. f.problem ≡ instance.now) }
         requires some { 1 ≤ limit }
         ensures growth { IsGrowth result }
         ensures instance { result.instance.now ≡ instance.now }

@@ -9,6 +9,7 @@ ghost use Rattle.incumbent_book.specs.Forward.{IsForward, GrowsIn};
 ghost use Rattle.solomon_reader.specs.Bound.{Tree, preorder};
 ghost use Rattle.incumbent_book.specs.declared.node.Node.TheVariants.{Open, Split};
 
+use crate::gap::Steps;
 use crate::index::{least, replace, replace_by_two};
 use crate::listing::add_tree;
 use crate::node::{Leaf, Node};
@@ -112,10 +113,11 @@ impl<'i> Arena<'i> {
     }
 
     /// The least value of the leaves.
-    pub(crate) fn least_value(&self) -> Option<u128>
-        ensures { IsLeastOf self.now result }
+    pub(crate) fn least_value(&self, steps: &mut Steps) -> Option<u128>
+        ensures least { IsLeastOf self.now result }
+        ensures at_most_one { (steps.old ≤ steps.new) × (steps.new ≤ steps.old + 1) }
     {
-        least(&self.index)
+        least(&self.index, steps)
     }
 
     /// Gives a leaf new prices of another value, or gives them back where memory was refused.

@@ -189,22 +189,22 @@ impl<'i> Book<'i> {
         ensures holds { (routes : List (List ℕ)) → IsPlan self.now.problem routes → result.bound ≤ plan_cost self.now.problem routes }
         ensures book { IsBook self.now }
     {
-        self.holds();
-        Gap {
-            cost: self.best(),
-            bound: self.bound(),
-        }
+        self.gap_counted(&mut Steps::new())
     }
 
     /// The answer of `gap`. It reads the value of one node at most, which `steps` counts.
     pub fn gap_counted(&self, steps: &mut Steps) -> Gap
         ensures gap { IsGap self.now result }
+        ensures within { result.bound ≤ MOST_TENTHS }
         ensures holds { (routes : List (List ℕ)) → IsPlan self.now.problem routes → result.bound ≤ plan_cost self.now.problem routes }
         ensures at_most_one { (steps.old ≤ steps.new) × (steps.new ≤ steps.old + 1) }
         ensures book { IsBook self.now }
     {
-        steps.tick();
-        self.gap()
+        self.holds();
+        Gap {
+            cost: self.best(),
+            bound: self.bound(steps),
+        }
     }
 
     /// The accepted calls, in order.
@@ -259,12 +259,13 @@ impl<'i> Book<'i> {
     }
 
     /// The least of the leaves' values and the ceiling plus one, in tenths.
-    fn bound(&self) -> Tenths
+    fn bound(&self, steps: &mut Steps) -> Tenths
         ensures bound { IsBound self.now.problem self.now.root self.now.past result }
         ensures within { result ≤ MOST_TENTHS }
+        ensures at_most_one { (steps.old ≤ steps.new) × (steps.new ≤ steps.old + 1) }
     {
         let above = self.bounded.above();
-        match self.arena.least_value() {
+        match self.arena.least_value(steps) {
             None => Tenths::from(above),
             Some(value) => {
                 if value < u128::from(above) {

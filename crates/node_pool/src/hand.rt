@@ -113,8 +113,8 @@ impl Hand {
         Ok(())
     }
 
-    /// Takes the oldest number out. `None` where the deque was empty at one moment of the call. It waits
-    /// for nobody.
+    /// Takes the oldest number out. `None` where the deque was empty at one moment of the call, which the
+    /// clause says only where no pass is out. It waits for nobody.
     pub fn pop(&mut self) -> Option<u32>
         ensures rule { MatchOption result
             ((known_to self.new ≡ known_to self.old) × WasEmpty (known_to self.old))

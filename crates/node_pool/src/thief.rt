@@ -13,7 +13,7 @@ use std::alloc::Global;
 pub enum Stolen {
     /// The oldest number.
     One(u32),
-    /// The deque was empty.
+    /// The deque was empty; what other passes took meanwhile isn't known, so the clauses say little of it.
     Empty,
     /// Nothing was taken, since others took from the deque.
     Again,

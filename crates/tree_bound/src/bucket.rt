@@ -204,11 +204,6 @@ impl Bucket {
         self.labels.as_slice()
     }
 
-    /// How many labels stand.
-    pub(crate) fn standing(&self) -> usize {
-        self.labels.iter().filter(|label| label.active).count()
-    }
-
     /// Whether a label that stands dominates another one, as far as the groups of its customer tell.
     pub(crate) fn dominates(&self, label: &Label) -> bool
         ensures { IsTrue result → IsDominated self.now label.now }

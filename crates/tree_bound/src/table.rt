@@ -55,7 +55,8 @@ pub(crate) fn keep(table: &mut Table, load: usize, label: &Label) -> Result<(), 
     Ok(())
 }
 
-/// Keeps a label that was worked among the settled ones, and drops those that it dominates.
+/// Keeps a label that was worked among the settled ones, where it stands on, and drops those that it
+/// dominates.
 pub(crate) fn settle(
     table: &mut Table,
     settled: &mut Bucket,
@@ -65,10 +66,7 @@ pub(crate) fn settle(
     ensures table { table.new.buckets.items ≡ table.old.buckets.items }
     ensures kept { IfOk result (λ _. IsKept settled.old settled.new label.now) }
 {
-    if table.standing >= table.state_limit {
-        return Err(BoundFault::StateLimit);
-    }
     let dropped = settled.keep(table.alloc, label)?;
-    table.standing = table.standing.saturating_add(1).saturating_sub(dropped);
+    table.standing = table.standing.saturating_sub(dropped);
     Ok(())
 }

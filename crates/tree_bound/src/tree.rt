@@ -93,9 +93,9 @@ fn bound_at(
 /// each last customer, load and memory, the pairs of time and cost that no other dominates.
 ///
 /// `state_limit` counts the kept pairs that stand at once for one leaf. A pair stands from when it is
-/// kept until it is dominated, or all pairs of its load are worked; the empty beginning at the depot
-/// is none. `StateLimit` where that many stand and one more has to be kept, `Memory` where a growth
-/// was refused.
+/// kept until it is found to be dominated; one that was worked stays, among the settled ones. The empty
+/// beginning at the depot is none. `StateLimit` where that many stand and one more has to be kept,
+/// `Memory` where a growth was refused.
 pub fn bound(
     alloc: Global,
     instance: &Instance,

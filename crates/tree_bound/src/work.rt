@@ -61,12 +61,15 @@ fn work_labels(
         if is_open(settled, label) {
             best = work_label(task, table, load, label, best)?;
             settle(table, settled, label)?;
+        } else {
+            table.standing = table.standing.saturating_sub(usize::from(label.active));
         }
     }
     Ok(best)
 }
 
-/// Takes the labels of a load out and works them. They count until all of them are worked.
+/// Takes the labels of a load out and works them. Each goes on counting as a settled one, or no longer
+/// where a settled one dominates it.
 fn work_load(
     task: &Task<'_, '_>,
     table: &mut Table,
@@ -80,7 +83,6 @@ fn work_load(
 {
     let bucket = mem::replace(&mut table.buckets[load], Bucket::new(table.alloc));
     let after = work_labels(task, table, settled, load, bucket.labels(), best)?;
-    table.standing = table.standing.saturating_sub(bucket.standing());
     Ok(after)
 }
 

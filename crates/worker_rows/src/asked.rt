@@ -43,13 +43,13 @@ pub fn priced_at<'i>(
     alloc: Global,
     instance: &'i Instance,
     region: Region,
-    prices: [i64; 2],
+    prices: &[i64],
 ) -> Result<Priced<'i>, Fail> {
     let count = instance.customer_count();
-    if count != 2 || region.size() != 2 {
-        return Err(Fail::from("not two customers"));
+    if usize::from(count) != prices.len() || region.size() != count {
+        return Err(Fail::from("not a price for each customer"));
     }
-    let list = Vec::from_slice(alloc, &prices)?;
+    let list = Vec::from_slice(alloc, prices)?;
     match Priced::of(alloc, instance, region, 1, list, None) {
         Ok(priced) => Ok(priced),
         Err(_) => Err(Fail::from("prices were refused")),
@@ -152,7 +152,7 @@ pub fn split_by<'i, R: Wait + AllocGlobal, A: Asked<'i>>(
     arc: Arc,
     prices: [i64; 2],
 ) -> Result<Result<(u32, u32), BookFault>, Fail> {
-    let used = priced_at(rt.alloc(), instance, region.used(arc)?, prices)?;
-    let unused = priced_at(rt.alloc(), instance, region.forbidden(arc)?, prices)?;
+    let used = priced_at(rt.alloc(), instance, region.used(arc)?, &prices)?;
+    let unused = priced_at(rt.alloc(), instance, region.forbidden(arc)?, &prices)?;
     Ok(asked.ask_split(rt, leaf, arc, used, unused))
 }

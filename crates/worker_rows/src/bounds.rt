@@ -4,8 +4,11 @@ ghost use Rattle.std.specs.List.{All};
 ghost use Rattle.node_pool.specs.Deques.{FitsAt};
 ghost use Rattle.node_pool.specs.Ends.{deque_at};
 
+use crate::asked::{in_line, priced_at};
 use crate::fake::{Counts, Fake};
+use branching::Region;
 use ceiling::Ceiling;
+use incumbent_book::BookFault;
 use node_pool::{Hand, Pass, Pool, Thief};
 use prices::Priced;
 use row_texts::{DEPOT, instance_text};
@@ -45,16 +48,18 @@ fn second_nodes<'p>(
 /// were passed.
 type Done = (u32, u32, usize, usize, usize);
 
-/// Turns over the root of an instance at prices of zero.
+/// Turns over a fake, by the worker at the second of two deques, each of which takes so many numbers.
 fn turns_over(
     alloc: Global,
     instance: &Instance,
-    nodes: Nodes<'_>,
+    mut hub: Fake<'_>,
+    room: usize,
+    is_stolen: bool,
     turns: u32,
-    is_bare: bool,
 ) -> Result<Done, Fail> {
-    let mut hub = Fake::new(Priced::root(alloc, instance, 8, None)?);
-    hub.is_bare = is_bare;
+    let (hands, deques, passes) = Pool::new(alloc, 2, room)?;
+    let deques = deques.as_slice();
+    let nodes = second_nodes(alloc, instance, hands, deques, passes, is_stolen)?;
     let gate = Counts::new();
     let settings = Settings {
         turns,
@@ -74,25 +79,30 @@ fn turns_over(
     ))
 }
 
-/// Two customers in a line from the depot, which one vehicle can serve.
-fn in_line(alloc: Global) -> Result<Instance, Fail> {
-    let text = instance_text(alloc, 2, 2, DEPOT, "1 3 4 1 0 1000 0\n2 6 8 1 0 1000 0\n")?;
+/// Turns over two customers in a line, at prices of zero.
+fn turns_made(alloc: Global, turns: u32, is_stolen: bool, is_bare: bool) -> Result<Done, Fail> {
+    let instance = in_line(alloc)?;
+    let mut hub = Fake::new(Priced::root(alloc, &instance, 8, None)?);
+    hub.is_bare = is_bare;
+    turns_over(alloc, &instance, hub, 10, is_stolen, turns)
+}
+
+/// Three customers at one place, of which a route serves two in time: the best prices of the root say
+/// 15.0, and a plan costs 20.0.
+fn in_pairs(alloc: Global) -> Result<Instance, Fail> {
+    let rows = "1 3 4 1 0 20 10\n2 3 4 1 0 20 10\n3 3 4 1 0 20 10\n";
+    let text = instance_text(alloc, 3, 3, DEPOT, rows)?;
     Ok(read(alloc, text.as_bytes())?)
 }
 
-/// Turns of the worker at the second of two deques, with two customers in a line.
-fn turns_made(alloc: Global, turns: u32, is_stolen: bool, is_bare: bool) -> Result<Done, Fail> {
-    let instance = in_line(alloc)?;
-    let (hands, deques, passes) = Pool::new(alloc, 2, 10)?;
-    let nodes = second_nodes(
-        alloc,
-        &instance,
-        hands,
-        deques.as_slice(),
-        passes,
-        is_stolen,
-    )?;
-    turns_over(alloc, &instance, nodes, turns, is_bare)
+/// Three turns over a root that has the best prices, so that it is split; each split is refused so, if it
+/// is. The deques take so many numbers, the root among them.
+fn turns_splitting(alloc: Global, room: usize, refusal: Option<BookFault>) -> Result<Done, Fail> {
+    let instance = in_pairs(alloc)?;
+    let root = Region::root(alloc, 3);
+    let mut hub = Fake::new(priced_at(alloc, &instance, root, &[50_000; 3])?);
+    hub.split_refusal = refusal;
+    turns_over(alloc, &instance, hub, room, false, 3)
 }
 
 #[test]
@@ -113,5 +123,28 @@ fn an_idle_worker_steals(rt: HostRuntime) -> Result<(), Fail> {
 fn numbers_without_a_leaf_are_laid_aside(rt: HostRuntime) -> Result<(), Fail> {
     let made = turns_made(rt.alloc(), 3, false, true)?;
     assert!(rt; made == (3, 0, 0, 0, 3));
+    Ok(())
+}
+
+#[test]
+fn a_full_deque_ends_the_work(rt: HostRuntime) -> Result<(), Fail> {
+    let going = turns_splitting(rt.alloc(), 10, None)?;
+    let full = turns_splitting(rt.alloc(), 1, None)?;
+    assert!(rt; (going, full) == ((3, 3, 3, 0, 3), (1, 1, 1, 0, 1)));
+    Ok(())
+}
+
+#[test]
+fn refusals_for_want_of_room_end_the_work(rt: HostRuntime) -> Result<(), Fail> {
+    for refusal in [
+        BookFault::Memory,
+        BookFault::JournalFull,
+        BookFault::LeavesFull,
+    ] {
+        let made = turns_splitting(rt.alloc(), 10, Some(refusal))?;
+        assert!(rt; made == (1, 1, 1, 0, 1));
+    }
+    let made = turns_splitting(rt.alloc(), 10, Some(BookFault::TooDeep))?;
+    assert!(rt; made == (3, 1, 1, 0, 3));
     Ok(())
 }

@@ -18,6 +18,8 @@ pub struct Fake<'i> {
     pub splits: u32,
     /// From this offer on each is refused so.
     pub refusal: (u32, BookFault),
+    /// How each split is refused, if it is.
+    pub split_refusal: Option<BookFault>,
     /// Whether no number is a leaf's.
     pub is_bare: bool,
 }
@@ -30,6 +32,7 @@ impl<'i> Fake<'i> {
             reprices: 0,
             splits: 0,
             refusal: (u32::MAX, BookFault::Memory),
+            split_refusal: None,
             is_bare: false,
         }
     }
@@ -55,11 +58,14 @@ impl<'i> Hub<'i> for Fake<'i> {
         &mut self,
         _leaf: u32,
         _arc: Arc,
-        _used: Priced<'i>,
-        _unused: Priced<'i>,
+        used: Priced<'i>,
+        unused: Priced<'i>,
     ) -> Result<(u32, u32), (Priced<'i>, Priced<'i>, BookFault)> {
         self.splits = self.splits.saturating_add(1);
-        Ok((1, 2))
+        match self.split_refusal {
+            Some(fault) => Err((used, unused, fault)),
+            None => Ok((1, 2)),
+        }
     }
 
     fn look(&mut self, _leaf: u32) -> Result<Priced<'i>, LookFault> {

@@ -136,7 +136,7 @@ fn opening_fault(
     region: Region,
     limits: Option<Limits>,
 ) -> Result<Option<OpenFault>, Fail> {
-    let priced = priced_at(alloc, instance, region, [0, 0])?;
+    let priced = priced_at(alloc, instance, region, &[0, 0])?;
     let opened = match limits {
         Some(limits) => Book::with_limits(alloc, priced, limits),
         None => Book::new(alloc, priced),

@@ -57,7 +57,7 @@ fn reprice<'i, R: Wait + AllocGlobal, A: Asked<'i>>(
     region: Region,
     prices: [i64; 2],
 ) -> Result<Result<(), BookFault>, Fail> {
-    let priced = priced_at(rt.alloc(), instance, region, prices)?;
+    let priced = priced_at(rt.alloc(), instance, region, &prices)?;
     Ok(asked.ask_reprice(rt, leaf, priced))
 }
 

@@ -118,6 +118,7 @@ impl<'p> Nodes<'p> {
     }
 
     /// Puts the leaf of the least value that is left into the worker's own deque, for others to steal.
+    /// Where the deque takes no more, the worker's work ends.
     fn share_next(&mut self) -> Result<(), Refusal> {
         let Some(next) = take_least(&mut self.open) else {
             return Ok(());
@@ -127,8 +128,7 @@ impl<'p> Nodes<'p> {
                 self.shared_value = next.value;
                 Ok(())
             }
-            // A deque that takes no more leaves the worker its leaves.
-            Err(_) => self.push(next.number, next.value),
+            Err(_) => Err(Refusal::EndsWork),
         }
     }
 
@@ -145,7 +145,7 @@ impl<'p> Nodes<'p> {
     }
 
     /// Keeps both children of a leaf, with their values in tenths, and shares one leaf at once: a worker
-    /// that has none may be looking. Where memory is refused, the worker's work ends.
+    /// that has none may be looking. Where memory is refused or the deque is full, the worker's work ends.
     pub(crate) fn push_children(
         &mut self,
         first: (u32, i128),
@@ -165,7 +165,8 @@ impl<'p> Nodes<'p> {
     }
 
     /// The leaf to go on with, else that of the least value of the worker's own, so that the bound
-    /// rises, or one of another worker. Where memory is refused, the worker's work ends.
+    /// rises, or one of another worker. Where memory is refused or the deque is full, the worker's work
+    /// ends.
     pub(crate) fn take(&mut self) -> Result<Option<Taken>, Refusal> {
         if let Some(number) = self.current.take() {
             return Ok(Some(Taken {

@@ -1,5 +1,5 @@
 use Rattle.search_workers.proofs.Fitting.{fits_all}
-use Rattle.worker_rows.proofs.bounds.turns_made.Goals as goal
+use Rattle.worker_rows.proofs.bounds.turns_over.Goals as goal
 
 -- the passes were made for these deques
 pub second_nodes-requires : goal.second_nodes-requires
