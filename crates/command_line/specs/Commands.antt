@@ -63,12 +63,13 @@ check_shape = shape_with (codes "check")
     (path_rule (codes "INSTANCE") ∷ path_rule (codes "CERTIFICATE") ∷ path_option_rule (codes "solution")
     ∷ number_option_rule (codes "states") (between 1 MOST_STATES) (codes "5000000") ∷ [])
 
--- one command for each job
+-- one command for each job, and a version that can be asked for
 abbrev pub program : App
 program = record {
   top = record (new_app (codes "vrptw")).top {
     no_binary_name = true;
     subcommand_required = true;
+    has_version = true;
     is_leaf = false;
   };
   subs = solve_shape ∷ check_shape ∷ [];

@@ -16,6 +16,9 @@ use worker_turns::{MOST_BOUNDERS, MOST_LABELS, MOST_SEARCHERS, MOST_TURNS, Setti
 
 const PROGRAM: &str = "vrptw";
 
+/// What `--version` prints behind the program's name.
+const VERSION: &str = "1.0.0 (writes certificates of version 2, reads versions 1 and 2)";
+
 /// A path that has to be given.
 fn path<'a>(alloc: Global, id: &'a str, help: &'a str) -> Arg<'a>
     ensures rule { rule_of result ≡ path_rule id.entry.now }
@@ -198,6 +201,7 @@ fn vrptw_command<'a>(alloc: Global) -> Result<Command<'a>, AllocError>
 {
     Command::new(alloc, PROGRAM)
         .bin_name(PROGRAM)?
+        .version(VERSION)
         .about("Plans routes for vehicles with time windows, and proves how good they are")
         .no_binary_name(true)
         .subcommand_required(true)

@@ -8,7 +8,7 @@ use Rattle.command_line.proofs.commands.vrptw_command.Goals as goal
 -- the program before it has commands
 alone : App
 alone = record {
-  top = record (new_app (codes "vrptw")).top { no_binary_name = true; subcommand_required = true };
+  top = record (new_app (codes "vrptw")).top { no_binary_name = true; subcommand_required = true; has_version = true };
   subs = [];
 }
 
