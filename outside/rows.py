@@ -88,13 +88,14 @@ def four_hundred(version, customers, said):
     return "%d customers, version %d" % (customers, version), INSTANCES["many"], certificate, solution, [], said
 
 
-def one_pair():
-    """One pair of time and cost doesn't suffice for two customers."""
+def pairs(states, said):
+    """Four pairs of time and cost ever are for two customers in one vehicle: after 1, 2, 1 2 and 2 1."""
     certificate = certificate_text(1, 2, 8, "20.0", "P 100000 100000\n")
-    return "one pair", INSTANCES["together"], certificate, "", ["--states", "1"], "vrptw: limit: StateLimit"
+    return "%d pairs" % states, INSTANCES["together"], certificate, "", ["--states", str(states)], said
 
 
-ROWS = ([texts_of(line) for line in TABLE.strip().split("\n")] + [one_pair()]
+ROWS = ([texts_of(line) for line in TABLE.strip().split("\n")]
+        + [pairs(1, "vrptw: limit: StateLimit"), pairs(3, "vrptw: limit: StateLimit"), pairs(4, "BOUND 20.0")]
         + [four_hundred(1, 400, "BEST 4000.0"), four_hundred(2, 400, "BEST 4000.0"),
            four_hundred(1, 401, "vrptw: certificate: BadLine line 3")])
 

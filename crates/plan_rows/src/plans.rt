@@ -57,19 +57,19 @@ pub(crate) fn told_copy(alloc: Global, instance: &Instance, plan: &Feasible<'_>)
     )
 }
 
-/// How many stops the trees of a plan of two routes have, if they are of the instance.
+/// How many stops the first tree of a plan has, and its height, if the trees are of the instance.
 pub(crate) fn told_trees(
     alloc: Global,
     instance: &Instance,
     plan: &Feasible<'_>,
 ) -> Option<String> {
     let mut trees = PlanTrees::new(alloc, plan).ok()?;
-    if trees.count() != 2 || *trees.instance() != *instance {
+    if trees.count() == 0 || *trees.instance() != *instance {
         return None;
     }
-    let first = i64::try_from(trees.route(0).len()).ok();
-    let second = i64::try_from(trees.route_mut(1).len()).ok();
-    named(alloc, "stops stops", &[first, second])
+    let height = i64::from(trees.route(0).height());
+    let stops = i64::try_from(trees.route_mut(0).len()).ok();
+    named(alloc, "stops height", &[stops, Some(height)])
 }
 
 /// The plan at which a descent ends.

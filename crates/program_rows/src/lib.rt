@@ -2,7 +2,8 @@
 //! on lines that begin with two blanks. A line without words, or with `#` as the first, is only printed. In
 //! texts a bar stands for a line feed and a tilde for the byte 1.
 //!
-//! - `file NAME FLEET CAPACITY LINES` writes an instance, and `show NAME` prints a file's text;
+//! - `file NAME FLEET CAPACITY LINES` writes an instance, `text NAME TEXT` another text, and `show NAME` prints
+//!   a file's text;
 //! - `run WORDS` runs the program, and prints its status and both streams; `streams WORDS` says only whether
 //!   a stream is empty;
 //! - `solve NAME OPTIONS` solves an instance and checks what was written: the line printed depends on how
@@ -32,7 +33,7 @@ use crate::jobs::{tell_job, tell_unheard};
 use crate::library::tell_library;
 use crate::runs::{tell_run, tell_streams};
 use crate::sinks::tell_sinks;
-use crate::texts::{tell_file, write_file};
+use crate::texts::{tell_file, write_file, write_text};
 use std::io;
 use std::rt::Runtime;
 use std::sync::Wait;
@@ -55,6 +56,7 @@ fn obey_alone<R: Runtime + AllocGlobal>(rt: &R, command: &str, rest: &[&str]) ->
     match command {
         "#" => Ok(true),
         "file" => write_file(rt, rest),
+        "text" => write_text(rt, rest),
         "bound" => tell_bound(rt, rest),
         "job" => tell_job(rt, rest),
         _ => tell_one(rt, command, rest),

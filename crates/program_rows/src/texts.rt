@@ -91,3 +91,13 @@ pub fn write_file<R: Runtime + AllocGlobal>(rt: &R, words: &[&str]) -> io::Resul
     fs::write(rt, path, text.as_str())?;
     Ok(true)
 }
+
+/// Writes a text of these words, and says whether the words were understood.
+pub fn write_text<R: Runtime + AllocGlobal>(rt: &R, words: &[&str]) -> io::Result<bool> {
+    let [path, words @ ..] = words else {
+        return Ok(false);
+    };
+    let text = text_meant(rt.alloc(), words)?;
+    fs::write(rt, path, text.as_str())?;
+    Ok(true)
+}
