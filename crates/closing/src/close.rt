@@ -59,7 +59,7 @@ pub fn close_counted<'i>(
     let root = first_leaf(alloc, instance, neighbours, plan.as_ref())?;
     let mut growth = Growth::new(alloc, instance, leaf_limit, plan);
     let mut pool = RoutePool::of_routes(alloc, instance, growth.routes())?;
-    grow(root, &mut growth, &mut pool)?;
+    grow(root, None, &mut growth, &mut pool)?;
     depth_holds();
     let closed = growth.finish(neighbours)?;
     Ok((closed, pool.pricings()))

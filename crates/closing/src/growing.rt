@@ -8,7 +8,7 @@ ghost use Rattle.closing.specs.Growing.{Grows, IsGrowth, IsSameTree, AddsSplit};
 use crate::growth::Growth;
 use crate::leaf::settled_leaf;
 use price_ascent::{
-    Children, Goal, IDLE_PRICINGS, RoutePool, branch, counted_routes, raise, rise_at,
+    ChildStart, Children, Goal, IDLE_PRICINGS, RoutePool, branch, counted_routes, raise, rise_at,
 };
 use prices::{PriceFault, Priced};
 use schedule::Feasible;
@@ -17,7 +17,7 @@ use std::alloc::AllocError;
 /// The most pricings at the root, and at another leaf.
 const ROOT_PRICINGS: u32 = 100;
 
-const LEAF_PRICINGS: u32 = 20;
+const LEAF_PRICINGS: u32 = 12;
 
 /// How far the prices of a leaf are raised: to the least cost known.
 fn goal_of(leaf: &Priced<'_>, growth: &Growth<'_>) -> Goal {
@@ -126,6 +126,7 @@ fn work_at<'i>(
 /// Raises the value of a leaf, and works at it.
 fn raise_and_work<'i>(
     leaf: Priced<'i>,
+    start: Option<ChildStart>,
     growth: &mut Growth<'i>,
     pool: &mut RoutePool,
 ) -> Result<Option<Children<'i>>, AllocError>
@@ -138,13 +139,14 @@ fn raise_and_work<'i>(
     ensures split { IfOk result (λ found. IfSome found (AddsSplit leaf.entry growth.old growth.new)) }
 {
     let goal = goal_of(&leaf, growth);
-    let raised = raise(growth.alloc, pool, leaf, &goal);
+    let raised = raise(growth.alloc, pool, leaf, start, &goal);
     work_at(&raised, growth, pool)
 }
 
-/// Lists the tree below a leaf.
+/// Lists the tree below a leaf, whose ascent starts where it was tried as a child, if it was.
 pub(crate) fn grow<'i>(
     leaf: Priced<'i>,
+    start: Option<ChildStart>,
     growth: &mut Growth<'i>,
     pool: &mut RoutePool,
 ) -> Result<(), AllocError>
@@ -157,10 +159,10 @@ pub(crate) fn grow<'i>(
     if growth.is_stopped {
         return growth.lay_aside(&leaf);
     }
-    let Some(children) = raise_and_work(leaf, growth, pool)? else {
+    let Some(children) = raise_and_work(leaf, start, growth, pool)? else {
         return Ok(());
     };
-    grow(children.used, growth, pool)?;
-    grow(children.unused, growth, pool)?;
+    grow(children.used, children.used_start, growth, pool)?;
+    grow(children.unused, children.unused_start, growth, pool)?;
     Ok(())
 }

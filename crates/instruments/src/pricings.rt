@@ -204,7 +204,7 @@ fn tell_raised<R: Host>(
     times: bool,
 ) -> io::Result<()> {
     let begin = Instant::now(rt)?;
-    let best = raise(rt.alloc(), pool, root, goal);
+    let best = raise(rt.alloc(), pool, root, None, goal);
     let milliseconds = begin.elapsed(rt)?.as_millis();
     let (pricings, value) = (goal.pricings, best.value());
     print!(rt; "pricings {pricings} value {value}")?;

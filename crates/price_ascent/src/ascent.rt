@@ -1,10 +1,9 @@
 //! The way of prices from one centre to the next.
 
 use crate::centre::Centre;
-use crate::floor::Floor;
-use crate::merit::Merit;
+use crate::goal::Goal;
 use crate::route_pool::RoutePool;
-use crate::trial::Trial;
+use pooled_routes::{Floor, GRAINS_OF_TENTH, Merit, Trial};
 use prices::Priced;
 use std::alloc::{AllocError, Global};
 
@@ -14,6 +13,9 @@ const LEAST_RISE: i64 = 1_000;
 /// The greatest rise, in grains.
 const MOST_RISE: i64 = 100_000_000_000;
 
+/// The least gap to the target that counts, in grains.
+const LEAST_GAP: i128 = 1_000;
+
 /// A way of prices by serious and null steps (Lemaréchal 1975; Kiwiel 1990): a serious step makes the
 /// prices of a trial the centre of the next, and a null step only adds a route to the pool.
 #[derive(Debug, Drop)]
@@ -22,6 +24,13 @@ pub(crate) struct Ascent {
     merit: Merit,
     floor: Floor,
     rise: i64,
+    /// The value in tenths at which to stop.
+    target: i128,
+}
+
+/// Tenths in grains.
+fn grains(tenths: i128) -> i128 {
+    tenths.saturating_mul(i128::from(GRAINS_OF_TENTH))
 }
 
 /// A rise within its range.
@@ -40,18 +49,16 @@ fn shorter(rise: i64) -> i64 {
 }
 
 impl Ascent {
-    /// The way from these prices, with a first rise in grains. So many routes count where the least
-    /// reduced cost is below 0.
+    /// The way from these prices to a goal.
     pub(crate) fn new(
         alloc: Global,
         pool: &mut RoutePool,
         priced: &Priced<'_>,
-        rise: i64,
-        routes: u16,
+        goal: &Goal,
     ) -> Result<Ascent, AllocError> {
-        let merit = Merit::new(priced.instance(), routes);
+        let merit = Merit::new(priced.instance(), goal.routes);
         let centre = Centre::new(alloc, priced, merit)?;
-        let rise = rise_in_range(rise);
+        let rise = rise_in_range(goal.rise);
         pool.enter(priced.region());
         pool.scale(rise);
         pool.add(priced.instance(), priced.least().route.as_slice())?;
@@ -60,20 +67,74 @@ impl Ascent {
             merit,
             floor: Floor::new(merit.counts_fleet()),
             rise,
+            target: goal.value,
         })
+    }
+
+    /// The value in tenths at which to stop.
+    pub(crate) fn target(&self) -> i128 {
+        self.target
+    }
+
+    /// The merit of the centre, in grains.
+    pub(crate) fn merit(&self) -> i128 {
+        self.centre.merit
+    }
+
+    /// How much the merit has to rise in grains until the value, which is rounded up, is the target.
+    pub(crate) fn gap(&self) -> i128 {
+        let enough = grains(self.target.saturating_sub(1)).saturating_add(1);
+        enough.saturating_sub(self.centre.merit).max(LEAST_GAP)
+    }
+
+    /// How far the merit has risen above another, in grains: at most to the target, and up to it where
+    /// the value has reached it.
+    pub(crate) fn rise_since(&self, merit: i128, value: i128) -> i128 {
+        let most = grains(self.target);
+        let reached = if value >= self.target {
+            most
+        } else {
+            self.centre.merit.min(most)
+        };
+        reached.saturating_sub(merit).max(0)
+    }
+
+    /// The centre as a trial that hasn't risen.
+    pub(crate) fn centre_prices(&self, alloc: Global) -> Result<Trial, AllocError> {
+        Trial::new(alloc, self.centre.prices.as_slice(), 0, self.floor)
+    }
+
+    /// The centre after a rise in grains, from which a projection starts.
+    pub(crate) fn start(&self, alloc: Global, rise: i64) -> Result<Trial, AllocError> {
+        let floor = self.floor.scaled(self.rise, rise);
+        let floor = self.merit.start(floor, self.centre.least, rise);
+        Trial::new(alloc, self.centre.prices.as_slice(), rise, floor)
+    }
+
+    /// How far the merit rises from the centre to the prices of a trial with this least reduced cost,
+    /// in grains.
+    pub(crate) fn rise_to(&self, trial: &Trial, least: i64) -> i128 {
+        let merit = self.merit.of(trial.as_slice(), i128::from(least));
+        merit.saturating_sub(self.centre.merit)
     }
 
     /// The centre after the rise, projected onto what the routes of the pool say.
     pub(crate) fn trial(&self, alloc: Global, pool: &mut RoutePool) -> Result<Trial, AllocError> {
-        let floor = self.merit.start(self.floor, self.centre.least, self.rise);
-        let mut trial = Trial::new(alloc, self.centre.prices.as_slice(), self.rise, floor)?;
-        pool.project(&mut trial);
+        let mut trial = self.start(alloc, self.rise)?;
+        pool.project(&mut trial)?;
         Ok(trial)
     }
 
-    /// Leaves a shorter rise to the pool, since the prices of a trial had no value.
-    pub(crate) fn draw_back(&self, pool: &mut RoutePool) {
-        pool.scale(shorter(self.rise));
+    /// Measures the multipliers by another rise.
+    fn scale(&mut self, pool: &mut RoutePool, rise: i64) {
+        pool.scale(rise);
+        self.floor = self.floor.scaled(self.rise, rise);
+        self.rise = rise;
+    }
+
+    /// Goes on with a shorter rise, since the prices of a trial had no value.
+    pub(crate) fn draw_back(&mut self, pool: &mut RoutePool) {
+        self.scale(pool, shorter(self.rise));
     }
 
     /// Whether the merit has grown by more than a tenth of what the trial promised.
@@ -91,21 +152,19 @@ impl Ascent {
         trial: &Trial,
         priced: &Priced<'_>,
     ) -> Result<(), AllocError> {
-        let floor = trial.floor();
+        self.floor = trial.floor();
         let next = Centre::new(alloc, priced, self.merit)?;
-        if next.least < i128::from(floor.value()) {
+        if next.least < i128::from(self.floor.value()) {
             pool.add(priced.instance(), priced.least().route.as_slice())?;
         }
-        let promised = self.merit.promised(priced.prices(), floor);
+        let promised = self.merit.promised(priced.prices(), self.floor);
         let rise = if self.is_serious(&next, promised) {
             self.centre = next;
             longer(self.rise)
         } else {
             shorter(self.rise)
         };
-        pool.scale(rise);
-        self.floor = floor.scaled(self.rise, rise);
-        self.rise = rise;
+        self.scale(pool, rise);
         Ok(())
     }
 }

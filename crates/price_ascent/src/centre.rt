@@ -1,6 +1,6 @@
 //! The prices that a rise starts from.
 
-use crate::merit::Merit;
+use pooled_routes::Merit;
 use prices::Priced;
 use std::alloc::{AllocError, Global};
 

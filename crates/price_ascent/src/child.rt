@@ -11,10 +11,12 @@ ghost use Rattle.prices.specs.Narrowing.{IsNarrower};
 ghost use Rattle.prices.specs.declared.fault.PriceFault.TheVariants.{LabelLimit, PriceRange};
 ghost use Rattle.price_ascent.specs.Branching.{AreChildren, IsPricedAt};
 
-use crate::pooled_route::GRAINS_OF_TENTH;
+use crate::child_start::ChildStart;
 use crate::pricing::price;
 use crate::route_pool::RoutePool;
+use crate::trying::{TriedArc, best_arc};
 use branching::{Arc, Region, RegionFault};
+use pooled_routes::{GRAINS_OF_TENTH, Side};
 use prices::{PriceFault, Priced};
 use solomon_reader::Instance;
 use std::alloc::{AllocError, Global};
@@ -28,6 +30,10 @@ pub struct Children<'i> {
     pub used: Priced<'i>,
     /// The child in which it is forbidden.
     pub unused: Priced<'i>,
+    /// Where the ascent at the first child starts, if it is known.
+    pub used_start: Option<ChildStart>,
+    /// Where the ascent at the second one starts.
+    pub unused_start: Option<ChildStart>,
 }
 
 /// A price in grains: with it for each customer a region without a relaxed route has a value above the
@@ -129,8 +135,43 @@ fn child_regions(region: &Region, arc: Arc) -> Result<(Region, Region), AllocErr
     }
 }
 
-/// The children of a leaf by the arc that the routes of the pool leave most open, with the leaf's prices
-/// or higher ones; nothing where every arc that the leaf's region allows is required. At most so many
+/// The stops for `choose` of a leaf's region: along the arc of the greatest score, or where none was
+/// tried, along those that the routes of the pool use.
+fn stops_along(
+    alloc: Global,
+    leaf: &Priced<'_>,
+    pool: &RoutePool,
+    tried: &Option<TriedArc>,
+) -> Result<Vec<u16>, AllocError> {
+    let instance = leaf.instance();
+    match tried {
+        Some(tried) => {
+            let between = instance.customer_count() + 1;
+            let stops = [between, tried.arc.from, tried.arc.to, between];
+            Vec::from_slice(alloc, &stops)
+        }
+        None => pool.branching_arcs(instance),
+    }
+}
+
+/// Where the ascents of the children by an arc start: the one in which it is required, and the other.
+fn starts_of(
+    pool: &RoutePool,
+    arc: Arc,
+    tried: Option<TriedArc>,
+) -> Result<(Option<ChildStart>, Option<ChildStart>), AllocError> {
+    let (used, unused) = match tried {
+        Some(tried) => tried.into_prices(arc),
+        None => (None, None),
+    };
+    let used = pool.start_of(arc, Side::Used, used)?;
+    let unused = pool.start_of(arc, Side::Unused, unused)?;
+    Ok((used, unused))
+}
+
+/// The children of a leaf whose prices were raised last, with its prices or higher ones: by the arc that
+/// promises most in a trial over the routes of the pool, or where none is worth one by that which they
+/// leave most open; nothing where every arc that the leaf's region allows is required. At most so many
 /// labels may be active at once in a pricing, if there is a limit; `LabelLimit` where they don't
 /// suffice, and `Memory`.
 pub fn branch<'i>(
@@ -144,15 +185,23 @@ pub fn branch<'i>(
     ensures in_range { IfErr result (λ e. e ≢ PriceRange) }
     ensures unlimited { IfErr result (λ e. e ≡ LabelLimit → labels ≢ None) }
 {
-    let arcs = pool.branching_arcs(leaf.instance())?;
-    let Some(arc) = leaf.region().choose(arcs.as_slice()) else {
+    let tried = best_arc(leaf, pool)?;
+    let stops = stops_along(alloc, leaf, pool, &tried)?;
+    let Some(arc) = leaf.region().choose(stops.as_slice()) else {
         return Ok(None);
     };
+    let (used_start, unused_start) = starts_of(pool, arc, tried)?;
     let (used, unused) = child_regions(leaf.region(), arc)?;
     let used = price_child(alloc, pool, leaf, used, labels);
     let unused = price_child(alloc, pool, leaf, unused, labels);
     match (used, unused) {
-        (Ok(used), Ok(unused)) => Ok(Some(Children { arc, used, unused })),
+        (Ok(used), Ok(unused)) => Ok(Some(Children {
+            arc,
+            used,
+            unused,
+            used_start,
+            unused_start,
+        })),
         (Err(fault), _) | (_, Err(fault)) => Err(fault),
     }
 }

@@ -2,21 +2,21 @@
 //! routes met so far.
 #![tactic(auto)]
 
-mod arc_flow;
 mod ascent;
+mod candidates;
 mod centre;
 mod child;
-mod floor;
+mod child_start;
 mod goal;
-mod merit;
-mod pooled_route;
+mod pool_trial;
 mod pricing;
 mod raising;
 mod route_pool;
 mod starting;
-mod trial;
+mod trying;
 
 pub use child::{Children, branch};
+pub use child_start::ChildStart;
 pub use goal::{Goal, IDLE_PRICINGS, counted_routes};
 pub use raising::raise;
 pub use route_pool::RoutePool;

@@ -1,13 +1,14 @@
 //! The raising of a leaf's value.
 
-ghost use Rattle.std.specs.Prelude.{◌≡◌, ◌≤◌, IfOk};
+ghost use Rattle.std.specs.Prelude.{◌≡◌, ◌≤◌, IfOk, IfSome};
 ghost use Rattle.price_ascent.specs.Branching.{IsPricedAt};
 
 use crate::ascent::Ascent;
+use crate::child_start::ChildStart;
 use crate::goal::Goal;
 use crate::pricing::price;
 use crate::route_pool::RoutePool;
-use crate::trial::Trial;
+use pooled_routes::Trial;
 use prices::{PriceFault, Priced};
 use std::alloc::Global;
 
@@ -44,23 +45,53 @@ pub(crate) fn higher<'i>(first: Priced<'i>, second: Priced<'i>) -> Priced<'i>
     }
 }
 
-/// Prices of the same leaf with a value that isn't lower, and mostly comes near the best that prices of
-/// the leaf can have.
-///
-/// From the best prices so far, the centre, each price rises by the same, and the sum is projected
-/// back onto what the routes of the pool say: the prices of a route's stops are at most its cost
-/// (Hildreth 1957). The next pricing finds a route that isn't kept to, or prices that are the next
-/// centre. Where memory or labels run out, the best found so far is answered; after a pricing without
-/// an answer the pool's rise is a shorter one, at which labels may suffice.
-pub fn raise<'i>(alloc: Global, pool: &mut RoutePool, priced: Priced<'i>, goal: &Goal) -> Priced<'i>
+/// The prices of a child's trial with their value, at the child; nothing where it wasn't tried, or where
+/// memory or labels don't suffice.
+fn price_start<'i>(
+    alloc: Global,
+    pool: &mut RoutePool,
+    child: &Priced<'i>,
+    start: &Option<ChildStart>,
+    labels: Option<usize>,
+) -> Option<Priced<'i>>
+    ensures { IfSome result (IsPricedAt child.now.region child.now) }
+{
+    let Some(start) = start else {
+        return None;
+    };
+    let Some(trial) = &start.trial else {
+        return None;
+    };
+    price_trial(alloc, pool, child, trial, labels).ok()
+}
+
+/// The higher of two prices of one leaf, if the second are known.
+fn higher_if<'i>(first: Priced<'i>, second: Option<Priced<'i>>) -> Priced<'i>
+    requires { IfSome second (IsPricedAt first.region first) }
+    ensures problem { result.problem ≡ first.entry.problem }
+    ensures region { result.region ≡ first.entry.region }
+    ensures neighbours { result.neighbours ≡ first.entry.neighbours }
+    ensures not_lower { first.entry.value ≤ result.value }
+{
+    match second {
+        Some(second) => higher(first, second),
+        None => first,
+    }
+}
+
+/// The best of these prices and those that an ascent comes to at their leaf.
+fn climb<'i>(
+    alloc: Global,
+    pool: &mut RoutePool,
+    ascent: &mut Ascent,
+    priced: Priced<'i>,
+    goal: &Goal,
+) -> Priced<'i>
     ensures problem { result.problem ≡ priced.entry.problem }
     ensures region { result.region ≡ priced.entry.region }
     ensures neighbours { result.neighbours ≡ priced.entry.neighbours }
     ensures not_lower { priced.entry.value ≤ result.value }
 {
-    let Ok(mut ascent) = Ascent::new(alloc, pool, &priced, goal.rise, goal.routes) else {
-        return priced;
-    };
     let mut best = priced;
     let mut idle: u32 = 0;
     for _ in 0..goal.pricings {
@@ -71,9 +102,14 @@ pub fn raise<'i>(alloc: Global, pool: &mut RoutePool, priced: Priced<'i>, goal: 
         let Ok(trial) = ascent.trial(alloc, pool) else {
             return best;
         };
-        let Ok(next) = price_trial(alloc, pool, &best, &trial, goal.labels) else {
-            ascent.draw_back(pool);
-            return best;
+        let next = match price_trial(alloc, pool, &best, &trial, goal.labels) {
+            Ok(next) => next,
+            Err(PriceFault::LabelLimit) => {
+                ascent.draw_back(pool);
+                idle = idle.saturating_add(1);
+                continue;
+            }
+            Err(_) => return best,
         };
         let taken_in = ascent.take_in(alloc, pool, &trial, &next);
         best = higher(best, next);
@@ -83,5 +119,43 @@ pub fn raise<'i>(alloc: Global, pool: &mut RoutePool, priced: Priced<'i>, goal: 
         let gains = best.value() > before;
         idle = if gains { 0 } else { idle.saturating_add(1) };
     }
+    best
+}
+
+/// Prices of the same leaf with a value that isn't lower, and mostly comes near the best that prices of
+/// the leaf can have.
+///
+/// From the best prices so far, the centre, each price rises by the same, and the sum is projected
+/// back onto what the routes of the pool say: the prices of a route's stops are at most its cost
+/// (Hildreth 1957). The next pricing finds a route that isn't kept to, or prices that are the next
+/// centre. Where the leaf was tried as a child, the prices of the trial are the first centre. Where labels
+/// run out in a pricing, the next rise is a shorter one, nearer to prices that could be priced; where memory
+/// does, the best found so far is answered.
+pub fn raise<'i>(
+    alloc: Global,
+    pool: &mut RoutePool,
+    priced: Priced<'i>,
+    start: Option<ChildStart>,
+    goal: &Goal,
+) -> Priced<'i>
+    ensures problem { result.problem ≡ priced.entry.problem }
+    ensures region { result.region ≡ priced.entry.region }
+    ensures neighbours { result.neighbours ≡ priced.entry.neighbours }
+    ensures not_lower { priced.entry.value ≤ result.value }
+{
+    if let Some(start) = &start {
+        pool.begin(start);
+    }
+    let tried = price_start(alloc, pool, &priced, &start, goal.labels);
+    let ascent = Ascent::new(alloc, pool, tried.as_ref().unwrap_or(&priced), goal);
+    let higher = higher_if(priced, tried);
+    let Ok(mut ascent) = ascent else {
+        return higher;
+    };
+    let best = climb(alloc, pool, &mut ascent, higher, goal);
+    if let Some(start) = &start {
+        pool.learn(start, &ascent, best.value());
+    }
+    pool.keep(ascent);
     best
 }

@@ -1,20 +1,27 @@
 //! The routes met so far.
 
-use crate::arc_flow::{ArcFlow, merge};
-use crate::pooled_route::PooledRoute;
-use crate::trial::Trial;
-use branching::Region;
+use crate::ascent::Ascent;
+use crate::child_start::ChildStart;
+use crate::pool_trial::PoolTrial;
+use crate::starting::trial_rise;
+use branching::{Arc, Region};
+use pooled_routes::{
+    ArcFlow, HalfSpace, PooledRoute, Projection, Pseudocosts, RouteShare, Side, Trial, merge,
+    scaled,
+};
 use solomon_reader::Instance;
 use std::alloc::{AllocError, Global};
 
-/// The most routes of a pool.
+/// The most routes of a pool: so many, or where that is more, so many for each customer.
 const MOST_ROUTES: usize = 400;
 
-/// The most sweeps of one projection.
-const MOST_SWEEPS: u32 = 200;
+const ROUTES_OF_CUSTOMER: usize = 4;
 
-/// A sweep that goes less far ends a projection, in grains.
-const ENOUGH: u64 = 20;
+/// The most sweeps of one projection.
+const MOST_SWEEPS: u32 = 60;
+
+/// The most routes of a trial for each customer.
+const TRIAL_ROUTES: usize = 4;
 
 /// The relaxed routes met so far at an instance's leaves, with what each says of prices. One pool
 /// serves all leaves, since a route doesn't depend on the region.
@@ -22,12 +29,17 @@ const ENOUGH: u64 = 20;
 pub struct RoutePool {
     alloc: Global,
     routes: Vec<PooledRoute>,
+    /// How many routes were added.
+    met: u64,
     /// The rise by which the multipliers are measured, in grains.
     rise: i64,
     /// How many pricings were made for it.
     pricings: u64,
     /// How many labels they made.
     labels: u64,
+    /// The last raising of prices.
+    ascent: Option<Ascent>,
+    pseudocosts: Pseudocosts,
 }
 
 impl RoutePool {
@@ -36,9 +48,12 @@ impl RoutePool {
         RoutePool {
             alloc,
             routes: Vec::new(alloc),
+            met: 0,
             rise: 1,
             pricings: 0,
             labels: 0,
+            ascent: None,
+            pseudocosts: Pseudocosts::new(alloc),
         }
     }
 
@@ -63,8 +78,10 @@ impl RoutePool {
         if stops.is_empty() || self.routes.iter().any(|route| route.stops() == stops) {
             return Ok(());
         }
-        let route = PooledRoute::new(self.alloc, instance, stops, self.pricings)?;
-        if self.routes.len() >= MOST_ROUTES {
+        let route = PooledRoute::new(self.alloc, instance, stops, self.met, self.pricings)?;
+        self.met = self.met.saturating_add(1);
+        let customers = usize::from(instance.customer_count());
+        if self.routes.len() >= MOST_ROUTES.max(customers * ROUTES_OF_CUSTOMER) {
             self.drop_one();
         }
         self.routes.push(route)?;
@@ -103,6 +120,11 @@ impl RoutePool {
         Ok(arcs)
     }
 
+    /// Each arc that the routes of the pool use once, with all that it carries.
+    pub(crate) fn flows(&self) -> Result<Vec<ArcFlow>, AllocError> {
+        merge(self.arcs()?, Vec::new(self.alloc))
+    }
+
     /// Arcs to branch on at the leaf whose prices were raised last, best ones first, for `choose` of
     /// its region: fractional arcs between customers, those of the depot, and others; of each kind
     /// first those that the routes of the pool, weighted as they make up the prices, use nearly one
@@ -111,7 +133,8 @@ impl RoutePool {
     /// judges each.
     pub fn branching_arcs(&self, instance: &Instance) -> Result<Vec<u16>, AllocError> {
         let between = instance.customer_count() + 1;
-        let arcs = merge(self.arcs()?, Vec::new(self.alloc), self.rise)?;
+        let mut arcs = self.flows()?;
+        arcs.sort_by_key(|arc| arc.rank(self.rise))?;
         let mut rows = Vec::new(self.alloc);
         for arc in &arcs {
             rows.push(between)?;
@@ -160,29 +183,110 @@ impl RoutePool {
         self.rise = rise;
     }
 
-    /// Moves a trial by the multipliers.
-    fn take_from(&self, trial: &mut Trial) {
-        for route in &self.routes {
-            route.take_from(trial);
+    /// What the routes say of prices that the region entered last allows.
+    fn half_spaces(&self) -> Result<Vec<HalfSpace<'_>>, AllocError> {
+        let mut spaces = Vec::new(self.alloc);
+        for (place, route) in self.routes.iter().enumerate() {
+            if route.is_allowed() {
+                spaces.push(route.half_space(place))?;
+            }
         }
+        Ok(spaces)
     }
 
-    /// Projects a trial onto what each route says, one after the other, and answers the farthest.
-    fn sweep(&mut self, trial: &mut Trial) -> u64 {
-        let mut farthest = 0;
-        for route in self.routes.iter_mut() {
-            farthest = route.project(trial).max(farthest);
-        }
-        trial.project_floor().max(farthest)
+    /// Projects a trial, and answers the places of the routes with the multipliers that it came to.
+    fn projected(&self, trial: &mut Trial) -> Result<Vec<(usize, i64)>, AllocError> {
+        let mut projection = Projection::new(self.half_spaces()?);
+        projection.project(trial, MOST_SWEEPS);
+        projection.multipliers(self.alloc)
     }
 
     /// Projects a trial onto what all routes say, nearly, from where the multipliers lead.
-    pub(crate) fn project(&mut self, trial: &mut Trial) {
-        self.take_from(trial);
-        for _ in 0..MOST_SWEEPS {
-            if self.sweep(trial) < ENOUGH {
-                return;
+    pub(crate) fn project(&mut self, trial: &mut Trial) -> Result<(), AllocError> {
+        let multipliers = self.projected(trial)?;
+        for (place, multiplier) in &multipliers {
+            if let Some(route) = self.routes.get_mut(*place) {
+                route.set_multiplier(*multiplier);
             }
         }
+        Ok(())
+    }
+
+    /// The half-spaces with their multipliers measured by another rise.
+    fn scaled_spaces(&self, rise: i64) -> Result<Vec<HalfSpace<'_>>, AllocError> {
+        let mut spaces = self.half_spaces()?;
+        for space in spaces.iter_mut() {
+            space.multiplier = scaled(space.multiplier, self.rise, rise);
+        }
+        Ok(spaces)
+    }
+
+    /// Trials of the children of the leaf whose prices were raised last. They leave the pool as it is.
+    pub(crate) fn trials<'r>(
+        &'r self,
+        instance: &Instance,
+        ascent: &'r Ascent,
+    ) -> Result<PoolTrial<'r>, AllocError> {
+        let rise = trial_rise(instance, ascent.target());
+        let most = usize::from(instance.customer_count()) * TRIAL_ROUTES;
+        PoolTrial::new(self.alloc, ascent, self.scaled_spaces(rise)?, most, rise)
+    }
+
+    /// The last raising of prices.
+    pub(crate) fn last_ascent(&self) -> Option<&Ascent> {
+        self.ascent.as_ref()
+    }
+
+    /// The rises of merit that were seen.
+    pub(crate) fn pseudocosts(&self) -> &Pseudocosts {
+        &self.pseudocosts
+    }
+
+    /// The shares of the rise that the multipliers are.
+    fn shares(&self) -> Result<Vec<RouteShare>, AllocError> {
+        let mut shares = Vec::new(self.alloc);
+        for route in self.routes.iter().filter(|route| route.is_used()) {
+            shares.push(route.share(self.rise))?;
+        }
+        Ok(shares)
+    }
+
+    /// Where the ascent at a child by an arc starts whose trial came to these prices, if there was one;
+    /// nothing where the prices of no leaf were raised.
+    pub(crate) fn start_of(
+        &self,
+        arc: Arc,
+        side: Side,
+        trial: Option<Trial>,
+    ) -> Result<Option<ChildStart>, AllocError> {
+        let Some(ascent) = self.last_ascent() else {
+            return Ok(None);
+        };
+        Ok(Some(ChildStart {
+            arc,
+            side,
+            merit: ascent.merit(),
+            trial,
+            shares: self.shares()?,
+        }))
+    }
+
+    /// Takes the multipliers with which a child starts.
+    pub(crate) fn begin(&mut self, start: &ChildStart) {
+        for route in self.routes.iter_mut() {
+            route.take_share(start.shares.as_slice(), self.rise);
+        }
+    }
+
+    /// Learns from the ascent of a child how far its merit rose, where its value came to this many
+    /// tenths. Where memory is refused, it doesn't.
+    pub(crate) fn learn(&mut self, start: &ChildStart, ascent: &Ascent, value: i128) {
+        let rise = ascent.rise_since(start.merit, value);
+        let _ = self.pseudocosts.note(start.arc, start.side, rise);
+    }
+
+    /// Keeps an ascent that has ended, for the trials at its leaf.
+    pub(crate) fn keep(&mut self, ascent: Ascent) {
+        self.ascent = Some(ascent);
     }
 }

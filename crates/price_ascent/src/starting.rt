@@ -6,9 +6,9 @@ ghost use Rattle.solomon_reader.specs.Problem.{customer_count};
 ghost use Rattle.solomon_reader.specs.CertificateText.{IsPrice};
 ghost use Rattle.solomon_reader.specs.Region.{root_region};
 
-use crate::pooled_route::{GRAINS_OF_TENTH, arc_cost};
 use crate::raising::higher;
 use branching::Region;
+use pooled_routes::{GRAINS_OF_TENTH, arc_cost};
 use prices::Priced;
 use solomon_reader::{Instance, MOST_PRICE};
 use std::alloc::{AllocError, Global};
@@ -48,6 +48,15 @@ pub fn rise_at(leaf: &Priced<'_>, cost: Option<Tenths>) -> i64 {
     } else {
         first.saturating_mul(CHILD_RISE)
     }
+}
+
+/// The rise of each price in a trial, in grains: six tenths of a customer's share of a cost in tenths,
+/// at most of the way there and back.
+pub(crate) fn trial_rise(instance: &Instance, cost: i128) -> i64 {
+    let most = mean_way(instance);
+    let grains = cost.clamp(0, i128::from(i64::MAX)) as i64;
+    let share = grains.saturating_mul(GRAINS_OF_TENTH) / i64::from(instance.customer_count());
+    (share.min(most).saturating_mul(CHILD_RISE) / 10).max(1)
 }
 
 /// A customer's share of the cost of an arc to or from another row, in grains: the half, or the whole

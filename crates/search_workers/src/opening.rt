@@ -21,7 +21,7 @@ use search::Searcher;
 use solomon_reader::Instance;
 use std::alloc::{AllocError, Global};
 use std::thread::Threads;
-use worker_turns::{Settings, generator};
+use worker_turns::{Settings, generator, pricing_labels};
 
 /// The worker that offers the first plan.
 const FIRST_WORKER: u16 = 0;
@@ -156,7 +156,7 @@ impl<'i> Opening<'i> {
             let book = open_book(alloc, root)?;
             return Ok(Opening { book, plan: None });
         };
-        let root = start_from(alloc, root, plan.routes(), Some(settings.labels as usize));
+        let root = start_from(alloc, root, plan.routes(), Some(pricing_labels(settings)));
         let mut book = open_book(alloc, root)?;
         let plan = offer_both(rt, alloc, &mut book, plan, settings.seed)?;
         Ok(Opening {

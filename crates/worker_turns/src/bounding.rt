@@ -5,13 +5,13 @@ ghost use Rattle.ceiling.specs.Seats.{IsSeatOf};
 
 use crate::gate::{Gate, GatePoint};
 use crate::hub::Hub;
-use crate::nodes::{Nodes, Taken};
-use crate::pricing::{goal_of, is_ahead};
+use crate::nodes::{Nodes, OpenNode, Taken};
+use crate::pricing::{goal_of, is_ahead, pricing_labels};
 use crate::refusal::Refusal;
 use crate::settings::Settings;
 use crate::spot::Spot;
 use ceiling::{Ceiling, CeilingSeat};
-use price_ascent::{Children, RoutePool, branch, raise};
+use price_ascent::{ChildStart, Children, RoutePool, branch, raise};
 use prices::{PriceFault, Priced};
 use schedule::Feasible;
 use solomon_reader::Instance;
@@ -25,12 +25,28 @@ fn split<'i, H: Hub<'i>, G: Gate>(
     children: Children<'i>,
     nodes: &mut Nodes<'_>,
 ) -> Result<(), Refusal> {
-    let Children { arc, used, unused } = children;
+    let Children {
+        arc,
+        used,
+        unused,
+        used_start,
+        unused_start,
+    } = children;
     let (first_value, second_value) = (used.value(), unused.value());
     match hub.split(number, arc, used, unused) {
         Ok((first, second)) => {
             spot.pass(GatePoint::Split);
-            nodes.push_children((first, first_value), (second, second_value))
+            let first = OpenNode {
+                number: first,
+                value: first_value,
+                start: used_start,
+            };
+            let second = OpenNode {
+                number: second,
+                value: second_value,
+                start: unused_start,
+            };
+            nodes.push_children(first, second)
         }
         Err((_, _, fault)) => Err(Refusal::from(fault)),
     }
@@ -104,7 +120,8 @@ fn offer_routes<'i, H: Hub<'i>, G: Gate>(
 fn raise_leaf<'i, H: Hub<'i>, G: Gate>(
     spot: &Spot<'_, G>,
     hub: &mut H,
-    taken: Taken,
+    start: Option<ChildStart>,
+    is_again: bool,
     leaf: Priced<'i>,
     labels: usize,
     nodes: &mut Nodes<'_>,
@@ -115,8 +132,8 @@ fn raise_leaf<'i, H: Hub<'i>, G: Gate>(
 {
     let cost = hub.gap().cost;
     let target = spot.ceiling.cost(seat);
-    let goal = goal_of(&leaf, nodes, cost, taken.is_again, target, labels);
-    raise(spot.alloc, &mut nodes.pool, leaf, &goal)
+    let goal = goal_of(&leaf, nodes, cost, is_again, target, labels);
+    raise(spot.alloc, &mut nodes.pool, leaf, start, &goal)
 }
 
 /// Raises the value of a leaf, and brings what came of it to the book.
@@ -132,22 +149,19 @@ fn work_at<'i, H: Hub<'i>, G: Gate>(
     requires { IsSeatOf spot.now.ceiling.now seat.old }
     ensures { IsSeatOf spot.now.ceiling.now seat.new }
 {
+    let Taken {
+        number,
+        start,
+        is_again,
+        ..
+    } = taken;
     let before = leaf.value();
-    let leaf = raise_leaf(spot, hub, taken, leaf, labels, nodes, seat);
+    let leaf = raise_leaf(spot, hub, start, is_again, leaf, labels, nodes, seat);
     spot.pass(GatePoint::Priced);
     offer_routes(spot, hub, leaf.instance(), &nodes.pool, seat)?;
     let target = spot.ceiling.cost(seat);
     let is_raised = leaf.value() > before;
-    bring(
-        spot,
-        hub,
-        taken.number,
-        leaf,
-        is_raised,
-        target,
-        labels,
-        nodes,
-    )
+    bring(spot, hub, number, leaf, is_raised, target, labels, nodes)
 }
 
 /// Takes a node, unless there is none, cost and bound have met, or the worker is ahead of the turns that
@@ -211,7 +225,7 @@ pub fn bound_worker<'i, H: Hub<'i>, G: Gate>(
         worker,
         ceiling,
     };
-    let labels = settings.labels as usize;
+    let labels = pricing_labels(settings);
     for made in 0..settings.turns {
         spot.pass(GatePoint::Start);
         let done = turn(&spot, hub, labels, made, &mut nodes, seat);

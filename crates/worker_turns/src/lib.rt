@@ -16,6 +16,7 @@ pub use bounding::bound_worker;
 pub use gate::{Gate, GatePoint, NoGate};
 pub use hub::Hub;
 pub use nodes::Nodes;
+pub use pricing::pricing_labels;
 pub use random::generator;
 pub use searching::search_worker;
 pub use settings::{MOST_BOUNDERS, MOST_LABELS, MOST_SEARCHERS, MOST_TURNS, Settings};

@@ -7,16 +7,18 @@ ghost use Rattle.node_pool.specs.Ends.{deque_at};
 
 use crate::refusal::Refusal;
 use node_pool::{Hand, Pass, Stolen, Thief};
-use price_ascent::{RoutePool, counted_routes};
+use price_ascent::{ChildStart, RoutePool, counted_routes};
 use schedule::Feasible;
 use solomon_reader::Instance;
 use std::alloc::{AllocError, Global};
 
-/// A leaf that waits for its turn, with its value in tenths when it was made.
-#[derive(Clone, Copy, Debug)]
-struct OpenNode {
-    number: u32,
-    value: i128,
+/// A leaf that waits for its turn, with its value in tenths when it was made, and where its ascent starts,
+/// if it is known.
+#[derive(Debug, Drop)]
+pub(crate) struct OpenNode {
+    pub(crate) number: u32,
+    pub(crate) value: i128,
+    pub(crate) start: Option<ChildStart>,
 }
 
 /// What a bound worker has: the leaves that it made, the end of a deque of its own, in which one of them
@@ -26,8 +28,8 @@ struct OpenNode {
 pub struct Nodes<'p> {
     open: Vec<OpenNode>,
     own: Hand,
-    /// The value of the leaf that stands in the worker's own deque, if it is still there.
-    shared_value: i128,
+    /// The leaf that stands in the worker's own deque, if it is still there.
+    shared: Option<OpenNode>,
     deques: &'p [Thief],
     place: usize,
     pass: Pass,
@@ -40,9 +42,10 @@ pub struct Nodes<'p> {
 }
 
 /// A node that a worker took.
-#[derive(Clone, Copy, Debug, PartialEq, Eq)]
+#[derive(Debug, Drop)]
 pub(crate) struct Taken {
     pub(crate) number: u32,
+    pub(crate) start: Option<ChildStart>,
     pub(crate) is_stolen: bool,
     /// Whether the worker raised its prices in the turn before, too.
     pub(crate) is_again: bool,
@@ -61,6 +64,19 @@ fn take_least(open: &mut Vec<OpenNode>) -> Option<OpenNode> {
         Some(open.swap_remove(place))
     } else {
         None
+    }
+}
+
+/// The leaf that the worker took back from its own deque: the one that it shared, or else the root, which
+/// stands there at the start.
+fn came_back(number: u32, shared: Option<OpenNode>) -> OpenNode {
+    match shared {
+        Some(node) if node.number == number => node,
+        _ => OpenNode {
+            number,
+            value: 0,
+            start: None,
+        },
     }
 }
 
@@ -98,7 +114,7 @@ impl<'p> Nodes<'p> {
         Ok(Nodes {
             open: Vec::new(alloc),
             own,
-            shared_value: 0,
+            shared: None,
             deques,
             place,
             pass,
@@ -108,10 +124,9 @@ impl<'p> Nodes<'p> {
         })
     }
 
-    /// Keeps a leaf of this value, in tenths, that waits for its turn. Where memory is refused, the
-    /// worker's work ends.
-    fn push(&mut self, number: u32, value: i128) -> Result<(), Refusal> {
-        match self.open.push(OpenNode { number, value }) {
+    /// Keeps a leaf that waits for its turn. Where memory is refused, the worker's work ends.
+    fn push(&mut self, node: OpenNode) -> Result<(), Refusal> {
+        match self.open.push(node) {
             Ok(()) => Ok(()),
             Err(_) => Err(Refusal::EndsWork),
         }
@@ -125,7 +140,7 @@ impl<'p> Nodes<'p> {
         };
         match self.own.push(next.number) {
             Ok(()) => {
-                self.shared_value = next.value;
+                self.shared = Some(next);
                 Ok(())
             }
             Err(_) => Err(Refusal::EndsWork),
@@ -134,8 +149,9 @@ impl<'p> Nodes<'p> {
 
     /// Takes the leaf of the least value that the worker made and nobody stole, and shares the next.
     fn take_own(&mut self) -> Result<Option<OpenNode>, Refusal> {
+        let shared = self.shared.take();
         if let Some(number) = self.own.pop() {
-            self.push(number, self.shared_value)?;
+            self.push(came_back(number, shared))?;
         }
         let Some(least) = take_least(&mut self.open) else {
             return Ok(None);
@@ -144,17 +160,17 @@ impl<'p> Nodes<'p> {
         Ok(Some(least))
     }
 
-    /// Keeps both children of a leaf, with their values in tenths, and shares one leaf at once: a worker
-    /// that has none may be looking. Where memory is refused or the deque is full, the worker's work ends.
+    /// Keeps both children of a leaf, and shares one leaf at once: a worker that has none may be looking.
+    /// Where memory is refused or the deque is full, the worker's work ends.
     pub(crate) fn push_children(
         &mut self,
-        first: (u32, i128),
-        second: (u32, i128),
+        first: OpenNode,
+        second: OpenNode,
     ) -> Result<(), Refusal> {
-        self.push(first.0, first.1)?;
-        self.push(second.0, second.1)?;
+        self.push(first)?;
+        self.push(second)?;
         match self.take_own()? {
-            Some(least) => self.push(least.number, least.value),
+            Some(least) => self.push(least),
             None => Ok(()),
         }
     }
@@ -171,6 +187,7 @@ impl<'p> Nodes<'p> {
         if let Some(number) = self.current.take() {
             return Ok(Some(Taken {
                 number,
+                start: None,
                 is_stolen: false,
                 is_again: true,
             }));
@@ -178,6 +195,7 @@ impl<'p> Nodes<'p> {
         if let Some(least) = self.take_own()? {
             return Ok(Some(Taken {
                 number: least.number,
+                start: least.start,
                 is_stolen: false,
                 is_again: false,
             }));
@@ -187,6 +205,7 @@ impl<'p> Nodes<'p> {
         };
         Ok(Some(Taken {
             number,
+            start: None,
             is_stolen: true,
             is_again: false,
         }))

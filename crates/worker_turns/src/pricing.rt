@@ -1,6 +1,7 @@
 //! How far the prices of a leaf are raised, and how much work a turn is worth.
 
 use crate::nodes::Nodes;
+use crate::settings::Settings;
 use price_ascent::{Goal, IDLE_PRICINGS, rise_at};
 use prices::Priced;
 use tenths::Tenths;
@@ -17,6 +18,20 @@ const MOST_PRICINGS: u32 = 16;
 
 /// How many labels a turn is worth.
 const TURN_LABELS: u64 = 6_000;
+
+/// Of what all turns are worth a single pricing may take this part, and at any number of turns what so
+/// many are worth.
+const PRICING_PART: u64 = 20;
+
+const LEAST_PRICING_TURNS: u64 = 5;
+
+/// How many labels may be active at once in a bound worker's pricing: what the settings allow, and no more
+/// than its turns can pay for, so that no pricing runs away. No contract: any limit is sound.
+pub fn pricing_labels(settings: &Settings) -> usize {
+    let part = u64::from(settings.turns) * TURN_LABELS / PRICING_PART;
+    let worth = part.max(LEAST_PRICING_TURNS * TURN_LABELS);
+    worth.min(u64::from(settings.labels)) as usize
+}
 
 /// Whether a worker's pricings have made more labels than the turns that it made so far are worth.
 pub(crate) fn is_ahead(nodes: &Nodes<'_>, made: u32) -> bool {

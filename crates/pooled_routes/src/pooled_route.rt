@@ -2,18 +2,30 @@
 
 use crate::arc_flow::ArcFlow;
 use crate::floor::scaled;
-use crate::trial::Trial;
+use crate::half_space::HalfSpace;
 use branching::Region;
 use prices::allows_route;
 use solomon_reader::Instance;
 use std::alloc::{AllocError, Global};
 
 /// The grains of a tenth.
-pub(crate) const GRAINS_OF_TENTH: i64 = 1_000;
+pub const GRAINS_OF_TENTH: i64 = 1_000;
+
+/// How much of the rise the multiplier of a route is, which the pool met as the one of this number.
+#[derive(Clone, Copy, Debug)]
+pub struct RouteShare {
+    pub number: u64,
+    pub millionths: i64,
+}
+
+/// The rise in millionths.
+const WHOLE: i64 = 1_000_000;
 
 /// A relaxed route, which says of prices: those of its stops and the floor sum to at most its cost.
 #[derive(Debug, Drop)]
-pub(crate) struct PooledRoute {
+pub struct PooledRoute {
+    /// The how-manieth route it is that the pool met.
+    number: u64,
     stops: Vec<u16>,
     /// In grains.
     cost: i64,
@@ -27,7 +39,8 @@ pub(crate) struct PooledRoute {
 }
 
 /// The cost of an arc in grains, 0 where the instance has no such rows.
-pub(crate) fn arc_cost(instance: &Instance, from: u16, to: u16) -> i64 {
+/// No contract: a rule of search; any prices are sound.
+pub fn arc_cost(instance: &Instance, from: u16, to: u16) -> i64 {
     let last = instance.customer_count();
     if from > last || to > last {
         return 0;
@@ -58,14 +71,17 @@ fn weight_of(stops: &[u16]) -> i64 {
 }
 
 impl PooledRoute {
-    /// A route that was met at this pricing.
-    pub(crate) fn new(
+    /// A route that was met as the one of this number, at this pricing.
+    /// No contract: a rule of search; any prices are sound.
+    pub fn new(
         alloc: Global,
         instance: &Instance,
         stops: &[u16],
+        number: u64,
         pricing: u64,
     ) -> Result<PooledRoute, AllocError> {
         Ok(PooledRoute {
+            number,
             stops: Vec::from_slice(alloc, stops)?,
             cost: cost_of(instance, stops),
             weight: weight_of(stops),
@@ -76,61 +92,86 @@ impl PooledRoute {
     }
 
     /// The customers, in order.
-    pub(crate) fn stops(&self) -> &[u16] {
+    /// No contract: a rule of search; any prices are sound.
+    pub fn stops(&self) -> &[u16] {
         self.stops.as_slice()
     }
 
+    /// How much of the rise the multiplier is.
+    /// No contract: a rule of search; any prices are sound.
+    pub fn share(&self, rise: i64) -> RouteShare {
+        RouteShare {
+            number: self.number,
+            millionths: scaled(self.multiplier, rise, WHOLE),
+        }
+    }
+
+    /// Takes the multiplier that the route has among these shares of the rise, or none.
+    /// No contract: a rule of search; any prices are sound.
+    pub fn take_share(&mut self, shares: &[RouteShare], rise: i64) {
+        self.multiplier = match shares.iter().find(|share| share.number == self.number) {
+            Some(share) => scaled(share.millionths, WHOLE, rise),
+            None => 0,
+        };
+    }
+
     /// Whether the multiplier is above 0.
-    pub(crate) fn is_used(&self) -> bool {
+    /// No contract: a rule of search; any prices are sound.
+    pub fn is_used(&self) -> bool {
         self.multiplier > 0
     }
 
     /// Whether the multiplier is above one half of the rise, which stands for one route.
-    pub(crate) fn is_main(&self, rise: i64) -> bool {
+    /// No contract: a rule of search; any prices are sound.
+    pub fn is_main(&self, rise: i64) -> bool {
         self.multiplier > rise / 2
     }
 
     /// Whether the route is to make room before another one: it has the lower multiplier, or was of
     /// use longer ago.
-    pub(crate) fn yields_to(&self, other: &PooledRoute) -> bool {
+    /// No contract: a rule of search; any prices are sound.
+    pub fn yields_to(&self, other: &PooledRoute) -> bool {
         self.multiplier < other.multiplier
             || self.multiplier == other.multiplier && self.last_use < other.last_use
     }
 
     /// Lets the route count in a region only where each of its arcs is allowed.
-    pub(crate) fn enter(&mut self, region: &Region) {
+    /// No contract: a rule of search; any prices are sound.
+    pub fn enter(&mut self, region: &Region) {
         self.is_allowed = allows_route(region, self.stops.as_slice());
         if !self.is_allowed {
             self.multiplier = 0;
         }
     }
 
-    /// Moves a trial by the multiplier.
-    pub(crate) fn take_from(&self, trial: &mut Trial) {
-        if self.multiplier > 0 {
-            let change = 0i64.saturating_sub(self.multiplier);
-            trial.raise_along(self.stops.as_slice(), change);
+    /// Whether the route counts in the region entered last.
+    /// No contract: a rule of search; any prices are sound.
+    pub fn is_allowed(&self) -> bool {
+        self.is_allowed
+    }
+
+    /// What the route says of prices, which stands at this place of its pool.
+    /// No contract: a rule of search; any prices are sound.
+    pub fn half_space(&self, place: usize) -> HalfSpace<'_> {
+        HalfSpace {
+            stops: self.stops.as_slice(),
+            cost: self.cost,
+            weight: self.weight,
+            multiplier: self.multiplier,
+            is_active: false,
+            place,
         }
     }
 
-    /// Projects a trial onto what the route says of prices, as far as its multiplier allows (Hildreth
-    /// 1957), and answers how far.
-    pub(crate) fn project(&mut self, trial: &mut Trial) -> u64 {
-        if !self.is_allowed {
-            return 0;
-        }
-        let weight = self.weight.saturating_add(trial.floor().weight()).max(1);
-        let slack = trial.slack(self.stops.as_slice(), self.cost);
-        let fall = self.multiplier.min(slack.div_euclid(weight));
-        if fall != 0 {
-            self.multiplier = self.multiplier.saturating_sub(fall);
-            trial.raise_along(self.stops.as_slice(), fall);
-        }
-        fall.unsigned_abs().saturating_mul(weight.unsigned_abs())
+    /// Takes the multiplier that a projection came to.
+    /// No contract: a rule of search; any prices are sound.
+    pub fn set_multiplier(&mut self, multiplier: i64) {
+        self.multiplier = multiplier;
     }
 
     /// Measures the multiplier by another rise.
-    pub(crate) fn scale(&mut self, old: i64, new: i64, pricing: u64) {
+    /// No contract: a rule of search; any prices are sound.
+    pub fn scale(&mut self, old: i64, new: i64, pricing: u64) {
         if self.multiplier > 0 {
             self.last_use = pricing;
         }
@@ -138,7 +179,8 @@ impl PooledRoute {
     }
 
     /// Adds the route's arcs with what each carries of the multiplier.
-    pub(crate) fn push_arcs(&self, arcs: &mut Vec<ArcFlow>) -> Result<(), AllocError> {
+    /// No contract: a rule of search; any prices are sound.
+    pub fn push_arcs(&self, arcs: &mut Vec<ArcFlow>) -> Result<(), AllocError> {
         let flow = self.multiplier;
         let mut from = 0;
         for stop in &self.stops {

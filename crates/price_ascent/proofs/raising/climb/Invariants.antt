@@ -1,5 +1,5 @@
 use Rattle.std.proofs.Common.{◌≡◌, ◌≤◌}
-use Rattle.price_ascent.proofs.raising.raise.Given as goal
+use Rattle.price_ascent.proofs.raising.climb.Given as goal
 
 abbrev pub invariant-loop : goal.invariant-loop
 invariant-loop l = record {

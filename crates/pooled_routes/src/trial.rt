@@ -11,7 +11,7 @@ use std::alloc::{AllocError, Global};
 
 /// Prices in grains, that of customer i at i - 1, and the floor of the reduced costs.
 #[derive(Debug, Drop)]
-pub(crate) struct Trial {
+pub struct Trial {
     prices: Vec<i64>,
     floor: Floor,
 }
@@ -23,7 +23,8 @@ fn place_of(customer: u16) -> usize {
 
 impl Trial {
     /// These prices, each of them this much higher.
-    pub(crate) fn new(
+    /// No contract: a rule of search; any prices are sound.
+    pub fn new(
         alloc: Global,
         prices: &[i64],
         rise: i64,
@@ -36,8 +37,15 @@ impl Trial {
         Ok(Trial { prices, floor })
     }
 
+    /// The prices as they are, in grains, also outside their range.
+    /// No contract: a rule of search; any prices are sound.
+    pub fn as_slice(&self) -> &[i64] {
+        self.prices.as_slice()
+    }
+
     /// The floor.
-    pub(crate) fn floor(&self) -> Floor {
+    /// No contract: a rule of search; any prices are sound.
+    pub fn floor(&self) -> Floor {
         self.floor
     }
 
@@ -46,17 +54,26 @@ impl Trial {
         self.prices.get(place_of(customer)).copied().unwrap_or(0)
     }
 
-    /// How far the stops' prices and the floor are from the cost of their route, in grains.
-    pub(crate) fn slack(&self, stops: &[u16], cost: i64) -> i64 {
-        let mut slack = cost.saturating_sub(self.floor.value());
+    /// The cost of a route less the prices of its stops, in grains.
+    /// No contract: a rule of search; any prices are sound.
+    pub fn reduced_cost(&self, stops: &[u16], cost: i64) -> i64 {
+        let mut reduced = cost;
         for stop in stops {
-            slack = slack.saturating_sub(self.price(*stop));
+            reduced = reduced.saturating_sub(self.price(*stop));
         }
-        slack
+        reduced
+    }
+
+    /// How far the stops' prices and the floor are from the cost of their route, in grains.
+    /// No contract: a rule of search; any prices are sound.
+    pub fn slack(&self, stops: &[u16], cost: i64) -> i64 {
+        self.reduced_cost(stops, cost)
+            .saturating_sub(self.floor.value())
     }
 
     /// Raises the price of each stop, as often as it stands there, and the floor.
-    pub(crate) fn raise_along(&mut self, stops: &[u16], change: i64) {
+    /// No contract: a rule of search; any prices are sound.
+    pub fn raise_along(&mut self, stops: &[u16], change: i64) {
         self.floor = self.floor.raised(change);
         for stop in stops {
             if let Some(price) = self.prices.get_mut(place_of(*stop)) {
@@ -66,7 +83,8 @@ impl Trial {
     }
 
     /// Projects the floor, and answers how far.
-    pub(crate) fn project_floor(&mut self) -> u64 {
+    /// No contract: a rule of search; any prices are sound.
+    pub fn project_floor(&mut self) -> u64 {
         self.floor.project()
     }
 
@@ -79,7 +97,7 @@ impl Trial {
     }
 
     /// The prices of an instance's customers, cut to their range.
-    pub(crate) fn prices(&self, alloc: Global, instance: &Instance) -> Result<Vec<i64>, AllocError>
+    pub fn prices(&self, alloc: Global, instance: &Instance) -> Result<Vec<i64>, AllocError>
         ensures count { IfOk result (λ v. length v.items ≡ customer_count instance.now) }
         ensures in_range { IfOk result (λ v. AllByRecursion IsPrice v.items) }
     {

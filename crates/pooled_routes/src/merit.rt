@@ -5,7 +5,7 @@ use solomon_reader::Instance;
 
 /// How often the least reduced cost counts.
 #[derive(Clone, Copy, Debug)]
-pub(crate) struct Merit {
+pub struct Merit {
     fewest_routes: u32,
     routes: u16,
     fleet: u16,
@@ -22,7 +22,8 @@ fn sum_of(prices: &[i64]) -> i128 {
 
 impl Merit {
     /// The merit by so many routes, at most the fleet.
-    pub(crate) fn new(instance: &Instance, routes: u16) -> Merit {
+    /// No contract: a rule of search; any prices are sound.
+    pub fn new(instance: &Instance, routes: u16) -> Merit {
         let fleet = instance.fleet();
         Merit {
             fewest_routes: instance.fewest_routes(),
@@ -32,13 +33,15 @@ impl Merit {
     }
 
     /// Whether the whole fleet counts.
-    pub(crate) fn counts_fleet(self) -> bool {
+    /// No contract: a rule of search; any prices are sound.
+    pub fn counts_fleet(self) -> bool {
         self.routes == self.fleet
     }
 
     /// The floor from which the next projection starts: that of the least reduced cost, moved by the
     /// rise.
-    pub(crate) fn start(self, floor: Floor, least: i128, rise: i64) -> Floor {
+    /// No contract: a rule of search; any prices are sound.
+    pub fn start(self, floor: Floor, least: i128, rise: i64) -> Floor {
         let most = i128::from(i64::MAX);
         let least = least.clamp(-most, most) as i64;
         let up = rise.saturating_mul(i64::from(self.fewest_routes));
@@ -48,14 +51,16 @@ impl Merit {
     }
 
     /// The merit of prices with this least reduced cost, in grains.
-    pub(crate) fn of(self, prices: &[i64], least: i128) -> i128 {
+    /// No contract: a rule of search; any prices are sound.
+    pub fn of(self, prices: &[i64], least: i128) -> i128 {
         let gain = least.max(0).saturating_mul(i128::from(self.fewest_routes));
         let loss = least.min(0).saturating_mul(i128::from(self.routes));
         sum_of(prices).saturating_add(gain).saturating_add(loss)
     }
 
     /// The merit that prices would have if no route's reduced cost were below the floor, in grains.
-    pub(crate) fn promised(self, prices: &[i64], floor: Floor) -> i128 {
+    /// No contract: a rule of search; any prices are sound.
+    pub fn promised(self, prices: &[i64], floor: Floor) -> i128 {
         let gain = i128::from(floor.above()).saturating_mul(i128::from(self.fewest_routes));
         let loss = i128::from(floor.below()).saturating_mul(i128::from(self.fleet));
         sum_of(prices).saturating_add(gain).saturating_sub(loss)

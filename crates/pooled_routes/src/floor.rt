@@ -42,7 +42,8 @@ impl Part {
 }
 
 /// A multiplier after the rise by which it is measured has changed.
-pub(crate) fn scaled(multiplier: i64, old: i64, new: i64) -> i64 {
+/// No contract: a rule of search; any prices are sound.
+pub fn scaled(multiplier: i64, old: i64, new: i64) -> i64 {
     let product = i128::from(multiplier).saturating_mul(i128::from(new));
     let quotient = product.checked_div(i128::from(old)).unwrap_or(0);
     quotient.clamp(0, i128::from(i64::MAX)) as i64
@@ -51,14 +52,15 @@ pub(crate) fn scaled(multiplier: i64, old: i64, new: i64) -> i64 {
 /// The reduced cost that all routes are to have at least, in grains: what it is above 0, less what it
 /// is below. Both parts are at least 0. The second is left out where no plan needs the whole fleet.
 #[derive(Clone, Copy, Debug)]
-pub(crate) struct Floor {
+pub struct Floor {
     above: Part,
     below: Option<Part>,
 }
 
 impl Floor {
     /// The floor of 0.
-    pub(crate) fn new(has_below: bool) -> Floor {
+    /// No contract: a rule of search; any prices are sound.
+    pub fn new(has_below: bool) -> Floor {
         let zero = Part {
             value: 0,
             multiplier: 0,
@@ -70,7 +72,8 @@ impl Floor {
     }
 
     /// The floor that starts from these parts, moved by their multipliers.
-    pub(crate) fn start(self, above: i64, below: i64) -> Floor {
+    /// No contract: a rule of search; any prices are sound.
+    pub fn start(self, above: i64, below: i64) -> Floor {
         Floor {
             above: self.above.start(above),
             below: self.below.map(|part| part.start(below)),
@@ -78,12 +81,14 @@ impl Floor {
     }
 
     /// What it is above 0, in grains.
-    pub(crate) fn above(self) -> i64 {
+    /// No contract: a rule of search; any prices are sound.
+    pub fn above(self) -> i64 {
         self.above.value
     }
 
     /// What it is below 0, in grains.
-    pub(crate) fn below(self) -> i64 {
+    /// No contract: a rule of search; any prices are sound.
+    pub fn below(self) -> i64 {
         match self.below {
             Some(part) => part.value,
             None => 0,
@@ -91,12 +96,14 @@ impl Floor {
     }
 
     /// The floor in grains.
-    pub(crate) fn value(self) -> i64 {
+    /// No contract: a rule of search; any prices are sound.
+    pub fn value(self) -> i64 {
         self.above().saturating_sub(self.below())
     }
 
     /// How many parts it has, which is what it adds to the weight of a route.
-    pub(crate) fn weight(self) -> i64 {
+    /// No contract: a rule of search; any prices are sound.
+    pub fn weight(self) -> i64 {
         match self.below {
             Some(_) => 2,
             None => 1,
@@ -104,7 +111,8 @@ impl Floor {
     }
 
     /// The floor after each part took a change of its sign.
-    pub(crate) fn raised(self, change: i64) -> Floor {
+    /// No contract: a rule of search; any prices are sound.
+    pub fn raised(self, change: i64) -> Floor {
         Floor {
             above: self.above.plus(change),
             below: self
@@ -114,7 +122,8 @@ impl Floor {
     }
 
     /// The floor after the rise has changed.
-    pub(crate) fn scaled(self, old: i64, new: i64) -> Floor {
+    /// No contract: a rule of search; any prices are sound.
+    pub fn scaled(self, old: i64, new: i64) -> Floor {
         Floor {
             above: self.above.scaled(old, new),
             below: self.below.map(|part| part.scaled(old, new)),
@@ -122,7 +131,8 @@ impl Floor {
     }
 
     /// Projects each part onto the numbers from 0 on, and answers how far.
-    pub(crate) fn project(&mut self) -> u64 {
+    /// No contract: a rule of search; any prices are sound.
+    pub fn project(&mut self) -> u64 {
         let above = self.above.project();
         match &mut self.below {
             Some(below) => below.project().max(above),

@@ -1,0 +1,22 @@
+//! Routes met in pricings: what each says of prices, and the projection of prices onto it; the arcs that
+//! the routes use; and how far splits by arcs have raised prices. Any prices are sound, whatever stands
+//! in a pool, so only the range of the prices that come out has a contract.
+#![tactic(auto)]
+
+mod arc_flow;
+mod floor;
+mod half_space;
+mod merit;
+mod pooled_route;
+mod projection;
+mod pseudocosts;
+mod trial;
+
+pub use arc_flow::{ArcFlow, merge};
+pub use floor::{Floor, scaled};
+pub use half_space::HalfSpace;
+pub use merit::Merit;
+pub use pooled_route::{GRAINS_OF_TENTH, PooledRoute, RouteShare, arc_cost};
+pub use projection::Projection;
+pub use pseudocosts::{Pseudocosts, Side};
+pub use trial::Trial;

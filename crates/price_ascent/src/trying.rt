@@ -1,0 +1,103 @@
+//! The arc that a leaf is best split on.
+
+use crate::ascent::Ascent;
+use crate::candidates::candidates;
+use crate::pool_trial::{ChildTrial, PoolTrial};
+use crate::route_pool::RoutePool;
+use branching::Arc;
+use pooled_routes::{Pseudocosts, Side, Trial};
+use prices::Priced;
+use std::alloc::AllocError;
+
+/// An arc that was tried, with the prices that its children came to; nothing where the rises seen so far
+/// spared the trial.
+#[derive(Drop)]
+pub(crate) struct TriedArc {
+    pub(crate) arc: Arc,
+    /// The higher, the better for a split.
+    score: i128,
+    used: Option<Trial>,
+    unused: Option<Trial>,
+}
+
+impl TriedArc {
+    /// The prices of the child in which the arc is required, and of the other one; nothing where a leaf
+    /// is split by another arc.
+    pub(crate) fn into_prices(self, arc: Arc) -> (Option<Trial>, Option<Trial>) {
+        if self.arc == arc {
+            (self.used, self.unused)
+        } else {
+            (None, None)
+        }
+    }
+}
+
+/// A rise within what counts of it, in grains: not more than the gap, and somewhat more than nothing, so
+/// that the other child's rise still counts.
+fn counted(rise: i128, gap: i128) -> i128 {
+    rise.min(gap).max((gap / 1_000).max(1))
+}
+
+/// How much a split is worth by the rises of its children, in grains.
+fn score(used: i128, unused: i128, gap: i128) -> i128 {
+    counted(used, gap).saturating_mul(counted(unused, gap))
+}
+
+/// The rise of a tried child, in grains, at most the mean of those seen.
+fn rise_of(tried: &ChildTrial, seen: Option<i128>, gap: i128) -> i128 {
+    let rise = tried.rise.unwrap_or(gap);
+    match seen {
+        Some(mean) => rise.min(mean),
+        None => rise,
+    }
+}
+
+/// Tries both children by an arc, unless rises were seen in both.
+fn try_arc(
+    ascent: &Ascent,
+    trials: &PoolTrial<'_>,
+    seen: &Pseudocosts,
+    arc: Arc,
+) -> Result<TriedArc, AllocError> {
+    let gap = ascent.gap();
+    let (used_mean, unused_mean) = (seen.mean(arc, Side::Used), seen.mean(arc, Side::Unused));
+    if let (Some(used), Some(unused)) = (used_mean, unused_mean) {
+        return Ok(TriedArc {
+            arc,
+            score: score(used, unused, gap),
+            used: None,
+            unused: None,
+        });
+    }
+    let used = trials.of_child(arc, Side::Used)?;
+    let unused = trials.of_child(arc, Side::Unused)?;
+    let used_rise = rise_of(&used, used_mean, gap);
+    let unused_rise = rise_of(&unused, unused_mean, gap);
+    Ok(TriedArc {
+        arc,
+        score: score(used_rise, unused_rise, gap),
+        used: Some(used.prices),
+        unused: Some(unused.prices),
+    })
+}
+
+/// Of the arcs that the pool's routes leave open at the leaf whose prices were raised last the one whose
+/// children promise to rise most, if there is one.
+pub(crate) fn best_arc(
+    leaf: &Priced<'_>,
+    pool: &RoutePool,
+) -> Result<Option<TriedArc>, AllocError> {
+    let Some(ascent) = pool.last_ascent() else {
+        return Ok(None);
+    };
+    let arcs = candidates(leaf.region(), pool.flows()?, pool.rise())?;
+    let trials = pool.trials(leaf.instance(), ascent)?;
+    let mut best: Option<TriedArc> = None;
+    for flow in &arcs {
+        let tried = try_arc(ascent, &trials, pool.pseudocosts(), flow.arc())?;
+        if best.as_ref().is_none_or(|best| tried.score > best.score) {
+            best = Some(tried);
+        }
+    }
+    Ok(best)
+}
