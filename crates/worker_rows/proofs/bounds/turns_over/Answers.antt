@@ -3,4 +3,4 @@ use Rattle.worker_rows.proofs.bounds.turns_over.Goals as goal
 
 -- the passes were made for these deques
 pub second_nodes-requires : goal.second_nodes-requires
-second_nodes-requires c = rw c.as_slice.ensures.value (fits_all _ _ _ c.in_ok-hands.ensures.thieves c.in_ok-hands.ensures.fresh)
+second_nodes-requires c = rw c.as_slice-deques.ensures.value (fits_all _ _ _ c.in_ok-hands.ensures.thieves c.in_ok-hands.ensures.fresh)
