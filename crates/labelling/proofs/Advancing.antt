@@ -276,6 +276,59 @@ module _ (p : Problem) (g : Region) (k : ℕ) (prices : List ℤ) (l : Label) (b
   pub steps_passed : (xs : List Label) (i : ℕ) → IsArena p g k prices xs → TakesSteps p g k prices b.value xs xs l i
   steps_passed xs i labelled = record { moved = moved_none p g k prices xs; labelled = labelled; met = λ j below can. inr (λ s h. counted (j ∷ s) (can, h)) }
 
+-- what ended at a label still ends there
+module _ (p : Problem) (g : Region) (k : ℕ) (xs ys : List Label) (longer : IsLonger xs ys) where
+  ends_longer : (m : ℕ) (z : ℤ) → EndsAt p g k xs m z → EndsAt p g k ys m z
+  ends_longer m z h =
+      let same = longer.same m h.within in
+      record {
+        within = omega (arith, h.within, longer.longer);
+        can = rw (same_state p k _ _ same) h.can;
+        value = rw same.front h.value;
+      }
+
+  attained_longer : (o : Option ℤ) (m : ℕ) → MatchOption o (Unit {0}) (λ z. EndsAt p g k xs m z) → MatchOption o (Unit {0}) (λ z. EndsAt p g k ys m z)
+  attained_longer None m h = tt
+  attained_longer (Some z) m h = ends_longer m z h
+
+  attained_by : (b c : Best) (l : Label) (index : ℕ) → index < length xs → label_in xs index ≡ l → IsAttained p g k xs b → CountsEnd p g k l index b c → IsAttained p g k ys c
+  attained_by b c l index within here before ending = by ending.from
+    where
+      by : ((c ≡ b) ⊎ (CanEnd p g (state_at p k l) × ((c.value ≡ Some (end_cost p l.front)) × (c.index ≡ index)))) → IsAttained p g k ys c
+      by (inl same) = rw same (attained_longer b.value b.index before)
+      by (inr h) = rw (h.1.0, h.1.1) (ends_longer index (end_cost p l.front) (record { within = within; can = rw here h.0; value = ap (λ (a : Label). end_cost p a.front) here }))
+
+-- labels were added and dropped, none was extended, and the best hasn't grown
+module _ (p : Problem) (g : Region) (k : ℕ) (prices : List ℤ) (xs ys : List Label) where
+  active_or_pending : IsGrown xs ys → (a : State) → HasActive p k ys a → HasActive p k xs a ⊎ HasPending p k ys a
+  active_or_pending grown a s = elim (cases_lt s.index (length xs)) [
+    | inl old ↦ (let later = grown.later s.index old in
+        inl (record { index = s.index; within = old; active = later.active s.active; is = sym (same_state p k _ _ later.same) ∙ s.is }))
+    | inr new ↦ inr (record { index = s.index; within = s.within; unextended = record { active = s.active; extended = grown.fresh s.index new s.within }; is = s.is })
+  ]
+
+  covers_moved : (b c : Option ℤ) → IsMoved p g k prices xs ys → ((y : ℤ) → IsAtMost b y → IsAtMost c y)
+      → CoversAll p g k prices b (HasPending p k xs) (HasActive p k xs) → CoversAll p g k prices c (HasPending p k ys) (HasActive p k ys)
+  covers_moved b c moved lower covers =
+      covers_grown p g k prices b c (HasPending p k xs) (HasActive p k xs) (HasPending p k ys) (HasActive p k ys) lower moved.pending (active_or_pending moved.grown) covers
+
+  pub complete_stepped : (b : Best) (o : Option ℤ) (l : Label) (j : ℕ) → IsComplete p g k prices xs b → TakesStep p g k prices o xs ys l j → IsComplete p g k prices ys b
+  complete_stepped b o l j so_far step = record {
+    labelled = step.labelled;
+    first = dominated_through p g k prices xs ys (start p) step.moved so_far.first;
+    covers = covers_moved b.value b.value step.moved (λ y h. h) so_far.covers;
+    attained = attained_longer p g k xs ys (grown_longer xs ys step.moved.grown) b.value b.index so_far.attained;
+  }
+
+pub complete_counted : (p : Problem) (g : Region) (k : ℕ) (prices : List ℤ) (xs : List Label) (b c : Best) (l : Label) (index : ℕ) → index < length xs → label_in xs index ≡ l
+    → IsComplete p g k prices xs b → CountsEnd p g k l index b c → IsComplete p g k prices xs c
+complete_counted p g k prices xs b c l index within here so_far ending = record {
+  labelled = so_far.labelled;
+  first = so_far.first;
+  covers = covers_moved p g k prices xs xs b.value c.value (moved_none p g k prices xs) ending.lower so_far.covers;
+  attained = attained_by p g k xs xs (grown_longer xs xs (grown_none xs)) b c l index within here so_far.attained ending;
+}
+
 -- the label at an index was extended
 abbrev pub done : Label → Label
 done l = record l { extended = true }
@@ -315,13 +368,6 @@ module _ (p : Problem) (g : Region) (k : ℕ) (prices : List ℤ) (xs ys : List 
   active_ys : (a : State) → HasActive p k zs a → HasActive p k ys a
   active_ys a s = record { index = s.index; within = omega (arith, s.within, count_zs); active = sym (zs_active s.index) ∙ s.active; is = sym (same_state p k _ _ (zs_same s.index)) ∙ s.is }
 
-  active_or_pending : (a : State) → HasActive p k ys a → HasActive p k xs a ⊎ HasPending p k ys a
-  active_or_pending a s = elim (cases_lt s.index (length xs)) [
-    | inl old ↦ (let later = steps.moved.grown.later s.index old in
-        inl (record { index = s.index; within = old; active = later.active s.active; is = sym (same_state p k _ _ later.same) ∙ s.is }))
-    | inr new ↦ inr (record { index = s.index; within = s.within; unextended = record { active = s.active; extended = steps.moved.grown.fresh s.index new s.within }; is = s.is })
-  ]
-
   is_here : state_at p k (label_in ys index) ≡ state_at p k l
   is_here = same_state p k _ _ (steps.moved.grown.later index within).same ∙ ap (state_at p k) here
 
@@ -337,7 +383,7 @@ module _ (p : Problem) (g : Region) (k : ℕ) (prices : List ℤ) (xs ys : List 
 
   covers : CoversAll p g k prices after.value (HasPending p k zs) (HasActive p k zs)
   covers a active = covers_retired p g k prices after.value (HasPending p k ys) (HasPending p k zs) (HasActive p k ys) (state_at p k l) ending.counted each_step others
-      (covers_grown p g k prices b.value after.value (HasPending p k xs) (HasActive p k xs) (HasPending p k ys) (HasActive p k ys) ending.lower steps.moved.pending active_or_pending so_far.covers) a (active_ys a active)
+      (covers_moved p g k prices xs ys b.value after.value steps.moved ending.lower so_far.covers) a (active_ys a active)
 
   longer_zs : IsLonger ys zs
   longer_zs = record { longer = omega (arith, count_zs); same = λ m w. zs_same m }
@@ -345,22 +391,8 @@ module _ (p : Problem) (g : Region) (k : ℕ) (prices : List ℤ) (xs ys : List 
   xs_zs : (m : ℕ) → m < length xs → IsSameStop (label_in xs m) (label_in zs m)
   xs_zs m w = same_through _ _ _ (steps.moved.grown.later m w).same (zs_same m)
 
-  ends_still : (m : ℕ) (z : ℤ) → EndsAt p g k xs m z → EndsAt p g k zs m z
-  ends_still m z h =
-      let same = xs_zs m h.within in
-      record {
-        within = omega (arith, h.within, count_zs, steps.moved.grown.longer);
-        can = rw (same_state p k _ _ same) h.can;
-        value = rw same.front h.value;
-      }
-
-  attained_before : (o : Option ℤ) (m : ℕ) → MatchOption o (Unit {0}) (λ z. EndsAt p g k xs m z) → MatchOption o (Unit {0}) (λ z. EndsAt p g k zs m z)
-  attained_before None m h = tt
-  attained_before (Some z) m h = ends_still m z h
-
-  attained_by : (c : Best) → ((c ≡ b) ⊎ (CanEnd p g (state_at p k l) × ((c.value ≡ Some (end_cost p l.front)) × (c.index ≡ index)))) → IsAttained p g k zs c
-  attained_by c (inl same) = rw same (attained_before b.value b.index so_far.attained)
-  attained_by c (inr h) = rw (h.1.0, h.1.1) (ends_still index (end_cost p l.front) (record { within = within; can = rw here h.0; value = ap (λ (a : Label). end_cost p a.front) here }))
+  xs_longer_zs : IsLonger xs zs
+  xs_longer_zs = record { longer = omega (arith, count_zs, steps.moved.grown.longer); same = xs_zs }
 
   first : IsDominated p g k prices zs (start p)
   first =
@@ -368,7 +400,7 @@ module _ (p : Problem) (g : Region) (k : ℕ) (prices : List ℤ) (xs ys : List 
       (b.0, (active_zs b.0 b.1.0, b.1.1))
 
   complete_zs : IsComplete p g k prices zs after
-  complete_zs = record { labelled = arena_longer p g k prices ys zs longer_zs count_zs steps.labelled; first = first; covers = covers; attained = attained_by after ending.from }
+  complete_zs = record { labelled = arena_longer p g k prices ys zs longer_zs count_zs steps.labelled; first = first; covers = covers; attained = attained_by p g k xs zs xs_longer_zs b after l index within here so_far.attained ending }
 
   onward_zs : IsOnward xs zs index
   onward_zs = record { longer = omega (arith, count_zs, steps.moved.grown.longer); still = still }

@@ -1,5 +1,5 @@
 -- Which states carry what may come after others.
-use Rattle.std.proofs.Common.{◌≡◌, refl, ℕ, ◌+◌, ◌≤◌, true, List, [], ◌∷◌, arith}
+use Rattle.std.proofs.Common.{◌≡◌, refl, ℕ, ◌+◌, ◌≤◌, true, false, List, [], ◌∷◌, arith, sym, ◌∙◌}
 use Rattle.std.specs.Prelude.{ℤ, ◌≤ℤ◌}
 use Rattle.std.proofs.lemmas.Int.{ints}
 use Rattle.std.proofs.lemmas.List.Sums.{sum_by-cons}
@@ -8,6 +8,7 @@ use Rattle.solomon_reader.specs.Plan.{load_of}
 use Rattle.solomon_reader.specs.Region.{Region}
 use Rattle.solomon_reader.specs.States.{State, step, Completes, value_with, IsAsGood, IsSameState}
 use Rattle.solomon_reader.proofs.Goodness.{good_itself, good_same, completes_too, value_no_greater}
+use Rattle.fronts.specs.Completions.{StartsWith}
 use Rattle.fronts.specs.Memories.{has_bit}
 use Rattle.fronts.proofs.Places.{place_first}
 use Rattle.labelling.specs.declared.label.Label.{Label}
@@ -19,6 +20,11 @@ pub remembers_last : (p : Problem) (k : ℕ) (l : Label) → has_bit l.memory.bi
 remembers_last p k l h = rw (place_first p l.front.last k) h
 
 module _ (p : Problem) (g : Region) (k : ℕ) (prices : List ℤ) where
+  -- a customer that is remembered doesn't come next
+  pub never_next : (a : State) (s : List ℕ) (n : ℕ) → a.memory n ≡ true → Completes p g k prices a s → ¬ StartsWith n s
+  never_next a [] n remembered h starts = starts
+  never_next a (j ∷ s) n remembered h starts = let t : true ≡ false = sym remembered ∙ (rw starts at h.0.fresh) in cc
+
   pub carries_good : (a b : State) → IsAsGood a b → Carries p g k prices a b
   carries_good a b good = record { on = λ s h. (completes_too p g k prices s a b good h, value_no_greater p g k prices s a b good) }
 

@@ -1,5 +1,5 @@
 -- How far a labeller has come.
-use Rattle.std.specs.Prelude.{◌≡◌, ℕ, ◌<◌, List, length, ℤ, Option}
+use Rattle.std.specs.Prelude.{◌≡◌, ℕ, ◌<◌, List, length, ℤ, Option, MatchOption, IsTrue, ◌+ℤ◌, ◌≤ℤ◌}
 use Rattle.fronts.specs.declared.bound.Bound.{Bound}
 use Rattle.fronts.specs.declared.completions.Completions.{Completions}
 use Rattle.fronts.specs.declared.front.Front.{Front}
@@ -9,8 +9,10 @@ use Rattle.labelling.specs.declared.label.Label.{Label}
 use Rattle.labelling.specs.declared.labeller.Labeller.{Labeller}
 use Rattle.labelling.specs.Arena.{label_in, state_at, IsArena, IsDominated, IsPruned, IsAdded, IsSameStop, TakesStep, TakesSteps, CountsEnd, IsComplete}
 use Rattle.labelling.specs.Cover.{Carries, IsCounted, IsPassed}
-use Rattle.fronts.specs.Completions.{IsBound}
-use Rattle.fronts.specs.Memories.{HasPlaces}
+use Rattle.solomon_reader.specs.States.{CanEnd, Completes, value_with}
+use Rattle.fronts.specs.Completions.{IsBound, IsCut}
+use Rattle.fronts.specs.Fronts.{end_cost}
+use Rattle.fronts.specs.Memories.{HasPlaces, recalls}
 use Rattle.fronts.specs.Tables.{Rows, IsAllowedRow}
 
 abbrev pub task_of : Labeller → Task
@@ -74,6 +76,21 @@ TakesStepTo v w b l j = TakesStep (task_of v).instance.now (task_of v).region.no
 -- so was each step from l to a customer below i
 abbrev pub TakesStepsBelow : Labeller → Labeller → Option ℤ → Label → ℕ → Type 0
 TakesStepsBelow v w b l i = TakesSteps (task_of v).instance.now (task_of v).region.now (task_of v).neighbours (task_of v).prices.now b v.labels.items w.labels.items l i
+
+-- the label remembers u
+abbrev pub Recalls : Labeller → Label → ℕ → Type 0
+Recalls w l u = IsTrue (recalls (task_of w).instance.now (task_of w).neighbours l.front.last l.memory.bits u)
+
+-- what may come after the label adds z at least, and no more than all prices together
+pub record AddsAtLeast (w : Labeller) (l : Label) (z : ℤ) : Type 0 where
+  pub cut : IsCut z
+  pub least : (s : List ℕ) → Completes (task_of w).instance.now (task_of w).region.now (task_of w).neighbours (task_of w).prices.now (state_at (task_of w).instance.now (task_of w).neighbours l) s
+      → (l.front.cost +ℤ z) ≤ℤ value_with (task_of w).instance.now (task_of w).neighbours (task_of w).prices.now (state_at (task_of w).instance.now (task_of w).neighbours l) s
+
+-- the reduced cost of the route that ends after l, none where no route may end there
+abbrev pub EndsFor : Labeller → Label → Option ℤ → Type 0
+EndsFor w l cost = MatchOption cost (¬ CanEnd (task_of w).instance.now (task_of w).region.now (state_at (task_of w).instance.now (task_of w).neighbours l))
+    (λ z. CanEnd (task_of w).instance.now (task_of w).region.now (state_at (task_of w).instance.now (task_of w).neighbours l) × (z ≡ end_cost (task_of w).instance.now l.front))
 
 -- the best counts the end of l, which stands at the index, beside the labeller's best
 abbrev pub CountsEndOf : Labeller → Label → ℕ → Best → Type 0

@@ -10,22 +10,30 @@ ghost use Rattle.labelling.specs.Answer.{HasLeastValue, HasItsRoute};
 ghost use Rattle.labelling.specs.Arena.{label_in, trace, IsPending, IsOnward, NonePending, IsInList, IsFirst, IsAnswer};
 ghost use Rattle.labelling.specs.Cover.{IsAtMost};
 ghost use Rattle.fronts.specs.Fronts.{IsBounded};
-ghost use Rattle.labelling.specs.Search.{task_of, IsSameTask, AreLabels, StandsAt, AreRowsFrom, ArePlacesFrom, IsAddedTo, IsBoundAt, PassesFront, PassesLabel, TakesStepTo, TakesStepsBelow, CountsEndOf, LosesNothing};
+ghost use Rattle.labelling.specs.Search.{task_of, IsSameTask, AreLabels, StandsAt, AreRowsFrom, ArePlacesFrom, IsAddedTo, IsBoundAt, PassesFront, PassesLabel, TakesStepTo, TakesStepsBelow, Recalls, AddsAtLeast, EndsFor, CountsEndOf, LosesNothing};
 ghost use Rattle.labelling.specs.declared.fault.LabelFault.TheVariants.{LabelLimit};
 
 use crate::best::Best;
 use crate::customer_labels::Entry;
 use crate::fault::LabelFault;
+use crate::hints::Hints;
 use crate::label::Label;
 use crate::least_cost::Least;
 use crate::lookup::Lookup;
+use crate::route_ends::{RouteEnd, cheapest};
 use branching::Region;
-use fronts::{Bound, Completions, CustomerSet, Front, Memory, Task};
+use fronts::{Bound, Completions, CustomerSet, Front, LIST_SIZE, Memory, Task};
 use solomon_reader::Instance;
 use std::alloc::{AllocError, Global};
 
 /// How often the search dives for a cheap route before it goes on by time.
 const DIVES: usize = 10;
+
+/// After so many slots of time the search looks how many routes it met that cost less than the known one, and
+/// with more than so many it asks for cheaper ones.
+const SLOTS_BETWEEN: usize = 100;
+
+const ENOUGH_ENDS: usize = 40;
 
 /// A search for the least reduced cost: bounds on what may follow, its labels, where they are looked up,
 /// and the best so far.
@@ -36,6 +44,9 @@ pub(crate) struct Labeller<'t, 'i> {
     labels: Vec<Label>,
     lookup: Lookup,
     best: Best,
+    /// No label is left out after which a route may cost less, in grains: the reduced cost of the known
+    /// route, so that others that cost less than that one are met, too.
+    cut: i64,
 }
 
 /// The list of the empty beginning at the depot.
@@ -121,6 +132,7 @@ impl<'t, 'i> Labeller<'t, 'i> {
                 value: None,
                 index: 0,
             },
+            cut: i64::MIN,
         })
     }
 
@@ -137,6 +149,7 @@ impl<'t, 'i> Labeller<'t, 'i> {
             labels: self.labels,
             lookup: self.lookup,
             best: self.best,
+            cut: self.cut,
         }
     }
 
@@ -156,7 +169,37 @@ impl<'t, 'i> Labeller<'t, 'i> {
         requires bound { IsBoundAt self.now front.now bound.now }
         ensures { IsTrue result → PassesFront self.now best front.now }
     {
+        if front.cost + bound.least < self.cut {
+            return false;
+        }
         is_at_most(best, front.cost + bound.least)
+    }
+
+    /// Whether a label may not visit a customer next, as far as it remembers it.
+    fn recalls(&self, label: &Label, customer: u16) -> bool
+        requires { IsBounded (task_of self.now).instance.now label.now.front }
+        ensures { IsTrue result → Recalls self.now label.now customer }
+    {
+        let places = self.completions.task.places[usize::from(label.front.last)].as_slice();
+        if usize::from(customer) >= places.len() {
+            return false;
+        }
+        let place = places[usize::from(customer)];
+        place < LIST_SIZE && label.memory.contains(place)
+    }
+
+    /// The least that what may come after a label adds to its reduced cost, in grains, where it remembers
+    /// its last stop: the customer that comes next where the least is added may be one that it remembers.
+    fn least_after(&self, label: &Label) -> i64
+        requires bounded { IsBounded (task_of self.now).instance.now label.now.front }
+        requires remembered { Recalls self.now label.now label.now.front.last }
+        ensures { AddsAtLeast self.now label.now result }
+    {
+        let bound = self.completions.at(label.front.last, label.front.time);
+        if self.recalls(label, bound.next) {
+            return bound.other;
+        }
+        bound.least
     }
 
     /// Whether nothing that may come after a label costs less than the best so far.
@@ -164,9 +207,14 @@ impl<'t, 'i> Labeller<'t, 'i> {
         requires { IsBounded (task_of self.now).instance.now label.now.front }
         ensures { IsTrue result → PassesLabel self.now self.now.best.value label.now }
     {
-        let bound = self.completions.at(label.front.last, label.front.time);
-        // Bounds hold where the last stop is remembered, as it is after each stop.
-        label.memory.contains(0) && self.is_passed(&label.front, &bound, self.best.value)
+        if !self.recalls(label, label.front.last) {
+            return false;
+        }
+        let value = label.front.cost + self.least_after(label);
+        if value < self.cut {
+            return false;
+        }
+        is_at_most(self.best.value, value)
     }
 
     /// Adds a label, after which at most so much may be loaded, and drops those that it dominates, unless
@@ -257,27 +305,82 @@ impl<'t, 'i> Labeller<'t, 'i> {
         Ok(())
     }
 
+    /// The reduced cost of the route that ends after a label, in grains, if a route may end there.
+    fn end_cost(&self, label: &Label) -> Option<i64>
+        requires bounded { IsBounded (task_of self.now).instance.now label.now.front }
+        ensures { EndsFor self.now label.now result }
+    {
+        let task = self.completions.task;
+        let rows = &task.allowed_rows[usize::from(label.front.last)];
+        if !rows.contains(0) {
+            return None;
+        }
+        if !label.front.is_back_in_time(task.instance) {
+            return None;
+        }
+        Some(label.front.end_cost(task.instance))
+    }
+
     /// The best with the return to the depot after the label at an index.
     fn best_with(&self, label: &Label, index: usize) -> Best
         requires bounded { IsBounded (task_of self.now).instance.now label.now.front }
         ensures { CountsEndOf self.now label.now index result }
     {
-        let task = self.completions.task;
-        let rows = &task.allowed_rows[usize::from(label.front.last)];
-        if !rows.contains(0) {
-            return self.best;
+        match self.end_cost(label) {
+            Some(value) if !is_at_most(self.best.value, value) => Best {
+                value: Some(value),
+                index,
+            },
+            _ => self.best,
         }
-        if !label.front.is_back_in_time(task.instance) {
-            return self.best;
+    }
+
+    /// The ends of the routes after extended labels that cost less than the known route, or where none is
+    /// known, less than nothing; the cheapest first.
+    fn ends(&self) -> Result<Vec<RouteEnd>, AllocError>
+        requires { LosesNothing self.now }
+    {
+        let most = if self.cut == i64::MIN { 0 } else { self.cut };
+        let mut ends = Vec::new(self.completions.task.alloc);
+        for index in 0..self.labels.len() {
+            let label = self.labels[index];
+            let cost = self.end_cost(&label);
+            if let Some(value) = cost && value < most && label.extended {
+                let last = label.front.last;
+                ends.push(RouteEnd { value, last, index })?;
+            }
         }
-        let value = label.front.end_cost(task.instance);
-        if is_at_most(self.best.value, value) {
-            return self.best;
+        ends.sort_by_key(|end| end.value)?;
+        Ok(ends)
+    }
+
+    /// Asks for cheaper routes alone, where more than enough were met that cost less than the known one.
+    fn tighten(&mut self) -> Result<(), AllocError>
+        requires { LosesNothing self.old }
+        ensures complete { LosesNothing self.new }
+        ensures same { IsSameTask self.old self.new }
+    {
+        let ends = self.ends()?;
+        if let Some(end) = ends.get(ENOUGH_ENDS) && self.cut > end.value {
+            self.cut = end.value;
         }
-        Best {
-            value: Some(value),
-            index,
+        Ok(())
+    }
+
+    /// Tells further routes that were met, the cheapest ones, and how many labels were made.
+    fn tell(&self, hints: &mut Hints) -> Result<(), AllocError>
+        requires { LosesNothing self.now }
+    {
+        let alloc = self.completions.task.alloc;
+        let ends = self.ends()?;
+        for end in &cheapest(alloc, ends.as_slice())? {
+            if end.index < self.labels.len() && end.index != self.best.index {
+                let route = route_to(alloc, self.labels.as_slice(), end.index)?;
+                hints.met.push(route)?;
+            }
         }
+        hints.labels = self.labels.len();
+        Ok(())
     }
 
     /// Whether the label at an index is active and its steps are still to be taken.
@@ -313,6 +416,59 @@ impl<'t, 'i> Labeller<'t, 'i> {
         self.take_steps(&label, index, best.value)?;
         self.labels[index].extended = true;
         self.best = best;
+        Ok(())
+    }
+
+    /// Takes the step from the label at an index to the next stop of a known route, and answers where the
+    /// label that it leads to stands, if it is a new one; nothing where there is no such label or stop.
+    fn follow_to(&mut self, index: usize, j: u16) -> Result<Option<usize>, LabelFault>
+        requires { LosesNothing self.old }
+        ensures complete { OnOk result (LosesNothing self.new) }
+        ensures same { IsSameTask self.old self.new }
+        ensures unlimited { IfErr result (λ e. e ≡ LabelLimit → self.old.limit ≢ None) }
+    {
+        let task = self.completions.task;
+        let count = self.labels.len();
+        if index >= count || j == 0 || j > task.instance.customer_count() {
+            return Ok(None);
+        }
+        let label = self.labels[index];
+        let last = usize::from(label.front.last);
+        let rows = &task.allowed_rows[last];
+        let places = task.places[last].as_slice();
+        self.take_step(&label, index, self.best.value, rows, places, j)?;
+        Ok(Some(count))
+    }
+
+    /// Counts the route that ends at the label at an index, and asks from then on for cheaper ones alone.
+    fn cut_at(&mut self, index: usize)
+        requires { LosesNothing self.old }
+        ensures complete { LosesNothing self.new }
+        ensures same { IsSameTask self.old self.new }
+    {
+        if index >= self.labels.len() {
+            return;
+        }
+        let label = self.labels[index];
+        self.best = self.best_with(&label, index);
+        self.cut = self.best.value.unwrap_or(i64::MIN);
+    }
+
+    /// Goes along a known route as far as the region allows it.
+    fn follow(&mut self, stops: &[u16]) -> Result<(), LabelFault>
+        requires { LosesNothing self.old }
+        ensures complete { OnOk result (LosesNothing self.new) }
+        ensures same { IsSameTask self.old self.new }
+        ensures unlimited { IfErr result (λ e. e ≡ LabelLimit → self.old.limit ≢ None) }
+    {
+        let mut index = 0;
+        for stop in stops {
+            let Some(next) = self.follow_to(index, *stop)? else {
+                return Ok(());
+            };
+            index = next;
+        }
+        self.cut_at(index);
         Ok(())
     }
 
@@ -353,7 +509,7 @@ impl<'t, 'i> Labeller<'t, 'i> {
         Ok(())
     }
 
-    /// Dives from the most promising labels.
+    /// Dives from the most promising labels, unless a route is known.
     fn dive_often(&mut self) -> Result<(), LabelFault>
         requires { LosesNothing self.old }
         ensures complete { OnOk result (LosesNothing self.new) }
@@ -361,6 +517,9 @@ impl<'t, 'i> Labeller<'t, 'i> {
         ensures unlimited { IfErr result (λ e. e ≡ LabelLimit → self.old.limit ≢ None) }
     {
         for _dive in 0..DIVES {
+            if self.cut != i64::MIN {
+                break;
+            }
             let Some(index) = self.most_promising(0) else {
                 break;
             };
@@ -397,6 +556,9 @@ impl<'t, 'i> Labeller<'t, 'i> {
     {
         for slot in 0..self.lookup.slots() {
             self.extend_slot(slot, most)?;
+            if slot % SLOTS_BETWEEN == 0 {
+                self.tighten()?;
+            }
         }
         Ok(())
     }
@@ -418,14 +580,13 @@ impl<'t, 'i> Labeller<'t, 'i> {
         Ok(())
     }
 
-    /// Extends all labels, the most promising first, and answers the least reduced cost with its route,
-    /// and how many labels there are.
-    fn extend_all(&mut self) -> Result<(Least, usize), LabelFault>
+    /// Extends all labels, the most promising first, and answers the least reduced cost with its route.
+    fn extend_all(&mut self, hints: &mut Hints) -> Result<Least, LabelFault>
         requires { LosesNothing self.old }
         ensures value { let task = task_of self.old in
-            IfOk result (λ l. HasLeastValue task.instance.now task.region.now task.neighbours task.prices.now l.0) }
+            IfOk result (HasLeastValue task.instance.now task.region.now task.neighbours task.prices.now) }
         ensures route { let task = task_of self.old in
-            IfOk result (λ l. HasItsRoute task.instance.now task.region.now task.neighbours task.prices.now l.0) }
+            IfOk result (HasItsRoute task.instance.now task.region.now task.neighbours task.prices.now) }
         ensures unlimited { IfErr result (λ e. e ≡ LabelLimit → self.old.limit ≢ None) }
     {
         self.dive_often()?;
@@ -433,7 +594,8 @@ impl<'t, 'i> Labeller<'t, 'i> {
         self.extend_rest()?;
         let alloc = self.completions.task.alloc;
         let least = answer(alloc, self.labels.as_slice(), self.best)?;
-        Ok((least, self.labels.len()))
+        self.tell(hints)?;
+        Ok(least)
     }
 }
 
@@ -450,19 +612,24 @@ fn completions_for<'t, 'i>(
     Ok(Completions::unknown(task))
 }
 
-/// What `least_counted` answers, from the tables of its task.
-fn least_of_task(task: &Task<'_>, limit: Option<usize>) -> Result<(Least, usize), LabelFault>
-    ensures value { IfOk result (λ l. HasLeastValue task.now.instance.now task.now.region.now task.now.neighbours task.now.prices.now l.0) }
-    ensures route { IfOk result (λ l. HasItsRoute task.now.instance.now task.now.region.now task.now.neighbours task.now.prices.now l.0) }
+/// What `least_by_hints` answers, from the tables of its task.
+fn least_of_task(
+    task: &Task<'_>,
+    limit: Option<usize>,
+    hints: &mut Hints,
+) -> Result<Least, LabelFault>
+    ensures value { IfOk result (HasLeastValue task.now.instance.now task.now.region.now task.now.neighbours task.now.prices.now) }
+    ensures route { IfOk result (HasItsRoute task.now.instance.now task.now.region.now task.now.neighbours task.now.prices.now) }
     ensures unlimited { IfErr result (λ e. e ≡ LabelLimit → limit ≢ None) }
 {
     let unknown = Completions::unknown(task);
     let mut labeller = Labeller::new(&unknown, limit)?;
+    labeller.follow(hints.known.as_slice())?;
     let few = 2 * usize::from(task.instance.customer_count());
     labeller.extend_by_time(few)?;
     let completions = completions_for(task, labeller.labels.len() > few)?;
     let mut labeller = labeller.with(&completions);
-    labeller.extend_all()
+    labeller.extend_all(hints)
 }
 
 /// The least reduced cost over all relaxed routes of the region at these prices, and a route that
@@ -489,29 +656,32 @@ pub fn least(
     ensures route { IfOk result (λ l. HasItsRoute instance.now region.now neighbours prices.now l) }
     ensures unlimited { IfErr result (λ e. e ≡ LabelLimit → limit ≢ None) }
 {
-    let (least, _labels) = least_counted(alloc, instance, region, prices, neighbours, limit)?;
-    Ok(least)
+    let mut hints = Hints::none(alloc);
+    least_by_hints(
+        alloc, instance, region, prices, neighbours, limit, &mut hints,
+    )
 }
 
-/// What `least` answers, with how many labels it made, so that a caller knows how dear such an answer
-/// is. No clause says that it counts right.
-pub fn least_counted(
+/// What `least` answers, found sooner where a route of low reduced cost is known, with further routes that
+/// were met.
+pub fn least_by_hints(
     alloc: Global,
     instance: &Instance,
     region: &Region,
     prices: &[i64],
     neighbours: u32,
     limit: Option<usize>,
-) -> Result<(Least, usize), LabelFault>
+    hints: &mut Hints,
+) -> Result<Least, LabelFault>
     requires size { region.now.size ≡ customer_count instance.now }
     requires count { length prices.now ≡ customer_count instance.now }
     requires priced { AllByRecursion IsPrice prices.now }
     requires few { neighbours ≤ MOST_NEIGHBOURS }
-    ensures value { IfOk result (λ l. HasLeastValue instance.now region.now neighbours prices.now l.0) }
-    ensures route { IfOk result (λ l. HasItsRoute instance.now region.now neighbours prices.now l.0) }
+    ensures value { IfOk result (HasLeastValue instance.now region.now neighbours prices.now) }
+    ensures route { IfOk result (HasItsRoute instance.now region.now neighbours prices.now) }
     ensures unlimited { IfErr result (λ e. e ≡ LabelLimit → limit ≢ None) }
 {
     instance.law_of_limits();
     let task = Task::new(alloc, instance, region, prices, neighbours)?;
-    least_of_task(&task, limit)
+    least_of_task(&task, limit, hints)
 }

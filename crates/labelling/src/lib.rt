@@ -6,11 +6,14 @@ mod best;
 mod buckets;
 mod customer_labels;
 mod fault;
+mod hints;
 mod label;
 mod labeller;
 mod least_cost;
 mod lookup;
+mod route_ends;
 
 pub use fault::LabelFault;
-pub use labeller::{least, least_counted};
+pub use hints::Hints;
+pub use labeller::{least, least_by_hints};
 pub use least_cost::Least;

@@ -1,8 +1,8 @@
 //! Prices at leaves: their values, steps, and the least reduced costs.
 
-use crate::words::{amounts_of, listed, named, number_at, pair_of, then, told};
+use crate::words::{amounts_of, list_of, listed, named, number_at, pair_of, then, told};
 use branching::{Arc, Region};
-use labelling::least;
+use labelling::{Hints, least, least_by_hints};
 use prices::{Priced, improve};
 use solomon_reader::{Instance, MOST_NEIGHBOURS};
 use std::alloc::Global;
@@ -116,6 +116,47 @@ pub(crate) fn told_least(alloc: Global, instance: &Instance, words: &[&str]) -> 
         Some(limit) => told_least_within(alloc, &leaf, limit),
         None => told_cost(alloc, leaf.least().value),
     }
+}
+
+/// The reduced cost of a list of customers in grains, if it is one and they aren't too many.
+fn reduced_cost(instance: &Instance, prices: &[i64], stops: &[u16]) -> Option<i64> {
+    let mut cost: i64 = 0;
+    let mut from = 0;
+    for stop in stops {
+        let price = prices.get(usize::from(*stop).checked_sub(1)?)?;
+        cost = cost.checked_add(arc_grains(instance, from, *stop)?)?;
+        cost = cost.checked_sub(*price)?;
+        from = *stop;
+    }
+    cost.checked_add(arc_grains(instance, from, 0)?)
+}
+
+/// The cost of an arc in grains, if the instance has these rows.
+fn arc_grains(instance: &Instance, from: u16, to: u16) -> Option<i64> {
+    if from.max(to) > instance.customer_count() {
+        return None;
+    }
+    i64::try_from(instance.distance(from, to).get()).ok()?.checked_mul(1000)
+}
+
+/// The least reduced cost at the prices of a command where a route is known, and the reduced costs of the
+/// further routes that were met.
+pub(crate) fn told_met(alloc: Global, instance: &Instance, words: &[&str]) -> Option<String> {
+    let leaf = leaf_by(alloc, instance, words.get(..4)?)?.ok()?;
+    let _value = leaf.value();
+    let mut hints = Hints::of(alloc, list_of(alloc, words.get(4)?)?);
+    let (region, prices) = (leaf.region(), leaf.prices());
+    let neighbours = leaf.neighbours();
+    let found = least_by_hints(
+        alloc, leaf.instance(), region, prices, neighbours, None, &mut hints,
+    );
+    let mut costs = Vec::new(alloc);
+    for route in &hints.met {
+        let cost = reduced_cost(instance, prices, route.as_slice())?;
+        costs.push(cost).ok()?;
+    }
+    let text = told_cost(alloc, found.ok()?.value)?;
+    then(text, " ", listed(alloc, "met", costs.as_slice())?.as_str())
 }
 
 /// Whether two leaves have the same prices, value and least route.

@@ -12,7 +12,8 @@
 //! - `arc FROM TO`, `ceiling`, `walk ROUTE` and `joins` ask the instance, `build MU LAMBDA A1` builds a plan,
 //!   and `allows FROM,TO` asks the root. A region is `root`, `used:FROM,TO` or `unused:FROM,TO`;
 //!   `leaf REGION NEIGHBOURS PRICES` values prices, with a limit of labels if one is behind them, and so does
-//!   `least` labels; `steps REGION NEIGHBOURS PRICES STEPS` improves prices.
+//!   `least` labels; `met REGION NEIGHBOURS PRICES ROUTE` labels where a route is known, and tells the reduced
+//!   costs of further routes; `steps REGION NEIGHBOURS PRICES STEPS` improves prices.
 //! - `plan ROUTES` checks a plan, to which `routes`, `copy`, `trees`, `move KIND FROM TO`, `best KIND`, `bests`,
 //!   `shake COUNT WORDS`, `turn WORDS` and `descend` refer; the plan behind a descent is the next one.
 //! - `root NUMBER`, `distances POINTS`, `tenths TEXT`, `text TENTHS`, `pieces WORD WORD`, `lists` and
@@ -35,7 +36,7 @@ use crate::instances::{
     line_text_by, read_told, text_by, told_arc, told_build, told_same, told_walk,
 };
 use crate::joins::{told_joins, told_lists};
-use crate::leaves::{told_allowed, told_leaf, told_least, told_steps};
+use crate::leaves::{told_allowed, told_leaf, told_least, told_met, told_steps};
 use crate::numbers::{told_count, told_distances, told_pieces, told_root, told_tenths};
 use crate::parts::told_parts;
 use crate::plans::{
@@ -83,6 +84,7 @@ fn told_of(alloc: Global, instance: &Instance, line: &str, words: &[&str]) -> Op
         "leaf" => told_leaf(alloc, instance, words),
         "steps" => told_steps(alloc, instance, words),
         "least" => told_least(alloc, instance, words),
+        "met" => told_met(alloc, instance, words),
         "allows" => told_allowed(alloc, instance, words),
         _ => None,
     }

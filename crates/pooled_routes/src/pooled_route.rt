@@ -97,6 +97,17 @@ impl PooledRoute {
         self.stops.as_slice()
     }
 
+    /// The reduced cost at these prices, both in grains; that of customer i stands at i - 1.
+    /// No contract: a rule of search; any prices are sound.
+    pub fn reduced_cost(&self, prices: &[i64]) -> i64 {
+        let mut reduced = self.cost;
+        for stop in &self.stops {
+            let price = prices.get(usize::from(*stop).wrapping_sub(1));
+            reduced = reduced.saturating_sub(price.copied().unwrap_or(0));
+        }
+        reduced
+    }
+
     /// How much of the rise the multiplier is.
     /// No contract: a rule of search; any prices are sound.
     pub fn share(&self, rise: i64) -> RouteShare {

@@ -9,11 +9,13 @@ ghost use Rattle.price_ascent.specs.Branching.{IsPricedAt};
 
 use crate::route_pool::RoutePool;
 use branching::Region;
+use labelling::Hints;
 use prices::{PriceFault, Priced};
 use std::alloc::Global;
 
-/// These prices at a region of a leaf's instance. The pool counts the labels that they took: where
-/// they were refused, as many as may be active at once.
+/// These prices at a region of a leaf's instance. The pool says which of its routes costs least there, and
+/// takes in the cheaper ones that the pricing meets. It counts the labels that they took: where they were
+/// refused, as many as may be active at once.
 pub(crate) fn price<'i>(
     alloc: Global,
     pool: &mut RoutePool,
@@ -30,14 +32,19 @@ pub(crate) fn price<'i>(
     ensures unlimited { IfErr result (λ e. e ≡ LabelLimit → labels ≢ None) }
 {
     let instance = leaf.instance();
-    match Priced::of(alloc, instance, region, leaf.neighbours(), prices, labels) {
+    let known = pool.cheapest(&region, prices.as_slice())?;
+    let mut hints = Hints::of(alloc, known);
+    let neighbours = leaf.neighbours();
+    match Priced::by_hints(
+        alloc, instance, region, neighbours, prices, labels, &mut hints,
+    ) {
         Ok(priced) => {
-            pool.count(priced.labels());
+            pool.take_in(instance, &hints)?;
             Ok(priced)
         }
         Err((_, _, fault)) => {
             pool.count(labels.unwrap_or(0));
-            Err(fault)
+            Err(PriceFault::from(fault))
         }
     }
 }

@@ -5,15 +5,17 @@ use crate::child_start::ChildStart;
 use crate::pool_trial::PoolTrial;
 use crate::starting::trial_rise;
 use branching::{Arc, Region};
+use labelling::Hints;
 use pooled_routes::{
     ArcFlow, HalfSpace, PooledRoute, Projection, Pseudocosts, RouteShare, Side, Trial, merge,
     scaled,
 };
+use prices::allows_route;
 use solomon_reader::Instance;
 use std::alloc::{AllocError, Global};
 
 /// The most routes of a pool: so many, or where that is more, so many for each customer.
-const MOST_ROUTES: usize = 400;
+const MOST_ROUTES: usize = 1_000;
 
 const ROUTES_OF_CUSTOMER: usize = 4;
 
@@ -109,6 +111,32 @@ impl RoutePool {
     pub(crate) fn count(&mut self, labels: usize) {
         self.pricings = self.pricings.saturating_add(1);
         self.labels = self.labels.saturating_add(labels as u64);
+    }
+
+    /// The customers of the route of least reduced cost at these prices among those that a region allows;
+    /// none where it allows none.
+    pub(crate) fn cheapest(&self, region: &Region, prices: &[i64]) -> Result<Vec<u16>, AllocError> {
+        let mut cheapest: Option<(&PooledRoute, i64)> = None;
+        for route in &self.routes {
+            let cost = route.reduced_cost(prices);
+            let is_cheaper = cheapest.is_none_or(|(_, least)| cost < least);
+            if is_cheaper && allows_route(region, route.stops()) {
+                cheapest = Some((route, cost));
+            }
+        }
+        match cheapest {
+            Some((route, _)) => Vec::from_slice(self.alloc, route.stops()),
+            None => Ok(Vec::new(self.alloc)),
+        }
+    }
+
+    /// Takes in what a pricing told: counts it, and adds the routes that it met.
+    pub(crate) fn take_in(&mut self, instance: &Instance, hints: &Hints) -> Result<(), AllocError> {
+        self.count(hints.labels);
+        for route in &hints.met {
+            self.add(instance, route.as_slice())?;
+        }
+        Ok(())
     }
 
     /// The arcs that the routes of the pool use, with what they carry.

@@ -31,6 +31,14 @@ pub record IsPricing (f : Pricing) : Type 0 where
   pub valued : IsLeafValue version_2 f.problem f.region f.neighbours f.prices f.value
   pub bound : f.value < MOST_VALUE
 
+-- these prices at this region of the instance, with their value
+pub record IsPricedBy (p : Problem) (g : Region) (k : ℕ) (ps : List ℤ) (f : Pricing) : Type 0 where
+  pub problem : f.problem ≡ p
+  pub region : f.region ≡ g
+  pub neighbours : f.neighbours ≡ k
+  pub prices : f.prices ≡ ps
+  pub valued : IsPricing f
+
 -- the least reduced cost, or 0 where there is none
 abbrev pub or_zero : Option ℤ → ℤ
 or_zero None = pos 0

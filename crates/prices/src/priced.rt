@@ -7,7 +7,7 @@ ghost use Rattle.solomon_reader.specs.Region.{root_region};
 ghost use Rattle.solomon_reader.specs.CertificateText.{IsPrice};
 ghost use Rattle.solomon_reader.specs.declared.limits.TheConstants.{MOST_NEIGHBOURS};
 ghost use Rattle.labelling.specs.declared.fault.LabelFault.TheVariants as label;
-ghost use Rattle.prices.specs.Pricing.{IsPricing};
+ghost use Rattle.prices.specs.Pricing.{IsPricing, IsPricedBy};
 ghost use Rattle.prices.specs.Steps.{IsGuide};
 ghost use Rattle.prices.specs.Narrowing.{IsNarrower, IsSameAt};
 ghost use Rattle.labelling.specs.Answer.{HasLeastValue, HasItsRoute};
@@ -18,7 +18,7 @@ use crate::narrowing::stays_least;
 use crate::range::are_prices;
 use crate::valuing::{least_of, sum_of, value_of};
 use branching::Region;
-use labelling::{LabelFault, Least, least_counted};
+use labelling::{Hints, LabelFault, Least, least_by_hints};
 use solomon_reader::Instance;
 use std::alloc::{AllocError, Global};
 use std::marker::Model;
@@ -34,7 +34,6 @@ pub struct Priced<'i> {
     prices: Vec<i64>,
     value: u128,
     least: Least,
-    labels: usize,
 }
 
 impl<'i> Model for Priced<'i> {
@@ -59,8 +58,7 @@ impl<'i> Model for Priced<'i> {
         × HasItsRoute f.instance.now f.region f.neighbours f.prices.items f.least };
 }
 
-/// The value of the prices in tenths, the least reduced cost that gives it, and how many labels were
-/// made for it.
+/// The value of the prices in tenths, and the least reduced cost that gives it.
 fn evaluate(
     alloc: Global,
     instance: &Instance,
@@ -68,7 +66,8 @@ fn evaluate(
     neighbours: u32,
     prices: &[i64],
     limit: Option<usize>,
-) -> Result<(u128, Least, usize), LabelFault>
+    hints: &mut Hints,
+) -> Result<(u128, Least), LabelFault>
     requires size { region.now.size ≡ customer_count instance.now }
     requires count { length prices.now ≡ customer_count instance.now }
     requires priced { AllByRecursion IsPrice prices.now }
@@ -79,14 +78,14 @@ fn evaluate(
     ensures unlimited { IfErr result (λ e. e ≡ label.LabelLimit → limit ≢ None) }
 {
     instance.law_of_limits();
-    let (found, labels) = least_counted(alloc, instance, region, prices, neighbours, limit)?;
+    let found = least_by_hints(alloc, instance, region, prices, neighbours, limit, hints)?;
     let value = value_of(
         instance.fleet(),
         instance.fewest_routes(),
         sum_of(prices),
         least_of(found.value),
     );
-    Ok((value, found, labels))
+    Ok((value, found))
 }
 
 /// A price of zero for each customer.
@@ -140,6 +139,35 @@ impl<'i> Priced<'i> {
         if !are_prices(prices.as_slice()) {
             return Err((region, prices, PriceFault::PriceRange));
         }
+        let mut hints = Hints::none(alloc);
+        match Priced::by_hints(
+            alloc, instance, region, neighbours, prices, limit, &mut hints,
+        ) {
+            Ok(priced) => Ok(priced),
+            Err((region, prices, fault)) => Err((region, prices, PriceFault::from(fault))),
+        }
+    }
+
+    /// What `of` answers for prices in their range, found sooner where a route of low reduced cost is known,
+    /// with further routes that were met.
+    pub fn by_hints(
+        alloc: Global,
+        instance: &'i Instance,
+        region: Region,
+        neighbours: u32,
+        prices: Vec<i64>,
+        limit: Option<usize>,
+        hints: &mut Hints,
+    ) -> Result<Priced<'i>, (Region, Vec<i64>, LabelFault)>
+        requires size { region.size ≡ customer_count instance.now }
+        requires count { length prices.items ≡ customer_count instance.now }
+        requires in_range { AllByRecursion IsPrice prices.items }
+        requires few { neighbours ≤ MOST_NEIGHBOURS }
+        ensures priced { IfOk result (IsPricedBy instance.now region neighbours prices.items) }
+        ensures unlimited { IfErr result (λ e. e.2 ≡ label.LabelLimit → limit ≢ None) }
+        ensures region_back { IfErr result (λ e. e.0 ≡ region) }
+        ensures prices_back { IfErr result (λ e. e.1 ≡ prices) }
+    {
         match evaluate(
             alloc,
             instance,
@@ -147,17 +175,17 @@ impl<'i> Priced<'i> {
             neighbours,
             prices.as_slice(),
             limit,
+            hints,
         ) {
-            Ok((value, least, labels)) => Ok(Priced {
+            Ok((value, least)) => Ok(Priced {
                 instance,
                 region,
                 neighbours,
                 prices,
                 value,
                 least,
-                labels,
             }),
-            Err(fault) => Err((region, prices, PriceFault::from(fault))),
+            Err(fault) => Err((region, prices, fault)),
         }
     }
 
@@ -179,23 +207,13 @@ impl<'i> Priced<'i> {
     {
         let prices = no_prices(alloc, instance)?;
         let region = Region::root(alloc, instance.customer_count());
-        let (value, least, labels) = evaluate(
-            alloc,
-            instance,
-            &region,
-            neighbours,
-            prices.as_slice(),
-            limit,
-        )?;
-        Ok(Priced {
-            instance,
-            region,
-            neighbours,
-            prices,
-            value,
-            least,
-            labels,
-        })
+        let mut hints = Hints::none(alloc);
+        match Priced::by_hints(
+            alloc, instance, region, neighbours, prices, limit, &mut hints,
+        ) {
+            Ok(priced) => Ok(priced),
+            Err((_, _, fault)) => Err(fault),
+        }
     }
 
     /// The instance.
@@ -248,12 +266,6 @@ impl<'i> Priced<'i> {
         &self.least
     }
 
-    /// How many labels were made to find the least reduced cost. No contract: it only measures how dear
-    /// a pricing was.
-    pub fn labels(&self) -> usize {
-        self.labels
-    }
-
     /// The same prices at a region that allows no other arcs, where the value stays since the route of
     /// the least reduced cost is allowed there, too, or there is none; nothing where the route isn't
     /// allowed. It takes no pricing.
@@ -274,7 +286,6 @@ impl<'i> Priced<'i> {
             prices,
             value: self.value,
             least,
-            labels: self.labels,
         }))
     }
 
@@ -304,7 +315,6 @@ impl<'i> Priced<'i> {
             prices,
             value: self.value,
             least,
-            labels: self.labels,
         })
     }
 }

@@ -156,7 +156,8 @@ impl<'i> Opening<'i> {
             let book = open_book(alloc, root)?;
             return Ok(Opening { book, plan: None });
         };
-        let root = start_from(alloc, root, plan.routes(), Some(pricing_labels(settings)));
+        let labels = pricing_labels(settings, instance.customer_count());
+        let root = start_from(alloc, root, plan.routes(), Some(labels));
         let mut book = open_book(alloc, root)?;
         let plan = offer_both(rt, alloc, &mut book, plan, settings.seed)?;
         Ok(Opening {

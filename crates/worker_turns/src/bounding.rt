@@ -16,6 +16,10 @@ use prices::{PriceFault, Priced};
 use schedule::Feasible;
 use solomon_reader::Instance;
 use std::alloc::Global;
+use std::thread::yield_now;
+
+/// After so many looks for a leaf the processor is given away.
+const LOOKS_BETWEEN: u32 = 2_000;
 
 /// Splits a leaf, and keeps both children, which wait for their turn.
 fn split<'i, H: Hub<'i>, G: Gate>(
@@ -75,9 +79,9 @@ fn bring<'i, H: Hub<'i>, G: Gate>(
     if leaf.value() >= i128::from(target) {
         return reprice(hub, number, leaf);
     }
-    if is_raised && leaf.region().is_root() {
+    if leaf.region().is_root() && nodes.stays_at_root(is_raised) {
         nodes.keep(number);
-        return reprice(hub, number, leaf);
+        return if is_raised { reprice(hub, number, leaf) } else { Ok(()) };
     }
     match branch(spot.alloc, &leaf, &mut nodes.pool, Some(labels)) {
         Ok(Some(children)) => split(spot, hub, number, children, nodes),
@@ -164,6 +168,33 @@ fn work_at<'i, H: Hub<'i>, G: Gate>(
     bring(spot, hub, number, leaf, is_raised, target, labels, nodes)
 }
 
+/// Takes a node. Where there is none, it looks again and again for one that another worker shares, and now
+/// and then gives the processor away, so that idle turns aren't used up before the others have leaves to
+/// share.
+fn wait_for_node<G: Gate>(
+    spot: &Spot<'_, G>,
+    nodes: &mut Nodes<'_>,
+    seat: &mut CeilingSeat,
+) -> Result<Option<Taken>, Refusal>
+    requires { IsSeatOf spot.now.ceiling.now seat.old }
+    ensures { IsSeatOf spot.now.ceiling.now seat.new }
+{
+    for _look in 0..nodes.looks() {
+        if let Some(taken) = nodes.take()? {
+            nodes.missed = 0;
+            return Ok(Some(taken));
+        }
+        if spot.is_closed(seat) {
+            return Ok(None);
+        }
+        nodes.missed = nodes.missed.saturating_add(1);
+        if nodes.missed % LOOKS_BETWEEN == 0 {
+            yield_now();
+        }
+    }
+    Ok(None)
+}
+
 /// Takes a node, unless there is none, cost and bound have met, or the worker is ahead of the turns that
 /// it made, and works at it, unless its value reaches the cost.
 fn turn<'i, H: Hub<'i>, G: Gate>(
@@ -180,7 +211,7 @@ fn turn<'i, H: Hub<'i>, G: Gate>(
     if spot.is_closed(seat) || is_ahead(nodes, made) {
         return Ok(());
     }
-    let Some(taken) = nodes.take()? else {
+    let Some(taken) = wait_for_node(spot, nodes, seat)? else {
         return Ok(());
     };
     if taken.is_stolen {
@@ -225,7 +256,7 @@ pub fn bound_worker<'i, H: Hub<'i>, G: Gate>(
         worker,
         ceiling,
     };
-    let labels = pricing_labels(settings);
+    let labels = pricing_labels(settings, nodes.customers);
     for made in 0..settings.turns {
         spot.pass(GatePoint::Start);
         let done = turn(&spot, hub, labels, made, &mut nodes, seat);

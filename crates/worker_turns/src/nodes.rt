@@ -21,6 +21,15 @@ pub(crate) struct OpenNode {
     pub(crate) start: Option<ChildStart>,
 }
 
+/// For so many customers a turn at the root may be in vain.
+const CUSTOMERS_OF_PATIENCE: u16 = 150;
+
+/// How often a turn looks for a leaf, which takes some milliseconds, and how often a worker looks in vain
+/// before its turns look once each.
+const LOOKS_OF_TURN: u32 = 50_000;
+
+const MOST_LOOKS: u32 = 5_000_000;
+
 /// What a bound worker has: the leaves that it made, the end of a deque of its own, in which one of them
 /// stands for others to steal, the deques that it steals from, and the routes that it met, whatever the
 /// leaf.
@@ -35,9 +44,14 @@ pub struct Nodes<'p> {
     pass: Pass,
     /// The leaf to go on with.
     current: Option<u32>,
+    /// How many turns in a row raised nothing at the root.
+    idle_at_root: u16,
+    /// How often the worker looked for a leaf in vain since it had one.
+    pub(crate) missed: u32,
     pub(crate) pool: RoutePool,
     /// How many routes count where prices are raised.
     pub(crate) routes: u16,
+    pub(crate) customers: u16,
     ghost fits: { All (λ t. FitsAt (deque_at t) pass) deques.now },
 }
 
@@ -119,9 +133,24 @@ impl<'p> Nodes<'p> {
             place,
             pass,
             current: None,
+            idle_at_root: 0,
+            missed: 0,
             pool,
             routes: counted_routes(instance, routes),
+            customers: instance.customer_count(),
         })
+    }
+
+    /// For so many customers a turn at the root may be in vain.
+const CUSTOMERS_OF_PATIENCE: u16 = 150;
+
+/// How often a turn looks for a leaf, if there is none at first.
+    pub(crate) fn looks(&self) -> u32 {
+        if self.missed < MOST_LOOKS {
+            LOOKS_OF_TURN
+        } else {
+            1
+        }
     }
 
     /// Keeps a leaf that waits for its turn. Where memory is refused, the worker's work ends.
@@ -173,6 +202,13 @@ impl<'p> Nodes<'p> {
             Some(least) => self.push(least),
             None => Ok(()),
         }
+    }
+
+    /// Whether the work goes on at the root after a turn there, which raised it or didn't: with many
+    /// customers the first rises are in vain.
+    pub(crate) fn stays_at_root(&mut self, is_raised: bool) -> bool {
+        self.idle_at_root = if is_raised { 0 } else { self.idle_at_root.saturating_add(1) };
+        self.idle_at_root <= self.customers / CUSTOMERS_OF_PATIENCE
     }
 
     /// Notes the leaf to go on with.

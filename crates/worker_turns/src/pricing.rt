@@ -9,15 +9,14 @@ use tenths::Tenths;
 /// The most pricings of a turn at the root.
 const ROOT_PRICINGS: u32 = 20;
 
-/// At another leaf, so many divided by the square of the number of customers, within these.
-const LEAF_PRICINGS: u32 = 10_000;
+/// The most pricings of a turn at another leaf, beside the one that its ascent starts from.
+const LEAF_PRICINGS: u32 = 8;
 
-const LEAST_PRICINGS: u32 = 3;
+/// How many labels a turn is worth for each customer, and for how many customers at least: a root of many
+/// customers needs more and dearer pricings.
+const CUSTOMER_LABELS: u64 = 60;
 
-const MOST_PRICINGS: u32 = 16;
-
-/// How many labels a turn is worth.
-const TURN_LABELS: u64 = 6_000;
+const LEAST_CUSTOMERS: u64 = 100;
 
 /// Of what all turns are worth a single pricing may take this part, and at any number of turns what so
 /// many are worth.
@@ -25,26 +24,34 @@ const PRICING_PART: u64 = 20;
 
 const LEAST_PRICING_TURNS: u64 = 5;
 
-/// How many labels may be active at once in a bound worker's pricing: what the settings allow, and no more
-/// than its turns can pay for, so that no pricing runs away. No contract: any limit is sound.
-pub fn pricing_labels(settings: &Settings) -> usize {
-    let part = u64::from(settings.turns) * TURN_LABELS / PRICING_PART;
-    let worth = part.max(LEAST_PRICING_TURNS * TURN_LABELS);
+/// How many labels a turn is worth.
+fn turn_labels(customers: u16) -> u64
+    ensures { result ≤ 60 * 65536 }
+{
+    CUSTOMER_LABELS * u64::from(customers).max(LEAST_CUSTOMERS)
+}
+
+/// How many labels may be active at once in a bound worker's pricing on so many customers: what the settings
+/// allow, and no more than its turns can pay for, so that no pricing runs away. No contract: any limit is
+/// sound.
+pub fn pricing_labels(settings: &Settings, customers: u16) -> usize {
+    let part = u64::from(settings.turns) * turn_labels(customers) / PRICING_PART;
+    let worth = part.max(LEAST_PRICING_TURNS * turn_labels(customers));
     worth.min(u64::from(settings.labels)) as usize
 }
 
 /// Whether a worker's pricings have made more labels than the turns that it made so far are worth.
 pub(crate) fn is_ahead(nodes: &Nodes<'_>, made: u32) -> bool {
-    nodes.pool.labels() > u64::from(made) * TURN_LABELS
+    nodes.pool.labels() > u64::from(made) * turn_labels(nodes.customers)
 }
 
 /// How many pricings a turn makes at a leaf.
 fn pricings_at(leaf: &Priced<'_>) -> u32 {
     if leaf.region().is_root() {
-        return ROOT_PRICINGS;
+        ROOT_PRICINGS
+    } else {
+        LEAF_PRICINGS
     }
-    let customers = u32::from(leaf.instance().customer_count());
-    (LEAF_PRICINGS / customers / customers).clamp(LEAST_PRICINGS, MOST_PRICINGS)
 }
 
 /// How far the prices of a leaf are to be raised: from where the worker ended at it in the turn before,

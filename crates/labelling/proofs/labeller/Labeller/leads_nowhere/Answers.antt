@@ -1,9 +1,7 @@
-use Rattle.std.proofs.Common.{arith, refl, sym, ◌∙◌}
+use Rattle.std.proofs.Common.{arith}
 use Rattle.std.proofs.lemmas.Int.{ints}
-use Rattle.labelling.specs.Arena.{state_at}
-use Rattle.labelling.proofs.Carrying.{remembers_last}
+use Rattle.labelling.proofs.Cover.{at_most_more}
 use Rattle.labelling.proofs.labeller.Labeller.leads_nowhere.Goals as goal
 
-pub returns-then-contains : goal.returns-then-contains
-returns-then-contains c = λ passed.
-    (c.is_passed.ensures passed).each (state_at _ _ c.args.label.now) refl (omega arith) (omega (arith, ints)) (remembers_last _ _ c.args.label.now (sym c.contains.ensures ∙ c.if-contains.true))
+pub returns : goal.returns
+returns c = λ passed s h. at_most_more _ _ _ (omega (arith, ints, c.least_after.ensures.least s h)) (c.is_at_most.ensures.yes passed)

@@ -1,0 +1,36 @@
+//! The ends of routes that a search met.
+
+use std::alloc::{AllocError, Global};
+
+/// The most further routes that a search tells.
+const MOST_ROUTES: usize = 20;
+
+/// The most of them with one last customer, so that they differ.
+const MOST_OF_CUSTOMER: usize = 2;
+
+/// A label after which a route may end.
+#[derive(Clone, Copy, Debug)]
+pub(crate) struct RouteEnd {
+    /// The reduced cost of the route, in grains.
+    pub(crate) value: i64,
+    pub(crate) last: u16,
+    /// Where the label stands.
+    pub(crate) index: usize,
+}
+
+/// Whether an end is one more than may be told of its last customer.
+fn is_one_more(chosen: &[RouteEnd], end: &RouteEnd) -> bool {
+    let same = chosen.iter().filter(|other| other.last == end.last);
+    same.count() >= MOST_OF_CUSTOMER
+}
+
+/// The ends to be told: the cheapest, which stand first.
+pub(crate) fn cheapest(alloc: Global, ends: &[RouteEnd]) -> Result<Vec<RouteEnd>, AllocError> {
+    let mut chosen = Vec::new(alloc);
+    for end in ends {
+        if chosen.len() < MOST_ROUTES && !is_one_more(chosen.as_slice(), end) {
+            chosen.push(*end)?;
+        }
+    }
+    Ok(chosen)
+}
