@@ -345,7 +345,10 @@ impl<'t, 'i> Labeller<'t, 'i> {
         for index in 0..self.labels.len() {
             let label = self.labels[index];
             let cost = self.end_cost(&label);
-            if let Some(value) = cost && value < most && label.extended {
+            if let Some(value) = cost
+                && value < most
+                && label.extended
+            {
                 let last = label.front.last;
                 ends.push(RouteEnd { value, last, index })?;
             }
@@ -361,7 +364,9 @@ impl<'t, 'i> Labeller<'t, 'i> {
         ensures same { IsSameTask self.old self.new }
     {
         let ends = self.ends()?;
-        if let Some(end) = ends.get(ENOUGH_ENDS) && self.cut > end.value {
+        if let Some(end) = ends.get(ENOUGH_ENDS)
+            && self.cut > end.value
+        {
             self.cut = end.value;
         }
         Ok(())

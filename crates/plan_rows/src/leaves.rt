@@ -136,7 +136,9 @@ fn arc_grains(instance: &Instance, from: u16, to: u16) -> Option<i64> {
     if from.max(to) > instance.customer_count() {
         return None;
     }
-    i64::try_from(instance.distance(from, to).get()).ok()?.checked_mul(1000)
+    i64::try_from(instance.distance(from, to).get())
+        .ok()?
+        .checked_mul(1000)
 }
 
 /// The least reduced cost at the prices of a command where a route is known, and the reduced costs of the
@@ -148,7 +150,13 @@ pub(crate) fn told_met(alloc: Global, instance: &Instance, words: &[&str]) -> Op
     let (region, prices) = (leaf.region(), leaf.prices());
     let neighbours = leaf.neighbours();
     let found = least_by_hints(
-        alloc, leaf.instance(), region, prices, neighbours, None, &mut hints,
+        alloc,
+        leaf.instance(),
+        region,
+        prices,
+        neighbours,
+        None,
+        &mut hints,
     );
     let mut costs = Vec::new(alloc);
     for route in &hints.met {

@@ -81,7 +81,11 @@ fn bring<'i, H: Hub<'i>, G: Gate>(
     }
     if leaf.region().is_root() && nodes.stays_at_root(is_raised) {
         nodes.keep(number);
-        return if is_raised { reprice(hub, number, leaf) } else { Ok(()) };
+        return if is_raised {
+            reprice(hub, number, leaf)
+        } else {
+            Ok(())
+        };
     }
     match branch(spot.alloc, &leaf, &mut nodes.pool, Some(labels)) {
         Ok(Some(children)) => split(spot, hub, number, children, nodes),

@@ -142,9 +142,9 @@ impl<'p> Nodes<'p> {
     }
 
     /// For so many customers a turn at the root may be in vain.
-const CUSTOMERS_OF_PATIENCE: u16 = 150;
+    const CUSTOMERS_OF_PATIENCE: u16 = 150;
 
-/// How often a turn looks for a leaf, if there is none at first.
+    /// How often a turn looks for a leaf, if there is none at first.
     pub(crate) fn looks(&self) -> u32 {
         if self.missed < MOST_LOOKS {
             LOOKS_OF_TURN
@@ -207,7 +207,11 @@ const CUSTOMERS_OF_PATIENCE: u16 = 150;
     /// Whether the work goes on at the root after a turn there, which raised it or didn't: with many
     /// customers the first rises are in vain.
     pub(crate) fn stays_at_root(&mut self, is_raised: bool) -> bool {
-        self.idle_at_root = if is_raised { 0 } else { self.idle_at_root.saturating_add(1) };
+        self.idle_at_root = if is_raised {
+            0
+        } else {
+            self.idle_at_root.saturating_add(1)
+        };
         self.idle_at_root <= self.customers / CUSTOMERS_OF_PATIENCE
     }
 
