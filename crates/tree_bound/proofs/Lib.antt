@@ -8,3 +8,5 @@ pub mod Bounding
 pub mod Covering
 pub mod Listing
 pub mod Remembered
+pub mod Flooring
+pub mod Existing

@@ -9,7 +9,7 @@ use Rattle.solomon_reader.specs.States.{State, begins, arc_value, step, CanStep,
 use Rattle.tree_bound.specs.declared.arcs.AllowedArc.{AllowedArc}
 use Rattle.tree_bound.specs.declared.arcs.ArcRow.{ArcRow}
 use Rattle.tree_bound.specs.declared.label.Label.{Label}
-use Rattle.tree_bound.specs.Cover.{IsFound, CoversAfter, CoversAll, IsAtMost}
+use Rattle.tree_bound.specs.Cover.{IsFound, CoversAfter, CoversAll, IsAtMost, IsDear}
 use Rattle.tree_bound.specs.Memories.{bit_in, memory_at}
 use Rattle.tree_bound.specs.Labels.{label_in, state_of, IsBounded, IsTable, IsMoved, IsMet, IsDominated, Waits, StandsFrom, most_grains}
 
@@ -81,17 +81,21 @@ pub record IsExtension (p : Problem) (k : ℕ) (prices : List ℤ) (q : ℕ) (x 
   pub bounded : IsBounded p load y
   pub active : y.active ≡ true
 
+-- something as good as the state waits, or needn't, since all that may come after it is dear
+abbrev pub IsCared : Problem → Region → ℕ → List ℤ → Option ℤ → List (List Label) → ℕ → State → Type 0
+IsCared p g k prices b bs low a = IsMet p k bs low a ⊎ IsDear p g k prices b a
+
 -- the step from x to j was taken, if it may be taken
-pub record TakesStep (p : Problem) (g : Region) (k : ℕ) (prices : List ℤ) (bs cs : List (List Label)) (q : ℕ) (x : Label) (j : ℕ) : Type 0 where
+pub record TakesStep (p : Problem) (g : Region) (k : ℕ) (prices : List ℤ) (b : Option ℤ) (bs cs : List (List Label)) (q : ℕ) (x : Label) (j : ℕ) : Type 0 where
   pub moved : IsMoved p k bs cs (q + 1)
   pub table : IsTable p g k prices cs (q + 1)
-  pub met : CanStep p g (state_of p k q x) j → IsMet p k cs (q + 1) (step p k prices (state_of p k q x) j)
+  pub met : CanStep p g (state_of p k q x) j → IsCared p g k prices b cs (q + 1) (step p k prices (state_of p k q x) j)
 
 -- the first i steps from x were taken
-pub record TakesSteps (p : Problem) (g : Region) (k : ℕ) (prices : List ℤ) (bs cs : List (List Label)) (q : ℕ) (x : Label) (hs : List AllowedArc) (i : ℕ) : Type 0 where
+pub record TakesSteps (p : Problem) (g : Region) (k : ℕ) (prices : List ℤ) (b : Option ℤ) (bs cs : List (List Label)) (q : ℕ) (x : Label) (hs : List AllowedArc) (i : ℕ) : Type 0 where
   pub moved : IsMoved p k bs cs (q + 1)
   pub table : IsTable p g k prices cs (q + 1)
-  pub met : (m : ℕ) → m < i → CanStep p g (state_of p k q x) (arc_in hs m).to → IsMet p k cs (q + 1) (step p k prices (state_of p k q x) (arc_in hs m).to)
+  pub met : (m : ℕ) → m < i → CanStep p g (state_of p k q x) (arc_in hs m).to → IsCared p g k prices b cs (q + 1) (step p k prices (state_of p k q x) (arc_in hs m).to)
 
 -- the reduced cost of the route that ends at x
 abbrev pub route_value : Problem → Label → ℤ
@@ -117,18 +121,18 @@ abbrev pub Remains : Problem → ℕ → List (List Label) → ℕ → List Labe
 Remains p k bs q xs i a = Waits p k bs (q + 1) a ⊎ StandsFrom p k xs q i a
 
 -- the labels of the list below i were worked or passed over, and all at loads below q
-pub record IsWorked (p : Problem) (g : Region) (k : ℕ) (prices : List ℤ) (bs : List (List Label)) (ds : List Label) (q : ℕ) (xs : List Label) (i : ℕ) (b : Option ℤ) : Type 0 where
+pub record IsWorked (p : Problem) (g : Region) (k : ℕ) (prices : List ℤ) (limit : Option ℤ) (bs : List (List Label)) (ds : List Label) (q : ℕ) (xs : List Label) (i : ℕ) (b : Option ℤ) : Type 0 where
   pub table : IsTable p g k prices bs (q + 1)
   pub covers : CoversAll p g k prices b (Remains p k bs q xs i)
   pub settled : AreSettled p g k prices b (Remains p k bs q xs i) q ds
-  pub found : IsFound p g k prices b
+  pub found : IsFound p g k prices limit b
 
 -- all loads below q were worked
-pub record IsSwept (p : Problem) (g : Region) (k : ℕ) (prices : List ℤ) (bs : List (List Label)) (ds : List Label) (q : ℕ) (b : Option ℤ) : Type 0 where
+pub record IsSwept (p : Problem) (g : Region) (k : ℕ) (prices : List ℤ) (limit : Option ℤ) (bs : List (List Label)) (ds : List Label) (q : ℕ) (b : Option ℤ) : Type 0 where
   pub table : IsTable p g k prices bs q
   pub covers : CoversAll p g k prices b (Waits p k bs q)
   pub settled : AreSettled p g k prices b (Waits p k bs q) q ds
-  pub found : IsFound p g k prices b
+  pub found : IsFound p g k prices limit b
 
 -- nothing has to be done about x: it doesn't stand, or a settled label dominates it
 abbrev pub IsPassed : List Label → Label → Type 0
@@ -139,4 +143,4 @@ pub record IsDone (p : Problem) (g : Region) (k : ℕ) (prices : List ℤ) (bs c
   pub closes : ClosesRoute p g k q x b c
   pub moved : IsMoved p k bs cs (q + 1)
   pub table : IsTable p g k prices cs (q + 1)
-  pub met : (j : ℕ) → CanStep p g (state_of p k q x) j → IsMet p k cs (q + 1) (step p k prices (state_of p k q x) j)
+  pub met : (j : ℕ) → CanStep p g (state_of p k q x) j → IsCared p g k prices c cs (q + 1) (step p k prices (state_of p k q x) j)

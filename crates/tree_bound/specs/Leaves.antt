@@ -1,13 +1,18 @@
 -- What is said of arcs, labels and the table, for a leaf.
-use Rattle.std.specs.Prelude.{ℕ, List, length, ℤ, Option}
+use Rattle.std.specs.Prelude.{ℕ, List, length, Bool, ℤ, Option}
+use Rattle.std.specs.List.{All}
 use Rattle.solomon_reader.specs.Problem.{Problem, customer_count}
 use Rattle.solomon_reader.specs.Region.{Region}
-use Rattle.solomon_reader.specs.States.{State}
+use Rattle.solomon_reader.specs.Relaxed.{IsRelaxed}
+use Rattle.solomon_reader.specs.States.{State, step}
 use Rattle.tree_bound.specs.declared.arcs.AllowedArc.{AllowedArc}
 use Rattle.tree_bound.specs.declared.arcs.ArcRow.{ArcRow}
+use Rattle.tree_bound.specs.declared.floor.Floor.{Floor}
 use Rattle.tree_bound.specs.declared.label.Label.{Label}
 use Rattle.tree_bound.specs.declared.leaf.Leaf.{Leaf}
+use Rattle.tree_bound.specs.Cover.{IsDear, IsLeastBelow, IsSought}
 use Rattle.tree_bound.specs.Decisions.{region_of}
+use Rattle.tree_bound.specs.Floors.{IsFloor, IsKnown, IsEndFloor, IsStepFloor, AreStepFloors}
 use Rattle.tree_bound.specs.Labels.{state_of, IsBounded, IsLabel, IsTable, AreLabels}
 use Rattle.tree_bound.specs.Arcs.{IsAllowedArc, AreAllowedArcs, IsArcRow, AreArcRows, CanExtend, IsExtension, TakesStep, TakesSteps, ClosesRoute, IsWorked, IsSwept, IsDone}
 
@@ -50,11 +55,11 @@ AreLabelsIn l q xs = AreLabels (problem_of l) (region_in l) l.neighbours.now.k l
 abbrev pub IsTableIn : Leaf → List (List Label) → ℕ → Type 0
 IsTableIn l bs low = IsTable (problem_of l) (region_in l) l.neighbours.now.k l.prices.now bs low
 
-abbrev pub TakesStepIn : Leaf → List (List Label) → List (List Label) → ℕ → Label → ℕ → Type 0
-TakesStepIn l bs cs q x j = TakesStep (problem_of l) (region_in l) l.neighbours.now.k l.prices.now bs cs q x j
+abbrev pub TakesStepIn : Leaf → Option ℤ → List (List Label) → List (List Label) → ℕ → Label → ℕ → Type 0
+TakesStepIn l b bs cs q x j = TakesStep (problem_of l) (region_in l) l.neighbours.now.k l.prices.now b bs cs q x j
 
-abbrev pub TakesStepsIn : Leaf → List (List Label) → List (List Label) → ℕ → Label → List AllowedArc → ℕ → Type 0
-TakesStepsIn l bs cs q x arcs i = TakesSteps (problem_of l) (region_in l) l.neighbours.now.k l.prices.now bs cs q x arcs i
+abbrev pub TakesStepsIn : Leaf → Option ℤ → List (List Label) → List (List Label) → ℕ → Label → List AllowedArc → ℕ → Type 0
+TakesStepsIn l b bs cs q x arcs i = TakesSteps (problem_of l) (region_in l) l.neighbours.now.k l.prices.now b bs cs q x arcs i
 
 abbrev pub ClosesRouteIn : Leaf → ℕ → Label → Option ℤ → Option ℤ → Type 0
 ClosesRouteIn l q x b c = ClosesRoute (problem_of l) (region_in l) l.neighbours.now.k q x b c
@@ -63,7 +68,38 @@ abbrev pub IsDoneIn : Leaf → List (List Label) → List (List Label) → ℕ �
 IsDoneIn l bs cs q x b c = IsDone (problem_of l) (region_in l) l.neighbours.now.k l.prices.now bs cs q x b c
 
 abbrev pub IsWorkedIn : Leaf → List (List Label) → List Label → ℕ → List Label → ℕ → Option ℤ → Type 0
-IsWorkedIn l bs ds q xs i b = IsWorked (problem_of l) (region_in l) l.neighbours.now.k l.prices.now bs ds q xs i b
+IsWorkedIn l bs ds q xs i b = IsWorked (problem_of l) (region_in l) l.neighbours.now.k l.prices.now l.limit bs ds q xs i b
 
 abbrev pub IsSweptIn : Leaf → List (List Label) → List Label → ℕ → Option ℤ → Type 0
-IsSweptIn l bs ds q b = IsSwept (problem_of l) (region_in l) l.neighbours.now.k l.prices.now bs ds q b
+IsSweptIn l bs ds q b = IsSwept (problem_of l) (region_in l) l.neighbours.now.k l.prices.now l.limit bs ds q b
+
+abbrev pub IsLeastBelowIn : Leaf → Option ℤ → Type 0
+IsLeastBelowIn l b = IsLeastBelow (problem_of l) (region_in l) l.neighbours.now.k l.prices.now l.limit b
+
+abbrev pub IsSoughtIn : Leaf → Bool → Option ℤ → Type 0
+IsSoughtIn l bare found = IsSought (problem_of l) (region_in l) l.neighbours.now.k l.prices.now l.limit bare found
+
+abbrev pub IsFloorIn : Leaf → ℕ → ℕ → ℤ → Type 0
+IsFloorIn l v t h = IsFloor (problem_of l) (region_in l) l.neighbours.now.k l.prices.now v t h
+
+-- each floor of the list holds
+abbrev pub AreFloorsIn : Leaf → List (Option Floor) → Type 0
+AreFloorsIn l fs = All (IsKnown (problem_of l) (region_in l) l.neighbours.now.k l.prices.now) fs
+
+abbrev pub IsEndFloorIn : Leaf → ℕ → ℕ → ℤ → Type 0
+IsEndFloorIn l v t h = IsEndFloor (problem_of l) (region_in l) v t h
+
+abbrev pub IsStepFloorIn : Leaf → ℕ → ℕ → ℕ → ℤ → Type 0
+IsStepFloorIn l v t j h = IsStepFloor (problem_of l) (region_in l) l.neighbours.now.k l.prices.now v t j h
+
+abbrev pub AreStepFloorsIn : Leaf → ℕ → ℕ → List AllowedArc → ℕ → ℤ → Type 0
+AreStepFloorsIn l v t arcs i h = AreStepFloors (problem_of l) (region_in l) l.neighbours.now.k l.prices.now v t arcs i h
+
+abbrev pub step_in : Leaf → ℕ → Label → ℕ → State
+step_in l q x j = step (problem_of l) l.neighbours.now.k l.prices.now (state_in l q x) j
+
+abbrev pub IsDearIn : Leaf → Option ℤ → State → Type 0
+IsDearIn l b a = IsDear (problem_of l) (region_in l) l.neighbours.now.k l.prices.now b a
+
+abbrev pub IsRelaxedIn : Leaf → List ℕ → Type 0
+IsRelaxedIn l r = IsRelaxed (problem_of l) (region_in l) l.neighbours.now.k r

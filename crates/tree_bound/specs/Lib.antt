@@ -3,6 +3,7 @@ pub mod Memories
 pub mod Cover
 pub mod Labels
 pub mod Arcs
+pub mod Floors
 pub mod Leaves
 pub mod Grains
 pub mod Nodes

@@ -13,5 +13,7 @@ pub struct Leaf<'a, 'i> {
     pub(crate) path: &'a [Decision],
     /// The price of customer i in grains, at i - 1.
     pub(crate) prices: &'a [i64],
+    /// The reduced cost in grains from which on relaxed routes don't count, if there is one.
+    pub(crate) limit: Option<i64>,
     ghost pricing: { IsPricing neighbours.now.instance.now prices.now },
 }

@@ -6,14 +6,17 @@ ghost use Rattle.solomon_reader.specs.Problem.{demand};
 ghost use Rattle.solomon_reader.specs.Region.{IsAllowed};
 ghost use Rattle.solomon_reader.specs.States.{begins};
 ghost use Rattle.tree_bound.specs.Arcs.{route_value};
-ghost use Rattle.tree_bound.specs.Leaves.{problem_of, region_in, state_in, IsBoundedIn, IsArcIn, AreArcsIn, IsRowIn, CanExtendIn, IsExtensionIn, IsLabelIn, IsTableIn, TakesStepIn, TakesStepsIn, ClosesRouteIn};
+ghost use Rattle.tree_bound.specs.Cover.{IsAtMost};
+ghost use Rattle.tree_bound.specs.Leaves.{problem_of, region_in, state_in, IsBoundedIn, IsArcIn, AreArcsIn, IsRowIn, CanExtendIn, IsExtensionIn, IsDearIn, step_in, IsLabelIn, IsTableIn, TakesStepIn, TakesStepsIn, ClosesRouteIn};
 
 use crate::arcs::{AllowedArc, ArcRow};
 use crate::fault::BoundFault;
+use crate::floor::floor_at;
 use crate::label::Label;
 use crate::leaf::Leaf;
 use crate::memory::contains;
 use crate::table::{Table, keep};
+use crate::task::Task;
 
 /// When service at a further customer begins, in tenths.
 fn begins(leaf: &Leaf<'_, '_>, load: usize, label: &Label, arc: &AllowedArc) -> u64
@@ -26,7 +29,7 @@ fn begins(leaf: &Leaf<'_, '_>, load: usize, label: &Label, arc: &AllowedArc) -> 
 }
 
 /// Whether load, window and memory leave a step.
-fn can_extend(leaf: &Leaf<'_, '_>, load: usize, label: &Label, arc: &AllowedArc) -> bool
+pub(crate) fn can_extend(leaf: &Leaf<'_, '_>, load: usize, label: &Label, arc: &AllowedArc) -> bool
     requires bounded { IsBoundedIn leaf.now load label.now }
     requires arc { IsArcIn leaf.now label.now.customer arc.now }
     ensures { IsTrue result ↔ CanExtendIn leaf.now load label.now arc.now.to }
@@ -42,7 +45,7 @@ fn can_extend(leaf: &Leaf<'_, '_>, load: usize, label: &Label, arc: &AllowedArc)
 }
 
 /// The label with one more stop.
-fn extend(leaf: &Leaf<'_, '_>, load: usize, label: &Label, arc: &AllowedArc) -> Label
+pub(crate) fn extend(leaf: &Leaf<'_, '_>, load: usize, label: &Label, arc: &AllowedArc) -> Label
     requires bounded { IsBoundedIn leaf.now load label.now }
     requires arc { IsArcIn leaf.now label.now.customer arc.now }
     requires can { CanExtendIn leaf.now load label.now arc.now.to }
@@ -58,21 +61,58 @@ fn extend(leaf: &Leaf<'_, '_>, load: usize, label: &Label, arc: &AllowedArc) -> 
     }
 }
 
-/// Takes the step from a label over an arc.
+/// Whether the best so far is at most a number.
+fn is_at_most(best: Option<i64>, value: i64) -> bool
+    ensures { IsTrue result → IsAtMost best value }
+{
+    match best {
+        Some(least) => least <= value,
+        None => false,
+    }
+}
+
+/// Whether all that may come after the step over an arc is dear: its floor says that it costs at least
+/// the best so far.
+fn is_dear(
+    task: &Task<'_, '_>,
+    load: usize,
+    label: &Label,
+    arc: &AllowedArc,
+    best: Option<i64>,
+) -> bool
+    requires bounded { IsBoundedIn task.now.leaf load label.now }
+    requires arc { IsArcIn task.now.leaf label.now.customer arc.now }
+    requires can { CanExtendIn task.now.leaf load label.now arc.now.to }
+    ensures { IsTrue result → IsDearIn task.now.leaf best (step_in task.now.leaf load label.now arc.now.to) }
+{
+    let time = begins(&task.leaf, load, label, arc) + arc.service;
+    let cost = label.cost + arc.value;
+    let Some(floor) = floor_at(&task.leaf, task.slots, task.floors.as_slice(), arc.to, time) else {
+        return false;
+    };
+    match cost.checked_add(floor.least) {
+        Some(least) => is_at_most(best, least),
+        None => false,
+    }
+}
+
+/// Takes the step from a label over an arc, unless all that may come after it is dear.
 fn take_step(
-    leaf: &Leaf<'_, '_>,
+    task: &Task<'_, '_>,
     table: &mut Table,
     load: usize,
     label: &Label,
     arc: &AllowedArc,
+    best: Option<i64>,
 ) -> Result<(), BoundFault>
-    requires table { IsTableIn leaf.now table.old.buckets.items (load + 1) }
-    requires label { IsLabelIn leaf.now load label.now }
-    requires arc { IsArcIn leaf.now label.now.customer arc.now }
-    requires allowed { IsAllowed (region_in leaf.now) (label.now.customer, arc.now.to) }
-    ensures { IfOk result (λ _. TakesStepIn leaf.now table.old.buckets.items table.new.buckets.items load label.now arc.now.to) }
+    requires table { IsTableIn task.now.leaf table.old.buckets.items (load + 1) }
+    requires label { IsLabelIn task.now.leaf load label.now }
+    requires arc { IsArcIn task.now.leaf label.now.customer arc.now }
+    requires allowed { IsAllowed (region_in task.now.leaf) (label.now.customer, arc.now.to) }
+    ensures { IfOk result (λ _. TakesStepIn task.now.leaf best table.old.buckets.items table.new.buckets.items load label.now arc.now.to) }
 {
-    if !can_extend(leaf, load, label, arc) {
+    let leaf = &task.leaf;
+    if !can_extend(leaf, load, label, arc) || is_dear(task, load, label, arc, best) {
         return Ok(());
     }
     let longer = extend(leaf, load, label, arc);
@@ -82,19 +122,20 @@ fn take_step(
 
 /// Takes each step from a label.
 pub(crate) fn take_steps(
-    leaf: &Leaf<'_, '_>,
+    task: &Task<'_, '_>,
     table: &mut Table,
     load: usize,
     label: &Label,
     arcs: &[AllowedArc],
+    best: Option<i64>,
 ) -> Result<(), BoundFault>
-    requires table { IsTableIn leaf.now table.old.buckets.items (load + 1) }
-    requires label { IsLabelIn leaf.now load label.now }
-    requires arcs { AreArcsIn leaf.now label.now.customer arcs.now }
-    ensures { IfOk result (λ _. TakesStepsIn leaf.now table.old.buckets.items table.new.buckets.items load label.now arcs.now (length arcs.now)) }
+    requires table { IsTableIn task.now.leaf table.old.buckets.items (load + 1) }
+    requires label { IsLabelIn task.now.leaf load label.now }
+    requires arcs { AreArcsIn task.now.leaf label.now.customer arcs.now }
+    ensures { IfOk result (λ _. TakesStepsIn task.now.leaf best table.old.buckets.items table.new.buckets.items load label.now arcs.now (length arcs.now)) }
 {
     for arc in arcs {
-        take_step(leaf, table, load, label, arc)?;
+        take_step(task, table, load, label, arc, best)?;
     }
     Ok(())
 }

@@ -1,0 +1,36 @@
+-- Floors: at most what anything that may follow adds, whatever was visited before.
+use Rattle.std.specs.Prelude.{◌≡◌, ℕ, ◌*◌, ◌<◌, ◌≤◌, List, ℤ, pos, ◌+ℤ◌, ◌≤ℤ◌, Option, Some}
+use Rattle.solomon_reader.specs.Problem.{Problem}
+use Rattle.solomon_reader.specs.Distance.{distance}
+use Rattle.solomon_reader.specs.Region.{Region}
+use Rattle.solomon_reader.specs.States.{State, step, CanStep, CanEnd, Completes, value_with}
+use Rattle.tree_bound.specs.declared.arcs.AllowedArc.{AllowedArc}
+use Rattle.tree_bound.specs.declared.floor.Floor.{Floor}
+use Rattle.tree_bound.specs.Arcs.{arc_in}
+
+-- what may follow from v at t or later adds at least h
+pub record IsFloor (p : Problem) (g : Region) (k : ℕ) (prices : List ℤ) (v t : ℕ) (h : ℤ) : Type 0 where
+  pub holds : (a : State) (s : List ℕ) → a.last ≡ v → t ≤ a.time → Completes p g k prices a s → (a.cost +ℤ h) ≤ℤ value_with p k prices a s
+
+-- the floor is for v at t or later
+pub record IsAt (v t : ℕ) (f : Floor) : Type 0 where
+  pub row : f.row ≡ v
+  pub from : f.from ≡ t
+
+-- the floor, if there is one, holds
+pub record IsKnown (p : Problem) (g : Region) (k : ℕ) (prices : List ℤ) (o : Option Floor) : Type 0 where
+  pub holds : (f : Floor) → o ≡ Some f → IsFloor p g k prices f.row f.from f.least
+
+-- the way home from v at t or later adds at least h
+pub record IsEndFloor (p : Problem) (g : Region) (v t : ℕ) (h : ℤ) : Type 0 where
+  pub holds : (a : State) → a.last ≡ v → t ≤ a.time → CanEnd p g a → h ≤ℤ pos (1000 * distance p v 0)
+
+-- a step from v at t or later to j, with what may follow on it, adds at least h
+pub record IsStepFloor (p : Problem) (g : Region) (k : ℕ) (prices : List ℤ) (v t j : ℕ) (h : ℤ) : Type 0 where
+  pub holds : (a : State) (s : List ℕ) → a.last ≡ v → t ≤ a.time → CanStep p g a j → Completes p g k prices (step p k prices a j) s
+      → (a.cost +ℤ h) ≤ℤ value_with p k prices (step p k prices a j) s
+
+-- the way home, and the first i steps of the list
+pub record AreStepFloors (p : Problem) (g : Region) (k : ℕ) (prices : List ℤ) (v t : ℕ) (hs : List AllowedArc) (i : ℕ) (h : ℤ) : Type 0 where
+  pub ends : IsEndFloor p g v t h
+  pub steps : (m : ℕ) → m < i → IsStepFloor p g k prices v t (arc_in hs m).to h
