@@ -100,6 +100,17 @@ module _ (p : Problem) (g : Region) (k : ℕ) (prices : List ℤ) where
       ]
     ]
 
+  -- x is passed over: all that may come after it is dear
+  pub covers_dear : (b : Option ℤ) (Before After : State → Type 0) (x : State) → IsDear p g k prices b x → ((a : State) → Before a → (a ≡ x) ⊎ After a)
+      → (a : State) (more : ℕ) → CoversAfter p g k prices b Before a more → CoversAfter p g k prices b After a more
+  covers_dear b Before After x dear others a more covers s h = elim (covers s h) [
+    | inl low ↦ inl low
+    | inr w ↦ elim (others w.state w.waits) [
+      | inl same ↦ inl (at_most_more b _ _ (rw same at w.low) (dear.dear w.rest (rw same at w.completes)))
+      | inr still ↦ inr (record { state = w.state; waits = still; rest = w.rest; completes = w.completes; short = w.short; low = w.low })
+    ]
+  ]
+
   -- nothing waits any more
   module _ (Waits : State → Type 0) (none : (a : State) → ¬ Waits a) where
     at_most_each : (b : Option ℤ) → CoversAll p g k prices b Waits → (r : List ℕ) → IsRelaxed p g k r → IsAtMost b (reduced_cost p prices r)

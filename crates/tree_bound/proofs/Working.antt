@@ -24,7 +24,7 @@ use Rattle.tree_bound.specs.Labels.{label_in, labels_at, state_of, IsBounded, Is
 use Rattle.tree_bound.specs.Arcs.{IsPriced, IsPricing, AreAllowedArcs, arc_in, CanExtend, IsExtension, IsCared, TakesSteps, ClosesRoute, IsDone, IsSettled, AreSettled, Remains, IsPassed, IsWorked, IsSwept, route_value}
 use Rattle.solomon_reader.proofs.Goodness.{good_itself, good_same, good_back, reaches_same, completes_too, value_no_greater}
 use Rattle.tree_bound.proofs.Buckets.{first_kept}
-use Rattle.tree_bound.proofs.Covering.{covers_moved, covers_itself, covers_worked, covers_passed, least_at_end}
+use Rattle.tree_bound.proofs.Covering.{covers_moved, covers_itself, covers_worked, covers_passed, covers_dear, least_at_end}
 use Rattle.tree_bound.proofs.Stepping.{dominating_good, can_step}
 use Rattle.tree_bound.proofs.Leading.{leads_index}
 use Rattle.tree_bound.proofs.Remembered.{has_nothing}
@@ -94,15 +94,23 @@ module _ (p : Problem) (g : Region) (k : ℕ) (prices : List ℤ) (limit : Optio
           | inr apart ↦ inr (record { index = s.index; late = omega (arith, s.late, apart); within = s.within; active = s.active; is = s.is })
         ]
 
+    -- what remains is the label at i, or remains without it
+    only : (a : State) → Remains p k bs q xs i a → (a ≡ state_of p k q (label_in xs i)) ⊎ Remains p k bs q xs (i + 1) a
+    only a (inl h) = inr (inl h)
+    only a (inr s) = elim (cases_eq s.index i) [
+      | inl same ↦ inl (sym (rw same at s.is))
+      | inr apart ↦ inr (inr (record { index = s.index; late = omega (arith, s.late, apart); within = s.within; active = s.active; is = s.is }))
+    ]
+
     -- a settled label dominates the one at i
     worked_dominated : IsDominated ds (label_in xs i) → IsWorked p g k prices limit bs ds q xs (i + 1) b
     worked_dominated dominated = record {
       table = so_far.table;
-      covers = covers_passed p g k prices b (Remains p k bs q xs i) (Remains p k bs q xs (i + 1)) x y good settled.covers on _ 1 so_far.covers;
+      covers = covers_passed p g k prices b (Remains p k bs q xs i) (Remains p k bs q xs (i + 1)) x y good settled.covers only _ 1 so_far.covers;
       settled = λ m w active. (let s = so_far.settled m w active in record {
         load = s.load;
         low = s.low;
-        covers = covers_passed p g k prices b (Remains p k bs q xs i) (Remains p k bs q xs (i + 1)) x y good settled.covers on _ 0 s.covers;
+        covers = covers_passed p g k prices b (Remains p k bs q xs i) (Remains p k bs q xs (i + 1)) x y good settled.covers only _ 0 s.covers;
       });
       found = so_far.found;
     }
@@ -119,16 +127,23 @@ module _ (p : Problem) (g : Region) (k : ℕ) (prices : List ℤ) (limit : Optio
         good : IsAsGood y x
         good = dominating_good p k settled.load q settled.low _ _ dominated.good
 
-        on : (a : State) → Remains p k bs q xs i a → (a ≡ x) ⊎ Remains p k bs q xs (i + 1) a
-        on a (inl h) = inr (inl h)
-        on a (inr s) = elim (cases_eq s.index i) [
-          | inl same ↦ inl (sym (rw same at s.is))
-          | inr apart ↦ inr (inr (record { index = s.index; late = omega (arith, s.late, apart); within = s.within; active = s.active; is = s.is }))
-        ]
+    -- all that may come after the label at i is dear
+    worked_dear : IsDear p g k prices b (state_of p k q (label_in xs i)) → IsWorked p g k prices limit bs ds q xs (i + 1) b
+    worked_dear dear = record {
+      table = so_far.table;
+      covers = covers_dear p g k prices b (Remains p k bs q xs i) (Remains p k bs q xs (i + 1)) _ dear only _ 1 so_far.covers;
+      settled = λ m w active. (let s = so_far.settled m w active in record {
+        load = s.load;
+        low = s.low;
+        covers = covers_dear p g k prices b (Remains p k bs q xs i) (Remains p k bs q xs (i + 1)) _ dear only _ 0 s.covers;
+      });
+      found = so_far.found;
+    }
 
-    pub worked_passed : IsPassed ds (label_in xs i) → IsWorked p g k prices limit bs ds q xs (i + 1) b
+    pub worked_passed : IsPassed p g k prices b ds q (label_in xs i) → IsWorked p g k prices limit bs ds q xs (i + 1) b
     worked_passed (inl dead) = worked_skip dead
-    worked_passed (inr dominated) = worked_dominated dominated
+    worked_passed (inr (inl dominated)) = worked_dominated dominated
+    worked_passed (inr (inr dear)) = worked_dear dear
 
     pub worked_more : (cs : List (List Label)) (es : List Label) (c : Option ℤ) → IsLabel p g k prices q (label_in xs i) → IsDone p g k prices bs cs q (label_in xs i) b c
         → IsKept ds es (label_in xs i) → IsWorked p g k prices limit cs es q xs (i + 1) c

@@ -134,9 +134,9 @@ pub record IsSwept (p : Problem) (g : Region) (k : ℕ) (prices : List ℤ) (lim
   pub settled : AreSettled p g k prices b (Waits p k bs q) q ds
   pub found : IsFound p g k prices limit b
 
--- nothing has to be done about x: it doesn't stand, or a settled label dominates it
-abbrev pub IsPassed : List Label → Label → Type 0
-IsPassed ds x = (x.active ≡ false) ⊎ IsDominated ds x
+-- nothing has to be done about x: it doesn't stand, or a settled label dominates it, or all that may come after it is dear
+abbrev pub IsPassed : Problem → Region → ℕ → List ℤ → Option ℤ → List Label → ℕ → Label → Type 0
+IsPassed p g k prices b ds q x = (x.active ≡ false) ⊎ (IsDominated ds x ⊎ IsDear p g k prices b (state_of p k q x))
 
 -- x was worked
 pub record IsDone (p : Problem) (g : Region) (k : ℕ) (prices : List ℤ) (bs cs : List (List Label)) (q : ℕ) (x : Label) (b c : Option ℤ) : Type 0 where

@@ -14,7 +14,7 @@ use Rattle.tree_bound.specs.Cover.{IsDear, IsLeastBelow, IsSought}
 use Rattle.tree_bound.specs.Decisions.{region_of}
 use Rattle.tree_bound.specs.Floors.{IsFloor, IsKnown, IsEndFloor, IsStepFloor, AreStepFloors}
 use Rattle.tree_bound.specs.Labels.{state_of, IsBounded, IsLabel, IsTable, AreLabels}
-use Rattle.tree_bound.specs.Arcs.{IsAllowedArc, AreAllowedArcs, IsArcRow, AreArcRows, CanExtend, IsExtension, TakesStep, TakesSteps, ClosesRoute, IsWorked, IsSwept, IsDone}
+use Rattle.tree_bound.specs.Arcs.{IsAllowedArc, AreAllowedArcs, IsArcRow, AreArcRows, CanExtend, IsExtension, TakesStep, TakesSteps, ClosesRoute, IsWorked, IsSwept, IsDone, IsPassed}
 
 abbrev pub problem_of : Leaf → Problem
 problem_of l = l.neighbours.now.instance.now
@@ -72,6 +72,9 @@ IsWorkedIn l bs ds q xs i b = IsWorked (problem_of l) (region_in l) l.neighbours
 
 abbrev pub IsSweptIn : Leaf → List (List Label) → List Label → ℕ → Option ℤ → Type 0
 IsSweptIn l bs ds q b = IsSwept (problem_of l) (region_in l) l.neighbours.now.k l.prices.now l.limit bs ds q b
+
+abbrev pub IsPassedIn : Leaf → Option ℤ → List Label → ℕ → Label → Type 0
+IsPassedIn l b ds q x = IsPassed (problem_of l) (region_in l) l.neighbours.now.k l.prices.now b ds q x
 
 abbrev pub IsLeastBelowIn : Leaf → Option ℤ → Type 0
 IsLeastBelowIn l b = IsLeastBelow (problem_of l) (region_in l) l.neighbours.now.k l.prices.now l.limit b

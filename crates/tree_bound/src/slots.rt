@@ -6,7 +6,7 @@ use solomon_reader::Instance;
 use std::alloc::{AllocError, Global};
 
 /// The most slots that a customer has in the mean, unless a slot were then longer than the shortest step.
-const MEAN_SLOTS: u64 = 64;
+const MEAN_SLOTS: u64 = 8;
 
 /// The most slots.
 const MOST_SLOTS: u64 = 1_000_000;

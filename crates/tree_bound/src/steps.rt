@@ -1,10 +1,10 @@
 //! The steps from a label.
 
-ghost use Rattle.std.specs.Prelude.{◌≡◌, ◌↔◌, ◌+◌, ◌*◌, ◌<◌, ◌≤◌, length, true, IfOk, IsTrue};
+ghost use Rattle.std.specs.Prelude.{◌≡◌, ◌↔◌, ◌+◌, ◌*◌, ◌<◌, ◌≤◌, length, true, IfOk, IsTrue, ℤ, ◌≤ℤ◌};
 ghost use Rattle.solomon_reader.specs.declared.limits.TheConstants.{MOST_TIME};
 ghost use Rattle.solomon_reader.specs.Problem.{demand};
 ghost use Rattle.solomon_reader.specs.Region.{IsAllowed};
-ghost use Rattle.solomon_reader.specs.States.{begins};
+ghost use Rattle.solomon_reader.specs.States.{State, begins};
 ghost use Rattle.tree_bound.specs.Arcs.{route_value};
 ghost use Rattle.tree_bound.specs.Cover.{IsAtMost};
 ghost use Rattle.tree_bound.specs.Leaves.{problem_of, region_in, state_in, IsBoundedIn, IsArcIn, AreArcsIn, IsRowIn, CanExtendIn, IsExtensionIn, IsDearIn, step_in, IsLabelIn, IsTableIn, TakesStepIn, TakesStepsIn, ClosesRouteIn};
@@ -71,9 +71,35 @@ fn is_at_most(best: Option<i64>, value: i64) -> bool
     }
 }
 
-/// Whether all that may come after the step over an arc is dear: its floor says that it costs at least
-/// the best so far.
-fn is_dear(
+/// Whether all that may come after a stop at a row is dear, with this time and this cost or more: the floor
+/// says that it costs at least the best so far.
+fn is_dear_at(
+    task: &Task<'_, '_>,
+    row: u16,
+    time: u64,
+    cost: i64,
+    best: Option<i64>,
+) -> bool
+    ensures { IsTrue result → (a : State) → a.last ≡ row → time ≤ a.time → cost ≤ℤ a.cost → IsDearIn task.now.leaf best a }
+{
+    let Some(floor) = floor_at(&task.leaf, task.slots, task.floors.as_slice(), row, time) else {
+        return false;
+    };
+    match cost.checked_add(floor.least) {
+        Some(least) => is_at_most(best, least),
+        None => false,
+    }
+}
+
+/// Whether all that may come after a label is dear.
+pub(crate) fn is_dear(task: &Task<'_, '_>, load: usize, label: &Label, best: Option<i64>) -> bool
+    ensures { IsTrue result → IsDearIn task.now.leaf best (state_in task.now.leaf load label.now) }
+{
+    is_dear_at(task, label.customer, label.time, label.cost, best)
+}
+
+/// Whether all that may come after the step over an arc is dear.
+fn is_dear_step(
     task: &Task<'_, '_>,
     load: usize,
     label: &Label,
@@ -86,14 +112,7 @@ fn is_dear(
     ensures { IsTrue result → IsDearIn task.now.leaf best (step_in task.now.leaf load label.now arc.now.to) }
 {
     let time = begins(&task.leaf, load, label, arc) + arc.service;
-    let cost = label.cost + arc.value;
-    let Some(floor) = floor_at(&task.leaf, task.slots, task.floors.as_slice(), arc.to, time) else {
-        return false;
-    };
-    match cost.checked_add(floor.least) {
-        Some(least) => is_at_most(best, least),
-        None => false,
-    }
+    is_dear_at(task, arc.to, time, label.cost + arc.value, best)
 }
 
 /// Takes the step from a label over an arc, unless all that may come after it is dear.
@@ -112,7 +131,7 @@ fn take_step(
     ensures { IfOk result (λ _. TakesStepIn task.now.leaf best table.old.buckets.items table.new.buckets.items load label.now arc.now.to) }
 {
     let leaf = &task.leaf;
-    if !can_extend(leaf, load, label, arc) || is_dear(task, load, label, arc, best) {
+    if !can_extend(leaf, load, label, arc) || is_dear_step(task, load, label, arc, best) {
         return Ok(());
     }
     let longer = extend(leaf, load, label, arc);

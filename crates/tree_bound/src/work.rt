@@ -4,9 +4,8 @@ ghost use Rattle.std.specs.Prelude.{◌≡◌, ℕ, ◌+◌, ◌<◌, ◌≤◌,
 ghost use Rattle.solomon_reader.specs.Region.{IsAllowed};
 ghost use Rattle.solomon_reader.specs.States.{start, IsSameState};
 ghost use Rattle.tree_bound.specs.declared.label.Label.{Label};
-ghost use Rattle.tree_bound.specs.Arcs.{IsPassed};
 ghost use Rattle.tree_bound.specs.Cover.{or_zero};
-ghost use Rattle.tree_bound.specs.Leaves.{problem_of, region_in, state_in, IsArcIn, AreArcsIn, IsRowIn, IsLabelIn, AreLabelsIn, IsTableIn, IsDoneIn, IsWorkedIn, IsSweptIn, IsLeastBelowIn, IsSoughtIn, IsRelaxedIn};
+ghost use Rattle.tree_bound.specs.Leaves.{problem_of, region_in, state_in, IsArcIn, AreArcsIn, IsRowIn, IsLabelIn, AreLabelsIn, IsTableIn, IsDoneIn, IsWorkedIn, IsSweptIn, IsPassedIn, IsLeastBelowIn, IsSoughtIn, IsRelaxedIn};
 
 use crate::arcs::{AllowedArc, ArcRow};
 use crate::bucket::Bucket;
@@ -14,7 +13,7 @@ use crate::fault::BoundFault;
 use crate::label::Label;
 use crate::leaf::Leaf;
 use crate::setting::Setting;
-use crate::steps::{can_extend, close_route, extend, take_steps};
+use crate::steps::{can_extend, close_route, extend, is_dear, take_steps};
 use crate::table::{Table, empty_table, settle};
 use crate::task::Task;
 use std::alloc::Global;
@@ -38,12 +37,19 @@ fn work_label(
     Ok(after)
 }
 
-/// Whether a label has to be worked: it stands, and no settled one dominates it.
-fn is_open(settled: &Bucket, label: &Label) -> bool
+/// Whether a label has to be worked: it stands, no settled one dominates it, and what may come after it
+/// isn't dear.
+fn is_open(
+    task: &Task<'_, '_>,
+    settled: &Bucket,
+    load: usize,
+    label: &Label,
+    best: Option<i64>,
+) -> bool
     ensures open { IsTrue result → label.now.active ≡ true }
-    ensures passed { IsFalse result → IsPassed settled.now label.now }
+    ensures passed { IsFalse result → IsPassedIn task.now.leaf best settled.now load label.now }
 {
-    label.active && !settled.dominates(label)
+    label.active && !settled.dominates(label) && !is_dear(task, load, label, best)
 }
 
 /// Works the labels of a load.
@@ -61,7 +67,7 @@ fn work_labels(
 {
     let mut best = best;
     for label in labels {
-        if is_open(settled, label) {
+        if is_open(task, settled, load, label, best) {
             best = work_label(task, table, load, label, best)?;
             settle(table, settled, label)?;
         } else {
