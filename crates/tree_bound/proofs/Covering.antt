@@ -15,6 +15,10 @@ at_most_more None y z le h = absurd h
 at_most_more (Some m) y z le h = omega (arith, ints, le, h)
 
 module _ (p : Problem) (g : Region) (k : ℕ) (prices : List ℤ) where
+  -- what may come after y may come after x, which is as good
+  pub dear_good : (b : Option ℤ) (x y : State) → IsAsGood x y → IsDear p g k prices b x → IsDear p g k prices b y
+  dear_good b x y good h = record { dear = λ s completes. at_most_more b _ _ (value_no_greater p g k prices s x y good) (h.dear s (completes_too p g k prices s x y good completes)) }
+
   -- something as good as the witness waits afterwards
   witness_moved : (c : Option ℤ) (Before After : State → Type 0) (z : ℤ) (n : ℕ) (w : Witness p g k prices Before z n)
       → ((t : State) × (After t × IsAsGood t w.state)) → IsCovered p g k prices c After z n

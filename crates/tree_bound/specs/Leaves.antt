@@ -12,7 +12,7 @@ use Rattle.tree_bound.specs.declared.label.Label.{Label}
 use Rattle.tree_bound.specs.declared.leaf.Leaf.{Leaf}
 use Rattle.tree_bound.specs.Cover.{IsDear, IsLeastBelow, IsSought}
 use Rattle.tree_bound.specs.Decisions.{region_of}
-use Rattle.tree_bound.specs.Floors.{IsFloor, IsKnown, IsEndFloor, IsStepFloor, AreStepFloors}
+use Rattle.tree_bound.specs.Floors.{IsFloor, IsKnown, IsEndFloor, IsStepFloor, AreStepFloors, IsJoined}
 use Rattle.tree_bound.specs.Labels.{state_of, IsBounded, IsLabel, IsTable, AreLabels}
 use Rattle.tree_bound.specs.Arcs.{IsAllowedArc, AreAllowedArcs, IsArcRow, AreArcRows, CanExtend, IsExtension, TakesStep, TakesSteps, ClosesRoute, IsWorked, IsSwept, IsDone, IsPassed}
 
@@ -82,8 +82,8 @@ IsLeastBelowIn l b = IsLeastBelow (problem_of l) (region_in l) l.neighbours.now.
 abbrev pub IsSoughtIn : Leaf → Bool → Option ℤ → Type 0
 IsSoughtIn l bare found = IsSought (problem_of l) (region_in l) l.neighbours.now.k l.prices.now l.limit bare found
 
-abbrev pub IsFloorIn : Leaf → ℕ → ℕ → ℤ → Type 0
-IsFloorIn l v t h = IsFloor (problem_of l) (region_in l) l.neighbours.now.k l.prices.now v t h
+abbrev pub IsFloorIn : Leaf → ℕ → ℕ → Floor → Type 0
+IsFloorIn l v t f = IsFloor (problem_of l) (region_in l) l.neighbours.now.k l.prices.now v t f
 
 -- each floor of the list holds
 abbrev pub AreFloorsIn : Leaf → List (Option Floor) → Type 0
@@ -95,8 +95,12 @@ IsEndFloorIn l v t h = IsEndFloor (problem_of l) (region_in l) v t h
 abbrev pub IsStepFloorIn : Leaf → ℕ → ℕ → ℕ → ℤ → Type 0
 IsStepFloorIn l v t j h = IsStepFloor (problem_of l) (region_in l) l.neighbours.now.k l.prices.now v t j h
 
-abbrev pub AreStepFloorsIn : Leaf → ℕ → ℕ → List AllowedArc → ℕ → ℤ → Type 0
-AreStepFloorsIn l v t arcs i h = AreStepFloors (problem_of l) (region_in l) l.neighbours.now.k l.prices.now v t arcs i h
+-- what f says, and what a step to j with what may follow on it adds
+abbrev pub IsJoinedIn : Leaf → Floor → ℕ → Floor → Type 0
+IsJoinedIn l f j out = (z : ℤ) × (IsStepFloorIn l f.row f.from j z × IsJoined f j z out)
+
+abbrev pub AreStepFloorsIn : Leaf → ℕ → ℕ → List AllowedArc → ℕ → Floor → Type 0
+AreStepFloorsIn l v t arcs i f = AreStepFloors (problem_of l) (region_in l) l.neighbours.now.k l.prices.now v t arcs i f
 
 abbrev pub step_in : Leaf → ℕ → Label → ℕ → State
 step_in l q x j = step (problem_of l) l.neighbours.now.k l.prices.now (state_in l q x) j

@@ -1,6 +1,6 @@
 //! Neighbour lists, and what is remembered.
 
-ghost use Rattle.std.specs.Prelude.{◌≡◌, ℕ, ◌<◌, ◌≤◌, length, slice_index_or, IfOk, Vec};
+ghost use Rattle.std.specs.Prelude.{◌≡◌, ℕ, ◌<◌, ◌≤◌, length, slice_index_or, true, IfOk, IsTrue, Vec};
 ghost use Rattle.std.specs.declared.alloc.Global.{Global};
 ghost use Rattle.solomon_reader.specs.declared.limits.TheConstants.{MOST_NEIGHBOURS};
 ghost use Rattle.solomon_reader.specs.Problem.{IsCustomer};
@@ -98,6 +98,14 @@ impl<'i> Neighbours<'i> {
         ensures { IsNeighbourList self.now.instance.now self.now.k j (length self.now.instance.now.rows) result.now }
     {
         self.lists[j as usize].as_slice()
+    }
+
+    /// Whether a memory of a visit of v has u, where both are rows.
+    pub(crate) fn recalls(&self, v: u16, memory: u16, u: u16) -> bool
+        ensures { IsTrue result → memory_at self.now.instance.now self.now.k v memory u ≡ true }
+    {
+        let count = self.instance.customer_count();
+        v <= count && u <= count && contains(memory, self.bit(v, u))
     }
 
     /// What is remembered after a visit of j, where the memory is that of a visit of v.

@@ -1,10 +1,10 @@
 //! The steps from a label.
 
-ghost use Rattle.std.specs.Prelude.{◌≡◌, ◌↔◌, ◌+◌, ◌*◌, ◌<◌, ◌≤◌, length, true, IfOk, IsTrue, ℤ, ◌≤ℤ◌};
+ghost use Rattle.std.specs.Prelude.{◌≡◌, ◌↔◌, ◌+◌, ◌*◌, ◌<◌, ◌≤◌, length, true, IfOk, IsTrue, ℤ, ◌+ℤ◌, ◌≤ℤ◌};
 ghost use Rattle.solomon_reader.specs.declared.limits.TheConstants.{MOST_TIME};
 ghost use Rattle.solomon_reader.specs.Problem.{demand};
 ghost use Rattle.solomon_reader.specs.Region.{IsAllowed};
-ghost use Rattle.solomon_reader.specs.States.{State, begins};
+ghost use Rattle.solomon_reader.specs.States.{begins};
 ghost use Rattle.tree_bound.specs.Arcs.{route_value};
 ghost use Rattle.tree_bound.specs.Cover.{IsAtMost};
 ghost use Rattle.tree_bound.specs.Leaves.{problem_of, region_in, state_in, IsBoundedIn, IsArcIn, AreArcsIn, IsRowIn, CanExtendIn, IsExtensionIn, IsDearIn, step_in, IsLabelIn, IsTableIn, TakesStepIn, TakesStepsIn, ClosesRouteIn};
@@ -61,44 +61,35 @@ pub(crate) fn extend(leaf: &Leaf<'_, '_>, load: usize, label: &Label, arc: &Allo
     }
 }
 
-/// Whether the best so far is at most a number.
-fn is_at_most(best: Option<i64>, value: i64) -> bool
-    ensures { IsTrue result → IsAtMost best value }
+/// Whether the best so far is at most a cost with so much more.
+fn is_dear_with(best: Option<i64>, cost: i64, more: i64) -> bool
+    ensures { IsTrue result → (y : ℤ) → (cost +ℤ more) ≤ℤ y → IsAtMost best y }
 {
-    match best {
-        Some(least) => least <= value,
-        None => false,
+    match (best, cost.checked_add(more)) {
+        (Some(best), Some(least)) => best <= least,
+        _ => false,
     }
 }
 
-/// Whether all that may come after a stop at a row is dear, with this time and this cost or more: the floor
-/// says that it costs at least the best so far.
-fn is_dear_at(
-    task: &Task<'_, '_>,
-    row: u16,
-    time: u64,
-    cost: i64,
-    best: Option<i64>,
-) -> bool
-    ensures { IsTrue result → (a : State) → a.last ≡ row → time ≤ a.time → cost ≤ℤ a.cost → IsDearIn task.now.leaf best a }
-{
-    let Some(floor) = floor_at(&task.leaf, task.slots, task.floors.as_slice(), row, time) else {
-        return false;
-    };
-    match cost.checked_add(floor.least) {
-        Some(least) => is_at_most(best, least),
-        None => false,
-    }
-}
-
-/// Whether all that may come after a label is dear.
+/// Whether all that may come after a label is dear: the floor says that it costs at least the best so far.
 pub(crate) fn is_dear(task: &Task<'_, '_>, load: usize, label: &Label, best: Option<i64>) -> bool
     ensures { IsTrue result → IsDearIn task.now.leaf best (state_in task.now.leaf load label.now) }
 {
-    is_dear_at(task, label.customer, label.time, label.cost, best)
+    let neighbours = task.leaf.neighbours;
+    let (row, memory) = (label.customer, label.memory);
+    let Some(floor) = floor_at(&task.leaf, task.slots, task.floors.as_slice(), row, label.time) else {
+        return false;
+    };
+    if !neighbours.recalls(row, memory, row) {
+        return false;
+    }
+    if neighbours.recalls(row, memory, floor.next) {
+        return is_dear_with(best, label.cost, floor.other);
+    }
+    is_dear_with(best, label.cost, floor.least)
 }
 
-/// Whether all that may come after the step over an arc is dear.
+/// Whether all that may come after the step over an arc is dear, whatever is remembered.
 fn is_dear_step(
     task: &Task<'_, '_>,
     load: usize,
@@ -112,7 +103,10 @@ fn is_dear_step(
     ensures { IsTrue result → IsDearIn task.now.leaf best (step_in task.now.leaf load label.now arc.now.to) }
 {
     let time = begins(&task.leaf, load, label, arc) + arc.service;
-    is_dear_at(task, arc.to, time, label.cost + arc.value, best)
+    let Some(floor) = floor_at(&task.leaf, task.slots, task.floors.as_slice(), arc.to, time) else {
+        return false;
+    };
+    is_dear_with(best, label.cost + arc.value, floor.least)
 }
 
 /// Takes the step from a label over an arc, unless all that may come after it is dear.
@@ -135,7 +129,11 @@ fn take_step(
         return Ok(());
     }
     let longer = extend(leaf, load, label, arc);
-    keep(table, load + usize::from(arc.demand), &longer)?;
+    let load = load + usize::from(arc.demand);
+    if is_dear(task, load, &longer, best) {
+        return Ok(());
+    }
+    keep(table, load, &longer)?;
     Ok(())
 }
 
