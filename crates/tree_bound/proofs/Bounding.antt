@@ -9,10 +9,10 @@ use Rattle.solomon_reader.specs.Plan.{Arc}
 use Rattle.solomon_reader.specs.Region.{Region, IsUndecided, used_child, unused_child, root_region}
 use Rattle.solomon_reader.specs.Bound.{Version, Tree, leaf, split, Node, leaf_node, split_node, preorder, ceiling_of, HasBound, IsTreeBound}
 use Rattle.solomon_reader.specs.CertificateText.{IsTreeAt, IsPrice, Content, HasText}
-use Rattle.tree_bound.specs.declared.decision.Decision.{Decision}
+use Rattle.leaf_arcs.specs.declared.decision.Decision.{Decision}
 use Rattle.certificate.specs.declared.node.CertNode.{CertNode}
 use Rattle.certificate.specs.Tree.{node_of, nodes_of}
-use Rattle.tree_bound.specs.Decisions.{child, region_after, region_of}
+use Rattle.leaf_arcs.specs.Decisions.{child, region_after, region_of}
 use Rattle.tree_bound.specs.Grains.{IsLesserValue}
 use Rattle.tree_bound.specs.Nodes.{Begins, IsBoundOf}
 

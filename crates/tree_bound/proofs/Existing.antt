@@ -10,9 +10,9 @@ use Rattle.solomon_reader.specs.Relaxed.{IsRelaxed, IsLeastOrZero, reduced_cost}
 use Rattle.solomon_reader.specs.States.{State, start, step, begins, CanStep, CanEnd, Completes, value_with}
 use Rattle.solomon_reader.proofs.Completions.{completes_relaxed, relaxed_completes, value_is}
 use Rattle.tree_bound.specs.Cover.{IsAtMost, IsLeastBelow, IsSought, or_zero}
-use Rattle.tree_bound.specs.declared.arcs.ArcRow.{ArcRow}
-use Rattle.tree_bound.specs.Arcs.{AreArcRows, leads}
-use Rattle.tree_bound.proofs.Leading.{leads_index}
+use Rattle.leaf_arcs.specs.declared.arcs.ArcRow.{ArcRow}
+use Rattle.leaf_arcs.specs.Arcs.{AreArcRows, leads}
+use Rattle.leaf_arcs.proofs.Leading.{leads_index}
 
 -- exactly one of the two is known
 abbrev pub Decides : Type 0 → Type 0

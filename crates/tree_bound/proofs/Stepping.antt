@@ -6,11 +6,12 @@ use Rattle.solomon_reader.specs.Problem.{Problem, IsCustomer}
 use Rattle.solomon_reader.specs.Region.{Region, IsAllowed}
 use Rattle.solomon_reader.specs.States.{State, step, CanStep, IsAsGood, Reaches}
 use Rattle.solomon_reader.proofs.Completions.{reaches_more}
-use Rattle.tree_bound.specs.declared.arcs.AllowedArc.{AllowedArc}
+use Rattle.leaf_arcs.specs.declared.arcs.AllowedArc.{AllowedArc}
 use Rattle.tree_bound.specs.declared.label.Label.{Label}
-use Rattle.tree_bound.specs.Memories.{bit_in}
+use Rattle.leaf_arcs.specs.Memories.{bit_in}
 use Rattle.tree_bound.specs.Labels.{label_in, labels_at, state_of, Dominates, IsDominated, IsAdded, IsLabel, IsTable, IsMet, IsMoved}
-use Rattle.tree_bound.specs.Arcs.{arc_in, CanExtend, IsExtension, IsCared, TakesStep, TakesSteps}
+use Rattle.leaf_arcs.specs.Arcs.{arc_in}
+use Rattle.tree_bound.specs.Steps.{CanExtend, IsExtension, IsCared, TakesStep, TakesSteps}
 use Rattle.tree_bound.specs.Cover.{IsDear}
 use Rattle.solomon_reader.proofs.Goodness.{good_itself, good_same, good_through, reaches_same}
 

@@ -10,7 +10,7 @@ use Rattle.solomon_reader.specs.CertificateText.{IsPrice}
 use Rattle.solomon_reader.specs.Problem.{Problem, customer_count}
 use Rattle.solomon_reader.specs.Region.{Region}
 use Rattle.solomon_reader.specs.Relaxed.{int_sum}
-use Rattle.solomon_reader.specs.Bound.{Version, version_1, version_2, grains_of, routes_counted, IsRoundedUp, IsLeafValue}
+use Rattle.solomon_reader.specs.Bound.{Version, grains_of, routes_counted, IsRoundedUp}
 use Rattle.tree_bound.specs.Cover.{IsSought}
 use Rattle.tree_bound.specs.Grains.{up, down, IsWorth, IsLesserValue}
 

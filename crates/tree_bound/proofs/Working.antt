@@ -16,18 +16,19 @@ use Rattle.solomon_reader.specs.States.{State, start, step, CanStep, CanEnd, IsA
 use Rattle.solomon_reader.specs.CertificateText.{IsPrice}
 use Rattle.solomon_reader.proofs.BoundedRows.{customer_row}
 use Rattle.solomon_reader.proofs.Completions.{reaches_none, relaxed_completes}
-use Rattle.tree_bound.specs.declared.arcs.AllowedArc.{AllowedArc}
+use Rattle.leaf_arcs.specs.declared.arcs.AllowedArc.{AllowedArc}
 use Rattle.tree_bound.specs.declared.label.Label.{Label}
 use Rattle.tree_bound.specs.Cover.{IsAtMost, IsFound, IsDear, IsLeastBelow}
-use Rattle.tree_bound.specs.Memories.{bit_in}
+use Rattle.leaf_arcs.specs.Memories.{bit_in}
 use Rattle.tree_bound.specs.Labels.{label_in, labels_at, state_of, IsBounded, IsLabel, IsTable, AreLabels, IsDominated, IsKept, Waits, IsMet}
-use Rattle.tree_bound.specs.Arcs.{IsPriced, IsPricing, AreAllowedArcs, arc_in, CanExtend, IsExtension, IsCared, TakesSteps, ClosesRoute, IsDone, IsSettled, AreSettled, Remains, IsPassed, IsWorked, IsSwept, route_value}
+use Rattle.leaf_arcs.specs.Arcs.{IsPriced, IsPricing, AreAllowedArcs, arc_in}
+use Rattle.tree_bound.specs.Steps.{CanExtend, IsExtension, IsCared, TakesSteps, ClosesRoute, IsDone, IsSettled, AreSettled, Remains, IsPassed, IsWorked, IsSwept, route_value}
 use Rattle.solomon_reader.proofs.Goodness.{good_itself, good_same, good_back, reaches_same, completes_too, value_no_greater}
 use Rattle.tree_bound.proofs.Buckets.{first_kept}
 use Rattle.tree_bound.proofs.Covering.{covers_moved, covers_itself, covers_worked, covers_passed, covers_dear, least_at_end}
 use Rattle.tree_bound.proofs.Stepping.{dominating_good, can_step}
-use Rattle.tree_bound.proofs.Leading.{leads_index}
-use Rattle.tree_bound.proofs.Remembered.{has_nothing}
+use Rattle.leaf_arcs.proofs.Leading.{leads_index}
+use Rattle.leaf_arcs.proofs.Remembered.{has_nothing}
 
 module _ (p : Problem) (g : Region) (k : ℕ) (prices : List ℤ) where
   -- all steps of a row were taken

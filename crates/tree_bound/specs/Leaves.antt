@@ -1,44 +1,20 @@
--- What is said of arcs, labels and the table, for a leaf.
-use Rattle.std.specs.Prelude.{ℕ, List, length, Bool, ℤ, Option}
-use Rattle.std.specs.List.{All}
-use Rattle.solomon_reader.specs.Problem.{Problem, customer_count}
-use Rattle.solomon_reader.specs.Region.{Region}
+-- What is said of labels and the table, for a leaf.
+use Rattle.std.specs.Prelude.{ℕ, List, Bool, ℤ, Option}
 use Rattle.solomon_reader.specs.Relaxed.{IsRelaxed}
 use Rattle.solomon_reader.specs.States.{State, step}
-use Rattle.tree_bound.specs.declared.arcs.AllowedArc.{AllowedArc}
-use Rattle.tree_bound.specs.declared.arcs.ArcRow.{ArcRow}
-use Rattle.tree_bound.specs.declared.floor.Floor.{Floor}
+use Rattle.leaf_arcs.specs.declared.arcs.AllowedArc.{AllowedArc}
+use Rattle.leaf_arcs.specs.declared.leaf.Leaf.{Leaf}
+use Rattle.leaf_arcs.specs.Leaves.{problem_of, region_in}
 use Rattle.tree_bound.specs.declared.label.Label.{Label}
-use Rattle.tree_bound.specs.declared.leaf.Leaf.{Leaf}
 use Rattle.tree_bound.specs.Cover.{IsDear, IsLeastBelow, IsSought}
-use Rattle.tree_bound.specs.Decisions.{region_of}
-use Rattle.tree_bound.specs.Floors.{IsFloor, IsKnown, IsEndFloor, IsStepFloor, AreStepFloors, IsJoined}
 use Rattle.tree_bound.specs.Labels.{state_of, IsBounded, IsLabel, IsTable, AreLabels}
-use Rattle.tree_bound.specs.Arcs.{IsAllowedArc, AreAllowedArcs, IsArcRow, AreArcRows, CanExtend, IsExtension, TakesStep, TakesSteps, ClosesRoute, IsWorked, IsSwept, IsDone, IsPassed}
-
-abbrev pub problem_of : Leaf → Problem
-problem_of l = l.neighbours.now.instance.now
-
-abbrev pub region_in : Leaf → Region
-region_in l = region_of (customer_count (problem_of l)) l.path.now
+use Rattle.tree_bound.specs.Steps.{CanExtend, IsExtension, TakesStep, TakesSteps, ClosesRoute, IsWorked, IsSwept, IsDone, IsPassed}
 
 abbrev pub state_in : Leaf → ℕ → Label → State
 state_in l q x = state_of (problem_of l) l.neighbours.now.k q x
 
 abbrev pub IsBoundedIn : Leaf → ℕ → Label → Type 0
 IsBoundedIn l q x = IsBounded (problem_of l) q x
-
-abbrev pub IsArcIn : Leaf → ℕ → AllowedArc → Type 0
-IsArcIn l v a = IsAllowedArc (problem_of l) l.neighbours.now.k l.prices.now v a
-
-abbrev pub AreArcsIn : Leaf → ℕ → List AllowedArc → Type 0
-AreArcsIn l v arcs = AreAllowedArcs (problem_of l) (region_in l) l.neighbours.now.k l.prices.now v (length (problem_of l).rows) arcs
-
-abbrev pub IsRowIn : Leaf → ℕ → ArcRow → Type 0
-IsRowIn l v r = IsArcRow (problem_of l) (region_in l) l.neighbours.now.k l.prices.now v r
-
-abbrev pub AreRowsIn : Leaf → List ArcRow → Type 0
-AreRowsIn l rows = AreArcRows (problem_of l) (region_in l) l.neighbours.now.k l.prices.now rows
 
 abbrev pub CanExtendIn : Leaf → ℕ → Label → ℕ → Type 0
 CanExtendIn l q x j = CanExtend (problem_of l) l.neighbours.now.k q x j
@@ -81,26 +57,6 @@ IsLeastBelowIn l b = IsLeastBelow (problem_of l) (region_in l) l.neighbours.now.
 
 abbrev pub IsSoughtIn : Leaf → Bool → Option ℤ → Type 0
 IsSoughtIn l bare found = IsSought (problem_of l) (region_in l) l.neighbours.now.k l.prices.now l.limit bare found
-
-abbrev pub IsFloorIn : Leaf → ℕ → ℕ → Floor → Type 0
-IsFloorIn l v t f = IsFloor (problem_of l) (region_in l) l.neighbours.now.k l.prices.now v t f
-
--- each floor of the list holds
-abbrev pub AreFloorsIn : Leaf → List (Option Floor) → Type 0
-AreFloorsIn l fs = All (IsKnown (problem_of l) (region_in l) l.neighbours.now.k l.prices.now) fs
-
-abbrev pub IsEndFloorIn : Leaf → ℕ → ℕ → ℤ → Type 0
-IsEndFloorIn l v t h = IsEndFloor (problem_of l) (region_in l) v t h
-
-abbrev pub IsStepFloorIn : Leaf → ℕ → ℕ → ℕ → ℤ → Type 0
-IsStepFloorIn l v t j h = IsStepFloor (problem_of l) (region_in l) l.neighbours.now.k l.prices.now v t j h
-
--- what f says, and what a step to j with what may follow on it adds
-abbrev pub IsJoinedIn : Leaf → Floor → ℕ → Floor → Type 0
-IsJoinedIn l f j out = (z : ℤ) × (IsStepFloorIn l f.row f.from j z × IsJoined f j z out)
-
-abbrev pub AreStepFloorsIn : Leaf → ℕ → ℕ → List AllowedArc → ℕ → Floor → Type 0
-AreStepFloorsIn l v t arcs i f = AreStepFloors (problem_of l) (region_in l) l.neighbours.now.k l.prices.now v t arcs i f
 
 abbrev pub step_in : Leaf → ℕ → Label → ℕ → State
 step_in l q x j = step (problem_of l) l.neighbours.now.k l.prices.now (state_in l q x) j

@@ -5,9 +5,8 @@ ghost use Rattle.solomon_reader.specs.Bound.{ceiling_of, routes_counted};
 ghost use Rattle.solomon_reader.specs.declared.limits.TheConstants.{MOST_CUSTOMERS, MOST_DEMAND, MOST_DISTANCE};
 ghost use Rattle.certificate.specs.Text.{version_of};
 
-use crate::neighbours::Neighbours;
-use crate::slots::Slots;
 use certificate::{Cert, Version};
+use leaf_arcs::{Neighbours, Slots};
 use solomon_reader::Instance;
 use std::alloc::{AllocError, Global};
 

@@ -5,18 +5,15 @@ ghost use Rattle.solomon_reader.specs.declared.limits.TheConstants.{MOST_TIME};
 ghost use Rattle.solomon_reader.specs.Problem.{demand};
 ghost use Rattle.solomon_reader.specs.Region.{IsAllowed};
 ghost use Rattle.solomon_reader.specs.States.{begins};
-ghost use Rattle.tree_bound.specs.Arcs.{route_value};
+ghost use Rattle.tree_bound.specs.Steps.{route_value};
 ghost use Rattle.tree_bound.specs.Cover.{IsAtMost};
-ghost use Rattle.tree_bound.specs.Leaves.{problem_of, region_in, state_in, IsBoundedIn, IsArcIn, AreArcsIn, IsRowIn, CanExtendIn, IsExtensionIn, IsDearIn, step_in, IsLabelIn, IsTableIn, TakesStepIn, TakesStepsIn, ClosesRouteIn};
+ghost use Rattle.leaf_arcs.specs.Leaves.{problem_of, region_in, IsArcIn, AreArcsIn, IsRowIn};
+ghost use Rattle.tree_bound.specs.Leaves.{state_in, IsBoundedIn, CanExtendIn, IsExtensionIn, IsDearIn, step_in, IsLabelIn, IsTableIn, TakesStepIn, TakesStepsIn, ClosesRouteIn};
 
-use crate::arcs::{AllowedArc, ArcRow};
 use crate::fault::BoundFault;
-use crate::floor::floor_at;
 use crate::label::Label;
-use crate::leaf::Leaf;
-use crate::memory::contains;
 use crate::table::{Table, keep};
-use crate::task::Task;
+use leaf_arcs::{AllowedArc, ArcRow, Leaf, Task, contains};
 
 /// When service at a further customer begins, in tenths.
 fn begins(leaf: &Leaf<'_, '_>, load: usize, label: &Label, arc: &AllowedArc) -> u64
@@ -77,7 +74,7 @@ pub(crate) fn is_dear(task: &Task<'_, '_>, load: usize, label: &Label, best: Opt
 {
     let neighbours = task.leaf.neighbours;
     let (row, memory) = (label.customer, label.memory);
-    let Some(floor) = floor_at(&task.leaf, task.slots, task.floors.as_slice(), row, label.time) else {
+    let Some(floor) = task.floor_at(row, label.time) else {
         return false;
     };
     if !neighbours.recalls(row, memory, row) {
@@ -103,7 +100,7 @@ fn is_dear_step(
     ensures { IsTrue result → IsDearIn task.now.leaf best (step_in task.now.leaf load label.now arc.now.to) }
 {
     let time = begins(&task.leaf, load, label, arc) + arc.service;
-    let Some(floor) = floor_at(&task.leaf, task.slots, task.floors.as_slice(), arc.to, time) else {
+    let Some(floor) = task.floor_at(arc.to, time) else {
         return false;
     };
     is_dear_with(best, label.cost + arc.value, floor.least)

@@ -7,14 +7,14 @@ ghost use Rattle.solomon_reader.specs.CertificateText.{IsPrice};
 ghost use Rattle.solomon_reader.specs.Bound.{Tree, leaf, preorder, HasBound, IsTreeBound};
 ghost use Rattle.certificate.specs.Text.{version_of};
 ghost use Rattle.certificate.specs.Tree.{nodes_of};
-ghost use Rattle.tree_bound.specs.Decisions.{region_of};
+ghost use Rattle.leaf_arcs.specs.Decisions.{region_of};
 ghost use Rattle.tree_bound.specs.Nodes.{Begins, IsBoundOf};
 
-use crate::decision::Decision;
 use crate::fault::BoundFault;
 use crate::setting::Setting;
 use crate::value::lesser_value;
 use certificate::{Cert, CertNode};
+use leaf_arcs::Decision;
 use solomon_reader::Instance;
 use std::alloc::Global;
 use tenths::Tenths;

@@ -9,14 +9,13 @@ ghost use Rattle.solomon_reader.specs.CertificateText.{IsPrice};
 ghost use Rattle.solomon_reader.specs.declared.limits.TheConstants.{MOST_CUSTOMERS, MOST_PRICE};
 ghost use Rattle.certificate.specs.Text.{version_of};
 ghost use Rattle.tree_bound.specs.Cover.{or_zero};
-ghost use Rattle.tree_bound.specs.Decisions.{region_of};
+ghost use Rattle.leaf_arcs.specs.Decisions.{region_of};
 ghost use Rattle.tree_bound.specs.Grains.{up, down, IsWorth, IsLesserValue};
 
-use crate::decision::Decision;
 use crate::fault::BoundFault;
-use crate::leaf::Leaf;
 use crate::setting::Setting;
 use crate::work::least;
+use leaf_arcs::{Decision, Leaf};
 use std::alloc::Global;
 
 /// A number of grains, as a difference.

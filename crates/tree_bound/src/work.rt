@@ -5,17 +5,16 @@ ghost use Rattle.solomon_reader.specs.Region.{IsAllowed};
 ghost use Rattle.solomon_reader.specs.States.{start, IsSameState};
 ghost use Rattle.tree_bound.specs.declared.label.Label.{Label};
 ghost use Rattle.tree_bound.specs.Cover.{or_zero};
-ghost use Rattle.tree_bound.specs.Leaves.{problem_of, region_in, state_in, IsArcIn, AreArcsIn, IsRowIn, IsLabelIn, AreLabelsIn, IsTableIn, IsDoneIn, IsWorkedIn, IsSweptIn, IsPassedIn, IsLeastBelowIn, IsSoughtIn, IsRelaxedIn};
+ghost use Rattle.leaf_arcs.specs.Leaves.{problem_of, region_in, IsArcIn, AreArcsIn, IsRowIn};
+ghost use Rattle.tree_bound.specs.Leaves.{state_in, IsLabelIn, AreLabelsIn, IsTableIn, IsDoneIn, IsWorkedIn, IsSweptIn, IsPassedIn, IsLeastBelowIn, IsSoughtIn, IsRelaxedIn};
 
-use crate::arcs::{AllowedArc, ArcRow};
 use crate::bucket::Bucket;
 use crate::fault::BoundFault;
 use crate::label::Label;
-use crate::leaf::Leaf;
 use crate::setting::Setting;
 use crate::steps::{can_extend, close_route, extend, is_dear, take_steps};
 use crate::table::{Table, empty_table, settle};
-use crate::task::Task;
+use leaf_arcs::{AllowedArc, ArcRow, Leaf, Task};
 use std::alloc::Global;
 use std::mem;
 

@@ -1,7 +1,7 @@
 use Rattle.std.proofs.Common.{◌≡◌, ◌+◌, ◌<◌, false, List, [], ◌∷◌, ◌++◌, length, arith, ◌∙◌, ap}
 use Rattle.certificate.specs.Text.{version_of}
 use Rattle.certificate.specs.Tree.{node_of}
-use Rattle.tree_bound.specs.declared.decision.Decision.{Decision}
+use Rattle.leaf_arcs.specs.declared.decision.Decision.{Decision}
 use Rattle.tree_bound.proofs.Bounding.{restored, begins_some, leaf_at, leaf_bound_at, used_at, unused_at, split_at}
 use Rattle.tree_bound.proofs.tree.+bound_at.Goals as goal
 

@@ -1,4 +1,4 @@
-use Rattle.std.proofs.Common.{◌≡◌, ◌∙◌, ap, arith}
+use Rattle.std.proofs.Common.{◌≡◌, ◌∙◌, ap}
 use Rattle.solomon_reader.specs.CertificateText.{Content}
 use Rattle.certificate.specs.Tree.{nodes_of}
 use Rattle.tree_bound.proofs.Bounding.{begins_some, nodes_begin, whole_bound}
