@@ -134,7 +134,8 @@ fn add_row(
 }
 
 impl Slots {
-    /// The slots of an instance; none where a step may take no time, or there were too many.
+    /// The slots of an instance; none where a step may take no time, or there were too many. No contract:
+    /// any slots are sound, since a floor is asked for its row and time.
     pub fn new(alloc: Global, instance: &Instance) -> Result<Slots, AllocError> {
         let mut rows = Vec::new(alloc);
         let mut starts = Vec::new(alloc);
