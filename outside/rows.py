@@ -20,6 +20,7 @@ INSTANCES = {
     "few": instance_text(1, 1, DEPOT, LINE),
     "apart": instance_text(2, 1, DEPOT, LINE),
     "together": instance_text(2, 2, DEPOT, LINE),
+    "still": instance_text(2, 2, DEPOT, "1 0 0 1 0 1000 0\n2 0 0 1 0 1000 0\n"),
     "near": instance_text(1, 3, DEPOT, "1 30 40 1 0 1000 0\n2 33 44 1 0 1000 0\n"),
     "three": instance_text(2, 2, "0 0 1 0 0 1000 0\n", THREE),
     "many": instance_text(400, 1, DEPOT, MANY),
@@ -88,14 +89,21 @@ def four_hundred(version, customers, said):
     return "%d customers, version %d" % (customers, version), INSTANCES["many"], certificate, solution, [], said
 
 
-def pairs(states, said):
-    """Four pairs of time and cost ever are for two customers in one vehicle: after 1, 2, 1 2 and 2 1."""
-    certificate = certificate_text(1, 2, 8, "20.0", "P 100000 100000\n")
-    return "%d pairs" % states, INSTANCES["together"], certificate, "", ["--states", str(states)], said
+def pairs(name, bound, price, states, said):
+    """Two customers in one vehicle, with this price for each."""
+    certificate = certificate_text(1, 2, 8, bound, "P %d %d\n" % (price, price))
+    return "%d pairs, %s" % (states, name), INSTANCES[name], certificate, "", ["--states", str(states)], said
 
+
+# Customers at the depot have no floors, since a step may take no time: four pairs of time and cost stand, after 1, 2,
+# 1 2 and 2 1. On the line each route has a reduced cost of 0 or more, which doesn't lower the bound, and the floors say
+# so of each customer's first pair: none is kept.
+PAIRS = [pairs("together", "20.0", 100000, 4, "BOUND 20.0"), pairs("together", "20.0", 100000, 1, "BOUND 20.0"),
+         pairs("still", "0.0", 0, 4, "BOUND 0.0"), pairs("still", "0.0", 0, 3, "vrptw: limit: StateLimit"),
+         pairs("still", "0.0", 0, 1, "vrptw: limit: StateLimit")]
 
 ROWS = ([texts_of(line) for line in TABLE.strip().split("\n")]
-        + [pairs(1, "vrptw: limit: StateLimit"), pairs(3, "vrptw: limit: StateLimit"), pairs(4, "BOUND 20.0")]
+        + PAIRS
         + [four_hundred(1, 400, "BEST 4000.0"), four_hundred(2, 400, "BEST 4000.0"),
            four_hundred(1, 401, "vrptw: certificate: BadLine line 3")])
 

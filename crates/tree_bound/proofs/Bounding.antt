@@ -7,12 +7,13 @@ use Rattle.std.specs.List.{AllByRecursion}
 use Rattle.solomon_reader.specs.Problem.{Problem, customer_count}
 use Rattle.solomon_reader.specs.Plan.{Arc}
 use Rattle.solomon_reader.specs.Region.{Region, IsUndecided, used_child, unused_child, root_region}
-use Rattle.solomon_reader.specs.Bound.{Version, Tree, leaf, split, Node, leaf_node, split_node, preorder, HasBound, IsTreeBound}
+use Rattle.solomon_reader.specs.Bound.{Version, Tree, leaf, split, Node, leaf_node, split_node, preorder, ceiling_of, HasBound, IsTreeBound}
 use Rattle.solomon_reader.specs.CertificateText.{IsTreeAt, IsPrice, Content, HasText}
-use Rattle.tree_bound.specs.declared.decision.Decision.{Decision}
+use Rattle.leaf_arcs.specs.declared.decision.Decision.{Decision}
 use Rattle.certificate.specs.declared.node.CertNode.{CertNode}
 use Rattle.certificate.specs.Tree.{node_of, nodes_of}
-use Rattle.tree_bound.specs.Decisions.{child, region_after, region_of}
+use Rattle.leaf_arcs.specs.Decisions.{child, region_after, region_of}
+use Rattle.tree_bound.specs.Grains.{IsLesserValue}
 use Rattle.tree_bound.specs.Nodes.{Begins, IsBoundOf}
 
 pub region_push : (ds : List Decision) (g : Region) (d : Decision) → region_after g (ds ++ (d ∷ [])) ≡ child (region_after g ds) d
@@ -66,8 +67,11 @@ module _ (version : Version) (p : Problem) (k : ℕ) (g : Region) where
   pub leaf_shaped : (prices : List ℤ) (more : List Node) → Begins g (leaf_node prices ∷ more) → (length prices ≡ g.size) × AllByRecursion IsPrice prices
   leaf_shaped prices more h = let b = leaf_begun prices more h.tree h.rest h.is h.shaped in let e = b.0 in rw e at h.shaped
 
-  pub leaf_bounded : (prices : List ℤ) (more : List Node) (b : ℕ) → HasBound version p k g (leaf prices) b → IsBoundOf version p k g (leaf_node prices ∷ more) b more
-  leaf_bounded prices more b bound tree rest is shaped = let h = leaf_begun prices more tree rest is shaped in let e = h.0 in (rw e bound, h.1)
+  pub leaf_bounded : (prices : List ℤ) (more : List Node) (most b : ℕ) → most ≤ ceiling_of p + 1 → IsLesserValue version p g k prices most b → IsBoundOf version p k g (leaf_node prices ∷ more) most b more
+  leaf_bounded prices more most b low h tree rest is shaped =
+      let s = leaf_begun prices more tree rest is shaped in
+      let e = s.0 in
+      (rw e (min (ceiling_of p + 1) h.value, ((h.value, h.is_value, refl), omega (arith, low, h.lesser))), s.1)
 
   -- the two trees below a split
   pub record Below (a : Arc) (more : List Node) (tree : Tree) (rest : List Node) : Type 0 where
@@ -102,19 +106,19 @@ module _ (version : Version) (p : Problem) (k : ℕ) (g : Region) where
   pub used_begins : (a : Arc) (more : List Node) → Begins g (split_node a ∷ more) → Begins (used_child g a) more
   used_begins a more h = let b = split_begun a more h.tree h.rest h.is h.shaped in record { tree = b.used; rest = preorder b.unused ++ h.rest; is = b.nodes; shaped = b.used_shaped }
 
-  pub unused_begins : (a : Arc) (more left : List Node) (x : ℕ) → Begins g (split_node a ∷ more) → IsBoundOf version p k (used_child g a) more x left → Begins (unused_child g a) left
-  unused_begins a more left x h bound =
+  pub unused_begins : (a : Arc) (more left : List Node) (most x : ℕ) → Begins g (split_node a ∷ more) → IsBoundOf version p k (used_child g a) more most x left → Begins (unused_child g a) left
+  unused_begins a more left most x h bound =
       let b = split_begun a more h.tree h.rest h.is h.shaped in
       record { tree = b.unused; rest = h.rest; is = (bound b.used (preorder b.unused ++ h.rest) b.nodes b.used_shaped).1; shaped = b.unused_shaped }
 
-  pub split_bounded : (a : Arc) (more left last : List Node) (x y : ℕ) → IsBoundOf version p k (used_child g a) more x left → IsBoundOf version p k (unused_child g a) left y last
-      → IsBoundOf version p k g (split_node a ∷ more) (min x y) last
-  split_bounded a more left last x y first second tree rest is shaped =
+  pub split_bounded : (a : Arc) (more left last : List Node) (most x y : ℕ) → IsBoundOf version p k (used_child g a) more most x left → IsBoundOf version p k (unused_child g a) left x y last
+      → IsBoundOf version p k g (split_node a ∷ more) most y last
+  split_bounded a more left last most x y first second tree rest is shaped =
       let b = split_begun a more tree rest is shaped in
       let f = first b.used (preorder b.unused ++ rest) b.nodes b.used_shaped in
       let s = second b.unused rest f.1 b.unused_shaped in
       let e = b.is in
-      (rw e (b.undecided, (x, (y, (f.0, s.0, refl)))), s.1)
+      (rw e (min f.0.0 s.0.0, ((b.undecided, (f.0.0, (s.0.0, (f.0.1.0, s.0.1.0, refl)))), omega (arith, f.0.1.1, s.0.1.1))), s.1)
 
 -- the same of a list of nodes from a place on
 module _ (version : Version) (p : Problem) (k : ℕ) (ds : List Decision) (nodes : List CertNode) (at : ℕ) (n : CertNode) (within : at < length nodes) (is : n ≡ get_or nodes at n)
@@ -125,11 +129,11 @@ module _ (version : Version) (p : Problem) (k : ℕ) (ds : List Decision) (nodes
       let h = leaf_shaped version p k (region_of (customer_count p) ds) prices (drop (at + 1) (nodes_of nodes)) (rw here at begins) in
       (h.0 ∙ region_size (customer_count p) ds, h.1)
 
-  pub leaf_bound_at : (prices : List ℤ) (b : ℕ) → node_of n ≡ leaf_node prices → HasBound version p k (region_of (customer_count p) ds) (leaf prices) b
-      → IsBoundOf version p k (region_of (customer_count p) ds) (drop at (nodes_of nodes)) b (drop (at + 1) (nodes_of nodes))
-  leaf_bound_at prices b e bound =
+  pub leaf_bound_at : (prices : List ℤ) (most b : ℕ) → node_of n ≡ leaf_node prices → most ≤ ceiling_of p + 1 → IsLesserValue version p (region_of (customer_count p) ds) k prices most b
+      → IsBoundOf version p k (region_of (customer_count p) ds) (drop at (nodes_of nodes)) most b (drop (at + 1) (nodes_of nodes))
+  leaf_bound_at prices most b e low lesser =
       let here : drop at (nodes_of nodes) ≡ leaf_node prices ∷ drop (at + 1) (nodes_of nodes) = front nodes at n within is ∙ ap (λ m. m ∷ drop (at + 1) (nodes_of nodes)) e in
-      rw here (leaf_bounded version p k (region_of (customer_count p) ds) prices (drop (at + 1) (nodes_of nodes)) b bound)
+      rw here (leaf_bounded version p k (region_of (customer_count p) ds) prices (drop (at + 1) (nodes_of nodes)) most b low lesser)
 
   module _ (from to : ℕ) (e : node_of n ≡ split_node (from, to)) where
     abbrev decided : Bool → List Decision
@@ -147,13 +151,13 @@ module _ (version : Version) (p : Problem) (k : ℕ) (ds : List Decision) (nodes
     pub used_at : Begins (region_of (customer_count p) (decided true)) (drop (at + 1) (nodes_of nodes))
     used_at = rw used_region (used_begins version p k (region_of (customer_count p) ds) (from, to) (drop (at + 1) (nodes_of nodes)) (rw here at begins))
 
-    module _ (x next : ℕ) (first : IsBoundOf version p k (region_of (customer_count p) (decided true)) (drop (at + 1) (nodes_of nodes)) x (drop next (nodes_of nodes))) where
+    module _ (most x next : ℕ) (first : IsBoundOf version p k (region_of (customer_count p) (decided true)) (drop (at + 1) (nodes_of nodes)) most x (drop next (nodes_of nodes))) where
       pub unused_at : Begins (region_of (customer_count p) (decided false)) (drop next (nodes_of nodes))
-      unused_at = rw unused_region (unused_begins version p k (region_of (customer_count p) ds) (from, to) (drop (at + 1) (nodes_of nodes)) (drop next (nodes_of nodes)) x (rw here at begins) (rw used_region at first))
+      unused_at = rw unused_region (unused_begins version p k (region_of (customer_count p) ds) (from, to) (drop (at + 1) (nodes_of nodes)) (drop next (nodes_of nodes)) most x (rw here at begins) (rw used_region at first))
 
-      pub split_at : (y last : ℕ) → IsBoundOf version p k (region_of (customer_count p) (decided false)) (drop next (nodes_of nodes)) y (drop last (nodes_of nodes))
-          → IsBoundOf version p k (region_of (customer_count p) ds) (drop at (nodes_of nodes)) (min x y) (drop last (nodes_of nodes))
-      split_at y last second = rw here (split_bounded version p k (region_of (customer_count p) ds) (from, to) (drop (at + 1) (nodes_of nodes)) (drop next (nodes_of nodes)) (drop last (nodes_of nodes)) x y
+      pub split_at : (y last : ℕ) → IsBoundOf version p k (region_of (customer_count p) (decided false)) (drop next (nodes_of nodes)) x y (drop last (nodes_of nodes))
+          → IsBoundOf version p k (region_of (customer_count p) ds) (drop at (nodes_of nodes)) most y (drop last (nodes_of nodes))
+      split_at y last second = rw here (split_bounded version p k (region_of (customer_count p) ds) (from, to) (drop (at + 1) (nodes_of nodes)) (drop next (nodes_of nodes)) (drop last (nodes_of nodes)) most x y
           (rw used_region at first) (rw unused_region at second))
 
 -- what was found and is left is that of the tree that comes first: no other tree has these nodes in front
@@ -187,6 +191,11 @@ one_tree (split a t u) (split b v w) more rest e =
     let x = h.0 in let y = first.0 in let z = second.0 in
     (rw (x, y, z) refl, second.1)
 
+-- no bound is above the ceiling plus one
+never_above : (version : Version) (p : Problem) (k : ℕ) (g : Region) (tree : Tree) (b : ℕ) → HasBound version p k g tree b → b ≤ ceiling_of p + 1
+never_above version p k g (leaf prices) b h = omega (arith, h.2)
+never_above version p k g (split a used unused) b h = omega (arith, h.1.1.1.2, never_above version p k (used_child g a) used h.1.0 h.1.1.1.0)
+
 -- what a certificate says of its nodes
 module _ (x : Content) (text : HasText x) (p : Problem) (size : x.size ≡ customer_count p) (nodes : List Node) (is : nodes ≡ x.nodes) where
   listed_nodes : x.nodes ≡ preorder text.certificate.tree
@@ -198,8 +207,10 @@ module _ (x : Content) (text : HasText x) (p : Problem) (size : x.size ≡ custo
   pub nodes_begin : Begins (root_region (customer_count p)) nodes
   nodes_begin = record { tree = text.certificate.tree; rest = []; is = is ∙ (listed_nodes ∙ sym (append-nil (preorder text.certificate.tree))); shaped = shaped }
 
-  pub whole_bound : (b : ℕ) (left : List Node) → IsBoundOf x.version p x.neighbours (root_region (customer_count p)) nodes b left
+  pub whole_bound : (most b : ℕ) (left : List Node) → most ≡ ceiling_of p + 1 → IsBoundOf x.version p x.neighbours (root_region (customer_count p)) nodes most b left
       → (tree : Tree) → preorder tree ≡ x.nodes → IsTreeBound x.version p x.neighbours tree b
-  whole_bound b left bound tree nodes_are =
+  whole_bound most b left most_is bound tree nodes_are =
       let same : tree ≡ text.certificate.tree = (one_tree tree text.certificate.tree [] [] (append-nil (preorder tree) ∙ (nodes_are ∙ (listed_nodes ∙ sym (append-nil (preorder text.certificate.tree)))))).0 in
-      (bound tree [] (is ∙ (sym nodes_are ∙ sym (append-nil (preorder tree)))) (rw same shaped)).0
+      let found = (bound tree [] (is ∙ (sym nodes_are ∙ sym (append-nil (preorder tree)))) (rw same shaped)).0 in
+      let e : b ≡ found.0 = omega (arith, found.1.1, most_is, never_above x.version p x.neighbours (root_region (customer_count p)) tree found.0 found.1.0) in
+      rw e found.1.0

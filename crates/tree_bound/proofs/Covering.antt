@@ -1,13 +1,13 @@
 -- Each relaxed route stays covered as states are worked.
-use Rattle.std.proofs.Common.{◌≡◌, ℕ, zero, suc, ◌+◌, ◌<◌, ◌≤◌, List, [], ◌∷◌, length, arith, sym, ◌∙◌, ◌⊎◌, inl, inr, refl, Option, Some, None}
+use Rattle.std.proofs.Common.{◌≡◌, ℕ, zero, suc, ◌+◌, ◌<◌, ◌≤◌, List, [], ◌∷◌, length, arith, ap, ◌∙◌, ◌⊎◌, inl, inr, Option, Some, None}
 use Rattle.std.specs.Prelude.{ℤ, ◌≤ℤ◌}
 use Rattle.std.proofs.lemmas.Int.{ints}
 use Rattle.solomon_reader.specs.Problem.{Problem}
 use Rattle.solomon_reader.specs.Region.{Region}
-use Rattle.solomon_reader.specs.Relaxed.{IsRelaxed, IsLeastOrZero, reduced_cost}
+use Rattle.solomon_reader.specs.Relaxed.{IsRelaxed, reduced_cost}
 use Rattle.solomon_reader.specs.States.{State, step, CanStep, CanEnd, Completes, value_with, IsAsGood}
 use Rattle.solomon_reader.proofs.Completions.{completes_relaxed, relaxed_completes, value_is}
-use Rattle.tree_bound.specs.Cover.{IsAtMost, Witness, IsCovered, CoversAfter, CoversAll, IsFound, or_zero}
+use Rattle.tree_bound.specs.Cover.{IsAtMost, Witness, IsCovered, CoversAfter, CoversAll, IsFound, IsDear, IsLeastBelow}
 use Rattle.solomon_reader.proofs.Goodness.{completes_too, value_no_greater}
 
 pub at_most_more : (b : Option ℤ) (y z : ℤ) → y ≤ℤ z → IsAtMost b y → IsAtMost b z
@@ -15,6 +15,10 @@ at_most_more None y z le h = absurd h
 at_most_more (Some m) y z le h = omega (arith, ints, le, h)
 
 module _ (p : Problem) (g : Region) (k : ℕ) (prices : List ℤ) where
+  -- what may come after y may come after x, which is as good
+  pub dear_good : (b : Option ℤ) (x y : State) → IsAsGood x y → IsDear p g k prices b x → IsDear p g k prices b y
+  dear_good b x y good h = record { dear = λ s completes. at_most_more b _ _ (value_no_greater p g k prices s x y good) (h.dear s (completes_too p g k prices s x y good completes)) }
+
   -- something as good as the witness waits afterwards
   witness_moved : (c : Option ℤ) (Before After : State → Type 0) (z : ℤ) (n : ℕ) (w : Witness p g k prices Before z n)
       → ((t : State) × (After t × IsAsGood t w.state)) → IsCovered p g k prices c After z n
@@ -36,24 +40,25 @@ module _ (p : Problem) (g : Region) (k : ℕ) (prices : List ℤ) where
     | inr w ↦ witness_moved c Before After _ _ w (moved w.state w.waits)
   ]
 
-  -- x was worked: its end was counted, and for each of its steps something as good waits
+  -- x was worked: its end was counted, and for each of its steps something as good waits or needn't
   module _ (b c : Option ℤ) (Before After : State → Type 0) (x : State)
       (lower : (y : ℤ) → IsAtMost b y → IsAtMost c y)
       (counted : CanEnd p g x → IsAtMost c (value_with p k prices x []))
-      (spread : (j : ℕ) → CanStep p g x j → (t : State) × (After t × IsAsGood t (step p k prices x j)))
+      (spread : (j : ℕ) → CanStep p g x j → ((t : State) × (After t × IsAsGood t (step p k prices x j))) ⊎ IsDear p g k prices c (step p k prices x j))
       (others : (a : State) → Before a → (a ≡ x) ⊎ ((t : State) × (After t × IsAsGood t a))) where
     at_x : (z : ℤ) (n : ℕ) (s : List ℕ) → length s ≤ n → Completes p g k prices x s → value_with p k prices x s ≤ℤ z → IsCovered p g k prices c After z n
     at_x z n [] few h low = inl (at_most_more c _ z low (counted h))
-    at_x z n (j ∷ s) few h low =
-        let t = spread j h.0 in
-        inr (record {
-          state = t.0;
-          waits = t.1.0;
-          rest = s;
-          completes = completes_too p g k prices s t.0 (step p k prices x j) t.1.1 h.1;
-          short = omega (arith, few);
-          low = omega (arith, ints, low, value_no_greater p g k prices s t.0 (step p k prices x j) t.1.1);
-        })
+    at_x z n (j ∷ s) few h low = elim (spread j h.0) [
+      | inl t ↦ inr (record {
+        state = t.0;
+        waits = t.1.0;
+        rest = s;
+        completes = completes_too p g k prices s t.0 (step p k prices x j) t.1.1 h.1;
+        short = omega (arith, few);
+        low = omega (arith, ints, low, value_no_greater p g k prices s t.0 (step p k prices x j) t.1.1);
+      })
+      | inr beyond ↦ inl (at_most_more c _ z low (beyond.dear s h.1))
+    ]
 
     pub covers_itself : CoversAfter p g k prices c After x 0
     covers_itself s h = at_x _ _ s (omega arith) h (omega (arith, ints))
@@ -99,6 +104,17 @@ module _ (p : Problem) (g : Region) (k : ℕ) (prices : List ℤ) where
       ]
     ]
 
+  -- x is passed over: all that may come after it is dear
+  pub covers_dear : (b : Option ℤ) (Before After : State → Type 0) (x : State) → IsDear p g k prices b x → ((a : State) → Before a → (a ≡ x) ⊎ After a)
+      → (a : State) (more : ℕ) → CoversAfter p g k prices b Before a more → CoversAfter p g k prices b After a more
+  covers_dear b Before After x dear others a more covers s h = elim (covers s h) [
+    | inl low ↦ inl low
+    | inr w ↦ elim (others w.state w.waits) [
+      | inl same ↦ inl (at_most_more b _ _ (rw same at w.low) (dear.dear w.rest (rw same at w.completes)))
+      | inr still ↦ inr (record { state = w.state; waits = still; rest = w.rest; completes = w.completes; short = w.short; low = w.low })
+    ]
+  ]
+
   -- nothing waits any more
   module _ (Waits : State → Type 0) (none : (a : State) → ¬ Waits a) where
     at_most_each : (b : Option ℤ) → CoversAll p g k prices b Waits → (r : List ℕ) → IsRelaxed p g k r → IsAtMost b (reduced_cost p prices r)
@@ -107,9 +123,9 @@ module _ (p : Problem) (g : Region) (k : ℕ) (prices : List ℤ) where
       | inr w ↦ absurd (none w.state w.waits)
     ]
 
-    pub least_at_end : (b : Option ℤ) → CoversAll p g k prices b Waits → IsFound p g k prices b → IsLeastOrZero p g k prices (or_zero b)
-    least_at_end None covers found = inr (λ r relaxed. at_most_each None covers r relaxed, refl)
-    least_at_end (Some z) covers found = inl (record {
-      reached = (found.0, relaxed_completes p g k prices found.0 found.1.0, sym (value_is p g k prices found.0) ∙ found.1.1);
-      least = at_most_each (Some z) covers;
-    })
+    pub least_at_end : (limit b : Option ℤ) → CoversAll p g k prices b Waits → IsFound p g k prices limit b → IsLeastBelow p g k prices limit b
+    least_at_end limit b covers found = record { low = at_most_each b covers; found = by found }
+      where
+        by : IsFound p g k prices limit b → (b ≡ limit) ⊎ ((r : List ℕ) × (IsRelaxed p g k r × (b ≡ Some (reduced_cost p prices r))))
+        by (inl same) = inl same
+        by (inr h) = inr (h.0, (relaxed_completes p g k prices h.0 h.1.0, h.1.1 ∙ ap (λ (z : ℤ). Some z) (value_is p g k prices h.0)))

@@ -1,10 +1,7 @@
-pub mod Deciding
-pub mod Leading
 pub mod Buckets
 pub mod Stepping
 pub mod Working
 pub mod Valuing
 pub mod Bounding
 pub mod Covering
-pub mod Listing
-pub mod Remembered
+pub mod Existing

@@ -1,16 +1,18 @@
 -- The steps from a label.
-use Rattle.std.proofs.Common.{◌≡◌, refl, ℕ, ◌+◌, ◌<◌, ◌≤◌, true, List, [], ◌∷◌, ◌++◌, length, arith, ◌∙◌, inl, inr}
+use Rattle.std.proofs.Common.{◌≡◌, refl, ℕ, ◌+◌, ◌<◌, ◌≤◌, true, List, [], ◌∷◌, ◌++◌, length, arith, ◌∙◌, inl, inr, Option}
 use Rattle.std.specs.Prelude.{ℤ}
 use Rattle.std.proofs.lemmas.Bool.{cases_lt, cases_eq}
 use Rattle.solomon_reader.specs.Problem.{Problem, IsCustomer}
 use Rattle.solomon_reader.specs.Region.{Region, IsAllowed}
 use Rattle.solomon_reader.specs.States.{State, step, CanStep, IsAsGood, Reaches}
 use Rattle.solomon_reader.proofs.Completions.{reaches_more}
-use Rattle.tree_bound.specs.declared.arcs.AllowedArc.{AllowedArc}
+use Rattle.leaf_arcs.specs.declared.arcs.AllowedArc.{AllowedArc}
 use Rattle.tree_bound.specs.declared.label.Label.{Label}
-use Rattle.tree_bound.specs.Memories.{bit_in}
+use Rattle.leaf_arcs.specs.Memories.{bit_in}
 use Rattle.tree_bound.specs.Labels.{label_in, labels_at, state_of, Dominates, IsDominated, IsAdded, IsLabel, IsTable, IsMet, IsMoved}
-use Rattle.tree_bound.specs.Arcs.{arc_in, CanExtend, IsExtension, TakesStep, TakesSteps}
+use Rattle.leaf_arcs.specs.Arcs.{arc_in}
+use Rattle.tree_bound.specs.Steps.{CanExtend, IsExtension, IsCared, TakesStep, TakesSteps}
+use Rattle.tree_bound.specs.Cover.{IsDear}
 use Rattle.solomon_reader.proofs.Goodness.{good_itself, good_same, good_through, reaches_same}
 
 pub dominating_good : (p : Problem) (k q r : ℕ) → q ≤ r → (a b : Label) → Dominates a b → IsAsGood (state_of p k q a) (state_of p k r b)
@@ -32,15 +34,22 @@ met_through p k bs cs low a moved (t, h) = let on = moved t h.0 in (on.0, (on.1.
 pub moved_through : (p : Problem) (k : ℕ) (bs cs ds : List (List Label)) (low : ℕ) → IsMoved p k bs cs low → IsMoved p k cs ds low → IsMoved p k bs ds low
 moved_through p k bs cs ds low h e a w = met_through p k cs ds low a e (h a w)
 
-module _ (p : Problem) (g : Region) (k : ℕ) (prices : List ℤ) where
+module _ (p : Problem) (g : Region) (k : ℕ) (prices : List ℤ) (b : Option ℤ) where
+  cared_through : (bs cs : List (List Label)) (low : ℕ) (a : State) → IsMoved p k bs cs low → IsCared p g k prices b bs low a → IsCared p g k prices b cs low a
+  cared_through bs cs low a moved (inl met) = inl (met_through p k bs cs low a moved met)
+  cared_through bs cs low a moved (inr dear) = inr dear
+
   can_extend : (q : ℕ) (x : Label) (j : ℕ) → CanStep p g (state_of p k q x) j → CanExtend p k q x j
   can_extend q x j h = record { load = h.load; due = h.due; fresh = h.fresh }
 
-  can_step : (q : ℕ) (x : Label) (j : ℕ) → IsCustomer p j → IsAllowed g (x.customer, j) → CanExtend p k q x j → CanStep p g (state_of p k q x) j
+  pub can_step : (q : ℕ) (x : Label) (j : ℕ) → IsCustomer p j → IsAllowed g (x.customer, j) → CanExtend p k q x j → CanStep p g (state_of p k q x) j
   can_step q x j customer allowed h = record { customer = customer; allowed = allowed; load = h.load; due = h.due; fresh = h.fresh }
 
-  pub step_no : (bs : List (List Label)) (q : ℕ) (x : Label) (j : ℕ) → IsTable p g k prices bs (q + 1) → ¬ CanExtend p k q x j → TakesStep p g k prices bs bs q x j
+  pub step_no : (bs : List (List Label)) (q : ℕ) (x : Label) (j : ℕ) → IsTable p g k prices bs (q + 1) → ¬ CanExtend p k q x j → TakesStep p g k prices b bs bs q x j
   step_no bs q x j table cannot = record { moved = moved_none p k bs (q + 1); table = table; met = λ can. absurd (cannot (can_extend q x j can)) }
+
+  pub step_dear : (bs : List (List Label)) (q : ℕ) (x : Label) (j : ℕ) → IsTable p g k prices bs (q + 1) → IsDear p g k prices b (step p k prices (state_of p k q x) j) → TakesStep p g k prices b bs bs q x j
+  step_dear bs q x j table dear = record { moved = moved_none p k bs (q + 1); table = table; met = λ can. inr dear }
 
   -- y was kept at its load
   module _ (bs cs : List (List Label)) (q : ℕ) (x : Label) (load j : ℕ) (y : Label) (later : q + 1 ≤ load) (added : IsAdded bs cs load y) where
@@ -79,26 +88,26 @@ module _ (p : Problem) (g : Region) (k : ℕ) (prices : List ℤ) where
         ]
 
     pub step_yes : IsTable p g k prices bs (q + 1) → IsLabel p g k prices q x → IsCustomer p j → IsAllowed g (x.customer, j) → CanExtend p k q x j → IsExtension p k prices q x load j y
-        → TakesStep p g k prices bs cs q x j
+        → TakesStep p g k prices b bs cs q x j
     step_yes table pair customer allowed can extension = record {
       moved = moved_added;
       table = table_added table (record { bounded = extension.bounded; reached = (pair.reached.0 ++ (j ∷ []), reaches_same p g k prices _ _ _ extension.same reached) });
-      met = λ _. (let met = dominated_met p k cs (q + 1) load y later added.here.new in (met.0, (met.1.0, good_through _ _ _ met.1.1 (good_same _ _ extension.same))));
+      met = λ _. inl (let met = dominated_met p k cs (q + 1) load y later added.here.new in (met.0, (met.1.0, good_through _ _ _ met.1.1 (good_same _ _ extension.same))));
     }
       where
         reached : Reaches p g k prices (pair.reached.0 ++ (j ∷ [])) (step p k prices (state_of p k q x) j)
         reached = reaches_more p g k prices pair.reached.0 (state_of p k q x) j pair.reached.1 (can_step q x j customer allowed can)
 
-  pub steps_none : (bs : List (List Label)) (q : ℕ) (x : Label) (hs : List AllowedArc) → IsTable p g k prices bs (q + 1) → TakesSteps p g k prices bs bs q x hs 0
+  pub steps_none : (bs : List (List Label)) (q : ℕ) (x : Label) (hs : List AllowedArc) → IsTable p g k prices bs (q + 1) → TakesSteps p g k prices b bs bs q x hs 0
   steps_none bs q x hs table = record { moved = moved_none p k bs (q + 1); table = table; met = λ m w can. absurd (omega (arith, w)) }
 
-  pub steps_more : (bs cs ds : List (List Label)) (q : ℕ) (x : Label) (hs : List AllowedArc) (i : ℕ) → TakesSteps p g k prices bs cs q x hs i → TakesStep p g k prices cs ds q x (arc_in hs i).to
-      → TakesSteps p g k prices bs ds q x hs (i + 1)
+  pub steps_more : (bs cs ds : List (List Label)) (q : ℕ) (x : Label) (hs : List AllowedArc) (i : ℕ) → TakesSteps p g k prices b bs cs q x hs i → TakesStep p g k prices b cs ds q x (arc_in hs i).to
+      → TakesSteps p g k prices b bs ds q x hs (i + 1)
   steps_more bs cs ds q x hs i spread stepped = record {
     moved = moved_through p k bs cs ds (q + 1) spread.moved stepped.moved;
     table = stepped.table;
     met = λ m below can. elim (cases_lt m i) [
-      | inl less ↦ met_through p k cs ds (q + 1) _ stepped.moved (spread.met m less can)
+      | inl less ↦ cared_through cs ds (q + 1) _ stepped.moved (spread.met m less can)
       | inr more ↦ (let same : m ≡ i = omega (arith, below, more) in rw same (stepped.met (rw same at can)))
     ];
   }

@@ -1,12 +1,18 @@
 -- The value of a leaf from its parts.
-use Rattle.std.proofs.Common.{◌≡◌, refl, ℕ, zero, suc, ◌+◌, ◌*◌, ◌≤◌, List, [], ◌∷◌, get_or, arith, ap, sym, ◌∙◌}
-use Rattle.std.specs.Prelude.{ℤ, pos, negsuc, ◌+ℤ◌, ◌-ℤ◌, ◌*ℤ◌, ◌≤ℤ◌, ◌<ℤ◌, neg_ℤ, nat_abs}
+use Rattle.std.proofs.Common.{◌≡◌, refl, ℕ, zero, suc, ◌+◌, ◌*◌, ◌/◌, ◌≤◌, min, Bool, true, List, [], ◌∷◌, length, get_or, subst, arith, ap, sym, ◌∙◌, ◌⊎◌, inl, inr, Option, Some, None}
+use Rattle.std.specs.Prelude.{ℤ, pos, negsuc, ◌+ℤ◌, ◌-ℤ◌, ◌*ℤ◌, ◌≤ℤ◌, ◌<ℤ◌, neg_ℤ, nat_abs, IfSome}
 use Rattle.std.specs.List.{AllByRecursion}
 use Rattle.std.specs.Int.{int_min, int_max}
 use Rattle.std.proofs.Math.IntN.{*ℤ-zero}
+use Rattle.std.proofs.Math.Nat.{mul-le-mul_left}
 use Rattle.std.proofs.lemmas.Int.{ints, clamps}
 use Rattle.solomon_reader.specs.CertificateText.{IsPrice}
-use Rattle.tree_bound.specs.Grains.{up, down}
+use Rattle.solomon_reader.specs.Problem.{Problem, customer_count}
+use Rattle.solomon_reader.specs.Region.{Region}
+use Rattle.solomon_reader.specs.Relaxed.{int_sum}
+use Rattle.solomon_reader.specs.Bound.{Version, grains_of, routes_counted, IsRoundedUp}
+use Rattle.tree_bound.specs.Cover.{IsSought}
+use Rattle.tree_bound.specs.Grains.{up, down, IsWorth, IsLesserValue}
 
 pub price_small : (prices : List ℤ) (k : ℕ) → AllByRecursion IsPrice prices → nat_abs (get_or prices k (pos 0)) ≤ 1000000000000
 price_small [] k all = omega arith
@@ -57,3 +63,85 @@ abs_above (negsuc n) h = absurd (omega (arith, ints))
 pub abs_below : (z : ℤ) → z <ℤ pos 0 → z ≡ neg_ℤ (pos (nat_abs z))
 abs_below (pos n) h = absurd (omega (arith, ints))
 abs_below (negsuc n) h = refl
+
+-- each number of grains can be rounded up
+rounded : (z : ℤ) → (v : ℕ) × IsRoundedUp z v
+rounded (pos n) = ((n + 999) / 1000, record { covers = omega (arith, ints); least = λ w h. omega (arith, ints, h) })
+rounded (negsuc n) = (0, record { covers = omega (arith, ints); least = λ w h. omega (arith) })
+
+down_falls : (l m : ℤ) → l ≤ℤ m → down m ≤ down l
+down_falls (pos a) (pos b) le = omega arith
+down_falls (pos a) (negsuc b) le = absurd (omega (arith, ints, le))
+down_falls (negsuc a) (pos b) le = omega arith
+down_falls (negsuc a) (negsuc b) le = omega (arith, ints, le)
+
+up_grows : (l m : ℤ) → l ≤ℤ m → up l ≤ up m
+up_grows (pos a) (pos b) le = omega (arith, ints, le)
+up_grows (pos a) (negsuc b) le = absurd (omega (arith, ints, le))
+up_grows (negsuc a) (pos b) le = omega arith
+up_grows (negsuc a) (negsuc b) le = omega arith
+
+sides : (z : ℤ) → pos (up z) -ℤ pos (down z) ≡ z
+sides (pos n) = omega (arith, ints)
+sides (negsuc n) = omega (arith, ints)
+
+module _ (version : Version) (p : Problem) (prices : List ℤ) where
+  -- a greater least reduced cost is worth no less
+  grains_grow : (l m : ℤ) → l ≤ℤ m → grains_of version p prices l ≤ℤ grains_of version p prices m
+  grains_grow l m le =
+      let less : p.fleet * down m ≤ p.fleet * down l = mul-le-mul_left p.fleet (down_falls l m le) in
+      let more : routes_counted version p * up l ≤ routes_counted version p * up m = mul-le-mul_left (routes_counted version p) (up_grows l m le) in
+      let at_l = grains_are p.fleet (routes_counted version p) (up (int_sum prices)) (down (int_sum prices)) (int_sum prices) l (sides (int_sum prices)) in
+      let at_m = grains_are p.fleet (routes_counted version p) (up (int_sum prices)) (down (int_sum prices)) (int_sum prices) m (sides (int_sum prices)) in
+      subst (λ (z : ℤ). z ≤ℤ grains_of version p prices m) at_l (subst (λ (z : ℤ). (pos (up (int_sum prices) + routes_counted version p * up l) -ℤ pos (down (int_sum prices) + p.fleet * down l)) ≤ℤ z) at_m
+      (omega (arith, ints, less, more)))
+
+  value_grows : (l m : ℤ) (v w : ℕ) → l ≤ℤ m → IsRoundedUp (grains_of version p prices l) v → IsRoundedUp (grains_of version p prices m) w → v ≤ w
+  value_grows l m v w le low high = low.least w (omega (arith, ints, grains_grow l m le, high.covers))
+
+  same_value : (l : ℤ) (v w : ℕ) → IsRoundedUp (grains_of version p prices l) v → IsRoundedUp (grains_of version p prices l) w → v ≡ w
+  same_value l v w first second = omega (arith, first.least w second.covers, second.least v first.covers)
+
+  -- where no routes are counted on, no leaf is worth more than one without relaxed routes
+  bare_most : (l : ℤ) (v bare : ℕ) → routes_counted version p ≡ 0 → IsRoundedUp (grains_of version p prices l) v → IsRoundedUp (grains_of version p prices (pos 0)) bare → v ≤ bare
+  bare_most (negsuc n) v bare none is bare_is = value_grows (negsuc n) (pos 0) v bare (omega (arith, ints)) is bare_is
+  bare_most (pos n) v bare none is bare_is = omega (arith, same_value (pos 0) v bare (subst (λ (z : ℤ). IsRoundedUp z v) same is) bare_is)
+    where
+      at : (l : ℤ) → pos (up (int_sum prices) + routes_counted version p * up l) -ℤ pos (down (int_sum prices) + p.fleet * down l) ≡ grains_of version p prices l
+      at l = grains_are p.fleet (routes_counted version p) (up (int_sum prices)) (down (int_sum prices)) (int_sum prices) l (sides (int_sum prices))
+
+      lost : (m : ℕ) → routes_counted version p * m ≡ 0
+      lost m = rw none (omega arith)
+
+      same : grains_of version p prices (pos n) ≡ grains_of version p prices (pos 0)
+      same = sym (at (pos n)) ∙ (omega (arith, ints, lost n, lost 0) ∙ at (pos 0))
+
+  -- the lesser of a number and a leaf's value, by what was found of the least reduced cost
+  module _ (g : Region) (k : ℕ) (most kept bare : ℕ) (limit : Option ℤ) (flag : Bool) (found : Option ℤ) (count : length prices ≡ customer_count p)
+      (bare_is : IsRoundedUp (grains_of version p prices (pos 0)) bare) (kept_is : ((routes_counted version p ≡ 0) × (kept ≡ min most bare)) ⊎ (kept ≡ most))
+      (sought : IsSought p g k prices limit flag found) where
+    same_lesser : (v : ℕ) → IsRoundedUp (grains_of version p prices sought.least) v → min kept v ≡ min most v
+    same_lesser v is = elim kept_is [
+      | inl h ↦ omega (arith, h.1, bare_most sought.least v bare h.0 is bare_is)
+      | inr h ↦ omega (arith, h)
+    ]
+
+    pub lesser_some : (z : ℤ) (v : ℕ) → found ≡ Some z → IsRoundedUp (grains_of version p prices z) v → IsLesserValue version p g k prices most (min kept v)
+    lesser_some z v e is =
+        let here : IsRoundedUp (grains_of version p prices sought.least) v = subst (λ (y : ℤ). IsRoundedUp (grains_of version p prices y) v) (sym (sought.some z e)) is in
+        record { value = v; is_value = record { priced = count; least = sought.least; is_least = sought.is_least; rounded = here }; lesser = same_lesser v here }
+
+    pub lesser_none : found ≡ None → IfSome limit (λ t. IsWorth version p prices t kept) → (flag ≡ true → kept ≤ bare) → IsLesserValue version p g k prices most kept
+    lesser_none e worth harmless =
+        let v = rounded (grains_of version p prices sought.least) in
+        record {
+          value = v.0;
+          is_value = record { priced = count; least = sought.least; is_least = sought.is_least; rounded = v.1 };
+          lesser = omega (arith, same_lesser v.0 v.1, high v.0 v.1);
+        }
+      where
+        high : (v : ℕ) → IsRoundedUp (grains_of version p prices sought.least) v → kept ≤ v
+        high v is = let h = sought.none e in elim h.1.1 [
+          | inl above ↦ (let e = h.1.0 in let w = rw e at worth in omega (arith, w.high, value_grows h.0 sought.least w.value v above w.rounded is))
+          | inr bare_too ↦ omega (arith, harmless bare_too.0, same_value (pos 0) v bare (subst (λ (y : ℤ). IsRoundedUp (grains_of version p prices y) v) bare_too.1 is) bare_is)
+        ]

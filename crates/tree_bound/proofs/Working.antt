@@ -2,36 +2,38 @@
 use Rattle.std.proofs.Common.{◌≡◌, refl, ℕ, ◌+◌, ◌<◌, ◌≤◌, true, false, List, [], ◌++◌, length, subst, arith, ap, sym, ◌∙◌, ◌⊎◌, inl, inr, Option, Some, None, replicate, ◌∷◌}
 use Rattle.std.specs.Prelude.{ℤ, pos}
 use Rattle.std.specs.List.{AllByRecursion}
+use Rattle.std.specs.Option.{is_some}
 use Rattle.std.proofs.Math.ListN.{set, length-set}
 use Rattle.std.proofs.lemmas.Int.{ints}
 use Rattle.std.proofs.lemmas.Bool.{cases_lt, cases_eq}
 use Rattle.std.proofs.lemmas.List.{get_or_past, get_or-set_other, get_or-replicate, length-replicate}
 use Rattle.std.proofs.lemmas.List.Elements.{All-from_recursion, All-weaker}
-use Rattle.solomon_reader.specs.Problem.{Problem, customer_count, ready}
+use Rattle.solomon_reader.specs.Problem.{Problem, IsCustomer, customer_count, ready}
 use Rattle.solomon_reader.specs.Layout.{IsWithinLimits}
-use Rattle.solomon_reader.specs.Region.{Region}
-use Rattle.solomon_reader.specs.Relaxed.{IsLeastOrZero}
+use Rattle.solomon_reader.specs.Region.{Region, IsAllowed}
+use Rattle.solomon_reader.specs.Relaxed.{IsRelaxed}
 use Rattle.solomon_reader.specs.States.{State, start, step, CanStep, CanEnd, IsAsGood, IsSameState}
 use Rattle.solomon_reader.specs.CertificateText.{IsPrice}
 use Rattle.solomon_reader.proofs.BoundedRows.{customer_row}
-use Rattle.solomon_reader.proofs.Completions.{reaches_none}
-use Rattle.tree_bound.specs.declared.arcs.AllowedArc.{AllowedArc}
+use Rattle.solomon_reader.proofs.Completions.{reaches_none, relaxed_completes}
+use Rattle.leaf_arcs.specs.declared.arcs.AllowedArc.{AllowedArc}
 use Rattle.tree_bound.specs.declared.label.Label.{Label}
-use Rattle.tree_bound.specs.Cover.{IsAtMost, IsFound, or_zero}
-use Rattle.tree_bound.specs.Memories.{bit_in}
+use Rattle.tree_bound.specs.Cover.{IsAtMost, IsFound, IsDear, IsLeastBelow}
+use Rattle.leaf_arcs.specs.Memories.{bit_in}
 use Rattle.tree_bound.specs.Labels.{label_in, labels_at, state_of, IsBounded, IsLabel, IsTable, AreLabels, IsDominated, IsKept, Waits, IsMet}
-use Rattle.tree_bound.specs.Arcs.{IsPriced, IsPricing, AreAllowedArcs, arc_in, TakesSteps, ClosesRoute, IsDone, IsSettled, AreSettled, Remains, IsPassed, IsWorked, IsSwept, route_value}
-use Rattle.solomon_reader.proofs.Goodness.{good_itself, good_same, reaches_same, completes_too, value_no_greater}
+use Rattle.leaf_arcs.specs.Arcs.{IsPriced, IsPricing, AreAllowedArcs, arc_in}
+use Rattle.tree_bound.specs.Steps.{CanExtend, IsExtension, IsCared, TakesSteps, ClosesRoute, IsDone, IsSettled, AreSettled, Remains, IsPassed, IsWorked, IsSwept, route_value}
+use Rattle.solomon_reader.proofs.Goodness.{good_itself, good_same, good_back, reaches_same, completes_too, value_no_greater}
 use Rattle.tree_bound.proofs.Buckets.{first_kept}
-use Rattle.tree_bound.proofs.Covering.{covers_moved, covers_itself, covers_worked, covers_passed, least_at_end}
-use Rattle.tree_bound.proofs.Stepping.{dominating_good}
-use Rattle.tree_bound.proofs.Leading.{leads_index}
-use Rattle.tree_bound.proofs.Remembered.{has_nothing}
+use Rattle.tree_bound.proofs.Covering.{covers_moved, covers_itself, covers_worked, covers_passed, covers_dear, least_at_end}
+use Rattle.tree_bound.proofs.Stepping.{dominating_good, can_step}
+use Rattle.leaf_arcs.proofs.Leading.{leads_index}
+use Rattle.leaf_arcs.proofs.Remembered.{has_nothing}
 
 module _ (p : Problem) (g : Region) (k : ℕ) (prices : List ℤ) where
   -- all steps of a row were taken
   pub done_of : (bs cs : List (List Label)) (q : ℕ) (x : Label) (b c : Option ℤ) (hs : List AllowedArc) → AreAllowedArcs p g k prices x.customer (length p.rows) hs
-      → ClosesRoute p g k q x b c → TakesSteps p g k prices bs cs q x hs (length hs) → IsDone p g k prices bs cs q x b c
+      → ClosesRoute p g k q x b c → TakesSteps p g k prices c bs cs q x hs (length hs) → IsDone p g k prices bs cs q x b c
   done_of bs cs q x b c hs arcs closes steps = record {
     closes = closes;
     moved = steps.moved;
@@ -39,8 +41,8 @@ module _ (p : Problem) (g : Region) (k : ℕ) (prices : List ℤ) where
     met = λ j can. (let m = leads_index hs j (arcs.all j (omega (arith, can.customer.1, can.customer.0)) can.customer can.allowed) in at m.0 j m.1.0 m.1.1 can);
   }
     where
-      at : (m j : ℕ) → m < length hs → (arc_in hs m).to ≡ j → CanStep p g (state_of p k q x) j → IsMet p k cs (q + 1) (step p k prices (state_of p k q x) j)
-      at m j w e can = subst (λ (n : ℕ). IsMet p k cs (q + 1) (step p k prices (state_of p k q x) n)) e (steps.met m w (subst (λ (n : ℕ). CanStep p g (state_of p k q x) n) (sym e) can))
+      at : (m j : ℕ) → m < length hs → (arc_in hs m).to ≡ j → CanStep p g (state_of p k q x) j → IsCared p g k prices c cs (q + 1) (step p k prices (state_of p k q x) j)
+      at m j w e can = subst (λ (n : ℕ). IsCared p g k prices c cs (q + 1) (step p k prices (state_of p k q x) n)) e (steps.met m w (subst (λ (n : ℕ). CanStep p g (state_of p k q x) n) (sym e) can))
 
   -- what is settled stays so, as the others are worked
   pub settled_moved : (b c : Option ℤ) (Before After : State → Type 0) → ((y : ℤ) → IsAtMost b y → IsAtMost c y)
@@ -50,7 +52,24 @@ module _ (p : Problem) (g : Region) (k : ℕ) (prices : List ℤ) where
       let s = settled m w active in
       record { load = s.load; low = omega (arith, s.low, more); covers = covers_moved p g k prices b c Before After lower moved _ 0 s.covers }
 
-  module _ (bs : List (List Label)) (ds : List Label) (q : ℕ) (xs : List Label) (i : ℕ) (b : Option ℤ) (so_far : IsWorked p g k prices bs ds q xs i b) where
+  bare : (n q : ℕ) → labels_at (replicate n []) q ≡ []
+  bare n q = elim (cases_lt q n) [
+    | inl low ↦ get_or-replicate n q [] [] low
+    | inr high ↦ get_or_past (replicate n []) q [] (omega (arith, high, length-replicate {A = List Label} n []))
+  ]
+
+  -- the table before anything is kept
+  pub bare_table : IsTable p g k prices (replicate (p.capacity + 1) []) 1
+  bare_table = record {
+    count = length-replicate (p.capacity + 1) [];
+    each = λ q m late w active. absurd (omega (arith, ap (λ (xs : List Label). length xs) (bare (p.capacity + 1) q), w));
+  }
+
+  pub start_label : (x : Label) → IsSameState (state_of p k 0 x) (start p) → IsBounded p 0 x → IsLabel p g k prices 0 x
+  start_label x same bounded = record { bounded = bounded; reached = ([], reaches_same p g k prices [] _ _ same (reaches_none p g k prices)) }
+
+module _ (p : Problem) (g : Region) (k : ℕ) (prices : List ℤ) (limit : Option ℤ) where
+  module _ (bs : List (List Label)) (ds : List Label) (q : ℕ) (xs : List Label) (i : ℕ) (b : Option ℤ) (so_far : IsWorked p g k prices limit bs ds q xs i b) where
     -- what remains is the label at i, or remains behind it
     remains_behind : (cs : List (List Label)) → ((a : State) → Waits p k bs (q + 1) a → IsMet p k cs (q + 1) a) → (a : State) → Remains p k bs q xs i a
         → (a ≡ state_of p k q (label_in xs i)) ⊎ ((t : State) × (Remains p k cs q xs (i + 1) t × IsAsGood t a))
@@ -61,11 +80,11 @@ module _ (p : Problem) (g : Region) (k : ℕ) (prices : List ℤ) where
     ]
 
     -- the label at i doesn't stand
-    worked_skip : (label_in xs i).active ≡ false → IsWorked p g k prices bs ds q xs (i + 1) b
+    worked_skip : (label_in xs i).active ≡ false → IsWorked p g k prices limit bs ds q xs (i + 1) b
     worked_skip dead = record {
       table = so_far.table;
       covers = covers_moved p g k prices b b (Remains p k bs q xs i) (Remains p k bs q xs (i + 1)) (λ y h. h) (λ a h. (a, (on a h, good_itself a))) _ 1 so_far.covers;
-      settled = settled_moved b b (Remains p k bs q xs i) (Remains p k bs q xs (i + 1)) (λ y h. h) (λ a h. (a, (on a h, good_itself a))) q q (omega arith) ds so_far.settled;
+      settled = settled_moved p g k prices b b (Remains p k bs q xs i) (Remains p k bs q xs (i + 1)) (λ y h. h) (λ a h. (a, (on a h, good_itself a))) q q (omega arith) ds so_far.settled;
       found = so_far.found;
     }
       where
@@ -76,15 +95,23 @@ module _ (p : Problem) (g : Region) (k : ℕ) (prices : List ℤ) where
           | inr apart ↦ inr (record { index = s.index; late = omega (arith, s.late, apart); within = s.within; active = s.active; is = s.is })
         ]
 
+    -- what remains is the label at i, or remains without it
+    only : (a : State) → Remains p k bs q xs i a → (a ≡ state_of p k q (label_in xs i)) ⊎ Remains p k bs q xs (i + 1) a
+    only a (inl h) = inr (inl h)
+    only a (inr s) = elim (cases_eq s.index i) [
+      | inl same ↦ inl (sym (rw same at s.is))
+      | inr apart ↦ inr (inr (record { index = s.index; late = omega (arith, s.late, apart); within = s.within; active = s.active; is = s.is }))
+    ]
+
     -- a settled label dominates the one at i
-    worked_dominated : IsDominated ds (label_in xs i) → IsWorked p g k prices bs ds q xs (i + 1) b
+    worked_dominated : IsDominated ds (label_in xs i) → IsWorked p g k prices limit bs ds q xs (i + 1) b
     worked_dominated dominated = record {
       table = so_far.table;
-      covers = covers_passed p g k prices b (Remains p k bs q xs i) (Remains p k bs q xs (i + 1)) x y good settled.covers on _ 1 so_far.covers;
+      covers = covers_passed p g k prices b (Remains p k bs q xs i) (Remains p k bs q xs (i + 1)) x y good settled.covers only _ 1 so_far.covers;
       settled = λ m w active. (let s = so_far.settled m w active in record {
         load = s.load;
         low = s.low;
-        covers = covers_passed p g k prices b (Remains p k bs q xs i) (Remains p k bs q xs (i + 1)) x y good settled.covers on _ 0 s.covers;
+        covers = covers_passed p g k prices b (Remains p k bs q xs i) (Remains p k bs q xs (i + 1)) x y good settled.covers only _ 0 s.covers;
       });
       found = so_far.found;
     }
@@ -101,19 +128,26 @@ module _ (p : Problem) (g : Region) (k : ℕ) (prices : List ℤ) where
         good : IsAsGood y x
         good = dominating_good p k settled.load q settled.low _ _ dominated.good
 
-        on : (a : State) → Remains p k bs q xs i a → (a ≡ x) ⊎ Remains p k bs q xs (i + 1) a
-        on a (inl h) = inr (inl h)
-        on a (inr s) = elim (cases_eq s.index i) [
-          | inl same ↦ inl (sym (rw same at s.is))
-          | inr apart ↦ inr (inr (record { index = s.index; late = omega (arith, s.late, apart); within = s.within; active = s.active; is = s.is }))
-        ]
+    -- all that may come after the label at i is dear
+    worked_dear : IsDear p g k prices b (state_of p k q (label_in xs i)) → IsWorked p g k prices limit bs ds q xs (i + 1) b
+    worked_dear dear = record {
+      table = so_far.table;
+      covers = covers_dear p g k prices b (Remains p k bs q xs i) (Remains p k bs q xs (i + 1)) _ dear only _ 1 so_far.covers;
+      settled = λ m w active. (let s = so_far.settled m w active in record {
+        load = s.load;
+        low = s.low;
+        covers = covers_dear p g k prices b (Remains p k bs q xs i) (Remains p k bs q xs (i + 1)) _ dear only _ 0 s.covers;
+      });
+      found = so_far.found;
+    }
 
-    pub worked_passed : IsPassed ds (label_in xs i) → IsWorked p g k prices bs ds q xs (i + 1) b
+    pub worked_passed : IsPassed p g k prices b ds q (label_in xs i) → IsWorked p g k prices limit bs ds q xs (i + 1) b
     worked_passed (inl dead) = worked_skip dead
-    worked_passed (inr dominated) = worked_dominated dominated
+    worked_passed (inr (inl dominated)) = worked_dominated dominated
+    worked_passed (inr (inr dear)) = worked_dear dear
 
     pub worked_more : (cs : List (List Label)) (es : List Label) (c : Option ℤ) → IsLabel p g k prices q (label_in xs i) → IsDone p g k prices bs cs q (label_in xs i) b c
-        → IsKept ds es (label_in xs i) → IsWorked p g k prices cs es q xs (i + 1) c
+        → IsKept ds es (label_in xs i) → IsWorked p g k prices limit cs es q xs (i + 1) c
     worked_more cs es c pair done kept = record {
       table = done.table;
       covers = covers_worked p g k prices b c (Remains p k bs q xs i) (Remains p k cs q xs (i + 1)) x done.closes.lower done.closes.counted spread (remains_behind cs done.moved) _ 1 so_far.covers;
@@ -124,8 +158,11 @@ module _ (p : Problem) (g : Region) (k : ℕ) (prices : List ℤ) where
         x : State
         x = state_of p k q (label_in xs i)
 
-        spread : (j : ℕ) → CanStep p g x j → (t : State) × (Remains p k cs q xs (i + 1) t × IsAsGood t (step p k prices x j))
-        spread j can = let t = done.met j can in (t.0, (inl t.1.0, t.1.1))
+        spread : (j : ℕ) → CanStep p g x j → ((t : State) × (Remains p k cs q xs (i + 1) t × IsAsGood t (step p k prices x j))) ⊎ IsDear p g k prices c (step p k prices x j)
+        spread j can = elim (done.met j can) [
+          | inl t ↦ inl (t.0, (inl t.1.0, t.1.1))
+          | inr dear ↦ inr dear
+        ]
 
         here : IsSettled p g k prices c (Remains p k cs q xs (i + 1)) q (label_in xs i)
         here = record {
@@ -147,23 +184,23 @@ module _ (p : Problem) (g : Region) (k : ℕ) (prices : List ℤ) where
           | inr old ↦ rw old.1 (before m old.0 (rw (← old.1) active))
         ]
 
-        found : (c ≡ b) ⊎ (CanEnd p g x × (c ≡ Some (route_value p (label_in xs i)))) → IsFound p g k prices c
+        found : (c ≡ b) ⊎ (CanEnd p g x × (c ≡ Some (route_value p (label_in xs i)))) → IsFound p g k prices limit c
         found (inl same) = rw same so_far.found
-        found (inr h) = rw h.1 (pair.reached.0 ++ [], (pair.reached.1.completes [] h.0, pair.reached.1.value []))
+        found (inr h) = inr (pair.reached.0 ++ [], (pair.reached.1.completes [] h.0, h.1 ∙ ap (λ (z : ℤ). Some z) (sym (pair.reached.1.value []))))
 
   -- the labels of a load were taken out
-  module _ (bs : List (List Label)) (ds : List Label) (q : ℕ) (b : Option ℤ) (swept : IsSwept p g k prices bs ds q b) where
+  module _ (bs : List (List Label)) (ds : List Label) (q : ℕ) (b : Option ℤ) (swept : IsSwept p g k prices limit bs ds q b) where
     pub taken_pairs : AreLabels p g k prices q (labels_at bs q)
     taken_pairs = record { each = λ m w active. swept.table.each q m (omega arith) w active }
 
-    pub taken_worked : (ys : List Label) → IsWorked p g k prices (set bs q ys) ds q (labels_at bs q) 0 b
+    pub taken_worked : (ys : List Label) → IsWorked p g k prices limit (set bs q ys) ds q (labels_at bs q) 0 b
     taken_worked ys = record {
       table = record {
         count = length-set bs q ys ∙ swept.table.count;
         each = λ n m late w active. (let e = other n late in rw e (swept.table.each n m (omega (arith, late)) (rw e at w) (rw e at active)));
       };
       covers = covers_moved p g k prices b b (Waits p k bs q) (Remains p k (set bs q ys) q (labels_at bs q) 0) (λ y h. h) (λ a h. (a, (on a h, good_itself a))) _ 1 swept.covers;
-      settled = settled_moved b b (Waits p k bs q) (Remains p k (set bs q ys) q (labels_at bs q) 0) (λ y h. h) (λ a h. (a, (on a h, good_itself a))) q q (omega arith) ds swept.settled;
+      settled = settled_moved p g k prices b b (Waits p k bs q) (Remains p k (set bs q ys) q (labels_at bs q) 0) (λ y h. h) (λ a h. (a, (on a h, good_itself a))) q q (omega arith) ds swept.settled;
       found = swept.found;
     }
       where
@@ -177,11 +214,11 @@ module _ (p : Problem) (g : Region) (k : ℕ) (prices : List ℤ) where
               record { load = w.load; late = omega (arith, w.late, apart); index = w.index; within = rw e w.within; active = rw e w.active; is = rw e w.is })
         ]
 
-  pub swept_more : (bs : List (List Label)) (ds : List Label) (q : ℕ) (xs : List Label) (i : ℕ) (b : Option ℤ) → length xs ≤ i → IsWorked p g k prices bs ds q xs i b → IsSwept p g k prices bs ds (q + 1) b
+  pub swept_more : (bs : List (List Label)) (ds : List Label) (q : ℕ) (xs : List Label) (i : ℕ) (b : Option ℤ) → length xs ≤ i → IsWorked p g k prices limit bs ds q xs i b → IsSwept p g k prices limit bs ds (q + 1) b
   swept_more bs ds q xs i b all h = record {
     table = h.table;
     covers = covers_moved p g k prices b b (Remains p k bs q xs i) (Waits p k bs (q + 1)) (λ y h. h) (λ a h. (a, (on a h, good_itself a))) _ 1 h.covers;
-    settled = settled_moved b b (Remains p k bs q xs i) (Waits p k bs (q + 1)) (λ y h. h) (λ a h. (a, (on a h, good_itself a))) q (q + 1) (omega arith) ds h.settled;
+    settled = settled_moved p g k prices b b (Remains p k bs q xs i) (Waits p k bs (q + 1)) (λ y h. h) (λ a h. (a, (on a h, good_itself a))) q (q + 1) (omega arith) ds h.settled;
     found = h.found;
   }
     where
@@ -189,33 +226,17 @@ module _ (p : Problem) (g : Region) (k : ℕ) (prices : List ℤ) where
       on a (inl h) = h
       on a (inr s) = absurd (omega (arith, s.late, s.within, all))
 
-  pub least_swept : (bs : List (List Label)) (ds : List Label) (q : ℕ) (b : Option ℤ) → length bs ≤ q → IsSwept p g k prices bs ds q b → IsLeastOrZero p g k prices (or_zero b)
-  least_swept bs ds q b all h = least_at_end p g k prices (Waits p k bs q) none b h.covers h.found
+  pub least_swept : (bs : List (List Label)) (ds : List Label) (q : ℕ) (b : Option ℤ) → length bs ≤ q → IsSwept p g k prices limit bs ds q b → IsLeastBelow p g k prices limit b
+  least_swept bs ds q b all h = least_at_end p g k prices (Waits p k bs q) none limit b h.covers h.found
     where
       none : (a : State) → ¬ Waits p k bs q a
       none a w = let e : labels_at bs w.load ≡ [] = get_or_past bs w.load [] (omega (arith, w.late, all)) in omega (arith, ap (λ (xs : List Label). length xs) e, w.within)
 
-  bare : (n q : ℕ) → labels_at (replicate n []) q ≡ []
-  bare n q = elim (cases_lt q n) [
-    | inl low ↦ get_or-replicate n q [] [] low
-    | inr high ↦ get_or_past (replicate n []) q [] (omega (arith, high, length-replicate {A = List Label} n []))
-  ]
-
-  -- the table before anything is kept
-  pub bare_table : IsTable p g k prices (replicate (p.capacity + 1) []) 1
-  bare_table = record {
-    count = length-replicate (p.capacity + 1) [];
-    each = λ q m late w active. absurd (omega (arith, ap (λ (xs : List Label). length xs) (bare (p.capacity + 1) q), w));
-  }
-
   -- x is the empty beginning at the depot
   module _ (x : Label) (same : IsSameState (state_of p k 0 x) (start p)) where
-    pub start_label : IsBounded p 0 x → IsLabel p g k prices 0 x
-    start_label bounded = record { bounded = bounded; reached = ([], reaches_same p g k prices [] _ _ same (reaches_none p g k prices)) }
-
-    begun : x.active ≡ true → IsWorked p g k prices (replicate (p.capacity + 1) []) [] 0 (x ∷ []) 0 None
+    begun : x.active ≡ true → IsWorked p g k prices limit (replicate (p.capacity + 1) []) [] 0 (x ∷ []) 0 limit
     begun active = record {
-      table = bare_table;
+      table = bare_table p g k prices;
       covers = λ s h. inr (record {
         state = state_of p k 0 x;
         waits = inr (record { index = 0; late = omega arith; within = omega arith; active = active; is = refl });
@@ -225,16 +246,27 @@ module _ (p : Problem) (g : Region) (k : ℕ) (prices : List ℤ) where
         low = value_no_greater p g k prices s (state_of p k 0 x) (start p) (good_same _ _ same);
       });
       settled = λ m w active. absurd (omega (arith, w));
-      found = tt;
+      found = inl refl;
     }
 
-    pub swept_begun : (bs cs : List (List Label)) (c : Option ℤ) → bs ≡ replicate (p.capacity + 1) [] → x.active ≡ true → IsLabel p g k prices 0 x → IsDone p g k prices bs cs 0 x None c
-        → IsSwept p g k prices cs [] 1 c
+    pub swept_begun : (bs cs : List (List Label)) (c : Option ℤ) → bs ≡ replicate (p.capacity + 1) [] → x.active ≡ true → IsLabel p g k prices 0 x → IsDone p g k prices bs cs 0 x limit c
+        → IsSwept p g k prices limit cs [] 1 c
     swept_begun bs cs c bare_is active label done = forget (swept_more cs (x ∷ []) 0 (x ∷ []) 1 c (omega arith)
-        (worked_more (replicate (p.capacity + 1) []) [] 0 (x ∷ []) 0 None (begun active) cs (x ∷ []) c label (rw bare_is at done) (first_kept x active)))
+        (worked_more (replicate (p.capacity + 1) []) [] 0 (x ∷ []) 0 limit (begun active) cs (x ∷ []) c label (rw bare_is at done) (first_kept x active)))
       where
-        forget : IsSwept p g k prices cs (x ∷ []) 1 c → IsSwept p g k prices cs [] 1 c
+        forget : IsSwept p g k prices limit cs (x ∷ []) 1 c → IsSwept p g k prices limit cs [] 1 c
         forget h = record { table = h.table; covers = h.covers; settled = λ m w stands. absurd (omega (arith, w)); found = h.found }
+
+-- a customer that can be served alone is a relaxed route
+module _ (p : Problem) (g : Region) (k : ℕ) (prices : List ℤ) where
+  pub alone_relaxed : (x y : Label) (load j : ℕ) (c : Option ℤ) → IsSameState (state_of p k 0 x) (start p) → IsCustomer p j → IsAllowed g (x.customer, j) → CanExtend p k 0 x j → IsExtension p k prices 0 x load j y
+      → ClosesRoute p g k load y None c → is_some c ≡ true → IsRelaxed p g k (j ∷ [])
+  alone_relaxed x y load j None same customer allowed can extension closes closed = absurd (cc)
+  alone_relaxed x y load j (Some z) same customer allowed can extension closes closed = elim closes.from [
+    | inl bare ↦ absurd (cc)
+    | inr h ↦ relaxed_completes p g k prices (j ∷ []) (completes_too p g k prices (j ∷ []) (start p) (state_of p k 0 x) (good_back _ _ same)
+        (can_step p g k prices None 0 x j customer allowed can, completes_too p g k prices [] _ (state_of p k load y) (good_back _ _ extension.same) h.0))
+  ]
 
 -- the depot with an empty memory is the beginning
 pub start_same : (p : Problem) (k : ℕ) (x : Label) → x.customer ≡ 0 → x.time ≡ ready p 0 → x.cost ≡ pos 0 → x.memory ≡ 0 → IsSameState (state_of p k 0 x) (start p)

@@ -1,12 +1,13 @@
 -- The labels of the table as states.
 use Rattle.std.specs.Prelude.{◌≡◌, ◌≢◌, ℕ, ◌+◌, ◌*◌, ◌<◌, ◌≤◌, true, false, List, [], length, slice_index_or, ℤ, pos, ◌+ℤ◌, ◌≤ℤ◌, ◌⊎◌}
-use Rattle.solomon_reader.specs.declared.limits.TheConstants.{MOST_TIME, MOST_CAPACITY, MOST_PRICE, MOST_DISTANCE}
+use Rattle.solomon_reader.specs.declared.limits.TheConstants.{MOST_TIME, MOST_CAPACITY}
 use Rattle.solomon_reader.specs.Problem.{Problem}
 use Rattle.solomon_reader.specs.Region.{Region}
 use Rattle.solomon_reader.specs.States.{State, IsAsGood}
+use Rattle.leaf_arcs.specs.Arcs.{most_grains}
 use Rattle.tree_bound.specs.declared.label.Label.{Label}
 use Rattle.tree_bound.specs.Cover.{IsReached}
-use Rattle.tree_bound.specs.Memories.{has, memory_at}
+use Rattle.leaf_arcs.specs.Memories.{has, memory_at}
 
 abbrev pub blank : Label
 blank = record { customer = 0; memory = 0; time = 0; cost = pos 0; active = false }
@@ -60,10 +61,6 @@ pub record IsAdded (bs cs : List (List Label)) (load : ℕ) (x : Label) : Type 0
   pub same : length cs ≡ length bs
   pub others : (q : ℕ) → q ≢ load → labels_at cs q ≡ labels_at bs q
   pub here : IsKept (labels_at bs load) (labels_at cs load) x
-
--- the most that a stop adds to a reduced cost, or takes from it
-abbrev pub most_grains : ℕ
-most_grains = MOST_PRICE + 1000 * MOST_DISTANCE
 
 -- the numbers of a label are small; the reduced cost by its load, since each customer has a demand
 pub record IsBounded (p : Problem) (q : ℕ) (x : Label) : Type 0 where

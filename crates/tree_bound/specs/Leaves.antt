@@ -1,39 +1,20 @@
--- What is said of arcs, labels and the table, for a leaf.
-use Rattle.std.specs.Prelude.{ℕ, List, length, ℤ, Option}
-use Rattle.solomon_reader.specs.Problem.{Problem, customer_count}
-use Rattle.solomon_reader.specs.Region.{Region}
-use Rattle.solomon_reader.specs.States.{State}
-use Rattle.tree_bound.specs.declared.arcs.AllowedArc.{AllowedArc}
-use Rattle.tree_bound.specs.declared.arcs.ArcRow.{ArcRow}
+-- What is said of labels and the table, for a leaf.
+use Rattle.std.specs.Prelude.{ℕ, List, Bool, ℤ, Option}
+use Rattle.solomon_reader.specs.Relaxed.{IsRelaxed}
+use Rattle.solomon_reader.specs.States.{State, step}
+use Rattle.leaf_arcs.specs.declared.arcs.AllowedArc.{AllowedArc}
+use Rattle.leaf_arcs.specs.declared.leaf.Leaf.{Leaf}
+use Rattle.leaf_arcs.specs.Leaves.{problem_of, region_in}
 use Rattle.tree_bound.specs.declared.label.Label.{Label}
-use Rattle.tree_bound.specs.declared.leaf.Leaf.{Leaf}
-use Rattle.tree_bound.specs.Decisions.{region_of}
+use Rattle.tree_bound.specs.Cover.{IsDear, IsLeastBelow, IsSought}
 use Rattle.tree_bound.specs.Labels.{state_of, IsBounded, IsLabel, IsTable, AreLabels}
-use Rattle.tree_bound.specs.Arcs.{IsAllowedArc, AreAllowedArcs, IsArcRow, AreArcRows, CanExtend, IsExtension, TakesStep, TakesSteps, ClosesRoute, IsWorked, IsSwept, IsDone}
-
-abbrev pub problem_of : Leaf → Problem
-problem_of l = l.neighbours.now.instance.now
-
-abbrev pub region_in : Leaf → Region
-region_in l = region_of (customer_count (problem_of l)) l.path.now
+use Rattle.tree_bound.specs.Steps.{CanExtend, IsExtension, TakesStep, TakesSteps, ClosesRoute, IsWorked, IsSwept, IsDone, IsPassed}
 
 abbrev pub state_in : Leaf → ℕ → Label → State
 state_in l q x = state_of (problem_of l) l.neighbours.now.k q x
 
 abbrev pub IsBoundedIn : Leaf → ℕ → Label → Type 0
 IsBoundedIn l q x = IsBounded (problem_of l) q x
-
-abbrev pub IsArcIn : Leaf → ℕ → AllowedArc → Type 0
-IsArcIn l v a = IsAllowedArc (problem_of l) l.neighbours.now.k l.prices.now v a
-
-abbrev pub AreArcsIn : Leaf → ℕ → List AllowedArc → Type 0
-AreArcsIn l v arcs = AreAllowedArcs (problem_of l) (region_in l) l.neighbours.now.k l.prices.now v (length (problem_of l).rows) arcs
-
-abbrev pub IsRowIn : Leaf → ℕ → ArcRow → Type 0
-IsRowIn l v r = IsArcRow (problem_of l) (region_in l) l.neighbours.now.k l.prices.now v r
-
-abbrev pub AreRowsIn : Leaf → List ArcRow → Type 0
-AreRowsIn l rows = AreArcRows (problem_of l) (region_in l) l.neighbours.now.k l.prices.now rows
 
 abbrev pub CanExtendIn : Leaf → ℕ → Label → ℕ → Type 0
 CanExtendIn l q x j = CanExtend (problem_of l) l.neighbours.now.k q x j
@@ -50,11 +31,11 @@ AreLabelsIn l q xs = AreLabels (problem_of l) (region_in l) l.neighbours.now.k l
 abbrev pub IsTableIn : Leaf → List (List Label) → ℕ → Type 0
 IsTableIn l bs low = IsTable (problem_of l) (region_in l) l.neighbours.now.k l.prices.now bs low
 
-abbrev pub TakesStepIn : Leaf → List (List Label) → List (List Label) → ℕ → Label → ℕ → Type 0
-TakesStepIn l bs cs q x j = TakesStep (problem_of l) (region_in l) l.neighbours.now.k l.prices.now bs cs q x j
+abbrev pub TakesStepIn : Leaf → Option ℤ → List (List Label) → List (List Label) → ℕ → Label → ℕ → Type 0
+TakesStepIn l b bs cs q x j = TakesStep (problem_of l) (region_in l) l.neighbours.now.k l.prices.now b bs cs q x j
 
-abbrev pub TakesStepsIn : Leaf → List (List Label) → List (List Label) → ℕ → Label → List AllowedArc → ℕ → Type 0
-TakesStepsIn l bs cs q x arcs i = TakesSteps (problem_of l) (region_in l) l.neighbours.now.k l.prices.now bs cs q x arcs i
+abbrev pub TakesStepsIn : Leaf → Option ℤ → List (List Label) → List (List Label) → ℕ → Label → List AllowedArc → ℕ → Type 0
+TakesStepsIn l b bs cs q x arcs i = TakesSteps (problem_of l) (region_in l) l.neighbours.now.k l.prices.now b bs cs q x arcs i
 
 abbrev pub ClosesRouteIn : Leaf → ℕ → Label → Option ℤ → Option ℤ → Type 0
 ClosesRouteIn l q x b c = ClosesRoute (problem_of l) (region_in l) l.neighbours.now.k q x b c
@@ -63,7 +44,25 @@ abbrev pub IsDoneIn : Leaf → List (List Label) → List (List Label) → ℕ �
 IsDoneIn l bs cs q x b c = IsDone (problem_of l) (region_in l) l.neighbours.now.k l.prices.now bs cs q x b c
 
 abbrev pub IsWorkedIn : Leaf → List (List Label) → List Label → ℕ → List Label → ℕ → Option ℤ → Type 0
-IsWorkedIn l bs ds q xs i b = IsWorked (problem_of l) (region_in l) l.neighbours.now.k l.prices.now bs ds q xs i b
+IsWorkedIn l bs ds q xs i b = IsWorked (problem_of l) (region_in l) l.neighbours.now.k l.prices.now l.limit bs ds q xs i b
 
 abbrev pub IsSweptIn : Leaf → List (List Label) → List Label → ℕ → Option ℤ → Type 0
-IsSweptIn l bs ds q b = IsSwept (problem_of l) (region_in l) l.neighbours.now.k l.prices.now bs ds q b
+IsSweptIn l bs ds q b = IsSwept (problem_of l) (region_in l) l.neighbours.now.k l.prices.now l.limit bs ds q b
+
+abbrev pub IsPassedIn : Leaf → Option ℤ → List Label → ℕ → Label → Type 0
+IsPassedIn l b ds q x = IsPassed (problem_of l) (region_in l) l.neighbours.now.k l.prices.now b ds q x
+
+abbrev pub IsLeastBelowIn : Leaf → Option ℤ → Type 0
+IsLeastBelowIn l b = IsLeastBelow (problem_of l) (region_in l) l.neighbours.now.k l.prices.now l.limit b
+
+abbrev pub IsSoughtIn : Leaf → Bool → Option ℤ → Type 0
+IsSoughtIn l bare found = IsSought (problem_of l) (region_in l) l.neighbours.now.k l.prices.now l.limit bare found
+
+abbrev pub step_in : Leaf → ℕ → Label → ℕ → State
+step_in l q x j = step (problem_of l) l.neighbours.now.k l.prices.now (state_in l q x) j
+
+abbrev pub IsDearIn : Leaf → Option ℤ → State → Type 0
+IsDearIn l b a = IsDear (problem_of l) (region_in l) l.neighbours.now.k l.prices.now b a
+
+abbrev pub IsRelaxedIn : Leaf → List ℕ → Type 0
+IsRelaxedIn l r = IsRelaxed (problem_of l) (region_in l) l.neighbours.now.k r

@@ -1,8 +1,6 @@
-pub mod Decisions
-pub mod Memories
 pub mod Cover
 pub mod Labels
-pub mod Arcs
+pub mod Steps
 pub mod Leaves
 pub mod Grains
 pub mod Nodes

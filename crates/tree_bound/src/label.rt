@@ -3,7 +3,7 @@
 ghost use Rattle.std.specs.Prelude.{IsTrue};
 ghost use Rattle.tree_bound.specs.Labels.{Dominates};
 
-use crate::memory::is_subset;
+use leaf_arcs::is_subset;
 
 /// A pair of time and cost with a last customer and a memory. Its load is that of the bucket in which
 /// it stands.

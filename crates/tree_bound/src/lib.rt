@@ -1,21 +1,13 @@
-//! The bound of a certificate's tree. The least reduced cost of a leaf is found by a table of labels
-//! over last customer, load and memory.
+//! The bound of a certificate's tree: the least of all leaves' values, by a fold. Whether a leaf's value is
+//! less than the least so far is found by a table of labels over last customer, load and memory.
 #![tactic(auto)]
 
-mod arcs;
-mod bits;
 mod bucket;
-mod decision;
 mod fault;
 mod label;
-mod leaf;
-mod memory;
-mod neighbours;
-mod rows;
 mod setting;
 mod steps;
 mod table;
-mod task;
 mod tree;
 mod value;
 mod work;

@@ -5,8 +5,8 @@ ghost use Rattle.solomon_reader.specs.Bound.{ceiling_of, routes_counted};
 ghost use Rattle.solomon_reader.specs.declared.limits.TheConstants.{MOST_CUSTOMERS, MOST_DEMAND, MOST_DISTANCE};
 ghost use Rattle.certificate.specs.Text.{version_of};
 
-use crate::neighbours::Neighbours;
 use certificate::{Cert, Version};
+use leaf_arcs::{Neighbours, Slots};
 use solomon_reader::Instance;
 use std::alloc::{AllocError, Global};
 
@@ -14,6 +14,7 @@ use std::alloc::{AllocError, Global};
 #[derive(Drop)]
 pub struct Setting<'i> {
     pub(crate) neighbours: Neighbours<'i>,
+    pub(crate) slots: Slots,
     pub(crate) version: Version,
     /// How many routes the version counts on.
     pub(crate) routes: u32,
@@ -51,6 +52,7 @@ impl<'i> Setting<'i> {
         let parts = cert.parts();
         Ok(Setting {
             neighbours: Neighbours::new(alloc, instance, parts.neighbours as u8)?,
+            slots: Slots::new(alloc, instance)?,
             version: parts.version,
             routes: routes_counted(instance, parts.version),
             most: instance.ceiling().get() as u32 + 1,

@@ -1,19 +1,19 @@
 //! The steps from a label.
 
-ghost use Rattle.std.specs.Prelude.{◌≡◌, ◌↔◌, ◌+◌, ◌*◌, ◌<◌, ◌≤◌, length, true, IfOk, IsTrue};
+ghost use Rattle.std.specs.Prelude.{◌≡◌, ◌↔◌, ◌+◌, ◌*◌, ◌<◌, ◌≤◌, length, true, IfOk, IsTrue, ℤ, ◌+ℤ◌, ◌≤ℤ◌};
 ghost use Rattle.solomon_reader.specs.declared.limits.TheConstants.{MOST_TIME};
 ghost use Rattle.solomon_reader.specs.Problem.{demand};
 ghost use Rattle.solomon_reader.specs.Region.{IsAllowed};
 ghost use Rattle.solomon_reader.specs.States.{begins};
-ghost use Rattle.tree_bound.specs.Arcs.{route_value};
-ghost use Rattle.tree_bound.specs.Leaves.{problem_of, region_in, state_in, IsBoundedIn, IsArcIn, AreArcsIn, IsRowIn, CanExtendIn, IsExtensionIn, IsLabelIn, IsTableIn, TakesStepIn, TakesStepsIn, ClosesRouteIn};
+ghost use Rattle.tree_bound.specs.Steps.{route_value};
+ghost use Rattle.tree_bound.specs.Cover.{IsAtMost};
+ghost use Rattle.leaf_arcs.specs.Leaves.{problem_of, region_in, IsArcIn, AreArcsIn, IsRowIn};
+ghost use Rattle.tree_bound.specs.Leaves.{state_in, IsBoundedIn, CanExtendIn, IsExtensionIn, IsDearIn, step_in, IsLabelIn, IsTableIn, TakesStepIn, TakesStepsIn, ClosesRouteIn};
 
-use crate::arcs::{AllowedArc, ArcRow};
 use crate::fault::BoundFault;
 use crate::label::Label;
-use crate::leaf::Leaf;
-use crate::memory::contains;
 use crate::table::{Table, keep};
+use leaf_arcs::{AllowedArc, ArcRow, Leaf, Task, contains};
 
 /// When service at a further customer begins, in tenths.
 fn begins(leaf: &Leaf<'_, '_>, load: usize, label: &Label, arc: &AllowedArc) -> u64
@@ -26,7 +26,7 @@ fn begins(leaf: &Leaf<'_, '_>, load: usize, label: &Label, arc: &AllowedArc) -> 
 }
 
 /// Whether load, window and memory leave a step.
-fn can_extend(leaf: &Leaf<'_, '_>, load: usize, label: &Label, arc: &AllowedArc) -> bool
+pub(crate) fn can_extend(leaf: &Leaf<'_, '_>, load: usize, label: &Label, arc: &AllowedArc) -> bool
     requires bounded { IsBoundedIn leaf.now load label.now }
     requires arc { IsArcIn leaf.now label.now.customer arc.now }
     ensures { IsTrue result ↔ CanExtendIn leaf.now load label.now arc.now.to }
@@ -42,7 +42,7 @@ fn can_extend(leaf: &Leaf<'_, '_>, load: usize, label: &Label, arc: &AllowedArc)
 }
 
 /// The label with one more stop.
-fn extend(leaf: &Leaf<'_, '_>, load: usize, label: &Label, arc: &AllowedArc) -> Label
+pub(crate) fn extend(leaf: &Leaf<'_, '_>, load: usize, label: &Label, arc: &AllowedArc) -> Label
     requires bounded { IsBoundedIn leaf.now load label.now }
     requires arc { IsArcIn leaf.now label.now.customer arc.now }
     requires can { CanExtendIn leaf.now load label.now arc.now.to }
@@ -58,43 +58,98 @@ fn extend(leaf: &Leaf<'_, '_>, load: usize, label: &Label, arc: &AllowedArc) -> 
     }
 }
 
-/// Takes the step from a label over an arc.
+/// Whether the best so far is at most a cost with so much more.
+fn is_dear_with(best: Option<i64>, cost: i64, more: i64) -> bool
+    ensures { IsTrue result → (y : ℤ) → (cost +ℤ more) ≤ℤ y → IsAtMost best y }
+{
+    match (best, cost.checked_add(more)) {
+        (Some(best), Some(least)) => best <= least,
+        _ => false,
+    }
+}
+
+/// Whether all that may come after a label is dear: the floor says that it costs at least the best so far.
+pub(crate) fn is_dear(task: &Task<'_, '_>, load: usize, label: &Label, best: Option<i64>) -> bool
+    ensures { IsTrue result → IsDearIn task.now.leaf best (state_in task.now.leaf load label.now) }
+{
+    let neighbours = task.leaf.neighbours;
+    let (row, memory) = (label.customer, label.memory);
+    let Some(floor) = task.floor_at(row, label.time) else {
+        return false;
+    };
+    if !neighbours.recalls(row, memory, row) {
+        return false;
+    }
+    if neighbours.recalls(row, memory, floor.next) {
+        return is_dear_with(best, label.cost, floor.other);
+    }
+    is_dear_with(best, label.cost, floor.least)
+}
+
+/// Whether all that may come after the step over an arc is dear, whatever is remembered.
+fn is_dear_step(
+    task: &Task<'_, '_>,
+    load: usize,
+    label: &Label,
+    arc: &AllowedArc,
+    best: Option<i64>,
+) -> bool
+    requires bounded { IsBoundedIn task.now.leaf load label.now }
+    requires arc { IsArcIn task.now.leaf label.now.customer arc.now }
+    requires can { CanExtendIn task.now.leaf load label.now arc.now.to }
+    ensures { IsTrue result → IsDearIn task.now.leaf best (step_in task.now.leaf load label.now arc.now.to) }
+{
+    let time = begins(&task.leaf, load, label, arc) + arc.service;
+    let Some(floor) = task.floor_at(arc.to, time) else {
+        return false;
+    };
+    is_dear_with(best, label.cost + arc.value, floor.least)
+}
+
+/// Takes the step from a label over an arc, unless all that may come after it is dear.
 fn take_step(
-    leaf: &Leaf<'_, '_>,
+    task: &Task<'_, '_>,
     table: &mut Table,
     load: usize,
     label: &Label,
     arc: &AllowedArc,
+    best: Option<i64>,
 ) -> Result<(), BoundFault>
-    requires table { IsTableIn leaf.now table.old.buckets.items (load + 1) }
-    requires label { IsLabelIn leaf.now load label.now }
-    requires arc { IsArcIn leaf.now label.now.customer arc.now }
-    requires allowed { IsAllowed (region_in leaf.now) (label.now.customer, arc.now.to) }
-    ensures { IfOk result (λ _. TakesStepIn leaf.now table.old.buckets.items table.new.buckets.items load label.now arc.now.to) }
+    requires table { IsTableIn task.now.leaf table.old.buckets.items (load + 1) }
+    requires label { IsLabelIn task.now.leaf load label.now }
+    requires arc { IsArcIn task.now.leaf label.now.customer arc.now }
+    requires allowed { IsAllowed (region_in task.now.leaf) (label.now.customer, arc.now.to) }
+    ensures { IfOk result (λ _. TakesStepIn task.now.leaf best table.old.buckets.items table.new.buckets.items load label.now arc.now.to) }
 {
-    if !can_extend(leaf, load, label, arc) {
+    let leaf = &task.leaf;
+    if !can_extend(leaf, load, label, arc) || is_dear_step(task, load, label, arc, best) {
         return Ok(());
     }
     let longer = extend(leaf, load, label, arc);
-    keep(table, load + usize::from(arc.demand), &longer)?;
+    let load = load + usize::from(arc.demand);
+    if is_dear(task, load, &longer, best) {
+        return Ok(());
+    }
+    keep(table, load, &longer)?;
     Ok(())
 }
 
 /// Takes each step from a label.
 pub(crate) fn take_steps(
-    leaf: &Leaf<'_, '_>,
+    task: &Task<'_, '_>,
     table: &mut Table,
     load: usize,
     label: &Label,
     arcs: &[AllowedArc],
+    best: Option<i64>,
 ) -> Result<(), BoundFault>
-    requires table { IsTableIn leaf.now table.old.buckets.items (load + 1) }
-    requires label { IsLabelIn leaf.now load label.now }
-    requires arcs { AreArcsIn leaf.now label.now.customer arcs.now }
-    ensures { IfOk result (λ _. TakesStepsIn leaf.now table.old.buckets.items table.new.buckets.items load label.now arcs.now (length arcs.now)) }
+    requires table { IsTableIn task.now.leaf table.old.buckets.items (load + 1) }
+    requires label { IsLabelIn task.now.leaf load label.now }
+    requires arcs { AreArcsIn task.now.leaf label.now.customer arcs.now }
+    ensures { IfOk result (λ _. TakesStepsIn task.now.leaf best table.old.buckets.items table.new.buckets.items load label.now arcs.now (length arcs.now)) }
 {
     for arc in arcs {
-        take_step(leaf, table, load, label, arc)?;
+        take_step(task, table, load, label, arc, best)?;
     }
     Ok(())
 }

@@ -7,57 +7,46 @@ ghost use Rattle.solomon_reader.specs.CertificateText.{IsPrice};
 ghost use Rattle.solomon_reader.specs.Bound.{Tree, leaf, preorder, HasBound, IsTreeBound};
 ghost use Rattle.certificate.specs.Text.{version_of};
 ghost use Rattle.certificate.specs.Tree.{nodes_of};
-ghost use Rattle.tree_bound.specs.Decisions.{region_of};
+ghost use Rattle.leaf_arcs.specs.Decisions.{region_of};
 ghost use Rattle.tree_bound.specs.Nodes.{Begins, IsBoundOf};
 
-use crate::decision::Decision;
 use crate::fault::BoundFault;
 use crate::setting::Setting;
-use crate::value::leaf_value;
+use crate::value::lesser_value;
 use certificate::{Cert, CertNode};
+use leaf_arcs::Decision;
 use solomon_reader::Instance;
 use std::alloc::Global;
 use tenths::Tenths;
 
-/// The bound of a tree in tenths, and the index after its nodes.
+/// The least of a number of tenths and a tree's bound, and the index after the tree's nodes.
 #[derive(Clone, Copy, Debug)]
 struct Subtree {
     bound: u32,
     next: usize,
 }
 
-/// The least of the ceiling plus one and the value of a leaf.
-fn leaf_bound(
-    alloc: Global,
-    setting: &Setting<'_>,
-    path: &[Decision],
-    prices: &[i64],
-) -> Result<u32, BoundFault>
-    requires count { length prices.now ≡ customer_count setting.now.neighbours.instance.now }
-    requires priced { AllByRecursion IsPrice prices.now }
-    ensures { IfOk result (λ b. HasBound (version_of setting.now.version) setting.now.neighbours.instance.now setting.now.neighbours.k (region_of (customer_count setting.now.neighbours.instance.now) path.now) (leaf prices.now) b) }
-{
-    let value = leaf_value(alloc, setting, path, prices)?;
-    Ok(u128::from(setting.most).min(value) as u32)
-}
-
-/// The bound of the tree whose nodes begin at an index, below the decisions of a path.
+/// The lesser of a number of tenths and the bound of the tree whose nodes begin at an index, below the
+/// decisions of a path.
 fn bound_at(
     alloc: Global,
     setting: &Setting<'_>,
     nodes: &[CertNode],
     at: usize,
     path: &mut Vec<Decision>,
+    most: u32,
 ) -> Result<Subtree, BoundFault>
+    requires most { most ≤ setting.now.most }
     requires within { at < length nodes.now }
     requires begins { Begins (region_of (customer_count setting.now.neighbours.instance.now) path.old.items) (drop at (nodes_of nodes.now)) }
     ensures path { IfOk result (λ _. path.new.items ≡ path.old.items) }
     ensures onward { IfOk result (λ t. at < t.next) }
-    ensures bound { IfOk result (λ t. IsBoundOf (version_of setting.now.version) setting.now.neighbours.instance.now setting.now.neighbours.k (region_of (customer_count setting.now.neighbours.instance.now) path.old.items) (drop at (nodes_of nodes.now)) t.bound (drop t.next (nodes_of nodes.now))) }
+    ensures less { IfOk result (λ t. t.bound ≤ most) }
+    ensures bound { IfOk result (λ t. IsBoundOf (version_of setting.now.version) setting.now.neighbours.instance.now setting.now.neighbours.k (region_of (customer_count setting.now.neighbours.instance.now) path.old.items) (drop at (nodes_of nodes.now)) most t.bound (drop t.next (nodes_of nodes.now))) }
 {
     match &nodes[at] {
         CertNode::Leaf(prices) => {
-            let bound = leaf_bound(alloc, setting, path.as_slice(), prices.as_slice())?;
+            let bound = lesser_value(alloc, setting, path.as_slice(), prices.as_slice(), most)?;
             let next = at + 1;
             Ok(Subtree { bound, next })
         }
@@ -68,18 +57,16 @@ fn bound_at(
                 to: *to,
                 required: true,
             })?;
-            let used = bound_at(alloc, setting, nodes, at + 1, path)?;
+            let used = bound_at(alloc, setting, nodes, at + 1, path, most)?;
             path.truncate(depth);
             path.push(Decision {
                 from: *from,
                 to: *to,
                 required: false,
             })?;
-            let unused = bound_at(alloc, setting, nodes, used.next, path)?;
+            let unused = bound_at(alloc, setting, nodes, used.next, path, used.bound)?;
             path.truncate(depth);
-            let bound = used.bound.min(unused.bound);
-            let next = unused.next;
-            Ok(Subtree { bound, next })
+            Ok(unused)
         }
     }
 }
@@ -89,8 +76,9 @@ fn bound_at(
 /// ceiling, there is no plan.
 ///
 /// The value of a leaf follows from its prices and the least reduced cost of a relaxed route that the
-/// decisions on its path allow, as the certificate's version says. That cost is found by keeping, for
-/// each last customer, load and memory, the pairs of time and cost that no other dominates.
+/// decisions on its path allow, as the certificate's version says. Whether it is less than the least so
+/// far is found by keeping, for each last customer, load and memory, the pairs of time and cost that no
+/// other dominates, and from which a route may still come that lowers it.
 ///
 /// `state_limit` counts the kept pairs that stand at once for one leaf. A pair stands from when it is
 /// kept until it is found to be dominated; one that was worked stays, among the settled ones. The empty
@@ -108,6 +96,6 @@ pub fn bound(
     let setting = Setting::new(alloc, instance, cert, state_limit)?;
     let nodes = cert.parts().nodes.as_slice();
     let mut path = Vec::new(alloc);
-    let whole = bound_at(alloc, &setting, nodes, 0, &mut path)?;
+    let whole = bound_at(alloc, &setting, nodes, 0, &mut path, setting.most)?;
     Ok(Tenths::from(whole.bound))
 }

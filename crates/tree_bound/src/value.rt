@@ -1,22 +1,21 @@
 //! The value of a leaf.
 
-ghost use Rattle.std.specs.Prelude.{◌≡◌, ◌+◌, ◌*◌, ◌<◌, ◌≤◌, ◌^◌, length, IfOk, pos, ◌-ℤ◌};
+ghost use Rattle.std.specs.Prelude.{◌≡◌, ◌+◌, ◌*◌, ◌<◌, ◌≤◌, ◌^◌, ◌⊎◌, min, length, IfOk, IfSome, IsTrue, pos, ◌-ℤ◌};
 ghost use Rattle.std.specs.List.{AllByRecursion};
 ghost use Rattle.solomon_reader.specs.Problem.{customer_count};
 ghost use Rattle.solomon_reader.specs.Relaxed.{int_sum};
-ghost use Rattle.solomon_reader.specs.Bound.{IsRoundedUp, IsLeafValue};
+ghost use Rattle.solomon_reader.specs.Bound.{IsRoundedUp, grains_of};
 ghost use Rattle.solomon_reader.specs.CertificateText.{IsPrice};
 ghost use Rattle.solomon_reader.specs.declared.limits.TheConstants.{MOST_CUSTOMERS, MOST_PRICE};
 ghost use Rattle.certificate.specs.Text.{version_of};
 ghost use Rattle.tree_bound.specs.Cover.{or_zero};
-ghost use Rattle.tree_bound.specs.Decisions.{region_of};
-ghost use Rattle.tree_bound.specs.Grains.{up, down};
+ghost use Rattle.leaf_arcs.specs.Decisions.{region_of};
+ghost use Rattle.tree_bound.specs.Grains.{up, down, IsWorth, IsLesserValue};
 
-use crate::decision::Decision;
 use crate::fault::BoundFault;
-use crate::leaf::Leaf;
 use crate::setting::Setting;
 use crate::work::least;
+use leaf_arcs::{Decision, Leaf};
 use std::alloc::Global;
 
 /// A number of grains, as a difference.
@@ -81,26 +80,93 @@ fn round_up(sum: Difference, fleet: u16, routes: u32, least: Difference) -> u128
     above.saturating_sub(below).div_ceil(1000)
 }
 
-/// The value of the leaf with these decisions on its path and these prices, in tenths.
-pub(crate) fn leaf_value(
+/// The value of a leaf with these prices, in tenths, if this is its least reduced cost; `None` stands for 0.
+fn value_at(setting: &Setting<'_>, prices: &[i64], least: Option<i64>) -> u128
+    requires count { length prices.now ≡ customer_count setting.now.neighbours.instance.now }
+    requires priced { AllByRecursion IsPrice prices.now }
+    ensures { IsRoundedUp (grains_of (version_of setting.now.version) setting.now.neighbours.instance.now prices.now (or_zero least)) result }
+{
+    let instance = setting.neighbours.instance;
+    instance.law_of_limits();
+    let sum = sum_of(prices);
+    round_up(sum, instance.fleet(), setting.routes, difference_of(least))
+}
+
+/// About the least reduced cost with which a leaf's value is so many tenths: nothing is said of it.
+fn guess_limit(setting: &Setting<'_>, prices: &[i64], most: u32) -> i64
+    requires count { length prices.now ≡ customer_count setting.now.neighbours.instance.now }
+    requires priced { AllByRecursion IsPrice prices.now }
+{
+    let instance = setting.neighbours.instance;
+    instance.law_of_limits();
+    let sum = sum_of(prices);
+    let wanted = (1000 * u64::from(most) + sum.below).saturating_sub(999);
+    let fleet = u64::from(instance.fleet()).max(1);
+    if sum.above >= wanted {
+        let spare = (sum.above - wanted) / fleet;
+        return -(spare as i64);
+    }
+    let missing = (wanted - sum.above).div_ceil(u64::from(setting.routes).max(1));
+    missing as i64
+}
+
+/// A reduced cost with which a leaf's value is so many tenths or more.
+fn limit_of(setting: &Setting<'_>, prices: &[i64], most: u32) -> Option<i64>
+    requires count { length prices.now ≡ customer_count setting.now.neighbours.instance.now }
+    requires priced { AllByRecursion IsPrice prices.now }
+    ensures { IfSome result (λ t. IsWorth (version_of setting.now.version) setting.now.neighbours.instance.now prices.now t most) }
+{
+    let limit = Some(guess_limit(setting, prices, most));
+    if value_at(setting, prices, limit) >= u128::from(most) {
+        return limit;
+    }
+    None
+}
+
+/// A number of tenths; the lesser of it and the value that a leaf without relaxed routes has (`bare`) where
+/// no routes are counted on, since then no leaf with these prices has a greater value.
+fn lowered(setting: &Setting<'_>, most: u32, bare: u128) -> u32
+    ensures { ((setting.now.routes ≡ 0) × (result ≡ min most bare)) ⊎ (result ≡ most) }
+{
+    if setting.routes == 0 {
+        return u128::from(most).min(bare) as u32;
+    }
+    most
+}
+
+/// Whether a number of tenths is at most another one.
+fn is_within(most: u32, bare: u128) -> bool
+    ensures { IsTrue result → most ≤ bare }
+{
+    u128::from(most) <= bare
+}
+
+/// The lesser of a number of tenths and the value of the leaf with these decisions on its path and these
+/// prices. Where the value isn't less, it isn't found.
+pub(crate) fn lesser_value(
     alloc: Global,
     setting: &Setting<'_>,
     path: &[Decision],
     prices: &[i64],
-) -> Result<u128, BoundFault>
+    most: u32,
+) -> Result<u32, BoundFault>
     requires count { length prices.now ≡ customer_count setting.now.neighbours.instance.now }
     requires priced { AllByRecursion IsPrice prices.now }
-    ensures { IfOk result (λ v. IsLeafValue (version_of setting.now.version) setting.now.neighbours.instance.now (region_of (customer_count setting.now.neighbours.instance.now) path.now) setting.now.neighbours.k prices.now v) }
+    ensures { IfOk result (λ b. IsLesserValue (version_of setting.now.version) setting.now.neighbours.instance.now (region_of (customer_count setting.now.neighbours.instance.now) path.now) setting.now.neighbours.k prices.now most b) }
 {
     let instance = setting.neighbours.instance;
     instance.law_of_limits();
+    let bare = value_at(setting, prices, None);
+    let most = lowered(setting, most, bare);
     let leaf = Leaf {
         neighbours: &setting.neighbours,
         path,
         prices,
+        limit: limit_of(setting, prices, most),
     };
-    let found = least(alloc, leaf, setting.state_limit)?;
-    let least = difference_of(found);
-    let sum = sum_of(prices);
-    Ok(round_up(sum, instance.fleet(), setting.routes, least))
+    let found = least(alloc, setting, leaf, is_within(most, bare))?;
+    match found {
+        Some(_) => Ok(u128::from(most).min(value_at(setting, prices, found)) as u32),
+        None => Ok(most),
+    }
 }

@@ -1,19 +1,20 @@
 //! The least reduced cost of a leaf, by a table over last customer, load and memory.
 
-ghost use Rattle.std.specs.Prelude.{◌≡◌, ◌+◌, ◌<◌, ◌≤◌, length, [], replicate, true, List, IfOk, IsTrue, IsFalse};
-ghost use Rattle.solomon_reader.specs.Relaxed.{IsLeastOrZero};
+ghost use Rattle.std.specs.Prelude.{◌≡◌, ℕ, ◌+◌, ◌<◌, ◌≤◌, length, [], ◌∷◌, replicate, true, List, Option, Some, None, ℤ, IfOk, IsTrue, IsFalse, ◌⊎◌};
+ghost use Rattle.solomon_reader.specs.Region.{IsAllowed};
+ghost use Rattle.solomon_reader.specs.States.{start, IsSameState};
 ghost use Rattle.tree_bound.specs.declared.label.Label.{Label};
-ghost use Rattle.tree_bound.specs.Arcs.{IsPassed};
 ghost use Rattle.tree_bound.specs.Cover.{or_zero};
-ghost use Rattle.tree_bound.specs.Leaves.{problem_of, region_in, IsLabelIn, AreLabelsIn, IsTableIn, IsDoneIn, IsWorkedIn, IsSweptIn};
+ghost use Rattle.leaf_arcs.specs.Leaves.{problem_of, region_in, IsArcIn, AreArcsIn, IsRowIn};
+ghost use Rattle.tree_bound.specs.Leaves.{state_in, IsLabelIn, AreLabelsIn, IsTableIn, IsDoneIn, IsWorkedIn, IsSweptIn, IsPassedIn, IsLeastBelowIn, IsSoughtIn, IsRelaxedIn};
 
 use crate::bucket::Bucket;
 use crate::fault::BoundFault;
 use crate::label::Label;
-use crate::leaf::Leaf;
-use crate::steps::{close_route, take_steps};
+use crate::setting::Setting;
+use crate::steps::{can_extend, close_route, extend, is_dear, take_steps};
 use crate::table::{Table, empty_table, settle};
-use crate::task::Task;
+use leaf_arcs::{AllowedArc, ArcRow, Leaf, Task};
 use std::alloc::Global;
 use std::mem;
 
@@ -31,16 +32,23 @@ fn work_label(
 {
     let row = &task.rows[label.customer as usize];
     let after = close_route(&task.leaf, row, load, label, best);
-    take_steps(&task.leaf, table, load, label, row.arcs.as_slice())?;
+    take_steps(task, table, load, label, row.arcs.as_slice(), after)?;
     Ok(after)
 }
 
-/// Whether a label has to be worked: it stands, and no settled one dominates it.
-fn is_open(settled: &Bucket, label: &Label) -> bool
+/// Whether a label has to be worked: it stands, no settled one dominates it, and what may come after it
+/// isn't dear.
+fn is_open(
+    task: &Task<'_, '_>,
+    settled: &Bucket,
+    load: usize,
+    label: &Label,
+    best: Option<i64>,
+) -> bool
     ensures open { IsTrue result → label.now.active ≡ true }
-    ensures passed { IsFalse result → IsPassed settled.now label.now }
+    ensures passed { IsFalse result → IsPassedIn task.now.leaf best settled.now load label.now }
 {
-    label.active && !settled.dominates(label)
+    label.active && !settled.dominates(label) && !is_dear(task, load, label, best)
 }
 
 /// Works the labels of a load.
@@ -58,7 +66,7 @@ fn work_labels(
 {
     let mut best = best;
     for label in labels {
-        if is_open(settled, label) {
+        if is_open(task, settled, load, label, best) {
             best = work_label(task, table, load, label, best)?;
             settle(table, settled, label)?;
         } else {
@@ -104,37 +112,139 @@ fn sweep(
     Ok(best)
 }
 
-/// Works the empty beginning at the depot, which the table doesn't keep.
-fn begin(task: &Task<'_, '_>, table: &mut Table) -> Result<Option<i64>, BoundFault>
-    requires { table.old.buckets.items ≡ replicate ((problem_of task.now.leaf).capacity + 1) [] }
-    ensures { IfOk result (λ after. IsSweptIn task.now.leaf table.new.buckets.items [] 1 after) }
+/// The empty beginning at the depot, which the table doesn't keep.
+fn beginning(leaf: &Leaf<'_, '_>) -> Label
+    ensures same { IsSameState (state_in leaf.now 0 result) (start (problem_of leaf.now)) }
+    ensures label { IsLabelIn leaf.now 0 result }
+    ensures active { result.active ≡ true }
 {
-    let instance = task.leaf.neighbours.instance;
+    let instance = leaf.neighbours.instance;
     let _count = instance.customer_count();
     let _capacity = instance.capacity();
-    let start = Label {
+    Label {
         customer: 0,
         memory: 0,
         time: instance.ready(0),
         cost: 0,
         active: true,
-    };
-    let best = work_label(task, table, 0, &start, None)?;
+    }
+}
+
+/// Works the empty beginning.
+fn begin(task: &Task<'_, '_>, table: &mut Table) -> Result<Option<i64>, BoundFault>
+    requires { table.old.buckets.items ≡ replicate ((problem_of task.now.leaf).capacity + 1) [] }
+    ensures { IfOk result (λ after. IsSweptIn task.now.leaf table.new.buckets.items [] 1 after) }
+{
+    let start = beginning(&task.leaf);
+    let best = work_label(task, table, 0, &start, task.leaf.limit)?;
     Ok(best)
 }
 
-/// The least reduced cost over all relaxed routes of a leaf in grains, `None` where there is none.
-pub(crate) fn least(
+/// The least reduced cost over all relaxed routes of a leaf in grains; the leaf's limit, if there is one,
+/// where no route costs less.
+fn least_below(
     alloc: Global,
-    leaf: Leaf<'_, '_>,
+    task: &Task<'_, '_>,
     state_limit: usize,
 ) -> Result<Option<i64>, BoundFault>
-    ensures { IfOk result (λ found. IsLeastOrZero (problem_of leaf.entry) (region_in leaf.entry) leaf.entry.neighbours.now.k leaf.entry.prices.now (or_zero found)) }
+    ensures { IfOk result (λ found. IsLeastBelowIn task.now.leaf found) }
 {
-    let capacity = leaf.neighbours.instance.capacity();
-    let task = Task::new(alloc, leaf)?;
+    let capacity = task.leaf.neighbours.instance.capacity();
     let mut table = empty_table(alloc, capacity, state_limit)?;
-    let best = begin(&task, &mut table)?;
-    let least = sweep(&task, &mut table, best)?;
+    let best = begin(task, &mut table)?;
+    let least = sweep(task, &mut table, best)?;
     Ok(least)
+}
+
+/// Whether a customer can be served alone, and the arcs from and to the depot are allowed.
+fn fits_alone(task: &Task<'_, '_>, arc: &AllowedArc) -> bool
+    requires arc { IsArcIn task.now.leaf 0 arc.now }
+    requires allowed { IsAllowed (region_in task.now.leaf) (0, arc.now.to) }
+    ensures { IsTrue result → IsRelaxedIn task.now.leaf (arc.now.to ∷ []) }
+{
+    let leaf = &task.leaf;
+    let start = beginning(leaf);
+    if !can_extend(leaf, 0, &start, arc) {
+        return false;
+    }
+    let longer = extend(leaf, 0, &start, arc);
+    let row = &task.rows[usize::from(arc.to)];
+    close_route(leaf, row, usize::from(arc.demand), &longer, None).is_some()
+}
+
+/// Whether some customer can be served alone, so that there is a relaxed route.
+fn some_fits_alone(task: &Task<'_, '_>, arcs: &[AllowedArc]) -> bool
+    requires { AreArcsIn task.now.leaf 0 arcs.now }
+    ensures { IsTrue result → (r : List ℕ) × IsRelaxedIn task.now.leaf r }
+{
+    for arc in arcs {
+        if fits_alone(task, arc) {
+            return true;
+        }
+    }
+    false
+}
+
+/// Whether what was found is the limit.
+fn is_limit(found: Option<i64>, limit: Option<i64>) -> bool
+    ensures yes { IsTrue result → (t : ℤ) × ((limit ≡ Some t) × (found ≡ Some t)) }
+    ensures no { IsFalse result → found ≡ limit → limit ≡ None }
+{
+    match (found, limit) {
+        (Some(found), Some(limit)) => found == limit,
+        _ => false,
+    }
+}
+
+/// The number, or 0 where there is none.
+fn or_zero(found: Option<i64>) -> Option<i64>
+    ensures { result ≡ Some (or_zero found) }
+{
+    match found {
+        Some(_) => found,
+        None => Some(0),
+    }
+}
+
+/// Whether 0 does no harm (`bare`), or there is a relaxed route, as far as customers alone tell.
+fn is_harmless(task: &Task<'_, '_>, depot: &ArcRow, bare: bool) -> bool
+    requires { IsRowIn task.now.leaf 0 depot.now }
+    ensures { IsTrue result → (bare ≡ true) ⊎ ((r : List ℕ) × IsRelaxedIn task.now.leaf r) }
+{
+    if bare {
+        return true;
+    }
+    some_fits_alone(task, depot.arcs.as_slice())
+}
+
+/// The least reduced cost of a leaf in grains, or 0 where there is no relaxed route; `None` where it
+/// isn't below the leaf's limit. With `bare`, which says that 0 does no harm where no route is relaxed,
+/// `None` also where there is none.
+pub(crate) fn least(
+    alloc: Global,
+    setting: &Setting<'_>,
+    leaf: Leaf<'_, '_>,
+    bare: bool,
+) -> Result<Option<i64>, BoundFault>
+    ensures { IfOk result (λ found. IsSoughtIn leaf.entry bare found) }
+{
+    let _count = leaf.neighbours.instance.customer_count();
+    let task = Task::new(alloc, leaf, &setting.slots)?;
+    let found = least_below(alloc, &task, setting.state_limit)?;
+    if !is_limit(found, leaf.limit) {
+        return Ok(or_zero(found));
+    }
+    let depot = &task.rows[0];
+    if is_harmless(&task, depot, bare) {
+        return Ok(None);
+    }
+    let unlimited = Leaf {
+        neighbours: leaf.neighbours,
+        path: leaf.path,
+        prices: leaf.prices,
+        limit: None,
+    };
+    let task = Task::new(alloc, unlimited, &setting.slots)?;
+    let found = least_below(alloc, &task, setting.state_limit)?;
+    Ok(or_zero(found))
 }

@@ -1,36 +1,36 @@
 use Rattle.std.proofs.Common.{◌≡◌, ◌+◌, ◌<◌, false, List, [], ◌∷◌, ◌++◌, length, arith, ◌∙◌, ap}
 use Rattle.certificate.specs.Text.{version_of}
 use Rattle.certificate.specs.Tree.{node_of}
-use Rattle.tree_bound.specs.declared.decision.Decision.{Decision}
+use Rattle.leaf_arcs.specs.declared.decision.Decision.{Decision}
 use Rattle.tree_bound.proofs.Bounding.{restored, begins_some, leaf_at, leaf_bound_at, used_at, unused_at, split_at}
 use Rattle.tree_bound.proofs.tree.+bound_at.Goals as goal
 
-pub leaf_bound-requires-clause-count : goal.leaf_bound-requires-clause-count
-leaf_bound-requires-clause-count t c = rw c.as_slice-in-Leaf.ensures.value
+pub lesser_value-requires-clause-count : goal.lesser_value-requires-clause-count
+lesser_value-requires-clause-count t c = rw c.as_slice-in-Leaf.ensures.value
     ((leaf_at (version_of c.args.setting.now.version) c.args.setting.now.neighbours.instance.now c.args.setting.now.neighbours.k c.args.path.now.items c.args.nodes.now c.args.at c.index-nodes-at.result c.requires.within c.index-nodes-at.is c.requires.begins c.in-Leaf.prices.items (ap node_of c.in-Leaf.is)).0)
 
-pub leaf_bound-requires-clause-priced : goal.leaf_bound-requires-clause-priced
-leaf_bound-requires-clause-priced t c = rw c.as_slice-in-Leaf.ensures.value
+pub lesser_value-requires-clause-priced : goal.lesser_value-requires-clause-priced
+lesser_value-requires-clause-priced t c = rw c.as_slice-in-Leaf.ensures.value
     ((leaf_at (version_of c.args.setting.now.version) c.args.setting.now.neighbours.instance.now c.args.setting.now.neighbours.k c.args.path.now.items c.args.nodes.now c.args.at c.index-nodes-at.result c.requires.within c.index-nodes-at.is c.requires.begins c.in-Leaf.prices.items (ap node_of c.in-Leaf.is)).1)
 
 pub returns-in_ok-bound-in-Leaf-clause-bound : goal.returns-in_ok-bound-in-Leaf-clause-bound
 returns-in_ok-bound-in-Leaf-clause-bound t c =
     leaf_bound_at (version_of c.args.setting.now.version) c.args.setting.now.neighbours.instance.now c.args.setting.now.neighbours.k c.args.path.now.items c.args.nodes.now c.args.at c.index-nodes-at.result c.requires.within c.index-nodes-at.is c.requires.begins c.in-Leaf.prices.items
-    c.in_ok-bound-in-Leaf.bound (ap node_of c.in-Leaf.is) (rw (c.as_slice.ensures.value, c.as_slice-in-Leaf.ensures.value) at c.in_ok-bound-in-Leaf.ensures)
+    c.args.most c.in_ok-bound-in-Leaf.bound (ap node_of c.in-Leaf.is) (omega (arith, c.requires.most, c.args.setting.now.most_is)) (rw (c.as_slice.ensures.value, c.as_slice-in-Leaf.ensures.value) at c.in_ok-bound-in-Leaf.ensures)
 
 pub bound_at-requires : goal.bound_at-requires
 bound_at-requires t c =
     let begins = used_at (version_of c.args.setting.now.version) c.args.setting.now.neighbours.instance.now c.args.setting.now.neighbours.k c.args.path.now.items c.args.nodes.now c.args.at c.index-nodes-at.result c.requires.within c.index-nodes-at.is c.requires.begins c.in-Split.from c.in-Split.to (ap node_of c.in-Split.is) in
-    (omega arith, (begins_some _ c.args.nodes.now (c.args.at + 1) begins, rw c.in_ok-push-in-Split.ensures.items begins))
+    (omega arith, (c.requires.most, (begins_some _ c.args.nodes.now (c.args.at + 1) begins, rw c.in_ok-push-in-Split.ensures.items begins)))
 
 pub bound_at-requires-in-Split : goal.bound_at-requires-in-Split
 bound_at-requires-in-Split t c =
     let count : c.len-depth.result ≡ length c.args.path.now.items = omega arith in
     let back = restored c.args.path.now.items c.bound_at.new.path.items c.truncate.new.self.items c.len-depth.result _ count (c.in_ok-used-in-Split.ensures.path ∙ c.in_ok-push-in-Split.ensures.items) c.truncate.ensures.items in
     let begins = unused_at (version_of c.args.setting.now.version) c.args.setting.now.neighbours.instance.now c.args.setting.now.neighbours.k c.args.path.now.items c.args.nodes.now c.args.at c.index-nodes-at.result c.requires.within c.index-nodes-at.is c.requires.begins c.in-Split.from c.in-Split.to (ap node_of c.in-Split.is)
-    c.in_ok-used-in-Split.used.bound c.in_ok-used-in-Split.used.next (rw c.in_ok-push-in-Split.ensures.items at c.in_ok-used-in-Split.ensures.bound) in
+    c.args.most c.in_ok-used-in-Split.used.bound c.in_ok-used-in-Split.used.next (rw c.in_ok-push-in-Split.ensures.items at c.in_ok-used-in-Split.ensures.bound) in
     let within : c.in_ok-used-in-Split.used.next < length c.args.nodes.now = begins_some _ c.args.nodes.now c.in_ok-used-in-Split.used.next begins in
-    (omega (arith, within, c.in_ok-used-in-Split.ensures.onward), (within, rw (c.in_ok-push-in-Split-2.ensures.items, back) begins))
+    (omega (arith, within, c.in_ok-used-in-Split.ensures.onward), (omega (arith, c.requires.most, c.in_ok-used-in-Split.ensures.less), (within, rw (c.in_ok-push-in-Split-2.ensures.items, back) begins)))
 
 pub returns-in_ok-unused-in-Split-clause-path : goal.returns-in_ok-unused-in-Split-clause-path
 returns-in_ok-unused-in-Split-clause-path t c =
@@ -43,7 +43,7 @@ pub returns-in_ok-unused-in-Split-clause-bound : goal.returns-in_ok-unused-in-Sp
 returns-in_ok-unused-in-Split-clause-bound t c =
     let count : c.len-depth.result ≡ length c.args.path.now.items = omega arith in
     let back = restored c.args.path.now.items c.bound_at.new.path.items c.truncate.new.self.items c.len-depth.result _ count (c.in_ok-used-in-Split.ensures.path ∙ c.in_ok-push-in-Split.ensures.items) c.truncate.ensures.items in
-    rw c.min-bound.ensures (split_at (version_of c.args.setting.now.version) c.args.setting.now.neighbours.instance.now c.args.setting.now.neighbours.k c.args.path.now.items c.args.nodes.now c.args.at c.index-nodes-at.result c.requires.within c.index-nodes-at.is c.requires.begins c.in-Split.from c.in-Split.to (ap node_of c.in-Split.is)
-    c.in_ok-used-in-Split.used.bound c.in_ok-used-in-Split.used.next
+    (split_at (version_of c.args.setting.now.version) c.args.setting.now.neighbours.instance.now c.args.setting.now.neighbours.k c.args.path.now.items c.args.nodes.now c.args.at c.index-nodes-at.result c.requires.within c.index-nodes-at.is c.requires.begins c.in-Split.from c.in-Split.to (ap node_of c.in-Split.is)
+    c.args.most c.in_ok-used-in-Split.used.bound c.in_ok-used-in-Split.used.next
     (rw c.in_ok-push-in-Split.ensures.items at c.in_ok-used-in-Split.ensures.bound) c.in_ok-unused-in-Split.unused.bound c.in_ok-unused-in-Split.unused.next
     (rw (c.in_ok-push-in-Split-2.ensures.items, back) at c.in_ok-unused-in-Split.ensures.bound))

@@ -16,6 +16,6 @@ pub returns : goal.returns
 returns c =
     let nodes : nodes_of c.as_slice-nodes.result.now ≡ c.args.cert.now.nodes = ap nodes_of c.as_slice-nodes.ensures.value ∙ ap (λ (x : Content). x.nodes) c.parts.ensures.value in
     record {
-      bound = rw c.from.ensures (whole_bound c.args.cert.now c.parts.ensures.has_text c.args.instance.now c.requires.size (nodes_of c.as_slice-nodes.result.now) nodes _ _
+      bound = rw c.from.ensures (whole_bound c.args.cert.now c.parts.ensures.has_text c.args.instance.now c.requires.size (nodes_of c.as_slice-nodes.result.now) nodes _ _ _ (rw c.in_ok-setting.ensures.instance at c.in_ok-setting.setting.most_is)
           (rw (c.in_ok-setting.ensures.instance, c.new-path.ensures.items, c.in_ok-setting.ensures.version, c.in_ok-setting.ensures.k) at c.in_ok-whole.ensures.bound));
     }

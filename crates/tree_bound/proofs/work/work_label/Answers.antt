@@ -1,5 +1,5 @@
 use Rattle.std.proofs.Common.{sym, subst}
-use Rattle.tree_bound.specs.Leaves.{IsRowIn}
+use Rattle.leaf_arcs.specs.Leaves.{IsRowIn}
 use Rattle.tree_bound.proofs.Working.{done_of}
 use Rattle.tree_bound.proofs.work.work_label.Goals as goal
 

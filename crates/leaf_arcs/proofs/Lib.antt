@@ -1,0 +1,5 @@
+pub mod Deciding
+pub mod Leading
+pub mod Listing
+pub mod Remembered
+pub mod Flooring

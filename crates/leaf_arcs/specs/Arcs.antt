@@ -1,0 +1,71 @@
+-- The arcs that a leaf allows, with what a step over them needs.
+use Rattle.std.specs.Prelude.{◌≡◌, ◌↔◌, ℕ, ◌+◌, ◌*◌, ◌<◌, ◌≤◌, List, length, slice_index_or, IsTrue, Bool, true, ◌==◌, ℤ, pos, ◌+ℤ◌, ◌≤ℤ◌}
+use Rattle.std.specs.List.{All, list_any}
+use Rattle.solomon_reader.specs.declared.limits.TheConstants.{MOST_TIME, MOST_DISTANCE, MOST_PRICE, MOST_DEMAND}
+use Rattle.solomon_reader.specs.Problem.{Problem, IsCustomer, customer_count, demand, ready, due, service}
+use Rattle.solomon_reader.specs.Distance.{distance}
+use Rattle.solomon_reader.specs.Region.{Region, IsAllowed}
+use Rattle.solomon_reader.specs.States.{arc_value}
+use Rattle.leaf_arcs.specs.declared.arcs.AllowedArc.{AllowedArc}
+use Rattle.leaf_arcs.specs.declared.arcs.ArcRow.{ArcRow}
+use Rattle.leaf_arcs.specs.Memories.{bit_in}
+
+-- the most that a stop adds to a reduced cost, or takes from it
+abbrev pub most_grains : ℕ
+most_grains = MOST_PRICE + 1000 * MOST_DISTANCE
+
+-- a price in its range
+pub record IsPriced (z : ℤ) : Type 0 where
+  pub low : pos 0 ≤ℤ (z +ℤ pos MOST_PRICE)
+  pub high : z ≤ℤ pos MOST_PRICE
+
+-- the arc from v has what a step over it needs
+pub record IsAllowedArc (p : Problem) (k : ℕ) (prices : List ℤ) (v : ℕ) (h : AllowedArc) : Type 0 where
+  pub customer : IsCustomer p h.to
+  pub bit : h.bit ≡ bit_in p k v h.to
+  pub listed : h.bit ≤ 16
+  pub demand_is : h.demand ≡ demand p h.to
+  pub carried : 1 ≤ h.demand
+  pub light : h.demand ≤ MOST_DEMAND
+  pub travel_is : h.travel ≡ distance p v h.to
+  pub near : h.travel ≤ MOST_DISTANCE
+  pub ready_is : h.ready ≡ ready p h.to
+  pub early : h.ready ≤ 10 * MOST_TIME
+  pub due_is : h.due ≡ due p h.to
+  pub late : h.due ≤ 10 * MOST_TIME
+  pub service_is : h.service ≡ service p h.to
+  pub short : h.service ≤ 10 * MOST_TIME
+  pub value_is : h.value ≡ arc_value p prices v h.to
+  pub low : pos 0 ≤ℤ (h.value +ℤ pos most_grains)
+  pub high : h.value ≤ℤ pos most_grains
+
+abbrev pub arc_in : List AllowedArc → ℕ → AllowedArc
+arc_in hs m = slice_index_or hs m (record { to = 0; bit = 0; demand = 0; travel = 0; ready = 0; due = 0; service = 0; value = pos 0 })
+
+-- an arc of the list leads to j
+abbrev pub leads : List AllowedArc → ℕ → Bool
+leads hs j = list_any (λ h. h.to == j) hs
+
+-- the arcs from v to the customers below i
+pub record AreAllowedArcs (p : Problem) (g : Region) (k : ℕ) (prices : List ℤ) (v i : ℕ) (hs : List AllowedArc) : Type 0 where
+  pub each : (m : ℕ) → m < length hs → IsAllowedArc p k prices v (arc_in hs m)
+  pub allowed : (m : ℕ) → m < length hs → IsAllowed g (v, (arc_in hs m).to)
+  pub all : (j : ℕ) → j < i → IsCustomer p j → IsAllowed g (v, j) → leads hs j ≡ true
+
+-- the row says where a route may go from v
+pub record IsArcRow (p : Problem) (g : Region) (k : ℕ) (prices : List ℤ) (v : ℕ) (r : ArcRow) : Type 0 where
+  pub arcs : AreAllowedArcs p g k prices v (length p.rows) r.arcs.items
+  pub ends : IsTrue r.ends ↔ IsAllowed g (v, 0)
+  pub back_is : r.back ≡ distance p v 0
+  pub near : r.back ≤ MOST_DISTANCE
+
+-- the row of each row of the instance
+pub record AreArcRows (p : Problem) (g : Region) (k : ℕ) (prices : List ℤ) (all : List ArcRow) : Type 0 where
+  pub count : length all ≡ length p.rows
+  pub each : (v : ℕ) (d : ArcRow) → v < length p.rows → IsArcRow p g k prices v (slice_index_or all v d)
+
+-- there is a price for each customer, and each has a demand
+pub record IsPricing (p : Problem) (prices : List ℤ) : Type 0 where
+  pub count : length prices ≡ customer_count p
+  pub priced : All IsPriced prices
+  pub carried : (i : ℕ) → IsCustomer p i → 1 ≤ demand p i

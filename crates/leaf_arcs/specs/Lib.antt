@@ -1,0 +1,5 @@
+pub mod Decisions
+pub mod Memories
+pub mod Arcs
+pub mod Floors
+pub mod Leaves

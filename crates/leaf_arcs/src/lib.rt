@@ -1,0 +1,23 @@
+//! What the pricing of a leaf of a certificate's tree stands on: the arcs that its decisions leave allowed,
+//! what is remembered of a route by neighbour lists, and floors under what may follow.
+#![tactic(auto)]
+
+mod arcs;
+mod bits;
+mod decision;
+mod floor;
+mod leaf;
+mod memory;
+mod neighbours;
+mod rows;
+mod slots;
+mod task;
+
+pub use arcs::{AllowedArc, ArcRow};
+pub use decision::Decision;
+pub use floor::Floor;
+pub use leaf::Leaf;
+pub use memory::{contains, is_subset};
+pub use neighbours::Neighbours;
+pub use slots::Slots;
+pub use task::Task;

@@ -1,0 +1,181 @@
+-- There is a least reduced cost, or no relaxed route: it could be found by trying all.
+use Rattle.std.proofs.Common.{◌≡◌, refl, ℕ, zero, suc, ◌+◌, ◌<◌, ◌≤◌, Bool, true, List, [], ◌∷◌, length, subst, arith, ap, ◌∙◌, ◌⊎◌, inl, inr, Option, Some, None}
+use Rattle.std.specs.Prelude.{ℤ, pos, ◌≤ℤ◌, slice_index_or}
+use Rattle.std.proofs.lemmas.Int.{ints, by_lt_z}
+use Rattle.std.proofs.lemmas.Bool.{cases_lt, cases_Bool, both_ways}
+use Rattle.solomon_reader.specs.Problem.{Problem, IsCustomer, demand, due}
+use Rattle.solomon_reader.specs.Distance.{distance}
+use Rattle.solomon_reader.specs.Region.{Region, IsAllowed}
+use Rattle.solomon_reader.specs.Relaxed.{IsRelaxed, IsLeastOrZero, reduced_cost}
+use Rattle.solomon_reader.specs.States.{State, start, step, begins, CanStep, CanEnd, Completes, value_with}
+use Rattle.solomon_reader.proofs.Completions.{completes_relaxed, relaxed_completes, value_is}
+use Rattle.tree_bound.specs.Cover.{IsAtMost, IsLeastBelow, IsSought, or_zero}
+use Rattle.leaf_arcs.specs.declared.arcs.ArcRow.{ArcRow}
+use Rattle.leaf_arcs.specs.Arcs.{AreArcRows, leads}
+use Rattle.leaf_arcs.proofs.Leading.{leads_index}
+
+-- exactly one of the two is known
+abbrev pub Decides : Type 0 → Type 0
+Decides A = A ⊎ ¬ A
+
+module _ (p : Problem) (g : Region) (k : ℕ) (prices : List ℤ) where
+  -- b is the least value of what may come after a, and so long as P holds of it; none where nothing may
+  record Least (P : List ℕ → Type 0) (a : State) (b : Option ℤ) : Type 0 where
+    low : (s : List ℕ) → P s → Completes p g k prices a s → IsAtMost b (value_with p k prices a s)
+    found : (b ≡ None) ⊎ ((s : List ℕ) × (Completes p g k prices a s × (b ≡ Some (value_with p k prices a s))))
+
+  -- the stops are none, or begin below i
+  abbrev Below : ℕ → List ℕ → Type 0
+  Below i [] = Unit {0}
+  Below i (j ∷ s) = j < i
+
+  abbrev Any : List ℕ → Type 0
+  Any s = Unit {0}
+
+  -- the lesser of two
+  both : (b c : Option ℤ) → (d : Option ℤ) × (((d ≡ b) ⊎ (d ≡ c)) × (((y : ℤ) → IsAtMost b y → IsAtMost d y) × ((y : ℤ) → IsAtMost c y → IsAtMost d y)))
+  both None c = (c, (inr refl, ((λ y h. absurd h), (λ y h. h))))
+  both (Some x) None = (Some x, (inl refl, ((λ y h. h), (λ y h. absurd h))))
+  both (Some x) (Some z) = elim (order x z) [
+    | inl le ↦ (Some x, (inl refl, ((λ y h. h), (λ y h. omega (arith, ints, le, h)))))
+    | inr le ↦ (Some z, (inr refl, ((λ y h. omega (arith, ints, le, h)), (λ y h. h))))
+  ]
+    where
+      order : (x z : ℤ) → (x ≤ℤ z) ⊎ (z ≤ℤ x)
+      order x z = by_lt_z {P = (x ≤ℤ z) ⊎ (z ≤ℤ x)} x z (λ h. inl (omega (arith, ints, h))) (λ h. inr h)
+
+  module _ (decide : (i j : ℕ) → i < length p.rows → j < length p.rows → Decides (IsAllowed g (i, j))) (carried : (i : ℕ) → IsCustomer p i → 1 ≤ demand p i) where
+    can_step : (a : State) (j : ℕ) → a.last < length p.rows → IsCustomer p j → Decides (CanStep p g a j)
+    can_step a j last customer = elim (decide a.last j last (omega (arith, customer.0, customer.1))) [
+      | inr closed ↦ inr (λ can. closed can.allowed)
+      | inl allowed ↦ elim (cases_lt p.capacity (a.load + demand p j)) [
+        | inl heavy ↦ inr (λ can. omega (arith, heavy, can.load))
+        | inr light ↦ elim (cases_lt (due p j) (begins p a j)) [
+          | inl late ↦ inr (λ can. omega (arith, late, can.due))
+          | inr soon ↦ elim (cases_Bool (a.memory j)) [
+            | inl held ↦ inr (λ can. both_ways _ can.fresh held)
+            | inr free ↦ inl (record { customer = customer; allowed = allowed; load = light; due = soon; fresh = free })
+          ]
+        ]
+      ]
+    ]
+
+    can_end : (a : State) → a.last < length p.rows → Decides (CanEnd p g a)
+    can_end a last = elim (decide a.last 0 last (omega (arith, last))) [
+      | inr closed ↦ inr (λ can. closed can.allowed)
+      | inl allowed ↦ elim (cases_lt (due p 0) (a.time + distance p a.last 0)) [
+        | inl late ↦ inr (λ can. omega (arith, late, can.closing))
+        | inr soon ↦ inl (record { allowed = allowed; closing = soon })
+      ]
+    ]
+
+    module _ (a : State) (last : a.last < length p.rows) (next : (j : ℕ) → CanStep p g a j → (b : Option ℤ) × Least Any (step p k prices a j) b) where
+      step_at : (i : ℕ) → i < length p.rows → Decides (CanStep p g a i)
+      step_at zero within = inr (λ can. omega (arith, can.customer.0))
+      step_at (suc i) within = can_step a (suc i) last (omega arith, omega (arith, within))
+
+      none : (s : List ℕ) → Below 0 s → Completes p g k prices a s → CanEnd p g a
+      none [] below completes = completes
+      none (j ∷ s) below completes = absurd (omega (arith, below))
+
+      home : (s : List ℕ) → Below 0 s → value_with p k prices a [] ≤ℤ value_with p k prices a s
+      home [] below = omega (arith, ints)
+      home (j ∷ s) below = absurd (omega (arith, below))
+
+      kept : (i : ℕ) (b : Option ℤ) → Least (Below i) a b → ¬ CanStep p g a i → (s : List ℕ) → Below (i + 1) s → Completes p g k prices a s → IsAtMost b (value_with p k prices a s)
+      kept i b old cannot [] below completes = old.low [] tt completes
+      kept i b old cannot (j ∷ s) below completes = elim (cases_lt j i) [
+        | inl less ↦ old.low (j ∷ s) less completes
+        | inr more ↦ (let same : j ≡ i = omega (arith, below, more) in absurd (cannot (rw same at completes.0)))
+      ]
+
+      added : (i : ℕ) (b c d : Option ℤ) → Least (Below i) a b → Least Any (step p k prices a i) c → ((y : ℤ) → IsAtMost b y → IsAtMost d y) → ((y : ℤ) → IsAtMost c y → IsAtMost d y)
+          → (s : List ℕ) → Below (i + 1) s → Completes p g k prices a s → IsAtMost d (value_with p k prices a s)
+      added i b c d old new lower_b lower_c [] below completes = lower_b _ (old.low [] tt completes)
+      added i b c d old new lower_b lower_c (j ∷ s) below completes = elim (cases_lt j i) [
+        | inl less ↦ lower_b _ (old.low (j ∷ s) less completes)
+        | inr more ↦ (let same : j ≡ i = omega (arith, below, more) in rw same (lower_c _ (new.low s tt (rw same at completes.1))))
+      ]
+
+      found_of : (i : ℕ) (b c d : Option ℤ) → CanStep p g a i → Least (Below i) a b → Least Any (step p k prices a i) c → (d ≡ b) ⊎ (d ≡ c)
+          → (d ≡ None) ⊎ ((s : List ℕ) × (Completes p g k prices a s × (d ≡ Some (value_with p k prices a s))))
+      found_of i b c d can old new (inl same) = rw same old.found
+      found_of i b c d can old new (inr same) = elim new.found [
+        | inl bare ↦ inl (same ∙ bare)
+        | inr one ↦ inr (i ∷ one.0, ((can, one.1.0), same ∙ one.1.1))
+      ]
+
+      first : (i : ℕ) → i ≤ length p.rows → (b : Option ℤ) × Least (Below i) a b
+      first zero within = elim (can_end a last) [
+        | inl can ↦ (Some (value_with p k prices a []), record { low = λ s below completes. home s below; found = inr ([], (can, refl)) })
+        | inr cannot ↦ (None, record { low = λ s below completes. absurd (cannot (none s below completes)); found = inl refl })
+      ]
+      first (suc i) within = (let old = first i (omega (arith, within)) in let e : suc i ≡ i + 1 = omega arith in rw e (elim (step_at i (omega (arith, within))) [
+        | inr cannot ↦ (old.0, record { low = kept i old.0 old.1 cannot; found = old.1.found })
+        | inl can ↦ (let new = next i can in let d = both old.0 new.0 in
+            (d.0, record { low = added i old.0 new.0 d.0 old.1 new.1 d.1.1.0 d.1.1.1; found = found_of i old.0 new.0 d.0 can old.1 new.1 d.1.0 }))
+      ]))
+
+      within : (s : List ℕ) → Completes p g k prices a s → Below (length p.rows) s
+      within [] completes = tt
+      within (j ∷ s) completes = omega (arith, completes.0.customer.0, completes.0.customer.1)
+
+      whole : (b : Option ℤ) × Least Any a b
+      whole = let all = first (length p.rows) (omega arith) in (all.0, record { low = λ s any completes. all.1.low s (within s completes) completes; found = all.1.found })
+
+    least_from : (fuel : ℕ) (a : State) → a.last < length p.rows → p.capacity < a.load + fuel → (b : Option ℤ) × Least Any a b
+    least_from zero a last enough = whole a last (λ j can. absurd (omega (arith, can.load, enough)))
+    least_from (suc fuel) a last enough = whole a last (λ j can. least_from fuel (step p k prices a j) (omega (arith, can.customer.1, can.customer.0)) (omega (arith, enough, carried j can.customer)))
+
+    least_exists : 1 ≤ length p.rows → (b : Option ℤ) × IsLeastBelow p g k prices None b
+    least_exists some =
+        let all = least_from (p.capacity + 1) (start p) (omega (arith, some)) (omega arith) in
+        (all.0, record { low = λ r relaxed. rw (← value_is p g k prices r) (all.1.low r tt (completes_relaxed p g k prices r relaxed)); found = found all.0 all.1.found })
+      where
+        found : (b : Option ℤ) → (b ≡ None) ⊎ ((s : List ℕ) × (Completes p g k prices (start p) s × (b ≡ Some (value_with p k prices (start p) s))))
+            → (b ≡ None) ⊎ ((r : List ℕ) × (IsRelaxed p g k r × (b ≡ Some (reduced_cost p prices r))))
+        found b (inl bare) = inl bare
+        found b (inr one) = inr (one.0, (relaxed_completes p g k prices one.0 one.1.0, one.1.1 ∙ ap (λ (z : ℤ). Some z) (value_is p g k prices one.0)))
+
+  -- what isn't the limit is exact
+  exact : (limit b : Option ℤ) → IsLeastBelow p g k prices limit b → (b ≡ limit → limit ≡ None) → IsLeastOrZero p g k prices (or_zero b)
+  exact limit None below apart = inr (below.low, refl)
+  exact limit (Some z) below apart = elim below.found [
+    | inl same ↦ absurd (let e = apart same in cc)
+    | inr one ↦ inl (record { reached = (one.0, one.1.0, value one.0 one.1.1); least = below.low })
+  ]
+    where
+      value : (r : List ℕ) → Some z ≡ Some (reduced_cost p prices r) → reduced_cost p prices r ≡ z
+      value r e = cc
+
+  pub sought_some : (limit within b : Option ℤ) (bare : Bool) → IsLeastBelow p g k prices within b → (b ≡ within → within ≡ None) → IsSought p g k prices limit bare (Some (or_zero b))
+  sought_some limit within b bare below apart = record { least = or_zero b; is_least = exact within b below apart; some = λ z e. cc; none = λ e. absurd (cc) }
+
+  module _ (all : List ArcRow) (rows : AreArcRows p g k prices all) (d : ArcRow) where
+    decide : (i j : ℕ) → i < length p.rows → j < length p.rows → Decides (IsAllowed g (i, j))
+    decide i zero from to = elim (cases_Bool (slice_index_or all i d).ends) [
+      | inl ends ↦ inl ((rows.each i d from).ends.0 ends)
+      | inr closed ↦ inr (λ allowed. both_ways _ closed ((rows.each i d from).ends.1 allowed))
+    ]
+    decide i (suc j) from to = elim (cases_Bool (leads (slice_index_or all i d).arcs.items (suc j))) [
+      | inl listed ↦ inl (let m = leads_index (slice_index_or all i d).arcs.items (suc j) listed in
+          subst (λ (n : ℕ). IsAllowed g (i, n)) m.1.1 ((rows.each i d from).arcs.allowed m.0 m.1.0))
+      | inr closed ↦ inr (λ allowed. both_ways _ closed ((rows.each i d from).arcs.all (suc j) to (omega arith, omega (arith, to)) allowed))
+    ]
+
+    pub sought_none : (limit : Option ℤ) (bare : Bool) (t : ℤ) → limit ≡ Some t → IsLeastBelow p g k prices limit (Some t) → (bare ≡ true) ⊎ ((r : List ℕ) × IsRelaxed p g k r)
+        → ((i : ℕ) → IsCustomer p i → 1 ≤ demand p i) → 1 ≤ length p.rows → IsSought p g k prices limit bare None
+    sought_none limit bare t is below why carried some =
+        let found = least_exists decide carried some in
+        record { least = or_zero found.0; is_least = exact None found.0 found.1 (λ e. refl); some = λ z e. absurd (cc); none = λ e. (t, (is, high found.0 found.1 why)) }
+      where
+        at : (z : ℤ) (r : List ℕ) → IsRelaxed p g k r → Some z ≡ Some (reduced_cost p prices r) → t ≤ℤ z
+        at z r relaxed e = let same : z ≡ reduced_cost p prices r = cc in rw same (below.low r relaxed)
+
+        high : (b : Option ℤ) → IsLeastBelow p g k prices None b → (bare ≡ true) ⊎ ((r : List ℕ) × IsRelaxed p g k r) → (t ≤ℤ or_zero b) ⊎ ((bare ≡ true) × (or_zero b ≡ pos 0))
+        high None least (inl bare_is) = inr (bare_is, refl)
+        high None least (inr one) = absurd (least.low one.0 one.1)
+        high (Some z) least why = elim least.found [
+          | inl bare ↦ absurd (cc)
+          | inr one ↦ inl (at z one.0 one.1.0 one.1.1)
+        ]

@@ -1,5 +1,0 @@
-use Rattle.tree_bound.proofs.Listing.{BitsBelow}
-use Rattle.tree_bound.proofs.bits.bits.Given as goal
-
-abbrev pub invariant-loop-u : goal.invariant-loop-u
-invariant-loop-u l = BitsBelow l.instance l.k l.v l.u l.bits.items

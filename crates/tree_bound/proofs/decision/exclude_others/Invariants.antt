@@ -1,5 +1,0 @@
-use Rattle.tree_bound.proofs.Deciding.{ExcludedBelow}
-use Rattle.tree_bound.proofs.decision.exclude_others.Given as goal
-
-abbrev pub invariant-loop-m : goal.invariant-loop-m
-invariant-loop-m l = ExcludedBelow l.j l.m l.initial.allowed l.allowed

@@ -1,5 +1,0 @@
-use Rattle.tree_bound.specs.Memories.{IsNeighbourList}
-use Rattle.tree_bound.proofs.neighbours.neighbour_list.Given as goal
-
-abbrev pub invariant-loop-u : goal.invariant-loop-u
-invariant-loop-u l = IsNeighbourList l.instance l.k l.v l.u l.list.items

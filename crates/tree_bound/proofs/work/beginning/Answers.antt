@@ -1,0 +1,16 @@
+use Rattle.std.proofs.Common.{refl, true, arith}
+use Rattle.std.specs.Prelude.{pos}
+use Rattle.std.proofs.lemmas.Int.{ints}
+use Rattle.tree_bound.specs.declared.label.Label.{Label}
+use Rattle.tree_bound.proofs.Working.{start_label, start_same}
+use Rattle.tree_bound.proofs.work.beginning.Goals as goal
+
+pub returns : goal.returns
+returns c =
+    let x : Label = record { customer = 0; memory = 0; time = c.ready.result; cost = pos 0; active = true } in
+    let same = start_same c.args.leaf.now.neighbours.now.instance.now c.args.leaf.now.neighbours.now.k x refl c.ready.ensures.value refl refl in
+    record {
+      same = same;
+      label = start_label _ _ _ _ x same (record { last = omega arith; time = omega arith; load = omega arith; held = omega arith; low = omega (arith, ints); high = omega (arith, ints) });
+      active = refl;
+    }
