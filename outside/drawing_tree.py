@@ -4,6 +4,8 @@ from drawing import EDGE, HEAD, sheet, title
 from texts import shown
 
 WIDTH, LEVEL, MOST_HIGH, RADIUS = 860, 34, 620, 6
+NAMES = ('<g stroke="white" stroke-width="2.5" paint-order="stroke" fill="#333" font-size="9" '
+         'text-anchor="middle">')
 # Trees of more leaves have no words in them.
 MOST_NAMED = 60
 LEGEND = (("at the bound", 0), ("halfway to the cost", 0.5), ("at the cost", 1), ("furthest above", 2),
@@ -68,16 +70,19 @@ class Frame:
 
 
 def branches(frame, node):
-    """The lines to the children: full where the arc is used, broken where it isn't; and the arc beside the split."""
+    """The lines to the children: full where the arc is used, broken where it isn't."""
     (x, y), found = frame.place(node), []
     told = "Split by the arc from %d to %d" % node.arc
     for child, used in zip(node.children, (True, False)):
         to = frame.place(child)
         found.append('<path d="M%.1f %.1fL%.1f %.1f"%s>%s</path>' % (
             x, y, *to, "" if used else ' stroke-dasharray="4 3"', title("%s: %s" % (told, "used" if used else "not used"))))
-    if frame.leaves <= MOST_NAMED:
-        found.append('<text x="%.1f" y="%.1f" fill="#333" stroke="none" text-anchor="middle">%d→%d</text>' % (x, y - 4, *node.arc))
     return found
+
+
+def arc_name(frame, node):
+    x, y = frame.place(node)
+    return '<text x="%.1f" y="%.1f">%d&#8594;%d</text>' % (x, y - 4, *node.arc)
 
 
 def leaf(frame, node):
@@ -104,8 +109,10 @@ def picture(name, tree, values, bound, cost):
     below = sum(value is not None and value < cost for value in values)
     told = "%s: %d leaves, %d of them below the cost %s; bound %s" % (
         name, frame.leaves, below, shown(cost), shown(bound))
-    drawn = ['<g stroke="#777" stroke-width="%.1f" fill="none" font-size="9">' % min(1, frame.radius / 3)]
-    drawn += [part for node in found if node.children for part in branches(frame, node)] + ["</g>"]
+    splits = [node for node in found if node.children]
+    drawn = ['<g stroke="#777" stroke-width="%.1f" fill="none">' % min(1, frame.radius / 3),
+             *(part for node in splits for part in branches(frame, node)), "</g>", NAMES]
+    drawn += [arc_name(frame, node) for node in splits if frame.leaves <= MOST_NAMED] + ["</g>"]
     drawn += [leaf(frame, node) for node in found if not node.children]
     bottom = HEAD + 2 * EDGE + frame.high
     return sheet(WIDTH, round(bottom + EDGE), told, drawn + list(legend(frame, found, bottom)))
