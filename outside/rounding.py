@@ -43,11 +43,13 @@ def costs(lengths, digits):
     """What the cost is there by each rounding, with its words; the sum is told with so many digits behind a point."""
     whole = sum((EXACT.sqrt(EXACT.divide(Decimal(length.numerator), Decimal(length.denominator)))
                  for length in lengths), Decimal(0))
-    yield cut(whole, digits, ROUND_HALF_UP), "the exact sum is rounded to a %s" % UNITS[digits]
-    yield cut(whole, digits, ROUND_DOWN), "the exact sum is truncated to a %s" % UNITS[digits]
+    nearest_sum, cut_sum = cut(whole, digits, ROUND_HALF_UP), cut(whole, digits, ROUND_DOWN)
+    yield nearest_sum, "the exact sum is rounded to a %s" % UNITS[digits]
+    if cut_sum != nearest_sum:
+        yield cut_sum, "the exact sum is truncated to a %s" % UNITS[digits]
     for place in range(4):
-        for words, rounded in ROUNDINGS:
-            total = sum(rounded(100 ** place * length) for length in lengths)
+        for words, of_square in ROUNDINGS:
+            total = sum(of_square(100 ** place * length) for length in lengths)
             told = "each arc is %s %s" % (words, UNITS[place])
             yield Fraction(total, 10 ** place), told
             if place:

@@ -125,18 +125,34 @@ def count(low, high):
     return read
 
 
+def told(line):
+    """A line on standard error, where that is open."""
+    if sys.stderr is not None:
+        print(line, file=sys.stderr)
+
+
+def printed(text):
+    """Writes a text on standard output, where that is open."""
+    if text and sys.stdout is None:
+        raise Refused("standard output: met a closed one, wanted an open one")
+    if text:
+        sys.stdout.write(text)
+        sys.stdout.flush()
+
+
 def run(tool, work):
     """Does the work, which answers the text for standard output and what is noted; a refusal is one line on standard
     error and the status 1."""
     try:
         text, notes = work()
-        sys.stdout.write(text)
-        sys.stdout.flush()
+        printed(text)
     except Refused as refused:
-        sys.exit("outside/%s: %s" % (tool, " ".join(str(refused).split("\n"))))
+        told("outside/%s: %s" % (tool, " ".join(str(refused).split("\n"))))
+        sys.exit(1)
     except OSError as fault:
         # What is still held back can't be written at the end either.
         os.dup2(os.open(os.devnull, os.O_WRONLY), 1)
-        sys.exit("outside/%s: standard output: %s" % (tool, fault.strerror))
+        told("outside/%s: standard output: %s" % (tool, fault.strerror))
+        sys.exit(1)
     for note in notes:
-        print("outside/%s: note: %s" % (tool, note), file=sys.stderr)
+        told("outside/%s: note: %s" % (tool, note))
