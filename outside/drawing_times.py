@@ -4,7 +4,7 @@ from texts import shown
 from timing import stops
 
 WIDE, LABEL, AXIS, LEVELS = 760, 34, 22, 3
-LANES = (22, 64)
+LANES = (22, 80)
 LEGEND = "thin: driving; pale: waiting; full: service; above: windows, from the ready time to the due date"
 
 

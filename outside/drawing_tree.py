@@ -20,7 +20,7 @@ class Node:
 
 
 def nodes(tree, values):
-    """All nodes, each before its children; leaves stand side by side in preorder, a split above its children's middle."""
+    """All nodes, each before its children: leaves side by side in preorder, a split above the middle of its children."""
     root, found, leaves = Node(0), [], 0
     rest = [(root, tree)]
     while rest:
@@ -73,10 +73,9 @@ def branches(frame, node):
     """The lines to the children: full where the arc is used, broken where it isn't."""
     (x, y), found = frame.place(node), []
     told = "Split by the arc from %d to %d" % node.arc
-    for child, used in zip(node.children, (True, False)):
-        to = frame.place(child)
+    for child, words, look in zip(node.children, ("used", "not used"), ("", ' stroke-dasharray="4 3"')):
         found.append('<path d="M%.1f %.1fL%.1f %.1f"%s>%s</path>' % (
-            x, y, *to, "" if used else ' stroke-dasharray="4 3"', title("%s: %s" % (told, "used" if used else "not used"))))
+            x, y, *frame.place(child), look, title("%s: %s" % (told, words))))
     return found
 
 

@@ -48,7 +48,8 @@ def judge_respelled(program, folder, random):
     put(source, joined(random, with_blanks(random, lines)))
     out, errors, status = tool("respell", path, source, "--certificate", certificate,
                                *(["--from-zero"] if from_zero else []))
-    demand((out, status) == (text_of(solution_of(routes, cost)), 0), "respell: %r, status %d, %r" % (out, status, errors))
+    right = text_of(solution_of(routes, cost))
+    demand((out, status) == (right, 0), "respell: %r, status %d, %r" % (out, status, errors))
     demand_notes("respell", errors)
     demand_reason(errors, word, reason)
     defect = checking.plan_defect(instance, routes)
@@ -107,8 +108,8 @@ def judge_timetable(folder, random):
             demand(any(row[7].startswith("-") for row in rows), "route %d is late: %r" % (place, rows))
             continue
         demand(rows == list(by_walk(instance, place, route)), "route %d: %r" % (place, rows))
-        waits = sum(float(row[3]) for row in rows)
-        right = [str(place), shown(route_cost(instance, route)), shown(walk_times(instance, route)[1] - instance.ready(0))]
+        waits, finish = sum(float(row[3]) for row in rows), walk_times(instance, route)[1]
+        right = [str(place), shown(route_cost(instance, route)), shown(finish - instance.ready(0))]
         demand(sums[place][:3] == right and abs(float(sums[place][3]) - waits) < 0.01, "sums: %r" % sums[place])
     for column in (1, 2, 3):
         whole = sum(float(row[column]) for row in sums[1:-1])

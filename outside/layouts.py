@@ -10,7 +10,9 @@ from collections import namedtuple
 from instances import MOST_CUSTOMERS
 from tool import quoted
 
-MOST_NAME, MOST_FLEET, MOST_CAPACITY, MOST_COORDINATE, MOST_DEMAND, MOST_TIME = 32, 1000, 10_000, 10_000, 10_000, 10 ** 6
+# The limits of ours, and those of the numbers of places there and of the scale.
+MOST_NAME, MOST_FLEET, MOST_CAPACITY = 32, 1000, 10_000
+MOST_COORDINATE, MOST_DEMAND, MOST_TIME = 10_000, 10_000, 10 ** 6
 MOST_NUMBER, MOST_SCALE = 10 ** 9, 10_000
 FLEET, CAPACITY = ("a number of vehicles", MOST_FLEET), ("a capacity", MOST_CAPACITY)
 HINT = " (--scale N multiplies coordinates and times)"

@@ -39,15 +39,19 @@ def plan_of(instance, path):
 
 
 def defects(instance, routes):
-    """Why routes that serve each customer once are no plan, one reason for each route at most."""
+    """Why routes that serve each customer once are no plan: the number of a route, and what is wrong with it."""
     for place, route in enumerate(routes, 1):
         load = sum(instance.demand(i) for i in route)
         late = next((stop for stop in stops(instance, route) if stop.slack < 0), None)
         if load > instance.capacity:
-            yield "route %d has a load of %d, and a vehicle holds %d" % (place, load, instance.capacity)
+            yield place, "a route with a load of %d, and a vehicle holds %d" % (load, instance.capacity)
         elif late:
-            yield "route %d comes too late: to %s at %s, which is due at %s" % (
-                place, "customer %d" % late.stop if late.stop else "the depot", shown(late.begin),
+            yield place, "a route that comes too late: to %s at %s, which is due at %s" % (
+                "customer %d" % late.stop if late.stop else "the depot", shown(late.begin),
                 shown(late.begin + late.slack))
-    if len(routes) > instance.fleet:
-        yield "there are %d routes, and %d vehicles" % (len(routes), instance.fleet)
+        if place == instance.fleet + 1:
+            yield place, "one route more than the %d vehicles" % instance.fleet
+
+
+def noted_defects(instance, routes):
+    return ["no plan of this instance: route %d is %s" % defect for defect in defects(instance, routes)]

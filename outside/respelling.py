@@ -14,7 +14,7 @@ STOP = re.compile(r"[0-9]{1,9}\Z")
 
 
 class Spelled:
-    """The routes, whose numbers know their lines; the cost as its word, or None; and the lines that were passed over."""
+    """The routes, whose numbers know their lines; the cost as its word, or None; the lines that were passed over."""
 
     def __init__(self, text):
         self.text, self.routes, self.cost, self.passed, self.open = text, [], None, [], []

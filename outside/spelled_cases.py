@@ -5,7 +5,8 @@ from building import build
 from tool_texts import Line, pick
 
 BLOCKS = [["Instance name : x", "Authors : A. Solver", "Date : 2020", "Reference : none", "Solution"],
-          ["Solution results", "================", "    # routes: 10", "   objective: %s", "    distance: 5", "Routes", "------"]]
+          ["Solution results", "================", "    # routes: 10", "   objective: %s", "    distance: 5", "Routes",
+           "------"]]
 COST_LINES = ["Cost %s", "Cost: %s", "cost : %s", "COST %s", "Objective: %s"]
 
 

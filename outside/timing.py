@@ -11,7 +11,7 @@ RIGHT = 10
 
 
 def stops(instance, route):
-    """The stops of a route that leaves when the depot opens, and then the return; the slack of a late one is below 0."""
+    """The stops of a route that leaves when the depot opens, and the return; the slack of a late one is below 0."""
     at, time, load, found = 0, instance.ready(0), 0, []
     for i in route + [0]:
         arrival = time + instance.arc[at][i]

@@ -2,8 +2,8 @@
 from instances import read
 from tool_texts import Line, field_of, pick, without, worded
 
-NAMES = ["x", "a" * 32, "#1", "EOF", "NAME", "VEHICLE", "CUSTOMER", "a:b", ":", "-n", "--name=x", '"q"', "'", "a,b", ";",
-         "$(x)", "~!@%", "0", "1.5", "[1]", "Route", "\\n", "&<>", "`x`", "C1-25", "Cost", "*"]
+NAMES = ["x", "a" * 32, "#1", "EOF", "NAME", "VEHICLE", "CUSTOMER", "a:b", ":", "-n", "--name=x", '"q"', "'", "a,b",
+         ";", "$(x)", "~!@%", "0", "1.5", "[1]", "Route", "\\n", "&<>", "`x`", "C1-25", "Cost", "*"]
 # Words that are no whole number within any limit of a row.
 WRONG = ["x", "0.5", "-1", "1000001", "nan", "inf", "1e99", "0x1", "1_0", "1.2.3", "1/2", "\u0661", "--1", "7" * 40]
 WRONG_IDS = ["x", "-1", "1.5", "1e99"]

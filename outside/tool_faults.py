@@ -5,13 +5,17 @@ import re
 from judging_layouts import HERE, demand_refusal
 from running import demand, got, put, run, shown
 
-INSTANCE = ("T\nVEHICLE\nNUMBER CAPACITY\n2 2\nCUSTOMER\nCUST NO. XCOORD. YCOORD. DEMAND READY TIME DUE DATE SERVICE TIME\n"
+INSTANCE = ("T\nVEHICLE\nNUMBER CAPACITY\n2 2\nCUSTOMER\n"
+            "CUST NO. XCOORD. YCOORD. DEMAND READY TIME DUE DATE SERVICE TIME\n"
             "0 0 0 0 0 1000 0\n1 3 4 1 0 1000 0\n2 6 8 1 0 1000 0\n")
 FILES = {
     "i.txt": INSTANCE,
     "other.txt": INSTANCE.replace("T\n", "U\n", 1),
     "late.txt": INSTANCE.replace("2 6 8 1 0 1000 0", "2 6 8 1 0 1 0"),
     "bad.txt": INSTANCE.replace("1 3 4 1", "1 3 4 x"),
+    "few.txt": INSTANCE.replace("2 2\nC", "1 2\nC"),
+    "small.txt": INSTANCE.replace("2 2\nC", "2 1\nC"),
+    "two.txt": "Route #1: 1\nRoute #2: 2\nCost 30.0\n",
     "p.txt": "Route #1: 1 2\nCost 20.0\n",
     "cost.txt": "Route #1: 1 2\nCost 20.1\n",
     "lacks.txt": "Route #1: 1\nCost 10.0\n",
@@ -64,7 +68,9 @@ timetable i.txt form.txt|form.txt|2|BadLine
 timetable i.txt twice.txt|twice.txt|2|customer 1 again
 timetable folder p.txt|folder|0|Is a directory
 draw i.txt cost.txt|cost.txt|2|20.1
-draw late.txt p.txt|p.txt|0|met what is no plan of the instance, route 1 comes too late: to customer 2 at 10.0, which is due at 1.0, wanted one
+draw late.txt p.txt|p.txt|1|met a route that comes too late: to customer 2 at 10.0, which is due at 1.0,
+draw few.txt two.txt|two.txt|2|met one route more than the 1 vehicles,
+draw small.txt p.txt|p.txt|1|met a route with a load of 2, and a vehicle holds 1,
 draw other.txt p.txt --tree k.txt|k.txt|2|another instance
 draw i.txt p.txt --tree worse.txt|worse.txt|7|BadLine
 draw i.txt p.txt --tree nowhere|nowhere|0|No such file or directory

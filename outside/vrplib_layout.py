@@ -5,7 +5,9 @@ from layouts import Read, add
 from tool import quoted
 
 KEY = re.compile(r"([A-Za-z_]\w*)\s*(?::\s*(.*))?\Z", re.ASCII)
-TYPES = ("VRPTW", "CVRPTW")
+# Keys that have to have one of these values, with the reason.
+VALUES = {"TYPE": (("VRPTW", "CVRPTW"), "VRPTW"),
+          "EDGE_WEIGHT_TYPE": (("EUC_2D",), "EUC_2D: ours has coordinates alone, and no other distances")}
 # Keys that say nothing of the instance, or what is looked at alone.
 TOLD = ("NAME", "COMMENT", "TYPE", "DIMENSION", "CAPACITY", "VEHICLES", "SERVICE_TIME", "EDGE_WEIGHT_TYPE",
         "EDGE_WEIGHT_FORMAT", "NODE_COORD_TYPE", "DISPLAY_DATA_TYPE")
@@ -41,20 +43,14 @@ class Sections:
         if key in TOLD:
             if not value and key not in ("NAME", "COMMENT"):
                 self.text.refuse(line, quoted(told), "%s : and its value" % key)
+            if key in VALUES and value.upper() not in VALUES[key][0]:
+                self.text.refuse(line, "%s : %s" % (key, quoted(value)), VALUES[key][1])
             self.keys[key] = (line, value or "")
             return None
         if key in WIDTHS or key == DEPOTS:
             self.sections[key] = (line, [])
             return self.sections[key][1]
-        self.text.refuse(line, key, "none: what it says ours can't hold, or it isn't known here")
-
-    def key(self, key, values):
-        """Refuses a key with another value than these, or without one where it has to be there."""
-        if key not in self.keys:
-            self.text.at_end("%s : %s" % (key, values[0]))
-        line, value = self.keys[key]
-        if value.upper() not in values:
-            self.text.refuse(line, "%s : %s" % (key, quoted(value)), " or ".join(values))
+        self.text.refuse(line, key, "keys and sections that ours can hold: none of this one")
 
     def section(self, key, quantities):
         """A section's words by the number of their place."""
@@ -102,9 +98,8 @@ def services(found, numbers, depot, quantities, notes):
 
 def read(text, quantities):
     found, notes = Sections(text), ["each arc is truncated to a tenth here, however EUC_2D is rounded elsewhere"]
-    if "TYPE" in found.keys:
-        found.key("TYPE", TYPES)
-    found.key("EDGE_WEIGHT_TYPE", ("EUC_2D",))
+    if "EDGE_WEIGHT_TYPE" not in found.keys:
+        text.at_end("EDGE_WEIGHT_TYPE : EUC_2D")
     places = found.section(COORDINATES, quantities)
     depot = found.depot(places, quantities)
     parts = [places, found.section(DEMANDS, quantities), found.section(WINDOWS, quantities),
