@@ -47,15 +47,12 @@ class Quantities:
     def node(self, line, word):
         return self.text.whole(line, word, "a number of a place", 0, MOST_NUMBER)
 
-    def of_vehicles(self, line, word, what):
-        """Fleet or capacity, which an option may replace before its limits count."""
-        return self.text.whole(line, word, what, 0, MOST_NUMBER)
-
     def fleet(self, line, word):
-        return self.of_vehicles(line, word, FLEET[0])
+        """The fleet, which an option may replace before its limit counts; and so the capacity."""
+        return self.text.whole(line, word, FLEET[0], 0, MOST_NUMBER)
 
     def capacity(self, line, word):
-        return self.of_vehicles(line, word, CAPACITY[0])
+        return self.text.whole(line, word, CAPACITY[0], 0, MOST_NUMBER)
 
 
 def add(text, nodes, number, row):
