@@ -3,7 +3,7 @@ bound."""
 from drawing import EDGE, HEAD, sheet, title
 from texts import shown
 
-WIDTH, LEVEL, MOST_HIGH, RADIUS = 860, 34, 620, 6
+WIDTH, LEVEL, MOST_HIGH, RADIUS, STRIP = 860, 34, 620, 6, 40
 NAMES = ('<g stroke="white" stroke-width="2.5" paint-order="stroke" fill="#333" font-size="9" '
          'text-anchor="middle">')
 # Trees of more leaves have no words in them.
@@ -88,13 +88,23 @@ def leaf(frame, node):
     x, y = frame.place(node)
     told = "a value that wasn't found" if node.value is None else "the value %s, %s above the bound" % (
         shown(node.value), shown(node.value - frame.bound))
-    return '<circle cx="%.1f" cy="%.1f" r="%.1f" fill="%s" stroke="#555" stroke-width="0.6">%s</circle>' % (
-        x, y, frame.radius, colour(frame.part(node.value)), title("Leaf %d has %s" % (node.across + 1, told)))
+    return '<circle cx="%.1f" cy="%.1f" r="%.1f" fill="%s" stroke="#555" stroke-width="%.1f">%s</circle>' % (
+        x, y, frame.radius, colour(frame.part(node.value)), min(0.6, frame.radius / 5), title("Leaf %d has %s" % (node.across + 1, told)))
+
+
+def strip(frame, found, top):
+    """A bar for each leaf below the tree: as high as its value is on the way from the bound to the cost."""
+    wide = (WIDTH - 2 * EDGE) / frame.leaves
+    for node in found:
+        part = frame.part(node.value)
+        high = 3 + (STRIP - 3) * min(1, part or 0)
+        yield '<rect x="%.2f" y="%.1f" width="%.2f" height="%.1f" fill="%s"/>' % (
+            EDGE + wide * node.across, top + STRIP - high, wide * 0.9, high, colour(part))
 
 
 def legend(frame, found, top):
     """What the colours mean, as far as leaves have them."""
-    unknown = any(not node.children and node.value is None for node in found)
+    unknown = any(node.value is None for node in found)
     for place, (words, part) in enumerate(LEGEND[:5 if unknown else 4]):
         x = EDGE + 10 + 150 * place
         yield '<circle cx="%d" cy="%d" r="6" fill="%s" stroke="#555" stroke-width="0.6"/>' % (x, top, colour(part))
@@ -112,6 +122,8 @@ def picture(name, tree, values, bound, cost):
     drawn = ['<g stroke="#777" stroke-width="%.1f" fill="none">' % min(1, frame.radius / 3),
              *(part for node in splits for part in branches(frame, node)), "</g>", NAMES]
     drawn += [arc_name(frame, node) for node in splits if frame.leaves <= MOST_NAMED] + ["</g>"]
-    drawn += [leaf(frame, node) for node in found if not node.children]
-    bottom = HEAD + 2 * EDGE + frame.high
-    return sheet(WIDTH, round(bottom + EDGE), told, drawn + list(legend(frame, found, bottom)))
+    leaves = [node for node in found if not node.children]
+    bottom = HEAD + 1.6 * EDGE + frame.high
+    drawn += [leaf(frame, node) for node in leaves] + [*strip(frame, leaves, bottom)]
+    bottom += STRIP + EDGE
+    return sheet(WIDTH, round(bottom + EDGE), told, drawn + list(legend(frame, leaves, bottom)))
