@@ -1,7 +1,7 @@
 """One run of `respell`, `timetable` or `draw`: what they make of random plans, by this folder and the program."""
 import os
-import xml.etree.ElementTree as tree_of_text
 from collections import Counter
+from xml.etree import ElementTree
 
 import bounding
 import checking
@@ -122,7 +122,7 @@ def pictured(folder, *words):
     """The elements of a picture by their names, and its titles; all that has a place stands within it."""
     out, errors, status = tool("draw", *words)
     demand((errors, status) == ("", 0), "draw: status %d, %r" % (status, errors))
-    root = tree_of_text.fromstring(out)
+    root = ElementTree.fromstring(out)
     wide, high = float(root.get("width")), float(root.get("height"))
     for element in root.iter():
         for name, most in (("x", wide), ("cx", wide), ("y", high), ("cy", high)):

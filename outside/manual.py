@@ -6,6 +6,8 @@ from running import demand, run, shown
 SUBCOMMANDS = ("solve", "check")
 # A part of a program's help: the words of an argument or an option, and what is told of it.
 ENTRY = re.compile(r"^ +(<\w+>|-.*?)  +(\S.*)$")
+SEE_ALSO = ["docs/formats.md has the texts, docs/tutorial.md shows the program at work, and outside/README.md has the",
+            "tools for other layouts, timetables and pictures."]
 SPAN = re.compile(r"`([^`]*)`")
 
 
@@ -21,10 +23,10 @@ class Help:
 
     def __init__(self, program, words=()):
         out, errors, status = run([program, *words, "--help"])
-        demand(status == 0 and not errors, "help %r: %r" % (words, errors))
         lines = shown(out).split("\n")
-        self.about = lines[0]
-        self.usage = next(line for line in lines if line.startswith("Usage: "))[len("Usage: "):]
+        usages = [line[len("Usage: "):] for line in lines if line.startswith("Usage: ")]
+        demand(status == 0 and not errors and len(usages) == 1, "a help without usage, status %d" % status)
+        self.about, self.usage = lines[0], usages[0]
         self.entries = [ENTRY.match(line).groups() for line in lines if ENTRY.match(line)]
 
 
@@ -78,4 +80,4 @@ def page(program, document):
     found += [".SH OUTPUT", roff(output), ".SH DIAGNOSTICS", "One line on standard error:"]
     found += listed((line, "Status %s: %s" % (status, meaning)) for line, meaning, status in errors)
     found += [".PP", roff(next(line for line in document.split("\n") if line.startswith("A NAME ")))]
-    return "\n".join(found + [".SH EXAMPLE", *example(document), ""])
+    return "\n".join(found + [".SH EXAMPLE", *example(document), ".SH SEE ALSO", *SEE_ALSO, ""])

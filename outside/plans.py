@@ -1,6 +1,4 @@
 """Our texts as the tools read them: an instance, and a solution that serves each of its customers once."""
-import re
-
 from instances import Fault, plan_cost, read
 from respelling import Numbering, customers
 from texts import TextFault, read_certificate, read_solution, shown

@@ -99,7 +99,7 @@ WRITERS = {"solomon": solomon_lines, "csv": csv_lines, "vrplib": vrplib_lines}
 DEMAND, READY, DUE, SERVICE = 2, 3, 4, 5
 
 
-def put(random, lines, row, field, word, layout):
+def put_field(lines, row, field, word, layout):
     """Puts a word into a field of a row of the instance; answers the line."""
     if layout == "vrplib":
         place = next(place for place, (low, high) in enumerate(PLACES) if low <= field < high)
@@ -112,22 +112,22 @@ def put(random, lines, row, field, word, layout):
 def wrong_number(random, lines, layout):
     row = pick(random, lines, "row")
     field = random.randrange(6)
-    return put(random, lines, row.row, field, random.choice(WRONG), layout)
+    return put_field(lines, row.row, field, random.choice(WRONG), layout)
 
 
 def wrong_depot(random, lines, layout):
-    return put(random, lines, 0, random.choice([DEMAND, SERVICE]), "5", layout)
+    return put_field(lines, 0, random.choice([DEMAND, SERVICE]), "5", layout)
 
 
 def no_demand(random, lines, layout):
     last = max(line.row for line in lines if line.role == "row")
-    return put(random, lines, random.randint(1, last), DEMAND, random.choice(["0", "0.0"]), layout)
+    return put_field(lines, random.randint(1, last), DEMAND, random.choice(["0", "0.0"]), layout)
 
 
 def reversed_window(random, lines, layout):
     row = pick(random, lines, "row").row
-    put(random, lines, row, READY, "9", layout)
-    return put(random, lines, row, DUE, "8.0", layout)
+    put_field(lines, row, READY, "9", layout)
+    return put_field(lines, row, DUE, "8.0", layout)
 
 
 def wrong_width(random, lines, layout):

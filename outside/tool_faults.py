@@ -90,7 +90,7 @@ respell i.txt|required: SOLUTION
 timetable i.txt p.txt --cvs|unrecognized
 draw i.txt p.txt --times --tree k.txt|not allowed
 """
-TOOLS = ("convert", "respell", "timetable", "draw")
+TOOLS = ("convert", "respell", "timetable", "draw", "manual")
 # With standard output on a full device or closed.
 PRINTING = ("respell i.txt p.txt", "timetable i.txt p.txt", "draw i.txt p.txt")
 
