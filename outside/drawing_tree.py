@@ -20,7 +20,7 @@ class Node:
 
 
 def nodes(tree, values):
-    """All nodes, each before its children: leaves side by side in preorder, a split above the middle of its children."""
+    """All nodes, each before its children: leaves side by side in preorder, a split above its children's middle."""
     root, found, leaves = Node(0), [], 0
     rest = [(root, tree)]
     while rest:
@@ -88,8 +88,9 @@ def leaf(frame, node):
     x, y = frame.place(node)
     told = "a value that wasn't found" if node.value is None else "the value %s, %s above the bound" % (
         shown(node.value), shown(node.value - frame.bound))
-    return '<circle cx="%.1f" cy="%.1f" r="%.1f" fill="%s" stroke="#555" stroke-width="%.1f">%s</circle>' % (
-        x, y, frame.radius, colour(frame.part(node.value)), min(0.6, frame.radius / 5), title("Leaf %d has %s" % (node.across + 1, told)))
+    look = 'fill="%s" stroke="#555" stroke-width="%.1f"' % (colour(frame.part(node.value)), min(0.6, frame.radius / 5))
+    return '<circle cx="%.1f" cy="%.1f" r="%.1f" %s>%s</circle>' % (
+        x, y, frame.radius, look, title("Leaf %d has %s" % (node.across + 1, told)))
 
 
 def strip(frame, found, top):

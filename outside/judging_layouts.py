@@ -69,23 +69,24 @@ def judge_round_trip(folder, random):
     return "the same"
 
 
-def drawn(random, layout, most):
+def drawn(random, layout, most, scale=1):
     """An instance whose name the layout holds, and the lines of its text."""
     instance = odd_instance(random, most)
     while layout == "solomon" and instance.name.startswith(b"#"):
         instance = odd_instance(random, most)
-    return instance, WRITERS[layout](random, instance)
+    return instance, WRITERS[layout](random, instance, scale)
 
 
 def judge_layout(folder, random):
     """A text as it is found, from each layout."""
-    layout = random.choice(LAYOUTS)
-    instance, lines = drawn(random, layout, 60)
+    layout, scale = random.choice(LAYOUTS), random.choice([1, 1, 10])
+    instance, lines = drawn(random, layout, 60, scale)
     source, target = os.path.join(folder, "source"), os.path.join(folder, "target")
     put(source, joined(random, with_blanks(random, lines)))
-    found = converted(source, target, (layout, "ours"), options_of(instance) if layout == "csv" else ())
+    options = ["--scale", str(scale)] + (options_of(instance) if layout == "csv" else [])
+    found = converted(source, target, (layout, "ours"), options)
     demand(is_same(found, instance), "%s: another instance" % layout)
-    return layout
+    return "%s by %d" % (layout, scale)
 
 
 def judge_wrong_layout(folder, random):

@@ -42,11 +42,12 @@ def judge_respelled(program, folder, random):
     cost and the bound 0."""
     instance, text, path, routes = drawn(folder, random)
     cost, from_zero = plan_cost(instance, routes), random.randrange(3) == 0
-    word, reason = cost_told(random, instance, routes, cost)
+    scale = random.choice([1, 1, 10])
+    word, reason = cost_told(random, instance, routes, cost, scale)
     lines = spelled(random, instance.count, routes + [[]] * random.choice([0, 0, 1]), word, from_zero)
     source, certificate = os.path.join(folder, "elsewhere"), os.path.join(folder, "prices")
     put(source, joined(random, with_blanks(random, lines)))
-    out, errors, status = tool("respell", path, source, "--certificate", certificate,
+    out, errors, status = tool("respell", path, source, "--certificate", certificate, "--scale", str(scale),
                                *(["--from-zero"] if from_zero else []))
     right = text_of(solution_of(routes, cost))
     demand((out, status) == (right, 0), "respell: %r, status %d, %r" % (out, status, errors))

@@ -23,24 +23,24 @@ def partition(random, instance):
     return routes
 
 
-def lengths(instance, routes):
-    """The lengths of all arcs as a machine has them."""
+def lengths(instance, routes, scale):
+    """The lengths of all arcs as a machine has them, where coordinates weren't multiplied by the scale."""
     rows = instance.rows
-    return [hypot(rows[a][0] - rows[b][0], rows[a][1] - rows[b][1])
+    return [hypot(rows[a][0] - rows[b][0], rows[a][1] - rows[b][1]) / scale
             for route in routes for a, b in zip([0] + route, route + [0])]
 
 
-def cost_told(random, instance, routes, cost):
+def cost_told(random, instance, routes, cost, scale):
     """A cost as it is told elsewhere, or None, and what the note on it says of the reason."""
-    whole = fsum(lengths(instance, routes))
-    kinds = [(None, None), ("%d.%d" % divmod(cost, 10), None), ("%d.%d00" % divmod(cost, 10), None),
+    found = lengths(instance, routes, scale)
+    whole, ours = fsum(found), ("%d.%d" if scale == 1 else "%d.%02d") % divmod(cost, 10 * scale)
+    kinds = [(None, None), (ours, None), (ours + "00", None),
              ("%d" % cost, "the same"), ("%.2f" % whole, "the exact sum is rounded to a hundredth"),
              ("%.6f" % whole, "the exact sum is rounded to a 6th digit"), (repr(whole), "the exact sum is rounded"),
-             ("%d" % sum(round(length) for length in lengths(instance, routes)),
+             ("%d" % sum(int(length + 0.5) for length in found),
               "each arc is rounded to the nearest whole unit"), ("%d.5" % (7 * cost + 1), "no usual rounding")]
     word, reason = random.choice(kinds)
-    is_ours = word is not None and "." in word and float(word) * 10 == cost or word == "0"
-    return word, None if is_ours else reason
+    return word, reason if word is not None and float(word) != float(ours) else None
 
 
 def with_depots(random, stops, first, last):

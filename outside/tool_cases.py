@@ -9,6 +9,8 @@ WRONG = ["x", "0.5", "-1", "1000001", "nan", "inf", "1e99", "0x1", "1_0", "1.2.3
 WRONG_IDS = ["x", "-1", "1.5", "1e99"]
 WHATS = ("NODE_COORD_SECTION", "DEMAND_SECTION", "TIME_WINDOW_SECTION", "SERVICE_TIME_SECTION")
 PLACES = ((0, 2), (2, 3), (3, 5), (5, 6))
+# The places of a row's words.
+DEMAND, READY, DUE, SERVICE = 2, 3, 4, 5
 HEADING = "CUST NO.  XCOORD.   YCOORD.    DEMAND   READY TIME  DUE DATE   SERVICE   TIME"
 
 
@@ -44,7 +46,13 @@ def found_as(random, value):
     return random.choice(["%d", "%d", "%d.00", "%d.0", "+%d", "0%d", "%d.", "%de0"]) % value
 
 
-def solomon_lines(random, instance):
+def words_of(random, row, scale):
+    """The six words of a row; by a scale of 10 coordinates and times have a tenth of their values, with a decimal."""
+    return [found_as(random, value) if scale == 1 or field == DEMAND else "%d.%d" % divmod(value, 10)
+            for field, value in enumerate(row)]
+
+
+def solomon_lines(random, instance, scale):
     """Headings in any case, rows in any order."""
     def cased(words):
         return random.choice([words, words.lower(), words.title(), words.replace(" ", "\t"), words.replace(".", "")])
@@ -52,13 +60,13 @@ def solomon_lines(random, instance):
              Line("heading", cased("NUMBER CAPACITY")),
              Line("numbers", "%s %s" % tuple(found_as(random, value) for value in (instance.fleet, instance.capacity))),
              Line("heading", cased("CUSTOMER")), Line("heading", cased(HEADING))]
-    rows = [Line("row", " ".join(found_as(random, value) for value in (i, *row)), i)
+    rows = [Line("row", " ".join([found_as(random, i), *words_of(random, row, scale)]), i)
             for i, row in enumerate(values(instance))]
     random.shuffle(rows)
     return lines + rows
 
 
-def csv_lines(random, instance):
+def csv_lines(random, instance, scale):
     """Columns in any order, one more among them, separated in any way."""
     names, separator = ["x", "y", "demand", "ready", "due", "service", "remark"], random.choice(",;\t")
     order = random.sample(range(7), 7)
@@ -66,13 +74,13 @@ def csv_lines(random, instance):
 
     def laid(cells):
         return separator.join(quote(cells[place]) for place in order)
-    rows = [Line("row", laid([found_as(random, value) for value in row] + ["a remark"]), i, separator, order)
+    rows = [Line("row", laid(words_of(random, row, scale) + ["a remark"]), i, separator, order)
             for i, row in enumerate(values(instance))]
     return [Line("heading", laid([random.choice([name, name.upper(), " %s " % name]) for name in names]), 0, separator,
                  order)] + rows
 
 
-def vrplib_lines(random, instance):
+def vrplib_lines(random, instance, scale):
     """Sections in any order, numbers of the places that are others, the depot's among them."""
     rows = values(instance)
     depot = random.choice([0, 1, 1, len(rows), random.randint(0, len(rows))])
@@ -83,7 +91,7 @@ def vrplib_lines(random, instance):
     random.shuffle(keys)
     parts = []
     for what, (low, high) in zip(WHATS, PLACES):
-        part = [Line("row", " ".join([str(numbers[i])] + [found_as(random, value) for value in row[low:high]]), i, what)
+        part = [Line("row", " ".join([str(numbers[i])] + words_of(random, row, scale)[low:high]), i, what)
                 for i, row in enumerate(rows)]
         parts.append([Line("section", random.choice([what, what.lower()]), 0, what)] + random.sample(part, len(part)))
     parts.append([Line("section", "DEPOT_SECTION", 0, "DEPOT_SECTION"), Line("depot", "%d" % depot)])
@@ -95,8 +103,6 @@ def vrplib_lines(random, instance):
 
 
 WRITERS = {"solomon": solomon_lines, "csv": csv_lines, "vrplib": vrplib_lines}
-# By a row's field its place in a text with all fields in one line.
-DEMAND, READY, DUE, SERVICE = 2, 3, 4, 5
 
 
 def put_field(lines, row, field, word, layout):
