@@ -7,7 +7,8 @@ from texts import shown
 # A stop is a customer, or the depot (0) at the end; times in tenths, slack until the due date at the begin of service.
 Stop = namedtuple("Stop", "stop arrival wait begin end load slack")
 Sums = namedtuple("Sums", "distance duration waiting")
-RIGHT = 10
+# How wide a column is at least.
+WIDTH = 10
 
 
 def stops(instance, route):
@@ -53,10 +54,14 @@ def tables(instance, routes):
 
 def aligned(instance, routes):
     by_stop, by_route = tables(instance, routes)
-    lines = ["".join(word.rjust(RIGHT) for word in row) for row in by_stop]
-    # An empty line stands behind each return.
-    spaced = [line + "\n" if row[1] == "0" else line for row, line in zip(by_stop, lines)]
-    return "\n".join(spaced + ["".join(word.rjust(RIGHT) for word in row) for row in by_route] + [""])
+    wide = max([WIDTH] + [len(word) + 1 for row in by_stop + by_route for word in row])
+    lines = []
+    for row in by_stop + by_route:
+        lines.append("".join(word.rjust(wide) for word in row))
+        # An empty line stands behind each return.
+        if row[1] == "0":
+            lines.append("")
+    return "\n".join(lines + [""])
 
 
 def separated(instance, routes):
