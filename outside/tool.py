@@ -68,9 +68,9 @@ class Text:
 
     def filled(self):
         """The lines that are neither blank nor a comment, which begins with #, with their numbers."""
-        for number, line in enumerate(self.lines, 1):
+        for place, line in enumerate(self.lines, 1):
             if line.strip() and not line.strip().startswith("#"):
-                yield number, line.strip()
+                yield place, line.strip()
 
     def whole(self, line, word, what, low, high, scale=1, hint=""):
         """A whole number within limits once it is multiplied by the scale; the hint is what makes it whole."""
@@ -132,12 +132,17 @@ def told(line):
 
 
 def printed(text):
-    """Writes a text on standard output, where that is open."""
-    if text and sys.stdout is None:
-        raise Refused("standard output: met a closed one, wanted an open one")
-    if text:
-        sys.stdout.write(text)
-        sys.stdout.flush()
+    """Writes a text on standard output."""
+    try:
+        if text and sys.stdout is None:
+            raise Refused("standard output: met a closed one, wanted an open one")
+        if text:
+            sys.stdout.write(text)
+            sys.stdout.flush()
+    except OSError as fault:
+        # What is still held back can't be written at the end either.
+        os.dup2(os.open(os.devnull, os.O_WRONLY), 1)
+        raise Refused("standard output: %s" % last_words(fault))
 
 
 def run(tool, work):
@@ -148,11 +153,6 @@ def run(tool, work):
         printed(text)
     except Refused as refused:
         told("outside/%s: %s" % (tool, " ".join(str(refused).split("\n"))))
-        sys.exit(1)
-    except OSError as fault:
-        # What is still held back can't be written at the end either.
-        os.dup2(os.open(os.devnull, os.O_WRONLY), 1)
-        told("outside/%s: standard output: %s" % (tool, fault.strerror))
         sys.exit(1)
     for note in notes:
         told("outside/%s: note: %s" % (tool, note))
