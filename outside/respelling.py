@@ -78,19 +78,22 @@ class Spelled:
 
 
 class Numbering:
-    """The numbers of the first and the last customer, and those of the depot at the ends of a route."""
+    """The numbers of the first and the last customer, those of the depot at the ends of a route, and a hint."""
 
-    def __init__(self, first, last, depots=()):
-        self.first, self.last, self.depots = first, last, depots
+    def __init__(self, first, last, depots=(), hint=""):
+        self.first, self.last, self.depots, self.hint = first, last, depots, hint
 
     def told(self):
-        at_ends = " or ".join(str(depot) for depot in self.depots)
-        return "customers %d to %d%s" % (self.first, self.last, at_ends and ", and at the ends the depot %s" % at_ends)
+        ends = " or ".join(str(depot) for depot in self.depots)
+        ends = ends and ", and at the ends the depot %s" % ends
+        return "each customer of %d to %d once%s%s" % (self.first, self.last, ends, self.hint)
 
 
-def numbering(count, from_zero):
-    """That of another solver: the depot may be 0 or stand behind the last customer."""
-    return Numbering(0, count - 1, (count,)) if from_zero else Numbering(1, count, (0, count + 1))
+def numbering_of(count, from_zero):
+    """That of another solver: the depot may be 0, where no customer is, or stand behind the last customer."""
+    if from_zero:
+        return Numbering(0, count - 1, (count,))
+    return Numbering(1, count, (0, count + 1), " (counted from 0: --from-zero)")
 
 
 def customers(text, spelled, numbering):
@@ -102,7 +105,7 @@ def customers(text, spelled, numbering):
             if not numbering.first <= stop <= numbering.last:
                 text.refuse(stop.line, '"%d"' % stop, numbering.told())
             if stop in met:
-                text.refuse(stop.line, "customer %d again, after line %d" % (stop, met[stop]), "each customer once")
+                text.refuse(stop.line, "customer %d again, after line %d" % (stop, met[stop]), numbering.told())
             met[stop] = stop.line
         if route:
             routes.append([stop - numbering.first + 1 for stop in route])
@@ -110,7 +113,7 @@ def customers(text, spelled, numbering):
             empty.append(place)
     for stop in range(numbering.first, numbering.last + 1):
         if stop not in met:
-            text.at_end("each customer of %d to %d once" % (numbering.first, numbering.last), "no customer %d" % stop)
+            text.at_end(numbering.told(), "no customer %d" % stop)
     return routes, ["empty routes are left out: %s" % listed(empty)] if empty else []
 
 
