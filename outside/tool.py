@@ -3,6 +3,7 @@ import argparse
 import os
 import re
 import sys
+from codecs import BOM_UTF8
 from fractions import Fraction
 
 NUMBER = re.compile(r"[+-]?([0-9]{1,30}(\.[0-9]{0,30})?|\.[0-9]{1,30})([eE][+-]?[0-9]{1,2})?\Z")
@@ -46,10 +47,12 @@ class Text:
 
     def __init__(self, path):
         self.path, self.held = path, content(path)
+        begin = len(BOM_UTF8) if self.held.startswith(BOM_UTF8) else 0
         try:
-            whole = self.held.decode("utf-8-sig")
+            whole = self.held[begin:].decode()
         except UnicodeDecodeError as fault:
-            self.refuse(self.line_of(fault.start), "the byte 0x%02X" % self.held[fault.start], "UTF-8")
+            at = begin + fault.start
+            self.refuse(self.line_of(at), "the byte 0x%02X" % self.held[at], "UTF-8")
         self.lines = whole.replace("\r\n", "\n").replace("\r", "\n").split("\n")
 
     def line_of(self, offset):
