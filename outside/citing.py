@@ -16,6 +16,7 @@ EXCEPTED = {
     r"/dev/.*": "the system's",
     r"(c|r|rc)[12](_\d+)?": "the files and classes of docs/measures.md, most of which aren't in the repository",
     r"(?=.*\d)[0-9a-f]{7}": "commits",
+    r"(instance|plan|certificate)\.txt": "a user's own files",
 }
 
 # Where files stand that a document names without a folder: what it is about.
@@ -165,7 +166,7 @@ class Document:
     def judge_code(self, text):
         """Commands and sketches: names with a scope, and paths that begin at the top of the repository."""
         for word in text.replace("(", " ").replace(")", " ").split():
-            word = word.strip(",;")
+            word = word.strip(",;:")
             if SCOPED.match(word):
                 self.judge_name(word, None)
             elif "/" in word and os.path.exists(os.path.join(self.sources.top, word.split("/")[0])):

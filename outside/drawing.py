@@ -97,15 +97,22 @@ def depot_spot(frame, instance):
         x - 7.5, y - 7.5, title(told))
 
 
-def picture(instance, routes, cost):
-    """The lines of the picture of a plan."""
-    frame = Frame(instance)
+def told_of(instance, routes, cost):
+    return "%s: %d customers, %d routes, cost %s" % (instance.name.decode(), instance.count, len(routes), shown(cost))
+
+
+def sheet(width, height, told, drawn):
+    """A white picture with what is told above it."""
+    return ['<svg xmlns="http://www.w3.org/2000/svg" viewBox="0 0 %d %d" width="%d" height="%d" '
+            'font-family="sans-serif">' % (2 * (width, height)), title(told),
+            '<rect width="100%" height="100%" fill="white"/>',
+            '<text x="%d" y="26" font-size="17">%s</text>' % (EDGE, escape(told)), *drawn, "</svg>"]
+
+
+def drawn_map(frame, instance, routes):
+    """Customers, depot and a line for each route."""
     size, radius = (12, 5) if instance.count <= 30 else (10, 4.2) if instance.count <= 110 else (7, 3)
-    told = "%s: %d customers, %d routes, cost %s" % (instance.name.decode(), instance.count, len(routes), shown(cost))
-    found = ['<svg xmlns="http://www.w3.org/2000/svg" viewBox="0 0 %d %d" width="%d" height="%d" '
-             'font-family="sans-serif">' % (2 * (frame.width, frame.height)), title(told),
-             '<rect width="100%" height="100%" fill="white"/>',
-             '<text x="%d" y="26" font-size="17">%s</text>' % (EDGE, escape(told))]
+    found = []
     for number, route in enumerate(routes):
         found += route_lines(frame, instance, number, route)
     for number, route in enumerate(routes):
@@ -113,4 +120,10 @@ def picture(instance, routes, cost):
             found.append(customer_spot(frame, instance, i, number, begin, radius))
     look = ('<g font-size="%d" stroke="white" stroke-width="1.6" stroke-opacity="0.8" paint-order="stroke" '
             'fill="black">' % size)
-    return found + [depot_spot(frame, instance), look, *numbers(frame, instance, size, radius), "</g>", "</svg>"]
+    return found + [depot_spot(frame, instance), look, *numbers(frame, instance, size, radius), "</g>"]
+
+
+def picture(instance, routes, cost):
+    """The lines of the picture of a plan."""
+    frame = Frame(instance)
+    return sheet(frame.width, frame.height, told_of(instance, routes, cost), drawn_map(frame, instance, routes))

@@ -12,6 +12,8 @@ from cases import (LARGE, certificate_lines, certificate_of, instance_words, lai
 from closing import judge_close
 from devices import judge_device
 from instances import Fault, plan_cost, read
+from judging_layouts import judge_layout, judge_round_trip, judge_wrong_layout
+from judging_plans import judge_picture, judge_respelled, judge_timetable, judge_wrong_spelling
 from mutating import judge_bytes
 from refusing import judge_memory
 from rows import ROWS, status_of
@@ -20,7 +22,9 @@ from running import Disagreement, demand, run, run_check, solve
 from solving import judge_solve
 from spellings import SPELLINGS
 from texts import TextFault, read_certificate, read_solution, shown
+from tool_faults import judge_fault
 from turning import Words, turn
+from tutorial import judge_manual, judge_tutorial
 
 
 def judge_refusal(program, folder, random):
@@ -186,6 +190,16 @@ JUDGES = {
     "solutions": lambda programs, folder, random, seed: judge_text(programs, folder, random, "solutions"),
     "memory": lambda programs, folder, random, seed: judge_memory(
         programs.program, folder, programs.library, random, seed),
+    "round_trips": lambda programs, folder, random, seed: judge_round_trip(folder, random),
+    "layouts": lambda programs, folder, random, seed: judge_layout(folder, random),
+    "wrong_layouts": lambda programs, folder, random, seed: judge_wrong_layout(folder, random),
+    "respelled": lambda programs, folder, random, seed: judge_respelled(programs.program, folder, random),
+    "wrong_spellings": lambda programs, folder, random, seed: judge_wrong_spelling(folder, random),
+    "timetables": lambda programs, folder, random, seed: judge_timetable(folder, random),
+    "pictures": lambda programs, folder, random, seed: judge_picture(folder, random),
+    "tool_faults": lambda programs, folder, random, seed: judge_fault(folder, seed),
+    "tutorial": lambda programs, folder, random, seed: judge_tutorial(programs.program, folder),
+    "manual": lambda programs, folder, random, seed: judge_manual(programs.program),
     "instance_bytes": lambda programs, folder, random, seed: judge_bytes(
         programs.program, folder, random, "instance"),
     "certificate_bytes": lambda programs, folder, random, seed: judge_bytes(

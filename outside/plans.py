@@ -1,0 +1,55 @@
+"""Our texts as the tools read them: an instance, and a solution that serves each of its customers once."""
+from instances import Fault, plan_cost, read
+from respelling import Numbering, customers
+from texts import TextFault, read_certificate, read_solution, shown
+from timing import stops
+from tool import Found, Text, quoted
+
+
+def of_ours(text, reader, what):
+    """What our reader reads; its fault is told with its name, and with the line that has it."""
+    try:
+        return reader(text.held)
+    except (Fault, TextFault) as fault:
+        name, _, place = str(fault).partition(" ")
+        kind, _, number = place.partition(" ")
+        line = int(number) if kind == "line" else text.line_of(int(number)) if kind else text.last()
+        text.refuse(line, "%s (%s)" % (quoted(text.lines[line - 1]), name), "%s of docs/formats.md" % what)
+
+
+def instance_of(path):
+    return of_ours(Text(path), read, "an instance")
+
+
+def certificate_of(path):
+    return of_ours(Text(path), read_certificate, "a certificate")
+
+
+def plan_of(instance, path):
+    """Routes and cost of a solution; it serves each customer once, at the cost that it tells."""
+    text = Text(path)
+    routes, cost = of_ours(text, read_solution, "a solution")
+    found = [[Found(i, line) for i in route] for line, route in enumerate(routes, 1)]
+    customers(text, found, Numbering(1, instance.count))
+    if plan_cost(instance, routes) != cost:
+        text.refuse(text.last(), "a cost of %s" % shown(cost), "%s" % shown(plan_cost(instance, routes)))
+    return routes, cost
+
+
+def defects(instance, routes):
+    """Why routes that serve each customer once are no plan: the number of a route, and what is wrong with it."""
+    for place, route in enumerate(routes, 1):
+        load = sum(instance.demand(i) for i in route)
+        late = next((stop for stop in stops(instance, route) if stop.slack < 0), None)
+        if load > instance.capacity:
+            yield place, "a route with a load of %d, and a vehicle holds %d" % (load, instance.capacity)
+        elif late:
+            yield place, "a route that comes too late: to %s at %s, which is due at %s" % (
+                "customer %d" % late.stop if late.stop else "the depot", shown(late.begin),
+                shown(late.begin + late.slack))
+        if place == instance.fleet + 1:
+            yield place, "one route more than the %d vehicles" % instance.fleet
+
+
+def noted_defects(instance, routes):
+    return ["no plan of this instance: route %d is %s" % defect for defect in defects(instance, routes)]

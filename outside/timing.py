@@ -1,0 +1,68 @@
+"""When the vehicles of a plan are where: the stops of each route with their times, as a table."""
+from collections import namedtuple
+
+from instances import route_cost
+from texts import shown
+
+# A stop is a customer, or the depot (0) at the end; times in tenths, slack until the due date at the begin of service.
+Stop = namedtuple("Stop", "stop arrival wait begin end load slack")
+Sums = namedtuple("Sums", "distance duration waiting")
+# How wide a column is at least.
+WIDTH = 10
+
+
+def stops(instance, route):
+    """The stops of a route that leaves when the depot opens, and the return; the slack of a late one is below 0."""
+    at, time, load, found = 0, instance.ready(0), 0, []
+    for i in route + [0]:
+        arrival = time + instance.arc[at][i]
+        begin = max(arrival, instance.ready(i))
+        at, time, load = i, begin + instance.service(i), load + instance.demand(i)
+        found.append(Stop(i, arrival, begin - arrival, begin, time, load, instance.due(i) - begin))
+    return found
+
+
+def sums(instance, route):
+    found = stops(instance, route)
+    return Sums(route_cost(instance, route), found[-1].end - instance.ready(0), sum(stop.wait for stop in found))
+
+
+def total(rows):
+    return Sums(*(sum(column) for column in zip(*rows)))
+
+
+def signed(tenths):
+    return shown(tenths) if tenths >= 0 else "-" + shown(-tenths)
+
+
+def cells(stop):
+    """A stop as words: its number, times, load and slack."""
+    return [str(stop.stop), *(signed(time) for time in stop[1:5]), str(stop.load), signed(stop.slack)]
+
+
+def tables(instance, routes):
+    """The stops of all routes and then the sums, as rows of words below their headings."""
+    by_stop = [["route", *Stop._fields]]
+    by_route = [["route", *Sums._fields]]
+    found = [sums(instance, route) for route in routes]
+    for place, route in enumerate(routes, 1):
+        by_stop += [[str(place), *cells(stop)] for stop in stops(instance, route)]
+    for place, row in [*enumerate(found, 1), ("plan", total(found))]:
+        by_route.append([str(place), *(signed(number) for number in row)])
+    return by_stop, by_route
+
+
+def aligned(instance, routes):
+    by_stop, by_route = tables(instance, routes)
+    wide = max([WIDTH] + [len(word) + 1 for row in by_stop + by_route for word in row])
+    lines = []
+    for row in by_stop + by_route:
+        lines.append("".join(word.rjust(wide) for word in row))
+        # An empty line stands behind each return.
+        if row[1] == "0":
+            lines.append("")
+    return "\n".join(lines + [""])
+
+
+def separated(instance, routes):
+    return "\n".join("\n".join(",".join(row) for row in table) + "\n" for table in tables(instance, routes))

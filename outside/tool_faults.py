@@ -1,0 +1,152 @@
+"""The tools with files that fail, and with wrong words: rows that were made by hand, and what is said of each."""
+import os
+import re
+
+from judging_layouts import HERE, demand_refusal
+from running import demand, got, put, run, shown
+
+INSTANCE = ("T\nVEHICLE\nNUMBER CAPACITY\n2 2\nCUSTOMER\n"
+            "CUST NO. XCOORD. YCOORD. DEMAND READY TIME DUE DATE SERVICE TIME\n"
+            "0 0 0 0 0 1000 0\n1 3 4 1 0 1000 0\n2 6 8 1 0 1000 0\n")
+FILES = {
+    "i.txt": INSTANCE,
+    "other.txt": INSTANCE.replace("T\n", "U\n", 1),
+    "late.txt": INSTANCE.replace("2 6 8 1 0 1000 0", "2 6 8 1 0 1 0"),
+    "bad.txt": INSTANCE.replace("1 3 4 1", "1 3 4 x"),
+    "few.txt": INSTANCE.replace("2 2\nC", "1 2\nC"),
+    "small.txt": INSTANCE.replace("2 2\nC", "2 1\nC"),
+    "two.txt": "Route #1: 1\nRoute #2: 2\nCost 30.0\n",
+    "p.txt": "Route #1: 1 2\nCost 20.0\n",
+    "cost.txt": "Route #1: 1 2\nCost 20.1\n",
+    "lacks.txt": "Route #1: 1\nCost 10.0\n",
+    "unknown.txt": "Route #1: 1\nRoute #2: 3\nCost 10.0\n",
+    "twice.txt": "Route #1: 1\nRoute #2: 2 1\nCost 30.0\n",
+    "form.txt": "Route #1: 1 2\nCost 20\n",
+    "k.txt": "VRPTW-CERT 1\nINSTANCE T\nCUSTOMERS 2\nNEIGHBOURS 8\nBOUND 0.0\nTREE\nP 0 0\nEND\n",
+    "worse.txt": "VRPTW-CERT 1\nINSTANCE T\nCUSTOMERS 2\nNEIGHBOURS 8\nBOUND 0.0\nTREE\nP 0 0 0\nEND\n",
+    "t.csv": "x,y,demand,ready,due,service\n0,0,0,0,1000,0\n3,4,1,0,1000,0\n",
+    "half.csv": "x,y,demand,ready,due,service\n0,0,0,0,1000,0\n3.5,4,1,0,1000,0\n",
+    "empty.csv": "", "empty.vrp": "", "empty.txt": "",
+}
+# The words, the file that is at fault, its line, and a part of what is said; without a line that part is all.
+REFUSED = """
+convert nowhere.csv o.txt|nowhere.csv|0|No such file or directory
+convert folder o.txt --from csv|folder|0|Is a directory
+convert empty.csv o.txt|empty.csv|1|the end
+convert empty.vrp o.txt|empty.vrp|1|the end
+convert empty.txt o.txt|empty.txt|1|the end
+convert bad.txt o.vrp|bad.txt|8|"x"
+convert i.txt nowhere/o.vrp|nowhere/o.vrp|0|No such file or directory
+convert i.txt folder --to csv|folder|0|Is a directory
+convert i.txt i.txt|i.txt|0|met the file that is read, wanted another one to write
+convert i.txt link.txt|link.txt|0|met the file that is read, wanted another one to write
+convert i.txt /dev/full --to csv|/dev/full|0|No space left on device
+convert i.xml o.txt|i.xml|0|met the ending ".xml", wanted .txt, .vrp, .csv, or a layout by --from
+convert i.txt o|o|0|met the ending "", wanted .txt, .vrp, .csv, or a layout by --to
+convert t.csv o.txt --capacity 5|t.csv|3|--vehicles
+convert t.csv o.txt --vehicles 5|t.csv|3|--capacity
+convert half.csv o.txt --vehicles 5 --capacity 5|half.csv|3|--scale
+convert half.csv o.txt --vehicles 5 --capacity 5 --scale 3|half.csv|3|times 3
+convert i.txt o.vrp --scale 1001|i.txt|7|times 1001
+respell nowhere.txt p.txt|nowhere.txt|0|No such file or directory
+respell i.txt nowhere.txt|nowhere.txt|0|No such file or directory
+respell bad.txt p.txt|bad.txt|8|BadNumber
+respell t.csv p.txt|t.csv|2|BadWord
+respell i.txt lacks.txt|lacks.txt|2|no customer 2
+respell i.txt unknown.txt|unknown.txt|3|no customer 2
+respell i.txt twice.txt|twice.txt|2|customer 1 again, after line 1
+respell i.txt twice.txt --from-zero|twice.txt|2|customer 1 again, after line 1
+respell i.txt p.txt --from-zero|p.txt|2|no customer 0
+respell i.txt empty.txt|empty.txt|1|a route
+respell i.txt p.txt --certificate i.txt|i.txt|0|met the file that is read, wanted another one to write
+respell i.txt p.txt --certificate p.txt|p.txt|0|met the file that is read, wanted another one to write
+respell i.txt p.txt --certificate nowhere/c|nowhere/c|0|No such file or directory
+timetable i.txt cost.txt|cost.txt|2|20.1
+timetable i.txt lacks.txt|lacks.txt|2|no customer 2
+timetable i.txt unknown.txt|unknown.txt|2|"3"
+timetable i.txt form.txt|form.txt|2|BadLine
+timetable i.txt twice.txt|twice.txt|2|customer 1 again
+timetable folder p.txt|folder|0|Is a directory
+draw i.txt cost.txt|cost.txt|2|20.1
+draw late.txt p.txt|p.txt|1|met a route that comes too late: to customer 2 at 10.0, which is due at 1.0,
+draw few.txt two.txt|two.txt|2|met one route more than the 1 vehicles,
+draw small.txt p.txt|p.txt|1|met a route with a load of 2, and a vehicle holds 1,
+draw other.txt p.txt --tree k.txt|k.txt|2|another instance
+draw i.txt p.txt --tree worse.txt|worse.txt|7|BadLine
+draw i.txt p.txt --tree nowhere|nowhere|0|No such file or directory
+"""
+# Wrong words, with a part of the one line that tells them; the status is 2.
+WORDS = """
+convert|required: FROM, TO
+convert i.txt|required: TO
+convert i.txt o.vrp x|unrecognized
+convert i.txt o.vrp --veh 5|unrecognized
+convert i.txt o.vrp --vehicles 0|met "0", wanted a whole number of 1 to 1000
+convert i.txt o.vrp --vehicles 1001|met "1001"
+convert i.txt o.vrp --capacity x|met "x"
+convert i.txt o.vrp --scale 0.5|met "0.5"
+convert i.txt o.vrp --to xml|invalid choice
+respell i.txt|required: SOLUTION
+timetable i.txt p.txt --cvs|unrecognized
+draw i.txt p.txt --times --tree k.txt|not allowed
+"""
+TOOLS = ("convert", "respell", "timetable", "draw", "manual")
+# With standard output on a full device or closed.
+PRINTING = ("respell i.txt p.txt", "timetable i.txt p.txt", "draw i.txt p.txt")
+
+
+def rows(table):
+    return [line.split("|") for line in table.strip().split("\n")]
+
+
+FAULTS = ([("refused", *row) for row in rows(REFUSED)] + [("words", *row) for row in rows(WORDS)]
+          + [("help", tool) for tool in TOOLS] + [("full", words) for words in PRINTING]
+          + [("closed", words) for words in PRINTING])
+
+
+def fitted_out(folder):
+    for name, text in FILES.items():
+        put(os.path.join(folder, name), text.encode())
+    os.mkdir(os.path.join(folder, "folder"))
+    os.symlink("i.txt", os.path.join(folder, "link.txt"))
+
+
+def said(folder, command):
+    """What a tool says on standard output and standard error, and its status, in the folder."""
+    put(os.path.join(folder, "command"), ("cd '%s' && exec '%s'/%s\n" % (folder, HERE, command)).encode())
+    out, errors, status = run(["/bin/bash", os.path.join(folder, "command")])
+    return out, shown(errors), status
+
+
+def judge_refused(folder, words, path, line, part):
+    came = said(folder, words)
+    if line == "0":
+        right = "outside/%s: %s: %s\n" % (words.split()[0], path, part)
+        demand(came == (b"", right, 1), "%s: %r, and %r is right" % (words, came, right))
+    else:
+        demand_refusal(words.split()[0], path, int(line), came)
+        demand(part in came[1], "%s: %r, and it is of %r" % (words, came, part))
+    held = {name: got(os.path.join(folder, name)) for name in FILES}
+    demand(all(held[name] == text.encode() for name, text in FILES.items()), "%s changed a file" % words)
+    others = set(os.listdir(folder)) - set(FILES) - {"folder", "link.txt", "command"}
+    demand(not others, "%s wrote %s" % (words, others))
+
+
+def judge_fault(folder, seed):
+    """One row."""
+    kind, words, *told = FAULTS[seed]
+    fitted_out(folder)
+    if kind == "refused":
+        judge_refused(folder, words, *told)
+        return "refused"
+    if kind == "words":
+        out, errors, status = said(folder, words)
+        demand((out, status, errors.count("\n")) == (b"", 2, 1) and told[0] in errors, "%s: %r" % (words, errors))
+    elif kind == "help":
+        out, errors, status = said(folder, words + " --help")
+        demand((errors, status) == ("", 0) and re.search(rb"\nExample: outside/%s " % words.encode(), out), "help")
+    else:
+        out, errors, status = said(folder, words + (" > /dev/full" if kind == "full" else " >&-"))
+        demand((out, status, errors.count("\n")) == (b"", 1, 1) and "standard output" in errors, "%s: %r" % (
+            words, errors))
+    return kind
