@@ -4,6 +4,7 @@ use crate::words::{amounts_of, list_of, listed, named, number_at, pair_of, then,
 use branching::{Arc, Region};
 use labelling::{Hints, least, least_by_hints};
 use prices::{Priced, improve};
+use schedule::walk;
 use solomon_reader::{Instance, MOST_NEIGHBOURS};
 use std::alloc::Global;
 
@@ -118,27 +119,15 @@ pub(crate) fn told_least(alloc: Global, instance: &Instance, words: &[&str]) -> 
     }
 }
 
-/// The reduced cost of a list of customers in grains, if it is one and they aren't too many.
+/// The reduced cost of a list of customers in grains, if it is one that a vehicle can go along.
 fn reduced_cost(instance: &Instance, prices: &[i64], stops: &[u16]) -> Option<i64> {
-    let mut cost: i64 = 0;
-    let mut from = 0;
+    let tenths = walk(instance, stops)?.cost.get();
+    let mut cost = i64::try_from(tenths).ok()?.checked_mul(1000)?;
     for stop in stops {
         let price = prices.get(usize::from(*stop).checked_sub(1)?)?;
-        cost = cost.checked_add(arc_grains(instance, from, *stop)?)?;
         cost = cost.checked_sub(*price)?;
-        from = *stop;
     }
-    cost.checked_add(arc_grains(instance, from, 0)?)
-}
-
-/// The cost of an arc in grains, if the instance has these rows.
-fn arc_grains(instance: &Instance, from: u16, to: u16) -> Option<i64> {
-    if from.max(to) > instance.customer_count() {
-        return None;
-    }
-    i64::try_from(instance.distance(from, to).get())
-        .ok()?
-        .checked_mul(1000)
+    Some(cost)
 }
 
 /// The least reduced cost at the prices of a command where a route is known, and the reduced costs of the

@@ -48,20 +48,25 @@ fn second_nodes<'p>(
 /// were passed.
 type Done = (u32, u32, usize, usize, usize);
 
-/// Turns over a fake with these settings, by the worker at the second of two deques, each of which takes so
-/// many numbers.
+/// Turns over a fake, with so many labels for a pricing, by the worker at the second of two deques, each of
+/// which takes so many numbers.
 fn turns_over(
     alloc: Global,
     instance: &Instance,
     mut hub: Fake<'_>,
     room: usize,
     is_stolen: bool,
-    settings: Settings,
+    (turns, labels): (u32, u32),
 ) -> Result<Done, Fail> {
     let (hands, deques, passes) = Pool::new(alloc, 2, room)?;
     let deques = deques.as_slice();
     let nodes = second_nodes(alloc, instance, hands, deques, passes, is_stolen)?;
     let gate = Counts::new();
+    let settings = Settings {
+        turns,
+        labels,
+        ..Settings::default()
+    };
     let (ceiling, mut seats) = Ceiling::new(alloc, 1, 1000, 0)?;
     let mut seat = seats.pop().ok_or("a seat")?;
     let made = bound_worker(
@@ -76,25 +81,17 @@ fn turns_over(
     ))
 }
 
-/// The settings of so many turns.
-fn turns_of(turns: u32) -> Settings {
-    Settings {
-        turns,
-        ..Settings::default()
-    }
-}
-
 /// Turns over two customers in a line, at prices of zero.
 fn turns_made(
     alloc: Global,
+    work: (u32, u32),
     is_stolen: bool,
     is_bare: bool,
-    settings: Settings,
 ) -> Result<Done, Fail> {
     let instance = in_line(alloc)?;
     let mut hub = Fake::new(Priced::root(alloc, &instance, 8, None)?);
     hub.is_bare = is_bare;
-    turns_over(alloc, &instance, hub, 10, is_stolen, settings)
+    turns_over(alloc, &instance, hub, 10, is_stolen, work)
 }
 
 /// Three customers at one place, of which a route serves two in time: the best prices of the root say
@@ -112,37 +109,33 @@ fn turns_splitting(alloc: Global, room: usize, refusal: Option<BookFault>) -> Re
     let root = Region::root(alloc, 3);
     let mut hub = Fake::new(priced_at(alloc, &instance, root, &[50_000; 3])?);
     hub.split_refusal = refusal;
-    turns_over(alloc, &instance, hub, room, false, turns_of(3))
+    turns_over(alloc, &instance, hub, room, false, (3, 100))
 }
 
 #[test]
 fn the_first_turn_raises_or_splits_the_root(rt: HostRuntime) -> Result<(), Fail> {
-    let made = turns_made(rt.alloc(), false, false, turns_of(1))?;
+    let made = turns_made(rt.alloc(), (1, 100), false, false)?;
     assert!(rt; made == (1, 1, 1, 0, 1));
     Ok(())
 }
 
 #[test]
 fn an_idle_worker_steals(rt: HostRuntime) -> Result<(), Fail> {
-    let made = turns_made(rt.alloc(), true, false, turns_of(1))?;
+    let made = turns_made(rt.alloc(), (1, 100), true, false)?;
     assert!(rt; made == (1, 1, 1, 1, 1));
     Ok(())
 }
 
 #[test]
 fn numbers_without_a_leaf_are_laid_aside(rt: HostRuntime) -> Result<(), Fail> {
-    let made = turns_made(rt.alloc(), false, true, turns_of(3))?;
+    let made = turns_made(rt.alloc(), (3, 100), false, true)?;
     assert!(rt; made == (3, 0, 0, 0, 3));
     Ok(())
 }
 
 #[test]
 fn a_pricing_that_meets_its_limit_ends_no_work(rt: HostRuntime) -> Result<(), Fail> {
-    let settings = Settings {
-        labels: 1,
-        ..turns_of(3)
-    };
-    let (made, _, looked, _, ended) = turns_made(rt.alloc(), false, false, settings)?;
+    let (made, _, looked, _, ended) = turns_made(rt.alloc(), (3, 1), false, false)?;
     assert!(rt; (made, looked, ended) == (3, 1, 3));
     Ok(())
 }

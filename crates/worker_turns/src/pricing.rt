@@ -25,24 +25,23 @@ const PRICING_PART: u64 = 20;
 const LEAST_PRICING_TURNS: u64 = 5;
 
 /// How many labels a turn is worth.
-fn turn_labels(customers: u16) -> u64
-    ensures { result ≤ 60 * 65536 }
-{
-    CUSTOMER_LABELS * u64::from(customers).max(LEAST_CUSTOMERS)
+fn turn_labels(customers: u16) -> u64 {
+    CUSTOMER_LABELS.saturating_mul(u64::from(customers).max(LEAST_CUSTOMERS))
 }
 
 /// How many labels may be active at once in a bound worker's pricing on so many customers: what the settings
 /// allow, and no more than its turns can pay for, so that no pricing runs away. No contract: any limit is
 /// sound.
 pub fn pricing_labels(settings: &Settings, customers: u16) -> usize {
-    let part = u64::from(settings.turns) * turn_labels(customers) / PRICING_PART;
-    let worth = part.max(LEAST_PRICING_TURNS * turn_labels(customers));
+    let worth = turn_labels(customers);
+    let part = worth.saturating_mul(u64::from(settings.turns)) / PRICING_PART;
+    let worth = part.max(worth.saturating_mul(LEAST_PRICING_TURNS));
     worth.min(u64::from(settings.labels)) as usize
 }
 
 /// Whether a worker's pricings have made more labels than the turns that it made so far are worth.
 pub(crate) fn is_ahead(nodes: &Nodes<'_>, made: u32) -> bool {
-    nodes.pool.labels() > u64::from(made) * turn_labels(nodes.customers)
+    nodes.pool.labels() > turn_labels(nodes.customers).saturating_mul(u64::from(made))
 }
 
 /// How many pricings a turn makes at a leaf.
