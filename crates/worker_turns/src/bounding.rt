@@ -16,10 +16,6 @@ use prices::{PriceFault, Priced};
 use schedule::Feasible;
 use solomon_reader::Instance;
 use std::alloc::Global;
-use std::thread::yield_now;
-
-/// After so many looks for a leaf the processor is given away.
-const LOOKS_BETWEEN: u32 = 2_000;
 
 /// Splits a leaf, and keeps both children, which wait for their turn.
 fn split<'i, H: Hub<'i>, G: Gate>(
@@ -172,33 +168,6 @@ fn work_at<'i, H: Hub<'i>, G: Gate>(
     bring(spot, hub, number, leaf, is_raised, target, labels, nodes)
 }
 
-/// Takes a node. Where there is none, it looks again and again for one that another worker shares, and now
-/// and then gives the processor away, so that idle turns aren't used up before the others have leaves to
-/// share.
-fn wait_for_node<G: Gate>(
-    spot: &Spot<'_, G>,
-    nodes: &mut Nodes<'_>,
-    seat: &mut CeilingSeat,
-) -> Result<Option<Taken>, Refusal>
-    requires { IsSeatOf spot.now.ceiling.now seat.old }
-    ensures { IsSeatOf spot.now.ceiling.now seat.new }
-{
-    for _look in 0..nodes.looks() {
-        if let Some(taken) = nodes.take()? {
-            nodes.missed = 0;
-            return Ok(Some(taken));
-        }
-        if spot.is_closed(seat) {
-            return Ok(None);
-        }
-        nodes.missed = nodes.missed.saturating_add(1);
-        if nodes.missed % LOOKS_BETWEEN == 0 {
-            yield_now();
-        }
-    }
-    Ok(None)
-}
-
 /// Takes a node, unless there is none, cost and bound have met, or the worker is ahead of the turns that
 /// it made, and works at it, unless its value reaches the cost.
 fn turn<'i, H: Hub<'i>, G: Gate>(
@@ -215,7 +184,7 @@ fn turn<'i, H: Hub<'i>, G: Gate>(
     if spot.is_closed(seat) || is_ahead(nodes, made) {
         return Ok(());
     }
-    let Some(taken) = wait_for_node(spot, nodes, seat)? else {
+    let Some(taken) = nodes.wait()? else {
         return Ok(());
     };
     if taken.is_stolen {

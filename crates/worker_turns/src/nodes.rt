@@ -11,6 +11,7 @@ use price_ascent::{ChildStart, RoutePool, counted_routes};
 use schedule::Feasible;
 use solomon_reader::Instance;
 use std::alloc::{AllocError, Global};
+use std::thread::yield_now;
 
 /// A leaf that waits for its turn, with its value in tenths when it was made, and where its ascent starts,
 /// if it is known.
@@ -23,6 +24,9 @@ pub(crate) struct OpenNode {
 
 /// For so many customers a turn at the root may be in vain.
 const CUSTOMERS_OF_PATIENCE: u16 = 150;
+
+/// After so many looks for a leaf the processor is given away.
+const LOOKS_BETWEEN: u32 = 2_000;
 
 /// How often a turn looks for a leaf, which takes some milliseconds, and how often a worker looks in vain
 /// before its turns look once each.
@@ -47,7 +51,7 @@ pub struct Nodes<'p> {
     /// How many turns in a row raised nothing at the root.
     idle_at_root: u16,
     /// How often the worker looked for a leaf in vain since it had one.
-    pub(crate) missed: u32,
+    missed: u32,
     pub(crate) pool: RoutePool,
     /// How many routes count where prices are raised.
     pub(crate) routes: u16,
@@ -145,7 +149,7 @@ impl<'p> Nodes<'p> {
     const CUSTOMERS_OF_PATIENCE: u16 = 150;
 
     /// How often a turn looks for a leaf, if there is none at first.
-    pub(crate) fn looks(&self) -> u32 {
+    fn looks(&self) -> u32 {
         if self.missed < MOST_LOOKS {
             LOOKS_OF_TURN
         } else {
@@ -223,7 +227,7 @@ impl<'p> Nodes<'p> {
     /// The leaf to go on with, else that of the least value of the worker's own, so that the bound
     /// rises, or one of another worker. Where memory is refused or the deque is full, the worker's work
     /// ends.
-    pub(crate) fn take(&mut self) -> Result<Option<Taken>, Refusal> {
+    fn take(&mut self) -> Result<Option<Taken>, Refusal> {
         if let Some(number) = self.current.take() {
             return Ok(Some(Taken {
                 number,
@@ -249,5 +253,22 @@ impl<'p> Nodes<'p> {
             is_stolen: true,
             is_again: false,
         }))
+    }
+
+    /// Takes a node. Where there is none, it looks again and again for one that another worker shares, and now
+    /// and then gives the processor away, so that idle turns aren't used up before the others have leaves to
+    /// share.
+    pub(crate) fn wait(&mut self) -> Result<Option<Taken>, Refusal> {
+        for _look in 0..self.looks() {
+            if let Some(taken) = self.take()? {
+                self.missed = 0;
+                return Ok(Some(taken));
+            }
+            self.missed = self.missed.saturating_add(1);
+            if self.missed % LOOKS_BETWEEN == 0 {
+                yield_now();
+            }
+        }
+        Ok(None)
     }
 }
