@@ -12,11 +12,13 @@ const ROOT_PRICINGS: u32 = 20;
 /// The most pricings of a turn at another leaf, beside the one that its ascent starts from.
 const LEAF_PRICINGS: u32 = 8;
 
-/// How many labels a turn is worth for each customer, and for how many customers at least: a root of many
-/// customers needs more and dearer pricings.
+/// How many labels a turn is worth for each customer, and for how many customers at least and at most: a root
+/// of many customers needs more pricings, but each label costs more there, too.
 const CUSTOMER_LABELS: u64 = 60;
 
 const LEAST_CUSTOMERS: u64 = 100;
+
+const MOST_CUSTOMERS: u64 = 150;
 
 /// Of what all turns are worth a single pricing may take this part, and at any number of turns what so
 /// many are worth.
@@ -26,7 +28,10 @@ const LEAST_PRICING_TURNS: u64 = 5;
 
 /// How many labels a turn is worth.
 fn turn_labels(customers: u16) -> u64 {
-    CUSTOMER_LABELS.saturating_mul(u64::from(customers).max(LEAST_CUSTOMERS))
+    let counted = u64::from(customers)
+        .max(LEAST_CUSTOMERS)
+        .min(MOST_CUSTOMERS);
+    CUSTOMER_LABELS.saturating_mul(counted)
 }
 
 /// How many labels may be active at once in a bound worker's pricing on so many customers: what the settings
