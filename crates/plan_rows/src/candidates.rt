@@ -66,6 +66,12 @@ fn kind_of(word: &str) -> Option<Kind> {
     }
 }
 
+/// The value of a move in a plan, if there is memory for its trees.
+fn value_in(alloc: Global, plan: &Feasible<'_>, candidate: &Move) -> Option<Option<i64>> {
+    let trees = trees_of(alloc, plan).ok()?;
+    Some(value(&trees, candidate))
+}
+
 /// By how much the cost of a plan changes where a move is made, if there is memory for it.
 fn change_in(alloc: Global, plan: Feasible<'_>, candidate: &Move) -> Option<Option<i64>> {
     let cost = plan.cost().get() as i64;
@@ -79,12 +85,9 @@ fn change_in(alloc: Global, plan: Feasible<'_>, candidate: &Move) -> Option<Opti
 /// The value of a move, and by how much it changes the cost where it is made.
 pub(crate) fn told_move(alloc: Global, plan: Feasible<'_>, words: &[&str]) -> Option<String> {
     let candidate = move_of(kind_of(words.get(1)?)?, words.get(2)?, words.get(3)?)?;
-    let worth = {
-        let trees = trees_of(alloc, &plan).ok()?;
-        value(&trees, &candidate)
-    };
+    let value = value_in(alloc, &plan, &candidate)?;
     let change = change_in(alloc, plan, &candidate)?;
-    named(alloc, "value change", &[worth, change])
+    named(alloc, "value change", &[value, change])
 }
 
 fn told_places(alloc: Global, first: &Place, second: &Place) -> Option<String> {

@@ -156,11 +156,17 @@ pub(crate) fn told_met(alloc: Global, instance: &Instance, words: &[&str]) -> Op
     then(text, " ", listed(alloc, "met", costs.as_slice())?.as_str())
 }
 
-/// Whether a copy of a leaf has the same prices, value and least route.
+/// Whether two leaves have the same prices, value and least route.
+fn are_same(leaf: &Priced<'_>, other: &Priced<'_>) -> bool {
+    leaf.prices() == other.prices()
+        && leaf.value() == other.value()
+        && leaf.least().route.as_slice() == other.least().route.as_slice()
+}
+
+/// Whether a copy of a leaf is the same.
 fn is_copied(leaf: &Priced<'_>) -> Option<bool> {
     let copy = leaf.try_clone().ok()?;
-    let is_priced = copy.prices() == leaf.prices() && copy.value() == leaf.value();
-    Some(is_priced && copy.least().route.as_slice() == leaf.least().route.as_slice())
+    Some(are_same(&copy, leaf))
 }
 
 /// A leaf behind what was told before it, with its least reduced cost, if a copy is the same.
