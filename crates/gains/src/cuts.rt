@@ -3,11 +3,8 @@
 ghost use Rattle.std.specs.Prelude.{◌≡◌, ◌+◌, ◌*◌, ◌≤◌, ◌⊎◌, length, take, drop, slice_index_or, pos, ◌+ℤ◌, ◌≤ℤ◌, true, MatchOption};
 ghost use Rattle.solomon_reader.specs.Problem.{customer_count};
 ghost use Rattle.solomon_reader.specs.Distance.{distance};
-ghost use Rattle.solomon_reader.specs.Lists.{lists};
-ghost use Rattle.solomon_reader.specs.Moves.{route};
 ghost use Rattle.solomon_reader.specs.declared.limits.TheConstants.{MOST_DISTANCE};
 ghost use Rattle.segments.specs.Segments.{first_of, last_from};
-ghost use Rattle.moves.specs.Changes.{IsChainOf};
 ghost use Rattle.gains.specs.Cuts.{IsCut, IsKnownCut, joint_of, change_apart, change_within, ends_change, AreKnownCuts, IsLeastSwap, IsLeastSwapAt, IsLeastSwapIn, IsLeastShift};
 
 use moves::Chain;
@@ -79,15 +76,12 @@ fn cut_of_stops(stops: &[u16], position: usize, count: usize) -> Cut
     }
 }
 
-/// What stands round a chain, or `None` where it doesn't stand in its route.
-pub fn cut_of(routes: &[Vec<u16>], chain: Chain) -> Option<Cut>
-    ensures { MatchOption result (¬ IsChainOf (lists routes.now) chain)
-        (λ c. IsChainOf (lists routes.now) chain × IsCut (route (lists routes.now) chain.route) chain.position chain.length c) }
+/// What stands round some stops of a route, or `None` where they don't stand in it.
+#[inline(always)]
+pub fn cut_of(stops: &[u16], chain: Chain) -> Option<Cut>
+    ensures { MatchOption result (¬ (chain.position + chain.length ≤ length stops.now))
+        (λ c. (chain.position + chain.length ≤ length stops.now) × IsCut stops.now chain.position chain.length c) }
 {
-    let stops = match routes.get(usize::from(chain.route)) {
-        Some(route) => route.as_slice(),
-        None => &[],
-    };
     let (position, length) = (usize::from(chain.position), usize::from(chain.length));
     if position + length > stops.len() {
         return None;

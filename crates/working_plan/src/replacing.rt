@@ -11,7 +11,7 @@ ghost use Rattle.segments.specs.Trees.{items_of, IsTree};
 ghost use Rattle.segments.specs.PlanTrees.{problem_of, routes_of, AreTrees};
 ghost use Rattle.moves.specs.Trees.{visits_of, AreOfPlan};
 ghost use Rattle.moves.specs.Changes.{IsChainOf, joined, changed};
-ghost use Rattle.gains.specs.Bounds.{IsReplaced};
+ghost use Rattle.gains.specs.Kept.{IsReplaced};
 ghost use Rattle.working_plan.specs.Replacing.{AreTreesOf, HaveStops};
 
 use gains::Replaced;
