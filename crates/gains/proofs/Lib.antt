@@ -15,3 +15,4 @@ pub mod EndChanges
 pub mod PassedRoutes
 pub mod PassedShifts
 pub mod RowSearching
+pub mod EndSwaps

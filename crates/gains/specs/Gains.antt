@@ -101,6 +101,14 @@ IsShiftKind kind.OrOpt = Unit {0}
 IsShiftKind kind.TwoOptStar = ⊥
 IsShiftKind kind.Cross = ⊥
 
+-- a move of the kind lets two ends change places
+abbrev pub IsEndsKind : Kind → Type 0
+IsEndsKind kind.Relocate = ⊥
+IsEndsKind kind.Exchange = ⊥
+IsEndsKind kind.OrOpt = ⊥
+IsEndsKind kind.TwoOptStar = Unit {0}
+IsEndsKind kind.Cross = ⊥
+
 -- the move lets two chains of a route change places, the second of which stands right behind the first
 pub record IsShift (routes : List (List ℕ)) (n : Move) (front rear : Chain) : Type 0 where
   pub same : front.route ≡ rear.route

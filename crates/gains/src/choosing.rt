@@ -79,6 +79,7 @@ impl Neighbourhood<'_, '_> {
 
     /// The best move that makes the plan cheaper, and of several the first; `None` where no move does. It
     /// takes no memory.
+    #[inline(always)]
     pub fn best_gain(&self) -> Found
         requires { IsOfPlan self.now }
         ensures { IsBestAmong (instance_of self.now) (plan_of self.now) (moves_of self.now) result }

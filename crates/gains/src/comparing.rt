@@ -10,6 +10,7 @@ use crate::neighbourhood::Neighbourhood;
 use moves::{Chain, Kind, candidate_of, stop_count, value};
 
 /// Whether a move of a kind puts a chain elsewhere.
+#[inline(always)]
 pub fn is_shift(kind: Kind) -> bool
     ensures { IsTrue result ↔ IsShiftKind kind }
 {
@@ -21,6 +22,7 @@ pub fn is_shift(kind: Kind) -> bool
 
 impl Neighbourhood<'_, '_> {
     /// The first chain that a move takes.
+    #[inline(always)]
     pub fn first_chain(&self, first: Chain) -> Chain
         requires { IsOfPlan self.now }
         ensures { result ≡ taken_chain (plan_of self.now) (first_taken self.now.kind) first }
@@ -36,6 +38,7 @@ impl Neighbourhood<'_, '_> {
     }
 
     /// The second chain that a move takes.
+    #[inline(always)]
     fn second_chain(&self, second: Chain) -> Chain
         requires { IsOfPlan self.now }
         ensures { result ≡ taken_chain (plan_of self.now) (second_taken self.now.kind) second }
@@ -66,6 +69,7 @@ impl Neighbourhood<'_, '_> {
 
     /// The better of what was found and a move between two routes, which is valued only where its
     /// change of cost is less.
+    #[inline(always)]
     fn better_apart(&self, first: &Chain, cut: &Cut, second: &Chain, before: Found) -> Found
         requires plan { IsOfPlan self.now }
         requires lengths { AreLengths self.now first.now second.now }
@@ -152,6 +156,7 @@ impl Neighbourhood<'_, '_> {
     }
 
     /// The better of what was found and a move, where that is a gain.
+    #[inline(always)]
     pub fn next_gain(&self, first: &Chain, cut: &Cut, second: &Chain, before: Found) -> Found
         requires plan { IsOfPlan self.now }
         requires lengths { AreLengths self.now first.now second.now }

@@ -5,7 +5,7 @@ ghost use Rattle.solomon_reader.specs.Problem.{customer_count};
 ghost use Rattle.solomon_reader.specs.Distance.{distance};
 ghost use Rattle.solomon_reader.specs.declared.limits.TheConstants.{MOST_DISTANCE};
 ghost use Rattle.segments.specs.Segments.{first_of, last_from};
-ghost use Rattle.gains.specs.Cuts.{IsCut, IsKnownCut, joint_of, change_apart, change_within, ends_change, AreKnownCuts, IsLeastSwap, IsLeastSwapAt, IsLeastSwapIn, IsLeastShift};
+ghost use Rattle.gains.specs.Cuts.{IsCut, IsKnownCut, joint_of, change_apart, change_within, ends_change, AreKnownCuts, IsLeastSwap, IsLeastSwapAt, IsLeastSwapIn, IsLeastShift, IsLeastEndSwap};
 
 use moves::Chain;
 use solomon_reader::{Instance, MOST_DISTANCE};
@@ -285,6 +285,25 @@ fn least_of_ends(instance: &Instance, stops: &[u16], chain: &Cut, most: usize) -
         let behind = change_of_ends(instance, rear, gap);
         least = lesser(least, least_front(last, most) + behind);
         last = (change_of_ends(instance, front, gap), last.0, last.1);
+    }
+    least
+}
+
+/// A number of tenths, at most 0: no exchange of the ends from a chain on and behind a gap of a route
+/// changes the cost by less.
+#[inline(always)]
+pub fn least_end_swap(instance: &Instance, stops: &[u16], chain: &Cut) -> i64
+    requires chain { IsKnownCut instance.now chain.now }
+    requires stops { AreKnownCuts instance.now stops.now }
+    ensures { IsLeastEndSwap instance.now stops.now chain.now result }
+{
+    let front = (chain.before, chain.first);
+    let mut least = 0;
+    for position in 0..stops.len() + 1 {
+        least = lesser(
+            least,
+            change_of_ends(instance, front, gap_at(stops, position)),
+        );
     }
     least
 }

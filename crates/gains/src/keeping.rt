@@ -18,6 +18,7 @@ use segments::PlanTrees;
 use std::ops::Range;
 
 /// The routes that moves of a kind from a route go into.
+#[inline(always)]
 fn seconds_of(trees: &PlanTrees<'_>, kind: Kind, first: u16) -> Range<u16>
     requires { AreOfPlan trees.now }
     ensures start { result.start ≤ lowest_second kind first }
@@ -32,6 +33,7 @@ fn seconds_of(trees: &PlanTrees<'_>, kind: Kind, first: u16) -> Range<u16>
 }
 
 /// The stops of a route; an unknown one has none.
+#[inline(always)]
 fn stops_of(routes: &[Vec<u16>], number: u16) -> &[u16]
     ensures { result.now ≡ route (lists routes.now) number }
 {
@@ -43,6 +45,7 @@ fn stops_of(routes: &[Vec<u16>], number: u16) -> &[u16]
 
 /// The best gain of a kind from a route into a route, which may be the new one: the one that is kept, or
 /// one that is found and kept.
+#[inline(always)]
 fn gain_between(
     kept: &mut PairGains,
     trees: &PlanTrees<'_>,
@@ -76,6 +79,7 @@ fn gain_between(
 }
 
 /// The better of what was found and the gains of a kind from a route.
+#[inline(always)]
 fn gain_from(
     kept: &mut PairGains,
     trees: &PlanTrees<'_>,
@@ -104,6 +108,7 @@ fn gain_from(
 /// The best move of a kind where it makes the plan cheaper, with its value in tenths, and of several the
 /// first; `None` where no move of the kind does. The routes are those of the trees. What is found of two
 /// routes is kept. It takes no memory.
+#[inline(always)]
 pub fn best_gain(
     kept: &mut PairGains,
     trees: &PlanTrees<'_>,

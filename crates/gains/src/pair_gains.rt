@@ -154,6 +154,9 @@ impl PairGains {
     fn make_places(&mut self, count: usize)
         ensures { HasSameEntries self.old self.new }
     {
+        if self.rows.len() >= count {
+            return;
+        }
         self.make_rows(count);
         for first in 0..self.rows.len() {
             lengthen(&mut self.rows[first], count);

@@ -1,19 +1,21 @@
 //! Chains that are passed over, since no move with them is better than what was found.
 
-ghost use Rattle.std.specs.Prelude.{◌≡◌, ◌≤◌, [], ◌∷◌, IsTrue, IfSome};
-ghost use Rattle.gains.specs.Gains.{IsFirstCut, TakesBetween};
+ghost use Rattle.std.specs.Prelude.{◌≡◌, ◌≤◌, [], ◌∷◌, IsTrue, IfSome, IfNone};
+ghost use Rattle.gains.specs.Gains.{IsFirstCut, IsEndsKind, TakesBetween};
 ghost use Rattle.gains.specs.Searches.{plan_of, IsOfPlan, NoneIsBetter};
 
 use crate::comparing::is_shift;
-use crate::cuts::{Cut, least_shift, least_swap};
+use crate::cuts::{Cut, least_end_swap, least_shift, least_swap};
 use crate::found::{Found, may_be_better};
 use crate::neighbourhood::Neighbourhood;
 use moves::{Chain, Kind, MOST_CHAIN};
 
 /// How many stops of the second route a move of a kind takes, at least and at most; `None` where that
 /// depends on the place.
+#[inline(always)]
 fn second_counts(kind: Kind) -> Option<(usize, usize)>
-    ensures { IfSome result (λ r. TakesBetween kind r.0 r.1 × (r.1 ≤ 3)) }
+    ensures counts { IfSome result (λ r. TakesBetween kind r.0 r.1 × (r.1 ≤ 3)) }
+    ensures ends { IfNone result (IsEndsKind kind) }
 {
     match kind {
         Kind::Relocate | Kind::OrOpt => Some((0, 0)),
@@ -26,6 +28,7 @@ fn second_counts(kind: Kind) -> Option<(usize, usize)>
 impl Neighbourhood<'_, '_> {
     /// Whether the changes of cost tell that no move that puts this first chain elsewhere in its route is
     /// better than what was found; they don't tell that of other kinds of moves.
+    #[inline(always)]
     fn is_no_better_within(&self, first: &Chain, cut: &Cut, before: Found) -> bool
         requires plan { IsOfPlan self.now }
         requires cut { IsFirstCut (plan_of self.now) self.now.kind first.now cut.now }
@@ -58,10 +61,11 @@ impl Neighbourhood<'_, '_> {
         if self.first == self.second {
             return self.is_no_better_within(first, cut, before);
         }
+        let instance = self.trees.instance();
         let Some((low, high)) = second_counts(self.kind) else {
-            return false;
+            return !may_be_better(least_end_swap(instance, self.others, cut), before);
         };
-        let least = least_swap(self.trees.instance(), self.others, cut, low, high);
+        let least = least_swap(instance, self.others, cut, low, high);
         !may_be_better(least, before)
     }
 }

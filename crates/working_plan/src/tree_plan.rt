@@ -176,6 +176,7 @@ impl<'i> TreePlan<'i> {
 
     /// The best move of a kind where it makes the plan cheaper, or `None` where no move of the kind
     /// does. What is found of two routes is kept. It takes no memory.
+    #[inline(always)]
     pub fn best_gain(&self, kept: &mut PairGains, kind: Kind) -> Option<Move>
         requires { AreKept self.now.problem self.now.routes kind kept.old }
         ensures kept { AreKept self.now.problem self.now.routes kind kept.new }
