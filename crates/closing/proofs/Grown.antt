@@ -1,7 +1,7 @@
 -- Trees that were added.
-use Rattle.std.proofs.Common.{◌≡◌, refl, ℕ, ◌+◌, ◌*◌, ◌≤◌, min, [], ◌∷◌, ◌++◌, map, append_assoc, arith, ap, sym, subst, ◌∙◌}
+use Rattle.std.proofs.Common.{◌≡◌, refl, ℕ, ◌+◌, ◌*◌, ◌≤◌, min, List, [], ◌∷◌, ◌++◌, map, reverse, append_assoc, arith, ap, sym, subst, ◌∙◌}
 use Rattle.std.specs.Prelude.{Option, None, Some, Result, Ok, Err, IfOk, IfSome}
-use Rattle.std.proofs.lemmas.List.{map-append}
+use Rattle.std.proofs.lemmas.List.{map-append, reverse-append, reverse-reverse}
 use Rattle.std.proofs.lemmas.Nat.{mul-le}
 use Rattle.solomon_reader.specs.declared.limits.TheConstants.{MOST_LEAVES}
 use Rattle.solomon_reader.specs.Problem.{Problem, customer_count}
@@ -14,7 +14,7 @@ use Rattle.branching.specs.Nodes.{node_of, IsListedTree}
 use Rattle.branching.specs.declared.tree_node.TreeNode.{TreeNode}
 use Rattle.price_ascent.specs.Branching.{AreChildren}
 use Rattle.price_ascent.specs.declared.child.Children.{Children}
-use Rattle.closing.specs.Growing.{Grows, IsSameTask, IsSameTree, AddsSplit}
+use Rattle.closing.specs.Growing.{Grows, IsSameTask, IsSameTree, Splits}
 use Rattle.closing.specs.declared.growth.Growth.{Growth}
 
 -- a leaf that was listed has grown
@@ -36,7 +36,7 @@ pub same_grows : (k : ℕ) (g : Region) (old middle new : Growth) → IsSameTree
 same_grows k g old middle new same grows = record {
   task = record { instance = grows.task.instance ∙ same.task.instance; limit = grows.task.limit ∙ same.task.limit };
   tree = grows.tree;
-  nodes = grows.nodes ∙ ap (λ ns. map node_of ns ++ preorder grows.tree) same.nodes;
+  nodes = grows.nodes ∙ ap (λ ns. map node_of ns ++ reverse (preorder grows.tree)) same.nodes;
   value = grows.value;
   bound = subst (λ (p : Problem). HasBound version_2 p k g grows.tree grows.value) same.task.instance grows.bound;
   shaped = grows.shaped;
@@ -61,7 +61,7 @@ same_children f raised c problem region neighbours are = record {
 }
 
 -- a split of a leaf at raised prices is a split of the leaf
-raised_split : (f raised : Pricing) (old new : Growth) (c : Children) → raised.problem ≡ f.problem → raised.region ≡ f.region → raised.neighbours ≡ f.neighbours → AddsSplit raised old new c → AddsSplit f old new c
+raised_split : (f raised : Pricing) (old new : Growth) (c : Children) → raised.problem ≡ f.problem → raised.region ≡ f.region → raised.neighbours ≡ f.neighbours → Splits raised old new c → Splits f old new c
 raised_split f raised old new c problem region neighbours adds = record {
   children = same_children f raised c problem region neighbours adds.children;
   task = adds.task;
@@ -72,35 +72,48 @@ raised_split f raised old new c problem region neighbours adds = record {
 
 -- what was split at raised prices, if anything, was split at the leaf
 pub splits_raised : {E : Type 0} (f raised : Pricing) (old new : Growth) (r : Result (Option Children) E) → raised.problem ≡ f.problem → raised.region ≡ f.region → raised.neighbours ≡ f.neighbours
-    → IfOk r (λ found. IfSome found (AddsSplit raised old new)) → IfOk r (λ found. IfSome found (AddsSplit f old new))
+    → IfOk r (λ found. IfSome found (Splits raised old new)) → IfOk r (λ found. IfSome found (Splits f old new))
 splits_raised f raised old new (Err e) problem region neighbours h = tt
 splits_raised f raised old new (Ok None) problem region neighbours h = tt
 splits_raised f raised old new (Ok (Some c)) problem region neighbours h = raised_split f raised old new c problem region neighbours h
 
 -- a split that is added after a plan was offered is added to what was there before
-pub same_split : (f : Pricing) (old middle new : Growth) (c : Children) → IsSameTree old middle → AddsSplit f middle new c → AddsSplit f old new c
+pub same_split : (f : Pricing) (old middle new : Growth) (c : Children) → IsSameTree old middle → Splits f middle new c → Splits f old new c
 same_split f old middle new c same adds = record {
   children = adds.children;
   task = record { instance = adds.task.instance ∙ same.task.instance; limit = adds.task.limit ∙ same.task.limit };
-  nodes = adds.nodes ∙ ap (λ ns. map node_of ns ++ (split_node (pair c.arc) ∷ [])) same.nodes;
+  nodes = adds.nodes ∙ same.nodes;
   leaves = omega (arith, adds.leaves, same.leaves);
   bound = adds.bound ∙ same.bound;
 }
 
--- a split whose children have grown
-pub split_grows : (f : Pricing) (c : Children) (old begun middle new : Growth) → AddsSplit f old begun c → Grows c.used.neighbours c.used.region begun middle → Grows c.unused.neighbours c.unused.region middle new → Grows f.neighbours f.region old new
-split_grows f c old begun middle new adds first second =
-    let are = adds.children in
-    let used : Grows f.neighbours (used_child f.region (pair c.arc)) begun middle = rw (are.used.neighbours, are.used.region) at first in
-    let unused : Grows f.neighbours (unused_child f.region (pair c.arc)) middle new = rw (are.unused.neighbours, are.unused.region) at second in record {
+-- the node of a split was added
+pub record ListsSplit (c : Children) (old new : Growth) : Type 0 where
+  pub task : IsSameTask old new
+  pub nodes : map node_of new.nodes.items ≡ map node_of old.nodes.items ++ (split_node (pair c.arc) ∷ [])
+  pub leaves : new.leaves ≡ old.leaves
+  pub bound : new.bound ≡ old.bound
+
+-- a split whose children have grown, that which forbids the arc first
+pub split_grows : (f : Pricing) (c : Children) (old begun middle grown new : Growth) → Splits f old begun c → Grows c.unused.neighbours c.unused.region begun middle → Grows c.used.neighbours c.used.region middle grown
+    → ListsSplit c grown new → Grows f.neighbours f.region old new
+split_grows f c old begun middle grown new splits first second last =
+    let are = splits.children in
+    let unused : Grows f.neighbours (unused_child f.region (pair c.arc)) begun middle = rw (are.unused.neighbours, are.unused.region) at first in
+    let used : Grows f.neighbours (used_child f.region (pair c.arc)) middle grown = rw (are.used.neighbours, are.used.region) at second in
+    let node = split_node (pair c.arc) ∷ [] in
+    let below = preorder used.tree ++ preorder unused.tree in
+    let listed : reverse (node ++ below) ≡ (reverse (preorder unused.tree) ++ reverse (preorder used.tree)) ++ node
+    = reverse-append node below ∙ ap (λ ns. ns ++ node) (reverse-append (preorder used.tree) (preorder unused.tree)) in record {
       task = record {
-        instance = unused.task.instance ∙ used.task.instance ∙ adds.task.instance;
-        limit = unused.task.limit ∙ used.task.limit ∙ adds.task.limit;
+        instance = last.task.instance ∙ used.task.instance ∙ unused.task.instance ∙ splits.task.instance;
+        limit = last.task.limit ∙ used.task.limit ∙ unused.task.limit ∙ splits.task.limit;
       };
       tree = split (pair c.arc) used.tree unused.tree;
-      nodes = unused.nodes ∙ ap (λ is. is ++ preorder unused.tree) (used.nodes ∙ ap (λ is. is ++ preorder used.tree) adds.nodes)
-          ∙ append_assoc (map node_of old.nodes.items ++ (split_node (pair c.arc) ∷ [])) (preorder used.tree) (preorder unused.tree)
-          ∙ append_assoc (map node_of old.nodes.items) (split_node (pair c.arc) ∷ []) (preorder used.tree ++ preorder unused.tree);
+      nodes = last.nodes ∙ ap (λ ns. ns ++ node) (used.nodes ∙ ap (λ ns. ns ++ reverse (preorder used.tree)) (unused.nodes ∙ ap (λ ns. map node_of ns ++ reverse (preorder unused.tree)) splits.nodes)
+          ∙ append_assoc (map node_of old.nodes.items) (reverse (preorder unused.tree)) (reverse (preorder used.tree)))
+          ∙ append_assoc (map node_of old.nodes.items) (reverse (preorder unused.tree) ++ reverse (preorder used.tree)) node
+          ∙ ap (λ ns. map node_of old.nodes.items ++ ns) (sym listed);
       value = min used.value unused.value;
       bound = (
         are.undecided,
@@ -109,16 +122,16 @@ split_grows f c old begun middle new adds first second =
           (
             unused.value,
             (
-              subst (λ (p : Problem). HasBound version_2 p f.neighbours (used_child f.region (pair c.arc)) used.tree used.value) adds.task.instance used.bound,
-              subst (λ (p : Problem). HasBound version_2 p f.neighbours (unused_child f.region (pair c.arc)) unused.tree unused.value) (used.task.instance ∙ adds.task.instance) unused.bound,
+              subst (λ (p : Problem). HasBound version_2 p f.neighbours (used_child f.region (pair c.arc)) used.tree used.value) (unused.task.instance ∙ splits.task.instance) used.bound,
+              subst (λ (p : Problem). HasBound version_2 p f.neighbours (unused_child f.region (pair c.arc)) unused.tree unused.value) splits.task.instance unused.bound,
               refl,
             ),
           ),
         ),
       );
       shaped = (are.undecided, (used.shaped, unused.shaped));
-      least = omega (arith, used.least, unused.least, adds.bound);
-      leaves = omega (arith, used.leaves, unused.leaves, adds.leaves);
+      least = omega (arith, used.least, unused.least, splits.bound, last.bound);
+      leaves = omega (arith, used.leaves, unused.leaves, splits.leaves, last.leaves);
     }
 
 -- the bound of a tree is at most the ceiling and one
@@ -126,15 +139,19 @@ bound_low : (p : Problem) (k : ℕ) (g : Region) (tree : Tree) (b : ℕ) → Has
 bound_low p k g (leaf prices) b has = omega (arith, has.2)
 bound_low p k g (split a used unused) b has = let low = bound_low p k (used_child g a) used has.1.0 has.1.1.1.0 in omega (arith, low, has.1.1.1.2)
 
+map_reverse : {A B : Type 0} (f : A → B) (xs : List A) → map f (reverse xs) ≡ reverse (map f xs)
+map_reverse f [] = refl
+map_reverse f (x ∷ xs) = ap (λ ys. map f ys) (reverse-append (x ∷ []) xs) ∙ map-append f (reverse xs) (x ∷ []) ∙ ap (λ ys. ys ++ (f x ∷ [])) (map_reverse f xs) ∙ sym (reverse-append (f x ∷ []) (map f xs))
+
 -- a tree that has grown from the root alone is the instance's
 pub listed_tree : (p : Problem) (k : ℕ) (old new : Growth) → Grows k (root_region (customer_count p)) old new → old.instance.now ≡ p → old.nodes.items ≡ [] → old.leaves ≡ 1 → old.bound ≡ ceiling_of p + 1
-    → customer_count p ≤ 24 → new.leaves ≤ MOST_LEAVES → DepthHolds → IsListedTree p k new.nodes.items new.bound new.leaves
+    → customer_count p ≤ 24 → new.leaves ≤ MOST_LEAVES → DepthHolds → IsListedTree p k (reverse new.nodes.items) new.bound new.leaves
 listed_tree p k old new grows own none one high small few deep =
     let has : HasBound version_2 p k (root_region (customer_count p)) grows.tree grows.value = subst (λ (q : Problem). HasBound version_2 q k (root_region (customer_count p)) grows.tree grows.value) own grows.bound in
     let same : new.bound ≡ grows.value = omega (arith, grows.least, high, bound_low p k (root_region (customer_count p)) grows.tree grows.value has) in
     let room : customer_count p * (customer_count p + 1) ≤ 24 * 25 = mul-le (customer_count p) (customer_count p + 1) 24 25 (omega (arith, small)) (omega (arith, small)) in record {
       tree = grows.tree;
-      listed = grows.nodes ∙ ap (λ ns. map node_of ns ++ preorder grows.tree) none;
+      listed = map_reverse node_of new.nodes.items ∙ ap reverse (grows.nodes ∙ ap (λ ns. map node_of ns ++ reverse (preorder grows.tree)) none) ∙ reverse-reverse (preorder grows.tree);
       shaped = grows.shaped;
       is_bound = rw same has;
       counted = omega (arith, grows.leaves, one);

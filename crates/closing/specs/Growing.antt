@@ -1,9 +1,8 @@
 -- A tree that grows.
-use Rattle.std.specs.Prelude.{◌≡◌, ℕ, ◌+◌, ◌<◌, ◌≤◌, min, true, false, [], ◌∷◌, ◌++◌, map, MatchOption}
-use Rattle.solomon_reader.specs.Bound.{version_2, Tree, split_node, preorder, HasBound, ceiling_of}
+use Rattle.std.specs.Prelude.{◌≡◌, ℕ, ◌+◌, ◌<◌, ◌≤◌, min, true, false, ◌++◌, map, reverse, MatchOption}
+use Rattle.solomon_reader.specs.Bound.{version_2, Tree, preorder, HasBound, ceiling_of}
 use Rattle.solomon_reader.specs.CertificateText.{IsTreeAt, leaf_count}
 use Rattle.solomon_reader.specs.Region.{Region}
-use Rattle.branching.specs.Arcs.{pair}
 use Rattle.branching.specs.Nodes.{node_of}
 use Rattle.prices.specs.Pricing.{Pricing}
 use Rattle.insertion.specs.Building.{IsServedAlone}
@@ -37,21 +36,21 @@ pub record IsSameTree (old new : Growth) : Type 0 where
   pub bound : new.bound ≡ old.bound
   pub stopped : new.is_stopped ≡ old.is_stopped
 
--- the nodes of a tree at this region are added, and its leaves and its bound are counted in; one leaf stood for it before
+-- the nodes of a tree at this region are added in the reverse of preorder, and its leaves and its bound are counted in; one leaf stood for it before
 pub record Grows (k : ℕ) (g : Region) (old new : Growth) : Type 0 where
   pub task : IsSameTask old new
   pub tree : Tree
-  pub nodes : map node_of new.nodes.items ≡ map node_of old.nodes.items ++ preorder tree
+  pub nodes : map node_of new.nodes.items ≡ map node_of old.nodes.items ++ reverse (preorder tree)
   pub value : ℕ
   pub bound : HasBound version_2 old.instance.now k g tree value
   pub shaped : IsTreeAt g tree
   pub least : new.bound ≡ min old.bound value
   pub leaves : new.leaves + 1 ≡ old.leaves + leaf_count tree
 
--- the split of a leaf by an arc is added, and one leaf more counted
-pub record AddsSplit (f : Pricing) (old new : Growth) (c : Children) : Type 0 where
+-- the leaf is split by an arc, and one leaf more counted
+pub record Splits (f : Pricing) (old new : Growth) (c : Children) : Type 0 where
   pub children : AreChildren f c
   pub task : IsSameTask old new
-  pub nodes : map node_of new.nodes.items ≡ map node_of old.nodes.items ++ (split_node (pair c.arc) ∷ [])
+  pub nodes : new.nodes.items ≡ old.nodes.items
   pub leaves : new.leaves ≡ old.leaves + 1
   pub bound : new.bound ≡ old.bound

@@ -3,7 +3,7 @@
 ghost use Rattle.std.specs.Prelude.{◌≡◌, ◌≤◌, false, IfOk, IfNone, IfSome, OnOk};
 ghost use Rattle.branching.specs.Choosing.{IsSettled};
 ghost use Rattle.price_ascent.specs.Branching.{AreChildren};
-ghost use Rattle.closing.specs.Growing.{Grows, IsGrowth, IsSameTree, AddsSplit};
+ghost use Rattle.closing.specs.Growing.{Grows, IsGrowth, IsSameTree, Splits};
 
 use crate::growth::Growth;
 use crate::leaf::settled_leaf;
@@ -42,7 +42,7 @@ fn goal_of(leaf: &Priced<'_>, growth: &Growth<'_>) -> Goal {
 
 /// Takes the routes that make up the prices raised last where they are a plan that is cheaper than the
 /// best.
-fn offer_routes(growth: &mut Growth<'_>, pool: &RoutePool) -> Result<(), AllocError>
+fn offer_routes(growth: &mut Growth<'_>, pool: &RoutePool<'_>) -> Result<(), AllocError>
     requires growth { IsGrowth growth.old }
     requires going { growth.old.is_stopped ≡ false }
     ensures growth { IsGrowth growth.new }
@@ -58,7 +58,7 @@ fn offer_routes(growth: &mut Growth<'_>, pool: &RoutePool) -> Result<(), AllocEr
 fn children<'i>(
     growth: &Growth<'i>,
     leaf: &Priced<'i>,
-    pool: &mut RoutePool,
+    pool: &mut RoutePool<'i>,
 ) -> Result<Option<Children<'i>>, AllocError>
     ensures settled { IfOk result (λ found. IfNone found (IsSettled leaf.now.region)) }
     ensures children { IfOk result (λ found. IfSome found (AreChildren leaf.now)) }
@@ -92,11 +92,11 @@ fn settle<'i>(leaf: &Priced<'i>, growth: &mut Growth<'i>) -> Result<(), AllocErr
 
 /// Takes the routes met where they are a cheaper plan, and lists a leaf whose value reaches the target.
 /// Splits another by the arc that the routes met leave most open, as long as there may be more leaves,
-/// and lists the split whose children it answers, or the leaf.
+/// and answers the children; or lists the leaf.
 fn work_at<'i>(
     leaf: &Priced<'i>,
     growth: &mut Growth<'i>,
-    pool: &mut RoutePool,
+    pool: &mut RoutePool<'i>,
 ) -> Result<Option<Children<'i>>, AllocError>
     requires growth { IsGrowth growth.old }
     requires going { growth.old.is_stopped ≡ false }
@@ -104,7 +104,7 @@ fn work_at<'i>(
     ensures growth { OnOk result (IsGrowth growth.new) }
     ensures listed { IfOk result (λ found. IfNone found (Grows leaf.now.neighbours leaf.now.region growth.old growth.new)) }
     ensures leaves { IfOk result (λ found. IfNone found (growth.new.leaves ≡ growth.old.leaves)) }
-    ensures split { IfOk result (λ found. IfSome found (AddsSplit leaf.now growth.old growth.new)) }
+    ensures split { IfOk result (λ found. IfSome found (Splits leaf.now growth.old growth.new)) }
 {
     offer_routes(growth, pool)?;
     if leaf.value() >= i128::from(growth.target()) {
@@ -119,7 +119,7 @@ fn work_at<'i>(
         growth.stop_at(leaf)?;
         return Ok(None);
     }
-    growth.split(children.arc)?;
+    growth.split();
     Ok(Some(children))
 }
 
@@ -128,7 +128,7 @@ fn raise_and_work<'i>(
     leaf: Priced<'i>,
     start: Option<ChildStart>,
     growth: &mut Growth<'i>,
-    pool: &mut RoutePool,
+    pool: &mut RoutePool<'i>,
 ) -> Result<Option<Children<'i>>, AllocError>
     requires growth { IsGrowth growth.old }
     requires going { growth.old.is_stopped ≡ false }
@@ -136,19 +136,20 @@ fn raise_and_work<'i>(
     ensures growth { OnOk result (IsGrowth growth.new) }
     ensures listed { IfOk result (λ found. IfNone found (Grows leaf.entry.neighbours leaf.entry.region growth.old growth.new)) }
     ensures leaves { IfOk result (λ found. IfNone found (growth.new.leaves ≡ growth.old.leaves)) }
-    ensures split { IfOk result (λ found. IfSome found (AddsSplit leaf.entry growth.old growth.new)) }
+    ensures split { IfOk result (λ found. IfSome found (Splits leaf.entry growth.old growth.new)) }
 {
     let goal = goal_of(&leaf, growth);
     let raised = raise(growth.alloc, pool, leaf, start, &goal);
     work_at(&raised, growth, pool)
 }
 
-/// Lists the tree below a leaf, whose ascent starts where it was tried as a child, if it was.
+/// Lists the tree below a leaf, whose ascent starts where it was tried as a child, if it was. It grows first
+/// where the leaf's arc is forbidden: with the best plan at hand, that costs the fewest leaves.
 pub(crate) fn grow<'i>(
     leaf: Priced<'i>,
     start: Option<ChildStart>,
     growth: &mut Growth<'i>,
-    pool: &mut RoutePool,
+    pool: &mut RoutePool<'i>,
 ) -> Result<(), AllocError>
     requires growth { IsGrowth growth.old }
     requires own { leaf.problem ≡ growth.old.instance.now }
@@ -162,7 +163,7 @@ pub(crate) fn grow<'i>(
     let Some(children) = raise_and_work(leaf, start, growth, pool)? else {
         return Ok(());
     };
-    grow(children.used, children.used_start, growth, pool)?;
     grow(children.unused, children.unused_start, growth, pool)?;
-    Ok(())
+    grow(children.used, children.used_start, growth, pool)?;
+    growth.list_split(children.arc)
 }

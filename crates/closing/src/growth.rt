@@ -1,6 +1,6 @@
 //! A tree that grows.
 
-ghost use Rattle.std.specs.Prelude.{◌≡◌, ◌+◌, ◌<◌, ◌≤◌, min, false, true, [], MatchOption, OnOk, ◌++◌, ◌∷◌, map, IfOk, IfErr};
+ghost use Rattle.std.specs.Prelude.{◌≡◌, ◌+◌, ◌<◌, ◌≤◌, min, false, true, [], MatchOption, OnOk, ◌++◌, ◌∷◌, map, reverse, IfOk, IfErr};
 ghost use Rattle.solomon_reader.specs.Problem.{customer_count};
 ghost use Rattle.solomon_reader.specs.Bound.{ceiling_of, split_node};
 ghost use Rattle.branching.specs.Arcs.{pair};
@@ -19,7 +19,7 @@ use solomon_reader::{Instance, bounds_hold};
 use std::alloc::{AllocError, Global};
 use tenths::Tenths;
 
-/// A tree that grows from the root of an instance, listed in preorder as far as it is settled.
+/// A tree that grows from the root of an instance, listed in the reverse of preorder as far as it is settled.
 #[derive(Drop)]
 pub(crate) struct Growth<'i> {
     pub(crate) alloc: Global,
@@ -167,31 +167,43 @@ impl<'i> Growth<'i> {
         self.list(leaf)
     }
 
-    /// Lists a split by an arc; both children are leaves from now on.
-    pub(crate) fn split(&mut self, arc: Arc) -> Result<(), AllocError>
+    /// Counts a split: in place of the leaf there are two.
+    pub(crate) fn split(&mut self)
         requires growth { IsGrowth self.old }
         requires going { self.old.is_stopped ≡ false }
         requires room { self.old.leaves < self.old.limit }
+        ensures growth { IsGrowth self.new }
+        ensures task { IsSameTask self.old self.new }
+        ensures nodes { self.new.nodes.items ≡ self.old.nodes.items }
+        ensures leaves { self.new.leaves ≡ self.old.leaves + 1 }
+        ensures bound { self.new.bound ≡ self.old.bound }
+    {
+        self.leaves += 1;
+    }
+
+    /// Lists a split by an arc whose children are listed, that which uses it last.
+    pub(crate) fn list_split(&mut self, arc: Arc) -> Result<(), AllocError>
+        requires { IsGrowth self.old }
         ensures growth { OnOk result (IsGrowth self.new) }
         ensures task { IsSameTask self.old self.new }
         ensures nodes { OnOk result (map node_of self.new.nodes.items ≡ map node_of self.old.nodes.items ++ split_node (pair arc) ∷ []) }
-        ensures leaves { OnOk result (self.new.leaves ≡ self.old.leaves + 1) }
+        ensures leaves { self.new.leaves ≡ self.old.leaves }
         ensures bound { self.new.bound ≡ self.old.bound }
     {
         self.nodes.push(TreeNode::Split(arc))?;
-        self.leaves += 1;
         Ok(())
     }
 
     /// What the tree comes to, once it is listed.
-    pub(crate) fn finish(self, neighbours: u32) -> Result<Closed<'i>, CloseAloneFault>
+    pub(crate) fn finish(mut self, neighbours: u32) -> Result<Closed<'i>, CloseAloneFault>
         requires growth { IsGrowth self }
         requires small { customer_count self.instance.now ≤ MOST_CLOSED }
-        requires tree { IsListedTree self.instance.now neighbours self.nodes.items self.bound self.leaves }
+        requires tree { IsListedTree self.instance.now neighbours (reverse self.nodes.items) self.bound self.leaves }
         ensures closed { IfOk result (IsClosed self.entry.instance.now neighbours self.entry.limit) }
         ensures left_open { IfErr result (IsLeftOpen self.entry.instance.now neighbours self.entry.limit) }
     {
         bounds_hold();
+        self.nodes.reverse();
         let bound = Tenths::from(self.bound);
         let cost = match &self.best {
             Some(plan) => Some(plan.cost()),

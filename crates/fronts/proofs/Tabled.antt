@@ -1,5 +1,5 @@
--- Tables that grow, and what is read from them.
-use Rattle.std.proofs.Common.{◌≡◌, refl, ℕ, ◌+◌, ◌<◌, List, [], ◌∷◌, ◌++◌, length-append, get_or, arith, subst, sym, inl, inr}
+-- Tables that grow.
+use Rattle.std.proofs.Common.{◌≡◌, refl, ℕ, ◌+◌, ◌<◌, List, [], ◌∷◌, ◌++◌, length-append, get_or, arith, inl, inr}
 use Rattle.std.proofs.lemmas.Bool.{cases_lt}
 use Rattle.std.proofs.lemmas.List.{get_or_append_left, get_or_push}
 use Rattle.fronts.specs.Tables.{IsTable}
@@ -19,7 +19,3 @@ module _ {X : Type 0} (T : ℕ → X → Type 0) where
 
   pub table_all : (i n : ℕ) (table : List X) → i ≡ n → IsTable T i table → IsTable T n table
   table_all i n table same h = rw (← same) h
-
-  -- what was read is what the table has there
-  pub table_read : (i n : ℕ) (x : X) (table : List X) → IsTable T n table → i < n → x ≡ get_or table i x → T i x
-  table_read i n x table h within is = subst (T i) (sym is) (h.each i x within)

@@ -15,7 +15,6 @@ use crate::bound::{Bound, RowBound};
 use crate::customer_set::CustomerSet;
 use crate::front::Front;
 use crate::neighbours::LIST_SIZE;
-use crate::slots::Slots;
 use crate::task::Task;
 use solomon_reader::{MOST_CAPACITY, MOST_PRICE, MOST_TIME};
 use std::alloc::AllocError;
@@ -36,11 +35,11 @@ fn unknown(task: &Task<'_>) -> Bound
 }
 
 /// What bounds all that may follow from a row at a time, as far as these bounds tell.
-fn bound_at(task: &Task<'_>, slots: &Slots, bounds: &[RowBound], v: u16, time: u64) -> Bound
+fn bound_at(task: &Task<'_>, bounds: &[RowBound], v: u16, time: u64) -> Bound
     requires { All (IsRowBound task.now.instance.now task.now.region.now task.now.neighbours task.now.prices.now) bounds.now }
     ensures { IsBound task.now.instance.now task.now.region.now task.now.neighbours task.now.prices.now v time result }
 {
-    let place = slots.place(v, time);
+    let place = task.slots.place(v, time);
     if place >= bounds.len() {
         return unknown(task);
     }
@@ -160,7 +159,6 @@ fn end_bound(task: &Task<'_>, front: &Front, rows: &CustomerSet) -> Bound
 /// What bounds steps to one more customer, too.
 fn with_step(
     task: &Task<'_>,
-    slots: &Slots,
     bounds: &[RowBound],
     front: &Front,
     rows: &CustomerSet,
@@ -180,13 +178,13 @@ fn with_step(
         return bound;
     }
     let next = front.extend(task.instance, task.prices, j);
-    let on = bound_at(task, slots, bounds, j, next.time);
+    let on = bound_at(task, bounds, j, next.time);
     let least = least_onward(task, on, front.last, j, next.time);
     joined(bound, j, &next, on.room, least)
 }
 
 /// What bounds all that may follow from a row at a time or later.
-fn bound_from(task: &Task<'_>, slots: &Slots, bounds: &[RowBound], v: u16, from: u64) -> Bound
+fn bound_from(task: &Task<'_>, bounds: &[RowBound], v: u16, from: u64) -> Bound
     requires bounds { All (IsRowBound task.now.instance.now task.now.region.now task.now.neighbours task.now.prices.now) bounds.now }
     requires v { v < length task.now.instance.now.rows }
     requires from { from ≤ 20 * MOST_TIME }
@@ -202,22 +200,22 @@ fn bound_from(task: &Task<'_>, slots: &Slots, bounds: &[RowBound], v: u16, from:
     };
     let mut bound = end_bound(task, &front, rows);
     for j in 1..count + 1 {
-        bound = with_step(task, slots, bounds, &front, rows, j, bound);
+        bound = with_step(task, bounds, &front, rows, j, bound);
     }
     bound
 }
 
 /// Puts in the bounds of a customer in a slot, if it has some.
-fn fill_at(task: &Task<'_>, slots: &Slots, bounds: &mut [RowBound], v: u16, slot: u64)
+fn fill_at(task: &Task<'_>, bounds: &mut [RowBound], v: u16, slot: u64)
     requires bounds { All (IsRowBound task.now.instance.now task.now.region.now task.now.neighbours task.now.prices.now) bounds.old }
     requires v { v < length task.now.instance.now.rows }
     ensures { All (IsRowBound task.now.instance.now task.now.region.now task.now.neighbours task.now.prices.now) bounds.new }
 {
-    let Some(from) = slots.start(v, slot) else {
+    let Some(from) = task.slots.start(v, slot) else {
         return;
     };
-    let bound = bound_from(task, slots, bounds, v, from);
-    let place = slots.place(v, from);
+    let bound = bound_from(task, bounds, v, from);
+    let place = task.slots.place(v, from);
     if place < bounds.len() {
         bounds[place] = RowBound {
             row: v,
@@ -228,23 +226,23 @@ fn fill_at(task: &Task<'_>, slots: &Slots, bounds: &mut [RowBound], v: u16, slot
 }
 
 /// Puts in the bounds of all customers in a slot.
-fn fill_slot(task: &Task<'_>, slots: &Slots, bounds: &mut [RowBound], slot: u64)
+fn fill_slot(task: &Task<'_>, bounds: &mut [RowBound], slot: u64)
     requires { All (IsRowBound task.now.instance.now task.now.region.now task.now.neighbours task.now.prices.now) bounds.old }
     ensures { All (IsRowBound task.now.instance.now task.now.region.now task.now.neighbours task.now.prices.now) bounds.new }
 {
     for v in 1..task.instance.customer_count() + 1 {
-        fill_at(task, slots, bounds, v, slot);
+        fill_at(task, bounds, v, slot);
     }
 }
 
 /// Puts in all bounds, those of the last slot first.
-fn fill(task: &Task<'_>, slots: &Slots, bounds: &mut [RowBound])
+fn fill(task: &Task<'_>, bounds: &mut [RowBound])
     requires { All (IsRowBound task.now.instance.now task.now.region.now task.now.neighbours task.now.prices.now) bounds.old }
     ensures { All (IsRowBound task.now.instance.now task.now.region.now task.now.neighbours task.now.prices.now) bounds.new }
 {
-    let last = slots.last();
+    let last = task.slots.last();
     for past in 0..last.saturating_add(1) {
-        fill_slot(task, slots, bounds, last.saturating_sub(past));
+        fill_slot(task, bounds, last.saturating_sub(past));
     }
 }
 
@@ -253,7 +251,6 @@ fn fill(task: &Task<'_>, slots: &Slots, bounds: &mut [RowBound])
 pub struct Completions<'t, 'i> {
     /// What they are the bounds of.
     pub task: &'t Task<'i>,
-    slots: Slots,
     bounds: Vec<RowBound>,
     ghost hold: { All (IsRowBound task.now.instance.now task.now.region.now task.now.neighbours task.now.prices.now) bounds.items },
 }
@@ -265,7 +262,6 @@ impl<'t, 'i> Completions<'t, 'i> {
     {
         Completions {
             task,
-            slots: Slots::none(task.alloc),
             bounds: Vec::new(task.alloc),
         }
     }
@@ -274,25 +270,25 @@ impl<'t, 'i> Completions<'t, 'i> {
     pub fn new(task: &'t Task<'i>) -> Result<Completions<'t, 'i>, AllocError>
         ensures { IfOk result (λ c. c.task.now ≡ task.now) }
     {
-        let slots = Slots::new(task.alloc, task.instance)?;
         let nothing = RowBound {
             row: 0,
             from: 0,
             bound: unknown(task),
         };
-        let mut bounds = vec![in task.alloc; nothing; slots.count()]?;
-        fill(task, &slots, bounds.as_mut_slice());
-        Ok(Completions {
-            task,
-            slots,
-            bounds,
-        })
+        let mut bounds = vec![in task.alloc; nothing; task.slots.count()]?;
+        fill(task, bounds.as_mut_slice());
+        Ok(Completions { task, bounds })
+    }
+
+    /// How many bounds they are, of which each took a look at every customer. No contract: it only measures.
+    pub fn count(&self) -> usize {
+        self.bounds.len()
     }
 
     /// What bounds all that may follow from a row at a time, in tenths.
     pub fn at(&self, v: u16, time: u64) -> Bound
         ensures { IsBound self.now.task.now.instance.now self.now.task.now.region.now self.now.task.now.neighbours self.now.task.now.prices.now v time result }
     {
-        bound_at(self.task, &self.slots, self.bounds.as_slice(), v, time)
+        bound_at(self.task, self.bounds.as_slice(), v, time)
     }
 }

@@ -25,7 +25,7 @@ struct RowSlots {
 }
 
 /// Slots of one length, from time 0 on. Each row has a bound for each slot in which a route may leave it.
-#[derive(Drop)]
+#[derive(Debug, Drop)]
 pub(crate) struct Slots {
     /// How long a slot is, in tenths.
     width: u64,
@@ -112,17 +112,6 @@ impl RowSlots {
 }
 
 impl Slots {
-    /// No slots.
-    pub(crate) fn none(alloc: Global) -> Slots {
-        Slots {
-            width: 1,
-            inverse: inverse_of(1),
-            last: 0,
-            count: 0,
-            rows: Vec::new(alloc),
-        }
-    }
-
     /// The slots of an instance.
     pub(crate) fn new(alloc: Global, instance: &Instance) -> Result<Slots, AllocError> {
         let width = width_of(instance);

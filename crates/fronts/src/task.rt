@@ -1,7 +1,6 @@
 //! What a labeller works on.
 
 ghost use Rattle.std.specs.Prelude.{◌≡◌, ◌<◌, ◌≤◌, length, IfOk, IsTrue, IsFalse};
-ghost use Rattle.solomon_reader.specs.declared.limits.TheConstants.{MOST_NEIGHBOURS};
 ghost use Rattle.solomon_reader.specs.Problem.{IsCustomer};
 ghost use Rattle.solomon_reader.specs.States.{CanStep};
 ghost use Rattle.fronts.specs.Fronts.{IsTask, IsBounded};
@@ -12,14 +11,16 @@ ghost use Rattle.fronts.specs.declared.neighbours.TheConstants.{LIST_SIZE};
 use crate::customer_set::CustomerSet;
 use crate::front::Front;
 use crate::memory::Memory;
+use crate::nearness::Nearness;
 use crate::neighbours::LIST_SIZE;
-use crate::tables::{all_places, allowed_rows, neighbour_lists};
+use crate::slots::Slots;
+use crate::tables::allowed_rows;
 use branching::Region;
 use solomon_reader::Instance;
 use std::alloc::{AllocError, Global};
 
-/// What the caller hands in, with the neighbour list of each row, the places of all rows in it, and the
-/// rows to which a route may go from it.
+/// What the caller hands in, with the neighbour list of each row, the places of all rows in it, the slots of
+/// time, and the rows to which a route may go from each row.
 #[derive(Drop)]
 pub struct Task<'i> {
     pub alloc: Global,
@@ -27,44 +28,43 @@ pub struct Task<'i> {
     pub region: &'i Region,
     pub prices: &'i [i64],
     pub neighbours: u32,
-    pub places: Vec<Vec<u8>>,
-    pub neighbour_lists: Vec<[u16; LIST_SIZE as usize]>,
+    pub places: &'i [Vec<u8>],
+    pub neighbour_lists: &'i [[u16; LIST_SIZE as usize]],
+    pub(crate) slots: &'i Slots,
     pub allowed_rows: Vec<CustomerSet>,
     ghost task: { IsTask instance.now region.now prices.now },
     ghost few: { neighbours < LIST_SIZE },
-    ghost placed: { IsTable (ArePlaces instance.now neighbours) (length instance.now.rows) places.items },
-    ghost near: { IsTable (IsWholeList instance.now neighbours) (length instance.now.rows) neighbour_lists.items },
+    ghost placed: { IsTable (ArePlaces instance.now neighbours) (length instance.now.rows) places.now },
+    ghost near: { IsTable (IsWholeList instance.now neighbours) (length instance.now.rows) neighbour_lists.now },
     ghost allowed: { IsTable (IsAllowedRow region.now) (length instance.now.rows) allowed_rows.items },
 }
 
 impl<'i> Task<'i> {
-    /// The task of these, with its tables.
+    /// The task of these.
     pub fn new(
         alloc: Global,
-        instance: &'i Instance,
+        nearness: &'i Nearness<'_>,
         region: &'i Region,
         prices: &'i [i64],
-        neighbours: u32,
     ) -> Result<Task<'i>, AllocError>
-        requires task { IsTask instance.now region.now prices.now }
-        requires few { neighbours ≤ MOST_NEIGHBOURS }
-        ensures instance { IfOk result (λ t. t.instance.now ≡ instance.now) }
+        requires { IsTask nearness.now.instance.now region.now prices.now }
+        ensures instance { IfOk result (λ t. t.instance.now ≡ nearness.now.instance.now) }
         ensures region { IfOk result (λ t. t.region.now ≡ region.now) }
         ensures prices { IfOk result (λ t. t.prices.now ≡ prices.now) }
-        ensures neighbours { IfOk result (λ t. t.neighbours ≡ neighbours) }
+        ensures neighbours { IfOk result (λ t. t.neighbours ≡ nearness.now.neighbours) }
     {
+        let instance = nearness.instance;
         instance.law_of_limits();
-        let places = all_places(alloc, instance, neighbours)?;
-        let neighbour_lists = neighbour_lists(alloc, instance, neighbours, places.as_slice())?;
         let allowed_rows = allowed_rows(alloc, instance, region)?;
         Ok(Task {
             alloc,
             instance,
             region,
             prices,
-            neighbours,
-            places,
-            neighbour_lists,
+            neighbours: nearness.neighbours,
+            places: nearness.places.as_slice(),
+            neighbour_lists: nearness.neighbour_lists.as_slice(),
+            slots: &nearness.slots,
             allowed_rows,
         })
     }

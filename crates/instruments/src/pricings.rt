@@ -151,7 +151,11 @@ fn root_of<'i>(
 }
 
 /// A pool with the routes of a plan.
-fn pool_of(alloc: Global, instance: &Instance, start: Start<'_, '_>) -> Option<RoutePool> {
+fn pool_of<'i>(
+    alloc: Global,
+    instance: &'i Instance,
+    start: Start<'_, '_>,
+) -> Option<RoutePool<'i>> {
     let mut pool = RoutePool::new(alloc);
     if let Some(plan) = start {
         for route in plan.routes() {
@@ -182,7 +186,7 @@ fn goal_of(instance: &Instance, start: Start<'_, '_>, pricings: u32) -> Goal {
 }
 
 /// The arc that the pool would branch a leaf on.
-fn arc_of(pool: &RoutePool, leaf: &Priced<'_>) -> Option<Arc> {
+fn arc_of(pool: &RoutePool<'_>, leaf: &Priced<'_>) -> Option<Arc> {
     let rows = pool.branching_arcs(leaf.instance()).ok()?;
     leaf.region().choose(rows.as_slice())
 }
@@ -196,10 +200,10 @@ fn tell_end<R: Host>(rt: &R, milliseconds: u128, times: bool) -> io::Result<()> 
 }
 
 /// Raises the root by the routes of a pool, and prints its value and the arc, if there is one.
-fn tell_raised<R: Host>(
+fn tell_raised<'i, R: Host>(
     rt: &R,
-    pool: &mut RoutePool,
-    root: Priced<'_>,
+    pool: &mut RoutePool<'i>,
+    root: Priced<'i>,
     goal: &Goal,
     times: bool,
 ) -> io::Result<()> {

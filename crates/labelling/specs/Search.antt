@@ -9,7 +9,7 @@ use Rattle.labelling.specs.declared.label.Label.{Label}
 use Rattle.labelling.specs.declared.labeller.Labeller.{Labeller}
 use Rattle.labelling.specs.Arena.{label_in, state_at, IsArena, IsDominated, IsPruned, IsAdded, IsSameStop, TakesStep, TakesSteps, CountsEnd, IsComplete}
 use Rattle.labelling.specs.Cover.{Carries, IsCounted, IsPassed}
-use Rattle.solomon_reader.specs.States.{CanEnd, Completes, value_with}
+use Rattle.solomon_reader.specs.States.{CanEnd, CanStep, Completes, value_with}
 use Rattle.fronts.specs.Completions.{IsBound, IsCut}
 use Rattle.fronts.specs.Fronts.{end_cost}
 use Rattle.fronts.specs.Memories.{HasPlaces, recalls}
@@ -68,6 +68,10 @@ AreRowsFrom w l rows = IsAllowedRow (task_of w).region.now l.front.last rows
 -- the places in the neighbour list of a label's last stop
 abbrev pub ArePlacesFrom : Labeller → Label → List ℕ → Type 0
 ArePlacesFrom w l places = HasPlaces (task_of w).instance.now (task_of w).neighbours l.front.last (length (task_of w).instance.now.rows) places
+
+-- the step from l to j may be taken
+abbrev pub CanStepTo : Labeller → Label → ℕ → Type 0
+CanStepTo w l j = CanStep (task_of w).instance.now (task_of w).region.now (state_at (task_of w).instance.now (task_of w).neighbours l) j
 
 -- the step from l to j was taken, if it may be taken and may lead below the best
 abbrev pub TakesStepTo : Labeller → Labeller → Option ℤ → Label → ℕ → Type 0

@@ -189,10 +189,12 @@ fn drop_each(
     }
 }
 
-/// The labels of one customer.
+/// The labels of one customer: first those with the memory by which one dominated another last.
 #[derive(Drop)]
 pub(crate) struct CustomerLabels {
     groups: Vec<MemoryGroup>,
+    /// How often a newer label looked at a group.
+    looks: u64,
 }
 
 impl CustomerLabels {
@@ -200,12 +202,18 @@ impl CustomerLabels {
     pub(crate) fn new(alloc: Global) -> CustomerLabels {
         CustomerLabels {
             groups: Vec::new(alloc),
+            looks: 0,
         }
+    }
+
+    /// How often a newer label looked at a group.
+    pub(crate) fn looks(&self) -> u64 {
+        self.looks
     }
 
     /// Whether an active label dominates a newer one.
     pub(crate) fn is_dominated(
-        &self,
+        &mut self,
         completions: &Completions<'_, '_>,
         labels: &[Label],
         label: &Label,
@@ -213,13 +221,16 @@ impl CustomerLabels {
     ) -> bool
         ensures { IsTrue result → IsDominatedIn completions.now labels.now label.now }
     {
-        for group in &self.groups {
-            if let Some(index) = group.find_dominating(newer) {
-                if dominates_at(completions, labels, index, label) {
-                    return true;
-                }
+        for place in 0..self.groups.len() {
+            if let Some(index) = self.groups[place].find_dominating(newer)
+                && dominates_at(completions, labels, index, label)
+            {
+                self.looks = self.looks.saturating_add(place as u64);
+                self.groups.as_mut_slice().swap(0, place);
+                return true;
             }
         }
+        self.looks = self.looks.saturating_add(self.groups.len() as u64);
         false
     }
 

@@ -9,8 +9,8 @@ ghost use Rattle.solomon_reader.specs.declared.limits.TheConstants.{MOST_NEIGHBO
 ghost use Rattle.labelling.specs.Answer.{HasLeastValue, HasItsRoute};
 ghost use Rattle.labelling.specs.Arena.{label_in, trace, IsPending, IsOnward, NonePending, IsInList, IsFirst, IsAnswer};
 ghost use Rattle.labelling.specs.Cover.{IsAtMost};
-ghost use Rattle.fronts.specs.Fronts.{IsBounded};
-ghost use Rattle.labelling.specs.Search.{task_of, IsSameTask, AreLabels, StandsAt, AreRowsFrom, ArePlacesFrom, IsAddedTo, IsBoundAt, PassesFront, PassesLabel, TakesStepTo, TakesStepsBelow, Recalls, AddsAtLeast, EndsFor, CountsEndOf, LosesNothing};
+ghost use Rattle.fronts.specs.Fronts.{IsBounded, IsTask};
+ghost use Rattle.labelling.specs.Search.{task_of, IsSameTask, AreLabels, StandsAt, CanStepTo, AreRowsFrom, ArePlacesFrom, IsAddedTo, IsBoundAt, PassesFront, PassesLabel, TakesStepTo, TakesStepsBelow, Recalls, AddsAtLeast, EndsFor, CountsEndOf, LosesNothing};
 ghost use Rattle.labelling.specs.declared.fault.LabelFault.TheVariants.{LabelLimit};
 
 use crate::best::Best;
@@ -22,7 +22,7 @@ use crate::least_cost::Least;
 use crate::lookup::Lookup;
 use crate::route_ends::{RouteEnd, cheapest};
 use branching::Region;
-use fronts::{Bound, Completions, CustomerSet, Front, LIST_SIZE, Memory, Task};
+use fronts::{Bound, Completions, CustomerSet, Front, LIST_SIZE, Memory, Nearness, Task};
 use solomon_reader::Instance;
 use std::alloc::{AllocError, Global};
 
@@ -246,8 +246,39 @@ impl<'t, 'i> Labeller<'t, 'i> {
         Ok(())
     }
 
+    /// Takes the step from the label at an index to a customer, where a route may go, if it may cost less
+    /// than the best.
+    #[inline(never)]
+    fn step_to(
+        &mut self,
+        label: &Label,
+        index: usize,
+        best: Option<i64>,
+        j: u16,
+    ) -> Result<(), LabelFault>
+        requires labels { AreLabels self.old }
+        requires index { StandsAt self.old.labels.items index label.now }
+        requires j { IsCustomer (task_of self.old).instance.now j }
+        requires can { CanStepTo self.old label.now j }
+        ensures stepped { OnOk result (TakesStepTo self.old self.new best label.now j) }
+        ensures same { IsSameTask self.old self.new }
+        ensures best { self.new.best ≡ self.old.best }
+        ensures unlimited { IfErr result (λ e. e ≡ LabelLimit → self.old.limit ≢ None) }
+    {
+        let task = self.completions.task;
+        let front = label.front.extend(task.instance, task.prices, j);
+        let bound = self.completions.at(front.last, front.time);
+        if self.is_passed(&front, &bound, best) {
+            return Ok(());
+        }
+        let newer = label.extend(task, index, front, j);
+        self.add_label(&newer, bound.room)?;
+        Ok(())
+    }
+
     /// Takes the step from the label at an index to a customer, if a route may go there and cost less
     /// than the best.
+    #[inline(always)]
     fn take_step(
         &mut self,
         label: &Label,
@@ -271,14 +302,7 @@ impl<'t, 'i> Labeller<'t, 'i> {
         if !task.can_step(&label.front, label.memory, rows, places, j) {
             return Ok(());
         }
-        let front = label.front.extend(task.instance, task.prices, j);
-        let bound = self.completions.at(front.last, front.time);
-        if self.is_passed(&front, &bound, best) {
-            return Ok(());
-        }
-        let newer = label.extend(task, index, front, j);
-        self.add_label(&newer, bound.room)?;
-        Ok(())
+        self.step_to(label, index, best, j)
     }
 
     /// Takes each step from the label at an index that may lead below the best.
@@ -372,8 +396,17 @@ impl<'t, 'i> Labeller<'t, 'i> {
         Ok(())
     }
 
-    /// Tells further routes that were met, the cheapest ones, and how many labels were made.
-    fn tell(&self, hints: &mut Hints) -> Result<(), AllocError>
+    /// How much work the search was: how often a label or a bound looked at a customer, and a label at the
+    /// labels that remember the same customers.
+    fn looks(&self) -> u64 {
+        let lookers = self.labels.len().saturating_add(self.completions.count());
+        let customers = u64::from(self.completions.task.instance.customer_count());
+        let looks = (lookers as u64).saturating_mul(customers);
+        looks.saturating_add(self.lookup.looks())
+    }
+
+    /// Tells further routes that were met, the cheapest ones.
+    fn tell(&self, hints: &mut Hints<'_>) -> Result<(), AllocError>
         requires { LosesNothing self.now }
     {
         let alloc = self.completions.task.alloc;
@@ -384,7 +417,6 @@ impl<'t, 'i> Labeller<'t, 'i> {
                 hints.met.push(route)?;
             }
         }
-        hints.labels = self.labels.len();
         Ok(())
     }
 
@@ -586,7 +618,7 @@ impl<'t, 'i> Labeller<'t, 'i> {
     }
 
     /// Extends all labels, the most promising first, and answers the least reduced cost with its route.
-    fn extend_all(&mut self, hints: &mut Hints) -> Result<Least, LabelFault>
+    fn extend_all(&mut self, hints: &mut Hints<'_>) -> Result<Least, LabelFault>
         requires { LosesNothing self.old }
         ensures value { let task = task_of self.old in
             IfOk result (HasLeastValue task.instance.now task.region.now task.neighbours task.prices.now) }
@@ -621,7 +653,7 @@ fn completions_for<'t, 'i>(
 fn least_of_task(
     task: &Task<'_>,
     limit: Option<usize>,
-    hints: &mut Hints,
+    hints: &mut Hints<'_>,
 ) -> Result<Least, LabelFault>
     ensures value { IfOk result (HasLeastValue task.now.instance.now task.now.region.now task.now.neighbours task.now.prices.now) }
     ensures route { IfOk result (HasItsRoute task.now.instance.now task.now.region.now task.now.neighbours task.now.prices.now) }
@@ -634,7 +666,44 @@ fn least_of_task(
     labeller.extend_by_time(few)?;
     let completions = completions_for(task, labeller.labels.len() > few)?;
     let mut labeller = labeller.with(&completions);
-    labeller.extend_all(hints)
+    let found = labeller.extend_all(hints);
+    hints.looks = labeller.looks();
+    found
+}
+
+/// What `least_by_hints` answers, from the tables of its instance.
+fn least_near(
+    alloc: Global,
+    nearness: &Nearness<'_>,
+    region: &Region,
+    prices: &[i64],
+    limit: Option<usize>,
+    hints: &mut Hints<'_>,
+) -> Result<Least, LabelFault>
+    requires { IsTask nearness.now.instance.now region.now prices.now }
+    ensures value { IfOk result (HasLeastValue nearness.now.instance.now region.now nearness.now.neighbours prices.now) }
+    ensures route { IfOk result (HasItsRoute nearness.now.instance.now region.now nearness.now.neighbours prices.now) }
+    ensures unlimited { IfErr result (λ e. e ≡ LabelLimit → limit ≢ None) }
+{
+    let task = Task::new(alloc, nearness, region, prices)?;
+    least_of_task(&task, limit, hints)
+}
+
+/// The tables of an instance for so many neighbours: known ones, if they are.
+fn nearness_for<'i>(
+    alloc: Global,
+    instance: &'i Instance,
+    neighbours: u32,
+    known: Option<Nearness<'i>>,
+) -> Result<Nearness<'i>, AllocError>
+    requires { neighbours ≤ MOST_NEIGHBOURS }
+    ensures instance { IfOk result (λ n. n.instance.now ≡ instance.now) }
+    ensures neighbours { IfOk result (λ n. n.neighbours ≡ neighbours) }
+{
+    match known {
+        Some(nearness) if nearness.is_for(instance, neighbours) => Ok(nearness),
+        _ => Nearness::new(alloc, instance, neighbours),
+    }
 }
 
 /// The least reduced cost over all relaxed routes of the region at these prices, and a route that
@@ -667,16 +736,16 @@ pub fn least(
     )
 }
 
-/// What `least` answers, found sooner where a route of low reduced cost is known, with further routes that
-/// were met.
-pub fn least_by_hints(
+/// What `least` answers, found sooner where a route of low reduced cost or the tables of an earlier search
+/// are known, with further routes that were met.
+pub fn least_by_hints<'i>(
     alloc: Global,
-    instance: &Instance,
+    instance: &'i Instance,
     region: &Region,
     prices: &[i64],
     neighbours: u32,
     limit: Option<usize>,
-    hints: &mut Hints,
+    hints: &mut Hints<'i>,
 ) -> Result<Least, LabelFault>
     requires size { region.now.size ≡ customer_count instance.now }
     requires count { length prices.now ≡ customer_count instance.now }
@@ -687,6 +756,8 @@ pub fn least_by_hints(
     ensures unlimited { IfErr result (λ e. e ≡ LabelLimit → limit ≢ None) }
 {
     instance.law_of_limits();
-    let task = Task::new(alloc, instance, region, prices, neighbours)?;
-    least_of_task(&task, limit, hints)
+    let nearness = nearness_for(alloc, instance, neighbours, hints.nearness.take())?;
+    let found = least_near(alloc, &nearness, region, prices, limit, hints);
+    hints.nearness = Some(nearness);
+    found
 }

@@ -14,6 +14,7 @@ mod lookup;
 mod route_ends;
 
 pub use fault::LabelFault;
+pub use fronts::Nearness;
 pub use hints::Hints;
 pub use labeller::{least, least_by_hints};
 pub use least_cost::Least;

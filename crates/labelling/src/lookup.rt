@@ -51,9 +51,18 @@ impl Lookup {
         self.buckets.take(slot)
     }
 
+    /// How often a label looked at those of its customer that remember the same.
+    pub(crate) fn looks(&self) -> u64 {
+        let mut looks: u64 = 0;
+        for labels in &self.customers {
+            looks = looks.saturating_add(labels.looks());
+        }
+        looks
+    }
+
     /// Whether an active label dominates a newer one.
     pub(crate) fn is_dominated(
-        &self,
+        &mut self,
         completions: &Completions<'_, '_>,
         labels: &[Label],
         label: &Label,

@@ -1,8 +1,8 @@
 -- Which arcs the decisions on a path leave.
-use Rattle.std.proofs.Common.{◌≡◌, ◌≢◌, refl, ℕ, zero, suc, ◌<◌, ◌≤◌, Bool, true, false, not, ◌&&◌, ◌||◌, ◌==◌, List, [], ◌∷◌, length, arith, ap, sym, ◌∙◌, inl, inr, ◌+◌, replicate}
+use Rattle.std.proofs.Common.{◌≡◌, ◌≢◌, refl, ℕ, zero, suc, ◌<◌, ◌≤◌, Bool, true, false, not, ◌&&◌, ◌||◌, ◌==◌, List, [], ◌∷◌, length, arith, ap, sym, ◌∙◌, ◌⊎◌, inl, inr, ◌+◌, replicate}
 use Rattle.std.specs.Ordering.{eq_by_cmp}
 use Rattle.std.specs.FinSet.{insert, contains-insert}
-use Rattle.std.proofs.lemmas.Bool.{cases_Bool, cases_lt, eq-eqb, ne_eqb, eqb-true, or_cases, or_left, or_right, or_from, and_parts, and_from, false_from_ne_true, both_ways, not_from_false}
+use Rattle.std.proofs.lemmas.Bool.{cases_Bool, cases_lt, cases_eq, eq-eqb, ne_eqb, eqb-true, or_cases, or_left, or_right, or_from, and_parts, and_from, false_from_ne_true, both_ways, not_from_false}
 use Rattle.std.proofs.lemmas.List.{get_or-replicate, length-replicate}
 use Rattle.solomon_reader.specs.Plan.{Arc}
 use Rattle.solomon_reader.specs.Region.{Region, Holds, ArcSet, arc_cmp, IsAllowed, IsArc, root_region, used_child, unused_child}
@@ -119,7 +119,7 @@ all_back : (ds : List Decision) (g : Region) (i j : ℕ) → IsAllowed g (i, j) 
 all_back [] g i j h each = h
 all_back (d ∷ ds) g i j h each = all_back ds (child g d) i j (child_back g d i j h (each 0 (omega arith))) (λ m w. each (suc m) (omega arith))
 
-root_allows : (n i j : ℕ) → i ≢ j → i ≤ n → j ≤ n → IsAllowed (root_region n) (i, j)
+pub root_allows : (n i j : ℕ) → i ≢ j → i ≤ n → j ≤ n → IsAllowed (root_region n) (i, j)
 root_allows n i j apart from to = record {
   arc = record { from = from; to = to; apart = apart };
   open_arc = none_in_empty (i, j);
@@ -135,6 +135,26 @@ allowed_admits n ds i j m w h = (all_there ds (root_region n) i j h).1 m w
 
 pub allowed_arc : (n : ℕ) (ds : List Decision) (i j : ℕ) → IsAllowed (region_of n ds) (i, j) → IsArc n (i, j)
 allowed_arc n ds i j h = (all_there ds (root_region n) i j h).0.arc
+
+-- whether an arc is allowed can be decided
+pub decided : (n : ℕ) (ds : List Decision) (i j : ℕ) → i ≤ n → j ≤ n → IsAllowed (region_of n ds) (i, j) ⊎ ¬ IsAllowed (region_of n ds) (i, j)
+decided n ds i j from to = after ds (root_region n) first
+  where
+    after : (ds : List Decision) (g : Region) → IsAllowed g (i, j) ⊎ ¬ IsAllowed g (i, j) → IsAllowed (region_after g ds) (i, j) ⊎ ¬ IsAllowed (region_after g ds) (i, j)
+    after [] g here = here
+    after (d ∷ ds) g here = after ds (child g d) (elim here [
+      | inr closed ↦ inr (λ h. closed (child_there g d i j h).0)
+      | inl free ↦ elim (cases_Bool (admits d i j)) [
+        | inl t ↦ inl (child_back g d i j free t)
+        | inr f ↦ inr (λ h. both_ways _ f (child_there g d i j h).1)
+      ]
+    ])
+
+    first : IsAllowed (root_region n) (i, j) ⊎ ¬ IsAllowed (root_region n) (i, j)
+    first = elim (cases_eq i j) [
+      | inl same ↦ inr (λ h. h.arc.apart same)
+      | inr apart ↦ inl (root_allows n i j apart from to)
+    ]
 
 -- the rows that may follow i by the first m decisions
 pub record AllowedSoFar (n : ℕ) (ds : List Decision) (i m : ℕ) (xs : List Bool) : Type 0 where

@@ -3,14 +3,14 @@ use Rattle.std.proofs.Common.{◌≡◌, refl, ℕ, ◌+◌, ◌<◌, ◌≤◌,
 use Rattle.std.specs.Prelude.{ℤ, ◌+ℤ◌, ◌≤ℤ◌, IfSome, IsTrue}
 use Rattle.std.proofs.lemmas.Int.{ints}
 use Rattle.std.proofs.lemmas.Bool.{cases_lt, both_ways, eq-eqb, or_left, or_right, and_from}
-use Rattle.solomon_reader.specs.Problem.{Problem}
+use Rattle.solomon_reader.specs.Problem.{Problem, ready, service}
 use Rattle.solomon_reader.specs.Distance.{distance}
 use Rattle.solomon_reader.specs.Region.{Region}
 use Rattle.solomon_reader.specs.Remembering.{near}
 use Rattle.solomon_reader.specs.States.{State, step, CanStep, Completes, value_with, begins}
 use Rattle.leaf_arcs.specs.declared.arcs.AllowedArc.{AllowedArc}
 use Rattle.leaf_arcs.specs.declared.floor.Floor.{Floor}
-use Rattle.leaf_arcs.specs.Arcs.{IsAllowedArc, AreAllowedArcs, arc_in}
+use Rattle.leaf_arcs.specs.Arcs.{IsAllowedArc, AreAllowedArcs, IsInTime, arc_in}
 use Rattle.leaf_arcs.specs.Floors.{StartsWith, Holds, IsFloor, IsKnown, IsEndFloor, IsStepFloor, AreStepFloors, IsJoined}
 use Rattle.leaf_arcs.specs.Memories.{bit_in}
 use Rattle.leaf_arcs.proofs.Leading.{leads_index}
@@ -78,8 +78,8 @@ module _ (p : Problem) (g : Region) (k : ℕ) (prices : List ℤ) where
         new_step (inr fresh) = inl (sym fresh.0)
 
     -- all steps of the row, and the way home
-    pub floor_whole : (hs : List AllowedArc) (f : Floor) → AreAllowedArcs p g k prices v (length p.rows) hs → AreStepFloors p g k prices v t hs (length hs) f → IsFloor p g k prices v t f
-    floor_whole hs f arcs all = record { holds = holds }
+    pub floor_whole : (hs : List AllowedArc) (f : Floor) → ready p v + service p v ≤ t → AreAllowedArcs p g k prices v hs → AreStepFloors p g k prices v t hs (length hs) f → IsFloor p g k prices v t f
+    floor_whole hs f begun arcs all = record { holds = holds }
       where
         at : (a : State) (s : List ℕ) (m j : ℕ) → m < length hs → (arc_in hs m).to ≡ j → a.last ≡ v → t ≤ a.time → IsTrue (a.memory v) → CanStep p g a j → Completes p g k prices (step p k prices a j) s
             → Holds p k prices a (j ∷ s) f
@@ -96,7 +96,8 @@ module _ (p : Problem) (g : Region) (k : ℕ) (prices : List ℤ) where
             let home : (a.cost +ℤ f.other) ≤ℤ value_with p k prices a [] = omega (arith, ints, all.ends.holds a last later can, ap (λ (i : ℕ). distance p i 0) last) in
             record { least = omega (arith, ints, home, all.ordered); other = λ apart. home }
         holds a (j ∷ s) last later remembered completes =
-            let m = leads_index hs j (arcs.all j (omega (arith, completes.0.customer.1, completes.0.customer.0)) completes.0.customer (rw last at completes.0.allowed)) in
+            let timely : IsInTime p v j = omega (arith, begun, later, completes.0.due, ap (λ (i : ℕ). distance p i j) last) in
+            let m = leads_index hs j (arcs.all j completes.0.customer (rw last at completes.0.allowed) timely) in
             at a s m.0 j m.1.0 m.1.1 last later remembered completes.0 completes.1
 
     -- the step over an arc

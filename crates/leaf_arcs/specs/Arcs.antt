@@ -1,10 +1,11 @@
 -- The arcs that a leaf allows, with what a step over them needs.
-use Rattle.std.specs.Prelude.{◌≡◌, ◌↔◌, ℕ, ◌+◌, ◌*◌, ◌<◌, ◌≤◌, List, length, slice_index_or, IsTrue, Bool, true, ◌==◌, ℤ, pos, ◌+ℤ◌, ◌≤ℤ◌}
+use Rattle.std.specs.Prelude.{◌≡◌, ◌↔◌, ℕ, ◌+◌, ◌*◌, ◌<◌, ◌≤◌, List, [], Vec, length, slice_index_or, IsTrue, Bool, true, ◌==◌, ℤ, pos, ◌+ℤ◌, ◌≤ℤ◌}
+use Rattle.std.specs.declared.alloc.Global.{Global}
 use Rattle.std.specs.List.{All, list_any}
 use Rattle.solomon_reader.specs.declared.limits.TheConstants.{MOST_TIME, MOST_DISTANCE, MOST_PRICE, MOST_DEMAND}
 use Rattle.solomon_reader.specs.Problem.{Problem, IsCustomer, customer_count, demand, ready, due, service}
 use Rattle.solomon_reader.specs.Distance.{distance}
-use Rattle.solomon_reader.specs.Region.{Region, IsAllowed}
+use Rattle.solomon_reader.specs.Region.{Region, IsAllowed, root_region}
 use Rattle.solomon_reader.specs.States.{arc_value}
 use Rattle.leaf_arcs.specs.declared.arcs.AllowedArc.{AllowedArc}
 use Rattle.leaf_arcs.specs.declared.arcs.ArcRow.{ArcRow}
@@ -42,27 +43,37 @@ pub record IsAllowedArc (p : Problem) (k : ℕ) (prices : List ℤ) (v : ℕ) (h
 abbrev pub arc_in : List AllowedArc → ℕ → AllowedArc
 arc_in hs m = slice_index_or hs m (record { to = 0; bit = 0; demand = 0; travel = 0; ready = 0; due = 0; service = 0; value = pos 0 })
 
+-- time allows the arc from v to j: no vehicle leaves v before service there is done
+abbrev pub IsInTime : Problem → ℕ → ℕ → Type 0
+IsInTime p v j = (ready p v + service p v) + distance p v j ≤ due p j
+
 -- an arc of the list leads to j
 abbrev pub leads : List AllowedArc → ℕ → Bool
 leads hs j = list_any (λ h. h.to == j) hs
 
--- the arcs from v to the customers below i
-pub record AreAllowedArcs (p : Problem) (g : Region) (k : ℕ) (prices : List ℤ) (v i : ℕ) (hs : List AllowedArc) : Type 0 where
+-- the arcs from v to customers that the region and time allow
+pub record AreAllowedArcs (p : Problem) (g : Region) (k : ℕ) (prices : List ℤ) (v : ℕ) (hs : List AllowedArc) : Type 0 where
   pub each : (m : ℕ) → m < length hs → IsAllowedArc p k prices v (arc_in hs m)
   pub allowed : (m : ℕ) → m < length hs → IsAllowed g (v, (arc_in hs m).to)
-  pub all : (j : ℕ) → j < i → IsCustomer p j → IsAllowed g (v, j) → leads hs j ≡ true
+  pub all : (j : ℕ) → IsCustomer p j → IsAllowed g (v, j) → IsInTime p v j → leads hs j ≡ true
 
 -- the row says where a route may go from v
 pub record IsArcRow (p : Problem) (g : Region) (k : ℕ) (prices : List ℤ) (v : ℕ) (r : ArcRow) : Type 0 where
-  pub arcs : AreAllowedArcs p g k prices v (length p.rows) r.arcs.items
+  pub arcs : AreAllowedArcs p g k prices v r.arcs.items
   pub ends : IsTrue r.ends ↔ IsAllowed g (v, 0)
   pub back_is : r.back ≡ distance p v 0
   pub near : r.back ≤ MOST_DISTANCE
+  pub earliest_is : r.earliest ≡ ready p v + service p v
 
 -- the row of each row of the instance
 pub record AreArcRows (p : Problem) (g : Region) (k : ℕ) (prices : List ℤ) (all : List ArcRow) : Type 0 where
   pub count : length all ≡ length p.rows
   pub each : (v : ℕ) (d : ArcRow) → v < length p.rows → IsArcRow p g k prices v (slice_index_or all v d)
+
+-- the arcs from each row where nothing is decided, at prices 0
+pub record AreFreeArcs (p : Problem) (k : ℕ) (all : List (Vec AllowedArc Global)) : Type 0 where
+  pub count : length all ≡ length p.rows
+  pub each : (v : ℕ) (d : Vec AllowedArc Global) → v < length p.rows → AreAllowedArcs p (root_region (customer_count p)) k [] v (slice_index_or all v d).items
 
 -- there is a price for each customer, and each has a demand
 pub record IsPricing (p : Problem) (prices : List ℤ) : Type 0 where

@@ -1,5 +1,5 @@
 -- What is said of arcs and floors, for a leaf.
-use Rattle.std.specs.Prelude.{ℕ, List, length, ℤ, Option}
+use Rattle.std.specs.Prelude.{ℕ, List, ℤ, Option}
 use Rattle.std.specs.List.{All}
 use Rattle.solomon_reader.specs.Problem.{Problem, customer_count}
 use Rattle.solomon_reader.specs.Region.{Region}
@@ -12,39 +12,39 @@ use Rattle.leaf_arcs.specs.Arcs.{IsAllowedArc, AreAllowedArcs, IsArcRow, AreArcR
 use Rattle.leaf_arcs.specs.Floors.{IsFloor, IsKnown, IsEndFloor, IsStepFloor, AreStepFloors, IsJoined}
 
 abbrev pub problem_of : Leaf → Problem
-problem_of l = l.neighbours.now.instance.now
+problem_of l = l.network.now.neighbours.instance.now
 
 abbrev pub region_in : Leaf → Region
 region_in l = region_of (customer_count (problem_of l)) l.path.now
 
 abbrev pub IsArcIn : Leaf → ℕ → AllowedArc → Type 0
-IsArcIn l v a = IsAllowedArc (problem_of l) l.neighbours.now.k l.prices.now v a
+IsArcIn l v a = IsAllowedArc (problem_of l) l.network.now.neighbours.k l.prices.now v a
 
 abbrev pub AreArcsIn : Leaf → ℕ → List AllowedArc → Type 0
-AreArcsIn l v arcs = AreAllowedArcs (problem_of l) (region_in l) l.neighbours.now.k l.prices.now v (length (problem_of l).rows) arcs
+AreArcsIn l v arcs = AreAllowedArcs (problem_of l) (region_in l) l.network.now.neighbours.k l.prices.now v arcs
 
 abbrev pub IsRowIn : Leaf → ℕ → ArcRow → Type 0
-IsRowIn l v r = IsArcRow (problem_of l) (region_in l) l.neighbours.now.k l.prices.now v r
+IsRowIn l v r = IsArcRow (problem_of l) (region_in l) l.network.now.neighbours.k l.prices.now v r
 
 abbrev pub AreRowsIn : Leaf → List ArcRow → Type 0
-AreRowsIn l rows = AreArcRows (problem_of l) (region_in l) l.neighbours.now.k l.prices.now rows
+AreRowsIn l rows = AreArcRows (problem_of l) (region_in l) l.network.now.neighbours.k l.prices.now rows
 
 abbrev pub IsFloorIn : Leaf → ℕ → ℕ → Floor → Type 0
-IsFloorIn l v t f = IsFloor (problem_of l) (region_in l) l.neighbours.now.k l.prices.now v t f
+IsFloorIn l v t f = IsFloor (problem_of l) (region_in l) l.network.now.neighbours.k l.prices.now v t f
 
 -- each floor of the list holds
 abbrev pub AreFloorsIn : Leaf → List (Option Floor) → Type 0
-AreFloorsIn l fs = All (IsKnown (problem_of l) (region_in l) l.neighbours.now.k l.prices.now) fs
+AreFloorsIn l fs = All (IsKnown (problem_of l) (region_in l) l.network.now.neighbours.k l.prices.now) fs
 
 abbrev pub IsEndFloorIn : Leaf → ℕ → ℕ → ℤ → Type 0
 IsEndFloorIn l v t h = IsEndFloor (problem_of l) (region_in l) v t h
 
 abbrev pub IsStepFloorIn : Leaf → ℕ → ℕ → ℕ → ℤ → Type 0
-IsStepFloorIn l v t j h = IsStepFloor (problem_of l) (region_in l) l.neighbours.now.k l.prices.now v t j h
+IsStepFloorIn l v t j h = IsStepFloor (problem_of l) (region_in l) l.network.now.neighbours.k l.prices.now v t j h
 
 -- what f says, and what a step to j with what may follow on it adds
 abbrev pub IsJoinedIn : Leaf → Floor → ℕ → Floor → Type 0
 IsJoinedIn l f j out = (z : ℤ) × (IsStepFloorIn l f.row f.from j z × IsJoined f j z out)
 
 abbrev pub AreStepFloorsIn : Leaf → ℕ → ℕ → List AllowedArc → ℕ → Floor → Type 0
-AreStepFloorsIn l v t arcs i f = AreStepFloors (problem_of l) (region_in l) l.neighbours.now.k l.prices.now v t arcs i f
+AreStepFloorsIn l v t arcs i f = AreStepFloors (problem_of l) (region_in l) l.network.now.neighbours.k l.prices.now v t arcs i f

@@ -30,4 +30,6 @@ pub struct ArcRow {
     pub ends: bool,
     /// How long the way to the depot takes, in tenths.
     pub back: u64,
+    /// When a vehicle leaves the row at the earliest, in tenths.
+    pub earliest: u64,
 }

@@ -9,7 +9,7 @@ ghost use Rattle.leaf_arcs.specs.Floors.{IsAt, IsJoined};
 use crate::arcs::{AllowedArc, ArcRow};
 use crate::bits::NO_BIT;
 use crate::leaf::Leaf;
-use crate::slots::{Slots, Start};
+use crate::slots::Start;
 use solomon_reader::MOST_TIME;
 use std::alloc::{AllocError, Global};
 
@@ -35,7 +35,6 @@ pub struct Floor {
 /// The floor that holds of a row at a time, if one is known.
 pub(crate) fn floor_at(
     leaf: &Leaf<'_, '_>,
-    slots: &Slots,
     floors: &[Option<Floor>],
     v: u16,
     time: u64,
@@ -43,7 +42,7 @@ pub(crate) fn floor_at(
     requires { AreFloorsIn leaf.now floors.now }
     ensures { IfSome result (λ f. IsFloorIn leaf.now v time f) }
 {
-    let place = slots.place(v, time);
+    let place = leaf.network.slots.place(v, time);
     if place >= floors.len() {
         return None;
     }
@@ -63,8 +62,9 @@ fn end_floor(leaf: &Leaf<'_, '_>, arcs: &ArcRow, row: u16, from: u64) -> Floor
     ensures ordered { result.least ≤ℤ result.other }
     ensures ends { IsEndFloorIn leaf.now row from result.other }
 {
+    let network = leaf.network;
     let mut least = NOTHING;
-    if arcs.ends && from + arcs.back <= leaf.neighbours.instance.due(0) {
+    if arcs.ends && from + arcs.back <= network.neighbours.instance.due(0) {
         let grains = 1000 * arcs.back;
         least = grains as i64;
     }
@@ -92,7 +92,7 @@ fn step_value(
     requires after { IsFloorIn leaf.now arc.now.to (max (from + arc.now.travel) arc.now.ready + arc.now.service) after.now }
     ensures { IfSome result (λ h. IsStepFloorIn leaf.now row from arc.now.to h) }
 {
-    if after.next == row && leaf.neighbours.bit(arc.to, row) < NO_BIT {
+    if after.next == row && leaf.network.neighbours.bit(arc.to, row) < NO_BIT {
         let value = arc.value.checked_add(after.other)?;
         return Some(value);
     }
@@ -129,7 +129,6 @@ fn joined(floor: Floor, to: u16, value: i64) -> Floor
 /// A floor that holds for a step over an arc, too.
 fn with_step(
     leaf: &Leaf<'_, '_>,
-    slots: &Slots,
     floors: &[Option<Floor>],
     arc: &AllowedArc,
     floor: Floor,
@@ -145,7 +144,7 @@ fn with_step(
     if begins > arc.due {
         return Some(floor);
     }
-    let after = floor_at(leaf, slots, floors, arc.to, begins + arc.service)?;
+    let after = floor_at(leaf, floors, arc.to, begins + arc.service)?;
     let value = step_value(leaf, arc, &after, floor.row, floor.from)?;
     Some(joined(floor, arc.to, value))
 }
@@ -153,7 +152,6 @@ fn with_step(
 /// The floor of a row at a time or later, where those of later slots are known.
 fn floor_from(
     leaf: &Leaf<'_, '_>,
-    slots: &Slots,
     floors: &[Option<Floor>],
     arcs: &ArcRow,
     start: &Start,
@@ -161,45 +159,44 @@ fn floor_from(
     requires floors { AreFloorsIn leaf.now floors.now }
     requires row { start.now.row < length (problem_of leaf.now).rows }
     requires arcs { IsRowIn leaf.now start.now.row arcs.now }
+    requires begun { arcs.now.earliest ≤ start.now.from }
     requires from { start.now.from ≤ 20 * MOST_TIME }
     ensures { IfSome result (λ f. IsFloorIn leaf.now f.row f.from f) }
 {
     let mut floor = end_floor(leaf, arcs, start.row, start.from);
     for arc in arcs.arcs.as_slice() {
-        floor = with_step(leaf, slots, floors, arc, floor)?;
+        floor = with_step(leaf, floors, arc, floor)?;
     }
     Some(floor)
 }
 
 /// Puts in the floor of a slot.
-fn fill_at(
-    leaf: &Leaf<'_, '_>,
-    rows: &[ArcRow],
-    slots: &Slots,
-    floors: &mut [Option<Floor>],
-    start: &Start,
-)
+fn fill_at(leaf: &Leaf<'_, '_>, rows: &[ArcRow], floors: &mut [Option<Floor>], start: &Start)
     requires rows { AreRowsIn leaf.now rows.now }
     requires floors { AreFloorsIn leaf.now floors.old }
     ensures { AreFloorsIn leaf.now floors.new }
 {
     let row = usize::from(start.row);
-    let place = slots.place(start.row, start.from);
-    if row >= rows.len() || start.from > u64::from(20 * MOST_TIME) || place >= floors.len() {
+    let place = leaf.network.slots.place(start.row, start.from);
+    if row >= rows.len() || place >= floors.len() {
         return;
     }
-    let floor = floor_from(leaf, slots, floors, &rows[row], start);
+    let arcs = &rows[row];
+    if start.from < arcs.earliest || start.from > u64::from(20 * MOST_TIME) {
+        return;
+    }
+    let floor = floor_from(leaf, floors, arcs, start);
     floors[place] = floor;
 }
 
 /// Puts in the floors of all slots, those of the latest first.
-fn fill(leaf: &Leaf<'_, '_>, rows: &[ArcRow], slots: &Slots, floors: &mut [Option<Floor>])
+fn fill(leaf: &Leaf<'_, '_>, rows: &[ArcRow], floors: &mut [Option<Floor>])
     requires rows { AreRowsIn leaf.now rows.now }
     requires floors { AreFloorsIn leaf.now floors.old }
     ensures { AreFloorsIn leaf.now floors.new }
 {
-    for start in slots.starts() {
-        fill_at(leaf, rows, slots, floors, start);
+    for start in leaf.network.slots.starts() {
+        fill_at(leaf, rows, floors, start);
     }
 }
 
@@ -208,12 +205,11 @@ pub(crate) fn floors_of(
     alloc: Global,
     leaf: &Leaf<'_, '_>,
     rows: &[ArcRow],
-    slots: &Slots,
 ) -> Result<Vec<Option<Floor>>, AllocError>
     requires { AreRowsIn leaf.now rows.now }
     ensures { IfOk result (λ floors. AreFloorsIn leaf.now floors.items) }
 {
-    let mut floors = vec![in alloc; None; slots.starts().len()]?;
-    fill(leaf, rows, slots, floors.as_mut_slice());
+    let mut floors = vec![in alloc; None; leaf.network.slots.starts().len()]?;
+    fill(leaf, rows, floors.as_mut_slice());
     Ok(floors)
 }

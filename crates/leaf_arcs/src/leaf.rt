@@ -3,18 +3,18 @@
 ghost use Rattle.leaf_arcs.specs.Arcs.{IsPricing};
 
 use crate::decision::Decision;
-use crate::neighbours::Neighbours;
+use crate::network::Network;
 
-/// A leaf of a tree for an instance, whose neighbour lists are known.
+/// A leaf of a tree for an instance.
 #[derive(Clone, Copy)]
 pub struct Leaf<'a, 'i> {
-    /// What is remembered, and the instance.
-    pub neighbours: &'a Neighbours<'i>,
+    /// What all leaves share, and the instance.
+    pub network: &'a Network<'i>,
     /// The decisions on the way to the leaf.
     pub path: &'a [Decision],
     /// The price of customer i in grains, at i - 1.
     pub prices: &'a [i64],
     /// The reduced cost in grains from which on relaxed routes don't count, if there is one.
     pub limit: Option<i64>,
-    ghost pricing: { IsPricing neighbours.now.instance.now prices.now },
+    ghost pricing: { IsPricing network.now.neighbours.instance.now prices.now },
 }

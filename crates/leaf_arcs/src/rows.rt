@@ -1,10 +1,10 @@
 //! Where a route of a leaf may go from each row.
 
-ghost use Rattle.std.specs.Prelude.{◌≡◌, ◌<◌, length, IfOk, pos, ◌+ℤ◌, ◌≤ℤ◌};
-ghost use Rattle.solomon_reader.specs.States.{arc_value};
-ghost use Rattle.solomon_reader.specs.Problem.{IsCustomer, customer_count};
+ghost use Rattle.std.specs.Prelude.{◌≡◌, ◌<◌, length, [], IfOk};
+ghost use Rattle.solomon_reader.specs.Problem.{customer_count};
+ghost use Rattle.solomon_reader.specs.Region.{root_region};
 ghost use Rattle.leaf_arcs.specs.Decisions.{AreAllowed};
-ghost use Rattle.leaf_arcs.specs.Arcs.{most_grains};
+ghost use Rattle.leaf_arcs.specs.Arcs.{IsAllowedArc, AreAllowedArcs};
 ghost use Rattle.leaf_arcs.specs.Leaves.{problem_of, IsArcIn, AreArcsIn, IsRowIn, AreRowsIn};
 
 use crate::arcs::{AllowedArc, ArcRow};
@@ -12,57 +12,36 @@ use crate::decision::allowed_rows;
 use crate::leaf::Leaf;
 use std::alloc::{AllocError, Global};
 
-/// What an arc adds to the reduced cost, in grains.
-fn arc_value(leaf: &Leaf<'_, '_>, v: u16, j: u16) -> i64
-    requires v { v < length (problem_of leaf.now).rows }
-    requires j { IsCustomer (problem_of leaf.now) j }
-    ensures is { result ≡ arc_value (problem_of leaf.now) leaf.now.prices.now v j }
-    ensures low { pos 0 ≤ℤ (result +ℤ pos most_grains) }
-    ensures high { result ≤ℤ pos most_grains }
-{
-    let grains = 1000 * leaf.neighbours.instance.distance(v, j).get();
-    grains as i64 - leaf.prices[j as usize - 1]
-}
-
-/// The arc from v to a customer.
-fn allowed_arc(leaf: &Leaf<'_, '_>, v: u16, j: u16) -> AllowedArc
-    requires v { v < length (problem_of leaf.now).rows }
-    requires j { IsCustomer (problem_of leaf.now) j }
+/// An arc from v at the prices of a leaf.
+fn priced(leaf: &Leaf<'_, '_>, v: u16, arc: &AllowedArc) -> AllowedArc
+    requires arc { IsAllowedArc (problem_of leaf.now) leaf.now.network.now.neighbours.k [] v arc.now }
     ensures arc { IsArcIn leaf.now v result }
-    ensures to { result.to ≡ j }
+    ensures to { result.to ≡ arc.now.to }
 {
-    let instance = leaf.neighbours.instance;
-    let travel = instance.distance(v, j).get();
-    AllowedArc {
-        to: j,
-        bit: leaf.neighbours.bit(v, j),
-        demand: instance.demand(j),
-        travel,
-        ready: instance.ready(j),
-        due: instance.due(j),
-        service: instance.service(j),
-        value: arc_value(leaf, v, j),
-    }
+    let mut priced = *arc;
+    priced.value -= leaf.prices[arc.to as usize - 1];
+    priced
 }
 
 /// The arcs from v to the customers that are allowed.
 fn allowed_arcs(
     alloc: Global,
     leaf: &Leaf<'_, '_>,
-    allowed: &[bool],
     v: u16,
+    arcs: &[AllowedArc],
+    allowed: &[bool],
 ) -> Result<Vec<AllowedArc>, AllocError>
-    requires v { v < length (problem_of leaf.now).rows }
+    requires arcs { AreAllowedArcs (problem_of leaf.now) (root_region (customer_count (problem_of leaf.now))) leaf.now.network.now.neighbours.k [] v arcs.now }
     requires allowed { AreAllowed (customer_count (problem_of leaf.now)) leaf.now.path.now v allowed.now }
-    ensures { IfOk result (λ arcs. AreArcsIn leaf.now v arcs.items) }
+    ensures { IfOk result (λ found. AreArcsIn leaf.now v found.items) }
 {
-    let mut arcs = Vec::new(alloc);
-    for j in 1..leaf.neighbours.instance.customer_count() + 1 {
-        if allowed[j as usize] {
-            arcs.push(allowed_arc(leaf, v, j))?;
+    let mut found = Vec::with_capacity(alloc, arcs.len())?;
+    for arc in arcs {
+        if allowed[arc.to as usize] {
+            found.push(priced(leaf, v, arc))?;
         }
     }
-    Ok(arcs)
+    Ok(found)
 }
 
 /// Where a route may go from v.
@@ -70,12 +49,15 @@ fn arc_row(alloc: Global, leaf: &Leaf<'_, '_>, v: u16) -> Result<ArcRow, AllocEr
     requires { v < length (problem_of leaf.now).rows }
     ensures { IfOk result (λ r. IsRowIn leaf.now v r) }
 {
-    let count = leaf.neighbours.instance.customer_count();
-    let allowed = allowed_rows(alloc, leaf.path, count, v)?;
+    let network = leaf.network;
+    let instance = network.neighbours.instance;
+    let allowed = allowed_rows(alloc, leaf.path, instance.customer_count(), v)?;
+    let arcs = network.arcs[v as usize].as_slice();
     Ok(ArcRow {
-        arcs: allowed_arcs(alloc, leaf, allowed.as_slice(), v)?,
+        arcs: allowed_arcs(alloc, leaf, v, arcs, allowed.as_slice())?,
         ends: allowed[0],
-        back: leaf.neighbours.instance.distance(v, 0).get(),
+        back: instance.distance(v, 0).get(),
+        earliest: instance.ready(v) + instance.service(v),
     })
 }
 
@@ -83,8 +65,9 @@ fn arc_row(alloc: Global, leaf: &Leaf<'_, '_>, v: u16) -> Result<ArcRow, AllocEr
 pub(crate) fn arc_rows(alloc: Global, leaf: &Leaf<'_, '_>) -> Result<Vec<ArcRow>, AllocError>
     ensures { IfOk result (λ rows. AreRowsIn leaf.now rows.items) }
 {
+    let network = leaf.network;
     let mut rows = Vec::new(alloc);
-    for v in 0..leaf.neighbours.instance.customer_count() + 1 {
+    for v in 0..network.neighbours.instance.customer_count() + 1 {
         rows.push(arc_row(alloc, leaf, v)?)?;
     }
     Ok(rows)

@@ -7,7 +7,6 @@ use crate::arcs::ArcRow;
 use crate::floor::{Floor, floor_at, floors_of};
 use crate::leaf::Leaf;
 use crate::rows::arc_rows;
-use crate::slots::Slots;
 use std::alloc::{AllocError, Global};
 
 /// A leaf, with the arcs that it allows, and floors.
@@ -17,7 +16,6 @@ pub struct Task<'a, 'i> {
     pub leaf: Leaf<'a, 'i>,
     /// Where a route may go from each row.
     pub rows: Vec<ArcRow>,
-    slots: &'a Slots,
     floors: Vec<Option<Floor>>,
     ghost rows_are: { AreRowsIn leaf rows.items },
     ghost floors_are: { AreFloorsIn leaf floors.items },
@@ -25,27 +23,18 @@ pub struct Task<'a, 'i> {
 
 impl<'a, 'i> Task<'a, 'i> {
     /// The task of a leaf.
-    pub fn new(
-        alloc: Global,
-        leaf: Leaf<'a, 'i>,
-        slots: &'a Slots,
-    ) -> Result<Task<'a, 'i>, AllocError>
+    pub fn new(alloc: Global, leaf: Leaf<'a, 'i>) -> Result<Task<'a, 'i>, AllocError>
         ensures { IfOk result (λ t. t.leaf ≡ leaf.entry) }
     {
         let rows = arc_rows(alloc, &leaf)?;
-        let floors = floors_of(alloc, &leaf, rows.as_slice(), slots)?;
-        Ok(Task {
-            leaf,
-            rows,
-            slots,
-            floors,
-        })
+        let floors = floors_of(alloc, &leaf, rows.as_slice())?;
+        Ok(Task { leaf, rows, floors })
     }
 
     /// The floor that holds of a row at a time, if one is known.
     pub fn floor_at(&self, row: u16, time: u64) -> Option<Floor>
         ensures { IfSome result (λ f. IsFloorIn self.now.leaf row time f) }
     {
-        floor_at(&self.leaf, self.slots, self.floors.as_slice(), row, time)
+        floor_at(&self.leaf, self.floors.as_slice(), row, time)
     }
 }

@@ -135,7 +135,7 @@ fn reduced_cost(instance: &Instance, prices: &[i64], stops: &[u16]) -> Option<i6
 pub(crate) fn told_met(alloc: Global, instance: &Instance, words: &[&str]) -> Option<String> {
     let leaf = leaf_by(alloc, instance, words.get(..4)?)?.ok()?;
     let _value = leaf.value();
-    let mut hints = Hints::of(alloc, list_of(alloc, words.get(4)?)?);
+    let mut hints = Hints::of(alloc, list_of(alloc, words.get(4)?)?, None);
     let (region, prices) = (leaf.region(), leaf.prices());
     let neighbours = leaf.neighbours();
     let found = least_by_hints(
@@ -156,17 +156,13 @@ pub(crate) fn told_met(alloc: Global, instance: &Instance, words: &[&str]) -> Op
     then(text, " ", listed(alloc, "met", costs.as_slice())?.as_str())
 }
 
-/// Whether two leaves have the same prices, value and least route.
-fn are_same(leaf: &Priced<'_>, other: &Priced<'_>) -> bool {
-    leaf.prices() == other.prices()
-        && leaf.value() == other.value()
-        && leaf.least().route.as_slice() == other.least().route.as_slice()
-}
-
-/// Whether a copy of a leaf is the same.
+/// Whether a copy of a leaf has the same prices, value and least route.
 fn is_copied(leaf: &Priced<'_>) -> Option<bool> {
     let copy = leaf.try_clone().ok()?;
-    Some(are_same(&copy, leaf))
+    let are_same = copy.prices() == leaf.prices()
+        && copy.value() == leaf.value()
+        && copy.least().route.as_slice() == leaf.least().route.as_slice();
+    Some(are_same)
 }
 
 /// A leaf behind what was told before it, with its least reduced cost, if a copy is the same.

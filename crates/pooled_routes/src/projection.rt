@@ -14,13 +14,21 @@ const SWEEPS_BETWEEN: u32 = 10;
 #[derive(Debug, Drop)]
 pub struct Projection<'r> {
     spaces: Vec<HalfSpace<'r>>,
+    /// How often a route was looked at.
+    looks: u64,
 }
 
 impl<'r> Projection<'r> {
     /// The projection onto these half-spaces, from their multipliers on.
     /// No contract: a rule of search; any prices are sound.
     pub fn new(spaces: Vec<HalfSpace<'r>>) -> Projection<'r> {
-        Projection { spaces }
+        Projection { spaces, looks: 0 }
+    }
+
+    /// How often a route was looked at.
+    /// No contract: it only measures.
+    pub fn looks(&self) -> u64 {
+        self.looks
     }
 
     /// Moves a trial by the multipliers; the routes that have one are the active ones.
@@ -33,6 +41,7 @@ impl<'r> Projection<'r> {
 
     /// Makes the violated routes active, and answers whether there were any.
     fn activate(&mut self, trial: &mut Trial) -> bool {
+        self.looks = self.looks.saturating_add(self.spaces.len() as u64);
         let mut is_any = false;
         for space in self.spaces.iter_mut() {
             if !space.is_active && space.slack(trial) <= -(ENOUGH as i64) {
@@ -48,11 +57,14 @@ impl<'r> Projection<'r> {
     /// farthest.
     fn sweep(&mut self, trial: &mut Trial) -> u64 {
         let mut farthest = 0;
+        let mut looks: u64 = 0;
         for space in self.spaces.iter_mut() {
             if space.is_active {
                 farthest = space.project(trial).max(farthest);
+                looks = looks.saturating_add(1);
             }
         }
+        self.looks = self.looks.saturating_add(looks);
         trial.project_floor().max(farthest)
     }
 

@@ -52,7 +52,7 @@ impl Ascent {
     /// The way from these prices to a goal.
     pub(crate) fn new(
         alloc: Global,
-        pool: &mut RoutePool,
+        pool: &mut RoutePool<'_>,
         priced: &Priced<'_>,
         goal: &Goal,
     ) -> Result<Ascent, AllocError> {
@@ -119,21 +119,25 @@ impl Ascent {
     }
 
     /// The centre after the rise, projected onto what the routes of the pool say.
-    pub(crate) fn trial(&self, alloc: Global, pool: &mut RoutePool) -> Result<Trial, AllocError> {
+    pub(crate) fn trial(
+        &self,
+        alloc: Global,
+        pool: &mut RoutePool<'_>,
+    ) -> Result<Trial, AllocError> {
         let mut trial = self.start(alloc, self.rise)?;
         pool.project(&mut trial)?;
         Ok(trial)
     }
 
     /// Measures the multipliers by another rise.
-    fn scale(&mut self, pool: &mut RoutePool, rise: i64) {
+    fn scale(&mut self, pool: &mut RoutePool<'_>, rise: i64) {
         pool.scale(rise);
         self.floor = self.floor.scaled(self.rise, rise);
         self.rise = rise;
     }
 
     /// Goes on with a shorter rise, since the prices of a trial had no value.
-    pub(crate) fn draw_back(&mut self, pool: &mut RoutePool) {
+    pub(crate) fn draw_back(&mut self, pool: &mut RoutePool<'_>) {
         self.scale(pool, shorter(self.rise));
     }
 
@@ -148,7 +152,7 @@ impl Ascent {
     pub(crate) fn take_in(
         &mut self,
         alloc: Global,
-        pool: &mut RoutePool,
+        pool: &mut RoutePool<'_>,
         trial: &Trial,
         priced: &Priced<'_>,
     ) -> Result<(), AllocError> {

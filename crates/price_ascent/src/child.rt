@@ -77,7 +77,7 @@ fn narrow<'i>(leaf: &Priced<'i>, region: &Region) -> Result<Option<Priced<'i>>, 
 /// The leaf's prices at another region, priced anew.
 fn price_again<'i>(
     alloc: Global,
-    pool: &mut RoutePool,
+    pool: &mut RoutePool<'i>,
     leaf: &Priced<'i>,
     region: Region,
     labels: Option<usize>,
@@ -97,7 +97,7 @@ fn price_again<'i>(
 /// above every plan's cost.
 fn price_child<'i>(
     alloc: Global,
-    pool: &mut RoutePool,
+    pool: &mut RoutePool<'i>,
     leaf: &Priced<'i>,
     region: Region,
     labels: Option<usize>,
@@ -140,7 +140,7 @@ fn child_regions(region: &Region, arc: Arc) -> Result<(Region, Region), AllocErr
 fn stops_along(
     alloc: Global,
     leaf: &Priced<'_>,
-    pool: &RoutePool,
+    pool: &RoutePool<'_>,
     tried: &Option<TriedArc>,
 ) -> Result<Vec<u16>, AllocError> {
     let instance = leaf.instance();
@@ -156,7 +156,7 @@ fn stops_along(
 
 /// Where the ascents of the children by an arc start: the one in which it is required, and the other.
 fn starts_of(
-    pool: &RoutePool,
+    pool: &RoutePool<'_>,
     arc: Arc,
     tried: Option<TriedArc>,
 ) -> Result<(Option<ChildStart>, Option<ChildStart>), AllocError> {
@@ -177,7 +177,7 @@ fn starts_of(
 pub fn branch<'i>(
     alloc: Global,
     leaf: &Priced<'i>,
-    pool: &mut RoutePool,
+    pool: &mut RoutePool<'i>,
     labels: Option<usize>,
 ) -> Result<Option<Children<'i>>, PriceFault>
     ensures settled { IfOk result (λ found. IfNone found (IsSettled leaf.now.region)) }

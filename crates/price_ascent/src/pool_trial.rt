@@ -24,6 +24,8 @@ pub(crate) struct ChildTrial {
     pub(crate) prices: Trial,
     /// How far the merit rose above that of the leaf, in grains; nothing where no route is left.
     pub(crate) rise: Option<i128>,
+    /// How often a route was looked at.
+    pub(crate) routes: u64,
 }
 
 /// Routes of lower rank serve better: those that make up the prices, and then those of the least
@@ -97,6 +99,10 @@ impl<'r> PoolTrial<'r> {
             Some(least) => Some(self.ascent.rise_to(&prices, least)),
             None => None,
         };
-        Ok(ChildTrial { prices, rise })
+        Ok(ChildTrial {
+            prices,
+            rise,
+            routes: projection.looks(),
+        })
     }
 }

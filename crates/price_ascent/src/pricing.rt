@@ -9,16 +9,14 @@ ghost use Rattle.price_ascent.specs.Branching.{IsPricedAt};
 
 use crate::route_pool::RoutePool;
 use branching::Region;
-use labelling::Hints;
 use prices::{PriceFault, Priced};
 use std::alloc::Global;
 
 /// These prices at a region of a leaf's instance. The pool says which of its routes costs least there, and
-/// takes in the cheaper ones that the pricing meets. It counts the labels that they took: where they were
-/// refused, as many as may be active at once.
+/// takes in the cheaper ones that the pricing meets, and how much work it was.
 pub(crate) fn price<'i>(
     alloc: Global,
-    pool: &mut RoutePool,
+    pool: &mut RoutePool<'i>,
     leaf: &Priced<'i>,
     region: Region,
     prices: Vec<i64>,
@@ -33,18 +31,14 @@ pub(crate) fn price<'i>(
 {
     let instance = leaf.instance();
     let known = pool.cheapest(&region, prices.as_slice())?;
-    let mut hints = Hints::of(alloc, known);
+    let mut hints = pool.hints(known);
     let neighbours = leaf.neighbours();
-    match Priced::by_hints(
+    let priced = Priced::by_hints(
         alloc, instance, region, neighbours, prices, labels, &mut hints,
-    ) {
-        Ok(priced) => {
-            pool.take_in(instance, &hints)?;
-            Ok(priced)
-        }
-        Err((_, _, fault)) => {
-            pool.count(labels.unwrap_or(0));
-            Err(PriceFault::from(fault))
-        }
+    );
+    pool.take_in(instance, hints)?;
+    match priced {
+        Ok(priced) => Ok(priced),
+        Err((_, _, fault)) => Err(PriceFault::from(fault)),
     }
 }

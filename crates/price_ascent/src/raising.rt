@@ -15,7 +15,7 @@ use std::alloc::Global;
 /// The prices of a trial with their value, at the leaf of other prices.
 fn price_trial<'i>(
     alloc: Global,
-    pool: &mut RoutePool,
+    pool: &mut RoutePool<'i>,
     leaf: &Priced<'i>,
     trial: &Trial,
     labels: Option<usize>,
@@ -49,7 +49,7 @@ pub(crate) fn higher<'i>(first: Priced<'i>, second: Priced<'i>) -> Priced<'i>
 /// memory or labels don't suffice.
 fn price_start<'i>(
     alloc: Global,
-    pool: &mut RoutePool,
+    pool: &mut RoutePool<'i>,
     child: &Priced<'i>,
     start: &Option<ChildStart>,
     labels: Option<usize>,
@@ -82,7 +82,7 @@ fn higher_if<'i>(first: Priced<'i>, second: Option<Priced<'i>>) -> Priced<'i>
 /// The best of these prices and those that an ascent comes to at their leaf.
 fn climb<'i>(
     alloc: Global,
-    pool: &mut RoutePool,
+    pool: &mut RoutePool<'i>,
     ascent: &mut Ascent,
     priced: Priced<'i>,
     goal: &Goal,
@@ -133,7 +133,7 @@ fn climb<'i>(
 /// does, the best found so far is answered.
 pub fn raise<'i>(
     alloc: Global,
-    pool: &mut RoutePool,
+    pool: &mut RoutePool<'i>,
     priced: Priced<'i>,
     start: Option<ChildStart>,
     goal: &Goal,

@@ -5,7 +5,7 @@ use crate::child_start::ChildStart;
 use crate::pool_trial::PoolTrial;
 use crate::starting::trial_rise;
 use branching::{Arc, Region};
-use labelling::Hints;
+use labelling::{Hints, Nearness};
 use pooled_routes::{
     ArcFlow, HalfSpace, PooledRoute, Projection, Pseudocosts, RouteShare, Side, Trial, merge,
     scaled,
@@ -25,10 +25,13 @@ const MOST_SWEEPS: u32 = 60;
 /// The most routes of a trial for each customer.
 const TRIAL_ROUTES: usize = 4;
 
+/// A route that prices are projected onto takes as long as so many looks at customers.
+const LOOKS_AT_ROUTE: u64 = 4;
+
 /// The relaxed routes met so far at an instance's leaves, with what each says of prices. One pool
 /// serves all leaves, since a route doesn't depend on the region.
 #[derive(Debug, Drop)]
-pub struct RoutePool {
+pub struct RoutePool<'i> {
     alloc: Global,
     routes: Vec<PooledRoute>,
     /// How many routes were added.
@@ -37,23 +40,26 @@ pub struct RoutePool {
     rise: i64,
     /// How many pricings were made for it.
     pricings: u64,
-    /// How many labels they made.
-    labels: u64,
+    /// How much work they, the projections and the trials were, in looks.
+    looks: u64,
+    /// The tables that the pricings go by, from the first one on.
+    nearness: Option<Nearness<'i>>,
     /// The last raising of prices.
     ascent: Option<Ascent>,
     pseudocosts: Pseudocosts,
 }
 
-impl RoutePool {
+impl<'i> RoutePool<'i> {
     /// A pool without routes. No contract: any prices are sound, whatever stands in a pool.
-    pub fn new(alloc: Global) -> RoutePool {
+    pub fn new(alloc: Global) -> RoutePool<'i> {
         RoutePool {
             alloc,
             routes: Vec::new(alloc),
             met: 0,
             rise: 1,
             pricings: 0,
-            labels: 0,
+            looks: 0,
+            nearness: None,
             ascent: None,
             pseudocosts: Pseudocosts::new(alloc),
         }
@@ -65,7 +71,7 @@ impl RoutePool {
         alloc: Global,
         instance: &Instance,
         routes: &[Vec<u16>],
-    ) -> Result<RoutePool, AllocError> {
+    ) -> Result<RoutePool<'i>, AllocError> {
         let mut pool = RoutePool::new(alloc);
         for route in routes {
             pool.add(instance, route.as_slice())?;
@@ -102,15 +108,17 @@ impl RoutePool {
         self.pricings
     }
 
-    /// How many labels these pricings made. No contract: it only measures.
-    pub fn labels(&self) -> u64 {
-        self.labels
+    /// How much work the pricings, the projections and the trials were, in looks: of a label or a bound at a
+    /// customer, of a label at others, and `LOOKS_AT_ROUTE` for a route that prices are projected onto. No
+    /// contract: it only measures.
+    pub fn looks(&self) -> u64 {
+        self.looks
     }
 
-    /// Counts a pricing that made so many labels.
-    pub(crate) fn count(&mut self, labels: usize) {
-        self.pricings = self.pricings.saturating_add(1);
-        self.labels = self.labels.saturating_add(labels as u64);
+    /// Counts the looks at routes of projections.
+    pub(crate) fn count_routes(&mut self, routes: u64) {
+        let looks = routes.saturating_mul(LOOKS_AT_ROUTE);
+        self.looks = self.looks.saturating_add(looks);
     }
 
     /// The customers of the route of least reduced cost at these prices among those that a region allows;
@@ -130,10 +138,28 @@ impl RoutePool {
         }
     }
 
-    /// Takes in what a pricing told: counts it, and adds the routes that it met.
-    pub(crate) fn take_in(&mut self, instance: &Instance, hints: &Hints) -> Result<(), AllocError> {
-        self.count(hints.labels);
-        for route in &hints.met {
+    /// What a pricing goes by which knows this route.
+    pub(crate) fn hints(&mut self, known: Vec<u16>) -> Hints<'i> {
+        Hints::of(self.alloc, known, self.nearness.take())
+    }
+
+    /// Takes in what a pricing told: counts it, keeps the tables that it went by, and adds the routes that it
+    /// met.
+    pub(crate) fn take_in(
+        &mut self,
+        instance: &Instance,
+        hints: Hints<'i>,
+    ) -> Result<(), AllocError> {
+        let Hints {
+            nearness,
+            met,
+            looks,
+            ..
+        } = hints;
+        self.pricings = self.pricings.saturating_add(1);
+        self.looks = self.looks.saturating_add(looks);
+        self.nearness = nearness;
+        for route in &met {
             self.add(instance, route.as_slice())?;
         }
         Ok(())
@@ -222,16 +248,18 @@ impl RoutePool {
         Ok(spaces)
     }
 
-    /// Projects a trial, and answers the places of the routes with the multipliers that it came to.
-    fn projected(&self, trial: &mut Trial) -> Result<Vec<(usize, i64)>, AllocError> {
+    /// Projects a trial, and answers the places of the routes with the multipliers that it came to, and how
+    /// often it looked at a route.
+    fn projected(&self, trial: &mut Trial) -> Result<(Vec<(usize, i64)>, u64), AllocError> {
         let mut projection = Projection::new(self.half_spaces()?);
         projection.project(trial, MOST_SWEEPS);
-        projection.multipliers(self.alloc)
+        Ok((projection.multipliers(self.alloc)?, projection.looks()))
     }
 
     /// Projects a trial onto what all routes say, nearly, from where the multipliers lead.
     pub(crate) fn project(&mut self, trial: &mut Trial) -> Result<(), AllocError> {
-        let multipliers = self.projected(trial)?;
+        let (multipliers, routes) = self.projected(trial)?;
+        self.count_routes(routes);
         for (place, multiplier) in &multipliers {
             if let Some(route) = self.routes.get_mut(*place) {
                 route.set_multiplier(*multiplier);

@@ -18,6 +18,8 @@ pub(crate) struct TriedArc {
     score: i128,
     used: Option<Trial>,
     unused: Option<Trial>,
+    /// How often a route was looked at for it.
+    routes: u64,
 }
 
 impl TriedArc {
@@ -67,6 +69,7 @@ fn try_arc(
             score: score(used, unused, gap),
             used: None,
             unused: None,
+            routes: 0,
         });
     }
     let used = trials.of_child(arc, Side::Used)?;
@@ -76,6 +79,7 @@ fn try_arc(
     Ok(TriedArc {
         arc,
         score: score(used_rise, unused_rise, gap),
+        routes: used.routes.saturating_add(unused.routes),
         used: Some(used.prices),
         unused: Some(unused.prices),
     })
@@ -85,7 +89,7 @@ fn try_arc(
 /// children promise to rise most, if there is one.
 pub(crate) fn best_arc(
     leaf: &Priced<'_>,
-    pool: &RoutePool,
+    pool: &mut RoutePool<'_>,
 ) -> Result<Option<TriedArc>, AllocError> {
     let Some(ascent) = pool.last_ascent() else {
         return Ok(None);
@@ -93,11 +97,15 @@ pub(crate) fn best_arc(
     let arcs = candidates(leaf.region(), pool.flows()?, pool.rise())?;
     let trials = pool.trials(leaf.instance(), ascent)?;
     let mut best: Option<TriedArc> = None;
+    let mut routes: u64 = 0;
     for flow in &arcs {
         let tried = try_arc(ascent, &trials, pool.pseudocosts(), flow.arc())?;
+        routes = routes.saturating_add(tried.routes);
         if best.as_ref().is_none_or(|best| tried.score > best.score) {
             best = Some(tried);
         }
     }
+    drop(trials);
+    pool.count_routes(routes);
     Ok(best)
 }

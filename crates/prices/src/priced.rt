@@ -59,14 +59,14 @@ impl<'i> Model for Priced<'i> {
 }
 
 /// The value of the prices in tenths, and the least reduced cost that gives it.
-fn evaluate(
+fn evaluate<'i>(
     alloc: Global,
-    instance: &Instance,
+    instance: &'i Instance,
     region: &Region,
     neighbours: u32,
     prices: &[i64],
     limit: Option<usize>,
-    hints: &mut Hints,
+    hints: &mut Hints<'i>,
 ) -> Result<(u128, Least), LabelFault>
     requires size { region.now.size ≡ customer_count instance.now }
     requires count { length prices.now ≡ customer_count instance.now }
@@ -148,8 +148,8 @@ impl<'i> Priced<'i> {
         }
     }
 
-    /// What `of` answers for prices in their range, found sooner where a route of low reduced cost is known,
-    /// with further routes that were met.
+    /// What `of` answers for prices in their range, found sooner where a route of low reduced cost or the
+    /// tables of an earlier search are known, with further routes that were met.
     pub fn by_hints(
         alloc: Global,
         instance: &'i Instance,
@@ -157,7 +157,7 @@ impl<'i> Priced<'i> {
         neighbours: u32,
         prices: Vec<i64>,
         limit: Option<usize>,
-        hints: &mut Hints,
+        hints: &mut Hints<'i>,
     ) -> Result<Priced<'i>, (Region, Vec<i64>, LabelFault)>
         requires size { region.size ≡ customer_count instance.now }
         requires count { length prices.items ≡ customer_count instance.now }

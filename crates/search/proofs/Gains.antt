@@ -1,6 +1,6 @@
 -- Moves that make a plan cheaper, and kinds that have none.
-use Rattle.std.proofs.Common.{◌≡◌, ℕ, ◌<◌, zero, suc, List, [], ◌∷◌, None, get_or, refl, sym, ap, subst, ◌∙◌, arith, inl, inr}
-use Rattle.std.specs.Prelude.{ℤ, pos, ◌-ℤ◌, ◌+ℤ◌, ◌≤ℤ◌, ◌<ℤ◌}
+use Rattle.std.proofs.Common.{◌≡◌, ℕ, ◌<◌, zero, suc, List, [], ◌∷◌, get_or, refl, sym, ap, subst, ◌∙◌, arith, inl, inr}
+use Rattle.std.specs.Prelude.{ℤ, pos, ◌-ℤ◌, ◌+ℤ◌, ◌<ℤ◌}
 use Rattle.std.proofs.lemmas.Int.{ints}
 use Rattle.std.proofs.lemmas.Bool.{cases_lt}
 use Rattle.solomon_reader.specs.Problem.{Problem}
@@ -11,19 +11,10 @@ use Rattle.moves.specs.declared.candidate.Move.TheVariants.{Relocate, Exchange, 
 use Rattle.moves.specs.declared.candidate.Kind.{Kind}
 use Rattle.moves.specs.declared.candidate.Kind.TheVariants as kind
 use Rattle.moves.specs.Values.{IsWellFormed, after, HasValue}
-use Rattle.moves.specs.Order.{kind_of, IsFirstLeast, IsBest}
+use Rattle.moves.specs.Order.{kind_of}
 use Rattle.gains.specs.Gains.{IsGain}
 use Rattle.working_plan.specs.Gains.{HasNoGain, IsBestGain}
 use Rattle.search.specs.Searching.{rank_of, IsFirstGain}
-
-pub no_best : (p : Problem) (routes : List (List ℕ)) (k : Kind) → IsBest p routes k None → HasNoGain p routes k
-no_best p routes k none = record { none = λ m e gain. none m gain.0 e gain.1 }
-
-not_below : (v u : ℤ) → pos 0 ≤ℤ v → v ≤ℤ u → u <ℤ pos 0 → ⊥
-not_below v u h k below = omega (arith, ints)
-
-pub best_above : (p : Problem) (routes : List (List ℕ)) (k : Kind) (best : Move) (v : ℤ) → IsFirstLeast p routes (λ n. kind_of n ≡ k) best v → pos 0 ≤ℤ v → HasNoGain p routes k
-best_above p routes k best v is h = record { none = λ m e gain. not_below v gain.0 h (is.least m gain.0 e gain.1) gain.2 }
 
 negative : (new old : ℕ) → new < old → (pos new -ℤ pos old) <ℤ pos 0
 negative new old h = omega (arith, ints)

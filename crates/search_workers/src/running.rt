@@ -64,7 +64,7 @@ fn next_nodes<'a, 'i, G>(
     hands: &mut Vec<Hand>,
     deques: &'a [Thief],
     passes: &mut Vec<Pass>,
-) -> Result<Nodes<'a>, AllocError>
+) -> Result<Nodes<'a, 'i>, AllocError>
     requires some { 0 < vec_len hands.old }
     requires same { vec_len passes.old ≡ vec_len hands.old }
     requires fits { All (λ p. All (λ t. FitsAt (deque_at t) p) deques.now) passes.old.items }

@@ -21,7 +21,7 @@ pub(crate) enum Task<'a, 'i> {
     },
     /// It raises the bound at these nodes.
     Bound {
-        nodes: Nodes<'a>,
+        nodes: Nodes<'a, 'i>,
     },
 }
 

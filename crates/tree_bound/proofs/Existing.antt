@@ -1,6 +1,6 @@
 -- There is a least reduced cost, or no relaxed route: it could be found by trying all.
-use Rattle.std.proofs.Common.{◌≡◌, refl, ℕ, zero, suc, ◌+◌, ◌<◌, ◌≤◌, Bool, true, List, [], ◌∷◌, length, subst, arith, ap, ◌∙◌, ◌⊎◌, inl, inr, Option, Some, None}
-use Rattle.std.specs.Prelude.{ℤ, pos, ◌≤ℤ◌, slice_index_or}
+use Rattle.std.proofs.Common.{◌≡◌, refl, ℕ, zero, suc, ◌+◌, ◌<◌, ◌≤◌, Bool, true, List, [], ◌∷◌, length, arith, ap, ◌∙◌, ◌⊎◌, inl, inr, Option, Some, None}
+use Rattle.std.specs.Prelude.{ℤ, pos, ◌≤ℤ◌}
 use Rattle.std.proofs.lemmas.Int.{ints, by_lt_z}
 use Rattle.std.proofs.lemmas.Bool.{cases_lt, cases_Bool, both_ways}
 use Rattle.solomon_reader.specs.Problem.{Problem, IsCustomer, demand, due}
@@ -10,9 +10,6 @@ use Rattle.solomon_reader.specs.Relaxed.{IsRelaxed, IsLeastOrZero, reduced_cost}
 use Rattle.solomon_reader.specs.States.{State, start, step, begins, CanStep, CanEnd, Completes, value_with}
 use Rattle.solomon_reader.proofs.Completions.{completes_relaxed, relaxed_completes, value_is}
 use Rattle.tree_bound.specs.Cover.{IsAtMost, IsLeastBelow, IsSought, or_zero}
-use Rattle.leaf_arcs.specs.declared.arcs.ArcRow.{ArcRow}
-use Rattle.leaf_arcs.specs.Arcs.{AreArcRows, leads}
-use Rattle.leaf_arcs.proofs.Leading.{leads_index}
 
 -- exactly one of the two is known
 abbrev pub Decides : Type 0 → Type 0
@@ -151,31 +148,19 @@ module _ (p : Problem) (g : Region) (k : ℕ) (prices : List ℤ) where
   pub sought_some : (limit within b : Option ℤ) (bare : Bool) → IsLeastBelow p g k prices within b → (b ≡ within → within ≡ None) → IsSought p g k prices limit bare (Some (or_zero b))
   sought_some limit within b bare below apart = record { least = or_zero b; is_least = exact within b below apart; some = λ z e. cc; none = λ e. absurd (cc) }
 
-  module _ (all : List ArcRow) (rows : AreArcRows p g k prices all) (d : ArcRow) where
-    decide : (i j : ℕ) → i < length p.rows → j < length p.rows → Decides (IsAllowed g (i, j))
-    decide i zero from to = elim (cases_Bool (slice_index_or all i d).ends) [
-      | inl ends ↦ inl ((rows.each i d from).ends.0 ends)
-      | inr closed ↦ inr (λ allowed. both_ways _ closed ((rows.each i d from).ends.1 allowed))
-    ]
-    decide i (suc j) from to = elim (cases_Bool (leads (slice_index_or all i d).arcs.items (suc j))) [
-      | inl listed ↦ inl (let m = leads_index (slice_index_or all i d).arcs.items (suc j) listed in
-          subst (λ (n : ℕ). IsAllowed g (i, n)) m.1.1 ((rows.each i d from).arcs.allowed m.0 m.1.0))
-      | inr closed ↦ inr (λ allowed. both_ways _ closed ((rows.each i d from).arcs.all (suc j) to (omega arith, omega (arith, to)) allowed))
-    ]
+  pub sought_none : ((i j : ℕ) → i < length p.rows → j < length p.rows → Decides (IsAllowed g (i, j))) → (limit : Option ℤ) (bare : Bool) (t : ℤ) → limit ≡ Some t → IsLeastBelow p g k prices limit (Some t) → (bare ≡ true) ⊎ ((r : List ℕ) × IsRelaxed p g k r)
+      → ((i : ℕ) → IsCustomer p i → 1 ≤ demand p i) → 1 ≤ length p.rows → IsSought p g k prices limit bare None
+  sought_none decide limit bare t is below why carried some =
+      let found = least_exists decide carried some in
+      record { least = or_zero found.0; is_least = exact None found.0 found.1 (λ e. refl); some = λ z e. absurd (cc); none = λ e. (t, (is, high found.0 found.1 why)) }
+    where
+      at : (z : ℤ) (r : List ℕ) → IsRelaxed p g k r → Some z ≡ Some (reduced_cost p prices r) → t ≤ℤ z
+      at z r relaxed e = let same : z ≡ reduced_cost p prices r = cc in rw same (below.low r relaxed)
 
-    pub sought_none : (limit : Option ℤ) (bare : Bool) (t : ℤ) → limit ≡ Some t → IsLeastBelow p g k prices limit (Some t) → (bare ≡ true) ⊎ ((r : List ℕ) × IsRelaxed p g k r)
-        → ((i : ℕ) → IsCustomer p i → 1 ≤ demand p i) → 1 ≤ length p.rows → IsSought p g k prices limit bare None
-    sought_none limit bare t is below why carried some =
-        let found = least_exists decide carried some in
-        record { least = or_zero found.0; is_least = exact None found.0 found.1 (λ e. refl); some = λ z e. absurd (cc); none = λ e. (t, (is, high found.0 found.1 why)) }
-      where
-        at : (z : ℤ) (r : List ℕ) → IsRelaxed p g k r → Some z ≡ Some (reduced_cost p prices r) → t ≤ℤ z
-        at z r relaxed e = let same : z ≡ reduced_cost p prices r = cc in rw same (below.low r relaxed)
-
-        high : (b : Option ℤ) → IsLeastBelow p g k prices None b → (bare ≡ true) ⊎ ((r : List ℕ) × IsRelaxed p g k r) → (t ≤ℤ or_zero b) ⊎ ((bare ≡ true) × (or_zero b ≡ pos 0))
-        high None least (inl bare_is) = inr (bare_is, refl)
-        high None least (inr one) = absurd (least.low one.0 one.1)
-        high (Some z) least why = elim least.found [
-          | inl bare ↦ absurd (cc)
-          | inr one ↦ inl (at z one.0 one.1.0 one.1.1)
-        ]
+      high : (b : Option ℤ) → IsLeastBelow p g k prices None b → (bare ≡ true) ⊎ ((r : List ℕ) × IsRelaxed p g k r) → (t ≤ℤ or_zero b) ⊎ ((bare ≡ true) × (or_zero b ≡ pos 0))
+      high None least (inl bare_is) = inr (bare_is, refl)
+      high None least (inr one) = absurd (least.low one.0 one.1)
+      high (Some z) least why = elim least.found [
+        | inl bare ↦ absurd (cc)
+        | inr one ↦ inl (at z one.0 one.1.0 one.1.1)
+      ]

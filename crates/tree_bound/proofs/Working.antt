@@ -1,6 +1,6 @@
 -- Loads are worked, the lowest first.
-use Rattle.std.proofs.Common.{◌≡◌, refl, ℕ, ◌+◌, ◌<◌, ◌≤◌, true, false, List, [], ◌++◌, length, subst, arith, ap, sym, ◌∙◌, ◌⊎◌, inl, inr, Option, Some, None, replicate, ◌∷◌}
-use Rattle.std.specs.Prelude.{ℤ, pos}
+use Rattle.std.proofs.Common.{◌≡◌, refl, ℕ, ◌+◌, ◌*◌, ◌<◌, ◌≤◌, true, false, List, [], ◌++◌, length, subst, arith, ap, sym, ◌∙◌, ◌⊎◌, inl, inr, Option, Some, None, replicate, ◌∷◌}
+use Rattle.std.specs.Prelude.{ℤ, pos, slice_index_or}
 use Rattle.std.specs.List.{AllByRecursion}
 use Rattle.std.specs.Option.{is_some}
 use Rattle.std.proofs.Math.ListN.{set, length-set}
@@ -8,8 +8,9 @@ use Rattle.std.proofs.lemmas.Int.{ints}
 use Rattle.std.proofs.lemmas.Bool.{cases_lt, cases_eq}
 use Rattle.std.proofs.lemmas.List.{get_or_past, get_or-set_other, get_or-replicate, length-replicate}
 use Rattle.std.proofs.lemmas.List.Elements.{All-from_recursion, All-weaker}
-use Rattle.solomon_reader.specs.Problem.{Problem, IsCustomer, customer_count, ready}
-use Rattle.solomon_reader.specs.Layout.{IsWithinLimits}
+use Rattle.solomon_reader.specs.declared.row.Row.{Row}
+use Rattle.solomon_reader.specs.Problem.{Problem, IsCustomer, customer_count, ready, service}
+use Rattle.solomon_reader.specs.Layout.{IsWithinLimits, AreRows}
 use Rattle.solomon_reader.specs.Region.{Region, IsAllowed}
 use Rattle.solomon_reader.specs.Relaxed.{IsRelaxed}
 use Rattle.solomon_reader.specs.States.{State, start, step, CanStep, CanEnd, IsAsGood, IsSameState}
@@ -21,7 +22,7 @@ use Rattle.tree_bound.specs.declared.label.Label.{Label}
 use Rattle.tree_bound.specs.Cover.{IsAtMost, IsFound, IsDear, IsLeastBelow}
 use Rattle.leaf_arcs.specs.Memories.{bit_in}
 use Rattle.tree_bound.specs.Labels.{label_in, labels_at, state_of, IsBounded, IsLabel, IsTable, AreLabels, IsDominated, IsKept, Waits, IsMet}
-use Rattle.leaf_arcs.specs.Arcs.{IsPriced, IsPricing, AreAllowedArcs, arc_in}
+use Rattle.leaf_arcs.specs.Arcs.{IsPriced, IsPricing, AreAllowedArcs, IsInTime, arc_in}
 use Rattle.tree_bound.specs.Steps.{CanExtend, IsExtension, IsCared, TakesSteps, ClosesRoute, IsDone, IsSettled, AreSettled, Remains, IsPassed, IsWorked, IsSwept, route_value}
 use Rattle.solomon_reader.proofs.Goodness.{good_itself, good_same, good_back, reaches_same, completes_too, value_no_greater}
 use Rattle.tree_bound.proofs.Buckets.{first_kept}
@@ -32,13 +33,13 @@ use Rattle.leaf_arcs.proofs.Remembered.{has_nothing}
 
 module _ (p : Problem) (g : Region) (k : ℕ) (prices : List ℤ) where
   -- all steps of a row were taken
-  pub done_of : (bs cs : List (List Label)) (q : ℕ) (x : Label) (b c : Option ℤ) (hs : List AllowedArc) → AreAllowedArcs p g k prices x.customer (length p.rows) hs
+  pub done_of : (bs cs : List (List Label)) (q : ℕ) (x : Label) (b c : Option ℤ) (hs : List AllowedArc) → AreAllowedArcs p g k prices x.customer hs → IsBounded p q x
       → ClosesRoute p g k q x b c → TakesSteps p g k prices c bs cs q x hs (length hs) → IsDone p g k prices bs cs q x b c
-  done_of bs cs q x b c hs arcs closes steps = record {
+  done_of bs cs q x b c hs arcs bounded closes steps = record {
     closes = closes;
     moved = steps.moved;
     table = steps.table;
-    met = λ j can. (let m = leads_index hs j (arcs.all j (omega (arith, can.customer.1, can.customer.0)) can.customer can.allowed) in at m.0 j m.1.0 m.1.1 can);
+    met = λ j can. (let timely : IsInTime p x.customer j = omega (arith, bounded.begun, can.due) in let m = leads_index hs j (arcs.all j can.customer can.allowed timely) in at m.0 j m.1.0 m.1.1 can);
   }
     where
       at : (m j : ℕ) → m < length hs → (arc_in hs m).to ≡ j → CanStep p g (state_of p k q x) j → IsCared p g k prices c cs (q + 1) (step p k prices (state_of p k q x) j)
@@ -271,6 +272,14 @@ module _ (p : Problem) (g : Region) (k : ℕ) (prices : List ℤ) where
 -- the depot with an empty memory is the beginning
 pub start_same : (p : Problem) (k : ℕ) (x : Label) → x.customer ≡ 0 → x.time ≡ ready p 0 → x.cost ≡ pos 0 → x.memory ≡ 0 → IsSameState (state_of p k 0 x) (start p)
 start_same p k x last time cost memory = record { last = last; time = time; load = refl; cost = cost; memory = λ u. rw memory (has_nothing (bit_in p k x.customer u)) }
+
+-- no service at the depot
+pub depot_service : (p : Problem) → IsWithinLimits p → service p 0 ≡ 0
+depot_service p limits = by p.rows limits.rows
+  where
+    by : (rs : List Row) → AreRows rs → 10 * (slice_index_or rs 0 (record { x = 0; y = 0; demand = 0; ready = 0; due = 0; service = 0 })).service ≡ 0
+    by [] h = absurd h
+    by (depot ∷ rs) h = omega (arith, h.0.2)
 
 priced : (z : ℤ) → IsPrice z → IsPriced z
 priced z h = record { low = omega (arith, ints, h); high = omega (arith, ints, h) }

@@ -1,7 +1,7 @@
 -- The labels of the table as states.
 use Rattle.std.specs.Prelude.{◌≡◌, ◌≢◌, ℕ, ◌+◌, ◌*◌, ◌<◌, ◌≤◌, true, false, List, [], length, slice_index_or, ℤ, pos, ◌+ℤ◌, ◌≤ℤ◌, ◌⊎◌}
 use Rattle.solomon_reader.specs.declared.limits.TheConstants.{MOST_TIME, MOST_CAPACITY}
-use Rattle.solomon_reader.specs.Problem.{Problem}
+use Rattle.solomon_reader.specs.Problem.{Problem, ready, service}
 use Rattle.solomon_reader.specs.Region.{Region}
 use Rattle.solomon_reader.specs.States.{State, IsAsGood}
 use Rattle.leaf_arcs.specs.Arcs.{most_grains}
@@ -65,6 +65,7 @@ pub record IsAdded (bs cs : List (List Label)) (load : ℕ) (x : Label) : Type 0
 -- the numbers of a label are small; the reduced cost by its load, since each customer has a demand
 pub record IsBounded (p : Problem) (q : ℕ) (x : Label) : Type 0 where
   pub last : x.customer < length p.rows
+  pub begun : ready p x.customer + service p x.customer ≤ x.time
   pub time : x.time ≤ 20 * MOST_TIME
   pub load : q ≤ p.capacity
   pub held : p.capacity ≤ MOST_CAPACITY

@@ -11,58 +11,58 @@ use Rattle.tree_bound.specs.Labels.{state_of, IsBounded, IsLabel, IsTable, AreLa
 use Rattle.tree_bound.specs.Steps.{CanExtend, IsExtension, TakesStep, TakesSteps, ClosesRoute, IsWorked, IsSwept, IsDone, IsPassed}
 
 abbrev pub state_in : Leaf → ℕ → Label → State
-state_in l q x = state_of (problem_of l) l.neighbours.now.k q x
+state_in l q x = state_of (problem_of l) l.network.now.neighbours.k q x
 
 abbrev pub IsBoundedIn : Leaf → ℕ → Label → Type 0
 IsBoundedIn l q x = IsBounded (problem_of l) q x
 
 abbrev pub CanExtendIn : Leaf → ℕ → Label → ℕ → Type 0
-CanExtendIn l q x j = CanExtend (problem_of l) l.neighbours.now.k q x j
+CanExtendIn l q x j = CanExtend (problem_of l) l.network.now.neighbours.k q x j
 
 abbrev pub IsExtensionIn : Leaf → ℕ → Label → ℕ → ℕ → Label → Type 0
-IsExtensionIn l q x load j y = IsExtension (problem_of l) l.neighbours.now.k l.prices.now q x load j y
+IsExtensionIn l q x load j y = IsExtension (problem_of l) l.network.now.neighbours.k l.prices.now q x load j y
 
 abbrev pub IsLabelIn : Leaf → ℕ → Label → Type 0
-IsLabelIn l q x = IsLabel (problem_of l) (region_in l) l.neighbours.now.k l.prices.now q x
+IsLabelIn l q x = IsLabel (problem_of l) (region_in l) l.network.now.neighbours.k l.prices.now q x
 
 abbrev pub AreLabelsIn : Leaf → ℕ → List Label → Type 0
-AreLabelsIn l q xs = AreLabels (problem_of l) (region_in l) l.neighbours.now.k l.prices.now q xs
+AreLabelsIn l q xs = AreLabels (problem_of l) (region_in l) l.network.now.neighbours.k l.prices.now q xs
 
 abbrev pub IsTableIn : Leaf → List (List Label) → ℕ → Type 0
-IsTableIn l bs low = IsTable (problem_of l) (region_in l) l.neighbours.now.k l.prices.now bs low
+IsTableIn l bs low = IsTable (problem_of l) (region_in l) l.network.now.neighbours.k l.prices.now bs low
 
 abbrev pub TakesStepIn : Leaf → Option ℤ → List (List Label) → List (List Label) → ℕ → Label → ℕ → Type 0
-TakesStepIn l b bs cs q x j = TakesStep (problem_of l) (region_in l) l.neighbours.now.k l.prices.now b bs cs q x j
+TakesStepIn l b bs cs q x j = TakesStep (problem_of l) (region_in l) l.network.now.neighbours.k l.prices.now b bs cs q x j
 
 abbrev pub TakesStepsIn : Leaf → Option ℤ → List (List Label) → List (List Label) → ℕ → Label → List AllowedArc → ℕ → Type 0
-TakesStepsIn l b bs cs q x arcs i = TakesSteps (problem_of l) (region_in l) l.neighbours.now.k l.prices.now b bs cs q x arcs i
+TakesStepsIn l b bs cs q x arcs i = TakesSteps (problem_of l) (region_in l) l.network.now.neighbours.k l.prices.now b bs cs q x arcs i
 
 abbrev pub ClosesRouteIn : Leaf → ℕ → Label → Option ℤ → Option ℤ → Type 0
-ClosesRouteIn l q x b c = ClosesRoute (problem_of l) (region_in l) l.neighbours.now.k q x b c
+ClosesRouteIn l q x b c = ClosesRoute (problem_of l) (region_in l) l.network.now.neighbours.k q x b c
 
 abbrev pub IsDoneIn : Leaf → List (List Label) → List (List Label) → ℕ → Label → Option ℤ → Option ℤ → Type 0
-IsDoneIn l bs cs q x b c = IsDone (problem_of l) (region_in l) l.neighbours.now.k l.prices.now bs cs q x b c
+IsDoneIn l bs cs q x b c = IsDone (problem_of l) (region_in l) l.network.now.neighbours.k l.prices.now bs cs q x b c
 
 abbrev pub IsWorkedIn : Leaf → List (List Label) → List Label → ℕ → List Label → ℕ → Option ℤ → Type 0
-IsWorkedIn l bs ds q xs i b = IsWorked (problem_of l) (region_in l) l.neighbours.now.k l.prices.now l.limit bs ds q xs i b
+IsWorkedIn l bs ds q xs i b = IsWorked (problem_of l) (region_in l) l.network.now.neighbours.k l.prices.now l.limit bs ds q xs i b
 
 abbrev pub IsSweptIn : Leaf → List (List Label) → List Label → ℕ → Option ℤ → Type 0
-IsSweptIn l bs ds q b = IsSwept (problem_of l) (region_in l) l.neighbours.now.k l.prices.now l.limit bs ds q b
+IsSweptIn l bs ds q b = IsSwept (problem_of l) (region_in l) l.network.now.neighbours.k l.prices.now l.limit bs ds q b
 
 abbrev pub IsPassedIn : Leaf → Option ℤ → List Label → ℕ → Label → Type 0
-IsPassedIn l b ds q x = IsPassed (problem_of l) (region_in l) l.neighbours.now.k l.prices.now b ds q x
+IsPassedIn l b ds q x = IsPassed (problem_of l) (region_in l) l.network.now.neighbours.k l.prices.now b ds q x
 
 abbrev pub IsLeastBelowIn : Leaf → Option ℤ → Type 0
-IsLeastBelowIn l b = IsLeastBelow (problem_of l) (region_in l) l.neighbours.now.k l.prices.now l.limit b
+IsLeastBelowIn l b = IsLeastBelow (problem_of l) (region_in l) l.network.now.neighbours.k l.prices.now l.limit b
 
 abbrev pub IsSoughtIn : Leaf → Bool → Option ℤ → Type 0
-IsSoughtIn l bare found = IsSought (problem_of l) (region_in l) l.neighbours.now.k l.prices.now l.limit bare found
+IsSoughtIn l bare found = IsSought (problem_of l) (region_in l) l.network.now.neighbours.k l.prices.now l.limit bare found
 
 abbrev pub step_in : Leaf → ℕ → Label → ℕ → State
-step_in l q x j = step (problem_of l) l.neighbours.now.k l.prices.now (state_in l q x) j
+step_in l q x j = step (problem_of l) l.network.now.neighbours.k l.prices.now (state_in l q x) j
 
 abbrev pub IsDearIn : Leaf → Option ℤ → State → Type 0
-IsDearIn l b a = IsDear (problem_of l) (region_in l) l.neighbours.now.k l.prices.now b a
+IsDearIn l b a = IsDear (problem_of l) (region_in l) l.network.now.neighbours.k l.prices.now b a
 
 abbrev pub IsRelaxedIn : Leaf → List ℕ → Type 0
-IsRelaxedIn l r = IsRelaxed (problem_of l) (region_in l) l.neighbours.now.k r
+IsRelaxedIn l r = IsRelaxed (problem_of l) (region_in l) l.network.now.neighbours.k r

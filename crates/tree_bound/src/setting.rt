@@ -6,24 +6,23 @@ ghost use Rattle.solomon_reader.specs.declared.limits.TheConstants.{MOST_CUSTOME
 ghost use Rattle.certificate.specs.Text.{version_of};
 
 use certificate::{Cert, Version};
-use leaf_arcs::{Neighbours, Slots};
+use leaf_arcs::Network;
 use solomon_reader::Instance;
 use std::alloc::{AllocError, Global};
 
 /// What all leaves of a certificate share; it is made once.
 #[derive(Drop)]
 pub struct Setting<'i> {
-    pub(crate) neighbours: Neighbours<'i>,
-    pub(crate) slots: Slots,
+    pub(crate) network: Network<'i>,
     pub(crate) version: Version,
     /// How many routes the version counts on.
     pub(crate) routes: u32,
     /// The ceiling plus one, in tenths.
     pub(crate) most: u32,
     pub(crate) state_limit: usize,
-    ghost routes_are: { routes ≡ routes_counted (version_of version) neighbours.instance.now },
+    ghost routes_are: { routes ≡ routes_counted (version_of version) network.neighbours.instance.now },
     ghost few: { routes ≤ MOST_CUSTOMERS * MOST_DEMAND },
-    ghost most_is: { most ≡ ceiling_of neighbours.instance.now + 1 },
+    ghost most_is: { most ≡ ceiling_of network.neighbours.instance.now + 1 },
 }
 
 /// How many routes a version counts on.
@@ -45,14 +44,13 @@ impl<'i> Setting<'i> {
         cert: &Cert,
         state_limit: usize,
     ) -> Result<Setting<'i>, AllocError>
-        ensures instance { IfOk result (λ s. s.neighbours.instance.now ≡ instance.now) }
-        ensures k { IfOk result (λ s. s.neighbours.k ≡ cert.now.neighbours) }
+        ensures instance { IfOk result (λ s. s.network.neighbours.instance.now ≡ instance.now) }
+        ensures k { IfOk result (λ s. s.network.neighbours.k ≡ cert.now.neighbours) }
         ensures version { IfOk result (λ s. version_of s.version ≡ cert.now.version) }
     {
         let parts = cert.parts();
         Ok(Setting {
-            neighbours: Neighbours::new(alloc, instance, parts.neighbours as u8)?,
-            slots: Slots::new(alloc, instance)?,
+            network: Network::new(alloc, instance, parts.neighbours as u8)?,
             version: parts.version,
             routes: routes_counted(instance, parts.version),
             most: instance.ceiling().get() as u32 + 1,

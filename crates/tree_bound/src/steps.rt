@@ -31,7 +31,8 @@ pub(crate) fn can_extend(leaf: &Leaf<'_, '_>, load: usize, label: &Label, arc: &
     requires arc { IsArcIn leaf.now label.now.customer arc.now }
     ensures { IsTrue result ↔ CanExtendIn leaf.now load label.now arc.now.to }
 {
-    let capacity = usize::from(leaf.neighbours.instance.capacity());
+    let network = leaf.network;
+    let capacity = usize::from(network.neighbours.instance.capacity());
     if load + usize::from(arc.demand) > capacity {
         return false;
     }
@@ -48,10 +49,12 @@ pub(crate) fn extend(leaf: &Leaf<'_, '_>, load: usize, label: &Label, arc: &Allo
     requires can { CanExtendIn leaf.now load label.now arc.now.to }
     ensures { IsExtensionIn leaf.now load label.now (load + arc.now.demand) arc.now.to result }
 {
-    let neighbours = leaf.neighbours;
+    let network = leaf.network;
     Label {
         customer: arc.to,
-        memory: neighbours.remember(label.customer, label.memory, arc.to),
+        memory: network
+            .neighbours
+            .remember(label.customer, label.memory, arc.to),
         time: begins(leaf, load, label, arc) + arc.service,
         cost: label.cost + arc.value,
         active: true,
@@ -72,15 +75,15 @@ fn is_dear_with(best: Option<i64>, cost: i64, more: i64) -> bool
 pub(crate) fn is_dear(task: &Task<'_, '_>, load: usize, label: &Label, best: Option<i64>) -> bool
     ensures { IsTrue result → IsDearIn task.now.leaf best (state_in task.now.leaf load label.now) }
 {
-    let neighbours = task.leaf.neighbours;
+    let network = task.leaf.network;
     let (row, memory) = (label.customer, label.memory);
     let Some(floor) = task.floor_at(row, label.time) else {
         return false;
     };
-    if !neighbours.recalls(row, memory, row) {
+    if !network.neighbours.recalls(row, memory, row) {
         return false;
     }
-    if neighbours.recalls(row, memory, floor.next) {
+    if network.neighbours.recalls(row, memory, floor.next) {
         return is_dear_with(best, label.cost, floor.other);
     }
     is_dear_with(best, label.cost, floor.least)
@@ -176,7 +179,8 @@ pub(crate) fn close_route(
     requires row { IsRowIn leaf.now label.now.customer row.now }
     ensures { ClosesRouteIn leaf.now load label.now best result }
 {
-    let closing = leaf.neighbours.instance.due(0);
+    let network = leaf.network;
+    let closing = network.neighbours.instance.due(0);
     if !row.ends || label.time + row.back > closing {
         return best;
     }

@@ -38,11 +38,11 @@ fn bound_at(
 ) -> Result<Subtree, BoundFault>
     requires most { most ≤ setting.now.most }
     requires within { at < length nodes.now }
-    requires begins { Begins (region_of (customer_count setting.now.neighbours.instance.now) path.old.items) (drop at (nodes_of nodes.now)) }
+    requires begins { Begins (region_of (customer_count setting.now.network.neighbours.instance.now) path.old.items) (drop at (nodes_of nodes.now)) }
     ensures path { IfOk result (λ _. path.new.items ≡ path.old.items) }
     ensures onward { IfOk result (λ t. at < t.next) }
     ensures less { IfOk result (λ t. t.bound ≤ most) }
-    ensures bound { IfOk result (λ t. IsBoundOf (version_of setting.now.version) setting.now.neighbours.instance.now setting.now.neighbours.k (region_of (customer_count setting.now.neighbours.instance.now) path.old.items) (drop at (nodes_of nodes.now)) most t.bound (drop t.next (nodes_of nodes.now))) }
+    ensures bound { IfOk result (λ t. IsBoundOf (version_of setting.now.version) setting.now.network.neighbours.instance.now setting.now.network.neighbours.k (region_of (customer_count setting.now.network.neighbours.instance.now) path.old.items) (drop at (nodes_of nodes.now)) most t.bound (drop t.next (nodes_of nodes.now))) }
 {
     match &nodes[at] {
         CertNode::Leaf(prices) => {

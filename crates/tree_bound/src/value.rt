@@ -82,11 +82,11 @@ fn round_up(sum: Difference, fleet: u16, routes: u32, least: Difference) -> u128
 
 /// The value of a leaf with these prices, in tenths, if this is its least reduced cost; `None` stands for 0.
 fn value_at(setting: &Setting<'_>, prices: &[i64], least: Option<i64>) -> u128
-    requires count { length prices.now ≡ customer_count setting.now.neighbours.instance.now }
+    requires count { length prices.now ≡ customer_count setting.now.network.neighbours.instance.now }
     requires priced { AllByRecursion IsPrice prices.now }
-    ensures { IsRoundedUp (grains_of (version_of setting.now.version) setting.now.neighbours.instance.now prices.now (or_zero least)) result }
+    ensures { IsRoundedUp (grains_of (version_of setting.now.version) setting.now.network.neighbours.instance.now prices.now (or_zero least)) result }
 {
-    let instance = setting.neighbours.instance;
+    let instance = setting.network.neighbours.instance;
     instance.law_of_limits();
     let sum = sum_of(prices);
     round_up(sum, instance.fleet(), setting.routes, difference_of(least))
@@ -94,10 +94,10 @@ fn value_at(setting: &Setting<'_>, prices: &[i64], least: Option<i64>) -> u128
 
 /// About the least reduced cost with which a leaf's value is so many tenths: nothing is said of it.
 fn guess_limit(setting: &Setting<'_>, prices: &[i64], most: u32) -> i64
-    requires count { length prices.now ≡ customer_count setting.now.neighbours.instance.now }
+    requires count { length prices.now ≡ customer_count setting.now.network.neighbours.instance.now }
     requires priced { AllByRecursion IsPrice prices.now }
 {
-    let instance = setting.neighbours.instance;
+    let instance = setting.network.neighbours.instance;
     instance.law_of_limits();
     let sum = sum_of(prices);
     let wanted = (1000 * u64::from(most) + sum.below).saturating_sub(999);
@@ -112,9 +112,9 @@ fn guess_limit(setting: &Setting<'_>, prices: &[i64], most: u32) -> i64
 
 /// A reduced cost with which a leaf's value is so many tenths or more.
 fn limit_of(setting: &Setting<'_>, prices: &[i64], most: u32) -> Option<i64>
-    requires count { length prices.now ≡ customer_count setting.now.neighbours.instance.now }
+    requires count { length prices.now ≡ customer_count setting.now.network.neighbours.instance.now }
     requires priced { AllByRecursion IsPrice prices.now }
-    ensures { IfSome result (λ t. IsWorth (version_of setting.now.version) setting.now.neighbours.instance.now prices.now t most) }
+    ensures { IfSome result (λ t. IsWorth (version_of setting.now.version) setting.now.network.neighbours.instance.now prices.now t most) }
 {
     let limit = Some(guess_limit(setting, prices, most));
     if value_at(setting, prices, limit) >= u128::from(most) {
@@ -150,16 +150,16 @@ pub(crate) fn lesser_value(
     prices: &[i64],
     most: u32,
 ) -> Result<u32, BoundFault>
-    requires count { length prices.now ≡ customer_count setting.now.neighbours.instance.now }
+    requires count { length prices.now ≡ customer_count setting.now.network.neighbours.instance.now }
     requires priced { AllByRecursion IsPrice prices.now }
-    ensures { IfOk result (λ b. IsLesserValue (version_of setting.now.version) setting.now.neighbours.instance.now (region_of (customer_count setting.now.neighbours.instance.now) path.now) setting.now.neighbours.k prices.now most b) }
+    ensures { IfOk result (λ b. IsLesserValue (version_of setting.now.version) setting.now.network.neighbours.instance.now (region_of (customer_count setting.now.network.neighbours.instance.now) path.now) setting.now.network.neighbours.k prices.now most b) }
 {
-    let instance = setting.neighbours.instance;
+    let instance = setting.network.neighbours.instance;
     instance.law_of_limits();
     let bare = value_at(setting, prices, None);
     let most = lowered(setting, most, bare);
     let leaf = Leaf {
-        neighbours: &setting.neighbours,
+        network: &setting.network,
         path,
         prices,
         limit: limit_of(setting, prices, most),

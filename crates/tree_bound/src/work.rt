@@ -118,7 +118,8 @@ fn beginning(leaf: &Leaf<'_, '_>) -> Label
     ensures label { IsLabelIn leaf.now 0 result }
     ensures active { result.active ≡ true }
 {
-    let instance = leaf.neighbours.instance;
+    let network = leaf.network;
+    let instance = network.neighbours.instance;
     let _count = instance.customer_count();
     let _capacity = instance.capacity();
     Label {
@@ -149,7 +150,8 @@ fn least_below(
 ) -> Result<Option<i64>, BoundFault>
     ensures { IfOk result (λ found. IsLeastBelowIn task.now.leaf found) }
 {
-    let capacity = task.leaf.neighbours.instance.capacity();
+    let network = task.leaf.network;
+    let capacity = network.neighbours.instance.capacity();
     let mut table = empty_table(alloc, capacity, state_limit)?;
     let best = begin(task, &mut table)?;
     let least = sweep(task, &mut table, best)?;
@@ -228,8 +230,9 @@ pub(crate) fn least(
 ) -> Result<Option<i64>, BoundFault>
     ensures { IfOk result (λ found. IsSoughtIn leaf.entry bare found) }
 {
-    let _count = leaf.neighbours.instance.customer_count();
-    let task = Task::new(alloc, leaf, &setting.slots)?;
+    let network = leaf.network;
+    let _count = network.neighbours.instance.customer_count();
+    let task = Task::new(alloc, leaf)?;
     let found = least_below(alloc, &task, setting.state_limit)?;
     if !is_limit(found, leaf.limit) {
         return Ok(or_zero(found));
@@ -239,12 +242,12 @@ pub(crate) fn least(
         return Ok(None);
     }
     let unlimited = Leaf {
-        neighbours: leaf.neighbours,
+        network,
         path: leaf.path,
         prices: leaf.prices,
         limit: None,
     };
-    let task = Task::new(alloc, unlimited, &setting.slots)?;
+    let task = Task::new(alloc, unlimited)?;
     let found = least_below(alloc, &task, setting.state_limit)?;
     Ok(or_zero(found))
 }

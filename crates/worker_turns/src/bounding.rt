@@ -17,13 +17,16 @@ use schedule::Feasible;
 use solomon_reader::Instance;
 use std::alloc::Global;
 
+/// The most leaves of a turn.
+const MOST_LEAVES: u32 = 10;
+
 /// Splits a leaf, and keeps both children, which wait for their turn.
 fn split<'i, H: Hub<'i>, G: Gate>(
     spot: &Spot<'_, G>,
     hub: &mut H,
     number: u32,
     children: Children<'i>,
-    nodes: &mut Nodes<'_>,
+    nodes: &mut Nodes<'_, 'i>,
 ) -> Result<(), Refusal> {
     let Children {
         arc,
@@ -70,7 +73,7 @@ fn bring<'i, H: Hub<'i>, G: Gate>(
     is_raised: bool,
     target: u64,
     labels: usize,
-    nodes: &mut Nodes<'_>,
+    nodes: &mut Nodes<'_, 'i>,
 ) -> Result<(), Refusal> {
     if leaf.value() >= i128::from(target) {
         return reprice(hub, number, leaf);
@@ -98,7 +101,7 @@ fn offer_routes<'i, H: Hub<'i>, G: Gate>(
     spot: &Spot<'_, G>,
     hub: &mut H,
     instance: &'i Instance,
-    pool: &RoutePool,
+    pool: &RoutePool<'_>,
     seat: &mut CeilingSeat,
 ) -> Result<(), Refusal>
     requires { IsSeatOf spot.now.ceiling.now seat.old }
@@ -128,7 +131,7 @@ fn raise_leaf<'i, H: Hub<'i>, G: Gate>(
     is_again: bool,
     leaf: Priced<'i>,
     labels: usize,
-    nodes: &mut Nodes<'_>,
+    nodes: &mut Nodes<'_, 'i>,
     seat: &mut CeilingSeat,
 ) -> Priced<'i>
     requires { IsSeatOf spot.now.ceiling.now seat.old }
@@ -147,7 +150,7 @@ fn work_at<'i, H: Hub<'i>, G: Gate>(
     taken: Taken,
     leaf: Priced<'i>,
     labels: usize,
-    nodes: &mut Nodes<'_>,
+    nodes: &mut Nodes<'_, 'i>,
     seat: &mut CeilingSeat,
 ) -> Result<(), Refusal>
     requires { IsSeatOf spot.now.ceiling.now seat.old }
@@ -169,34 +172,53 @@ fn work_at<'i, H: Hub<'i>, G: Gate>(
 }
 
 /// Takes a node, unless there is none, cost and bound have met, or the worker is ahead of the turns that
-/// it made, and works at it, unless its value reaches the cost.
-fn turn<'i, H: Hub<'i>, G: Gate>(
+/// it made; and works at it, unless its value reaches the cost. Answers whether there was one.
+fn work_on<'i, H: Hub<'i>, G: Gate>(
     spot: &Spot<'_, G>,
     hub: &mut H,
     labels: usize,
     made: u32,
-    nodes: &mut Nodes<'_>,
+    nodes: &mut Nodes<'_, 'i>,
     seat: &mut CeilingSeat,
-) -> Result<(), Refusal>
+) -> Result<bool, Refusal>
     requires { IsSeatOf spot.now.ceiling.now seat.old }
     ensures { IsSeatOf spot.now.ceiling.now seat.new }
 {
     if spot.is_closed(seat) || is_ahead(nodes, made) {
-        return Ok(());
+        return Ok(false);
     }
     let Some(taken) = nodes.wait()? else {
-        return Ok(());
+        return Ok(false);
     };
     if taken.is_stolen {
         spot.pass(GatePoint::Stolen);
     }
     let leaf = hub.look(taken.number)?;
     spot.pass(GatePoint::Looked);
-    if leaf.value() >= i128::from(spot.ceiling.cost(seat)) {
-        return Ok(());
+    if leaf.value() < i128::from(spot.ceiling.cost(seat)) {
+        work_at(spot, hub, taken, leaf, labels, nodes, seat)?;
+        let _ = spot.ceiling.raise(seat, hub.gap().bound.get());
     }
-    work_at(spot, hub, taken, leaf, labels, nodes, seat)?;
-    let _ = spot.ceiling.raise(seat, hub.gap().bound.get());
+    Ok(true)
+}
+
+/// Works at one leaf after the other, until it has done what the turns so far are worth.
+fn turn<'i, H: Hub<'i>, G: Gate>(
+    spot: &Spot<'_, G>,
+    hub: &mut H,
+    labels: usize,
+    made: u32,
+    nodes: &mut Nodes<'_, 'i>,
+    seat: &mut CeilingSeat,
+) -> Result<(), Refusal>
+    requires { IsSeatOf spot.now.ceiling.now seat.old }
+    ensures { IsSeatOf spot.now.ceiling.now seat.new }
+{
+    for _leaf in 0..MOST_LEAVES {
+        if !work_on(spot, hub, labels, made, nodes, seat)? {
+            break;
+        }
+    }
     Ok(())
 }
 
@@ -205,17 +227,18 @@ fn turn<'i, H: Hub<'i>, G: Gate>(
 ///
 /// In each turn the worker takes the open node of its own that has the least value or steals one, and
 /// raises the value of the leaf. It gives the leaf the new prices at the root and where the value reaches
-/// the ceiling, else splits it; a leaf whose value had reached the ceiling is laid aside.
+/// the ceiling, else splits it; a leaf whose value had reached the ceiling is laid aside. Then it takes the
+/// next one, until it has done as much as the turns so far are worth, or ten leaves.
 /// A refusal of the hub ends the turn. Where the words for cost and bound have met, a turn does nothing,
-/// and where the pricings so far made more labels than the turns so far are worth, so that dear pricings
-/// don't make the work endless.
+/// and where the worker has done more than the turns so far are worth, so that dear pricings don't make the
+/// work endless.
 pub fn bound_worker<'i, H: Hub<'i>, G: Gate>(
     alloc: Global,
     hub: &mut H,
     gate: &G,
     worker: u16,
     settings: &Settings,
-    mut nodes: Nodes<'_>,
+    mut nodes: Nodes<'_, 'i>,
     ceiling: &Ceiling,
     seat: &mut CeilingSeat,
 ) -> u32

@@ -38,7 +38,7 @@ const MOST_LOOKS: u32 = 5_000_000;
 /// stands for others to steal, the deques that it steals from, and the routes that it met, whatever the
 /// leaf.
 #[derive(Drop)]
-pub struct Nodes<'p> {
+pub struct Nodes<'p, 'i> {
     open: Vec<OpenNode>,
     own: Hand,
     /// The leaf that stands in the worker's own deque, if it is still there.
@@ -52,7 +52,7 @@ pub struct Nodes<'p> {
     idle_at_root: u16,
     /// How often the worker looked for a leaf in vain since it had one.
     missed: u32,
-    pub(crate) pool: RoutePool,
+    pub(crate) pool: RoutePool<'i>,
     /// How many routes count where prices are raised.
     pub(crate) routes: u16,
     pub(crate) customers: u16,
@@ -113,7 +113,7 @@ fn steal(deques: &[Thief], place: usize, pass: &mut Pass) -> Option<u32>
     None
 }
 
-impl<'p> Nodes<'p> {
+impl<'p, 'i> Nodes<'p, 'i> {
     /// The nodes of the worker whose deque stands at this place, and the routes of a plan to begin
     /// with, if there is one; refused where memory is. No contract: it decides only how the worker works.
     pub fn new(
@@ -124,7 +124,7 @@ impl<'p> Nodes<'p> {
         deques: &'p [Thief],
         place: usize,
         pass: Pass,
-    ) -> Result<Nodes<'p>, AllocError>
+    ) -> Result<Nodes<'p, 'i>, AllocError>
         requires { All (λ t. FitsAt (deque_at t) pass) deques.now }
     {
         let routes = plan.map(|plan| plan.routes());

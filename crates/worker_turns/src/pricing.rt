@@ -26,6 +26,9 @@ const PRICING_PART: u64 = 20;
 
 const LEAST_PRICING_TURNS: u64 = 5;
 
+/// A label takes as long as so many looks at each customer: it looks at other labels, too.
+const LOOKS_OF_LABEL: u64 = 4;
+
 /// How many labels a turn is worth.
 fn turn_labels(customers: u16) -> u64 {
     let counted = u64::from(customers)
@@ -44,9 +47,16 @@ pub fn pricing_labels(settings: &Settings, customers: u16) -> usize {
     worth.min(u64::from(settings.labels)) as usize
 }
 
-/// Whether a worker's pricings have made more labels than the turns that it made so far are worth.
-pub(crate) fn is_ahead(nodes: &Nodes<'_>, made: u32) -> bool {
-    nodes.pool.labels() > turn_labels(nodes.customers).saturating_mul(u64::from(made))
+/// How much work a turn is worth, in looks: labels, bounds on what may follow and the projections of prices
+/// count alike, so that turns take about as long at narrow windows as at wide ones.
+fn turn_looks(customers: u16) -> u64 {
+    let labels = turn_labels(customers).saturating_mul(LOOKS_OF_LABEL);
+    labels.saturating_mul(u64::from(customers))
+}
+
+/// Whether a worker has done more than the turns that it made so far are worth.
+pub(crate) fn is_ahead(nodes: &Nodes<'_, '_>, made: u32) -> bool {
+    nodes.pool.looks() > turn_looks(nodes.customers).saturating_mul(u64::from(made))
 }
 
 /// How many pricings a turn makes at a leaf.
@@ -62,7 +72,7 @@ fn pricings_at(leaf: &Priced<'_>) -> u32 {
 /// or from its first rise.
 pub(crate) fn goal_of(
     leaf: &Priced<'_>,
-    nodes: &Nodes<'_>,
+    nodes: &Nodes<'_, '_>,
     cost: Option<Tenths>,
     is_again: bool,
     target: u64,

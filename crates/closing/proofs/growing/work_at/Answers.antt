@@ -5,8 +5,8 @@ pub returns-clause-split : goal.returns-clause-split
 returns-clause-split c =
     same_split c.args.leaf.now c.args.growth.now _ c.split.new.self c.in-Some.children c.in_ok-offer_routes.ensures.same (record {
       children = rw c.in-Some.is at c.in_ok-children.ensures.children;
-      task = c.in_ok-split.ensures.task;
-      nodes = c.in_ok-split.ensures.nodes;
-      leaves = c.in_ok-split.ensures.leaves;
-      bound = c.in_ok-split.ensures.bound;
+      task = c.split.ensures.task;
+      nodes = c.split.ensures.nodes;
+      leaves = c.split.ensures.leaves;
+      bound = c.split.ensures.bound;
     })

@@ -7,5 +7,5 @@ use Rattle.leaf_arcs.proofs.floor.fill_at.Goals as goal
 pub returns : goal.returns
 returns c =
     let leaf = c.args.leaf.now in
-    All-set (IsKnown (problem_of leaf) (region_in leaf) leaf.neighbours.now.k leaf.prices.now) c.args.floors.now c.place-place.result c.floor_from-floor.result
+    All-set (IsKnown (problem_of leaf) (region_in leaf) leaf.network.now.neighbours.k leaf.prices.now) c.args.floors.now c.place-place.result c.floor_from-floor.result
     (known _ _ _ _ c.floor_from-floor.result c.floor_from-floor.ensures) c.requires.floors

@@ -16,5 +16,5 @@ pub returns : goal.returns
 returns c =
     let all = c.loop-arc.invariant in
     let e : length c.args.arcs.now.arcs.items ≡ c.loop-arc.arc-index = omega (arith, c.as_slice-arc-items.ensures.len) in
-    let whole = floor_whole _ _ _ _ c.args.start.now.row c.args.start.now.from c.args.arcs.now.arcs.items c.loop-arc.floor c.requires.arcs.arcs (rw e all.steps) in
+    let whole = floor_whole _ _ _ _ c.args.start.now.row c.args.start.now.from c.args.arcs.now.arcs.items c.loop-arc.floor (omega (arith, c.requires.begun, c.requires.arcs.earliest_is)) c.requires.arcs.arcs (rw e all.steps) in
     floor_later _ _ _ _ c.args.start.now.row c.args.start.now.from c.loop-arc.floor.row c.loop-arc.floor.from c.loop-arc.floor (sym all.place.row) (omega (arith, all.place.from)) whole

@@ -1,20 +1,40 @@
-use Rattle.std.proofs.Common.{◌≤◌, arith}
-use Rattle.std.proofs.lemmas.Bool.{both_ways}
+use Rattle.std.proofs.Common.{◌≡◌, ◌+◌, length, arith, ◌∙◌, inl, inr}
+use Rattle.std.proofs.lemmas.Bool.{cases_lt, both_ways}
 use Rattle.solomon_reader.specs.Problem.{customer_count}
+use Rattle.leaf_arcs.specs.Arcs.{arc_in}
 use Rattle.leaf_arcs.specs.Leaves.{problem_of}
-use Rattle.leaf_arcs.proofs.Leading.{arcs_none, arcs_yes, arcs_no}
+use Rattle.leaf_arcs.proofs.Deciding.{allowed_arc, root_allows}
+use Rattle.leaf_arcs.proofs.Leading.{Passed, found_none, found_yes, found_no, found_all, leads_index}
 use Rattle.leaf_arcs.proofs.rows.allowed_arcs.Goals as goal
-use Rattle.leaf_arcs.proofs.rows.allowed_arcs.Goals.{then-allowed-j+in_ok-push, else-allowed-j}
+use Rattle.leaf_arcs.proofs.rows.allowed_arcs.Goals.{then-allowed-arc+in_ok-push, else-allowed-arc}
 
-pub loop-j-init : goal.loop-j-init
-loop-j-init c = rw c.new-arcs.ensures.items (arcs_none _ _ _ _ _)
+pub loop-arc-init : goal.loop-arc-init
+loop-arc-init c = rw c.in_ok-found.ensures.items (found_none _ _ _ _ _ (Passed c.args.arcs.now 0) (λ j customer passed. omega (arith, passed.1.0)))
 
-pub loop-j-preserved : goal.loop-j-preserved
-loop-j-preserved c =
-    let within : c.loop-j.j ≤ customer_count (problem_of c.args.leaf.now) = omega arith in
-    let exactly = c.requires.allowed.each c.loop-j.j within in
-    elim c.if-allowed-j.branch [
-      | then-allowed-j+in_ok-push w ↦ rw (w.arcs-is, w.in_ok-push.ensures.items)
-          (arcs_yes _ _ _ _ _ c.loop-j.j c.loop-j.arcs.items c.loop-j.invariant w.allowed_arc.result w.allowed_arc.ensures.arc w.allowed_arc.ensures.to (exactly.0 w.if-allowed-j.true))
-      | else-allowed-j w ↦ rw w.arcs-is (arcs_no _ _ _ _ _ c.loop-j.j c.loop-j.arcs.items c.loop-j.invariant (λ h. both_ways _ w.if-allowed-j.false (exactly.1 h)))
+pub loop-arc-preserved : goal.loop-arc-preserved
+loop-arc-preserved c =
+    let arcs = c.args.arcs.now in
+    let i = c.loop-arc.arc-index in
+    let here = c.requires.arcs.each i c.loop-arc-test.true in
+    let exactly = c.requires.allowed.each (arc_in arcs i).to here.customer.1 in
+    elim c.if-allowed-arc.branch [
+      | then-allowed-arc+in_ok-push w ↦ rw (w.found-is, w.in_ok-push.ensures.items) (found_yes _ _ _ _ _ (Passed arcs i) (Passed arcs (i + 1)) c.loop-arc.found.items c.loop-arc.invariant w.priced.result w.priced.ensures.arc
+          (rw w.priced.ensures.to (exactly.0 w.if-allowed-arc.true))
+          (λ j passed. elim (cases_lt passed.0 i) [
+            | inl old ↦ inl (passed.0, (old, passed.1.1))
+            | inr new ↦ (let e : passed.0 ≡ i = omega (arith, passed.1.0, new) in inr (w.priced.ensures.to ∙ rw e at passed.1.1))
+          ]))
+      | else-allowed-arc w ↦ rw w.found-is (found_no _ _ _ _ _ (Passed arcs i) (Passed arcs (i + 1)) c.loop-arc.found.items c.loop-arc.invariant (λ j passed allowed timely. elim (cases_lt passed.0 i) [
+        | inl old ↦ (passed.0, (old, passed.1.1))
+        | inr new ↦ (let e : passed.0 ≡ i = omega (arith, passed.1.0, new) in
+            let same : (arc_in arcs i).to ≡ j = rw e at passed.1.1 in
+            absurd (both_ways _ w.if-allowed-arc.false (exactly.1 (rw same allowed))))
+      ]))
     ]
+
+pub returns : goal.returns
+returns c = found_all _ _ _ _ _ (Passed c.args.arcs.now c.loop-arc.arc-index) c.loop-arc.found.items c.loop-arc.invariant (λ j customer allowed timely.
+    (let n = customer_count (problem_of c.args.leaf.now) in
+    let arc = allowed_arc n c.args.leaf.now.path.now c.args.v j allowed in
+    let m = leads_index c.args.arcs.now j (c.requires.arcs.all j customer (root_allows n c.args.v j arc.apart arc.from arc.to) timely) in
+    (m.0, (omega (arith, m.1.0, c.loop-arc-test.false), m.1.1))))

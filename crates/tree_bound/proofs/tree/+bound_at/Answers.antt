@@ -7,27 +7,27 @@ use Rattle.tree_bound.proofs.tree.+bound_at.Goals as goal
 
 pub lesser_value-requires-clause-count : goal.lesser_value-requires-clause-count
 lesser_value-requires-clause-count t c = rw c.as_slice-in-Leaf.ensures.value
-    ((leaf_at (version_of c.args.setting.now.version) c.args.setting.now.neighbours.instance.now c.args.setting.now.neighbours.k c.args.path.now.items c.args.nodes.now c.args.at c.index-nodes-at.result c.requires.within c.index-nodes-at.is c.requires.begins c.in-Leaf.prices.items (ap node_of c.in-Leaf.is)).0)
+    ((leaf_at (version_of c.args.setting.now.version) c.args.setting.now.network.neighbours.instance.now c.args.setting.now.network.neighbours.k c.args.path.now.items c.args.nodes.now c.args.at c.index-nodes-at.result c.requires.within c.index-nodes-at.is c.requires.begins c.in-Leaf.prices.items (ap node_of c.in-Leaf.is)).0)
 
 pub lesser_value-requires-clause-priced : goal.lesser_value-requires-clause-priced
 lesser_value-requires-clause-priced t c = rw c.as_slice-in-Leaf.ensures.value
-    ((leaf_at (version_of c.args.setting.now.version) c.args.setting.now.neighbours.instance.now c.args.setting.now.neighbours.k c.args.path.now.items c.args.nodes.now c.args.at c.index-nodes-at.result c.requires.within c.index-nodes-at.is c.requires.begins c.in-Leaf.prices.items (ap node_of c.in-Leaf.is)).1)
+    ((leaf_at (version_of c.args.setting.now.version) c.args.setting.now.network.neighbours.instance.now c.args.setting.now.network.neighbours.k c.args.path.now.items c.args.nodes.now c.args.at c.index-nodes-at.result c.requires.within c.index-nodes-at.is c.requires.begins c.in-Leaf.prices.items (ap node_of c.in-Leaf.is)).1)
 
 pub returns-in_ok-bound-in-Leaf-clause-bound : goal.returns-in_ok-bound-in-Leaf-clause-bound
 returns-in_ok-bound-in-Leaf-clause-bound t c =
-    leaf_bound_at (version_of c.args.setting.now.version) c.args.setting.now.neighbours.instance.now c.args.setting.now.neighbours.k c.args.path.now.items c.args.nodes.now c.args.at c.index-nodes-at.result c.requires.within c.index-nodes-at.is c.requires.begins c.in-Leaf.prices.items
+    leaf_bound_at (version_of c.args.setting.now.version) c.args.setting.now.network.neighbours.instance.now c.args.setting.now.network.neighbours.k c.args.path.now.items c.args.nodes.now c.args.at c.index-nodes-at.result c.requires.within c.index-nodes-at.is c.requires.begins c.in-Leaf.prices.items
     c.args.most c.in_ok-bound-in-Leaf.bound (ap node_of c.in-Leaf.is) (omega (arith, c.requires.most, c.args.setting.now.most_is)) (rw (c.as_slice.ensures.value, c.as_slice-in-Leaf.ensures.value) at c.in_ok-bound-in-Leaf.ensures)
 
 pub bound_at-requires : goal.bound_at-requires
 bound_at-requires t c =
-    let begins = used_at (version_of c.args.setting.now.version) c.args.setting.now.neighbours.instance.now c.args.setting.now.neighbours.k c.args.path.now.items c.args.nodes.now c.args.at c.index-nodes-at.result c.requires.within c.index-nodes-at.is c.requires.begins c.in-Split.from c.in-Split.to (ap node_of c.in-Split.is) in
+    let begins = used_at (version_of c.args.setting.now.version) c.args.setting.now.network.neighbours.instance.now c.args.setting.now.network.neighbours.k c.args.path.now.items c.args.nodes.now c.args.at c.index-nodes-at.result c.requires.within c.index-nodes-at.is c.requires.begins c.in-Split.from c.in-Split.to (ap node_of c.in-Split.is) in
     (omega arith, (c.requires.most, (begins_some _ c.args.nodes.now (c.args.at + 1) begins, rw c.in_ok-push-in-Split.ensures.items begins)))
 
 pub bound_at-requires-in-Split : goal.bound_at-requires-in-Split
 bound_at-requires-in-Split t c =
     let count : c.len-depth.result ≡ length c.args.path.now.items = omega arith in
     let back = restored c.args.path.now.items c.bound_at.new.path.items c.truncate.new.self.items c.len-depth.result _ count (c.in_ok-used-in-Split.ensures.path ∙ c.in_ok-push-in-Split.ensures.items) c.truncate.ensures.items in
-    let begins = unused_at (version_of c.args.setting.now.version) c.args.setting.now.neighbours.instance.now c.args.setting.now.neighbours.k c.args.path.now.items c.args.nodes.now c.args.at c.index-nodes-at.result c.requires.within c.index-nodes-at.is c.requires.begins c.in-Split.from c.in-Split.to (ap node_of c.in-Split.is)
+    let begins = unused_at (version_of c.args.setting.now.version) c.args.setting.now.network.neighbours.instance.now c.args.setting.now.network.neighbours.k c.args.path.now.items c.args.nodes.now c.args.at c.index-nodes-at.result c.requires.within c.index-nodes-at.is c.requires.begins c.in-Split.from c.in-Split.to (ap node_of c.in-Split.is)
     c.args.most c.in_ok-used-in-Split.used.bound c.in_ok-used-in-Split.used.next (rw c.in_ok-push-in-Split.ensures.items at c.in_ok-used-in-Split.ensures.bound) in
     let within : c.in_ok-used-in-Split.used.next < length c.args.nodes.now = begins_some _ c.args.nodes.now c.in_ok-used-in-Split.used.next begins in
     (omega (arith, within, c.in_ok-used-in-Split.ensures.onward), (omega (arith, c.requires.most, c.in_ok-used-in-Split.ensures.less), (within, rw (c.in_ok-push-in-Split-2.ensures.items, back) begins)))
@@ -43,7 +43,7 @@ pub returns-in_ok-unused-in-Split-clause-bound : goal.returns-in_ok-unused-in-Sp
 returns-in_ok-unused-in-Split-clause-bound t c =
     let count : c.len-depth.result ≡ length c.args.path.now.items = omega arith in
     let back = restored c.args.path.now.items c.bound_at.new.path.items c.truncate.new.self.items c.len-depth.result _ count (c.in_ok-used-in-Split.ensures.path ∙ c.in_ok-push-in-Split.ensures.items) c.truncate.ensures.items in
-    (split_at (version_of c.args.setting.now.version) c.args.setting.now.neighbours.instance.now c.args.setting.now.neighbours.k c.args.path.now.items c.args.nodes.now c.args.at c.index-nodes-at.result c.requires.within c.index-nodes-at.is c.requires.begins c.in-Split.from c.in-Split.to (ap node_of c.in-Split.is)
+    (split_at (version_of c.args.setting.now.version) c.args.setting.now.network.neighbours.instance.now c.args.setting.now.network.neighbours.k c.args.path.now.items c.args.nodes.now c.args.at c.index-nodes-at.result c.requires.within c.index-nodes-at.is c.requires.begins c.in-Split.from c.in-Split.to (ap node_of c.in-Split.is)
     c.args.most c.in_ok-used-in-Split.used.bound c.in_ok-used-in-Split.used.next
     (rw c.in_ok-push-in-Split.ensures.items at c.in_ok-used-in-Split.ensures.bound) c.in_ok-unused-in-Split.unused.bound c.in_ok-unused-in-Split.unused.next
     (rw (c.in_ok-push-in-Split-2.ensures.items, back) at c.in_ok-unused-in-Split.ensures.bound))

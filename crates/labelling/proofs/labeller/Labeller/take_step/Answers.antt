@@ -1,17 +1,7 @@
 use Rattle.std.proofs.Common.{refl}
-use Rattle.labelling.proofs.Advancing.{step_refused, step_passed, step_taken}
+use Rattle.labelling.proofs.Advancing.{step_refused}
 use Rattle.labelling.proofs.labeller.Labeller.take_step.Goals as goal
 
 pub returns-then-not-can_step-clause-stepped : goal.returns-then-not-can_step-clause-stepped
 returns-then-not-can_step-clause-stepped c =
     step_refused _ _ _ _ _ c.args.label.now c.args.index c.args.j c.requires.labels c.requires.index.within c.requires.index.here c.args.best (c.if-not-can_step.ensures.no refl)
-
-pub returns-then-is_passed-clause-stepped : goal.returns-then-is_passed-clause-stepped
-returns-then-is_passed-clause-stepped c =
-    step_passed _ _ _ _ _ c.args.label.now c.args.index c.args.j c.requires.labels c.requires.index.within c.requires.index.here c.args.best
-    c.extend-front.result c.extend-front.ensures.after (c.is_passed.ensures c.if-is_passed.true)
-
-pub returns-clause-stepped : goal.returns-clause-stepped
-returns-clause-stepped c =
-    step_taken _ _ _ _ _ c.args.label.now c.args.index c.args.j c.requires.labels c.requires.index.within c.requires.index.here c.args.best
-    _ c.extend-newer.result c.extend-newer.ensures (c.if-not-can_step.ensures.yes refl) c.in_ok-add_label.ensures.added
