@@ -165,5 +165,6 @@ pub(crate) fn grow<'i>(
     };
     grow(children.unused, children.unused_start, growth, pool)?;
     grow(children.used, children.used_start, growth, pool)?;
-    growth.list_split(children.arc)
+    growth.list_split(children.arc)?;
+    Ok(())
 }
