@@ -17,7 +17,7 @@ use std::alloc::AllocError;
 /// The most pricings at the root, and at another leaf.
 const ROOT_PRICINGS: u32 = 100;
 
-const LEAF_PRICINGS: u32 = 12;
+const LEAF_PRICINGS: u32 = 8;
 
 /// How far the prices of a leaf are raised: to the least cost known.
 fn goal_of(leaf: &Priced<'_>, growth: &Growth<'_>) -> Goal {

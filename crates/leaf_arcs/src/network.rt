@@ -23,8 +23,13 @@ pub struct Network<'i> {
 }
 
 impl<'i> Network<'i> {
-    /// The network of an instance, with neighbour lists of this many others.
-    pub fn new(alloc: Global, instance: &'i Instance, k: u8) -> Result<Network<'i>, AllocError>
+    /// The network of an instance, with neighbour lists of this many others, for about so many leaves.
+    pub fn new(
+        alloc: Global,
+        instance: &'i Instance,
+        k: u8,
+        leaves: usize,
+    ) -> Result<Network<'i>, AllocError>
         requires { k ≤ MOST_NEIGHBOURS }
         ensures instance { IfOk result (λ n. n.neighbours.instance.now ≡ instance.now) }
         ensures k { IfOk result (λ n. n.neighbours.k ≡ k) }
@@ -34,7 +39,7 @@ impl<'i> Network<'i> {
         Ok(Network {
             neighbours,
             arcs,
-            slots: Slots::new(alloc, instance)?,
+            slots: Slots::new(alloc, instance, leaves)?,
         })
     }
 }

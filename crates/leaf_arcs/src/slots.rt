@@ -5,8 +5,14 @@ ghost use Rattle.std.specs.Prelude.{◌<◌, length, IfSome};
 use solomon_reader::Instance;
 use std::alloc::{AllocError, Global};
 
-/// The most slots that a customer has in the mean, unless a slot were then longer than the shortest step.
-const MEAN_SLOTS: u64 = 8;
+/// The most slots that a customer has in the mean where there are many leaves, and where there is one,
+/// unless a slot were then longer than the shortest step.
+const FEW_SLOTS: u64 = 8;
+
+const MANY_SLOTS: u64 = 64;
+
+/// The most slots that a customer has in the mean for all leaves together, where they have more than few.
+const SHARED_SLOTS: u64 = 512;
 
 /// The most slots.
 const MOST_SLOTS: u64 = 1_000_000;
@@ -31,7 +37,7 @@ struct RowSlots {
 
 /// Slots of one length, from time 0 on. Each customer has one for each in which a vehicle may leave it.
 #[derive(Drop)]
-pub struct Slots {
+pub(crate) struct Slots {
     /// A slot is 2 to the power of this in tenths.
     shift: u32,
     rows: Vec<RowSlots>,
@@ -88,10 +94,13 @@ fn count_at(instance: &Instance, shift: u32) -> u64
     count
 }
 
-/// The length of a slot, `None` where there are to be none.
-fn shift_of(instance: &Instance) -> Option<u32>
+/// The length of a slot for so many leaves, `None` where there are to be none.
+fn shift_of(instance: &Instance, leaves: usize) -> Option<u32>
     ensures { IfSome result (λ s. s < 64) }
 {
+    let shared = SHARED_SLOTS / (leaves as u64).max(1);
+    let mean = shared.max(FEW_SLOTS).min(MANY_SLOTS);
+    let most = mean.saturating_mul(u64::from(instance.customer_count()));
     let shortest = shortest(instance);
     if shortest == 0 {
         return None;
@@ -99,9 +108,7 @@ fn shift_of(instance: &Instance) -> Option<u32>
     for shift in 0..24 {
         let count = count_at(instance, shift);
         let is_last = shortest >> shift < 2;
-        if count <= MEAN_SLOTS * u64::from(instance.customer_count())
-            || is_last && count <= MOST_SLOTS
-        {
+        if count <= most || is_last && count <= MOST_SLOTS {
             return Some(shift);
         }
         if is_last {
@@ -134,12 +141,16 @@ fn add_row(
 }
 
 impl Slots {
-    /// The slots of an instance; none where a step may take no time, or there were too many. No contract:
+    /// The slots of an instance for so many leaves: the fewer there are, the more slots; none where a step may take no time, or there were too many. No contract:
     /// any slots are sound, since a floor is asked for its row and time.
-    pub fn new(alloc: Global, instance: &Instance) -> Result<Slots, AllocError> {
+    pub(crate) fn new(
+        alloc: Global,
+        instance: &Instance,
+        leaves: usize,
+    ) -> Result<Slots, AllocError> {
         let mut rows = Vec::new(alloc);
         let mut starts = Vec::new(alloc);
-        let Some(shift) = shift_of(instance) else {
+        let Some(shift) = shift_of(instance, leaves) else {
             return Ok(Slots {
                 shift: 0,
                 rows,

@@ -40,8 +40,11 @@ impl HalfSpace<'_> {
     /// answers how far.
     /// No contract: a rule of search; any prices are sound.
     pub fn project(&mut self, trial: &mut Trial) -> u64 {
-        let weight = self.weight.saturating_add(trial.floor().weight()).max(1);
         let slack = self.slack(trial);
+        if slack >= 0 && self.multiplier == 0 {
+            return 0;
+        }
+        let weight = self.weight.saturating_add(trial.floor().weight()).max(1);
         let fall = self.multiplier.min(slack.div_euclid(weight));
         if fall != 0 {
             self.multiplier = self.multiplier.saturating_sub(fall);

@@ -4,6 +4,7 @@ ghost use Rattle.std.specs.Prelude.{◌≡◌, ◌<◌, ◌≤◌, length, [], t
 ghost use Rattle.tree_bound.specs.Labels.{IsDominated, IsThinned, IsPut, IsKept};
 
 use crate::label::Label;
+use leaf_arcs::is_subset;
 use std::alloc::{AllocError, Global};
 use std::marker::Model;
 
@@ -48,33 +49,37 @@ fn put_at(labels: &mut [Label], index: usize, label: &Label) -> bool
     true
 }
 
-/// A label of a group, by what it is looked up.
+/// A label, by what it is looked up.
 #[derive(Clone, Copy, Debug)]
 struct Entry {
-    time: u64,
     cost: i64,
+    time: u64,
+    memory: u16,
     index: usize,
 }
 
-/// How many entries are earlier than a time.
-fn earlier(entries: &[Entry], time: u64) -> usize
+/// How many entries cost less.
+fn cheaper(entries: &[Entry], cost: i64) -> usize
     ensures { result ≤ length entries.now }
 {
-    entries.partition_point(|entry| entry.time < time)
+    entries.partition_point(|entry| entry.cost < cost)
 }
 
-/// The index of the label that dominates another one with at least the memory of a group, if one of the
-/// group does.
+/// The index of the label that dominates another one with the same last customer, if one does.
 fn dominating_in(entries: &[Entry], label: &Label) -> usize {
-    let count = earlier(entries, label.time.saturating_add(1));
-    if count == 0 || entries[count - 1].cost > label.cost {
-        return NONE;
+    for entry in entries {
+        if entry.cost > label.cost {
+            break;
+        }
+        if entry.time <= label.time && is_subset(entry.memory, label.memory) {
+            return entry.index;
+        }
     }
-    entries[count - 1].index
+    NONE
 }
 
-/// Drops the labels of a group that another one dominates, and says how many. A free index is where
-/// the last of them stood.
+/// Drops the labels that another one with the same last customer dominates, and says how many. A free
+/// index is where the last of them stood.
 fn drop_from(
     labels: &mut [Label],
     entries: &mut Vec<Entry>,
@@ -84,94 +89,43 @@ fn drop_from(
     ensures { IsThinned labels.old labels.new label.now }
 {
     let mut dropped: usize = 0;
-    let at = earlier(entries.as_slice(), label.time);
+    let mut at = cheaper(entries.as_slice(), label.cost);
     for _turn in at..entries.len() {
-        if at >= entries.len() || entries[at].cost < label.cost {
+        if at >= entries.len() {
             break;
         }
-        let index = entries.remove(at).index;
-        if drop_at(labels, index, label) {
+        let entry = entries[at];
+        if entry.time < label.time || !is_subset(label.memory, entry.memory) {
+            at += 1;
+        } else if drop_at(labels, entries.remove(at).index, label) {
             dropped = dropped.saturating_add(1);
-            *free = index;
+            *free = entry.index;
         }
     }
     dropped
 }
 
-/// The labels with one last customer. Those with one memory are a group, in order of time; each later one
-/// costs less.
+/// The labels with one last customer, the cheapest first.
 #[derive(Drop)]
-struct Groups {
+struct Group {
     customer: u16,
-    /// The memory of each group, and its entries.
-    memories: Vec<u16>,
-    entries: Vec<Vec<Entry>>,
+    entries: Vec<Entry>,
 }
 
-impl Groups {
-    /// How many groups there are.
-    fn count(&self) -> usize
-        ensures memories { result ≤ length self.now.memories.items }
-        ensures entries { result ≤ length self.now.entries.items }
-    {
-        self.memories.len().min(self.entries.len())
-    }
-
-    /// The index of a label that dominates another one with this last customer, if one does.
-    fn dominating(&self, label: &Label) -> usize {
-        for at in 0..self.count() {
-            let memory = self.memories[at];
-            if memory & label.memory == memory {
-                let index = dominating_in(self.entries[at].as_slice(), label);
-                if index != NONE {
-                    return index;
-                }
-            }
-        }
-        NONE
-    }
-
-    /// The group with a memory, or the number of groups where there is none.
-    fn group_of(&self, memory: u16) -> usize {
-        for at in 0..self.count() {
-            if self.memories[at] == memory {
-                return at;
-            }
-        }
-        self.count()
-    }
-
-    /// Enters a label's index into its group.
-    fn enter(&mut self, alloc: Global, label: &Label, index: usize) -> Result<(), AllocError> {
-        let group = self.group_of(label.memory);
-        if group == self.count() {
-            self.memories.push(label.memory)?;
-            self.entries.push(Vec::new(alloc))?;
-        }
-        if group >= self.entries.len() {
-            return Ok(());
-        }
-        let place = earlier(self.entries[group].as_slice(), label.time);
-        let (time, cost) = (label.time, label.cost);
-        self.entries[group].insert(place, Entry { time, cost, index })?;
-        Ok(())
-    }
-}
-
-/// Where the groups of a customer are, or should be.
-fn place_of(groups: &[Groups], customer: u16) -> usize
+/// Where the group of a customer is, or should be.
+fn place_of(groups: &[Group], customer: u16) -> usize
     ensures { result ≤ length groups.now }
 {
     groups.partition_point(|found| found.customer < customer)
 }
 
-/// Labels, looked up by last customer and memory. Contracts see them as a list; how they are looked up
-/// carries no proof, since what a lookup finds is held against the labels themselves.
+/// Labels, looked up by last customer. Contracts see them as a list; how they are looked up carries no
+/// proof, since what a lookup finds is held against the labels themselves.
 #[derive(Drop)]
 pub(crate) struct Bucket {
     labels: Vec<Label>,
     /// In order of customers.
-    groups: Vec<Groups>,
+    groups: Vec<Group>,
     /// An index at which no label stands, where one is known.
     free: usize,
 }
@@ -204,7 +158,7 @@ impl Bucket {
         self.labels.as_slice()
     }
 
-    /// Whether a label that stands dominates another one, as far as the groups of its customer tell.
+    /// Whether a label that stands dominates another one, as far as the group of its customer tells.
     pub(crate) fn dominates(&self, label: &Label) -> bool
         ensures { IsTrue result → IsDominated self.now label.now }
     {
@@ -212,60 +166,54 @@ impl Bucket {
         if place >= self.groups.len() {
             return false;
         }
-        let index = self.groups[place].dominating(label);
+        let index = dominating_in(self.groups[place].entries.as_slice(), label);
         dominates_at(self.labels.as_slice(), index, label)
     }
 
-    /// Drops the labels of a group that another one dominates, and says how many.
-    fn drop_in(&mut self, place: usize, group: usize, label: &Label) -> usize
+    /// Drops the labels that another one dominates, as far as the group at a place tells, and says how many.
+    fn drop_dominated(&mut self, place: usize, label: &Label) -> usize
         ensures { IsThinned self.old self.new label.now }
     {
-        if place >= self.groups.len() || group >= self.groups[place].count() {
-            return 0;
-        }
-        let memory = self.groups[place].memories[group];
-        if memory & label.memory != label.memory {
+        if place >= self.groups.len() {
             return 0;
         }
         drop_from(
             self.labels.as_mut_slice(),
-            &mut self.groups[place].entries[group],
+            &mut self.groups[place].entries,
             &mut self.free,
             label,
         )
     }
 
-    /// Drops the labels that another one dominates, as far as the groups of its customer tell, and says
-    /// how many.
-    fn drop_dominated(&mut self, label: &Label) -> usize
-        ensures { IsThinned self.old self.new label.now }
-    {
-        let place = place_of(self.groups.as_slice(), label.customer);
-        if place >= self.groups.len() {
-            return 0;
-        }
-        let mut dropped: usize = 0;
-        for group in 0..self.groups[place].count() {
-            dropped = dropped.saturating_add(self.drop_in(place, group, label));
-        }
-        dropped
-    }
-
-    /// Enters a label's index into the groups of its customer.
-    fn enter(&mut self, alloc: Global, label: &Label, index: usize) -> Result<(), AllocError>
+    /// Enters a label's index into the group of its customer, which is at a place or should be.
+    fn enter(
+        &mut self,
+        alloc: Global,
+        place: usize,
+        label: &Label,
+        index: usize,
+    ) -> Result<(), AllocError>
         ensures { IfOk result (λ _. self.new ≡ self.old) }
     {
         let customer = label.customer;
-        let place = place_of(self.groups.as_slice(), customer);
+        let place = place.min(self.groups.len());
         if place >= self.groups.len() || self.groups[place].customer != customer {
-            let groups = Groups {
-                customer,
-                memories: Vec::new(alloc),
-                entries: Vec::new(alloc),
-            };
-            self.groups.insert(place, groups)?;
+            let entries = Vec::new(alloc);
+            self.groups.insert(place, Group { customer, entries })?;
         }
-        self.groups[place].enter(alloc, label, index)
+        let (cost, time, memory) = (label.cost, label.time, label.memory);
+        let entries = &mut self.groups[place].entries;
+        let at = cheaper(entries.as_slice(), cost);
+        entries.insert(
+            at,
+            Entry {
+                cost,
+                time,
+                memory,
+                index,
+            },
+        )?;
+        Ok(())
     }
 
     /// Puts a label at the free index, or behind all others, and says where.
@@ -286,9 +234,10 @@ impl Bucket {
         requires active { label.now.active ≡ true }
         ensures { IfOk result (λ _. IsKept self.old self.new label.now) }
     {
-        let dropped = self.drop_dominated(label);
+        let place = place_of(self.groups.as_slice(), label.customer);
+        let dropped = self.drop_dominated(place, label);
         let index = self.put_label(label)?;
-        self.enter(alloc, label, index)?;
+        self.enter(alloc, place, label, index)?;
         Ok(dropped)
     }
 }

@@ -49,8 +49,9 @@ impl<'i> Setting<'i> {
         ensures version { IfOk result (λ s. version_of s.version ≡ cert.now.version) }
     {
         let parts = cert.parts();
+        let leaves = parts.nodes.len() / 2 + 1;
         Ok(Setting {
-            network: Network::new(alloc, instance, parts.neighbours as u8)?,
+            network: Network::new(alloc, instance, parts.neighbours as u8, leaves)?,
             version: parts.version,
             routes: routes_counted(instance, parts.version),
             most: instance.ceiling().get() as u32 + 1,

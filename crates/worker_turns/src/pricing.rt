@@ -12,13 +12,11 @@ const ROOT_PRICINGS: u32 = 20;
 /// The most pricings of a turn at another leaf, beside the one that its ascent starts from.
 const LEAF_PRICINGS: u32 = 8;
 
-/// How many labels a turn is worth for each customer, and for how many customers at least and at most: a root
-/// of many customers needs more pricings, but each label costs more there, too.
-const CUSTOMER_LABELS: u64 = 60;
+/// How many looks a turn is worth for each customer, and for how many customers at least. A look takes about
+/// as long on every instance, so that turns do, too.
+const CUSTOMER_LOOKS: u64 = 15_000;
 
-const LEAST_CUSTOMERS: u64 = 100;
-
-const MOST_CUSTOMERS: u64 = 150;
+const LEAST_CUSTOMERS: u64 = 80;
 
 /// Of what all turns are worth a single pricing may take this part, and at any number of turns what so
 /// many are worth.
@@ -26,32 +24,25 @@ const PRICING_PART: u64 = 20;
 
 const LEAST_PRICING_TURNS: u64 = 5;
 
-/// A label takes as long as so many looks at each customer: it looks at other labels, too.
-const LOOKS_OF_LABEL: u64 = 4;
+/// A label that is active takes so many looks at each customer: it looks at other labels, too, and others are
+/// made that it dominates.
+const LOOKS_OF_LABEL: u64 = 2;
 
-/// How many labels a turn is worth.
-fn turn_labels(customers: u16) -> u64 {
-    let counted = u64::from(customers)
-        .max(LEAST_CUSTOMERS)
-        .min(MOST_CUSTOMERS);
-    CUSTOMER_LABELS.saturating_mul(counted)
+/// How much work a turn is worth, in looks: labels, bounds on what may follow and the projections of prices
+/// count alike, so that turns take about as long at narrow windows as at wide ones.
+fn turn_looks(customers: u16) -> u64 {
+    CUSTOMER_LOOKS.saturating_mul(u64::from(customers).max(LEAST_CUSTOMERS))
 }
 
 /// How many labels may be active at once in a bound worker's pricing on so many customers: what the settings
 /// allow, and no more than its turns can pay for, so that no pricing runs away. No contract: any limit is
 /// sound.
 pub fn pricing_labels(settings: &Settings, customers: u16) -> usize {
-    let worth = turn_labels(customers);
+    let worth = turn_looks(customers);
     let part = worth.saturating_mul(u64::from(settings.turns)) / PRICING_PART;
-    let worth = part.max(worth.saturating_mul(LEAST_PRICING_TURNS));
-    worth.min(u64::from(settings.labels)) as usize
-}
-
-/// How much work a turn is worth, in looks: labels, bounds on what may follow and the projections of prices
-/// count alike, so that turns take about as long at narrow windows as at wide ones.
-fn turn_looks(customers: u16) -> u64 {
-    let labels = turn_labels(customers).saturating_mul(LOOKS_OF_LABEL);
-    labels.saturating_mul(u64::from(customers))
+    let looks = part.max(worth.saturating_mul(LEAST_PRICING_TURNS));
+    let labels = looks / LOOKS_OF_LABEL / u64::from(customers.max(1));
+    labels.min(u64::from(settings.labels)) as usize
 }
 
 /// Whether a worker has done more than the turns that it made so far are worth.

@@ -1,5 +1,6 @@
 use Rattle.ceiling.specs.Seats.{IsSeatOf}
 use Rattle.worker_turns.proofs.bounding.turn.Given as goal
 
-abbrev pub invariant-loop-_leaf : goal.invariant-loop-_leaf
-invariant-loop-_leaf l = IsSeatOf l.spot.now.ceiling.now l.seat
+-- the worker has its seat still
+abbrev pub invariant-loop-leaf : goal.invariant-loop-leaf
+invariant-loop-leaf g l = IsSeatOf l.spot.ceiling.now l.seat
