@@ -98,7 +98,7 @@ module _ (p : Problem) (g : Region) (k : ℕ) (prices : List ℤ) where
           → (d ≡ None) ⊎ ((s : List ℕ) × (Completes p g k prices a s × (d ≡ Some (value_with p k prices a s))))
       found_of i b c d can old new (inl same) = rw same old.found
       found_of i b c d can old new (inr same) = elim new.found [
-        | inl bare ↦ inl (same ∙ bare)
+        | inl routeless ↦ inl (same ∙ routeless)
         | inr one ↦ inr (i ∷ one.0, ((can, one.1.0), same ∙ one.1.1))
       ]
 
@@ -131,7 +131,7 @@ module _ (p : Problem) (g : Region) (k : ℕ) (prices : List ℤ) where
       where
         found : (b : Option ℤ) → (b ≡ None) ⊎ ((s : List ℕ) × (Completes p g k prices (start p) s × (b ≡ Some (value_with p k prices (start p) s))))
             → (b ≡ None) ⊎ ((r : List ℕ) × (IsRelaxed p g k r × (b ≡ Some (reduced_cost p prices r))))
-        found b (inl bare) = inl bare
+        found b (inl routeless) = inl routeless
         found b (inr one) = inr (one.0, (relaxed_completes p g k prices one.0 one.1.0, one.1.1 ∙ ap (λ (z : ℤ). Some z) (value_is p g k prices one.0)))
 
   -- what isn't the limit is exact
@@ -145,22 +145,22 @@ module _ (p : Problem) (g : Region) (k : ℕ) (prices : List ℤ) where
       value : (r : List ℕ) → Some z ≡ Some (reduced_cost p prices r) → reduced_cost p prices r ≡ z
       value r e = cc
 
-  pub sought_some : (limit within b : Option ℤ) (bare : Bool) → IsLeastBelow p g k prices within b → (b ≡ within → within ≡ None) → IsSought p g k prices limit bare (Some (or_zero b))
-  sought_some limit within b bare below apart = record { least = or_zero b; is_least = exact within b below apart; some = λ z e. cc; none = λ e. absurd (cc) }
+  pub sought_some : (limit within b : Option ℤ) (routeless : Bool) → IsLeastBelow p g k prices within b → (b ≡ within → within ≡ None) → IsSought p g k prices limit routeless (Some (or_zero b))
+  sought_some limit within b routeless below apart = record { least = or_zero b; is_least = exact within b below apart; some = λ z e. cc; none = λ e. absurd (cc) }
 
-  pub sought_none : ((i j : ℕ) → i < length p.rows → j < length p.rows → Decides (IsAllowed g (i, j))) → (limit : Option ℤ) (bare : Bool) (t : ℤ) → limit ≡ Some t → IsLeastBelow p g k prices limit (Some t) → (bare ≡ true) ⊎ ((r : List ℕ) × IsRelaxed p g k r)
-      → ((i : ℕ) → IsCustomer p i → 1 ≤ demand p i) → 1 ≤ length p.rows → IsSought p g k prices limit bare None
-  sought_none decide limit bare t is below why carried some =
+  pub sought_none : ((i j : ℕ) → i < length p.rows → j < length p.rows → Decides (IsAllowed g (i, j))) → (limit : Option ℤ) (routeless : Bool) (t : ℤ) → limit ≡ Some t → IsLeastBelow p g k prices limit (Some t) → (routeless ≡ true) ⊎ ((r : List ℕ) × IsRelaxed p g k r)
+      → ((i : ℕ) → IsCustomer p i → 1 ≤ demand p i) → 1 ≤ length p.rows → IsSought p g k prices limit routeless None
+  sought_none decide limit routeless t is below why carried some =
       let found = least_exists decide carried some in
       record { least = or_zero found.0; is_least = exact None found.0 found.1 (λ e. refl); some = λ z e. absurd (cc); none = λ e. (t, (is, high found.0 found.1 why)) }
     where
       at : (z : ℤ) (r : List ℕ) → IsRelaxed p g k r → Some z ≡ Some (reduced_cost p prices r) → t ≤ℤ z
       at z r relaxed e = let same : z ≡ reduced_cost p prices r = cc in rw same (below.low r relaxed)
 
-      high : (b : Option ℤ) → IsLeastBelow p g k prices None b → (bare ≡ true) ⊎ ((r : List ℕ) × IsRelaxed p g k r) → (t ≤ℤ or_zero b) ⊎ ((bare ≡ true) × (or_zero b ≡ pos 0))
-      high None least (inl bare_is) = inr (bare_is, refl)
+      high : (b : Option ℤ) → IsLeastBelow p g k prices None b → (routeless ≡ true) ⊎ ((r : List ℕ) × IsRelaxed p g k r) → (t ≤ℤ or_zero b) ⊎ ((routeless ≡ true) × (or_zero b ≡ pos 0))
+      high None least (inl routeless_is) = inr (routeless_is, refl)
       high None least (inr one) = absurd (least.low one.0 one.1)
       high (Some z) least why = elim least.found [
-        | inl bare ↦ absurd (cc)
+        | inl routeless ↦ absurd (cc)
         | inr one ↦ inl (at z one.0 one.1.0 one.1.1)
       ]

@@ -103,9 +103,9 @@ module _ (version : Version) (p : Problem) (prices : List ℤ) where
   same_value l v w first second = omega (arith, first.least w second.covers, second.least v first.covers)
 
   -- where no routes are counted on, no leaf is worth more than one without relaxed routes
-  bare_most : (l : ℤ) (v bare : ℕ) → routes_counted version p ≡ 0 → IsRoundedUp (grains_of version p prices l) v → IsRoundedUp (grains_of version p prices (pos 0)) bare → v ≤ bare
-  bare_most (negsuc n) v bare none is bare_is = value_grows (negsuc n) (pos 0) v bare (omega (arith, ints)) is bare_is
-  bare_most (pos n) v bare none is bare_is = omega (arith, same_value (pos 0) v bare (subst (λ (z : ℤ). IsRoundedUp z v) same is) bare_is)
+  routeless_most : (l : ℤ) (v routeless : ℕ) → routes_counted version p ≡ 0 → IsRoundedUp (grains_of version p prices l) v → IsRoundedUp (grains_of version p prices (pos 0)) routeless → v ≤ routeless
+  routeless_most (negsuc n) v routeless none is routeless_is = value_grows (negsuc n) (pos 0) v routeless (omega (arith, ints)) is routeless_is
+  routeless_most (pos n) v routeless none is routeless_is = omega (arith, same_value (pos 0) v routeless (subst (λ (z : ℤ). IsRoundedUp z v) same is) routeless_is)
     where
       at : (l : ℤ) → pos (up (int_sum prices) + routes_counted version p * up l) -ℤ pos (down (int_sum prices) + p.fleet * down l) ≡ grains_of version p prices l
       at l = grains_are p.fleet (routes_counted version p) (up (int_sum prices)) (down (int_sum prices)) (int_sum prices) l (sides (int_sum prices))
@@ -117,12 +117,12 @@ module _ (version : Version) (p : Problem) (prices : List ℤ) where
       same = sym (at (pos n)) ∙ (omega (arith, ints, lost n, lost 0) ∙ at (pos 0))
 
   -- the lesser of a number and a leaf's value, by what was found of the least reduced cost
-  module _ (g : Region) (k : ℕ) (most kept bare : ℕ) (limit : Option ℤ) (flag : Bool) (found : Option ℤ) (count : length prices ≡ customer_count p)
-      (bare_is : IsRoundedUp (grains_of version p prices (pos 0)) bare) (kept_is : ((routes_counted version p ≡ 0) × (kept ≡ min most bare)) ⊎ (kept ≡ most))
+  module _ (g : Region) (k : ℕ) (most kept routeless : ℕ) (limit : Option ℤ) (flag : Bool) (found : Option ℤ) (count : length prices ≡ customer_count p)
+      (routeless_is : IsRoundedUp (grains_of version p prices (pos 0)) routeless) (kept_is : ((routes_counted version p ≡ 0) × (kept ≡ min most routeless)) ⊎ (kept ≡ most))
       (sought : IsSought p g k prices limit flag found) where
     same_lesser : (v : ℕ) → IsRoundedUp (grains_of version p prices sought.least) v → min kept v ≡ min most v
     same_lesser v is = elim kept_is [
-      | inl h ↦ omega (arith, h.1, bare_most sought.least v bare h.0 is bare_is)
+      | inl h ↦ omega (arith, h.1, routeless_most sought.least v routeless h.0 is routeless_is)
       | inr h ↦ omega (arith, h)
     ]
 
@@ -131,7 +131,7 @@ module _ (version : Version) (p : Problem) (prices : List ℤ) where
         let here : IsRoundedUp (grains_of version p prices sought.least) v = subst (λ (y : ℤ). IsRoundedUp (grains_of version p prices y) v) (sym (sought.some z e)) is in
         record { value = v; is_value = record { priced = count; least = sought.least; is_least = sought.is_least; rounded = here }; lesser = same_lesser v here }
 
-    pub lesser_none : found ≡ None → IfSome limit (λ t. IsWorth version p prices t kept) → (flag ≡ true → kept ≤ bare) → IsLesserValue version p g k prices most kept
+    pub lesser_none : found ≡ None → IfSome limit (λ t. IsWorth version p prices t kept) → (flag ≡ true → kept ≤ routeless) → IsLesserValue version p g k prices most kept
     lesser_none e worth harmless =
         let v = rounded (grains_of version p prices sought.least) in
         record {
@@ -143,5 +143,5 @@ module _ (version : Version) (p : Problem) (prices : List ℤ) where
         high : (v : ℕ) → IsRoundedUp (grains_of version p prices sought.least) v → kept ≤ v
         high v is = let h = sought.none e in elim h.1.1 [
           | inl above ↦ (let e = h.1.0 in let w = rw e at worth in omega (arith, w.high, value_grows h.0 sought.least w.value v above w.rounded is))
-          | inr bare_too ↦ omega (arith, harmless bare_too.0, same_value (pos 0) v bare (subst (λ (y : ℤ). IsRoundedUp (grains_of version p prices y) v) bare_too.1 is) bare_is)
+          | inr routeless_too ↦ omega (arith, harmless routeless_too.0, same_value (pos 0) v routeless (subst (λ (y : ℤ). IsRoundedUp (grains_of version p prices y) v) routeless_too.1 is) routeless_is)
         ]

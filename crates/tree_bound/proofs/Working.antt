@@ -53,17 +53,17 @@ module _ (p : Problem) (g : Region) (k : ℕ) (prices : List ℤ) where
       let s = settled m w active in
       record { load = s.load; low = omega (arith, s.low, more); covers = covers_moved p g k prices b c Before After lower moved _ 0 s.covers }
 
-  bare : (n q : ℕ) → labels_at (replicate n []) q ≡ []
-  bare n q = elim (cases_lt q n) [
+  no_labels : (n q : ℕ) → labels_at (replicate n []) q ≡ []
+  no_labels n q = elim (cases_lt q n) [
     | inl low ↦ get_or-replicate n q [] [] low
     | inr high ↦ get_or_past (replicate n []) q [] (omega (arith, high, length-replicate {A = List Label} n []))
   ]
 
   -- the table before anything is kept
-  pub bare_table : IsTable p g k prices (replicate (p.capacity + 1) []) 1
-  bare_table = record {
+  pub begun_table : IsTable p g k prices (replicate (p.capacity + 1) []) 1
+  begun_table = record {
     count = length-replicate (p.capacity + 1) [];
-    each = λ q m late w active. absurd (omega (arith, ap (λ (xs : List Label). length xs) (bare (p.capacity + 1) q), w));
+    each = λ q m late w active. absurd (omega (arith, ap (λ (xs : List Label). length xs) (no_labels (p.capacity + 1) q), w));
   }
 
   pub start_label : (x : Label) → IsSameState (state_of p k 0 x) (start p) → IsBounded p 0 x → IsLabel p g k prices 0 x
@@ -237,7 +237,7 @@ module _ (p : Problem) (g : Region) (k : ℕ) (prices : List ℤ) (limit : Optio
   module _ (x : Label) (same : IsSameState (state_of p k 0 x) (start p)) where
     begun : x.active ≡ true → IsWorked p g k prices limit (replicate (p.capacity + 1) []) [] 0 (x ∷ []) 0 limit
     begun active = record {
-      table = bare_table p g k prices;
+      table = begun_table p g k prices;
       covers = λ s h. inr (record {
         state = state_of p k 0 x;
         waits = inr (record { index = 0; late = omega arith; within = omega arith; active = active; is = refl });
@@ -252,8 +252,8 @@ module _ (p : Problem) (g : Region) (k : ℕ) (prices : List ℤ) (limit : Optio
 
     pub swept_begun : (bs cs : List (List Label)) (c : Option ℤ) → bs ≡ replicate (p.capacity + 1) [] → x.active ≡ true → IsLabel p g k prices 0 x → IsDone p g k prices bs cs 0 x limit c
         → IsSwept p g k prices limit cs [] 1 c
-    swept_begun bs cs c bare_is active label done = forget (swept_more cs (x ∷ []) 0 (x ∷ []) 1 c (omega arith)
-        (worked_more (replicate (p.capacity + 1) []) [] 0 (x ∷ []) 0 limit (begun active) cs (x ∷ []) c label (rw bare_is at done) (first_kept x active)))
+    swept_begun bs cs c begun_is active label done = forget (swept_more cs (x ∷ []) 0 (x ∷ []) 1 c (omega arith)
+        (worked_more (replicate (p.capacity + 1) []) [] 0 (x ∷ []) 0 limit (begun active) cs (x ∷ []) c label (rw begun_is at done) (first_kept x active)))
       where
         forget : IsSwept p g k prices limit cs (x ∷ []) 1 c → IsSwept p g k prices limit cs [] 1 c
         forget h = record { table = h.table; covers = h.covers; settled = λ m w stands. absurd (omega (arith, w)); found = h.found }
@@ -264,7 +264,7 @@ module _ (p : Problem) (g : Region) (k : ℕ) (prices : List ℤ) where
       → ClosesRoute p g k load y None c → is_some c ≡ true → IsRelaxed p g k (j ∷ [])
   alone_relaxed x y load j None same customer allowed can extension closes closed = absurd (cc)
   alone_relaxed x y load j (Some z) same customer allowed can extension closes closed = elim closes.from [
-    | inl bare ↦ absurd (cc)
+    | inl routeless ↦ absurd (cc)
     | inr h ↦ relaxed_completes p g k prices (j ∷ []) (completes_too p g k prices (j ∷ []) (start p) (state_of p k 0 x) (good_back _ _ same)
         (can_step p g k prices None 0 x j customer allowed can, completes_too p g k prices [] _ (state_of p k load y) (good_back _ _ extension.same) h.0))
   ]

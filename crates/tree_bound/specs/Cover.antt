@@ -44,11 +44,11 @@ pub record IsLeastBelow (p : Problem) (g : Region) (k : ℕ) (prices : List ℤ)
   pub found : (b ≡ limit) ⊎ ((r : List ℕ) × (IsRelaxed p g k r × (b ≡ Some (reduced_cost p prices r))))
 
 -- the least reduced cost, or 0 where there is no relaxed route: it is the number that was found; where none was found it isn't below the limit, or it stands for no route and that may be
-pub record IsSought (p : Problem) (g : Region) (k : ℕ) (prices : List ℤ) (limit : Option ℤ) (bare : Bool) (found : Option ℤ) : Type 0 where
+pub record IsSought (p : Problem) (g : Region) (k : ℕ) (prices : List ℤ) (limit : Option ℤ) (routeless : Bool) (found : Option ℤ) : Type 0 where
   pub least : ℤ
   pub is_least : IsLeastOrZero p g k prices least
   pub some : (z : ℤ) → found ≡ Some z → least ≡ z
-  pub none : found ≡ None → (t : ℤ) × ((limit ≡ Some t) × ((t ≤ℤ least) ⊎ ((bare ≡ true) × (least ≡ pos 0))))
+  pub none : found ≡ None → (t : ℤ) × ((limit ≡ Some t) × ((t ≤ℤ least) ⊎ ((routeless ≡ true) × (least ≡ pos 0))))
 
 abbrev pub IsReached : Problem → Region → ℕ → List ℤ → State → Type 0
 IsReached p g k prices a = (r : List ℕ) × Reaches p g k prices r a

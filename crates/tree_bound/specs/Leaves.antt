@@ -56,7 +56,7 @@ abbrev pub IsLeastBelowIn : Leaf → Option ℤ → Type 0
 IsLeastBelowIn l b = IsLeastBelow (problem_of l) (region_in l) l.network.now.neighbours.k l.prices.now l.limit b
 
 abbrev pub IsSoughtIn : Leaf → Bool → Option ℤ → Type 0
-IsSoughtIn l bare found = IsSought (problem_of l) (region_in l) l.network.now.neighbours.k l.prices.now l.limit bare found
+IsSoughtIn l routeless found = IsSought (problem_of l) (region_in l) l.network.now.neighbours.k l.prices.now l.limit routeless found
 
 abbrev pub step_in : Leaf → ℕ → Label → ℕ → State
 step_in l q x j = step (problem_of l) l.network.now.neighbours.k l.prices.now (state_in l q x) j

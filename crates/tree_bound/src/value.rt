@@ -123,22 +123,22 @@ fn limit_of(setting: &Setting<'_>, prices: &[i64], most: u32) -> Option<i64>
     None
 }
 
-/// A number of tenths; the lesser of it and the value that a leaf without relaxed routes has (`bare`) where
+/// A number of tenths; the lesser of it and the value that a leaf without relaxed routes has (`routeless`) where
 /// no routes are counted on, since then no leaf with these prices has a greater value.
-fn lowered(setting: &Setting<'_>, most: u32, bare: u128) -> u32
-    ensures { ((setting.now.routes ≡ 0) × (result ≡ min most bare)) ⊎ (result ≡ most) }
+fn lowered(setting: &Setting<'_>, most: u32, routeless: u128) -> u32
+    ensures { ((setting.now.routes ≡ 0) × (result ≡ min most routeless)) ⊎ (result ≡ most) }
 {
     if setting.routes == 0 {
-        return u128::from(most).min(bare) as u32;
+        return u128::from(most).min(routeless) as u32;
     }
     most
 }
 
 /// Whether a number of tenths is at most another one.
-fn is_within(most: u32, bare: u128) -> bool
-    ensures { IsTrue result → most ≤ bare }
+fn is_within(most: u32, routeless: u128) -> bool
+    ensures { IsTrue result → most ≤ routeless }
 {
-    u128::from(most) <= bare
+    u128::from(most) <= routeless
 }
 
 /// The lesser of a number of tenths and the value of the leaf with these decisions on its path and these
@@ -156,15 +156,15 @@ pub(crate) fn lesser_value(
 {
     let instance = setting.network.neighbours.instance;
     instance.law_of_limits();
-    let bare = value_at(setting, prices, None);
-    let most = lowered(setting, most, bare);
+    let routeless = value_at(setting, prices, None);
+    let most = lowered(setting, most, routeless);
     let leaf = Leaf {
         network: &setting.network,
         path,
         prices,
         limit: limit_of(setting, prices, most),
     };
-    let found = least(alloc, setting, leaf, is_within(most, bare))?;
+    let found = least(alloc, setting, leaf, is_within(most, routeless))?;
     match found {
         Some(_) => Ok(u128::from(most).min(value_at(setting, prices, found)) as u32),
         None => Ok(most),

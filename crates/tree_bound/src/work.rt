@@ -208,27 +208,27 @@ fn or_zero(found: Option<i64>) -> Option<i64>
     }
 }
 
-/// Whether 0 does no harm (`bare`), or there is a relaxed route, as far as customers alone tell.
-fn is_harmless(task: &Task<'_, '_>, depot: &ArcRow, bare: bool) -> bool
+/// Whether 0 does no harm (`routeless`), or there is a relaxed route, as far as customers alone tell.
+fn is_harmless(task: &Task<'_, '_>, depot: &ArcRow, routeless: bool) -> bool
     requires { IsRowIn task.now.leaf 0 depot.now }
-    ensures { IsTrue result → (bare ≡ true) ⊎ ((r : List ℕ) × IsRelaxedIn task.now.leaf r) }
+    ensures { IsTrue result → (routeless ≡ true) ⊎ ((r : List ℕ) × IsRelaxedIn task.now.leaf r) }
 {
-    if bare {
+    if routeless {
         return true;
     }
     some_fits_alone(task, depot.arcs.as_slice())
 }
 
 /// The least reduced cost of a leaf in grains, or 0 where there is no relaxed route; `None` where it
-/// isn't below the leaf's limit. With `bare`, which says that 0 does no harm where no route is relaxed,
+/// isn't below the leaf's limit. With `routeless`, which says that 0 does no harm where no route is relaxed,
 /// `None` also where there is none.
 pub(crate) fn least(
     alloc: Global,
     setting: &Setting<'_>,
     leaf: Leaf<'_, '_>,
-    bare: bool,
+    routeless: bool,
 ) -> Result<Option<i64>, BoundFault>
-    ensures { IfOk result (λ found. IsSoughtIn leaf.entry bare found) }
+    ensures { IfOk result (λ found. IsSoughtIn leaf.entry routeless found) }
 {
     let network = leaf.network;
     let _count = network.neighbours.instance.customer_count();
@@ -238,7 +238,7 @@ pub(crate) fn least(
         return Ok(or_zero(found));
     }
     let depot = &task.rows[0];
-    if is_harmless(&task, depot, bare) {
+    if is_harmless(&task, depot, routeless) {
         return Ok(None);
     }
     let unlimited = Leaf {
