@@ -1,181 +1,117 @@
--- A search for the best gain of a kind, through the moves by their numbers.
-use Rattle.std.proofs.Common.{◌≡◌, refl, ℕ, ◌≤◌, Bool, true, false, List, [], ◌∷◌, ◌++◌, length, sym, ◌∙◌, arith, subst, ◌⊎◌, inl, inr}
-use Rattle.std.specs.Prelude.{ℤ, pos, ◌≤ℤ◌, ◌<ℤ◌, int_lt, Option, Some, None}
-use Rattle.std.proofs.lemmas.Int.{ints}
+-- A search for the best gain between two routes, through the moves by their numbers.
+use Rattle.std.proofs.Common.{◌≡◌, refl, ℕ, ◌+◌, ◌<◌, ◌≤◌, List, [], ◌∷◌, ◌++◌, length, get_or, sym, subst, ◌∙◌, arith, ◌⊎◌, inl, inr}
+use Rattle.std.specs.Prelude.{ℤ, Some, None}
+use Rattle.std.proofs.lemmas.Bool.{cases_lt}
 use Rattle.solomon_reader.specs.Problem.{Problem}
 use Rattle.moves.specs.declared.candidate.Chain.{Chain}
 use Rattle.moves.specs.declared.candidate.Move.{Move}
-use Rattle.moves.specs.declared.candidate.Kind.{Kind}
+use Rattle.moves.specs.declared.candidate.Move.TheVariants.{Relocate, Exchange, OrOpt, TwoOptStar, Cross}
 use Rattle.moves.specs.Values.{HasValue}
-use Rattle.moves.specs.Order.{kind_of, fields_of, AreBefore, IsBefore}
-use Rattle.moves.specs.Search.{numbers, TakesIn}
+use Rattle.moves.specs.Order.{kind_of}
+use Rattle.moves.specs.Search.{numbers, IsNextWithin, IsInRange, TakesIn}
+use Rattle.moves.proofs.Searching.{same_move, six}
 use Rattle.gains.specs.declared.neighbourhood.Neighbourhood.{Neighbourhood}
-use Rattle.gains.specs.Gains.{IsGain, IsBestGainIfAny, IsBestGainBefore, least_of, Starts, raised}
-use Rattle.gains.specs.Searches.{instance_of, plan_of, GoesInto, Searches, SearchesAt, NoneIsBetter}
-use Rattle.moves.proofs.Searching.{asymmetric, widened, before_by_numbers, same_move, six}
-use Rattle.gains.proofs.NumbersBefore.{one_value, irreflexive, before_longer, before_shorter, before_raised, before_end, before_next, itself_before_next, before_or_starts, before_start, starts_same, none_before, all_before}
+use Rattle.gains.specs.Gains.{Found, IsNoBetter, IsBetter, Starts}
+use Rattle.gains.specs.Kept.{IsBetween, first_route, second_route}
+use Rattle.gains.specs.Searches.{Searches, instance_of, plan_of, moves_of, SearchesFrom, SearchesAt, SearchesRange, NoneIsBetter}
+use Rattle.gains.proofs.Founds.{one_value, lower_of, itself_no_better, better_is_low, low_if_found}
 
-not_below : (v : ℤ) → pos 0 ≤ℤ v → v <ℤ pos 0 → ⊥
-not_below v h below = omega (arith, ints)
+-- as many numbers that start with these are these
+pub starts_same : (xs ns : List ℕ) → length ns ≡ length xs → Starts xs ns → ns ≡ xs
+starts_same [] [] e s = refl
+starts_same [] (n ∷ ns) e s = absurd (omega arith)
+starts_same (x ∷ xs) [] e s = absurd s
+starts_same (x ∷ xs) (n ∷ ns) e s = λ k. s.0 k ∷ starts_same xs ns (omega arith) s.1 k
 
-same_le : (v u : ℤ) → v ≡ u → v ≤ℤ u
-same_le v u e = omega (arith, ints)
+-- no number is earlier than the first
+empty_range : (xs : List ℕ) (low high : ℕ) (ns : List ℕ) → IsNextWithin xs low high ns → IsInRange xs 0 low ns → ⊥
+empty_range xs low high [] w h = absurd w
+empty_range [] low high (n ∷ ns) w h = omega (arith, h.1, w.0)
+empty_range (x ∷ xs) low high (n ∷ ns) w h = empty_range xs low high ns (w h.0) h.1
 
-less_le : (v u x : ℤ) → v <ℤ u → u ≤ℤ x → v <ℤ x
-less_le v u x h k = omega (arith, ints)
+-- a range that is longer by one
+longer_range : (xs : List ℕ) (now : ℕ) (ns : List ℕ) → IsInRange xs 0 (now + 1) ns → IsInRange xs 0 now ns ⊎ Starts (xs ++ now ∷ []) ns
+longer_range xs now [] h = absurd h
+longer_range [] now (n ∷ ns) h = let below : n < now + 1 = h.1 in elim (cases_lt n now) [ inl less ↦ inl (h.0, less) | inr past ↦ inr (omega arith, tt) ]
+longer_range (x ∷ xs) now (n ∷ ns) h = elim (longer_range xs now ns h.1) [ inl r ↦ inl (h.0, r) | inr s ↦ inr (h.0, s) ]
 
-pub itself : (v : ℤ) → v ≤ℤ v
-itself v = omega (arith, ints)
+-- the whole range
+whole_range : (xs : List ℕ) (low high end : ℕ) (ns : List ℕ) → high ≤ end → IsNextWithin xs low high ns → Starts xs ns → IsInRange xs 0 end ns
+whole_range xs low high end [] most w s = absurd w
+whole_range [] low high end (n ∷ ns) most w s = let last : n < high = w.1 in (omega arith, omega arith)
+whole_range (x ∷ xs) low high end (n ∷ ns) most w s = (s.0, whole_range xs low high end ns most (w s.0) s.1)
 
-pub low_enough : (v u x : ℤ) → v ≤ℤ u → u ≤ℤ x → v ≤ℤ x
-low_enough v u x h k = omega (arith, ints)
-
-weaken : (v u : ℤ) → v <ℤ u → v ≤ℤ u
-weaken v u h = omega (arith, ints)
-
--- a move has one value
-pub no_less : (p : Problem) (routes : List (List ℕ)) (m : Move) (v u least : ℤ) → HasValue p routes m v → HasValue p routes m u → least ≤ℤ v → least ≤ℤ u
-no_less p routes m v u least h k low = subst (λ z. least ≤ℤ z) (one_value p routes m v u h k) low
-
-cases_int : (u v : ℤ) → (u <ℤ v) ⊎ (v ≤ℤ u)
-cases_int u v = by_test (int_lt u v) refl
-  where
-    by_test : (t : Bool) → int_lt u v ≡ t → (u <ℤ v) ⊎ (v ≤ℤ u)
-    by_test true y = inl (grind (arith, ints))
-    by_test false y = inr (grind (arith, ints))
-
-pub at_first : (p : Problem) (routes : List (List ℕ)) (k : Kind) → IsBestGainBefore p routes k (0 ∷ []) None
-at_first p routes k = λ n u t h. none_before n t.0.1
-
-module _ (p : Problem) (routes : List (List ℕ)) (k : Kind) (r : Option (Move × ℤ)) where
-  pub at_start : (xs : List ℕ) (low high : ℕ) → TakesIn routes k xs low high → IsBestGainBefore p routes k xs r → IsBestGainBefore p routes k (xs ++ low ∷ []) r
-  at_start xs low high takes h =
-      widened IsBefore (HasValue p routes) (λ n. ((kind_of n ≡ k) × AreBefore (numbers n) xs) × IsGain p routes n) (λ n. ((kind_of n ≡ k) × AreBefore (numbers n) (xs ++ low ∷ [])) × IsGain p routes n) r
-      (λ n t. ((t.0.0, before_longer xs (numbers n) low t.0.1), t.1))
-      (λ n u q v. ((q.0.0, before_shorter xs (numbers n) low high (takes n q.0.0 v.well_formed) q.0.1), q.1)) h
-
-  pub at_end : (x : ℕ) (xs : List ℕ) (low high end : ℕ) → high ≤ end → TakesIn routes k (x ∷ xs) low high
-      → IsBestGainBefore p routes k ((x ∷ xs) ++ end ∷ []) r → IsBestGainBefore p routes k (raised x xs) r
-  at_end x xs low high end most takes h =
-      widened IsBefore (HasValue p routes) (λ n. ((kind_of n ≡ k) × AreBefore (numbers n) ((x ∷ xs) ++ end ∷ [])) × IsGain p routes n) (λ n. ((kind_of n ≡ k) × AreBefore (numbers n) (raised x xs)) × IsGain p routes n) r
-      (λ n t. ((t.0.0, before_raised x xs (numbers n) end t.0.1), t.1))
-      (λ n u q v. ((q.0.0, before_end x xs (numbers n) low high end most (takes n q.0.0 v.well_formed) q.0.1), q.1)) h
-
-  -- the moves that start with these numbers are passed by, none of which is better
-  passed : (x : ℕ) (xs : List ℕ) → ((n : Move) (u : ℤ) → kind_of n ≡ k → Starts (x ∷ xs) (numbers n) → HasValue p routes n u → least_of r ≤ℤ u)
-      → IsBestGainBefore p routes k (x ∷ xs) r → IsBestGainBefore p routes k (raised x xs) r
-  passed x xs = by_best r
-    where
-      by_best : (o : Option (Move × ℤ)) → ((n : Move) (u : ℤ) → kind_of n ≡ k → Starts (x ∷ xs) (numbers n) → HasValue p routes n u → least_of o ≤ℤ u)
-          → IsBestGainBefore p routes k (x ∷ xs) o → IsBestGainBefore p routes k (raised x xs) o
-      by_best None high h = λ n u q v.
-          elim (before_or_starts x xs (numbers n) q.0.1) [
-            | inl b ↦ h n u ((q.0.0, b), q.1) v
-            | inr s ↦ not_below q.1.0 (high n q.1.0 q.0.0 s q.1.1) q.1.2
-          ]
-      by_best (Some best) high h = record {
-        taken = ((h.taken.0.0, before_next x xs (numbers best.0) h.taken.0.1), h.taken.1);
-        value = h.value;
-        least = λ n u q v. elim (before_or_starts x xs (numbers n) q.0.1) [ inl b ↦ h.least n u ((q.0.0, b), q.1) v | inr s ↦ high n u q.0.0 s v ];
-        first = λ n u q v before. elim (before_or_starts x xs (numbers n) q.0.1) [
-          | inl b ↦ h.first n u ((q.0.0, b), q.1) v before
-          | inr s ↦ absurd (asymmetric (fields_of n) (fields_of best.0) before (before_by_numbers best.0 n (h.taken.0.0 ∙ sym q.0.0) (before_start (x ∷ xs) (numbers best.0) (numbers n) h.taken.0.1 s)))
-        ];
-      }
-
-  -- what a gain has to be below is at most 0
-  pub least_below : (xs : List ℕ) → IsBestGainBefore p routes k xs r → least_of r ≤ℤ pos 0
-  least_below xs = by_best r
-    where
-      by_best : (o : Option (Move × ℤ)) → IsBestGainBefore p routes k xs o → least_of o ≤ℤ pos 0
-      by_best None h = omega (arith, ints)
-      by_best (Some best) h = let g = h.taken.1 in below best.1 g.0 (one_value p routes best.0 best.1 g.0 h.value g.1) g.2
-        where
-          below : (v u : ℤ) → v ≡ u → u <ℤ pos 0 → v ≤ℤ pos 0
-          below v u e l = omega (arith, ints)
-
-  -- all moves of the kind were looked at
-  pub at_last : (end : ℕ) → length routes ≤ end → IsBestGainBefore p routes k (end ∷ []) r → IsBestGainIfAny p routes k r
-  at_last end most = by_best r
-    where
-      into : (n : Move) → kind_of n ≡ k → IsGain p routes n → ((kind_of n ≡ k) × AreBefore (numbers n) (end ∷ [])) × IsGain p routes n
-      into n e g = ((e, all_before routes n end most g.1.well_formed), g)
-
-      by_best : (o : Option (Move × ℤ)) → IsBestGainBefore p routes k (end ∷ []) o → IsBestGainIfAny p routes k o
-      by_best None h = λ n e g. h n g.0 (into n e g) g.1
-      by_best (Some best) h =
-          let g = h.taken.1 in
-          let low : best.1 <ℤ pos 0 = subst (λ z. z <ℤ pos 0) (sym (one_value p routes best.0 best.1 g.0 h.value g.1)) g.2 in
-          let within : (n : Move) (u : ℤ) → kind_of n ≡ k → HasValue p routes n u → (u <ℤ pos 0) → ((kind_of n ≡ k) × AreBefore (numbers n) (end ∷ [])) × IsGain p routes n
-          = λ n u e v b. into n e (u, v, b) in (
-            record {
-              taken = h.taken.0.0;
-              value = h.value;
-              least = λ n u e v. elim (cases_int u (pos 0)) [ inl b ↦ h.least n u (within n u e v b) v | inr a ↦ weaken best.1 u (less_le best.1 (pos 0) u low a) ];
-              first = λ n u e v before. elim (cases_int u (pos 0)) [ inl b ↦ h.first n u (within n u e v b) v before | inr a ↦ less_le best.1 (pos 0) u low a ];
-            },
-            low,
-          )
-
--- each move goes into some route
-pub goes_into_any : (into : Option ℕ) (n : Move) → into ≡ None → GoesInto into n
-goes_into_any into n e = subst (λ o. GoesInto o n) (sym e) tt
-
-module _ (m : Neighbourhood) (r : Option (Move × ℤ)) where
-  abbrev p : Problem
-  p = instance_of m
-
-  abbrev routes : List (List ℕ)
-  routes = plan_of m
-
-  pub passes : (x : ℕ) (xs : List ℕ) → ((n : Move) (u : ℤ) → kind_of n ≡ m.kind → Starts (x ∷ xs) (numbers n) → HasValue p routes n u → least_of r ≤ℤ u) → Searches m x xs r r
-  passes x xs high = record { best = λ _. passed p routes m.kind r x xs high; least = λ n u e _. high n u e; lower = itself (least_of r) }
-
-  pub passes_none : (x : ℕ) (xs : List ℕ) → NoneIsBetter m (x ∷ xs) r → Searches m x xs r r
-  passes_none x xs none = passes x xs none.least
+module _ (m : Neighbourhood) where
+  pub passes : (xs : List ℕ) (o : Found) → NoneIsBetter m xs o → SearchesFrom m xs o o
+  passes xs o none = record { best = none; lower = λ n u of h. h; found = λ h. h }
 
   -- the same by all six numbers
-  pub passes_six : (f s : Chain)
-      → ((n : Move) (u : ℤ) → kind_of n ≡ m.kind → numbers n ≡ f.route ∷ f.position ∷ f.length ∷ s.route ∷ s.position ∷ s.length ∷ [] → HasValue p routes n u → least_of r ≤ℤ u)
-      → SearchesAt m f s r r
-  passes_six f s high =
-      passes f.route (f.position ∷ f.length ∷ s.route ∷ s.position ∷ s.length ∷ []) (λ n u e t v. high n u e (starts_same (f.route ∷ f.position ∷ f.length ∷ s.route ∷ s.position ∷ s.length ∷ []) (numbers n) (six n) t) v)
+  pub passes_six : (before : Found) (f s : Chain)
+      → ((n : Move) (u : ℤ) → moves_of m n → numbers n ≡ f.route ∷ f.position ∷ f.length ∷ s.route ∷ s.position ∷ s.length ∷ [] → HasValue (instance_of m) (plan_of m) n u → IsNoBetter before n u)
+      → SearchesAt m f s before before
+  passes_six before f s high = passes (f.route ∷ f.position ∷ f.length ∷ s.route ∷ s.position ∷ s.length ∷ []) before
+      (λ n u of t h. high n u of (starts_same (f.route ∷ f.position ∷ f.length ∷ s.route ∷ s.position ∷ s.length ∷ []) (numbers n) (six n) t) h)
 
   -- a move is passed by that is no better
-  pub passes_one : (o : Move) (f s : Chain) → kind_of o ≡ m.kind → numbers o ≡ f.route ∷ f.position ∷ f.length ∷ s.route ∷ s.position ∷ s.length ∷ []
-      → ((u : ℤ) → HasValue p routes o u → least_of r ≤ℤ u) → SearchesAt m f s r r
-  passes_one o f s same is high = passes_six f s (λ n u e t v. high u (subst (λ y. HasValue p routes y u) (same_move n o (e ∙ sym same) (t ∙ sym is)) v))
+  pub passes_one : (o : Move) (before : Found) (f s : Chain) → kind_of o ≡ m.kind → numbers o ≡ f.route ∷ f.position ∷ f.length ∷ s.route ∷ s.position ∷ s.length ∷ []
+      → ((u : ℤ) → HasValue (instance_of m) (plan_of m) o u → IsNoBetter before o u) → SearchesAt m f s before before
+  passes_one o before f s same is high = passes_six before f s
+      (λ n u of t h. let e = same_move n o (of.kind ∙ sym same) (t ∙ sym is) in
+      subst (λ y. IsNoBetter before y u) (sym e) (high u (subst (λ y. HasValue (instance_of m) (plan_of m) y u) e h)))
 
   -- a move is taken that is better
-  pub takes : (o : Move) (v : ℤ) (f s : Chain) → kind_of o ≡ m.kind → numbers o ≡ f.route ∷ f.position ∷ f.length ∷ s.route ∷ s.position ∷ s.length ∷ []
-      → HasValue p routes o v → v <ℤ least_of r → SearchesAt m f s r (Some (o, v))
-  takes o v f s same is value low = record {
-    best = λ _. taken;
-    least = λ n u e _ t w. same_le v u (one_value p routes o v u value (subst (λ y. HasValue p routes y u) (is_it n e t) w));
-    lower = weaken v (least_of r) low;
+  pub takes : (o : Move) (v : ℤ) (before : Found) (f s : Chain) → IsBetween m.kind m.first m.second o
+      → numbers o ≡ f.route ∷ f.position ∷ f.length ∷ s.route ∷ s.position ∷ s.length ∷ []
+      → HasValue (instance_of m) (plan_of m) o v → IsBetter before o v → SearchesAt m f s before (Some (o, v))
+  takes o v before f s among is value better = record {
+    best = λ n u of t h.
+        let e = same_move n o (of.kind ∙ sym among.kind) (starts_same (f.route ∷ f.position ∷ f.length ∷ s.route ∷ s.position ∷ s.length ∷ []) (numbers n) (six n) t ∙ sym is) in
+        subst (λ y. IsNoBetter (Some (o, v)) y u) (sym e)
+        (itself_no_better o v u (one_value (instance_of m) (plan_of m) o v u value (subst (λ y. HasValue (instance_of m) (plan_of m) y u) e h)));
+    lower = λ n u of h. lower_of before o n v u better h;
+    found = λ h. (among, (value, better_is_low before o v (low_if_found (instance_of m) (plan_of m) (moves_of m) before h) better));
   }
-    where
-      xs : List ℕ
-      xs = f.position ∷ f.length ∷ s.route ∷ s.position ∷ s.length ∷ []
 
-      is_it : (n : Move) → kind_of n ≡ m.kind → Starts (f.route ∷ xs) (numbers n) → n ≡ o
-      is_it n e t = same_move n o (e ∙ sym same) (starts_same (f.route ∷ xs) (numbers n) (six n) t ∙ sym is)
+  pub range_start : (xs : List ℕ) (low high : ℕ) (before : Found) → TakesIn (plan_of m) m.kind xs low high → SearchesRange m xs low before before
+  range_start xs low high before takes = record {
+    best = λ n u of r h. absurd (empty_range xs low high (numbers n) (takes n of.kind h.well_formed) r);
+    lower = λ n u of h. h;
+    found = λ h. h;
+  }
 
-      less_than : (b : Option (Move × ℤ)) → v <ℤ least_of b → IsBestGainBefore p routes m.kind (f.route ∷ xs) b
-          → (n : Move) (u : ℤ) → ((kind_of n ≡ m.kind) × AreBefore (numbers n) (f.route ∷ xs)) × IsGain p routes n → HasValue p routes n u → v <ℤ u
-      less_than None l b n u q w = absurd (b n u q w)
-      less_than (Some best) l b n u q w = less_le v best.1 u l (b.least n u q w)
+  pub range_next : (xs : List ℕ) (now : ℕ) (before b c : Found) → SearchesRange m xs now before b → SearchesFrom m (xs ++ now ∷ []) b c → SearchesRange m xs (now + 1) before c
+  range_next xs now before b c r s = record {
+    best = λ n u of i h. elim (longer_range xs now (numbers n) i) [ inl earlier ↦ s.lower n u of (r.best n u of earlier h) | inr here ↦ s.best n u of here h ];
+    lower = λ n u of h. s.lower n u of (r.lower n u of h);
+    found = λ h. s.found (r.found h);
+  }
 
-      taken : IsBestGainBefore p routes m.kind (f.route ∷ xs) r → IsBestGainBefore p routes m.kind (raised f.route xs) (Some (o, v))
-      taken h = record {
-        taken = ((same, subst (λ z. AreBefore z (raised f.route xs)) (sym is) (itself_before_next f.route xs)), (v, value, less_le v (least_of r) (pos 0) low (least_below p routes m.kind r (f.route ∷ xs) h)));
-        value = value;
-        least = λ n u q w. elim (before_or_starts f.route xs (numbers n) q.0.1) [
-          | inl b ↦ weaken v u (less_than r low h n u ((q.0.0, b), q.1) w)
-          | inr t ↦ same_le v u (one_value p routes o v u value (subst (λ y. HasValue p routes y u) (is_it n q.0.0 t) w))
-        ];
-        first = λ n u q w before. elim (before_or_starts f.route xs (numbers n) q.0.1) [
-          | inl b ↦ less_than r low h n u ((q.0.0, b), q.1) w
-          | inr t ↦ absurd (irreflexive (fields_of o) (subst (λ y. IsBefore y o) (is_it n q.0.0 t) before))
-        ];
-      }
+  pub range_end : (xs : List ℕ) (low high end : ℕ) (before b : Found) → high ≤ end → TakesIn (plan_of m) m.kind xs low high → SearchesRange m xs end before b → SearchesFrom m xs before b
+  range_end xs low high end before b most takes r = record {
+    best = λ n u of s h. r.best n u of (whole_range xs low high end (numbers n) most (takes n of.kind h.well_formed) s) h;
+    lower = r.lower;
+    found = r.found;
+  }
+
+-- the first numbers of a move, with its second route behind them
+pub with_second : (n : Move) (a i l b : ℕ) → second_route n ≡ b → Starts (a ∷ i ∷ l ∷ []) (numbers n) → Starts (a ∷ i ∷ l ∷ b ∷ []) (numbers n)
+with_second (Relocate f t) a i l b e s = (s.0, (s.1.0, (s.1.1.0, (e, tt))))
+with_second (Exchange f t) a i l b e s = (s.0, (s.1.0, (s.1.1.0, (e, tt))))
+with_second (OrOpt c t) a i l b e s = (s.0, (s.1.0, (s.1.1.0, (e, tt))))
+with_second (TwoOptStar f t) a i l b e s = (s.0, (s.1.0, (s.1.1.0, (e, tt))))
+with_second (Cross f t) a i l b e s = (s.0, (s.1.0, (s.1.1.0, (e, tt))))
+
+pub starts_with : (n : Move) (a : ℕ) → first_route n ≡ a → Starts (a ∷ []) (numbers n)
+starts_with (Relocate f t) a e = (e, tt)
+starts_with (Exchange f t) a e = (e, tt)
+starts_with (OrOpt c t) a e = (e, tt)
+starts_with (TwoOptStar f t) a e = (e, tt)
+starts_with (Cross f t) a e = (e, tt)
+
+-- the search through the moves of a chain goes through those into the second route
+pub from_chain : (m : Neighbourhood) (a i l : ℕ) (before result : Found) → SearchesFrom m (a ∷ i ∷ l ∷ m.second ∷ []) before result → SearchesFrom m (a ∷ i ∷ l ∷ []) before result
+from_chain m a i l before result s = record {
+  best = λ n u of t h. s.best n u of (with_second n a i l m.second of.second t) h;
+  lower = s.lower;
+  found = s.found;
+}

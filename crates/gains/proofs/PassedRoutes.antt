@@ -16,7 +16,6 @@ use Rattle.gains.specs.Cuts.{cut_at, change_apart, AreKnownCuts, IsLeastSwap}
 use Rattle.gains.specs.Gains.{Starts, IsFirstCut, TakesBetween, second_taken}
 use Rattle.gains.proofs.CutStops.{known_cut}
 use Rattle.gains.proofs.MoveChanges.{second_stands, value_apart}
-use Rattle.gains.proofs.SwapBounds.{low_enough}
 
 pub known_cuts : (p : Problem) (routes : List (List ℕ)) (b : ℕ) → IsPlan p routes → AreKnownCuts p (route routes b)
 known_cuts p routes b plan i l fits = known_cut p routes b i l (cut_at (route routes b) i l) plan (record { before = refl; some = refl; first = refl; last = refl; behind = refl })
@@ -38,10 +37,10 @@ count_within routes (TwoOptStar f t) low high left h w = absurd h
 count_within routes (Cross f t) low high left h w =
     let e : low ≡ 1 = h.0 in let g : high ≡ 3 = h.1 in let some = w.second_some in let few = w.second_few in (omega arith, omega arith)
 
-pub none_is_better : (p : Problem) (routes : List (List ℕ)) (k : Kind) (f : Chain) (b : ℕ) (c : Cut) (low high : ℕ) (x least : ℤ) → f.route ≢ b → TakesBetween k low high → IsFirstCut routes k f c
-    → IsLeastSwap p (route routes b) c low high x → least ≤ℤ x
-    → (n : Move) (u : ℤ) → kind_of n ≡ k → Starts (f.route ∷ f.position ∷ f.length ∷ b ∷ []) (numbers n) → HasValue p routes n u → least ≤ℤ u
-none_is_better p routes k f b c low high x least apart takes first swaps bound n u e s h =
+pub none_is_better : (p : Problem) (routes : List (List ℕ)) (k : Kind) (f : Chain) (b : ℕ) (c : Cut) (low high : ℕ) (x : ℤ) → f.route ≢ b → TakesBetween k low high → IsFirstCut routes k f c
+    → IsLeastSwap p (route routes b) c low high x
+    → (n : Move) (u : ℤ) → kind_of n ≡ k → Starts (f.route ∷ f.position ∷ f.length ∷ b ∷ []) (numbers n) → HasValue p routes n u → x ≤ℤ u
+none_is_better p routes k f b c low high x apart takes first swaps n u e s h =
     let second : Chain = record { route = b; position = get_or (numbers n) 4 0; length = get_or (numbers n) 5 0 } in
     let is = all_numbers n f.route f.position f.length b s in
     let left = length (route routes b) - get_or (numbers n) 4 0 in
@@ -51,4 +50,4 @@ none_is_better p routes k f b c low high x least apart takes first swaps bound n
     let stands = second_stands p routes k n f second u e is apart h in
     let d = cut_at (route routes b) (get_or (numbers n) 4 0) count in
     let value : u ≡ change_apart p c d = value_apart p routes k n f second u e is apart h c d first (record { before = refl; some = refl; first = refl; last = refl; behind = refl }) in
-    subst (λ v. least ≤ℤ v) (sym value) (low_enough least x (change_apart p c d) bound (swaps (get_or (numbers n) 4 0) count within.0 within.1 stands))
+    subst (λ v. x ≤ℤ v) (sym value) (swaps (get_or (numbers n) 4 0) count within.0 within.1 stands)

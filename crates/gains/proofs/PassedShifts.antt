@@ -19,13 +19,12 @@ use Rattle.gains.proofs.CutStops.{some_position}
 use Rattle.gains.proofs.MoveChanges.{first_chain, second_chain, or_opt_of, back_is, shifts_back, shifts_forward, value_within}
 use Rattle.gains.proofs.PassedRoutes.{all_numbers}
 use Rattle.gains.proofs.ShiftBounds.{cut_is_at, goes_on, goes_back, stays}
-use Rattle.gains.proofs.SwapBounds.{low_enough}
 
-module _ (p : Problem) (routes : List (List ℕ)) (k : Kind) (f : Chain) (c : Cut) (x least : ℤ) (shifts : IsShiftKind k) (first : IsFirstCut routes k f c)
+module _ (p : Problem) (routes : List (List ℕ)) (k : Kind) (f : Chain) (c : Cut) (x : ℤ) (shifts : IsShiftKind k) (first : IsFirstCut routes k f c)
     (back : IsLeastShift p (route routes f.route) c 0 f.position x)
     (on : IsLeastShift p (route routes f.route) c (f.position + (taken_chain routes (first_taken k) f).length + 1) (length (route routes f.route) + 1) x)
-    (low : x ≤ℤ pos 0) (bound : least ≤ℤ x) where
-  pub no_shift_is_better : (n : Move) (u : ℤ) → kind_of n ≡ k → Starts (f.route ∷ f.position ∷ f.length ∷ f.route ∷ []) (numbers n) → HasValue p routes n u → least ≤ℤ u
+    (low : x ≤ℤ pos 0) where
+  pub no_shift_is_better : (n : Move) (u : ℤ) → kind_of n ≡ k → Starts (f.route ∷ f.position ∷ f.length ∷ f.route ∷ []) (numbers n) → HasValue p routes n u → x ≤ℤ u
   no_shift_is_better n u e s h =
       let r = route routes f.route in
       let i = f.position in
@@ -50,7 +49,7 @@ module _ (p : Problem) (routes : List (List ℕ)) (k : Kind) (f : Chain) (c : Cu
             = value_within p routes n u (record { route = f.route; position = q; length = m }) (taken_chain routes (first_taken k) f) moved c (shifts_back p routes k f second shifts refl earlier n u e is h) h stands
             (cut_is_at r q m) first (some_position r q m more (omega (arith, fits))) some_c in
             let gap = goes_back p r q m l c more some fits (subst (λ z. IsCut r z l c) sum first) in
-            subst (λ v. least ≤ℤ v) (sym (value ∙ gap)) (low_enough least x _ bound (back q (omega arith) earlier (omega (arith, there))))
+            subst (λ v. x ≤ℤ v) (sym (value ∙ gap)) (back q (omega arith) earlier (omega (arith, there)))
         | inr past ↦ elim (cases_lt i q) [
           | inl later ↦
               let m = q - i in
@@ -60,13 +59,13 @@ module _ (p : Problem) (routes : List (List ℕ)) (k : Kind) (f : Chain) (c : Cu
               let value : u ≡ change_within p c passed
               = value_within p routes n u (taken_chain routes (first_taken k) f) (record { route = f.route; position = i + l; length = m }) c passed (shifts_forward p routes k f second shifts refl later n u e is h) h fits
               first (cut_is_at r (i + l) m) some_c (some_position r (i + l) m more fits) in
-              subst (λ v. least ≤ℤ v) (sym (value ∙ goes_on p r i l m c some more fits first)) (low_enough least x _ bound (on (i + l + m) (omega (arith, more)) (omega (arith, fits)) fits))
+              subst (λ v. x ≤ℤ v) (sym (value ∙ goes_on p r i l m c some more fits first)) (on (i + l + m) (omega (arith, more)) (omega (arith, fits)) fits)
           | inr no_later ↦
               let same : q ≡ i = omega (arith, past, no_later) in
               let none : i - i ≡ 0 = omega arith in
               let kept : after routes n ≡ rebuilt routes f.route (swapped_within r i 0 i l) (length routes) []
               = o.1 ∙ back_is routes f.route i l f.route q refl (omega (arith, same)) o.0
               ∙ ap (λ z. rebuilt routes f.route (swapped_within r z (i - z) i l) (length routes) []) same ∙ ap (λ z. rebuilt routes f.route (swapped_within r i z i l) (length routes) []) none in
-              subst (λ v. least ≤ℤ v) (sym (stays p routes f.route i l (after routes n) u o.0.known stands kept h.exact)) (low_enough least x (pos 0) bound low)
+              subst (λ v. x ≤ℤ v) (sym (stays p routes f.route i l (after routes n) u o.0.known stands kept h.exact)) low
         ]
       ]

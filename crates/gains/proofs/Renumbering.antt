@@ -1,6 +1,6 @@
 -- A move in a plan that has the move's two routes under other numbers.
-use Rattle.std.proofs.Common.{◌≡◌, ◌≢◌, refl, sym, ap, subst, ℕ, ◌+◌, ◌-◌, ◌<◌, ◌≤◌, List, [], length, ◌∙◌, arith, inl, inr}
-use Rattle.std.specs.Prelude.{ℤ, ◌⊎◌}
+use Rattle.std.proofs.Common.{◌≡◌, ◌≢◌, refl, sym, ap, subst, ℕ, ◌+◌, ◌-◌, ◌<◌, ◌≤◌, List, [], ◌∷◌, length, get_or, ◌∙◌, arith, inl, inr}
+use Rattle.std.specs.Prelude.{ℤ, ◌⊎◌, Some, None}
 use Rattle.std.proofs.lemmas.Int.{ints}
 use Rattle.std.proofs.lemmas.Bool.{cases_lt}
 use Rattle.std.proofs.lemmas.List.{get_or_past}
@@ -10,41 +10,13 @@ use Rattle.solomon_reader.specs.Moves.{route, IsOrOpt, after_or_opt, IsExchange,
 use Rattle.moves.specs.declared.candidate.Move.{Move}
 use Rattle.moves.specs.declared.candidate.Move.TheVariants.{Relocate, Exchange, OrOpt, TwoOptStar, Cross}
 use Rattle.moves.specs.Values.{HasValue, IsWellFormed, after}
-use Rattle.moves.specs.Order.{kind_of}
+use Rattle.moves.specs.Order.{kind_of, AreBefore}
+use Rattle.moves.specs.Search.{numbers}
 use Rattle.moves.specs.Changes.{Rebuilds, rebuilt, swapped, swapped_within}
 use Rattle.moves.proofs.Swaps.{swap_rebuilds, swap_within_rebuilds, cross_is, two_opt_star_is, exchange_apart_is, exchange_within_is, or_opt_later_is, or_opt_earlier_is, or_opt_forward_is, or_opt_back_is, position_apart_to, position_apart_from, position_within_to, position_within_from}
-use Rattle.gains.specs.Bounds.{first_route, second_route}
+use Rattle.gains.specs.Gains.{Found, IsNoBetter}
+use Rattle.gains.specs.Kept.{first_route, second_route, with_routes, found_between}
 use Rattle.gains.proofs.TwoRoutes.{two_routes}
-
--- the move with its routes under other numbers
-abbrev pub renumbered : (ℕ → ℕ) → Move → Move
-renumbered f (Relocate from to) = Relocate (record { route = f from.route; position = from.position }) (record { route = f to.route; position = to.position })
-renumbered f (Exchange first second) = Exchange (record { route = f first.route; position = first.position }) (record { route = f second.route; position = second.position })
-renumbered f (OrOpt chain to) = OrOpt (record { route = f chain.route; position = chain.position; length = chain.length }) (record { route = f to.route; position = to.position })
-renumbered f (TwoOptStar first second) = TwoOptStar (record { route = f first.route; position = first.position }) (record { route = f second.route; position = second.position })
-renumbered f (Cross first second) =
-    Cross (record { route = f first.route; position = first.position; length = first.length }) (record { route = f second.route; position = second.position; length = second.length })
-
-pub same_kind : (f : ℕ → ℕ) (n : Move) → kind_of (renumbered f n) ≡ kind_of n
-same_kind f (Relocate from to) = refl
-same_kind f (Exchange first second) = refl
-same_kind f (OrOpt chain to) = refl
-same_kind f (TwoOptStar first second) = refl
-same_kind f (Cross first second) = refl
-
-pub first_renumbered : (f : ℕ → ℕ) (n : Move) → first_route (renumbered f n) ≡ f (first_route n)
-first_renumbered f (Relocate from to) = refl
-first_renumbered f (Exchange first second) = refl
-first_renumbered f (OrOpt chain to) = refl
-first_renumbered f (TwoOptStar first second) = refl
-first_renumbered f (Cross first second) = refl
-
-pub second_renumbered : (f : ℕ → ℕ) (n : Move) → second_route (renumbered f n) ≡ f (second_route n)
-second_renumbered f (Relocate from to) = refl
-second_renumbered f (Exchange first second) = refl
-second_renumbered f (OrOpt chain to) = refl
-second_renumbered f (TwoOptStar first second) = refl
-second_renumbered f (Cross first second) = refl
 
 -- T and U are made of S and R by the same change of the same two routes
 record Alike (S R T U : List (List ℕ)) : Type 0 where
@@ -111,155 +83,225 @@ module _ (S R T U : List (List ℕ)) where
     room = inl refl;
   }
 
--- f gives the routes of S numbers in R, in the same order
-module _ (S R : List (List ℕ)) (f : ℕ → ℕ) (in_order : (c d : ℕ) → c < d → f c < f d) where
-  -- route c of S stands in R
-  pub record Stands (c : ℕ) : Type 0 where
-    pub known : c < length S
-    pub there : f c < length R
-    pub same : route S c ≡ route R (f c)
+-- route a of S is route c of R
+pub record Stands (S R : List (List ℕ)) (a c : ℕ) : Type 0 where
+  pub known : a < length S
+  pub there : c < length R
+  pub same : route S a ≡ route R c
 
-  cross_alike : (a i l b j m : ℕ) → Stands a → Stands b → IsCross S a i l b j m
-      → IsCross R (f a) i l (f b) j m × Alike S R (after_cross S a i l b j m) (after_cross R (f a) i l (f b) j m)
-  cross_alike a i l b j m s t w =
-      let formed : IsCross R (f a) i l (f b) j m = record {
-        order = in_order a b w.order;
-        known = t.there;
+-- routes a and b of S are routes c and d of R, in the same order
+pub record StandBoth (S R : List (List ℕ)) (a b c d : ℕ) : Type 0 where
+  pub one : Stands S R a c
+  pub other : Stands S R b d
+  pub up : a < b → c < d
+  pub down : b < a → d < c
+  pub equal : a ≡ b → c ≡ d
+
+module _ (S R : List (List ℕ)) (a b c d : ℕ) (both : StandBoth S R a b c d) where
+  cross_alike : (i l j m : ℕ) → IsCross S a i l b j m → IsCross R c i l d j m × Alike S R (after_cross S a i l b j m) (after_cross R c i l d j m)
+  cross_alike i l j m w =
+      let formed : IsCross R c i l d j m = record {
+        order = both.up w.order;
+        known = both.other.there;
         first_some = w.first_some;
         first_few = w.first_few;
-        first = omega (arith, w.first, ap length s.same);
+        first = omega (arith, w.first, ap length both.one.same);
         second_some = w.second_some;
         second_few = w.second_few;
-        second = omega (arith, w.second, ap length t.same);
+        second = omega (arith, w.second, ap length both.other.same);
       } in (
         formed,
-        swap_alike S R _ _ a i l b j m (f a) (f b) w.order w.known w.first w.second formed.order t.there s.same t.same (cross_is S a i l b j m w) (cross_is R (f a) i l (f b) j m formed),
+        swap_alike S R _ _ a i l b j m c d w.order w.known w.first w.second formed.order both.other.there both.one.same both.other.same (cross_is S a i l b j m w) (cross_is R c i l d j m formed),
       )
 
-  two_opt_star_alike : (a i b j : ℕ) → Stands a → Stands b → IsTwoOptStar S a i b j
-      → IsTwoOptStar R (f a) i (f b) j × Alike S R (after_two_opt_star S a i b j) (after_two_opt_star R (f a) i (f b) j)
-  two_opt_star_alike a i b j s t w =
-      let formed : IsTwoOptStar R (f a) i (f b) j = record {
-        order = in_order a b w.order;
-        known = t.there;
-        first = omega (arith, w.first, ap length s.same);
-        second = omega (arith, w.second, ap length t.same);
+  two_opt_star_alike : (i j : ℕ) → IsTwoOptStar S a i b j → IsTwoOptStar R c i d j × Alike S R (after_two_opt_star S a i b j) (after_two_opt_star R c i d j)
+  two_opt_star_alike i j w =
+      let formed : IsTwoOptStar R c i d j = record {
+        order = both.up w.order;
+        known = both.other.there;
+        first = omega (arith, w.first, ap length both.one.same);
+        second = omega (arith, w.second, ap length both.other.same);
       } in (
         formed,
-        swap_alike S R _ _ a i (length (route S a) - i) b j (length (route S b) - j) (f a) (f b) w.order w.known (omega (arith, w.first)) (omega (arith, w.second)) formed.order t.there s.same t.same
-            (two_opt_star_is S a i b j w) (rw (s.same, t.same) (two_opt_star_is R (f a) i (f b) j formed)),
+        swap_alike S R _ _ a i (length (route S a) - i) b j (length (route S b) - j) c d w.order w.known (omega (arith, w.first)) (omega (arith, w.second)) formed.order both.other.there both.one.same both.other.same
+            (two_opt_star_is S a i b j w) (rw (both.one.same, both.other.same) (two_opt_star_is R c i d j formed)),
       )
 
-  exchange_alike : (a i b j : ℕ) → Stands a → Stands b → IsExchange S a i b j
-      → IsExchange R (f a) i (f b) j × Alike S R (after_exchange S a i b j) (after_exchange R (f a) i (f b) j)
-  exchange_alike a i b j s t w = elim w.order [ inl less ↦ apart less | inr same ↦ subst (λ q. IsExchange S a i q j → IsExchange R (f a) i (f q) j × Alike S R (after_exchange S a i q j) (after_exchange R (f a) i (f q) j)) same.0 (within same.1) w ]
+  exchange_alike : (i j : ℕ) → IsExchange S a i b j → IsExchange R c i d j × Alike S R (after_exchange S a i b j) (after_exchange R c i d j)
+  exchange_alike i j w = elim w.order [
+    | inl less ↦ apart less
+    | inr same ↦ subst (λ q. IsExchange S a i q j → IsExchange R c i d j × Alike S R (after_exchange S a i q j) (after_exchange R c i d j)) same.0
+        (subst (λ q. IsExchange S a i a j → IsExchange R c i q j × Alike S R (after_exchange S a i a j) (after_exchange R c i q j)) (both.equal same.0) (within same.1)) w
+  ]
     where
-      apart : a < b → IsExchange R (f a) i (f b) j × Alike S R (after_exchange S a i b j) (after_exchange R (f a) i (f b) j)
+      apart : a < b → IsExchange R c i d j × Alike S R (after_exchange S a i b j) (after_exchange R c i d j)
       apart less =
-          let order = in_order a b less in
-          let formed : IsExchange R (f a) i (f b) j = record {
+          let order = both.up less in
+          let formed : IsExchange R c i d j = record {
             order = inl order;
-            known = t.there;
-            first = omega (arith, w.first, ap length s.same);
-            second = omega (arith, w.second, ap length t.same);
+            known = both.other.there;
+            first = omega (arith, w.first, ap length both.one.same);
+            second = omega (arith, w.second, ap length both.other.same);
           } in (
             formed,
-            swap_alike S R _ _ a i 1 b j 1 (f a) (f b) less w.known (omega (arith, w.first)) (omega (arith, w.second)) order t.there s.same t.same
-                (exchange_apart_is S a i b j w less) (exchange_apart_is R (f a) i (f b) j formed order),
+            swap_alike S R _ _ a i 1 b j 1 c d less w.known (omega (arith, w.first)) (omega (arith, w.second)) order both.other.there both.one.same both.other.same
+                (exchange_apart_is S a i b j w less) (exchange_apart_is R c i d j formed order),
           )
 
-      within : i < j → IsExchange S a i a j → IsExchange R (f a) i (f a) j × Alike S R (after_exchange S a i a j) (after_exchange R (f a) i (f a) j)
+      within : i < j → IsExchange S a i a j → IsExchange R c i c j × Alike S R (after_exchange S a i a j) (after_exchange R c i c j)
       within less e =
-          let formed : IsExchange R (f a) i (f a) j = record {
+          let formed : IsExchange R c i c j = record {
             order = inr (refl, less);
-            known = s.there;
-            first = omega (arith, e.first, ap length s.same);
-            second = omega (arith, e.second, ap length s.same);
+            known = both.one.there;
+            first = omega (arith, e.first, ap length both.one.same);
+            second = omega (arith, e.second, ap length both.one.same);
           } in (
             formed,
-            within_alike S R _ _ a i 1 j 1 (f a) s.known (omega arith) (omega (arith, e.second)) s.there s.same
-                (exchange_within_is S a i j e less) (exchange_within_is R (f a) i j formed less),
+            within_alike S R _ _ a i 1 j 1 c both.one.known (omega arith) (omega (arith, e.second)) both.one.there both.one.same
+                (exchange_within_is S a i j e less) (exchange_within_is R c i j formed less),
           )
 
-  or_opt_alike : (a i l b j : ℕ) → Stands a → Stands b → IsOrOpt S a i l b j
-      → IsOrOpt R (f a) i l (f b) j × Alike S R (after_or_opt S a i l b j) (after_or_opt R (f a) i l (f b) j)
-  or_opt_alike a i l b j s t w =
+  or_opt_alike : (i l j : ℕ) → IsOrOpt S a i l b j → IsOrOpt R c i l d j × Alike S R (after_or_opt S a i l b j) (after_or_opt R c i l d j)
+  or_opt_alike i l j w =
       elim (cases_lt a b) [
         | inl less ↦ later less
         | inr more ↦ elim (cases_lt b a) [
           | inl less ↦ earlier less
           | inr same ↦ let e : a ≡ b = omega arith in
-              subst (λ q. IsOrOpt S a i l q j → IsOrOpt R (f a) i l (f q) j × Alike S R (after_or_opt S a i l q j) (after_or_opt R (f a) i l (f q) j)) e within w
+              subst (λ q. IsOrOpt S a i l q j → IsOrOpt R c i l d j × Alike S R (after_or_opt S a i l q j) (after_or_opt R c i l d j)) e
+              (subst (λ q. IsOrOpt S a i l a j → IsOrOpt R c i l q j × Alike S R (after_or_opt S a i l a j) (after_or_opt R c i l q j)) (both.equal e) within) w
         ]
       ]
     where
-      apart : a ≢ b → f a ≢ f b → IsOrOpt R (f a) i l (f b) j
+      apart : a ≢ b → c ≢ d → IsOrOpt R c i l d j
       apart ne nef = record {
         some = w.some;
         few = w.few;
-        known = s.there;
-        chain = omega (arith, w.chain, ap length s.same);
-        to = omega (arith, t.there);
-        before = position_apart_to R (f a) i l (f b) j s.there (omega (arith, t.there)) nef
-            (omega (arith, ap length t.same, position_apart_from S a i l b j w.known w.to ne w.before));
+        known = both.one.there;
+        chain = omega (arith, w.chain, ap length both.one.same);
+        to = omega (arith, both.other.there);
+        before = position_apart_to R c i l d j both.one.there (omega (arith, both.other.there)) nef
+            (omega (arith, ap length both.other.same, position_apart_from S a i l b j w.known w.to ne w.before));
       }
 
       stands_before : a ≢ b → j + 0 ≤ length (route S b)
       stands_before ne = omega (arith, position_apart_from S a i l b j w.known w.to ne w.before)
 
-      later : a < b → IsOrOpt R (f a) i l (f b) j × Alike S R (after_or_opt S a i l b j) (after_or_opt R (f a) i l (f b) j)
+      later : a < b → IsOrOpt R c i l d j × Alike S R (after_or_opt S a i l b j) (after_or_opt R c i l d j)
       later less =
-          let order = in_order a b less in
+          let order = both.up less in
           let ne : a ≢ b = omega arith in
           let formed = apart ne (omega arith) in (
             formed,
-            swap_alike S R _ _ a i l b j 0 (f a) (f b) less t.known w.chain (stands_before ne) order t.there s.same t.same
-                (or_opt_later_is S a i l b j w less) (or_opt_later_is R (f a) i l (f b) j formed order),
+            swap_alike S R _ _ a i l b j 0 c d less both.other.known w.chain (stands_before ne) order both.other.there both.one.same both.other.same
+                (or_opt_later_is S a i l b j w less) (or_opt_later_is R c i l d j formed order),
           )
 
-      earlier : b < a → IsOrOpt R (f a) i l (f b) j × Alike S R (after_or_opt S a i l b j) (after_or_opt R (f a) i l (f b) j)
+      earlier : b < a → IsOrOpt R c i l d j × Alike S R (after_or_opt S a i l b j) (after_or_opt R c i l d j)
       earlier less =
-          let order = in_order b a less in
+          let order = both.down less in
           let ne : a ≢ b = omega arith in
           let formed = apart ne (omega arith) in (
             formed,
-            swap_alike S R _ _ b j 0 a i l (f b) (f a) less s.known (stands_before ne) w.chain order s.there t.same s.same
-                (or_opt_earlier_is S a i l b j w less) (or_opt_earlier_is R (f a) i l (f b) j formed order),
+            swap_alike S R _ _ b j 0 a i l d c less both.one.known (stands_before ne) w.chain order both.one.there both.other.same both.one.same
+                (or_opt_earlier_is S a i l b j w less) (or_opt_earlier_is R c i l d j formed order),
           )
 
-      within : IsOrOpt S a i l a j → IsOrOpt R (f a) i l (f a) j × Alike S R (after_or_opt S a i l a j) (after_or_opt R (f a) i l (f a) j)
+      within : IsOrOpt S a i l a j → IsOrOpt R c i l c j × Alike S R (after_or_opt S a i l a j) (after_or_opt R c i l c j)
       within e =
-          let room = position_within_from S a i l j s.known e.chain e.before in
-          let chain : i + l ≤ length (route R (f a)) = omega (arith, e.chain, ap length s.same) in
-          let formed : IsOrOpt R (f a) i l (f a) j = record {
+          let room = position_within_from S a i l j both.one.known e.chain e.before in
+          let chain : i + l ≤ length (route R c) = omega (arith, e.chain, ap length both.one.same) in
+          let formed : IsOrOpt R c i l c j = record {
             some = e.some;
             few = e.few;
-            known = s.there;
+            known = both.one.there;
             chain = chain;
-            to = omega (arith, s.there);
-            before = position_within_to R (f a) i l j s.there chain (omega (arith, room, ap length s.same));
+            to = omega (arith, both.one.there);
+            before = position_within_to R c i l j both.one.there chain (omega (arith, room, ap length both.one.same));
           } in
           elim (cases_lt i j) [
             | inl less ↦ (
               formed,
-              within_alike S R _ _ a i l (i + l) (j - i) (f a) s.known (omega arith) (omega (arith, room)) s.there s.same
-                  (or_opt_forward_is S a i l j e (omega arith)) (or_opt_forward_is R (f a) i l j formed (omega arith)),
+              within_alike S R _ _ a i l (i + l) (j - i) c both.one.known (omega arith) (omega (arith, room)) both.one.there both.one.same
+                  (or_opt_forward_is S a i l j e (omega arith)) (or_opt_forward_is R c i l j formed (omega arith)),
             )
             | inr more ↦ (
               formed,
-              within_alike S R _ _ a j (i - j) i l (f a) s.known (omega arith) e.chain s.there s.same
-                  (or_opt_back_is S a i l j e more) (or_opt_back_is R (f a) i l j formed more),
+              within_alike S R _ _ a j (i - j) i l c both.one.known (omega arith) e.chain both.one.there both.one.same
+                  (or_opt_back_is S a i l j e more) (or_opt_back_is R c i l j formed more),
             )
           ]
 
-  alike : (n : Move) → Stands (first_route n) → Stands (second_route n) → IsWellFormed S n → IsWellFormed R (renumbered f n) × Alike S R (after S n) (after R (renumbered f n))
-  alike (Relocate from to) s t w = or_opt_alike from.route from.position 1 to.route to.position s t w
-  alike (Exchange first second) s t w = exchange_alike first.route first.position second.route second.position s t w
-  alike (OrOpt chain to) s t w = or_opt_alike chain.route chain.position chain.length to.route to.position s t w
-  alike (TwoOptStar first second) s t w = two_opt_star_alike first.route first.position second.route second.position s t w
-  alike (Cross first second) s t w = cross_alike first.route first.position first.length second.route second.position second.length s t w
+alike : (S R : List (List ℕ)) (c d : ℕ) (n : Move) → StandBoth S R (first_route n) (second_route n) c d → IsWellFormed S n → IsWellFormed R (with_routes n c d) × Alike S R (after S n) (after R (with_routes n c d))
+alike S R c d (Relocate from to) both w = or_opt_alike S R from.route to.route c d both from.position 1 to.position w
+alike S R c d (Exchange first second) both w = exchange_alike S R first.route second.route c d both first.position second.position w
+alike S R c d (OrOpt chain to) both w = or_opt_alike S R chain.route to.route c d both chain.position chain.length to.position w
+alike S R c d (TwoOptStar first second) both w = two_opt_star_alike S R first.route second.route c d both first.position second.position w
+alike S R c d (Cross first second) both w = cross_alike S R first.route second.route c d both first.position first.length second.position second.length w
 
-  -- a move between routes that stand in both plans has its value in both
-  pub same_value : (p : Problem) (n : Move) (v : ℤ) → IsPlan p S → IsPlan p R → Stands (first_route n) → Stands (second_route n) → HasValue p S n v → HasValue p R (renumbered f n) v
-  same_value p n v plan_s plan_r s t h =
-      let w = alike n s t h.well_formed in carried p S R n (renumbered f n) v plan_s plan_r w.1 w.0 h
+-- a move between routes that stand in both plans has its value in both
+pub same_value : (p : Problem) (S R : List (List ℕ)) (c d : ℕ) (n : Move) (v : ℤ) → IsPlan p S → IsPlan p R → StandBoth S R (first_route n) (second_route n) c d → HasValue p S n v → HasValue p R (with_routes n c d) v
+same_value p S R c d n v plan_s plan_r both h =
+    let w = alike S R c d n both h.well_formed in carried p S R n (with_routes n c d) v plan_s plan_r w.1 w.0 h
+
+-- THE SAME MOVE BETWEEN OTHER ROUTES
+
+pub kind_with : (n : Move) (a b : ℕ) → kind_of (with_routes n a b) ≡ kind_of n
+kind_with (Relocate from to) a b = refl
+kind_with (Exchange first second) a b = refl
+kind_with (OrOpt chain to) a b = refl
+kind_with (TwoOptStar first second) a b = refl
+kind_with (Cross first second) a b = refl
+
+pub numbers_with : (n : Move) (a b : ℕ) → numbers (with_routes n a b) ≡ a ∷ get_or (numbers n) 1 0 ∷ get_or (numbers n) 2 0 ∷ b ∷ get_or (numbers n) 4 0 ∷ get_or (numbers n) 5 0 ∷ []
+numbers_with (Relocate from to) a b = refl
+numbers_with (Exchange first second) a b = refl
+numbers_with (OrOpt chain to) a b = refl
+numbers_with (TwoOptStar first second) a b = refl
+numbers_with (Cross first second) a b = refl
+
+pub first_with : (n : Move) (a b : ℕ) → first_route (with_routes n a b) ≡ a
+first_with n a b = ap (λ ns. get_or ns 0 0) (numbers_with n a b)
+
+pub second_with : (n : Move) (a b : ℕ) → second_route (with_routes n a b) ≡ b
+second_with n a b = ap (λ ns. get_or ns 3 0) (numbers_with n a b)
+
+pub with_twice : (n : Move) (a b c d : ℕ) → with_routes (with_routes n a b) c d ≡ with_routes n c d
+with_twice (Relocate from to) a b c d = refl
+with_twice (Exchange first second) a b c d = refl
+with_twice (OrOpt chain to) a b c d = refl
+with_twice (TwoOptStar first second) a b c d = refl
+with_twice (Cross first second) a b c d = refl
+
+with_own : (n : Move) → with_routes n (first_route n) (second_route n) ≡ n
+with_own (Relocate from to) = refl
+with_own (Exchange first second) = refl
+with_own (OrOpt chain to) = refl
+with_own (TwoOptStar first second) = refl
+with_own (Cross first second) = refl
+
+pub with_same : (n : Move) (a b : ℕ) → first_route n ≡ a → second_route n ≡ b → with_routes n a b ≡ n
+with_same n a b e f = ap (λ i. with_routes n i b) (sym e) ∙ ap (with_routes n (first_route n)) (sym f) ∙ with_own n
+
+behind_same : (x y : ℕ) (xs ys xs' ys' : List ℕ) → (AreBefore xs ys → AreBefore xs' ys') → AreBefore (x ∷ xs) (x ∷ ys) → AreBefore (y ∷ xs') (y ∷ ys')
+behind_same x y xs ys xs' ys' f h = elim h [ inl less ↦ absurd (omega arith) | inr e ↦ inr (refl, f e.1) ]
+
+behind_first : (x y : ℕ) (xs ys xs' ys' : List ℕ) → (AreBefore xs ys → AreBefore xs' ys') → AreBefore (x ∷ xs) (y ∷ ys) → AreBefore (x ∷ xs') (y ∷ ys')
+behind_first x y xs ys xs' ys' f h = elim h [ inl less ↦ inl less | inr e ↦ inr (e.0, f e.1) ]
+
+before_elsewhere : (n m : Move) (a b c d : ℕ) → AreBefore (numbers (with_routes n a b)) (numbers (with_routes m a b)) → AreBefore (numbers (with_routes n c d)) (numbers (with_routes m c d))
+before_elsewhere n m a b c d =
+    let i = get_or (numbers n) 1 0 in
+    let j = get_or (numbers m) 1 0 in
+    let l = get_or (numbers n) 2 0 in
+    let k = get_or (numbers m) 2 0 in
+    let xs = get_or (numbers n) 4 0 ∷ get_or (numbers n) 5 0 ∷ [] in
+    let ys = get_or (numbers m) 4 0 ∷ get_or (numbers m) 5 0 ∷ [] in
+    rw (numbers_with n a b, numbers_with m a b, numbers_with n c d, numbers_with m c d)
+    (behind_same a c (i ∷ l ∷ b ∷ xs) (j ∷ k ∷ b ∷ ys) (i ∷ l ∷ d ∷ xs) (j ∷ k ∷ d ∷ ys)
+    (behind_first i j (l ∷ b ∷ xs) (k ∷ b ∷ ys) (l ∷ d ∷ xs) (k ∷ d ∷ ys)
+    (behind_first l k (b ∷ xs) (b ∷ ys) (d ∷ xs) (d ∷ ys) (behind_same b d xs ys xs ys (λ h. h)))))
+
+pub no_better_elsewhere : (o : Found) (n : Move) (u : ℤ) (a b c d : ℕ) → IsNoBetter (found_between o a b) (with_routes n a b) u → IsNoBetter (found_between o c d) (with_routes n c d) u
+no_better_elsewhere None n u a b c d h = h
+no_better_elsewhere (Some r) n u a b c d h = (h.0, λ before. h.1 (before_elsewhere n r.0 c d a b before))

@@ -75,3 +75,7 @@ IsLeastSwapAt p r c low high i x = (l : ℕ) → low ≤ l → l ≤ high → i 
 -- the chain c, put into any of some gaps of a route, changes the cost by no less
 abbrev pub IsLeastShift : Problem → List ℕ → Cut → ℕ → ℕ → ℤ → Type 0
 IsLeastShift p r c from to x = (i : ℕ) → from ≤ i → i < to → i ≤ length r → x ≤ℤ change_apart p c (cut_at r i 0)
+
+-- no exchange of the ends from the chain c on and behind a gap of a route changes the cost by less
+abbrev pub IsLeastEndSwap : Problem → List ℕ → Cut → ℤ → Type 0
+IsLeastEndSwap p r c x = (j : ℕ) → j ≤ length r → x ≤ℤ front_change p r c j

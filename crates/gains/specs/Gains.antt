@@ -1,5 +1,5 @@
 -- Moves that make a plan cheaper, and the best of them.
-use Rattle.std.specs.Prelude.{◌≡◌, ℕ, ◌+◌, ◌<◌, List, ◌∷◌, [], length, ◌-◌, ℤ, pos, ◌<ℤ◌, Option, Some, None, MatchOption}
+use Rattle.std.specs.Prelude.{◌≡◌, ℕ, ◌+◌, ◌<◌, List, ◌∷◌, [], length, ◌-◌, ℤ, pos, ◌<ℤ◌, ◌≤ℤ◌, ◌⊎◌, Option, Some, None, MatchOption}
 use Rattle.solomon_reader.specs.Problem.{Problem}
 use Rattle.solomon_reader.specs.Moves.{route}
 use Rattle.moves.specs.declared.candidate.Chain.{Chain}
@@ -11,17 +11,12 @@ use Rattle.moves.specs.declared.candidate.Move.TheVariants.{Relocate, Exchange, 
 use Rattle.moves.specs.declared.candidate.Kind.{Kind}
 use Rattle.moves.specs.declared.candidate.Kind.TheVariants as kind
 use Rattle.moves.specs.Values.{HasValue, after}
-use Rattle.moves.specs.Order.{kind_of, AreBefore, IsBestOf, IsFirstLeast}
+use Rattle.moves.specs.Order.{kind_of, AreBefore, IsFirstLeast}
 use Rattle.moves.specs.Search.{numbers}
 
 -- the move leaves a cheaper plan
 abbrev pub IsGain : Problem → List (List ℕ) → Move → Type 0
 IsGain p routes m = (v : ℤ) × HasValue p routes m v × (v <ℤ pos 0)
-
--- the best of the gains of a kind whose numbers are before a bound, which may be shorter
-abbrev pub IsBestGainBefore : Problem → List (List ℕ) → Kind → List ℕ → Option (Move × ℤ) → Type 0
-IsBestGainBefore p routes k bound result =
-    IsBestOf p routes (λ n. ((kind_of n ≡ k) × AreBefore (numbers n) bound) × IsGain p routes n) result
 
 -- the best move of a kind where it leaves a cheaper plan, none exactly where no move of the kind does
 abbrev pub IsBestGainIfAny : Problem → List (List ℕ) → Kind → Option (Move × ℤ) → Type 0
@@ -29,10 +24,34 @@ IsBestGainIfAny p routes k result =
     MatchOption result ((n : Move) → kind_of n ≡ k → ¬ IsGain p routes n)
     (λ r. IsFirstLeast p routes (λ n. kind_of n ≡ k) r.0 r.1 × (r.1 <ℤ pos 0))
 
--- what the next gain has to be below
-abbrev pub least_of : Option (Move × ℤ) → ℤ
-least_of None = pos 0
-least_of (Some r) = r.1
+-- what was found among moves: one that leaves a cheaper plan, with its value, or none
+abbrev pub Found : Type 0
+Found = Option (Move × ℤ)
+
+-- a move of this value is no better than what was found: it leaves no cheaper plan, or lowers the cost by no more, and by less where it is the earlier move
+abbrev pub IsNoBetter : Found → Move → ℤ → Type 0
+IsNoBetter None n u = pos 0 ≤ℤ u
+IsNoBetter (Some r) n u = (r.1 ≤ℤ u) × (AreBefore (numbers n) (numbers r.0) → r.1 <ℤ u)
+
+-- it is better
+abbrev pub IsBetter : Found → Move → ℤ → Type 0
+IsBetter None n u = u <ℤ pos 0
+IsBetter (Some r) n u = (u <ℤ r.1) ⊎ ((u ≡ r.1) × AreBefore (numbers n) (numbers r.0))
+
+-- a move of this value may be better
+abbrev pub MayBeBetter : Found → ℤ → Type 0
+MayBeBetter None u = u <ℤ pos 0
+MayBeBetter (Some r) u = u ≤ℤ r.1
+
+-- what was found is one of these moves, with its value, and leaves a cheaper plan
+abbrev pub IsFoundAmong : Problem → List (List ℕ) → (Move → Type 0) → Found → Type 0
+IsFoundAmong p routes Of None = Unit {0}
+IsFoundAmong p routes Of (Some r) = Of r.0 × (HasValue p routes r.0 r.1 × (r.1 <ℤ pos 0))
+
+-- the best of these moves that leaves a cheaper plan
+pub record IsBestAmong (p : Problem) (routes : List (List ℕ)) (Of : Move → Type 0) (held : Found) : Type 0 where
+  pub found : IsFoundAmong p routes Of held
+  pub best : (n : Move) (u : ℤ) → Of n → HasValue p routes n u → IsNoBetter held n u
 
 -- the length of the first chain that a move of the kind takes, where l is its number and left stops stand from its position on
 abbrev pub first_taken : Kind → ℕ → ℕ → ℕ
@@ -82,6 +101,14 @@ IsShiftKind kind.OrOpt = Unit {0}
 IsShiftKind kind.TwoOptStar = ⊥
 IsShiftKind kind.Cross = ⊥
 
+-- a move of the kind lets two ends change places
+abbrev pub IsEndsKind : Kind → Type 0
+IsEndsKind kind.Relocate = ⊥
+IsEndsKind kind.Exchange = ⊥
+IsEndsKind kind.OrOpt = ⊥
+IsEndsKind kind.TwoOptStar = Unit {0}
+IsEndsKind kind.Cross = ⊥
+
 -- the move lets two chains of a route change places, the second of which stands right behind the first
 pub record IsShift (routes : List (List ℕ)) (n : Move) (front rear : Chain) : Type 0 where
   pub same : front.route ≡ rear.route
@@ -99,11 +126,6 @@ abbrev pub Starts : List ℕ → List ℕ → Type 0
 Starts [] ns = Unit {0}
 Starts (x ∷ xs) [] = ⊥
 Starts (x ∷ xs) (n ∷ ns) = (n ≡ x) × Starts xs ns
-
--- the numbers x ∷ xs with the last one raised by one
-abbrev pub raised : ℕ → List ℕ → List ℕ
-raised x [] = (x + 1) ∷ []
-raised x (y ∷ ys) = x ∷ raised y ys
 
 -- a move of the kind takes low to high stops of the second route
 abbrev pub TakesBetween : Kind → ℕ → ℕ → Type 0

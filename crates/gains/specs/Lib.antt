@@ -1,5 +1,5 @@
 pub mod Cuts
 pub mod Gains
 pub mod TwoRoutes
-pub mod Bounds
+pub mod Kept
 pub mod Searches

@@ -1,17 +1,24 @@
--- Searches for the best gain among the moves of a neighbourhood.
-use Rattle.std.specs.Prelude.{◌≡◌, ℕ, List, ◌∷◌, [], ◌++◌, ℤ, ◌≤ℤ◌, Option, None, IfSome}
+-- Searches for the best gain.
+use Rattle.std.specs.Prelude.{◌≡◌, ℕ, List, ◌∷◌, [], ℤ}
 use Rattle.solomon_reader.specs.Problem.{Problem}
-use Rattle.solomon_reader.specs.Lists.{lists}
+use Rattle.solomon_reader.specs.Moves.{route}
 use Rattle.segments.specs.PlanTrees.{problem_of}
 use Rattle.moves.specs.declared.candidate.Chain.{Chain}
 use Rattle.moves.specs.declared.candidate.Move.{Move}
-use Rattle.moves.specs.Order.{kind_of}
-use Rattle.moves.specs.Search.{numbers, IsFirstLength, IsSecondLength, IsNextWithin, IsInRange}
+use Rattle.moves.specs.Search.{numbers, IsFirstLength, IsSecondLength, IsInRange}
 use Rattle.moves.specs.Trees.{visits_of, AreOfPlan}
-use Rattle.moves.specs.Values.{HasValue, IsWellFormed}
-use Rattle.gains.specs.Bounds.{second_route, AreBounds}
-use Rattle.gains.specs.Gains.{IsBestGainBefore, Starts, least_of, raised}
+use Rattle.moves.specs.Values.{HasValue}
+use Rattle.gains.specs.Gains.{Found, IsNoBetter, IsFoundAmong, Starts}
+use Rattle.gains.specs.Kept.{IsBetween}
 use Rattle.gains.specs.declared.neighbourhood.Neighbourhood.{Neighbourhood}
+
+-- A search goes through some of the moves that are looked for: what it comes to is as good as each of them and as what was found before, and is one of those that are looked for.
+pub record Searches (p : Problem) (routes : List (List ℕ)) (Of Takes : Move → Type 0) (before result : Found) : Type 0 where
+  pub best : (n : Move) (u : ℤ) → Of n → Takes n → HasValue p routes n u → IsNoBetter result n u
+  pub lower : (n : Move) (u : ℤ) → Of n → IsNoBetter before n u → IsNoBetter result n u
+  pub found : IsFoundAmong p routes Of before → IsFoundAmong p routes Of result
+
+-- BETWEEN TWO ROUTES
 
 abbrev pub instance_of : Neighbourhood → Problem
 instance_of m = problem_of m.trees.now
@@ -19,40 +26,31 @@ instance_of m = problem_of m.trees.now
 abbrev pub plan_of : Neighbourhood → List (List ℕ)
 plan_of m = visits_of m.trees.now
 
--- its trees are those of a plan, its routes are the same, and its bounds are right
+abbrev pub moves_of : Neighbourhood → Move → Type 0
+moves_of m n = IsBetween m.kind m.first m.second n
+
+-- its trees are those of a plan, and its stops are those of its routes
 pub record IsOfPlan (m : Neighbourhood) : Type 0 where
   pub trees : AreOfPlan m.trees.now
-  pub routes : lists m.routes.now ≡ plan_of m
-  pub bounds : AreBounds (instance_of m) (plan_of m) m.kind m.bounds.now
+  pub stops : m.stops.now ≡ route (plan_of m) m.first
+  pub others : m.others.now ≡ route (plan_of m) m.second
 
 -- the lengths of the two chains are as a move of the kind has them, 0 where it lacks them
 abbrev pub AreLengths : Neighbourhood → Chain → Chain → Type 0
 AreLengths m first second = IsFirstLength m.kind first.length × IsSecondLength m.kind second.length
 
--- the move goes into the one route that is looked at, if there is one
-abbrev pub GoesInto : Option ℕ → Move → Type 0
-GoesInto into n = IfSome into (λ b. second_route n ≡ b)
+-- a search through the moves with these first numbers
+abbrev pub SearchesFrom : Neighbourhood → List ℕ → Found → Found → Type 0
+SearchesFrom m xs before result = Searches (instance_of m) (plan_of m) (moves_of m) (λ n. Starts xs (numbers n)) before result
 
--- each move with these first numbers has its next one from low on and before high
-abbrev pub TakesInto : Neighbourhood → List ℕ → ℕ → ℕ → Type 0
-TakesInto m xs low high = (n : Move) → kind_of n ≡ m.kind → IsWellFormed (plan_of m) n → GoesInto m.into n → IsNextWithin xs low high (numbers n)
+-- the same by the numbers of two chains
+abbrev pub SearchesAt : Neighbourhood → Chain → Chain → Found → Found → Type 0
+SearchesAt m first second before result = SearchesFrom m (first.route ∷ first.position ∷ first.length ∷ second.route ∷ second.position ∷ second.length ∷ []) before result
 
--- A search goes through the moves with these first numbers: from the best of the gains before them it comes to the best of those before the next, and what the next gain has to be below then is at most what it was, and at most the value of each of these moves. Where only one route is looked at, it tells of the moves into that one.
-pub record Searches (m : Neighbourhood) (x : ℕ) (xs : List ℕ) (before result : Option (Move × ℤ)) : Type 0 where
-  pub best : m.into ≡ None → IsBestGainBefore (instance_of m) (plan_of m) m.kind (x ∷ xs) before → IsBestGainBefore (instance_of m) (plan_of m) m.kind (raised x xs) result
-  pub least : (n : Move) (u : ℤ) → kind_of n ≡ m.kind → GoesInto m.into n → Starts (x ∷ xs) (numbers n) → HasValue (instance_of m) (plan_of m) n u → least_of result ≤ℤ u
-  pub lower : least_of result ≤ℤ least_of before
-
--- The same with the numbers of two chains.
-abbrev pub SearchesAt : Neighbourhood → Chain → Chain → Option (Move × ℤ) → Option (Move × ℤ) → Type 0
-SearchesAt m first second before result = Searches m first.route (first.position ∷ first.length ∷ second.route ∷ second.position ∷ second.length ∷ []) before result
-
--- The same with a next number before high.
-pub record SearchesRange (m : Neighbourhood) (xs : List ℕ) (high : ℕ) (before result : Option (Move × ℤ)) : Type 0 where
-  pub best : m.into ≡ None → IsBestGainBefore (instance_of m) (plan_of m) m.kind xs before → IsBestGainBefore (instance_of m) (plan_of m) m.kind (xs ++ high ∷ []) result
-  pub least : (n : Move) (u : ℤ) → kind_of n ≡ m.kind → GoesInto m.into n → IsInRange xs 0 high (numbers n) → HasValue (instance_of m) (plan_of m) n u → least_of result ≤ℤ u
-  pub lower : least_of result ≤ℤ least_of before
+-- the same with a next number before high
+abbrev pub SearchesRange : Neighbourhood → List ℕ → ℕ → Found → Found → Type 0
+SearchesRange m xs high before result = Searches (instance_of m) (plan_of m) (moves_of m) (λ n. IsInRange xs 0 high (numbers n)) before result
 
 -- no move with these first numbers is better than what was found
-pub record NoneIsBetter (m : Neighbourhood) (xs : List ℕ) (before : Option (Move × ℤ)) : Type 0 where
-  pub least : (n : Move) (u : ℤ) → kind_of n ≡ m.kind → Starts xs (numbers n) → HasValue (instance_of m) (plan_of m) n u → least_of before ≤ℤ u
+abbrev pub NoneIsBetter : Neighbourhood → List ℕ → Found → Type 0
+NoneIsBetter m xs before = (n : Move) (u : ℤ) → moves_of m n → Starts xs (numbers n) → HasValue (instance_of m) (plan_of m) n u → IsNoBetter before n u

@@ -1,39 +1,26 @@
-//! The best move of a kind that makes a plan cheaper.
+//! The best move of a kind between two routes that makes a plan cheaper.
 
 ghost use Rattle.std.specs.Prelude.{◌≡◌, [], ◌∷◌};
-ghost use Rattle.solomon_reader.specs.Lists.{lists};
-ghost use Rattle.segments.specs.PlanTrees.{problem_of};
-ghost use Rattle.moves.specs.Trees.{visits_of, AreOfPlan};
 ghost use Rattle.moves.specs.Search.{IsFirstLength};
-ghost use Rattle.gains.specs.Gains.{IsBestGainIfAny, IsFirstCut};
-ghost use Rattle.gains.specs.Bounds.{AreBounds};
-ghost use Rattle.gains.specs.Searches.{plan_of, IsOfPlan, TakesInto, Searches};
+ghost use Rattle.gains.specs.Gains.{IsFirstCut, IsBestAmong};
+ghost use Rattle.gains.specs.Searches.{instance_of, plan_of, moves_of, IsOfPlan, SearchesFrom};
 
-use crate::bounds::PairBounds;
 use crate::cuts::{Cut, cut_of};
+use crate::found::Found;
 use crate::neighbourhood::Neighbourhood;
-use moves::{
-    Chain, Kind, Move, first_lengths, first_positions, route_count, second_lengths,
-    second_positions, second_routes,
-};
-use segments::PlanTrees;
-use std::ops::Range;
+use moves::{Chain, first_lengths, first_positions, second_lengths, second_positions};
 
 impl Neighbourhood<'_, '_> {
     /// The better of what was found and the gains with these five first numbers.
-    fn gain_at_position(
-        &self,
-        first: &Chain,
-        cut: &Cut,
-        route: u16,
-        position: u16,
-        before: Option<(Move, i64)>,
-    ) -> Option<(Move, i64)>
+    #[inline(always)]
+    fn gain_at_position(&self, first: &Chain, cut: &Cut, position: u16, before: Found) -> Found
         requires plan { IsOfPlan self.now }
         requires length { IsFirstLength self.now.kind first.now.length }
         requires cut { IsFirstCut (plan_of self.now) self.now.kind first.now cut.now }
-        ensures { Searches self.now first.now.route (first.now.position ∷ first.now.length ∷ route ∷ position ∷ []) before result }
+        requires first { first.now.route ≡ self.now.first }
+        ensures { SearchesFrom self.now (first.now.route ∷ first.now.position ∷ first.now.length ∷ self.now.second ∷ position ∷ []) before result }
     {
+        let route = self.second;
         let lengths = second_lengths(self.trees, self.kind, first, route, position);
         let mut best = before;
         for length in lengths.start..lengths.end {
@@ -47,73 +34,36 @@ impl Neighbourhood<'_, '_> {
         best
     }
 
-    /// The better of what was found and the gains with these four first numbers, which are not looked
-    /// for where a bound or the change of cost says that none is better.
-    fn gain_into_route(
-        &self,
-        first: &Chain,
-        cut: &Cut,
-        route: u16,
-        before: Option<(Move, i64)>,
-    ) -> Option<(Move, i64)>
+    /// The better of what was found and the gains with this first chain, which are not looked for where
+    /// the changes of cost say that none is better.
+    #[inline(always)]
+    fn gain_of_chain(&self, first: &Chain, before: Found) -> Found
         requires plan { IsOfPlan self.now }
         requires length { IsFirstLength self.now.kind first.now.length }
-        requires cut { IsFirstCut (plan_of self.now) self.now.kind first.now cut.now }
-        ensures { Searches self.now first.now.route (first.now.position ∷ first.now.length ∷ route ∷ []) before result }
+        requires first { first.now.route ≡ self.now.first }
+        ensures { SearchesFrom self.now (first.now.route ∷ first.now.position ∷ first.now.length ∷ []) before result }
     {
-        if self.is_passed(first.route, route, before) {
-            return before;
-        }
-        if self.is_no_better(first, cut, route, before) {
-            return before;
-        }
-        let positions = second_positions(self.trees, self.kind, first, route);
-        let mut best = before;
-        for position in positions.start..positions.end {
-            best = self.gain_at_position(first, cut, route, position, best);
-        }
-        best
-    }
-
-    /// The second routes of the moves with this first chain.
-    fn routes_from(&self, first: &Chain) -> Range<u16>
-        requires { IsOfPlan self.now }
-        ensures { TakesInto self.now (first.now.route ∷ first.now.position ∷ first.now.length ∷ []) result.start result.end }
-    {
-        let all = second_routes(self.trees, self.kind, first);
-        match self.into {
-            Some(into) => all.start.max(into)..all.end.min(into.saturating_add(1)),
-            None => all,
-        }
-    }
-
-    /// The better of what was found and the gains with this first chain.
-    fn gain_of_chain(&self, first: &Chain, before: Option<(Move, i64)>) -> Option<(Move, i64)>
-        requires plan { IsOfPlan self.now }
-        requires length { IsFirstLength self.now.kind first.now.length }
-        ensures { Searches self.now first.now.route (first.now.position ∷ first.now.length ∷ []) before result }
-    {
-        let Some(cut) = cut_of(self.routes, self.first_chain(*first)) else {
+        let Some(cut) = cut_of(self.stops, self.first_chain(*first)) else {
             return before;
         };
-        let others = self.routes_from(first);
+        if self.is_no_better(first, &cut, before) {
+            return before;
+        }
+        let positions = second_positions(self.trees, self.kind, first, self.second);
         let mut best = before;
-        for route in others.start..others.end {
-            best = self.gain_into_route(first, &cut, route, best);
+        for position in positions.start..positions.end {
+            best = self.gain_at_position(first, &cut, position, best);
         }
         best
     }
 
     /// The better of what was found and the gains with these two first numbers.
-    fn gain_from_position(
-        &self,
-        route: u16,
-        position: u16,
-        before: Option<(Move, i64)>,
-    ) -> Option<(Move, i64)>
+    #[inline(always)]
+    fn gain_from_position(&self, position: u16, before: Found) -> Found
         requires { IsOfPlan self.now }
-        ensures { Searches self.now route (position ∷ []) before result }
+        ensures { SearchesFrom self.now (self.now.first ∷ position ∷ []) before result }
     {
+        let route = self.first;
         let lengths = first_lengths(self.trees, self.kind, route, position);
         let mut best = before;
         for length in lengths.start..lengths.end {
@@ -127,48 +77,18 @@ impl Neighbourhood<'_, '_> {
         best
     }
 
-    /// The better of what was found and the gains with this first route, which are not looked for where
-    /// the bounds say that none is better.
-    pub fn gain_from_route(&self, route: u16, before: Option<(Move, i64)>) -> Option<(Move, i64)>
+    /// The best move that makes the plan cheaper, and of several the first; `None` where no move does. It
+    /// takes no memory.
+    #[inline(always)]
+    pub fn best_gain(&self) -> Found
         requires { IsOfPlan self.now }
-        ensures { Searches self.now route [] before result }
+        ensures { IsBestAmong (instance_of self.now) (plan_of self.now) (moves_of self.now) result }
     {
-        if self.are_all_passed(route, before) {
-            return before;
-        }
-        let positions = first_positions(self.trees, self.kind, route);
-        let mut best = before;
+        let positions = first_positions(self.trees, self.kind, self.first);
+        let mut best = None;
         for position in positions.start..positions.end {
-            best = self.gain_from_position(route, position, best);
+            best = self.gain_from_position(position, best);
         }
         best
     }
-}
-
-/// The best move of a kind where it makes the plan cheaper, with its value in tenths, and of several
-/// the first; `None` where no move of the kind does. The routes are those of the trees. Two routes are
-/// passed over whose bound is no better than what was found. It takes no memory.
-pub fn best_gain(
-    trees: &PlanTrees<'_>,
-    routes: &[Vec<u16>],
-    bounds: &PairBounds,
-    kind: Kind,
-) -> Option<(Move, i64)>
-    requires plan { AreOfPlan trees.now }
-    requires routes { lists routes.now ≡ visits_of trees.now }
-    requires bounds { AreBounds (problem_of trees.now) (visits_of trees.now) kind bounds.now }
-    ensures { IsBestGainIfAny (problem_of trees.now) (visits_of trees.now) kind result }
-{
-    let neighbourhood = Neighbourhood {
-        trees,
-        routes,
-        bounds,
-        kind,
-        into: None,
-    };
-    let mut best = None;
-    for route in 0..route_count(trees) {
-        best = neighbourhood.gain_from_route(route, best);
-    }
-    best
 }

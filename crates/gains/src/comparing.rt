@@ -1,24 +1,16 @@
-//! The better of the best gain that was found and a later move.
+//! The better of what was found and a move.
 
 ghost use Rattle.std.specs.Prelude.{◌≡◌, ◌≢◌, ◌↔◌, IsTrue};
-ghost use Rattle.gains.specs.Gains.{least_of, first_taken, second_taken, taken_chain, IsFirstCut, IsShiftKind, AreShifts};
+ghost use Rattle.gains.specs.Gains.{first_taken, second_taken, taken_chain, IsFirstCut, IsShiftKind, AreShifts};
 ghost use Rattle.gains.specs.Searches.{instance_of, plan_of, IsOfPlan, AreLengths, SearchesAt};
 
 use crate::cuts::{Cut, change_apart, change_within, cut_of};
+use crate::found::{Found, is_better, may_be_better};
 use crate::neighbourhood::Neighbourhood;
-use moves::{Chain, Kind, Move, candidate_of, stop_count, value};
-
-/// What the next gain has to be below, in tenths.
-pub fn least_of(best: Option<(Move, i64)>) -> i64
-    ensures { result ≡ least_of best }
-{
-    match best {
-        None => 0,
-        Some((_, least)) => least,
-    }
-}
+use moves::{Chain, Kind, candidate_of, stop_count, value};
 
 /// Whether a move of a kind puts a chain elsewhere.
+#[inline(always)]
 pub fn is_shift(kind: Kind) -> bool
     ensures { IsTrue result ↔ IsShiftKind kind }
 {
@@ -30,6 +22,7 @@ pub fn is_shift(kind: Kind) -> bool
 
 impl Neighbourhood<'_, '_> {
     /// The first chain that a move takes.
+    #[inline(always)]
     pub fn first_chain(&self, first: Chain) -> Chain
         requires { IsOfPlan self.now }
         ensures { result ≡ taken_chain (plan_of self.now) (first_taken self.now.kind) first }
@@ -45,6 +38,7 @@ impl Neighbourhood<'_, '_> {
     }
 
     /// The second chain that a move takes.
+    #[inline(always)]
     fn second_chain(&self, second: Chain) -> Chain
         requires { IsOfPlan self.now }
         ensures { result ≡ taken_chain (plan_of self.now) (second_taken self.now.kind) second }
@@ -59,49 +53,43 @@ impl Neighbourhood<'_, '_> {
     }
 
     /// The better of what was found and a move, where that is a gain.
-    fn better_gain(
-        &self,
-        first: &Chain,
-        second: &Chain,
-        before: Option<(Move, i64)>,
-    ) -> Option<(Move, i64)>
+    fn better_gain(&self, first: &Chain, second: &Chain, before: Found) -> Found
         requires plan { IsOfPlan self.now }
         requires lengths { AreLengths self.now first.now second.now }
+        requires first { first.now.route ≡ self.now.first }
+        requires second { second.now.route ≡ self.now.second }
         ensures { SearchesAt self.now first.now second.now before result }
     {
         let candidate = candidate_of(self.kind, first, second);
         match value(self.trees, &candidate) {
-            Some(v) if v < least_of(before) => Some((candidate, v)),
+            Some(change) if is_better(&candidate, change, before) => Some((candidate, change)),
             _ => before,
         }
     }
 
-    /// The better of what was found and a later move between two routes, which is valued only where its
+    /// The better of what was found and a move between two routes, which is valued only where its
     /// change of cost is less.
-    fn better_apart(
-        &self,
-        first: &Chain,
-        cut: &Cut,
-        second: &Chain,
-        before: Option<(Move, i64)>,
-    ) -> Option<(Move, i64)>
+    #[inline(always)]
+    fn better_apart(&self, first: &Chain, cut: &Cut, second: &Chain, before: Found) -> Found
         requires plan { IsOfPlan self.now }
         requires lengths { AreLengths self.now first.now second.now }
         requires cut { IsFirstCut (plan_of self.now) self.now.kind first.now cut.now }
-        requires apart { first.now.route ≢ second.now.route }
+        requires first { first.now.route ≡ self.now.first }
+        requires second { second.now.route ≡ self.now.second }
+        requires apart { self.now.first ≢ self.now.second }
         ensures { SearchesAt self.now first.now second.now before result }
     {
         let taken = self.second_chain(*second);
-        let Some(other) = cut_of(self.routes, taken) else {
+        let Some(other) = cut_of(self.others, taken) else {
             return before;
         };
-        if change_apart(self.trees.instance(), cut, &other) >= least_of(before) {
+        if !may_be_better(change_apart(self.trees.instance(), cut, &other), before) {
             return before;
         }
         self.better_gain(first, second, before)
     }
 
-    /// The better of what was found and a later move, which lets two chains of a route change places and
+    /// The better of what was found and a move, which lets two chains of a route change places and
     /// is valued only where its change of cost is less.
     fn better_shift(
         &self,
@@ -109,37 +97,38 @@ impl Neighbourhood<'_, '_> {
         second: &Chain,
         front: Chain,
         rear: Chain,
-        before: Option<(Move, i64)>,
-    ) -> Option<(Move, i64)>
+        before: Found,
+    ) -> Found
         requires plan { IsOfPlan self.now }
         requires lengths { AreLengths self.now first.now second.now }
+        requires first { first.now.route ≡ self.now.first }
+        requires second { second.now.route ≡ self.now.second }
+        requires front { front.route ≡ self.now.first }
+        requires rear { rear.route ≡ self.now.first }
         requires shifts { AreShifts (instance_of self.now) (plan_of self.now) self.now.kind first.now second.now front rear }
         ensures { SearchesAt self.now first.now second.now before result }
     {
-        let Some(one) = cut_of(self.routes, front) else {
+        let Some(one) = cut_of(self.stops, front) else {
             return self.better_gain(first, second, before);
         };
-        let Some(other) = cut_of(self.routes, rear) else {
+        let Some(other) = cut_of(self.stops, rear) else {
             return self.better_gain(first, second, before);
         };
         if one.some && other.some {
-            if change_within(self.trees.instance(), &one, &other) >= least_of(before) {
+            if !may_be_better(change_within(self.trees.instance(), &one, &other), before) {
                 return before;
             }
         }
         self.better_gain(first, second, before)
     }
 
-    /// The better of what was found and a later move within a route.
-    fn better_within(
-        &self,
-        first: &Chain,
-        second: &Chain,
-        before: Option<(Move, i64)>,
-    ) -> Option<(Move, i64)>
+    /// The better of what was found and a move within a route.
+    fn better_within(&self, first: &Chain, second: &Chain, before: Found) -> Found
         requires plan { IsOfPlan self.now }
         requires lengths { AreLengths self.now first.now second.now }
-        requires within { first.now.route ≡ second.now.route }
+        requires first { first.now.route ≡ self.now.first }
+        requires second { second.now.route ≡ self.now.second }
+        requires within { self.now.first ≡ self.now.second }
         ensures { SearchesAt self.now first.now second.now before result }
     {
         let chain = self.first_chain(*first);
@@ -167,19 +156,16 @@ impl Neighbourhood<'_, '_> {
     }
 
     /// The better of what was found and a move, where that is a gain.
-    pub fn next_gain(
-        &self,
-        first: &Chain,
-        cut: &Cut,
-        second: &Chain,
-        before: Option<(Move, i64)>,
-    ) -> Option<(Move, i64)>
+    #[inline(always)]
+    pub fn next_gain(&self, first: &Chain, cut: &Cut, second: &Chain, before: Found) -> Found
         requires plan { IsOfPlan self.now }
         requires lengths { AreLengths self.now first.now second.now }
+        requires first { first.now.route ≡ self.now.first }
+        requires second { second.now.route ≡ self.now.second }
         requires cut { IsFirstCut (plan_of self.now) self.now.kind first.now cut.now }
         ensures { SearchesAt self.now first.now second.now before result }
     {
-        if first.route == second.route {
+        if self.first == self.second {
             return self.better_within(first, second, before);
         }
         self.better_apart(first, cut, second, before)

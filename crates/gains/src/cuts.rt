@@ -3,12 +3,9 @@
 ghost use Rattle.std.specs.Prelude.{◌≡◌, ◌+◌, ◌*◌, ◌≤◌, ◌⊎◌, length, take, drop, slice_index_or, pos, ◌+ℤ◌, ◌≤ℤ◌, true, MatchOption};
 ghost use Rattle.solomon_reader.specs.Problem.{customer_count};
 ghost use Rattle.solomon_reader.specs.Distance.{distance};
-ghost use Rattle.solomon_reader.specs.Lists.{lists};
-ghost use Rattle.solomon_reader.specs.Moves.{route};
 ghost use Rattle.solomon_reader.specs.declared.limits.TheConstants.{MOST_DISTANCE};
 ghost use Rattle.segments.specs.Segments.{first_of, last_from};
-ghost use Rattle.moves.specs.Changes.{IsChainOf};
-ghost use Rattle.gains.specs.Cuts.{IsCut, IsKnownCut, joint_of, change_apart, change_within, ends_change, AreKnownCuts, IsLeastSwap, IsLeastSwapAt, IsLeastSwapIn, IsLeastShift};
+ghost use Rattle.gains.specs.Cuts.{IsCut, IsKnownCut, joint_of, change_apart, change_within, ends_change, AreKnownCuts, IsLeastSwap, IsLeastSwapAt, IsLeastSwapIn, IsLeastShift, IsLeastEndSwap};
 
 use moves::Chain;
 use solomon_reader::{Instance, MOST_DISTANCE};
@@ -79,15 +76,12 @@ fn cut_of_stops(stops: &[u16], position: usize, count: usize) -> Cut
     }
 }
 
-/// What stands round a chain, or `None` where it doesn't stand in its route.
-pub fn cut_of(routes: &[Vec<u16>], chain: Chain) -> Option<Cut>
-    ensures { MatchOption result (¬ IsChainOf (lists routes.now) chain)
-        (λ c. IsChainOf (lists routes.now) chain × IsCut (route (lists routes.now) chain.route) chain.position chain.length c) }
+/// What stands round some stops of a route, or `None` where they don't stand in it.
+#[inline(always)]
+pub fn cut_of(stops: &[u16], chain: Chain) -> Option<Cut>
+    ensures { MatchOption result (¬ (chain.position + chain.length ≤ length stops.now))
+        (λ c. (chain.position + chain.length ≤ length stops.now) × IsCut stops.now chain.position chain.length c) }
 {
-    let stops = match routes.get(usize::from(chain.route)) {
-        Some(route) => route.as_slice(),
-        None => &[],
-    };
     let (position, length) = (usize::from(chain.position), usize::from(chain.length));
     if position + length > stops.len() {
         return None;
@@ -291,6 +285,25 @@ fn least_of_ends(instance: &Instance, stops: &[u16], chain: &Cut, most: usize) -
         let behind = change_of_ends(instance, rear, gap);
         least = lesser(least, least_front(last, most) + behind);
         last = (change_of_ends(instance, front, gap), last.0, last.1);
+    }
+    least
+}
+
+/// A number of tenths, at most 0: no exchange of the ends from a chain on and behind a gap of a route
+/// changes the cost by less.
+#[inline(always)]
+pub fn least_end_swap(instance: &Instance, stops: &[u16], chain: &Cut) -> i64
+    requires chain { IsKnownCut instance.now chain.now }
+    requires stops { AreKnownCuts instance.now stops.now }
+    ensures { IsLeastEndSwap instance.now stops.now chain.now result }
+{
+    let front = (chain.before, chain.first);
+    let mut least = 0;
+    for position in 0..stops.len() + 1 {
+        least = lesser(
+            least,
+            change_of_ends(instance, front, gap_at(stops, position)),
+        );
     }
     least
 }

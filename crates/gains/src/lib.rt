@@ -1,18 +1,19 @@
-//! The best move of a kind that makes a plan cheaper, found by the change of cost first.
+//! The best move of a kind that makes a plan cheaper, found by the change of cost first, and kept for each
+//! pair of routes.
 #![tactic(auto)]
 
-mod bounds;
 mod choosing;
 mod comparing;
 mod cuts;
+mod found;
+mod keeping;
 mod laws;
 mod neighbourhood;
+mod pair_gains;
 mod passing;
-mod refreshing;
 mod replaced;
 
-pub use bounds::PairBounds;
-pub use choosing::best_gain;
+pub use keeping::best_gain;
 pub use laws::law_of_two_routes;
-pub use refreshing::refresh;
+pub use pair_gains::PairGains;
 pub use replaced::Replaced;

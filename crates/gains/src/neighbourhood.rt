@@ -1,17 +1,16 @@
-//! The moves among which the best gain is sought.
+//! The moves among which a gain is sought.
 
-use crate::bounds::PairBounds;
 use moves::Kind;
 use segments::PlanTrees;
 
-/// The moves of a kind from a plan, whose routes stand as trees and as lists, with bounds of what they
-/// change of the cost.
+/// The moves of a kind from a route of a plan into a route, which may be the new one, with the stops of
+/// both routes.
 #[derive(Drop)]
 pub struct Neighbourhood<'a, 'i> {
     pub trees: &'a PlanTrees<'i>,
-    pub routes: &'a [Vec<u16>],
-    pub bounds: &'a PairBounds,
     pub kind: Kind,
-    /// The route that the moves go into, unless they go into any.
-    pub into: Option<u16>,
+    pub first: u16,
+    pub second: u16,
+    pub stops: &'a [u16],
+    pub others: &'a [u16],
 }

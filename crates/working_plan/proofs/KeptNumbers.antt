@@ -7,7 +7,7 @@ use Rattle.solomon_reader.specs.Plan.{IsPlan, IsFitting}
 use Rattle.solomon_reader.specs.Moves.{route, has_stop, kept}
 use Rattle.moves.proofs.Swaps.{rebuilt-known}
 use Rattle.gains.specs.declared.replaced.Replaced.{Replaced}
-use Rattle.gains.specs.Bounds.{skip_if, IsReplaced}
+use Rattle.gains.specs.Kept.{skip_if, IsReplaced}
 use Rattle.working_plan.specs.Replacing.{HaveStops}
 use Rattle.working_plan.proofs.KeptRoutes.{fitting_stops, kept_all}
 

@@ -1,3 +1,3 @@
 pub mod Gains
 pub mod Replacing
-pub mod KindBounds
+pub mod KindGains

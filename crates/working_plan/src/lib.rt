@@ -1,8 +1,7 @@
 //! A plan that is changed in place by moves.
 #![tactic(auto)]
 
-mod gaining;
-mod kind_bounds;
+mod kind_gains;
 mod plan;
 mod replacing;
 mod tree_plan;

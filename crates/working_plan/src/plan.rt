@@ -7,7 +7,7 @@ ghost use Rattle.moves.specs.Values.{after, HasValue, IsValue};
 ghost use Rattle.moves.specs.declared.fault.MoveFault.TheVariants.{NotFeasible};
 ghost use Rattle.working_plan.specs.Gains.{HasNoGain, IsBestGain};
 
-use crate::kind_bounds::KindBounds;
+use crate::kind_gains::KindGains;
 use crate::tree_plan::TreePlan;
 use moves::{Kind, Move, MoveFault};
 use schedule::Feasible;
@@ -21,18 +21,18 @@ use tenths::Tenths;
 #[derive(Drop)]
 pub struct WorkingPlan<'i> {
     plan: TreePlan<'i>,
-    bounds: KindBounds,
+    gains: KindGains,
 }
 
 impl<'i> Model for WorkingPlan<'i> {
     ghost use Rattle.schedule.specs.Solution.{Solution};
-    ghost use Rattle.working_plan.specs.KindBounds.{AreOfEachKind};
+    ghost use Rattle.working_plan.specs.KindGains.{AreOfEachKind};
 
     ghost Value = { Solution };
 
     ghost view = { λ w. w.plan };
 
-    ghost invariant = { λ w. AreOfEachKind w.plan.problem w.plan.routes w.bounds };
+    ghost invariant = { λ w. AreOfEachKind w.plan.problem w.plan.routes w.gains };
 }
 
 impl<'i> WorkingPlan<'i> {
@@ -40,9 +40,9 @@ impl<'i> WorkingPlan<'i> {
     pub fn new(alloc: Global, plan: &Feasible<'i>) -> Result<WorkingPlan<'i>, AllocError>
         ensures { IfOk result (λ w. w ≡ plan.now) }
     {
-        let bounds = KindBounds::new(alloc, plan.routes().len());
+        let gains = KindGains::new(alloc, plan.routes().len());
         let plan = TreePlan::new(alloc, plan)?;
-        Ok(WorkingPlan { plan, bounds })
+        Ok(WorkingPlan { plan, gains })
     }
 
     /// A copy, unless memory runs out.
@@ -51,7 +51,7 @@ impl<'i> WorkingPlan<'i> {
     {
         Ok(WorkingPlan {
             plan: self.plan.try_clone()?,
-            bounds: self.bounds.try_clone()?,
+            gains: self.gains.try_clone()?,
         })
     }
 
@@ -110,7 +110,7 @@ impl<'i> WorkingPlan<'i> {
         let _old = self.plan.cost();
         let replaced = self.plan.apply(candidate)?;
         let _new = self.plan.cost();
-        self.bounds.follow(&replaced, self.plan.routes().len());
+        self.gains.follow(&replaced, self.plan.routes().len());
         Ok(())
     }
 
@@ -121,7 +121,6 @@ impl<'i> WorkingPlan<'i> {
         ensures gain { IfSome result (λ m. IsBestGain self.old.problem self.old.routes kind m) }
         ensures none { IfNone result (HasNoGain self.old.problem self.old.routes kind) }
     {
-        self.bounds.refresh(&self.plan, kind);
-        self.plan.best_gain(self.bounds.of(kind), kind)
+        self.gains.best_gain(&self.plan, kind)
     }
 }

@@ -11,7 +11,7 @@ ghost use Rattle.segments.specs.Trees.{items_of, IsTree};
 ghost use Rattle.segments.specs.PlanTrees.{problem_of, routes_of, AreTrees};
 ghost use Rattle.moves.specs.Trees.{visits_of, AreOfPlan};
 ghost use Rattle.moves.specs.Changes.{IsChainOf, joined, changed};
-ghost use Rattle.gains.specs.Bounds.{IsReplaced};
+ghost use Rattle.gains.specs.Kept.{IsReplaced};
 ghost use Rattle.working_plan.specs.Replacing.{AreTreesOf, HaveStops};
 
 use gains::Replaced;
@@ -34,7 +34,7 @@ fn made(alloc: Global, instance: &Instance, visits: Vec<u16>) -> Result<MadeRout
     ensures items { IfOk result (λ m. items_of m.tree ≡ map (stop instance.now) visits.items) }
     ensures tree { IfOk result (λ m. IsTree (join instance.now) m.tree) }
 {
-    let mut stops = Vec::new(alloc);
+    let mut stops = Vec::with_capacity(alloc, visits.len())?;
     for customer in visits.as_slice() {
         stops.push(Segment::stop(instance, *customer))?;
     }

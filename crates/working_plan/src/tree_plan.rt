@@ -7,12 +7,11 @@ ghost use Rattle.solomon_reader.specs.Plan.{IsPlan};
 ghost use Rattle.schedule.specs.Solution.{IsSolution};
 ghost use Rattle.moves.specs.Values.{after, HasValue, IsValue};
 ghost use Rattle.moves.specs.declared.fault.MoveFault.TheVariants.{NotFeasible};
-ghost use Rattle.gains.specs.Bounds.{AreBounds, IsReplaced};
+ghost use Rattle.gains.specs.Kept.{AreKept, IsReplaced};
 ghost use Rattle.working_plan.specs.Gains.{HasNoGain, IsBestGain};
 
-use crate::gaining::gain_of_kind;
 use crate::replacing::{replace, replaced_by};
-use gains::{PairBounds, Replaced, refresh};
+use gains::{PairGains, Replaced, best_gain};
 use moves::{Kind, Move, MoveFault, change_of, trees_of, value};
 use schedule::Feasible;
 use segments::PlanTrees;
@@ -175,21 +174,16 @@ impl<'i> TreePlan<'i> {
         Ok(replaced)
     }
 
-    /// Finds the bounds of the moves of a kind, where they aren't known. It takes no memory.
-    pub fn refresh(&self, bounds: &mut PairBounds, kind: Kind)
-        requires { AreBounds self.now.problem self.now.routes kind bounds.old }
-        ensures { AreBounds self.now.problem self.now.routes kind bounds.new }
-    {
-        refresh(bounds, &self.trees, self.routes.as_slice(), kind);
-    }
-
     /// The best move of a kind where it makes the plan cheaper, or `None` where no move of the kind
-    /// does. It takes no memory.
-    pub fn best_gain(&self, bounds: &PairBounds, kind: Kind) -> Option<Move>
-        requires { AreBounds self.now.problem self.now.routes kind bounds.now }
+    /// does. What is found of two routes is kept. It takes no memory.
+    #[inline(always)]
+    pub fn best_gain(&self, kept: &mut PairGains, kind: Kind) -> Option<Move>
+        requires { AreKept self.now.problem self.now.routes kind kept.old }
+        ensures kept { AreKept self.now.problem self.now.routes kind kept.new }
         ensures gain { IfSome result (λ m. IsBestGain self.now.problem self.now.routes kind m) }
         ensures none { IfNone result (HasNoGain self.now.problem self.now.routes kind) }
     {
-        gain_of_kind(&self.trees, self.routes.as_slice(), bounds, kind)
+        let (candidate, _) = best_gain(kept, &self.trees, self.routes.as_slice(), kind)?;
+        Some(candidate)
     }
 }

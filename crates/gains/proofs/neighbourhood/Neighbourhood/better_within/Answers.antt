@@ -1,4 +1,4 @@
-use Rattle.std.proofs.Common.{◌<◌, ◌≡◌, ◌+◌, arith, rules}
+use Rattle.std.proofs.Common.{◌<◌, ◌≡◌, ◌+◌, sym, ◌∙◌, arith, rules}
 use Rattle.gains.specs.Searches.{instance_of, plan_of}
 use Rattle.gains.proofs.MoveChanges.{shifts_back, shifts_forward}
 use Rattle.gains.proofs.neighbourhood.Neighbourhood.better_within.Goals as goal
@@ -10,7 +10,8 @@ better_shift-requires-clause-shifts c =
     let s = c.args.second.now in
     let e = c.first_chain-chain.ensures in
     let behind : s.position < f.position = rw e at c.if-second-chain.true in
-    rw e (shifts_back (instance_of m) (plan_of m) m.kind f s (c.is_shift-shifts.ensures.0 (search rules)) c.requires.within behind)
+    let within : f.route ≡ s.route = c.requires.first ∙ c.requires.within ∙ sym c.requires.second in
+    rw e (shifts_back (instance_of m) (plan_of m) m.kind f s (c.is_shift-shifts.ensures.0 (search rules)) within behind)
 
 pub better_shift-requires-then-chain-second-clause-shifts : goal.better_shift-requires-then-chain-second-clause-shifts
 better_shift-requires-then-chain-second-clause-shifts c =
@@ -19,5 +20,6 @@ better_shift-requires-then-chain-second-clause-shifts c =
     let s = c.args.second.now in
     let e = c.first_chain-chain.ensures in
     let behind : f.position < s.position = rw e at c.if-chain-second.true in
+    let within : f.route ≡ s.route = c.requires.first ∙ c.requires.within ∙ sym c.requires.second in
     let sum : c.in-Some.end ≡ c.first_chain-chain.result.position + c.first_chain-chain.result.length = grind arith in
-    rw (sum, e) (shifts_forward (instance_of m) (plan_of m) m.kind f s (c.is_shift-shifts.ensures.0 (search rules)) c.requires.within behind)
+    rw (sum, e) (shifts_forward (instance_of m) (plan_of m) m.kind f s (c.is_shift-shifts.ensures.0 (search rules)) within behind)

@@ -3,4 +3,4 @@ use Rattle.gains.specs.Searches.{SearchesRange}
 use Rattle.gains.proofs.neighbourhood.Neighbourhood.gain_at_position.Given as goal
 
 abbrev pub invariant-loop-length : goal.invariant-loop-length
-invariant-loop-length l = SearchesRange l.self (l.first.route ∷ l.first.position ∷ l.first.length ∷ l.route ∷ l.position ∷ []) l.length l.fn.before l.best
+invariant-loop-length l = SearchesRange l.self (l.first.route ∷ l.first.position ∷ l.first.length ∷ l.self.second ∷ l.position ∷ []) l.length l.fn.before l.best

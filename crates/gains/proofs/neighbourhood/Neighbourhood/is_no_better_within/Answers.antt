@@ -1,11 +1,14 @@
-use Rattle.std.proofs.Common.{◌≡◌, ◌+◌, length, arith, rules, to_z, of_z, w64}
+use Rattle.std.proofs.Common.{◌≡◌, ◌+◌, ◌∙◌, [], ◌∷◌, sym, subst, length, arith, rules, to_z, of_z, w64}
 use Rattle.std.specs.Prelude.{pos, ◌≤ℤ◌}
 use Rattle.std.proofs.lemmas.Int.{ints}
 use Rattle.solomon_reader.specs.Moves.{route}
 use Rattle.gains.specs.Cuts.{IsLeastShift}
-use Rattle.gains.specs.Gains.{least_of, taken_chain, first_taken}
+use Rattle.moves.specs.Search.{numbers}
+use Rattle.gains.specs.Gains.{MayBeBetter, Starts, taken_chain, first_taken}
 use Rattle.gains.specs.Searches.{instance_of, plan_of}
 use Rattle.gains.proofs.CutStops.{known_cut}
+use Rattle.gains.proofs.Founds.{no_better_by}
+use Rattle.gains.proofs.GainSearching.{with_second}
 use Rattle.gains.proofs.PassedRoutes.{known_cuts}
 use Rattle.gains.proofs.SwapBounds.{low_enough}
 use Rattle.gains.proofs.PassedShifts.{no_shift_is_better}
@@ -19,7 +22,7 @@ least_shift-least-requires-clause-chain c =
 pub least_shift-least-requires-clause-stops : goal.least_shift-least-requires-clause-stops
 least_shift-least-requires-clause-stops c =
     let m = c.args.self.now in
-    rw (c.instance-instance.ensures, c.stops_of-stops.ensures, c.requires.plan.routes) (known_cuts (instance_of m) (plan_of m) c.args.first.now.route c.requires.plan.trees.plan)
+    rw (c.instance-instance.ensures, c.requires.plan.stops) (known_cuts (instance_of m) (plan_of m) m.first c.requires.plan.trees.plan)
 
 pub least_shift-least-requires-2-clause-chain : goal.least_shift-least-requires-2-clause-chain
 least_shift-least-requires-2-clause-chain c =
@@ -29,10 +32,10 @@ least_shift-least-requires-2-clause-chain c =
 pub least_shift-least-requires-2-clause-stops : goal.least_shift-least-requires-2-clause-stops
 least_shift-least-requires-2-clause-stops c =
     let m = c.args.self.now in
-    rw (c.instance-instance.ensures, c.stops_of-stops.ensures, c.requires.plan.routes) (known_cuts (instance_of m) (plan_of m) c.args.first.now.route c.requires.plan.trees.plan)
+    rw (c.instance-instance.ensures, c.requires.plan.stops) (known_cuts (instance_of m) (plan_of m) m.first c.requires.plan.trees.plan)
 
 pub returns : goal.returns
-returns c = λ yes.
+returns c = λ yes n u of s h.
     let m = c.args.self.now in
     let f = c.args.first.now in
     let r = route (plan_of m) f.route in
@@ -44,13 +47,16 @@ returns c = λ yes.
     let same : to_z w64 (of_z w64 one) ≡ one = omega (arith, ints) in
     let less : least ≤ℤ one = rw same at c.least_shift-least-2.ensures.lower in
     let low : one ≤ℤ pos 0 = omega (arith, ints, c.least_shift-least.ensures.lower) in
+    let stops : c.args.self.now.stops.now ≡ r = rw c.requires.first c.requires.plan.stops in
     let before : IsLeastShift (instance_of m) r c.args.cut.now 0 f.position least
     = λ i above below fits. low_enough least one _ less (
-    (rw (c.instance-instance.ensures, c.stops_of-stops.ensures, c.requires.plan.routes) at c.least_shift-least.ensures.least) i above (grind arith) fits
+    (rw (c.instance-instance.ensures, stops) at c.least_shift-least.ensures.least) i above (grind arith) fits
     ) in
     let behind : IsLeastShift (instance_of m) r c.args.cut.now (f.position + taken.length + 1) (length r + 1) least
-    = λ i above below fits. (rw (c.instance-instance.ensures, c.stops_of-stops.ensures, c.requires.plan.routes) at c.least_shift-least-2.ensures.least) i (grind arith) (grind arith) fits in
-    let high : least_of c.args.before ≤ℤ least = grind (arith, ints) in
-    record {
-      least = no_shift_is_better (instance_of m) (plan_of m) m.kind f c.args.cut.now least (least_of c.args.before) (c.is_shift.ensures.0 (search rules)) c.requires.cut before behind (omega (arith, ints, less, low)) high;
-    }
+    = λ i above below fits. (rw (c.instance-instance.ensures, stops) at c.least_shift-least-2.ensures.least) i (grind arith) (grind arith) fits in
+    let second : f.route ≡ m.second = c.requires.first ∙ c.requires.within in
+    let same_too : to_z w64 (of_z w64 least) ≡ least = omega (arith, ints) in
+    let high : ¬ MayBeBetter c.args.before least = rw same_too at (c.may_be_better.ensures.no (search rules)) in
+    no_better_by c.args.before n least u high
+    (no_shift_is_better (instance_of m) (plan_of m) m.kind f c.args.cut.now least (c.is_shift.ensures.0 (search rules)) c.requires.cut before behind (omega (arith, ints, less, low))
+    n u of.kind (subst (λ b. Starts (f.route ∷ f.position ∷ f.length ∷ b ∷ []) (numbers n)) (sym second) (with_second n f.route f.position f.length m.second of.second s)) h)

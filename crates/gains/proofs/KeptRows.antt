@@ -1,0 +1,122 @@
+-- Rows of bounds.
+use Rattle.std.proofs.Common.{◌≡◌, ◌≢◌, refl, sym, ap, subst, ◌∙◌, ℕ, zero, suc, ◌<◌, ◌≤◌, List, [], ◌∷◌, ◌++◌, length, map, get_or, set, arith, inl, inr, get_or-set_other}
+use Rattle.std.specs.List.{remove}
+use Rattle.std.specs.Prelude.{Option, None, ◌⊎◌, Vec}
+use Rattle.std.specs.declared.alloc.Global.{Global}
+use Rattle.std.proofs.lemmas.Bool.{cases_lt, cases_eq}
+use Rattle.std.proofs.lemmas.List.{get_or-set_same, get_or_past, map-set, set_past}
+use Rattle.gains.specs.Gains.{Found}
+use Rattle.gains.specs.Kept.{skip}
+
+abbrev Rows : Type 0
+Rows = List (List (Option Found))
+
+abbrev pub items_of : List (Vec (Option Found) Global) → Rows
+items_of rows = map (λ (v : Vec (Option Found) Global). v.items) rows
+
+abbrev pub entry : Rows → ℕ → ℕ → Option Found
+entry rows a b = get_or (get_or rows a []) b None
+
+pub row_at : (rows : List (Vec (Option Found) Global)) (a : ℕ) (row : Vec (Option Found) Global) → a < length rows → row ≡ get_or rows a row → get_or (items_of rows) a [] ≡ row.items
+row_at [] a row h e = absurd (omega (arith, h))
+row_at (v ∷ rows) zero row h e = ap (λ (w : Vec (Option Found) Global). w.items) (sym e)
+row_at (v ∷ rows) (suc a) row h e = row_at rows a row (omega (arith, h)) e
+
+-- an item is put in its place
+pub item_put : (rows : List (Vec (Option Found) Global)) (a b : ℕ) (o : Option Found) (row new : Vec (Option Found) Global) → a < length rows → row ≡ get_or rows a row → new.items ≡ set row.items b o
+    → items_of (set rows a new) ≡ set (items_of rows) a (set (get_or (items_of rows) a []) b o)
+item_put rows a b o row new known is made =
+    map-set (λ (v : Vec (Option Found) Global). v.items) rows a new
+    ∙ ap (λ r. set (items_of rows) a r) (made ∙ ap (λ r. set r b o) (sym (row_at rows a row known is)))
+
+in_row : (row : List (Option Found)) (b : ℕ) (o : Option Found) (d : ℕ) → (get_or (set row b o) d None ≡ get_or row d None) ⊎ ((d ≡ b) × (get_or (set row b o) d None ≡ o))
+in_row row b o d =
+    elim (cases_eq d b) [
+      | inr ne ↦ inl (get_or-set_other row b d o None ne)
+      | inl e ↦ elim (cases_lt b (length row)) [
+        | inl known ↦ inr (e, ap (λ i. get_or (set row b o) i None) e ∙ get_or-set_same row b o None known)
+        | inr past ↦ inl (ap (λ r. get_or r d None) (set_past row b o past))
+      ]
+    ]
+
+-- one item changes
+pub put_entry : (rows : Rows) (a b : ℕ) (o : Option Found) (c d : ℕ)
+    → (entry (set rows a (set (get_or rows a []) b o)) c d ≡ entry rows c d) ⊎ ((c ≡ a) × ((d ≡ b) × (entry (set rows a (set (get_or rows a []) b o)) c d ≡ o)))
+put_entry rows a b o c d =
+    let row = set (get_or rows a []) b o in
+    elim (cases_eq c a) [
+      | inr ne ↦ inl (ap (λ r. get_or r d None) (get_or-set_other rows a c row [] ne))
+      | inl e ↦ elim (cases_lt a (length rows)) [
+        | inr past ↦ inl (ap (λ r. entry r c d) (set_past rows a row past))
+        | inl known ↦
+            let here : get_or (set rows a row) c [] ≡ row = ap (λ i. get_or (set rows a row) i []) e ∙ get_or-set_same rows a row [] known in
+            let there : get_or rows a [] ≡ get_or rows c [] = ap (λ i. get_or rows i []) (sym e) in
+            elim (in_row (get_or rows a []) b o d) [
+              | inl same ↦ inl (ap (λ r. get_or r d None) here ∙ same ∙ ap (λ r. get_or r d None) there)
+              | inr new ↦ inr (e, (new.0, ap (λ r. get_or r d None) here ∙ new.1))
+            ]
+      ]
+    ]
+
+none_in_row : (row : List (Option Found)) (b : ℕ) → get_or (set row b None) b None ≡ None
+none_in_row [] zero = refl
+none_in_row [] (suc b) = refl
+none_in_row (o ∷ row) zero = refl
+none_in_row (o ∷ row) (suc b) = none_in_row row b
+
+pub none_put : (rows : Rows) (a b : ℕ) → entry (set rows a (set (get_or rows a []) b None)) a b ≡ None
+none_put rows a b =
+    elim (cases_lt a (length rows)) [
+      | inl known ↦ ap (λ r. get_or r b None) (get_or-set_same rows a (set (get_or rows a []) b None) [] known) ∙ none_in_row (get_or rows a []) b
+      | inr past ↦ ap (λ r. entry r a b) (set_past rows a (set (get_or rows a []) b None) past) ∙ ap (λ r. get_or r b None) (get_or_past rows a [] past)
+    ]
+
+pub none_behind : (row : List (Option Found)) (i : ℕ) → get_or (row ++ (None ∷ [])) i None ≡ get_or row i None
+none_behind [] zero = refl
+none_behind [] (suc i) = refl
+none_behind (o ∷ row) zero = refl
+none_behind (o ∷ row) (suc i) = none_behind row i
+
+pub empty_behind : (rows : Rows) (a : ℕ) → get_or (rows ++ ([] ∷ [])) a [] ≡ get_or rows a []
+empty_behind [] zero = refl
+empty_behind [] (suc a) = refl
+empty_behind (r ∷ rows) zero = refl
+empty_behind (r ∷ rows) (suc a) = empty_behind rows a
+
+-- one row changes
+pub other_row : (rows : List (Vec (Option Found) Global)) (n : ℕ) (new : Vec (Option Found) Global) (a : ℕ) → a ≢ n → get_or (items_of (set rows n new)) a [] ≡ get_or (items_of rows) a []
+other_row rows n new a ne = ap (λ r. get_or r a []) (map-set (λ (v : Vec (Option Found) Global). v.items) rows n new) ∙ get_or-set_other (items_of rows) n a new.items [] ne
+
+pub this_row : (rows : List (Vec (Option Found) Global)) (n : ℕ) (new : Vec (Option Found) Global) → n < length rows → get_or (items_of (set rows n new)) n [] ≡ new.items
+this_row [] n new h = absurd (omega (arith, h))
+this_row (v ∷ rows) zero new h = refl
+this_row (v ∷ rows) (suc n) new h = this_row rows n new (omega (arith, h))
+
+-- what is behind a row that goes is numbered anew
+pub without_row : {X : Type 0} (xs : List X) (r i : ℕ) (d : X) → r < length xs → get_or (remove xs r) i d ≡ get_or xs (skip r i) d
+without_row [] r i d h = absurd (omega (arith, h))
+without_row (x ∷ xs) zero i d h = refl
+without_row (x ∷ xs) (suc r) zero d h = refl
+without_row (x ∷ xs) (suc r) (suc i) d h = without_row xs r i d (omega (arith, h))
+
+pub nothing_behind : {X : Type 0} (xs : List X) (r i : ℕ) (d : X) → length xs ≤ r → get_or xs i d ≡ get_or xs (skip r i) d
+nothing_behind [] r i d h = refl
+nothing_behind (x ∷ xs) zero i d h = absurd (omega (arith, h))
+nothing_behind (x ∷ xs) (suc r) zero d h = refl
+nothing_behind (x ∷ xs) (suc r) (suc i) d h = nothing_behind xs r i d (omega (arith, h))
+
+-- a row has the same bounds
+pub row_kept : (rows : List (Vec (Option Found) Global)) (n : ℕ) (row new : Vec (Option Found) Global) → n < length rows → row ≡ get_or rows n row
+    → ((i : ℕ) → get_or new.items i None ≡ get_or row.items i None) → (a b : ℕ) → entry (items_of (set rows n new)) a b ≡ entry (items_of rows) a b
+row_kept rows n row new known is same a b =
+    elim (cases_eq a n) [
+      | inr ne ↦ ap (λ r. get_or r b None) (other_row rows n new a ne)
+      | inl e ↦ subst (λ i. entry (items_of (set rows n new)) i b ≡ entry (items_of rows) i b) (sym e)
+          (ap (λ r. get_or r b None) (this_row rows n new known) ∙ same b ∙ ap (λ r. get_or r b None) (sym (row_at rows n row known is)))
+    ]
+
+pub row_taken : (rows : List (Vec (Option Found) Global)) (r a : ℕ) → r < length rows → get_or (items_of (remove rows r)) a [] ≡ get_or (items_of rows) (skip r a) []
+row_taken [] r a h = absurd (omega (arith, h))
+row_taken (v ∷ rows) zero a h = refl
+row_taken (v ∷ rows) (suc r) zero h = refl
+row_taken (v ∷ rows) (suc r) (suc a) h = row_taken rows r a (omega (arith, h))

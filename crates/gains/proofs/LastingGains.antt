@@ -1,0 +1,172 @@
+-- Gains that last through a change of two routes.
+use Rattle.std.proofs.Common.{◌≡◌, ◌≢◌, refl, sym, ap, subst, ◌∙◌, ℕ, zero, suc, ◌<◌, ◌≤◌, Bool, true, false, List, [], ◌∷◌, length, get_or, set, arith, inl, inr}
+use Rattle.std.specs.Prelude.{ℤ, Option, None, Some, IfSome, ◌⊎◌}
+use Rattle.std.specs.List.{AllByRecursion}
+use Rattle.std.proofs.lemmas.Bool.{cases_lt, cases_eq}
+use Rattle.std.proofs.lemmas.List.{get_or_past}
+use Rattle.solomon_reader.specs.Problem.{Problem}
+use Rattle.solomon_reader.specs.Plan.{IsPlan, IsFitting}
+use Rattle.solomon_reader.specs.Moves.{route}
+use Rattle.moves.specs.declared.candidate.Move.{Move}
+use Rattle.moves.specs.declared.candidate.Kind.{Kind}
+use Rattle.moves.specs.Values.{HasValue}
+use Rattle.gains.specs.declared.pair_gains.PairGains.{PairGains}
+use Rattle.gains.specs.declared.replaced.Replaced.{Replaced}
+use Rattle.gains.specs.Gains.{Found, IsNoBetter, IsFoundAmong, IsBestAmong}
+use Rattle.gains.specs.Kept.{second_route, IsBetween, with_routes, found_between, rows_of, entry_of, AreKept, IsForgotten, HasSameEntries, skip, skip_if, origin_of, IsOther, Follows, IsReplaced}
+use Rattle.gains.proofs.KeptRows.{put_entry}
+use Rattle.gains.proofs.Renumbering.{Stands, StandBoth, same_value, kind_with, first_with, second_with, with_twice, with_same, no_better_elsewhere}
+
+same_found : (p : Problem) (routes : List (List ℕ)) (k : Kind) (a b : ℕ) (o : Found) → IsFoundAmong p routes (IsBetween k a b) o → found_between o a b ≡ o
+same_found p routes k a b None h = refl
+same_found p routes k a b (Some r) h = ap (λ n. Some (n, r.1)) (with_same r.0 a b h.0.first h.0.second)
+
+-- what is found is kept
+pub one_found : (p : Problem) (routes : List (List ℕ)) (k : Kind) (a b : ℕ) (found : Found) (old new : PairGains) → AreKept p routes k old → IsBestAmong p routes (IsBetween k a b) found
+    → rows_of new ≡ set (rows_of old) a (set (get_or (rows_of old) a []) b (Some found)) → AreKept p routes k new
+one_found p routes k a b found old new kept best is c d known_c known_d =
+    let put : entry_of new c d ≡ get_or (get_or (set (rows_of old) a (set (get_or (rows_of old) a []) b (Some found))) c []) d None
+    = ap (λ r. get_or (get_or r c []) d None) is in
+    elim (put_entry (rows_of old) a b (Some found) c d) [
+      | inl same ↦ subst (λ o. IfSome o (λ f. IsBestAmong p routes (IsBetween k c d) (found_between f c d))) (sym (put ∙ same)) (kept c d known_c known_d)
+      | inr new ↦ subst (λ o. IfSome o (λ f. IsBestAmong p routes (IsBetween k c d) (found_between f c d))) (sym (put ∙ new.1.1))
+          (subst (λ i. IsBestAmong p routes (IsBetween k i d) (found_between found i d)) (sym new.0)
+          (subst (λ j. IsBestAmong p routes (IsBetween k a j) (found_between found a j)) (sym new.1.0)
+          (subst (IsBestAmong p routes (IsBetween k a b)) (sym (same_found p routes k a b found best.found)) best)))
+    ]
+
+-- AFTER TWO ROUTES WERE REPLACED
+
+module _ (r : Replaced) (count : ℕ) (old b1 b2 b3 b4 b5 new : PairGains) (first : IsForgotten r.first old b1) (second : IsForgotten r.second b1 b2)
+    (out : (c d : ℕ) → entry_of b3 c d ≡ entry_of b2 (skip_if r.second_goes r.second c) (skip_if r.second_goes r.second d))
+    (out_too : (c d : ℕ) → entry_of b4 c d ≡ entry_of b3 (skip_if r.first_goes r.first c) (skip_if r.first_goes r.first d))
+    (last : IsForgotten count b4 b5) (same : HasSameEntries b5 new) where
+  abbrev C : ℕ → ℕ
+  C c = origin_of r c
+
+  none_last : (c d : ℕ) → entry_of b5 c d ≡ None → entry_of new c d ≡ None
+  none_last c d h = same c d ∙ h
+
+  from_b2 : (c d : ℕ) → entry_of b5 c d ≡ entry_of b4 c d → entry_of new c d ≡ entry_of b2 (C c) (C d)
+  from_b2 c d h = same c d ∙ h ∙ out_too c d ∙ out (skip_if r.first_goes r.first c) (skip_if r.first_goes r.first d)
+
+  kept_last : (c d : ℕ) → c ≢ count → d ≢ count → entry_of new c d ≡ entry_of b2 (C c) (C d)
+  kept_last c d x y = from_b2 c d (last.kept c d x y)
+
+  kept_second : (c d : ℕ) → c ≢ count → d ≢ count → C c ≢ r.second → C d ≢ r.second → entry_of new c d ≡ entry_of b1 (C c) (C d)
+  kept_second c d x y z w = kept_last c d x y ∙ second.kept (C c) (C d) z w
+
+  kept_all : (c d : ℕ) → IsOther r count c → IsOther r count d → entry_of new c d ≡ entry_of old (C c) (C d)
+  kept_all c d x y = kept_second c d x.known y.known x.second y.second ∙ first.kept (C c) (C d) x.first y.first
+
+  abbrev Each : ℕ → ℕ → Type 0
+  Each c d = (entry_of new c d ≡ None) ⊎ (IsOther r count c × (IsOther r count d × (entry_of new c d ≡ entry_of old (origin_of r c) (origin_of r d))))
+
+  each_of : (c d : ℕ) → ((c ≡ count) ⊎ (c ≢ count)) → ((d ≡ count) ⊎ (d ≢ count)) → ((C c ≡ r.second) ⊎ (C c ≢ r.second)) → ((C d ≡ r.second) ⊎ (C d ≢ r.second))
+      → ((C c ≡ r.first) ⊎ (C c ≢ r.first)) → ((C d ≡ r.first) ⊎ (C d ≢ r.first)) → Each c d
+  each_of c d (inl e) y z w u v = inl (none_last c d (subst (λ i. entry_of b5 i d ≡ None) (sym e) (last.from d)))
+  each_of c d x (inl e) z w u v = inl (none_last c d (subst (λ i. entry_of b5 c i ≡ None) (sym e) (last.into c)))
+  each_of c d (inr x) (inr y) (inl e) w u v = inl (kept_last c d x y ∙ subst (λ i. entry_of b2 i (C d) ≡ None) (sym e) (second.from (C d)))
+  each_of c d (inr x) (inr y) z (inl e) u v = inl (kept_last c d x y ∙ subst (λ i. entry_of b2 (C c) i ≡ None) (sym e) (second.into (C c)))
+  each_of c d (inr x) (inr y) (inr z) (inr w) (inl e) v = inl (kept_second c d x y z w ∙ subst (λ i. entry_of b1 i (C d) ≡ None) (sym e) (first.from (C d)))
+  each_of c d (inr x) (inr y) (inr z) (inr w) u (inl e) = inl (kept_second c d x y z w ∙ subst (λ i. entry_of b1 (C c) i ≡ None) (sym e) (first.into (C c)))
+  each_of c d (inr x) (inr y) (inr z) (inr w) (inr u) (inr v) =
+      let one : IsOther r count c = record { first = u; second = z; known = x } in
+      let other : IsOther r count d = record { first = v; second = w; known = y } in
+      inr (one, (other, kept_all c d one other))
+
+  pub followed : Follows r count old new
+  followed = record {
+    kept = kept_all;
+    each = λ c d. each_of c d (cases_eq c count) (cases_eq d count) (cases_eq (C c) r.second) (cases_eq (C d) r.second) (cases_eq (C c) r.first) (cases_eq (C d) r.first);
+  }
+
+skip_order : (r c d : ℕ) → c < d → skip r c < skip r d
+skip_order zero c d h = omega (arith, h)
+skip_order (suc r) zero zero h = absurd (omega (arith, h))
+skip_order (suc r) zero (suc d) h = omega arith
+skip_order (suc r) (suc c) zero h = absurd (omega (arith, h))
+skip_order (suc r) (suc c) (suc d) h = omega (arith, skip_order r c d (omega (arith, h)))
+
+skip_if_order : (goes : Bool) (r c d : ℕ) → c < d → skip_if goes r c < skip_if goes r d
+skip_if_order true r c d h = skip_order r c d h
+skip_if_order false r c d h = h
+
+origins_in_order : (r : Replaced) (c d : ℕ) → c < d → origin_of r c < origin_of r d
+origins_in_order r c d h = skip_if_order r.second_goes r.second (skip_if r.first_goes r.first c) (skip_if r.first_goes r.first d) (skip_if_order r.first_goes r.first c d h)
+
+some_stop : (p : Problem) (routes : List (List ℕ)) (c : ℕ) → AllByRecursion (IsFitting p) routes → c < length routes → 0 < length (route routes c)
+some_stop p [] c all h = absurd (omega (arith, h))
+some_stop p (r ∷ routes) zero all h = all.0.some
+some_stop p (r ∷ routes) (suc c) all h = some_stop p routes c all.1 (omega (arith, h))
+
+through : {X : Type 0} (o : Option X) (P Q : X → Type 0) → ((x : X) → P x → Q x) → IfSome o P → IfSome o Q
+through None P Q f h = tt
+through (Some x) P Q f h = f x h
+
+turned : (S R : List (List ℕ)) (a b c d : ℕ) → StandBoth S R a b c d → StandBoth R S c d a b
+turned S R a b c d both = record {
+  one = record { known = both.one.there; there = both.one.known; same = sym both.one.same };
+  other = record { known = both.other.there; there = both.other.known; same = sym both.other.same };
+  up = λ less. elim (cases_lt a b) [ inl h ↦ h | inr past ↦ elim (cases_lt b a) [ inl h ↦ absurd (omega (arith, both.down h, less)) | inr other ↦ let e : a ≡ b = omega arith in absurd (omega (arith, both.equal e, less)) ] ];
+  down = λ less. elim (cases_lt b a) [ inl h ↦ h | inr past ↦ elim (cases_lt a b) [ inl h ↦ absurd (omega (arith, both.up h, less)) | inr other ↦ let e : a ≡ b = omega arith in absurd (omega (arith, both.equal e, less)) ] ];
+  equal = λ same. elim (cases_lt a b) [ inl h ↦ absurd (omega (arith, both.up h, same)) | inr past ↦ elim (cases_lt b a) [ inl h ↦ absurd (omega (arith, both.down h, same)) | inr other ↦ omega arith ] ];
+}
+
+-- the best gain between two routes of S is that between the same two of R
+module _ (p : Problem) (S R : List (List ℕ)) (k : Kind) (a b c d : ℕ) (plan_s : IsPlan p S) (plan_r : IsPlan p R) (both : StandBoth S R a b c d) where
+  found_there : (o : Found) → IsFoundAmong p S (IsBetween k a b) (found_between o a b) → IsFoundAmong p R (IsBetween k c d) (found_between o c d)
+  found_there None h = tt
+  found_there (Some r) h =
+      let n = with_routes r.0 a b in
+      let stand = subst (λ i. StandBoth S R i (second_route n) c d) (sym (first_with r.0 a b)) (subst (λ j. StandBoth S R a j c d) (sym (second_with r.0 a b)) both) in (
+        record { kind = kind_with r.0 c d ∙ sym (kind_with r.0 a b) ∙ h.0.kind; first = first_with r.0 c d; second = second_with r.0 c d },
+        (subst (λ m. HasValue p R m r.1) (with_twice r.0 a b c d) (same_value p S R c d n r.1 plan_s plan_r stand h.1.0), h.1.1),
+      )
+
+  pub best_there : (o : Found) → IsBestAmong p S (IsBetween k a b) (found_between o a b) → IsBestAmong p R (IsBetween k c d) (found_between o c d)
+  best_there o h = record { found = found_there o h.found; best = best }
+    where
+      best : (n : Move) (u : ℤ) → IsBetween k c d n → HasValue p R n u → IsNoBetter (found_between o c d) n u
+      best n u of v =
+          let back = turned S R a b c d both in
+          let stand = subst (λ i. StandBoth R S i (second_route n) a b) (sym of.first) (subst (λ j. StandBoth R S c j a b) (sym of.second) back) in
+          let there = same_value p R S a b n u plan_r plan_s stand v in
+          let among : IsBetween k a b (with_routes n a b) = record { kind = kind_with n a b ∙ of.kind; first = first_with n a b; second = second_with n a b } in
+          subst (λ m. IsNoBetter (found_between o c d) m u) (with_same n c d of.first of.second) (no_better_elsewhere o n u a b c d (h.best (with_routes n a b) u among there))
+
+module _ (p : Problem) (old new : List (List ℕ)) (r : Replaced) (before : IsPlan p old) (after : IsPlan p new) (replaced : IsReplaced old new r) where
+  stands : (c : ℕ) → c < length new → IsOther r (length new) c → Stands new old c (origin_of r c)
+  stands c known other =
+      let same : route new c ≡ route old (origin_of r c) = replaced.others c known other.first other.second in
+      record {
+        known = known;
+        there = elim (cases_lt (origin_of r c) (length old)) [
+          | inl there ↦ there
+          | inr past ↦ absurd (omega (arith, some_stop p new c after.fitting known, ap length same, ap length (get_or_past old (origin_of r c) [] past)))
+        ];
+        same = same;
+      }
+
+  stand_both : (c d : ℕ) → c < length new → d < length new → IsOther r (length new) c → IsOther r (length new) d → StandBoth new old c d (origin_of r c) (origin_of r d)
+  stand_both c d known_c known_d one other = record {
+    one = stands c known_c one;
+    other = stands d known_d other;
+    up = origins_in_order r c d;
+    down = origins_in_order r d c;
+    equal = ap (origin_of r);
+  }
+
+  -- what is kept of two other routes stays so
+  pub entries_last : (k : Kind) (b c : PairGains) → AreKept p old k b → Follows r (length new) b c → AreKept p new k c
+  entries_last k b c kept follows i j known_i known_j = elim (follows.each i j) [
+    | inl none ↦ subst (λ o. IfSome o (λ f. IsBestAmong p new (IsBetween k i j) (found_between f i j))) (sym none) tt
+    | inr f ↦
+        let last : j ≢ length new = f.1.0.known in
+        let both = stand_both i j known_i (omega (arith, known_j, last)) f.0 f.1.0 in
+        let back = turned new old i j (origin_of r i) (origin_of r j) both in
+        subst (λ o. IfSome o (λ f. IsBestAmong p new (IsBetween k i j) (found_between f i j))) (sym f.1.1)
+        (through (entry_of b (origin_of r i) (origin_of r j)) (λ f. IsBestAmong p old (IsBetween k (origin_of r i) (origin_of r j)) (found_between f (origin_of r i) (origin_of r j))) (λ f. IsBestAmong p new (IsBetween k i j) (found_between f i j))
+        (best_there p old new k (origin_of r i) (origin_of r j) i j before after back)
+        (kept (origin_of r i) (origin_of r j) both.one.there (omega (arith, both.other.there))))
+  ]

@@ -1,0 +1,129 @@
+//! The best move of a kind that makes a plan cheaper, by what is kept of pairs of routes.
+
+ghost use Rattle.std.specs.Prelude.{◌≡◌, ◌<◌, ◌≤◌, length};
+ghost use Rattle.solomon_reader.specs.Lists.{lists};
+ghost use Rattle.solomon_reader.specs.Moves.{route};
+ghost use Rattle.segments.specs.PlanTrees.{problem_of};
+ghost use Rattle.moves.specs.Order.{kind_of};
+ghost use Rattle.moves.specs.Trees.{visits_of, AreOfPlan};
+ghost use Rattle.gains.specs.Gains.{IsBestGainIfAny, IsBestAmong, IsFoundAmong};
+ghost use Rattle.gains.specs.Kept.{IsBetween, AreKept, first_route, lowest_second, end_of_seconds};
+ghost use Rattle.gains.specs.Searches.{Searches};
+
+use crate::found::{Found, better, found_between};
+use crate::neighbourhood::Neighbourhood;
+use crate::pair_gains::PairGains;
+use moves::{Kind, Move, route_count};
+use segments::PlanTrees;
+use std::ops::Range;
+
+/// The routes that moves of a kind from a route go into.
+#[inline(always)]
+fn seconds_of(trees: &PlanTrees<'_>, kind: Kind, first: u16) -> Range<u16>
+    requires { AreOfPlan trees.now }
+    ensures start { result.start ≤ lowest_second kind first }
+    ensures end { end_of_seconds kind (length (visits_of trees.now)) ≡ result.end }
+{
+    let count = route_count(trees);
+    match kind {
+        Kind::Relocate | Kind::OrOpt => 0..count + 1,
+        Kind::Exchange => first..count,
+        Kind::TwoOptStar | Kind::Cross => first.saturating_add(1)..count,
+    }
+}
+
+/// The stops of a route; an unknown one has none.
+#[inline(always)]
+fn stops_of(routes: &[Vec<u16>], number: u16) -> &[u16]
+    ensures { result.now ≡ route (lists routes.now) number }
+{
+    match routes.get(usize::from(number)) {
+        Some(stops) => stops.as_slice(),
+        None => &[],
+    }
+}
+
+/// The best gain of a kind from a route into a route, which may be the new one: the one that is kept, or
+/// one that is found and kept.
+#[inline(always)]
+fn gain_between(
+    kept: &mut PairGains,
+    trees: &PlanTrees<'_>,
+    routes: &[Vec<u16>],
+    kind: Kind,
+    first: u16,
+    second: u16,
+) -> Found
+    requires plan { AreOfPlan trees.now }
+    requires routes { lists routes.now ≡ visits_of trees.now }
+    requires kept { AreKept (problem_of trees.now) (visits_of trees.now) kind kept.old }
+    requires first { first < length (visits_of trees.now) }
+    requires second { second ≤ length (visits_of trees.now) }
+    ensures kept { AreKept (problem_of trees.now) (visits_of trees.now) kind kept.new }
+    ensures best { IsBestAmong (problem_of trees.now) (visits_of trees.now) (IsBetween kind first second) result }
+{
+    if let Some(found) = kept.at(first, second) {
+        return found_between(found, first, second);
+    }
+    let neighbourhood = Neighbourhood {
+        trees,
+        kind,
+        first,
+        second,
+        stops: stops_of(routes, first),
+        others: stops_of(routes, second),
+    };
+    let found = neighbourhood.best_gain();
+    kept.put(usize::from(first), usize::from(second), Some(found));
+    found
+}
+
+/// The better of what was found and the gains of a kind from a route.
+#[inline(always)]
+fn gain_from(
+    kept: &mut PairGains,
+    trees: &PlanTrees<'_>,
+    routes: &[Vec<u16>],
+    kind: Kind,
+    first: u16,
+    before: Found,
+) -> Found
+    requires plan { AreOfPlan trees.now }
+    requires routes { lists routes.now ≡ visits_of trees.now }
+    requires kept { AreKept (problem_of trees.now) (visits_of trees.now) kind kept.old }
+    requires first { first < length (visits_of trees.now) }
+    requires found { IsFoundAmong (problem_of trees.now) (visits_of trees.now) (λ n. kind_of n ≡ kind) before }
+    ensures kept { AreKept (problem_of trees.now) (visits_of trees.now) kind kept.new }
+    ensures search { Searches (problem_of trees.now) (visits_of trees.now) (λ n. kind_of n ≡ kind) (λ n. first_route n ≡ first) before result }
+{
+    let seconds = seconds_of(trees, kind, first);
+    let mut best = before;
+    for second in seconds.start..seconds.end {
+        let found = gain_between(kept, trees, routes, kind, first, second);
+        best = better(best, found);
+    }
+    best
+}
+
+/// The best move of a kind where it makes the plan cheaper, with its value in tenths, and of several the
+/// first; `None` where no move of the kind does. The routes are those of the trees. What is found of two
+/// routes is kept. It takes no memory.
+#[inline(always)]
+pub fn best_gain(
+    kept: &mut PairGains,
+    trees: &PlanTrees<'_>,
+    routes: &[Vec<u16>],
+    kind: Kind,
+) -> Option<(Move, i64)>
+    requires plan { AreOfPlan trees.now }
+    requires routes { lists routes.now ≡ visits_of trees.now }
+    requires kept { AreKept (problem_of trees.now) (visits_of trees.now) kind kept.old }
+    ensures kept { AreKept (problem_of trees.now) (visits_of trees.now) kind kept.new }
+    ensures best { IsBestGainIfAny (problem_of trees.now) (visits_of trees.now) kind result }
+{
+    let mut best = None;
+    for first in 0..route_count(trees) {
+        best = gain_from(kept, trees, routes, kind, first, best);
+    }
+    best
+}
