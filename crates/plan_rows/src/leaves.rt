@@ -156,18 +156,14 @@ pub(crate) fn told_met(alloc: Global, instance: &Instance, words: &[&str]) -> Op
     then(text, " ", listed(alloc, "met", costs.as_slice())?.as_str())
 }
 
-/// Whether a copy of a leaf has the same prices, value and least route.
-fn is_copied(leaf: &Priced<'_>) -> Option<bool> {
+/// A leaf behind what was told before it, with its least reduced cost, if a copy has the same prices, value
+/// and least route.
+fn told_behind(alloc: Global, before: String, leaf: &Priced<'_>) -> Option<String> {
     let copy = leaf.try_clone().ok()?;
-    let are_same = copy.prices() == leaf.prices()
+    let is_same = copy.prices() == leaf.prices()
         && copy.value() == leaf.value()
         && copy.least().route.as_slice() == leaf.least().route.as_slice();
-    Some(are_same)
-}
-
-/// A leaf behind what was told before it, with its least reduced cost, if a copy is the same.
-fn told_behind(alloc: Global, before: String, leaf: &Priced<'_>) -> Option<String> {
-    if !is_copied(leaf)? {
+    if !is_same {
         return told(alloc, "copied otherwise");
     }
     let text = then(before, "\n", told_value(alloc, leaf)?.as_str())?;
