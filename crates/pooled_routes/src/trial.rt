@@ -54,13 +54,12 @@ impl Trial {
         self.prices.get(place_of(customer)).copied().unwrap_or(0)
     }
 
-    /// The cost of a route less the prices of its stops, in grains. Sums wrap, since that is fast: only prices
-    /// far beyond their range have such sums.
+    /// The cost of a route less the prices of its stops, in grains.
     /// No contract: a rule of search; any prices are sound.
     pub fn reduced_cost(&self, stops: &[u16], cost: i64) -> i64 {
         let mut reduced = cost;
         for stop in stops {
-            reduced = reduced.wrapping_sub(self.price(*stop));
+            reduced = reduced.saturating_sub(self.price(*stop));
         }
         reduced
     }
@@ -69,7 +68,7 @@ impl Trial {
     /// No contract: a rule of search; any prices are sound.
     pub fn slack(&self, stops: &[u16], cost: i64) -> i64 {
         self.reduced_cost(stops, cost)
-            .wrapping_sub(self.floor.value())
+            .saturating_sub(self.floor.value())
     }
 
     /// Raises the price of each stop, as often as it stands there, and the floor.
@@ -78,7 +77,7 @@ impl Trial {
         self.floor = self.floor.raised(change);
         for stop in stops {
             if let Some(price) = self.prices.get_mut(place_of(*stop)) {
-                *price = price.wrapping_add(change);
+                *price = price.saturating_add(change);
             }
         }
     }
