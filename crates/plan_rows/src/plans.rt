@@ -79,7 +79,7 @@ pub(crate) fn descended<'i>(alloc: Global, plan: Feasible<'i>) -> Option<Feasibl
     Some(searcher.into_plan())
 }
 
-/// The plan at which a descent in several threads ends.
+/// The plan at which the descent of `descend_parallel` ends.
 pub(crate) fn descended_in_threads<'i, R: AllocGlobal + Threads + Sync>(
     rt: &R,
     plan: Feasible<'i>,

@@ -45,7 +45,7 @@ fn build_plan<'i>(alloc: Global, instance: &'i Instance) -> Result<Option<Feasib
     }
 }
 
-/// The plan that a descent in several threads leads to, or as far as memory lets it come.
+/// The plan that a descent leads to, or as far as memory lets it come.
 fn descend<'i, R: Threads + Sync>(
     rt: &R,
     alloc: Global,
