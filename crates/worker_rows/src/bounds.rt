@@ -18,14 +18,14 @@ use std::alloc::Global;
 use std::test::Fail;
 
 /// The nodes of the worker at the second of two deques, of which its own or the other has the root.
-fn second_nodes<'p>(
+fn second_nodes<'p, 'i>(
     alloc: Global,
-    instance: &Instance,
+    instance: &'i Instance,
     mut hands: Vec<Hand>,
     deques: &'p [Thief],
     mut passes: Vec<Pass>,
     is_stolen: bool,
-) -> Result<Nodes<'p>, Fail>
+) -> Result<Nodes<'p, 'i>, Fail>
     requires { All (λ p. All (λ t. FitsAt (deque_at t) p) deques.now) passes.items }
 {
     let mut own = hands.pop().ok_or("a deque")?;
@@ -50,10 +50,10 @@ type Done = (u32, u32, usize, usize, usize);
 
 /// Turns over a fake, with so many labels for a pricing, by the worker at the second of two deques, each of
 /// which takes so many numbers.
-fn turns_over(
+fn turns_over<'i>(
     alloc: Global,
-    instance: &Instance,
-    mut hub: Fake<'_>,
+    instance: &'i Instance,
+    mut hub: Fake<'i>,
     room: usize,
     is_stolen: bool,
     (turns, labels): (u32, u32),
@@ -142,9 +142,9 @@ fn a_pricing_that_meets_its_limit_ends_no_work(rt: HostRuntime) -> Result<(), Fa
 
 #[test]
 fn a_full_deque_ends_the_work(rt: HostRuntime) -> Result<(), Fail> {
-    let going = turns_splitting(rt.alloc(), 10, None)?;
+    let going = turns_splitting(rt.alloc(), 100, None)?;
     let full = turns_splitting(rt.alloc(), 1, None)?;
-    assert!(rt; (going, full) == ((3, 3, 3, 0, 3), (1, 1, 1, 0, 1)));
+    assert!(rt; (going, full) == ((3, 21, 21, 0, 3), (1, 1, 1, 0, 1)));
     Ok(())
 }
 
