@@ -2,19 +2,19 @@
 use Rattle.std.proofs.Common.{◌≡◌, refl, ℕ, ◌+◌, ◌*◌, ◌-◌, ◌<◌, ◌≤◌, Bool, true, false, ◌&&◌, ◌||◌, eqb, List, [], ◌∷◌, arith, ap, sym, ◌∙◌, inl, inr, ◌⊎◌}
 use Rattle.std.specs.Prelude.{ℤ, pos, ◌+ℤ◌, ◌-ℤ◌, ◌≤ℤ◌, IsTrue}
 use Rattle.std.proofs.lemmas.Int.{ints}
-use Rattle.std.proofs.lemmas.Bool.{cases_lt, eq-eqb, or_left, or_right, and_from, both_ways}
+use Rattle.std.proofs.lemmas.Bool.{eq-eqb, or_left, or_right, and_from, both_ways}
 use Rattle.std.proofs.lemmas.List.Sums.{sum_by-cons}
 use Rattle.solomon_reader.specs.declared.limits.TheConstants.{MOST_PRICE, MOST_CAPACITY}
 use Rattle.solomon_reader.specs.Distance.{distance}
 use Rattle.solomon_reader.specs.Plan.{load_of}
-use Rattle.solomon_reader.specs.Problem.{Problem, IsCustomer, customer_count, demand}
+use Rattle.solomon_reader.specs.Problem.{Problem, IsCustomer, demand, due}
 use Rattle.solomon_reader.specs.Region.{Region}
 use Rattle.solomon_reader.specs.Relaxed.{price_of}
 use Rattle.solomon_reader.specs.Remembering.{near}
 use Rattle.solomon_reader.specs.States.{State, begins, step, CanStep, CanEnd, Completes, value_with}
 use Rattle.fronts.specs.declared.front.Front.{Front}
 use Rattle.fronts.specs.declared.bound.Bound.{Bound}
-use Rattle.fronts.specs.Completions.{most_paid, IsSmall, StartsWith, Holds, IsBound, StartsBelow, IsBoundBelow, IsOnward, IsBelowStep, IsJoined}
+use Rattle.fronts.specs.Completions.{most_paid, IsSmall, StartsWith, Holds, IsBound, StartsIn, IsBoundAmong, IsEndBound, IsBoundWith, IsOnward, IsBelowStep, IsJoined}
 use Rattle.fronts.specs.Fronts.{bare_state, end_cost, IsTask, IsPriced, IsAfter}
 use Rattle.fronts.specs.Memories.{place_of}
 use Rattle.fronts.proofs.Places.{place_none}
@@ -86,7 +86,7 @@ module _ (p : Problem) (g : Region) (k : ℕ) (prices : List ℤ) (task : IsTask
       closing = omega (arith, later, time_is, can.closing, ap (λ (i : ℕ). distance p i 0) last, ap (λ (i : ℕ). distance p i 0) last_is);
     }
 
-    pub bound_none : (b : Bound) → IsSmall b → b.other ≡ b.least → (CanEnd p g (bare_state f) → ⊥) ⊎ (b.least ≤ℤ end_cost p f) → IsBoundBelow p g k prices v t 1 b
+    pub bound_none : (b : Bound) → IsSmall b → b.other ≡ b.least → (CanEnd p g (bare_state f) → ⊥) ⊎ (b.least ≤ℤ end_cost p f) → IsEndBound p g k prices v t b
     bound_none b small same end = record { small = small; holds = holds }
       where
         ends : (a : State) → a.last ≡ v → t ≤ a.time → CanEnd p g a → b.least ≤ℤ end_cost p f
@@ -95,23 +95,20 @@ module _ (p : Problem) (g : Region) (k : ℕ) (prices : List ℤ) (task : IsTask
           | inr low ↦ low
         ]
 
-        holds : (a : State) (s : List ℕ) → a.last ≡ v → t ≤ a.time → IsTrue (a.memory v) → StartsBelow 1 s → Completes p g k prices a s → Holds p k prices a s b
+        holds : (a : State) (s : List ℕ) → a.last ≡ v → t ≤ a.time → IsTrue (a.memory v) → StartsIn (λ _. ⊥) s → Completes p g k prices a s → Holds p k prices a s b
         holds a [] last later remembered below h =
             let low : (a.cost +ℤ b.least) ≤ℤ value_with p k prices a [] = omega (arith, ints, ends a last later h, cost, ap (λ (i : ℕ). distance p i 0) last, ap (λ (i : ℕ). distance p i 0) last_is) in
             record { room = omega arith; least = low; other = λ _. omega (arith, ints, same, low) }
-        holds a (j ∷ s) last later remembered below h = absurd (omega (arith, below, h.0.customer.0))
+        holds a (j ∷ s) last later remembered below h = absurd below
 
-    pub bound_no : (j : ℕ) (b : Bound) → IsBoundBelow p g k prices v t j b → ¬ CanStep p g (bare_state f) j → IsBoundBelow p g k prices v t (j + 1) b
-    bound_no j b so_far cannot = record { small = so_far.small; holds = holds }
-      where
-        holds : (a : State) (s : List ℕ) → a.last ≡ v → t ≤ a.time → IsTrue (a.memory v) → StartsBelow (j + 1) s → Completes p g k prices a s → Holds p k prices a s b
-        holds a [] last later remembered below h = so_far.holds a [] last later remembered tt h
-        holds a (i ∷ s) last later remembered below h = elim (cases_lt i j) [
-          | inl less ↦ so_far.holds a (i ∷ s) last later remembered less h
-          | inr more ↦ (let same : i ≡ j = omega (arith, below, more) in absurd (cannot (can_step_sooner a j last later (rw same at h.0))))
-        ]
+    pub bound_no : (j : ℕ) (b : Bound) → IsSmall b → ¬ CanStep p g (bare_state f) j → IsBoundWith p g k prices v t j b b
+    bound_no j b small cannot = record {
+      small = small;
+      older = λ a s h. h;
+      on = λ a s last later remembered h. absurd (cannot (can_step_sooner a j last later h.0));
+    }
 
-    module _ (j : ℕ) (b : Bound) (next : Front) (on : Bound) (least z : ℤ) (is : z ≡ least) (out : Bound) (so_far : IsBoundBelow p g k prices v t j b) (after : IsAfter p prices f j next)
+    module _ (j : ℕ) (b : Bound) (next : Front) (on : Bound) (least z : ℤ) (is : z ≡ least) (out : Bound) (after : IsAfter p prices f j next)
         (bound : IsBound p g k prices j next.time on) (onward : IsOnward p g k prices v j next.time least) (joined_z : IsJoined b j next.load next.cost on.room z out) where
       joined : IsJoined b j next.load next.cost on.room least out
       joined = rw is at joined_z
@@ -154,25 +151,33 @@ module _ (p : Problem) (g : Region) (k : ℕ) (prices : List ℤ) (task : IsTask
         ];
       }
 
-      at_step_at : (i : ℕ) → i ≡ j → (a : State) (s : List ℕ) → a.last ≡ v → t ≤ a.time → IsTrue (a.memory v) → Completes p g k prices a (i ∷ s) → Holds p k prices a (i ∷ s) out
-      at_step_at i same a s last later remembered h = rw same (at_step a s last later remembered (rw same at h))
+      pub bound_yes : IsBoundWith p g k prices v t j b out
+      bound_yes = record { small = joined.small; older = older; on = at_step }
 
-      pub bound_yes : IsBoundBelow p g k prices v t (j + 1) out
-      bound_yes = record { small = joined.small; holds = holds }
-        where
-          holds : (a : State) (s : List ℕ) → a.last ≡ v → t ≤ a.time → IsTrue (a.memory v) → StartsBelow (j + 1) s → Completes p g k prices a s → Holds p k prices a s out
-          holds a [] last later remembered below h = older a [] (so_far.holds a [] last later remembered tt h)
-          holds a (i ∷ s) last later remembered below h = elim (cases_lt i j) [
-            | inl less ↦ older a (i ∷ s) (so_far.holds a (i ∷ s) last later remembered less h)
-            | inr more ↦ (let same : i ≡ j = omega (arith, below, more) in at_step_at i same a s last later remembered h)
-          ]
+  pub bound_more : (v t j : ℕ) (P Q : ℕ → Type 0) (b out : Bound) → ((i : ℕ) → Q i → P i ⊎ (i ≡ j)) → IsBoundAmong p g k prices v t P b → IsBoundWith p g k prices v t j b out → IsBoundAmong p g k prices v t Q out
+  bound_more v t j P Q b out split so_far with_it = record { small = with_it.small; holds = holds }
+    where
+      holds : (a : State) (s : List ℕ) → a.last ≡ v → t ≤ a.time → IsTrue (a.memory v) → StartsIn Q s → Completes p g k prices a s → Holds p k prices a s out
+      holds a [] last later remembered starts h = with_it.older a [] (so_far.holds a [] last later remembered tt h)
+      holds a (i ∷ s) last later remembered starts h = elim (split i starts) [
+        | inl old ↦ with_it.older a (i ∷ s) (so_far.holds a (i ∷ s) last later remembered old h)
+        | inr same ↦ rw same (with_it.on a s last later remembered (rw same at h))
+      ]
 
-  pub bound_all : (v t i : ℕ) (b : Bound) → customer_count p < i → IsBoundBelow p g k prices v t i b → IsBound p g k prices v t b
-  bound_all v t i b past so_far = record { small = so_far.small; holds = holds }
+  pub bound_fewer : (v t : ℕ) (P Q : ℕ → Type 0) (b : Bound) → ((i : ℕ) → Q i → P i) → IsBoundAmong p g k prices v t P b → IsBoundAmong p g k prices v t Q b
+  bound_fewer v t P Q b fewer h = record { small = h.small; holds = holds }
+    where
+      holds : (a : State) (s : List ℕ) → a.last ≡ v → t ≤ a.time → IsTrue (a.memory v) → StartsIn Q s → Completes p g k prices a s → Holds p k prices a s b
+      holds a [] last later remembered starts c = h.holds a [] last later remembered tt c
+      holds a (i ∷ s) last later remembered starts c = h.holds a (i ∷ s) last later remembered (fewer i starts) c
+
+  -- of all that follows, where the customers are those that may be reached in time
+  pub bound_all : (v t : ℕ) (P : ℕ → Type 0) (b : Bound) → ((i : ℕ) → IsCustomer p i → t + distance p v i ≤ due p i → P i) → IsBoundAmong p g k prices v t P b → IsBound p g k prices v t b
+  bound_all v t P b reached so_far = record { small = so_far.small; holds = holds }
     where
       holds : (a : State) (s : List ℕ) → a.last ≡ v → t ≤ a.time → IsTrue (a.memory v) → Completes p g k prices a s → Holds p k prices a s b
       holds a [] last later remembered h = so_far.holds a [] last later remembered tt h
-      holds a (i ∷ s) last later remembered h = so_far.holds a (i ∷ s) last later remembered (omega (arith, h.0.customer.1, past)) h
+      holds a (i ∷ s) last later remembered h = so_far.holds a (i ∷ s) last later remembered (reached i h.0.customer (omega (arith, later, h.0.due, ap (λ (u : ℕ). distance p u i) last))) h
 
 module _ (p : Problem) (g : Region) (k : ℕ) (prices : List ℤ) where
   -- a bound of an earlier time holds later

@@ -4,3 +4,4 @@ pub mod Narrowing
 pub mod Places
 pub mod Recalling
 pub mod Following
+pub mod Stepping

@@ -1,5 +1,5 @@
 -- What may follow from a row at a time or later, whatever was visited before.
-use Rattle.std.specs.Prelude.{◌≡◌, ℕ, ◌+◌, ◌*◌, ◌<◌, ◌≤◌, List, [], ◌∷◌, ℤ, pos, ◌+ℤ◌, ◌≤ℤ◌, IsTrue, ◌⊎◌}
+use Rattle.std.specs.Prelude.{◌≡◌, ℕ, ◌+◌, ◌*◌, ◌≤◌, List, [], ◌∷◌, ℤ, pos, ◌+ℤ◌, ◌≤ℤ◌, IsTrue, ◌⊎◌}
 use Rattle.solomon_reader.specs.declared.limits.TheConstants.{MOST_PRICE, MOST_CAPACITY}
 use Rattle.solomon_reader.specs.Plan.{load_of}
 use Rattle.solomon_reader.specs.Problem.{Problem}
@@ -38,14 +38,25 @@ pub record IsBound (p : Problem) (g : Region) (k : ℕ) (prices : List ℤ) (v t
   pub small : IsSmall b
   pub holds : (a : State) (s : List ℕ) → a.last ≡ v → t ≤ a.time → IsTrue (a.memory v) → Completes p g k prices a s → Holds p k prices a s b
 
-abbrev pub StartsBelow : ℕ → List ℕ → Type 0
-StartsBelow i [] = Unit {0}
-StartsBelow i (j ∷ s) = j < i
+-- the first of the stops is one of these customers, or there is none
+abbrev pub StartsIn : (ℕ → Type 0) → List ℕ → Type 0
+StartsIn P [] = Unit {0}
+StartsIn P (j ∷ s) = P j
 
--- the same of what ends or begins with a customer below i
-pub record IsBoundBelow (p : Problem) (g : Region) (k : ℕ) (prices : List ℤ) (v t i : ℕ) (b : Bound) : Type 0 where
+-- the same of what ends at v, or goes on to one of these customers
+pub record IsBoundAmong (p : Problem) (g : Region) (k : ℕ) (prices : List ℤ) (v t : ℕ) (P : ℕ → Type 0) (b : Bound) : Type 0 where
   pub small : IsSmall b
-  pub holds : (a : State) (s : List ℕ) → a.last ≡ v → t ≤ a.time → IsTrue (a.memory v) → StartsBelow i s → Completes p g k prices a s → Holds p k prices a s b
+  pub holds : (a : State) (s : List ℕ) → a.last ≡ v → t ≤ a.time → IsTrue (a.memory v) → StartsIn P s → Completes p g k prices a s → Holds p k prices a s b
+
+-- the same of what ends at v
+abbrev pub IsEndBound : Problem → Region → ℕ → List ℤ → ℕ → ℕ → Bound → Type 0
+IsEndBound p g k prices v t b = IsBoundAmong p g k prices v t (λ _. ⊥) b
+
+-- out bounds what b does, and what goes on from v to j
+pub record IsBoundWith (p : Problem) (g : Region) (k : ℕ) (prices : List ℤ) (v t j : ℕ) (b out : Bound) : Type 0 where
+  pub small : IsSmall out
+  pub older : (a : State) (s : List ℕ) → Holds p k prices a s b → Holds p k prices a s out
+  pub on : (a : State) (s : List ℕ) → a.last ≡ v → t ≤ a.time → IsTrue (a.memory v) → Completes p g k prices a (j ∷ s) → Holds p k prices a (j ∷ s) out
 
 abbrev pub IsRowBound : Problem → Region → ℕ → List ℤ → RowBound → Type 0
 IsRowBound p g k prices b = IsBound p g k prices b.row b.from b.bound

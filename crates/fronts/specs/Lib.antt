@@ -2,4 +2,5 @@ pub mod Flags
 pub mod Fronts
 pub mod Memories
 pub mod Tables
+pub mod Steps
 pub mod Completions

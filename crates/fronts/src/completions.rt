@@ -7,7 +7,7 @@ ghost use Rattle.std.specs.List.{All};
 ghost use Rattle.solomon_reader.specs.Problem.{IsCustomer, customer_count};
 ghost use Rattle.solomon_reader.specs.declared.limits.TheConstants.{MOST_TIME, MOST_CAPACITY};
 ghost use Rattle.solomon_reader.specs.States.{CanStep, CanEnd};
-ghost use Rattle.fronts.specs.Completions.{most_paid, IsCut, IsSmall, IsBound, IsBoundBelow, IsRowBound, IsOnward, IsBelowStep, IsJoined};
+ghost use Rattle.fronts.specs.Completions.{most_paid, IsCut, IsSmall, IsBound, IsEndBound, IsBoundWith, IsRowBound, IsOnward, IsBelowStep, IsJoined};
 ghost use Rattle.fronts.specs.Fronts.{bare_state, most_grains, CanServe, IsBounded};
 ghost use Rattle.fronts.specs.Tables.{IsAllowedRow};
 
@@ -142,7 +142,7 @@ fn end_bound(task: &Task<'_>, front: &Front, rows: &CustomerSet) -> Bound
     requires bounded { IsBounded task.now.instance.now front.now }
     requires load { front.now.load ≡ 0 }
     requires cost { front.now.cost ≡ pos 0 }
-    ensures { IsBoundBelow task.now.instance.now task.now.region.now task.now.neighbours task.now.prices.now front.now.last front.now.time 1 result }
+    ensures { IsEndBound task.now.instance.now task.now.region.now task.now.neighbours task.now.prices.now front.now.last front.now.time result }
 {
     let mut least = MOST_PAID;
     if can_end(task, front, rows) {
@@ -156,7 +156,7 @@ fn end_bound(task: &Task<'_>, front: &Front, rows: &CustomerSet) -> Bound
     }
 }
 
-/// What bounds steps to one more customer, too.
+/// What bounds a step to a customer, too.
 fn with_step(
     task: &Task<'_>,
     bounds: &[RowBound],
@@ -171,8 +171,8 @@ fn with_step(
     requires load { front.now.load ≡ 0 }
     requires cost { front.now.cost ≡ pos 0 }
     requires j { IsCustomer task.now.instance.now j }
-    requires so_far { IsBoundBelow task.now.instance.now task.now.region.now task.now.neighbours task.now.prices.now front.now.last front.now.time j bound }
-    ensures { IsBoundBelow task.now.instance.now task.now.region.now task.now.neighbours task.now.prices.now front.now.last front.now.time (j + 1) result }
+    requires small { IsSmall bound }
+    ensures { IsBoundWith task.now.instance.now task.now.region.now task.now.neighbours task.now.prices.now front.now.last front.now.time j bound result }
 {
     if !can_go(task, front, rows, j) {
         return bound;
@@ -183,14 +183,14 @@ fn with_step(
     joined(bound, j, &next, on.room, least)
 }
 
-/// What bounds all that may follow from a row at a time or later.
-fn bound_from(task: &Task<'_>, bounds: &[RowBound], v: u16, from: u64) -> Bound
+/// What bounds all that may follow from a row at a time or later, and how many customers were looked at.
+fn bound_from(task: &Task<'_>, bounds: &[RowBound], v: u16, from: u64) -> (Bound, u64)
     requires bounds { All (IsRowBound task.now.instance.now task.now.region.now task.now.neighbours task.now.prices.now) bounds.now }
     requires v { v < length task.now.instance.now.rows }
     requires from { from ≤ 20 * MOST_TIME }
-    ensures { IsBound task.now.instance.now task.now.region.now task.now.neighbours task.now.prices.now v from result }
+    ensures { IsBound task.now.instance.now task.now.region.now task.now.neighbours task.now.prices.now v from result.0 }
 {
-    let count = task.instance.customer_count();
+    task.instance.law_of_limits();
     let rows = &task.allowed_rows[usize::from(v)];
     let front = Front {
         last: v,
@@ -199,22 +199,27 @@ fn bound_from(task: &Task<'_>, bounds: &[RowBound], v: u16, from: u64) -> Bound
         cost: 0,
     };
     let mut bound = end_bound(task, &front, rows);
-    for j in 1..count + 1 {
-        bound = with_step(task, bounds, &front, rows, j, bound);
+    let mut looks: u64 = 0;
+    for step in task.steps_from(v) {
+        if step.latest < from {
+            return (bound, looks);
+        }
+        bound = with_step(task, bounds, &front, rows, step.customer, bound);
+        looks = looks.saturating_add(1);
     }
-    bound
+    (bound, looks)
 }
 
-/// Puts in the bounds of a customer in a slot, if it has some.
-fn fill_at(task: &Task<'_>, bounds: &mut [RowBound], v: u16, slot: u64)
+/// Puts in the bounds of a customer in a slot, if it has some, and says how many customers were looked at.
+fn fill_at(task: &Task<'_>, bounds: &mut [RowBound], v: u16, slot: u64) -> u64
     requires bounds { All (IsRowBound task.now.instance.now task.now.region.now task.now.neighbours task.now.prices.now) bounds.old }
     requires v { v < length task.now.instance.now.rows }
     ensures { All (IsRowBound task.now.instance.now task.now.region.now task.now.neighbours task.now.prices.now) bounds.new }
 {
     let Some(from) = task.slots.start(v, slot) else {
-        return;
+        return 0;
     };
-    let bound = bound_from(task, bounds, v, from);
+    let (bound, looks) = bound_from(task, bounds, v, from);
     let place = task.slots.place(v, from);
     if place < bounds.len() {
         bounds[place] = RowBound {
@@ -223,27 +228,32 @@ fn fill_at(task: &Task<'_>, bounds: &mut [RowBound], v: u16, slot: u64)
             bound,
         };
     }
+    looks
 }
 
-/// Puts in the bounds of all customers in a slot.
-fn fill_slot(task: &Task<'_>, bounds: &mut [RowBound], slot: u64)
+/// Puts in the bounds of all customers in a slot, and says how many customers were looked at.
+fn fill_slot(task: &Task<'_>, bounds: &mut [RowBound], slot: u64) -> u64
     requires { All (IsRowBound task.now.instance.now task.now.region.now task.now.neighbours task.now.prices.now) bounds.old }
     ensures { All (IsRowBound task.now.instance.now task.now.region.now task.now.neighbours task.now.prices.now) bounds.new }
 {
+    let mut looks: u64 = 0;
     for v in 1..task.instance.customer_count() + 1 {
-        fill_at(task, bounds, v, slot);
+        looks = looks.saturating_add(fill_at(task, bounds, v, slot));
     }
+    looks
 }
 
-/// Puts in all bounds, those of the last slot first.
-fn fill(task: &Task<'_>, bounds: &mut [RowBound])
+/// Puts in all bounds, those of the last slot first, and says how many customers were looked at.
+fn fill(task: &Task<'_>, bounds: &mut [RowBound]) -> u64
     requires { All (IsRowBound task.now.instance.now task.now.region.now task.now.neighbours task.now.prices.now) bounds.old }
     ensures { All (IsRowBound task.now.instance.now task.now.region.now task.now.neighbours task.now.prices.now) bounds.new }
 {
     let last = task.slots.last();
+    let mut looks: u64 = 0;
     for past in 0..last.saturating_add(1) {
-        fill_slot(task, bounds, last.saturating_sub(past));
+        looks = looks.saturating_add(fill_slot(task, bounds, last.saturating_sub(past)));
     }
+    looks
 }
 
 /// Bounds on what may follow from each row at each time.
@@ -252,6 +262,7 @@ pub struct Completions<'t, 'i> {
     /// What they are the bounds of.
     pub task: &'t Task<'i>,
     bounds: Vec<RowBound>,
+    looks: u64,
     ghost hold: { All (IsRowBound task.now.instance.now task.now.region.now task.now.neighbours task.now.prices.now) bounds.items },
 }
 
@@ -263,6 +274,7 @@ impl<'t, 'i> Completions<'t, 'i> {
         Completions {
             task,
             bounds: Vec::new(task.alloc),
+            looks: 0,
         }
     }
 
@@ -276,13 +288,17 @@ impl<'t, 'i> Completions<'t, 'i> {
             bound: unknown(task),
         };
         let mut bounds = vec![in task.alloc; nothing; task.slots.count()]?;
-        fill(task, bounds.as_mut_slice());
-        Ok(Completions { task, bounds })
+        let looks = fill(task, bounds.as_mut_slice());
+        Ok(Completions {
+            task,
+            bounds,
+            looks,
+        })
     }
 
-    /// How many bounds they are, of which each took a look at every customer. No contract: it only measures.
-    pub fn count(&self) -> usize {
-        self.bounds.len()
+    /// How many customers were looked at for them. No contract: it only measures.
+    pub fn looks(&self) -> u64 {
+        self.looks
     }
 
     /// What bounds all that may follow from a row at a time, in tenths.

@@ -10,6 +10,7 @@ mod memory;
 mod nearness;
 mod neighbours;
 mod slots;
+mod step;
 mod tables;
 mod task;
 
@@ -20,4 +21,5 @@ pub use front::Front;
 pub use memory::Memory;
 pub use nearness::Nearness;
 pub use neighbours::LIST_SIZE;
+pub use step::Step;
 pub use task::Task;

@@ -3,27 +3,31 @@
 ghost use Rattle.std.specs.Prelude.{◌≡◌, ◌<◌, ◌≤◌, length, IfOk, IsTrue};
 ghost use Rattle.solomon_reader.specs.declared.limits.TheConstants.{MOST_NEIGHBOURS};
 ghost use Rattle.fronts.specs.Memories.{ArePlaces, IsWholeList};
+ghost use Rattle.fronts.specs.Steps.{IsStepList};
 ghost use Rattle.fronts.specs.Tables.{IsTable};
 ghost use Rattle.fronts.specs.declared.neighbours.TheConstants.{LIST_SIZE};
 
 use crate::neighbours::LIST_SIZE;
 use crate::slots::Slots;
+use crate::step::{Step, all_steps};
 use crate::tables::{all_places, neighbour_lists};
 use solomon_reader::Instance;
 use std::alloc::{AllocError, Global};
 
-/// The neighbour list of each row, the places of all rows in it, and the slots of time: they serve every
-/// pricing of the instance with so many neighbours.
+/// The neighbour list of each row, the places of all rows in it, the customers in the order in which they may
+/// be left for, and the slots of time: they serve every pricing of the instance with so many neighbours.
 #[derive(Debug, Drop)]
 pub struct Nearness<'i> {
     pub instance: &'i Instance,
     pub neighbours: u32,
     pub(crate) places: Vec<Vec<u8>>,
     pub(crate) neighbour_lists: Vec<[u16; LIST_SIZE as usize]>,
+    pub(crate) steps: Vec<Vec<Step>>,
     pub(crate) slots: Slots,
     ghost few: { neighbours < LIST_SIZE },
     ghost placed: { IsTable (ArePlaces instance.now neighbours) (length instance.now.rows) places.items },
     ghost near: { IsTable (IsWholeList instance.now neighbours) (length instance.now.rows) neighbour_lists.items },
+    ghost stepped: { IsTable (IsStepList instance.now) (length instance.now.rows) steps.items },
 }
 
 impl<'i> Nearness<'i> {
@@ -39,12 +43,14 @@ impl<'i> Nearness<'i> {
     {
         let places = all_places(alloc, instance, neighbours)?;
         let neighbour_lists = neighbour_lists(alloc, instance, neighbours, places.as_slice())?;
+        let steps = all_steps(alloc, instance)?;
         let slots = Slots::new(alloc, instance)?;
         Ok(Nearness {
             instance,
             neighbours,
             places,
             neighbour_lists,
+            steps,
             slots,
         })
     }

@@ -5,6 +5,7 @@ ghost use Rattle.solomon_reader.specs.Problem.{IsCustomer};
 ghost use Rattle.solomon_reader.specs.States.{CanStep};
 ghost use Rattle.fronts.specs.Fronts.{IsTask, IsBounded};
 ghost use Rattle.fronts.specs.Memories.{place_of, state_with, HasPlaces, ArePlaces, IsWholeList, Keeps};
+ghost use Rattle.fronts.specs.Steps.{IsStepList, AreStepsFrom};
 ghost use Rattle.fronts.specs.Tables.{IsAllowedRow, IsTable};
 ghost use Rattle.fronts.specs.declared.neighbours.TheConstants.{LIST_SIZE};
 
@@ -14,13 +15,15 @@ use crate::memory::Memory;
 use crate::nearness::Nearness;
 use crate::neighbours::LIST_SIZE;
 use crate::slots::Slots;
+use crate::step::Step;
 use crate::tables::allowed_rows;
 use branching::Region;
 use solomon_reader::Instance;
 use std::alloc::{AllocError, Global};
 
-/// What the caller hands in, with the neighbour list of each row, the places of all rows in it, the slots of
-/// time, and the rows to which a route may go from each row.
+/// What the caller hands in, with the neighbour list of each row, the places of all rows in it, the customers
+/// in the order in which they may be left for, the slots of time, and the rows to which a route may go from
+/// each row.
 #[derive(Drop)]
 pub struct Task<'i> {
     pub alloc: Global,
@@ -30,12 +33,14 @@ pub struct Task<'i> {
     pub neighbours: u32,
     pub places: &'i [Vec<u8>],
     pub neighbour_lists: &'i [[u16; LIST_SIZE as usize]],
+    pub(crate) steps: &'i [Vec<Step>],
     pub(crate) slots: &'i Slots,
     pub allowed_rows: Vec<CustomerSet>,
     ghost task: { IsTask instance.now region.now prices.now },
     ghost few: { neighbours < LIST_SIZE },
     ghost placed: { IsTable (ArePlaces instance.now neighbours) (length instance.now.rows) places.now },
     ghost near: { IsTable (IsWholeList instance.now neighbours) (length instance.now.rows) neighbour_lists.now },
+    ghost stepped: { IsTable (IsStepList instance.now) (length instance.now.rows) steps.now },
     ghost allowed: { IsTable (IsAllowedRow region.now) (length instance.now.rows) allowed_rows.items },
 }
 
@@ -64,6 +69,7 @@ impl<'i> Task<'i> {
             neighbours: nearness.neighbours,
             places: nearness.places.as_slice(),
             neighbour_lists: nearness.neighbour_lists.as_slice(),
+            steps: nearness.steps.as_slice(),
             slots: &nearness.slots,
             allowed_rows,
         })
@@ -77,6 +83,14 @@ impl<'i> Task<'i> {
     {
         let places = self.places[usize::from(v)].as_slice();
         places[usize::from(u)]
+    }
+
+    /// All customers as seen from a row, those first that may be left for latest.
+    pub fn steps_from(&self, v: u16) -> &[Step]
+        requires { v < length self.now.instance.now.rows }
+        ensures { AreStepsFrom self.now.instance.now v result.now }
+    {
+        self.steps[usize::from(v)].as_slice()
     }
 
     /// Whether a route may go on from a front to a customer, where this is what it remembers, it may go

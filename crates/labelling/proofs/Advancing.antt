@@ -6,7 +6,8 @@ use Rattle.std.proofs.lemmas.Int.{ints}
 use Rattle.std.proofs.lemmas.Bool.{cases_lt, cases_eq, eq-eqb, or_left}
 use Rattle.std.proofs.lemmas.List.{reverse-append, length-reverse, take_all, drop_all, get_or_read, get_or_append_left, get_or_push, get_or-set_same, get_or-set_other}
 use Rattle.std.proofs.lemmas.Nat.Bits.{bit_at-zero}
-use Rattle.solomon_reader.specs.Problem.{Problem, customer_count}
+use Rattle.solomon_reader.specs.Distance.{distance}
+use Rattle.solomon_reader.specs.Problem.{Problem, IsCustomer, due}
 use Rattle.solomon_reader.specs.Region.{Region}
 use Rattle.solomon_reader.specs.Relaxed.{IsRelaxed, reduced_cost}
 use Rattle.solomon_reader.specs.States.{State, start, step, CanStep, CanEnd}
@@ -242,24 +243,28 @@ module _ (p : Problem) (g : Region) (k : ℕ) (prices : List ℤ) where
               rw (same, new_at p g k prices xs zs x extension.unextended pruned) (extension_labelled (zs ++ (x ∷ [])) x grown extension can))
         ]
 
-  pub steps_none : (b : Option ℤ) (xs : List Label) (l : Label) → IsArena p g k prices xs → TakesSteps p g k prices b xs xs l 1
-  steps_none b xs l labelled = record { moved = moved_none p g k prices xs; labelled = labelled; met = λ j below can. absurd (omega (arith, below, can.customer.0)) }
+  pub steps_none : (b : Option ℤ) (xs : List Label) (l : Label) (P : ℕ → Type 0) → ((j : ℕ) → P j → ⊥) → IsArena p g k prices xs → TakesSteps p g k prices b xs xs l P
+  steps_none b xs l P none labelled = record { moved = moved_none p g k prices xs; labelled = labelled; met = λ j among can. absurd (none j among) }
 
-  pub steps_more : (b : Option ℤ) (xs ys zs : List Label) (l : Label) (i : ℕ) → TakesSteps p g k prices b xs ys l i → TakesStep p g k prices b ys zs l i → TakesSteps p g k prices b xs zs l (i + 1)
-  steps_more b xs ys zs l i steps stepped = record {
+  pub steps_more : (b : Option ℤ) (xs ys zs : List Label) (l : Label) (i : ℕ) (P Q : ℕ → Type 0) → ((j : ℕ) → Q j → P j ⊎ (j ≡ i)) → TakesSteps p g k prices b xs ys l P → TakesStep p g k prices b ys zs l i → TakesSteps p g k prices b xs zs l Q
+  steps_more b xs ys zs l i P Q split steps stepped = record {
     moved = moved_through p g k prices xs ys zs steps.moved stepped.moved;
     labelled = stepped.labelled;
-    met = λ j below can. elim (cases_lt j i) [
-      | inl less ↦ elim (steps.met j less can) [
+    met = λ j among can. elim (split j among) [
+      | inl old ↦ elim (steps.met j old can) [
         | inl dominated ↦ inl (dominated_through p g k prices ys zs _ stepped.moved dominated)
         | inr counted ↦ inr counted
       ]
-      | inr more ↦ (let same : j ≡ i = omega arith in rw same (stepped.met (rw same at can)))
+      | inr same ↦ rw same (stepped.met (rw same at can))
     ];
   }
 
-  pub here_still : (b : Option ℤ) (xs ys : List Label) (l : Label) (index i : ℕ) → index < length xs → IsSameStop (label_in xs index) l → TakesSteps p g k prices b xs ys l i → IsSameStop (label_in ys index) l
-  here_still b xs ys l index i within here steps =
+  -- each customer to whom a step may be taken is one of these
+  pub steps_all : (b : Option ℤ) (xs ys : List Label) (l : Label) (P : ℕ → Type 0) → ((j : ℕ) → IsCustomer p j → l.front.time + distance p l.front.last j ≤ due p j → P j) → TakesSteps p g k prices b xs ys l P → TakesSteps p g k prices b xs ys l (IsCustomer p)
+  steps_all b xs ys l P reached steps = record { moved = steps.moved; labelled = steps.labelled; met = λ j customer can. steps.met j (reached j customer (omega (arith, can.due))) can }
+
+  pub here_still : (b : Option ℤ) (xs ys : List Label) (l : Label) (index : ℕ) (P : ℕ → Type 0) → index < length xs → IsSameStop (label_in xs index) l → TakesSteps p g k prices b xs ys l P → IsSameStop (label_in ys index) l
+  here_still b xs ys l index P within here steps =
       let later = (steps.moved.grown.later index within).same in
       record {
         front = here.front ∙ sym later.front;
@@ -273,8 +278,8 @@ module _ (p : Problem) (g : Region) (k : ℕ) (prices : List ℤ) (l : Label) (b
   pub end_passed : (index : ℕ) → CountsEnd p g k l index b b
   end_passed index = record { lower = λ y h. h; counted = λ can. counted [] can; from = inl refl }
 
-  pub steps_passed : (xs : List Label) (i : ℕ) → IsArena p g k prices xs → TakesSteps p g k prices b.value xs xs l i
-  steps_passed xs i labelled = record { moved = moved_none p g k prices xs; labelled = labelled; met = λ j below can. inr (λ s h. counted (j ∷ s) (can, h)) }
+  pub steps_passed : (xs : List Label) (P : ℕ → Type 0) → IsArena p g k prices xs → TakesSteps p g k prices b.value xs xs l P
+  steps_passed xs P labelled = record { moved = moved_none p g k prices xs; labelled = labelled; met = λ j among can. inr (λ s h. counted (j ∷ s) (can, h)) }
 
 -- what ended at a label still ends there
 module _ (p : Problem) (g : Region) (k : ℕ) (xs ys : List Label) (longer : IsLonger xs ys) where
@@ -334,7 +339,7 @@ abbrev pub done : Label → Label
 done l = record l { extended = true }
 
 module _ (p : Problem) (g : Region) (k : ℕ) (prices : List ℤ) (xs ys : List Label) (index : ℕ) (b after : Best) (l : Label) (so_far : IsComplete p g k prices xs b) (within : index < length xs)
-    (here : label_in xs index ≡ l) (ending : CountsEnd p g k l index b after) (steps : TakesSteps p g k prices after.value xs ys l (customer_count p + 1)) where
+    (here : label_in xs index ≡ l) (ending : CountsEnd p g k l index b after) (steps : TakesSteps p g k prices after.value xs ys l (IsCustomer p)) where
   abbrev zs : List Label
   zs = set ys index (done (label_in ys index))
 
@@ -379,7 +384,7 @@ module _ (p : Problem) (g : Region) (k : ℕ) (prices : List ℤ) (xs ys : List 
   ]
 
   each_step : (j : ℕ) → CanStep p g (state_at p k l) j → IsMet p g k prices after.value ys (step p k prices (state_at p k l) j)
-  each_step j can = steps.met j (omega (arith, can.customer.1)) can
+  each_step j can = steps.met j can.customer can
 
   covers : CoversAll p g k prices after.value (HasPending p k zs) (HasActive p k zs)
   covers a active = covers_retired p g k prices after.value (HasPending p k ys) (HasPending p k zs) (HasActive p k ys) (state_at p k l) ending.counted each_step others

@@ -109,11 +109,11 @@ pub record TakesStep (p : Problem) (g : Region) (k : ℕ) (prices : List ℤ) (b
   pub labelled : IsArena p g k prices ys
   pub met : CanStep p g (state_at p k l) j → IsMet p g k prices b ys (step p k prices (state_at p k l) j)
 
--- so was each step from l to a customer below i
-pub record TakesSteps (p : Problem) (g : Region) (k : ℕ) (prices : List ℤ) (b : Option ℤ) (xs ys : List Label) (l : Label) (i : ℕ) : Type 0 where
+-- so was each step from l to one of these customers
+pub record TakesSteps (p : Problem) (g : Region) (k : ℕ) (prices : List ℤ) (b : Option ℤ) (xs ys : List Label) (l : Label) (P : ℕ → Type 0) : Type 0 where
   pub moved : IsMoved p g k prices xs ys
   pub labelled : IsArena p g k prices ys
-  pub met : (j : ℕ) → j < i → CanStep p g (state_at p k l) j → IsMet p g k prices b ys (step p k prices (state_at p k l) j)
+  pub met : (j : ℕ) → P j → CanStep p g (state_at p k l) j → IsMet p g k prices b ys (step p k prices (state_at p k l) j)
 
 -- the best c counts the end of l, which stands at the index, beside b
 pub record CountsEnd (p : Problem) (g : Region) (k : ℕ) (l : Label) (index : ℕ) (b c : Best) : Type 0 where

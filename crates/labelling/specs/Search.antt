@@ -9,6 +9,7 @@ use Rattle.labelling.specs.declared.label.Label.{Label}
 use Rattle.labelling.specs.declared.labeller.Labeller.{Labeller}
 use Rattle.labelling.specs.Arena.{label_in, state_at, IsArena, IsDominated, IsPruned, IsAdded, IsSameStop, TakesStep, TakesSteps, CountsEnd, IsComplete}
 use Rattle.labelling.specs.Cover.{Carries, IsCounted, IsPassed}
+use Rattle.solomon_reader.specs.Problem.{IsCustomer}
 use Rattle.solomon_reader.specs.States.{CanEnd, CanStep, Completes, value_with}
 use Rattle.fronts.specs.Completions.{IsBound, IsCut}
 use Rattle.fronts.specs.Fronts.{end_cost}
@@ -77,9 +78,13 @@ CanStepTo w l j = CanStep (task_of w).instance.now (task_of w).region.now (state
 abbrev pub TakesStepTo : Labeller → Labeller → Option ℤ → Label → ℕ → Type 0
 TakesStepTo v w b l j = TakesStep (task_of v).instance.now (task_of v).region.now (task_of v).neighbours (task_of v).prices.now b v.labels.items w.labels.items l j
 
--- so was each step from l to a customer below i
-abbrev pub TakesStepsBelow : Labeller → Labeller → Option ℤ → Label → ℕ → Type 0
-TakesStepsBelow v w b l i = TakesSteps (task_of v).instance.now (task_of v).region.now (task_of v).neighbours (task_of v).prices.now b v.labels.items w.labels.items l i
+-- so was each step from l to one of these customers
+abbrev pub TakesStepsAmong : Labeller → Labeller → Option ℤ → Label → (ℕ → Type 0) → Type 0
+TakesStepsAmong v w b l P = TakesSteps (task_of v).instance.now (task_of v).region.now (task_of v).neighbours (task_of v).prices.now b v.labels.items w.labels.items l P
+
+-- so was each step from l to a customer
+abbrev pub TakesEachStep : Labeller → Labeller → Option ℤ → Label → Type 0
+TakesEachStep v w b l = TakesStepsAmong v w b l (IsCustomer (task_of v).instance.now)
 
 -- the label remembers u
 abbrev pub Recalls : Labeller → Label → ℕ → Type 0

@@ -10,7 +10,7 @@ ghost use Rattle.labelling.specs.Answer.{HasLeastValue, HasItsRoute};
 ghost use Rattle.labelling.specs.Arena.{label_in, trace, IsPending, IsOnward, NonePending, IsInList, IsFirst, IsAnswer};
 ghost use Rattle.labelling.specs.Cover.{IsAtMost};
 ghost use Rattle.fronts.specs.Fronts.{IsBounded, IsTask};
-ghost use Rattle.labelling.specs.Search.{task_of, IsSameTask, AreLabels, StandsAt, CanStepTo, AreRowsFrom, ArePlacesFrom, IsAddedTo, IsBoundAt, PassesFront, PassesLabel, TakesStepTo, TakesStepsBelow, Recalls, AddsAtLeast, EndsFor, CountsEndOf, LosesNothing};
+ghost use Rattle.labelling.specs.Search.{task_of, IsSameTask, AreLabels, StandsAt, CanStepTo, AreRowsFrom, ArePlacesFrom, IsAddedTo, IsBoundAt, PassesFront, PassesLabel, TakesStepTo, TakesEachStep, Recalls, AddsAtLeast, EndsFor, CountsEndOf, LosesNothing};
 ghost use Rattle.labelling.specs.declared.fault.LabelFault.TheVariants.{LabelLimit};
 
 use crate::best::Best;
@@ -47,6 +47,8 @@ pub(crate) struct Labeller<'t, 'i> {
     /// No label is left out after which a route may cost less, in grains: the reduced cost of the known
     /// route, so that others that cost less than that one are met, too.
     cut: i64,
+    /// How many steps were taken.
+    taken: u64,
 }
 
 /// The list of the empty beginning at the depot.
@@ -133,6 +135,7 @@ impl<'t, 'i> Labeller<'t, 'i> {
                 index: 0,
             },
             cut: i64::MIN,
+            taken: 0,
         })
     }
 
@@ -150,6 +153,7 @@ impl<'t, 'i> Labeller<'t, 'i> {
             lookup: self.lookup,
             best: self.best,
             cut: self.cut,
+            taken: self.taken,
         }
     }
 
@@ -266,6 +270,7 @@ impl<'t, 'i> Labeller<'t, 'i> {
         ensures unlimited { IfErr result (λ e. e ≡ LabelLimit → self.old.limit ≢ None) }
     {
         let task = self.completions.task;
+        self.taken = self.taken.saturating_add(1);
         let front = label.front.extend(task.instance, task.prices, j);
         let bound = self.completions.at(front.last, front.time);
         if self.is_passed(&front, &bound, best) {
@@ -314,7 +319,7 @@ impl<'t, 'i> Labeller<'t, 'i> {
     ) -> Result<(), LabelFault>
         requires labels { AreLabels self.old }
         requires index { StandsAt self.old.labels.items index label.now }
-        ensures stepped { OnOk result (TakesStepsBelow self.old self.new best label.now (customer_count (task_of self.old).instance.now + 1)) }
+        ensures stepped { OnOk result (TakesEachStep self.old self.new best label.now) }
         ensures same { IsSameTask self.old self.new }
         ensures best { self.new.best ≡ self.old.best }
         ensures unlimited { IfErr result (λ e. e ≡ LabelLimit → self.old.limit ≢ None) }
@@ -323,8 +328,11 @@ impl<'t, 'i> Labeller<'t, 'i> {
         let last = usize::from(label.front.last);
         let rows = &task.allowed_rows[last];
         let places = task.places[last].as_slice();
-        for j in 1..task.instance.customer_count() + 1 {
-            self.take_step(label, index, best, rows, places, j)?;
+        for step in task.steps_from(label.front.last) {
+            if step.latest < label.front.time {
+                return Ok(());
+            }
+            self.take_step(label, index, best, rows, places, step.customer)?;
         }
         Ok(())
     }
@@ -396,12 +404,10 @@ impl<'t, 'i> Labeller<'t, 'i> {
         Ok(())
     }
 
-    /// How much work the search was: how often a label or a bound looked at a customer, and a label at the
-    /// labels that remember the same customers.
+    /// How much work the search was: the steps taken, the customers that bounds looked at, and how often a label
+    /// looked at the labels that remember the same customers.
     fn looks(&self) -> u64 {
-        let lookers = self.labels.len().saturating_add(self.completions.count());
-        let customers = u64::from(self.completions.task.instance.customer_count());
-        let looks = (lookers as u64).saturating_mul(customers);
+        let looks = self.taken.saturating_add(self.completions.looks());
         looks.saturating_add(self.lookup.looks())
     }
 

@@ -1,10 +1,11 @@
 use Rattle.std.proofs.Common.{◌≡◌}
-use Rattle.labelling.specs.Search.{TakesStepsBelow, IsSameTask}
+use Rattle.fronts.specs.Steps.{IsAmong}
+use Rattle.labelling.specs.Search.{TakesStepsAmong, IsSameTask}
 use Rattle.labelling.proofs.labeller.Labeller.take_steps.Given as goal
 
-abbrev pub invariant-loop-j : goal.invariant-loop-j
-invariant-loop-j l = record {
-  stepped : TakesStepsBelow l.initial.self l.self l.best l.label l.j;
+abbrev pub invariant-loop-step : goal.invariant-loop-step
+invariant-loop-step l = record {
+  stepped : TakesStepsAmong l.initial.self l.self l.best l.label (IsAmong l.step-items l.step-index);
   same : IsSameTask l.initial.self l.self;
   best : l.self.best ≡ l.initial.self.best;
 }
