@@ -145,9 +145,6 @@ impl<'p, 'i> Nodes<'p, 'i> {
         })
     }
 
-    /// For so many customers a turn at the root may be in vain.
-    const CUSTOMERS_OF_PATIENCE: u16 = 150;
-
     /// How often a turn looks for a leaf, if there is none at first.
     fn looks(&self) -> u32 {
         if self.missed < MOST_LOOKS {
