@@ -7,7 +7,7 @@ ghost use Rattle.solomon_reader.specs.declared.limits.TheConstants.{MOST_NEIGHBO
 ghost use Rattle.insertion.specs.Building.{IsServedAlone};
 ghost use Rattle.search.specs.Searching.{plan_of};
 
-use insertion::{Built, InsertFault, Weights, build};
+use insertion::{Weights, build_whole};
 use labelling::LabelFault;
 use price_ascent::start_from;
 use prices::Priced;
@@ -27,21 +27,6 @@ const TURNS: u32 = 20;
 /// How many insertions with drawn weights are tried where the first leaves a customer out.
 const DRAWS: u32 = 50;
 
-/// The plan that insertion builds with these weights, if it serves every customer.
-fn build_with<'i>(
-    alloc: Global,
-    instance: &'i Instance,
-    weights: &Weights,
-) -> Result<Option<Feasible<'i>>, AllocError>
-    ensures { IfOk result (λ plan. MatchOption plan (¬ IsServedAlone instance.now) (λ f. f.problem ≡ instance.now)) }
-{
-    match build(alloc, instance, weights) {
-        Ok(Built::Whole(plan)) => Ok(Some(plan)),
-        Ok(Built::Part { .. }) => Ok(None),
-        Err(InsertFault::Memory) => Err(AllocError),
-    }
-}
-
 /// A plan that an insertion builds, the first with the weights that a run begins with, the others with
 /// drawn ones.
 fn built_plan<'i, R: Rng>(
@@ -51,7 +36,7 @@ fn built_plan<'i, R: Rng>(
 ) -> Result<Option<Feasible<'i>>, AllocError>
     ensures { IfOk result (λ plan. MatchOption plan (¬ IsServedAlone instance.now) (λ f. f.problem ≡ instance.now)) }
 {
-    if let Some(plan) = build_with(alloc, instance, &Weights::plain())? {
+    if let Some(plan) = build_whole(alloc, instance, &Weights::plain())? {
         return Ok(Some(plan));
     }
     for _ in 0..DRAWS {
@@ -61,7 +46,7 @@ fn built_plan<'i, R: Rng>(
             random.next_u32(),
         );
         let weights = Weights::of_words(spared, from_depot, detour);
-        if let Some(plan) = build_with(alloc, instance, &weights)? {
+        if let Some(plan) = build_whole(alloc, instance, &weights)? {
             return Ok(Some(plan));
         }
     }

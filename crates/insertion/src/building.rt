@@ -1,6 +1,6 @@
 //! The build.
 
-ghost use Rattle.std.specs.Prelude.{◌≡◌, ◌<◌, ◌++◌, length, slice_index, IfOk, OnOk};
+ghost use Rattle.std.specs.Prelude.{◌≡◌, ◌<◌, ◌++◌, length, slice_index, IfOk, MatchOption, OnOk};
 ghost use Rattle.std.specs.List.{All};
 ghost use Rattle.std.specs.List.Sorted.{IsPermutation, IsStrictlyIncreasing};
 ghost use Rattle.solomon_reader.specs.Problem.{customers, IsCustomer};
@@ -129,4 +129,19 @@ pub fn build<'i>(
     let mut unrouted = numbers(alloc, instance)?;
     let routes = all_routes(alloc, instance, weights, &mut unrouted)?;
     Ok(answer(instance, routes, unrouted))
+}
+
+/// The plan that `build` makes with these weights, if it serves every customer.
+pub fn build_whole<'i>(
+    alloc: Global,
+    instance: &'i Instance,
+    weights: &Weights,
+) -> Result<Option<Feasible<'i>>, AllocError>
+    ensures { IfOk result (λ plan. MatchOption plan (¬ IsServedAlone instance.now) (λ f. f.problem ≡ instance.now)) }
+{
+    match build(alloc, instance, weights) {
+        Ok(Built::Whole(plan)) => Ok(Some(plan)),
+        Ok(Built::Part { .. }) => Ok(None),
+        Err(InsertFault::Memory) => Err(AllocError),
+    }
 }

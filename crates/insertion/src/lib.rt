@@ -10,7 +10,7 @@ mod proposal;
 mod route;
 mod weights;
 
-pub use building::build;
+pub use building::{build, build_whole};
 pub use built::Built;
 pub use fault::InsertFault;
 pub use weights::Weights;

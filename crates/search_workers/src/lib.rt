@@ -5,13 +5,13 @@ mod at_desk;
 mod crew;
 mod fault;
 mod opening;
+mod post;
 mod running;
-mod worker;
 
 pub use closing::{CloseAloneFault, Closed, MOST_CLOSED, close_alone};
 pub use fault::RunFault;
 pub use running::run;
 pub use worker_turns::{
     Gate, GatePoint, Hub, MOST_BOUNDERS, MOST_LABELS, MOST_SEARCHERS, MOST_TURNS, NoGate, Nodes,
-    Settings, bound_worker, generator, search_worker,
+    Settings, Worker, bound_worker, generator, search_worker,
 };

@@ -1,6 +1,6 @@
 //! What a run begins with: the first plans, the root with its first prices, and the book of both.
 
-ghost use Rattle.std.specs.Prelude.{◌≡◌, ◌≢◌, ◌+◌, ◌<◌, ◌≤◌, ◌⊎◌, [], true, length, is_some, IfOk, IfErr, OnOk, MatchOption};
+ghost use Rattle.std.specs.Prelude.{◌≡◌, ◌≢◌, ◌+◌, ◌<◌, ◌≤◌, ◌⊎◌, [], true, length, is_some, IfOk, IfErr, OnOk};
 ghost use Rattle.solomon_reader.specs.Problem.{customer_count};
 ghost use Rattle.solomon_reader.specs.History.{costs_of};
 ghost use Rattle.solomon_reader.specs.Region.{root_region};
@@ -12,7 +12,7 @@ ghost use Rattle.search_workers.specs.declared.fault.RunFault.TheVariants.{Memor
 
 use crate::fault::RunFault;
 use incumbent_book::{Book, BookFault, OpenFault};
-use insertion::{Built, InsertFault, Weights, build};
+use insertion::{Weights, build_whole};
 use labelling::LabelFault;
 use price_ascent::start_from;
 use prices::Priced;
@@ -31,18 +31,6 @@ const FIRST_WORKER: u16 = 0;
 pub(crate) struct Opening<'i> {
     pub(crate) book: Book<'i>,
     pub(crate) plan: Option<Feasible<'i>>,
-}
-
-/// The plan that insertion builds, if it serves every customer.
-fn build_plan<'i>(alloc: Global, instance: &'i Instance) -> Result<Option<Feasible<'i>>, RunFault>
-    ensures plan { IfOk result (λ plan. MatchOption plan (¬ IsServedAlone instance.now) (λ f. f.problem ≡ instance.now)) }
-    ensures memory { IfErr result (λ e. e ≡ Memory) }
-{
-    match build(alloc, instance, &Weights::plain()) {
-        Ok(Built::Whole(plan)) => Ok(Some(plan)),
-        Ok(Built::Part { .. }) => Ok(None),
-        Err(InsertFault::Memory) => Err(RunFault::Memory),
-    }
 }
 
 /// The plan that a descent leads to, or as far as memory lets it come.
@@ -152,7 +140,7 @@ impl<'i> Opening<'i> {
         ensures refused { IfErr result (λ e. (e ≡ Memory) ⊎ (e ≡ LabelLimit)) }
     {
         let root = price_root(alloc, instance, settings)?;
-        let Some(plan) = build_plan(alloc, instance)? else {
+        let Some(plan) = build_whole(alloc, instance, &Weights::plain())? else {
             let book = open_book(alloc, root)?;
             return Ok(Opening { book, plan: None });
         };

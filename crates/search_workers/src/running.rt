@@ -1,6 +1,6 @@
 //! A run of all workers.
 
-ghost use Rattle.std.specs.Prelude.{◌≡◌, ◌≢◌, ◌≤◌, ◌<◌, ◌+◌, ◌-◌, ◌^◌, ◌⊎◌, [], length, map, is_some, true, IfOk, IfErr, IfNone, IfSome, vec_len, vec_capacity};
+ghost use Rattle.std.specs.Prelude.{◌≡◌, ◌≢◌, ◌≤◌, ◌+◌, ◌^◌, ◌<◌, ◌⊎◌, [], IfOk, IfErr, IfSome, is_some, vec_len};
 ghost use Rattle.std.specs.List.{All};
 ghost use Rattle.node_pool.specs.Deques.{FitsAt};
 ghost use Rattle.node_pool.specs.Ends.{deque_at};
@@ -15,13 +15,13 @@ ghost use Rattle.search_workers.specs.Running.{RefusesSettings};
 ghost use Rattle.search_workers.specs.declared.fault.RunFault.TheVariants as refusal;
 
 use crate::at_desk::AtDesk;
-use crate::crew::{CrewFault, all_at_once};
+use crate::crew::all_at_once;
 use crate::fault::RunFault;
 use crate::opening::Opening;
-use crate::worker::{Returned, Site, Task, Worker};
+use crate::post::{Posted, Task};
 use ceiling::{Ceiling, CeilingSeat};
 use desk::{Blanks, Desk, Naming, Share};
-use incumbent_book::{Book, Outcome};
+use incumbent_book::{Gap, Outcome};
 use node_pool::{Hand, Pass, Pool, Thief};
 use schedule::Feasible;
 use solomon_reader::Instance;
@@ -29,7 +29,7 @@ use std::alloc::{AllocError, Global};
 use std::marker::Brand;
 use std::sync::Wait;
 use std::thread::Threads;
-use worker_turns::{Gate, Nodes, Settings, generator};
+use worker_turns::{Gate, Nodes, Settings, Worker, generator};
 
 /// How many numbers each deque takes in its life.
 const PUSHES: usize = 1_000_000;
@@ -37,86 +37,57 @@ const PUSHES: usize = 1_000_000;
 /// The number of the root.
 const ROOT: u32 = 0;
 
-/// A worker that has this seat.
-fn seat_worker<'a, 'i, H, G>(
-    site: &'a Site<'a, 'i, G>,
-    hub: H,
+/// What a run is given.
+#[derive(Drop)]
+struct Given<'a, 'i, R, G> {
+    rt: &'a R,
+    alloc: Global,
+    instance: &'i Instance,
+    settings: &'a Settings,
+    gate: &'a G,
+}
+
+/// What all workers of a run share.
+#[derive(Drop)]
+struct Site<'a, 'i, R: Wait, J: Naming, G> {
+    given: &'a Given<'a, 'i, R, G>,
+    desk: &'a Desk<'i, J>,
+    ceiling: &'a Ceiling,
+    deques: &'a [Thief],
+    plan: Option<&'a Feasible<'i>>,
+}
+
+/// The task of a worker: it raises the bound where it has the end of a deque, else it looks for plans.
+fn task_of<'a, 'i, R: Wait, J: Naming, G>(
+    site: &Site<'a, 'i, R, J, G>,
     number: u16,
-    seat: CeilingSeat,
-    task: Task<'a, 'i>,
-) -> Worker<'a, 'i, H, G>
-    requires { IsSeatOf site.now.ceiling.now seat }
-    ensures { result.site.now.ceiling.now ≡ site.now.ceiling.now }
-{
-    Worker {
-        site,
-        hub,
-        number,
-        seat,
-        task,
-    }
-}
-
-/// What the last bound worker begins with that has nothing yet.
-fn next_nodes<'a, 'i, G>(
-    site: &Site<'_, 'i, G>,
-    plan: Option<&Feasible<'i>>,
-    hands: &mut Vec<Hand>,
-    deques: &'a [Thief],
-    passes: &mut Vec<Pass>,
-) -> Result<Nodes<'a, 'i>, AllocError>
-    requires some { 0 < vec_len hands.old }
-    requires same { vec_len passes.old ≡ vec_len hands.old }
-    requires fits { All (λ p. All (λ t. FitsAt (deque_at t) p) deques.now) passes.old.items }
-    ensures hands { vec_len hands.new + 1 ≡ vec_len hands.old }
-    ensures passes { vec_len passes.new + 1 ≡ vec_len passes.old }
-    ensures fits { All (λ p. All (λ t. FitsAt (deque_at t) p) deques.now) passes.new.items }
-{
-    let (Some(own), Some(pass)) = (hands.pop(), passes.pop()) else {
-        unreachable!()
-    };
-    Nodes::new(
-        site.alloc,
-        site.instance,
-        plan,
-        own,
-        deques,
-        hands.len(),
-        pass,
-    )
-}
-
-/// What the worker with this number does. The workers from 0 on search; the bound workers follow.
-fn next_task<'a, 'i, G>(
-    number: usize,
-    site: &Site<'_, 'i, G>,
-    plan: Option<&Feasible<'i>>,
-    hands: &mut Vec<Hand>,
-    deques: &'a [Thief],
-    passes: &mut Vec<Pass>,
+    own: Option<Hand>,
+    pass: Option<Pass>,
 ) -> Result<Task<'a, 'i>, AllocError>
-    requires few { number < 2 ^ 16 }
-    requires same { vec_len passes.old ≡ vec_len hands.old }
-    requires left { vec_len hands.old ≡ number + 1 - site.now.settings.now.searchers }
-    requires fits { All (λ p. All (λ t. FitsAt (deque_at t) p) deques.now) passes.old.items }
-    ensures same { vec_len passes.new ≡ vec_len hands.new }
-    ensures left { vec_len hands.new ≡ number - site.now.settings.now.searchers }
-    ensures fits { All (λ p. All (λ t. FitsAt (deque_at t) p) deques.now) passes.new.items }
+    requires { IfSome pass (λ p. All (λ t. FitsAt (deque_at t) p) site.now.deques.now) }
 {
-    if number >= site.settings.searchers as usize {
-        let nodes = next_nodes(site, plan, hands, deques, passes)?;
+    let given = site.given;
+    if let (Some(own), Some(pass)) = (own, pass) {
+        let nodes = Nodes::new(
+            given.alloc,
+            given.instance,
+            site.plan,
+            own,
+            site.deques,
+            pass,
+        )?;
         return Ok(Task::Bound { nodes });
     }
-    let plan = match plan {
+    let plan = match site.plan {
         Some(plan) => Some(plan.try_clone()?),
         None => None,
     };
-    let random = generator(site.settings.seed, number as u16);
+    let random = generator(given.settings.seed, number);
     Ok(Task::Search { plan, random })
 }
 
-/// What the workers of a run take: a share and a seat each, and each bound worker the end of a deque
-/// and what it steals by.
+/// What the workers of a run take, in the order of their numbers: a share and a seat each, and the last
+/// of them the end of a deque and what they steal by.
 #[derive(Drop)]
 struct Kit<J: Naming> {
     shares: Vec<Share<J>>,
@@ -125,132 +96,46 @@ struct Kit<J: Naming> {
     passes: Vec<Pass>,
 }
 
-/// The last worker that is left of a kit.
-fn next_worker<'a, 'i, R: Wait, J: Naming, G>(
-    rt: &'a R,
-    desk: &'a Desk<'i, J>,
-    site: &'a Site<'a, 'i, G>,
-    plan: Option<&Feasible<'i>>,
-    kit: &mut Kit<J>,
-    deques: &'a [Thief],
-) -> Result<Option<Worker<'a, 'i, AtDesk<'a, 'i, R, J>, G>>, AllocError>
-    requires few { vec_len kit.old.shares ≤ 2 ^ 16 }
-    requires seats { vec_len kit.old.seats ≡ vec_len kit.old.shares }
-    requires own { All (IsSeatOf site.now.ceiling.now) kit.old.seats.items }
-    requires hands { vec_len kit.old.hands ≡ vec_len kit.old.shares - site.now.settings.now.searchers }
-    requires passes { vec_len kit.old.passes ≡ vec_len kit.old.hands }
-    requires fits { All (λ p. All (λ t. FitsAt (deque_at t) p) deques.now) kit.old.passes.items }
-    ensures none { IfOk result (λ found. IfNone found (vec_len kit.old.shares ≡ 0)) }
-    ensures left { IfOk result (λ found. IfSome found (λ _. vec_len kit.new.shares + 1 ≡ vec_len kit.old.shares)) }
-    ensures site { IfOk result (λ found. IfSome found (λ w. w.site.now.ceiling.now ≡ site.now.ceiling.now)) }
-    ensures seats { IfOk result (λ found. IfSome found (λ _. vec_len kit.new.seats ≡ vec_len kit.new.shares)) }
-    ensures own { IfOk result (λ found. IfSome found (λ _. All (IsSeatOf site.now.ceiling.now) kit.new.seats.items)) }
-    ensures hands { IfOk result (λ found. IfSome found (λ _. vec_len kit.new.hands ≡ vec_len kit.new.shares - site.now.settings.now.searchers)) }
-    ensures passes { IfOk result (λ found. IfSome found (λ _. vec_len kit.new.passes ≡ vec_len kit.new.hands)) }
-    ensures fits { IfOk result (λ found. IfSome found (λ _. All (λ p. All (λ t. FitsAt (deque_at t) p) deques.now) kit.new.passes.items)) }
-{
-    let Some(number) = kit.shares.len().checked_sub(1) else {
-        return Ok(None);
-    };
-    let task = next_task(number, site, plan, &mut kit.hands, deques, &mut kit.passes)?;
-    let Some(share) = kit.shares.pop() else {
-        unreachable!()
-    };
-    let Some(seat) = kit.seats.pop() else {
-        unreachable!()
-    };
-    let hub = AtDesk { rt, desk, share };
-    Ok(Some(seat_worker(site, hub, number as u16, seat, task)))
-}
-
-/// The workers of a run, the last first.
+/// The workers of a run, the last first. The workers from 0 on search; the bound workers follow.
 fn post_workers<'a, 'i, R: Wait, J: Naming, G>(
-    rt: &'a R,
-    desk: &'a Desk<'i, J>,
-    site: &'a Site<'a, 'i, G>,
-    plan: Option<&Feasible<'i>>,
-    kit: &mut Kit<J>,
-    deques: &'a [Thief],
-) -> Result<Vec<Worker<'a, 'i, AtDesk<'a, 'i, R, J>, G>>, AllocError>
-    requires few { vec_len kit.old.shares ≤ 2 ^ 16 }
-    requires seats { vec_len kit.old.seats ≡ vec_len kit.old.shares }
-    requires own { All (IsSeatOf site.now.ceiling.now) kit.old.seats.items }
-    requires hands { vec_len kit.old.hands ≡ vec_len kit.old.shares - site.now.settings.now.searchers }
-    requires passes { vec_len kit.old.passes ≡ vec_len kit.old.hands }
-    requires fits { All (λ p. All (λ t. FitsAt (deque_at t) p) deques.now) kit.old.passes.items }
-    ensures len { IfOk result (λ v. vec_len v ≡ vec_len kit.old.shares) }
-    ensures site { IfOk result (λ v. All (λ w. w.site.now.ceiling.now ≡ site.now.ceiling.now) v.items) }
+    site: &Site<'a, 'i, R, J, G>,
+    mut kit: Kit<J>,
+) -> Result<Vec<Posted<'a, 'i, R, J, G>>, AllocError>
+    requires few { vec_len kit.shares ≤ 2 ^ 16 }
+    requires seats { vec_len kit.seats ≡ vec_len kit.shares }
+    requires own { All (IsSeatOf site.now.ceiling.now) kit.seats.items }
+    requires fits { All (λ p. All (λ t. FitsAt (deque_at t) p) site.now.deques.now) kit.passes.items }
+    ensures { IfOk result (λ crew. vec_len crew ≡ vec_len kit.shares) }
 {
-    let mut crew = Vec::with_capacity(site.alloc, kit.shares.len())?;
-    while let Some(worker) = next_worker(rt, desk, site, plan, kit, deques)? {
-        crew.push_reserved(worker);
+    let given = site.given;
+    let mut crew = Vec::with_capacity(given.alloc, kit.shares.len())?;
+    while let (Some(share), Some(seat)) = (kit.shares.pop(), kit.seats.pop()) {
+        let number = kit.shares.len() as u16;
+        let task = task_of(site, number, kit.hands.pop(), kit.passes.pop())?;
+        crew.push_reserved(Posted {
+            worker: Worker {
+                alloc: given.alloc,
+                instance: given.instance,
+                hub: AtDesk {
+                    rt: given.rt,
+                    desk: site.desk,
+                    share,
+                },
+                gate: given.gate,
+                number,
+                ceiling: site.ceiling,
+                seat,
+            },
+            settings: given.settings,
+            task,
+        });
     }
     Ok(crew)
 }
 
-/// The shares and the seats that the workers bring back.
-fn take_back<'a, 'i, R: Wait, J: Naming>(
-    back: Vec<Returned<AtDesk<'a, 'i, R, J>>>,
-    mut shares: Vec<Share<J>>,
-    mut seats: Vec<CeilingSeat>,
-) -> (Vec<Share<J>>, Vec<CeilingSeat>)
-    requires empty { (shares.items ≡ []) × (seats.items ≡ []) }
-    requires room { (vec_len back ≤ vec_capacity shares) × (vec_len back ≤ vec_capacity seats) }
-    ensures shares { vec_len result.0 ≡ vec_len back.entry }
-    ensures seats { result.1.items ≡ map (λ r. r.seat) back.entry.items }
-{
-    for returned in back {
-        let Returned { hub, seat } = returned;
-        shares.push_reserved(hub.share);
-        seats.push_reserved(seat);
-    }
-    (shares, seats)
-}
-
-impl From<CrewFault> for RunFault {
-    ghost from_gives = { λ fault e. (e ≡ refusal.Memory) ⊎ (e ≡ refusal.NoThread) };
-
-    fn from(fault: CrewFault) -> RunFault {
-        match fault {
-            CrewFault::Memory => RunFault::Memory,
-            CrewFault::NoThread => RunFault::NoThread,
-        }
-    }
-}
-
-/// Lets all workers work at a desk, each in a thread of its own, and answers their shares and seats.
-#[tactic(auto, using(crate::proofs::Bringing::as_many))]
-fn work_together<'i, R: Threads + Wait + Sync, J: Naming + Send + Sync, G: Gate + Sync>(
-    rt: &R,
-    desk: &Desk<'i, J>,
-    site: &Site<'_, 'i, G>,
-    plan: Option<&Feasible<'i>>,
-    kit: &mut Kit<J>,
-    deques: &[Thief],
-) -> Result<(Vec<Share<J>>, Vec<CeilingSeat>), RunFault>
-    requires few { vec_len kit.old.shares ≤ 2 ^ 16 }
-    requires seats { vec_len kit.old.seats ≡ vec_len kit.old.shares }
-    requires own { All (IsSeatOf site.now.ceiling.now) kit.old.seats.items }
-    requires hands { vec_len kit.old.hands ≡ vec_len kit.old.shares - site.now.settings.now.searchers }
-    requires passes { vec_len kit.old.passes ≡ vec_len kit.old.hands }
-    requires fits { All (λ p. All (λ t. FitsAt (deque_at t) p) deques.now) kit.old.passes.items }
-    ensures shares { IfOk result (λ r. vec_len r.0 ≡ vec_len kit.old.shares) }
-    ensures seats { IfOk result (λ r. All (IsSeatOf site.now.ceiling.now) r.1.items) }
-    ensures refused { IfErr result (λ e. (e ≡ refusal.Memory) ⊎ (e ≡ refusal.NoThread)) }
-{
-    let workers = kit.shares.len();
-    let shares = Vec::with_capacity(site.alloc, workers)?;
-    let seats = Vec::with_capacity(site.alloc, workers)?;
-    let crew = post_workers(rt, desk, site, plan, kit, deques)?;
-    let back = all_at_once(rt, site.alloc, crew)?;
-    Ok(take_back(back, shares, seats))
-}
-
 /// The deques of the bound workers. The root stands in each, so that all begin there.
 fn deques(alloc: Global, bounders: usize) -> Result<(Vec<Hand>, Vec<Thief>, Vec<Pass>), AllocError>
-    ensures hands { IfOk result (λ r. vec_len r.0 ≡ bounders) }
-    ensures passes { IfOk result (λ r. vec_len r.2 ≡ bounders) }
-    ensures fits { IfOk result (λ r. All (λ p. All (λ t. FitsAt (deque_at t) p) r.1.items) r.2.items) }
+    ensures { IfOk result (λ r. All (λ p. All (λ t. FitsAt (deque_at t) p) r.1.items) r.2.items) }
 {
     let Ok((mut hands, thieves, passes)) = Pool::new(alloc, bounders, PUSHES) else {
         return Err(AllocError);
@@ -262,49 +147,57 @@ fn deques(alloc: Global, bounders: usize) -> Result<(Vec<Hand>, Vec<Thief>, Vec<
     Ok((hands, thieves, passes))
 }
 
-/// Gives each bound worker a deque, lets all workers work, and answers their shares and seats.
-fn work_with_deques<'i, R: Threads + Wait + Sync, J: Naming + Send + Sync, G: Gate + Sync>(
-    rt: &R,
+/// Lets all workers work at a desk, each in a thread of its own, and answers their shares. The words for
+/// cost and bound begin with what the book has.
+fn work_together<'i, R: Threads + Wait + Sync, J: Naming + Send + Sync, G: Gate + Sync>(
+    given: &Given<'_, 'i, R, G>,
     desk: &Desk<'i, J>,
-    site: &Site<'_, 'i, G>,
-    plan: Option<&Feasible<'i>>,
     shares: Vec<Share<J>>,
-    seats: Vec<CeilingSeat>,
-) -> Result<(Vec<Share<J>>, Vec<CeilingSeat>), RunFault>
-    requires few { vec_len shares ≤ 2 ^ 16 }
-    requires workers { vec_len shares ≡ site.now.settings.now.searchers + site.now.settings.now.bounders }
-    requires seats { vec_len seats ≡ vec_len shares }
-    requires own { All (IsSeatOf site.now.ceiling.now) seats.items }
-    ensures shares { IfOk result (λ r. vec_len r.0 ≡ vec_len shares) }
-    ensures seats { IfOk result (λ r. All (IsSeatOf site.now.ceiling.now) r.1.items) }
+    plan: Option<&Feasible<'i>>,
+    gap: &Gap,
+) -> Result<Vec<Share<J>>, RunFault>
+    requires few { (0 < vec_len shares) × (vec_len shares ≤ 2 ^ 16) }
+    ensures shares { IfOk result (λ back. vec_len back ≡ vec_len shares) }
     ensures refused { IfErr result (λ e. (e ≡ refusal.Memory) ⊎ (e ≡ refusal.NoThread)) }
 {
-    let (hands, thieves, passes) = deques(site.alloc, site.settings.bounders as usize)?;
-    let mut kit = Kit {
-        shares,
-        seats,
-        hands,
-        passes,
+    let cost = match gap.cost {
+        Some(cost) => cost.get(),
+        None => given.instance.ceiling().get() + 1,
     };
-    work_together(rt, desk, site, plan, &mut kit, thieves.as_slice())
+    let Ok((ceiling, seats)) = Ceiling::new(given.alloc, shares.len(), cost, gap.bound.get()) else {
+        return Err(RunFault::Memory);
+    };
+    let (hands, thieves, passes) = deques(given.alloc, given.settings.bounders as usize)?;
+    let site = Site {
+        given,
+        desk,
+        ceiling: &ceiling,
+        deques: thieves.as_slice(),
+        plan,
+    };
+    let crew = post_workers(
+        &site,
+        Kit {
+            shares,
+            seats,
+            hands,
+            passes,
+        },
+    )?;
+    all_at_once(given.rt, given.alloc, crew)
 }
 
 /// Lets all workers work at a book, and answers what it leaves.
 fn run_at_desk<'i, R: Threads + Wait + Sync, J: Naming + Send + Sync, G: Gate + Sync>(
-    rt: &R,
-    alloc: Global,
-    instance: &'i Instance,
-    settings: &Settings,
-    gate: &G,
-    book: Book<'i>,
-    plan: Option<&Feasible<'i>>,
+    given: &Given<'_, 'i, R, G>,
+    opening: Opening<'i>,
     blanks: Blanks,
 ) -> Result<Outcome<'i>, RunFault>
-    requires within { IsWithin settings.now }
-    requires problem { book.problem ≡ J.problem }
-    requires neighbours { book.neighbours ≡ J.neighbours }
-    requires served { HasPlanIf J.has_plan book.past }
-    requires workers { J.workers ≡ settings.now.searchers + settings.now.bounders }
+    requires within { IsWithin given.now.settings.now }
+    requires problem { opening.book.problem ≡ J.problem }
+    requires neighbours { opening.book.neighbours ≡ J.neighbours }
+    requires served { HasPlanIf J.has_plan opening.book.past }
+    requires workers { J.workers ≡ given.now.settings.now.searchers + given.now.settings.now.bounders }
     requires names { names_of blanks ≡ J.names }
     requires parts { parts_of blanks ≡ each J.workers }
     ensures problem { IfOk result (λ o. o.problem ≡ J.problem) }
@@ -312,23 +205,13 @@ fn run_at_desk<'i, R: Threads + Wait + Sync, J: Naming + Send + Sync, G: Gate + 
     ensures served { IfOk result (λ o. HasPlanIf J.has_plan o.past) }
     ensures refused { IfErr result (λ e. (e ≡ refusal.Memory) ⊎ (e ≡ refusal.NoThread)) }
 {
-    let workers = settings.searchers + settings.bounders;
-    let most = instance.ceiling().get() + 1;
-    let Ok((desk, shares)) = Desk::<J>::open(alloc, book, workers as u16, blanks) else {
+    let Opening { book, plan } = opening;
+    let gap = book.gap();
+    let workers = given.settings.searchers + given.settings.bounders;
+    let Ok((desk, shares)) = Desk::<J>::open(given.alloc, book, workers as u16, blanks) else {
         return Err(RunFault::Memory);
     };
-    let Ok((ceiling, seats)) = Ceiling::new(alloc, workers as usize, most, 0) else {
-        return Err(RunFault::Memory);
-    };
-    let site = Site {
-        alloc,
-        instance,
-        settings,
-        gate,
-        ceiling: &ceiling,
-    };
-    let (shares, seats) = work_with_deques(rt, &desk, &site, plan, shares, seats)?;
-    let _ = ceiling.close(seats);
+    let shares = work_together(given, &desk, shares, plan.as_ref(), &gap)?;
     match desk.close(shares) {
         Ok(outcome) => Ok(outcome),
         Err(_) => unreachable!(),
@@ -357,16 +240,14 @@ pub fn run<'i, R: Threads + Wait + Sync, G: Gate + Sync>(
     if !settings.is_within() {
         return Err(RunFault::BadSettings);
     }
-    let Opening { book, plan } = Opening::new(rt, alloc, instance, settings)?;
-    let workers = settings.searchers + settings.bounders;
-    run_at_desk::<R, Brand, G>(
+    let opening = Opening::new(rt, alloc, instance, settings)?;
+    let given = Given {
         rt,
         alloc,
         instance,
         settings,
         gate,
-        book,
-        plan.as_ref(),
-        Blanks::new(workers as u16),
-    )
+    };
+    let workers = settings.searchers + settings.bounders;
+    run_at_desk::<R, Brand, G>(&given, opening, Blanks::new(workers as u16))
 }

@@ -1,14 +1,12 @@
 //! What the rows are made of: two customers in a line, which one vehicle can serve.
 
 use branching::{Arc, Region};
-use desk::LookFault;
-use incumbent_book::{Book, BookFault, Limits, Offered};
+use incumbent_book::{Book, Limits};
 use prices::Priced;
 use row_texts::{DEPOT, instance_text};
 use schedule::Feasible;
 use solomon_reader::{Instance, read};
 use std::alloc::Global;
-use std::sync::Wait;
 use std::test::Fail;
 
 /// The arc from the first customer to the second.
@@ -69,90 +67,15 @@ pub fn book_with<'i>(
     }
 }
 
-/// What is asked of a book, bare or at a desk.
-pub trait Asked<'i> {
-    /// Offers a plan.
-    fn ask_offer<R: Wait>(&mut self, rt: &R, plan: Feasible<'i>) -> Result<Offered<'i>, BookFault>;
-
-    /// Gives a leaf new prices.
-    fn ask_reprice<R: Wait>(
-        &mut self,
-        rt: &R,
-        leaf: u32,
-        priced: Priced<'i>,
-    ) -> Result<(), BookFault>;
-
-    /// Splits a leaf.
-    fn ask_split<R: Wait>(
-        &mut self,
-        rt: &R,
-        leaf: u32,
-        arc: Arc,
-        used: Priced<'i>,
-        unused: Priced<'i>,
-    ) -> Result<(u32, u32), BookFault>;
-
-    /// The value of a leaf.
-    fn ask_value<R: Wait>(&mut self, rt: &R, leaf: u32) -> Result<i128, LookFault>;
-}
-
-impl<'i> Asked<'i> for Book<'i> {
-    fn ask_offer<R: Wait>(
-        &mut self,
-        _rt: &R,
-        plan: Feasible<'i>,
-    ) -> Result<Offered<'i>, BookFault> {
-        match self.offer(0, plan) {
-            Ok(reply) => Ok(reply),
-            Err((_, fault)) => Err(fault),
-        }
-    }
-
-    fn ask_reprice<R: Wait>(
-        &mut self,
-        _rt: &R,
-        leaf: u32,
-        priced: Priced<'i>,
-    ) -> Result<(), BookFault> {
-        match self.reprice(0, leaf, priced) {
-            Ok(()) => Ok(()),
-            Err((_, fault)) => Err(fault),
-        }
-    }
-
-    fn ask_split<R: Wait>(
-        &mut self,
-        _rt: &R,
-        leaf: u32,
-        arc: Arc,
-        used: Priced<'i>,
-        unused: Priced<'i>,
-    ) -> Result<(u32, u32), BookFault> {
-        match self.split(0, leaf, arc, used, unused) {
-            Ok(made) => Ok(made),
-            Err((_, _, fault)) => Err(fault),
-        }
-    }
-
-    fn ask_value<R: Wait>(&mut self, _rt: &R, leaf: u32) -> Result<i128, LookFault> {
-        match self.leaf(leaf) {
-            Some(priced) => Ok(priced.value()),
-            None => Err(LookFault::NotALeaf),
-        }
-    }
-}
-
-/// Splits a leaf at a region, with the same prices at both children: their numbers, or the fault.
-pub fn split_by<'i, R: Wait + AllocGlobal, A: Asked<'i>>(
-    rt: &R,
+/// Prices at both children of a region by an arc, the same at both.
+pub fn children_at<'i>(
+    alloc: Global,
     instance: &'i Instance,
-    asked: &mut A,
-    leaf: u32,
     region: &Region,
     arc: Arc,
     prices: [i64; 2],
-) -> Result<Result<(u32, u32), BookFault>, Fail> {
-    let used = priced_at(rt.alloc(), instance, region.used(arc)?, &prices)?;
-    let unused = priced_at(rt.alloc(), instance, region.forbidden(arc)?, &prices)?;
-    Ok(asked.ask_split(rt, leaf, arc, used, unused))
+) -> Result<(Priced<'i>, Priced<'i>), Fail> {
+    let used = priced_at(alloc, instance, region.used(arc)?, &prices)?;
+    let unused = priced_at(alloc, instance, region.forbidden(arc)?, &prices)?;
+    Ok((used, unused))
 }

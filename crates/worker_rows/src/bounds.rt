@@ -12,7 +12,7 @@ use incumbent_book::BookFault;
 use node_pool::{Hand, Pass, Pool, Thief};
 use prices::Priced;
 use row_texts::{DEPOT, instance_text};
-use search_workers::{GatePoint, Nodes, Settings, bound_worker};
+use search_workers::{GatePoint, Nodes, Settings, Worker, bound_worker};
 use solomon_reader::{Instance, read};
 use std::alloc::Global;
 use std::test::Fail;
@@ -41,7 +41,7 @@ fn second_nodes<'p, 'i>(
     let Some(pass) = passes.pop() else {
         return Err(Fail::from("no pass"));
     };
-    Ok(Nodes::new(alloc, instance, None, own, deques, 1, pass)?)
+    Ok(Nodes::new(alloc, instance, None, own, deques, pass)?)
 }
 
 /// What a worker did: the turns made, the reprices and splits, and how often Looked, Stolen and End
@@ -53,7 +53,7 @@ type Done = (u32, u32, usize, usize, usize);
 fn turns_over<'i>(
     alloc: Global,
     instance: &'i Instance,
-    mut hub: Fake<'i>,
+    hub: Fake<'i>,
     room: usize,
     is_stolen: bool,
     (turns, labels): (u32, u32),
@@ -68,13 +68,22 @@ fn turns_over<'i>(
         ..Settings::default()
     };
     let (ceiling, mut seats) = Ceiling::new(alloc, 1, 1000, 0)?;
-    let mut seat = seats.pop().ok_or("a seat")?;
-    let made = bound_worker(
-        alloc, &mut hub, &gate, 2, &settings, nodes, &ceiling, &mut seat,
-    );
+    let Some(seat) = seats.pop() else {
+        return Err(Fail::from("no seat"));
+    };
+    let mut worker = Worker {
+        alloc,
+        instance,
+        hub,
+        gate: &gate,
+        number: 2,
+        ceiling: &ceiling,
+        seat,
+    };
+    let made = bound_worker(&mut worker, &settings, nodes);
     Ok((
         made,
-        hub.reprices.saturating_add(hub.splits),
+        worker.hub.reprices.saturating_add(worker.hub.splits),
         gate.of(GatePoint::Looked),
         gate.of(GatePoint::Stolen),
         gate.of(GatePoint::End),

@@ -183,16 +183,3 @@ fn what_stands_is_audited(rt: HostRuntime) -> Result<(), Fail> {
     assert!(rt; is_filled && stolen == Stolen::One(7) && stands.as_slice() == [8, 9].as_slice());
     Ok(())
 }
-
-/// Pops what was pushed, and finds no more.
-fn is_emptied(hand: &mut Hand) -> bool {
-    [hand.pop(), hand.pop(), hand.pop(), hand.pop()] == [Some(7), Some(8), Some(9), None]
-}
-
-#[test]
-fn what_was_popped_makes_no_room(rt: HostRuntime) -> Result<(), Fail> {
-    let (mut hand, _thief, _first, _second) = ends(rt.alloc())?;
-    let is_emptied = is_filled(&mut hand) && is_emptied(&mut hand);
-    assert!(rt; is_emptied && is_full(&mut hand, 10));
-    Ok(())
-}

@@ -1,13 +1,12 @@
 //! Books with small limits, and values that are foreign to a book.
 
-use crate::asked::{BACK, ONWARD, book_with, in_line, plan_of, priced_at, split_by};
-use branching::Region;
-use incumbent_book::{Book, BookFault, Limits, OpenFault};
+use crate::asked::{BACK, ONWARD, book_with, children_at, in_line, plan_of, priced_at};
+use branching::{Arc, Region};
+use incumbent_book::{Book, BookFault, Limits, OpenFault, Steps};
 use row_texts::one_customer;
 use solomon_reader::{Instance, read};
 use std::alloc::Global;
 use std::process::Abort;
-use std::sync::Wait;
 use std::test::Fail;
 
 /// The fault of an offer of one route for both customers, if it was refused.
@@ -24,8 +23,24 @@ fn offer_fault<'i, R: AllocGlobal>(
     })
 }
 
-/// Splits the root, and is refused to split a child.
-fn split_twice<'i, R: Abort + Wait + AllocGlobal>(
+/// The fault of a split of a leaf at a region, if it was refused.
+fn split_fault<'i, R: AllocGlobal>(
+    rt: &R,
+    instance: &'i Instance,
+    book: &mut Book<'i>,
+    leaf: u32,
+    (region, arc): (&Region, Arc),
+    prices: [i64; 2],
+) -> Result<Option<BookFault>, Fail> {
+    let (used, unused) = children_at(rt.alloc(), instance, region, arc, prices)?;
+    Ok(match book.split(0, leaf, arc, used, unused) {
+        Ok(_) => None,
+        Err((_, _, fault)) => Some(fault),
+    })
+}
+
+/// Splits the root, and is refused to split a child. The bound is found at once, however many leaves stand.
+fn split_twice<'i, R: Abort + AllocGlobal>(
     rt: &R,
     instance: &'i Instance,
     book: &mut Book<'i>,
@@ -33,10 +48,13 @@ fn split_twice<'i, R: Abort + Wait + AllocGlobal>(
     fault: BookFault,
 ) -> Result<(), Fail> {
     let root = Region::root(rt.alloc(), 2);
-    let made = split_by(rt, instance, book, 0, &root, ONWARD, [0, 0])?;
+    let first = split_fault(rt, instance, book, 0, (&root, ONWARD), [0, 0])?;
     let used = root.used(ONWARD)?;
-    let deeper = split_by(rt, instance, book, 1, &used, BACK, [200_000, 0])?;
-    assert_eq!(rt; (made, deeper), (Ok((1, 2)), Err(fault)), "{leaves}");
+    let deeper = split_fault(rt, instance, book, 1, (&used, BACK), [200_000, 0])?;
+    assert_eq!(rt; (first, deeper), (None, Some(fault)), "{leaves}");
+    let mut steps = Steps::new();
+    let bound = book.gap_counted(&mut steps).bound.get();
+    assert_eq!(rt; (steps.get(), bound), (1, 100));
     Ok(())
 }
 
@@ -58,7 +76,7 @@ fn offer_until_full<'i, R: Abort + AllocGlobal>(
 const TWO_OFFERS: [Option<BookFault>; 3] = [None, None, Some(BookFault::JournalFull)];
 
 /// A book with these limits splits the root, refuses to split a child, and takes two offers.
-fn fill<'i, R: Abort + Wait + AllocGlobal>(
+fn fill<'i, R: Abort + AllocGlobal>(
     rt: &R,
     instance: &'i Instance,
     other: &'i Instance,
@@ -78,38 +96,23 @@ fn fill<'i, R: Abort + Wait + AllocGlobal>(
     Ok(())
 }
 
-/// The instance of one customer.
-fn alone(alloc: Global) -> Result<Instance, Fail> {
-    let text = one_customer(alloc)?;
-    Ok(read(alloc, text.as_bytes())?)
-}
-
 #[test]
 fn a_full_book_refuses(rt: HostRuntime) -> Result<(), Fail> {
     let instance = in_line(rt.alloc())?;
-    let other = alone(rt.alloc())?;
+    let other = read(rt.alloc(), one_customer(rt.alloc())?.as_bytes())?;
     fill(&rt, &instance, &other, 2, BookFault::LeavesFull)?;
     fill(&rt, &instance, &other, 3, BookFault::TooDeep)?;
     Ok(())
 }
 
-/// The fault of a split of the root, if it was refused.
-fn split_fault<'i, R: Wait + AllocGlobal>(
-    rt: &R,
-    instance: &'i Instance,
-    book: &mut Book<'i>,
-) -> Result<Option<BookFault>, Fail> {
-    let root = Region::root(rt.alloc(), 2);
-    Ok(split_by(rt, instance, book, 0, &root, ONWARD, [0, 0])?.err())
-}
-
 /// A book of one event and one leaf refuses a split and a second offer.
-fn fill_small<'i, R: Abort + Wait + AllocGlobal>(
+fn fill_small<'i, R: Abort + AllocGlobal>(
     rt: &R,
     instance: &'i Instance,
     book: &mut Book<'i>,
 ) -> Result<(), Fail> {
-    let split = split_fault(rt, instance, book)?;
+    let root = Region::root(rt.alloc(), 2);
+    let split = split_fault(rt, instance, book, 0, (&root, ONWARD), [0, 0])?;
     assert_eq!(rt;
         (split, book.history().len()),
         (Some(BookFault::LeavesFull), 0)

@@ -1,7 +1,7 @@
 //! Two workers that wait for each other, so both have to run at once.
 
-use row_texts::{one_customer, two_in_line};
-use search_workers::{Gate, GatePoint, NoGate, RunFault, Settings, run};
+use row_texts::one_customer;
+use search_workers::{Gate, GatePoint, Settings, run};
 use solomon_reader::{Instance, read};
 use std::sync::Wait;
 use std::sync::atomic::{AtomicBool, Ordering};
@@ -82,18 +82,5 @@ fn two_workers_run_at_once(rt: HostRuntime) -> Result<(), Fail> {
     let instance = read(rt.alloc(), text.as_bytes())?;
     let met = meet(&rt, &instance)?;
     assert!(rt; met == (true, true, Some(100)));
-    Ok(())
-}
-
-#[test]
-fn settings_outside_their_limits_are_refused(rt: HostRuntime) -> Result<(), Fail> {
-    let text = two_in_line(rt.alloc())?;
-    let instance = read(rt.alloc(), text.as_bytes())?;
-    let settings = Settings {
-        searchers: 33,
-        ..Settings::default()
-    };
-    let fault = run(&rt, rt.alloc(), &instance, &settings, &NoGate).err();
-    assert!(rt; fault == Some(RunFault::BadSettings));
     Ok(())
 }

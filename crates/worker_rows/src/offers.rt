@@ -1,24 +1,31 @@
-//! Offers, new prices and splits of a book.
+//! Offers, new prices and splits at a desk.
 
-use crate::asked::{Asked, BACK, ONWARD, book_with, in_line, plan_of, priced_at, split_by};
-use branching::{Region, TreeNode};
-use desk::LookFault;
-use incumbent_book::{Book, BookFault, Limits, Offered, Outcome, Steps};
+use crate::asked::{BACK, ONWARD, children_at, plan_of, priced_at};
+use branching::{Arc, Region, TreeNode};
+use desk::{Desk, LookFault, Naming, Share};
+use incumbent_book::{BookFault, Offered, Outcome};
 use solomon_reader::Instance;
 use std::process::Abort;
 use std::sync::Wait;
 use std::test::Fail;
 use tenths::Tenths;
 
+/// A desk, and the share of one worker.
+#[derive(Drop)]
+pub struct Place<'a, 'i, J: Naming> {
+    pub desk: &'a Desk<'i, J>,
+    pub share: Share<J>,
+}
+
 /// Offers a plan: whether it was better, and the best cost that was known.
-fn offer<'i, R: Wait + AllocGlobal, A: Asked<'i>>(
+fn offer<'i, R: Wait + AllocGlobal, J: Naming>(
     rt: &R,
     instance: &'i Instance,
-    asked: &mut A,
+    place: &mut Place<'_, 'i, J>,
     routes: &[&[u16]],
 ) -> Result<(bool, Option<Tenths>), Fail> {
     let plan = plan_of(rt.alloc(), instance, routes)?;
-    let reply = match asked.ask_offer(rt, plan) {
+    let reply = match place.desk.offer(rt, &mut place.share, plan) {
         Ok(reply) => reply,
         Err(_) => return Err(Fail::from("an offer was refused")),
     };
@@ -29,10 +36,10 @@ fn offer<'i, R: Wait + AllocGlobal, A: Asked<'i>>(
 }
 
 /// Offers plans of 300, 200, 300 and 200 tenths.
-pub fn offer_plans<'i, R: Abort + Wait + AllocGlobal, A: Asked<'i>>(
+pub fn offer_plans<'i, R: Abort + Wait + AllocGlobal, J: Naming>(
     rt: &R,
     instance: &'i Instance,
-    asked: &mut A,
+    place: &mut Place<'_, 'i, J>,
 ) -> Result<(), Fail> {
     let (apart, together): (&[&[u16]], &[&[u16]]) = (&[&[1], &[2]], &[&[1, 2]]);
     let rows = [
@@ -42,35 +49,66 @@ pub fn offer_plans<'i, R: Abort + Wait + AllocGlobal, A: Asked<'i>>(
         (together, (false, Some(200))),
     ];
     for (routes, (is_better, cost)) in rows {
-        let told = offer(rt, instance, asked, routes)?;
+        let told = offer(rt, instance, place, routes)?;
         assert_eq!(rt; told, (is_better, cost.map(|cost| Tenths::from(cost))));
     }
     Ok(())
 }
 
 /// Gives a leaf new prices at a region: what comes of it.
-fn reprice<'i, R: Wait + AllocGlobal, A: Asked<'i>>(
+fn reprice<'i, R: Wait + AllocGlobal, J: Naming>(
     rt: &R,
     instance: &'i Instance,
-    asked: &mut A,
+    place: &mut Place<'_, 'i, J>,
     leaf: u32,
     region: Region,
     prices: [i64; 2],
 ) -> Result<Result<(), BookFault>, Fail> {
     let priced = priced_at(rt.alloc(), instance, region, &prices)?;
-    Ok(asked.ask_reprice(rt, leaf, priced))
+    Ok(
+        match place.desk.reprice(rt, &mut place.share, leaf, priced) {
+            Ok(()) => Ok(()),
+            Err((_, fault)) => Err(fault),
+        },
+    )
+}
+
+/// Splits a leaf at a region, with the same prices at both children: their numbers, or the fault.
+fn split<'i, R: Wait + AllocGlobal, J: Naming>(
+    rt: &R,
+    instance: &'i Instance,
+    place: &mut Place<'_, 'i, J>,
+    leaf: u32,
+    (region, arc): (&Region, Arc),
+    prices: [i64; 2],
+) -> Result<Result<(u32, u32), BookFault>, Fail> {
+    let (used, unused) = children_at(rt.alloc(), instance, region, arc, prices)?;
+    let share = &mut place.share;
+    Ok(match place.desk.split(rt, share, leaf, arc, used, unused) {
+        Ok(made) => Ok(made),
+        Err((_, _, fault)) => Err(fault),
+    })
+}
+
+/// The value of a leaf.
+fn value<'i, R: Wait, J: Naming>(
+    rt: &R,
+    place: &mut Place<'_, 'i, J>,
+    leaf: u32,
+) -> Result<i128, LookFault> {
+    Ok(place.desk.look(rt, &mut place.share, leaf)?.value())
 }
 
 /// Splits the root, and is refused to split it again.
-fn split_root<'i, R: Abort + Wait + AllocGlobal, A: Asked<'i>>(
+fn split_root<'i, R: Abort + Wait + AllocGlobal, J: Naming>(
     rt: &R,
     instance: &'i Instance,
-    asked: &mut A,
+    place: &mut Place<'_, 'i, J>,
     root: &Region,
 ) -> Result<(), Fail> {
-    let made = split_by(rt, instance, asked, 0, root, ONWARD, [0, 0])?;
-    let again = split_by(rt, instance, asked, 0, root, ONWARD, [0, 0])?;
-    let values = (asked.ask_value(rt, 1), asked.ask_value(rt, 2));
+    let made = split(rt, instance, place, 0, (root, ONWARD), [0, 0])?;
+    let again = split(rt, instance, place, 0, (root, ONWARD), [0, 0])?;
+    let values = (value(rt, place, 1), value(rt, place, 2));
     assert_eq!(rt;
         (made, again, values),
         (Ok((1, 2)), Err(BookFault::NotALeaf), (Ok(200), Ok(100)))
@@ -79,17 +117,17 @@ fn split_root<'i, R: Abort + Wait + AllocGlobal, A: Asked<'i>>(
 }
 
 /// Gives the child without the arc a higher value, and is refused an equal and a lower one.
-fn raise_unused<'i, R: Abort + Wait + AllocGlobal, A: Asked<'i>>(
+fn raise_unused<'i, R: Abort + Wait + AllocGlobal, J: Naming>(
     rt: &R,
     instance: &'i Instance,
-    asked: &mut A,
+    place: &mut Place<'_, 'i, J>,
     unused: &Region,
 ) -> Result<(), Fail> {
     let prices = [100_000, 100_000];
-    let raised = reprice(rt, instance, asked, 2, unused.try_clone()?, prices)?;
-    let again = reprice(rt, instance, asked, 2, unused.try_clone()?, prices)?;
-    let values = (asked.ask_value(rt, 2), asked.ask_value(rt, 0));
-    let lower = split_by(rt, instance, asked, 2, unused, BACK, [0, 0])?;
+    let raised = reprice(rt, instance, place, 2, unused.try_clone()?, prices)?;
+    let again = reprice(rt, instance, place, 2, unused.try_clone()?, prices)?;
+    let values = (value(rt, place, 2), value(rt, place, 0));
+    let lower = split(rt, instance, place, 2, (unused, BACK), [0, 0])?;
     assert_eq!(rt;
         (raised, again, values, lower),
         (
@@ -103,14 +141,14 @@ fn raise_unused<'i, R: Abort + Wait + AllocGlobal, A: Asked<'i>>(
 }
 
 /// Is refused prices of another region, and as high ones, for the child with the arc.
-fn reprice_used<'i, R: Abort + Wait + AllocGlobal, A: Asked<'i>>(
+fn reprice_used<'i, R: Abort + Wait + AllocGlobal, J: Naming>(
     rt: &R,
     instance: &'i Instance,
-    asked: &mut A,
+    place: &mut Place<'_, 'i, J>,
     root: &Region,
 ) -> Result<(), Fail> {
-    let elsewhere = reprice(rt, instance, asked, 1, root.try_clone()?, [200_000, 0])?;
-    let as_high = reprice(rt, instance, asked, 1, root.used(ONWARD)?, [200_000, 0])?;
+    let elsewhere = reprice(rt, instance, place, 1, root.try_clone()?, [200_000, 0])?;
+    let as_high = reprice(rt, instance, place, 1, root.used(ONWARD)?, [200_000, 0])?;
     assert_eq!(rt;
         (elsewhere, as_high),
         (Err(BookFault::WrongRegion), Err(BookFault::NotHigher))
@@ -119,16 +157,16 @@ fn reprice_used<'i, R: Abort + Wait + AllocGlobal, A: Asked<'i>>(
 }
 
 /// Splits the root, and gives the child without the arc a higher value.
-pub fn branch<'i, R: Abort + Wait + AllocGlobal, A: Asked<'i>>(
+pub fn branch<'i, R: Abort + Wait + AllocGlobal, J: Naming>(
     rt: &R,
     instance: &'i Instance,
-    asked: &mut A,
+    place: &mut Place<'_, 'i, J>,
 ) -> Result<(), Fail> {
     let root = Region::root(rt.alloc(), 2);
-    split_root(rt, instance, asked, &root)?;
+    split_root(rt, instance, place, &root)?;
     let unused = root.forbidden(ONWARD)?;
-    raise_unused(rt, instance, asked, &unused)?;
-    reprice_used(rt, instance, asked, &root)
+    raise_unused(rt, instance, place, &unused)?;
+    reprice_used(rt, instance, place, &root)
 }
 
 /// The prices of the leaf at an index of the nodes, if a leaf stands there.
@@ -165,26 +203,4 @@ pub fn assert_outcome<R: Abort + AllocGlobal>(rt: &R, outcome: &Outcome<'_>) -> 
     let nodes = outcome.nodes(rt.alloc())?;
     assert_nodes(rt, nodes.as_slice());
     Ok(())
-}
-
-/// Asserts the gap of the book, and what it took to find it.
-fn assert_gap<R: Abort>(rt: &R, book: &Book<'_>) {
-    let mut steps = Steps::new();
-    let gap = book.gap_counted(&mut steps);
-    let of_plan = Tenths::from(200);
-    assert_eq!(rt;
-        (steps.get(), gap.cost, gap.bound, book.history().len()),
-        (1, Some(of_plan), of_plan, 6)
-    );
-}
-
-#[test]
-fn a_book_keeps_the_cheapest_plan_and_raises_its_bound(rt: HostRuntime) -> Result<(), Fail> {
-    let instance = in_line(rt.alloc())?;
-    let mut book = book_with(rt.alloc(), &instance, Limits::MOST)?;
-    assert_eq!(rt; book.gap().bound, Tenths::from(100));
-    offer_plans(&rt, &instance, &mut book)?;
-    branch(&rt, &instance, &mut book)?;
-    assert_gap(&rt, &book);
-    assert_outcome(&rt, &book.finish())
 }

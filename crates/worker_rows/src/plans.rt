@@ -5,7 +5,7 @@ use ceiling::Ceiling;
 use incumbent_book::BookFault;
 use prices::Priced;
 use row_texts::two_in_line;
-use search_workers::{GatePoint, generator, search_worker};
+use search_workers::{GatePoint, Worker, generator, search_worker};
 use solomon_reader::read;
 use std::alloc::Global;
 use std::test::Fail;
@@ -24,14 +24,22 @@ fn five_turns(
     hub.refusal = (first, fault);
     let gate = Counts::new();
     let (ceiling, mut seats) = Ceiling::new(alloc, 1, words.0, words.1)?;
-    let mut seat = seats.pop().ok_or("a seat")?;
-    let random = generator(1, 0);
-    let made = search_worker(
-        alloc, &mut hub, &gate, 0, &instance, None, 5, random, &ceiling, &mut seat,
-    );
+    let Some(seat) = seats.pop() else {
+        return Err(Fail::from("no seat"));
+    };
+    let mut worker = Worker {
+        alloc,
+        instance: &instance,
+        hub,
+        gate: &gate,
+        number: 0,
+        ceiling: &ceiling,
+        seat,
+    };
+    let made = search_worker(&mut worker, None, 5, generator(1, 0));
     Ok((
         made,
-        hub.offers,
+        worker.hub.offers,
         gate.of(GatePoint::Offered),
         gate.of(GatePoint::End),
     ))

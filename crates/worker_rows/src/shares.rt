@@ -1,17 +1,14 @@
-//! The same calls at a desk: one share makes them, and another asks what came of them.
+//! Calls at a desk: one share makes them, and another asks what came of them.
 
 ghost use Rattle.std.specs.Prelude.{◌≡◌};
 ghost use Rattle.desk.specs.Opening.{HasPlanIf};
 ghost use Rattle.desk.specs.Tally.{each};
 ghost use Rattle.desk.specs.Blanks.{names_of, parts_of};
 
-use crate::asked::{Asked, book_with, in_line};
-use crate::offers::{assert_outcome, branch, offer_plans};
-use branching::Arc;
-use desk::{Blanks, Desk, DeskFault, LookFault, Naming, Share};
-use incumbent_book::{Book, BookFault, Gap, Limits, Offered, Outcome};
-use prices::Priced;
-use schedule::Feasible;
+use crate::asked::{book_with, in_line};
+use crate::offers::{Place, assert_outcome, branch, offer_plans};
+use desk::{Blanks, Desk, DeskFault, Naming, Share};
+use incumbent_book::{Book, Gap, Limits, Outcome};
 use solomon_reader::Instance;
 use std::io::Eprint;
 use std::marker::Brand;
@@ -21,55 +18,6 @@ use std::test::Fail;
 use std::thread;
 use std::thread::Threads;
 use tenths::Tenths;
-
-/// A desk, and the share of one worker.
-#[derive(Drop)]
-struct Place<'a, 'i, J: Naming> {
-    desk: &'a Desk<'i, J>,
-    share: Share<J>,
-}
-
-impl<'a, 'i, J: Naming> Asked<'i> for Place<'a, 'i, J> {
-    fn ask_offer<R: Wait>(&mut self, rt: &R, plan: Feasible<'i>) -> Result<Offered<'i>, BookFault> {
-        match self.desk.offer(rt, &mut self.share, plan) {
-            Ok(reply) => Ok(reply),
-            Err((_, fault)) => Err(fault),
-        }
-    }
-
-    fn ask_reprice<R: Wait>(
-        &mut self,
-        rt: &R,
-        leaf: u32,
-        priced: Priced<'i>,
-    ) -> Result<(), BookFault> {
-        match self.desk.reprice(rt, &mut self.share, leaf, priced) {
-            Ok(()) => Ok(()),
-            Err((_, fault)) => Err(fault),
-        }
-    }
-
-    fn ask_split<R: Wait>(
-        &mut self,
-        rt: &R,
-        leaf: u32,
-        arc: Arc,
-        used: Priced<'i>,
-        unused: Priced<'i>,
-    ) -> Result<(u32, u32), BookFault> {
-        match self
-            .desk
-            .split(rt, &mut self.share, leaf, arc, used, unused)
-        {
-            Ok(made) => Ok(made),
-            Err((_, _, fault)) => Err(fault),
-        }
-    }
-
-    fn ask_value<R: Wait>(&mut self, rt: &R, leaf: u32) -> Result<i128, LookFault> {
-        Ok(self.desk.look(rt, &mut self.share, leaf)?.value())
-    }
-}
 
 /// Offers plans and branches with a share.
 fn work<'i, J: Naming, R: Abort + Wait + AllocGlobal>(

@@ -1,7 +1,6 @@
 //! A worker that raises the bound.
 
-ghost use Rattle.std.specs.Prelude.{◌≡◌, ◌≤◌};
-ghost use Rattle.ceiling.specs.Seats.{IsSeatOf};
+ghost use Rattle.std.specs.Prelude.{◌≤◌};
 
 use crate::gate::{Gate, GatePoint};
 use crate::hub::Hub;
@@ -9,21 +8,17 @@ use crate::nodes::{Nodes, OpenNode, Taken};
 use crate::pricing::{goal_of, is_ahead, pricing_labels};
 use crate::refusal::Refusal;
 use crate::settings::Settings;
-use crate::spot::Spot;
-use ceiling::{Ceiling, CeilingSeat};
-use price_ascent::{ChildStart, Children, RoutePool, branch, raise};
+use crate::worker::Worker;
+use price_ascent::{ChildStart, Children, branch, raise};
 use prices::{PriceFault, Priced};
 use schedule::Feasible;
-use solomon_reader::Instance;
-use std::alloc::Global;
 
 /// The most leaves of a turn.
 const MOST_LEAVES: u32 = 10;
 
 /// Splits a leaf, and keeps both children, which wait for their turn.
 fn split<'i, H: Hub<'i>, G: Gate>(
-    spot: &Spot<'_, G>,
-    hub: &mut H,
+    worker: &mut Worker<'_, 'i, H, G>,
     number: u32,
     children: Children<'i>,
     nodes: &mut Nodes<'_, 'i>,
@@ -36,60 +31,45 @@ fn split<'i, H: Hub<'i>, G: Gate>(
         unused_start,
     } = children;
     let (first_value, second_value) = (used.value(), unused.value());
-    match hub.split(number, arc, used, unused) {
-        Ok((first, second)) => {
-            spot.pass(GatePoint::Split);
-            let first = OpenNode {
-                number: first,
-                value: first_value,
-                start: used_start,
-            };
-            let second = OpenNode {
-                number: second,
-                value: second_value,
-                start: unused_start,
-            };
-            nodes.push_children(first, second)
-        }
-        Err((_, _, fault)) => Err(Refusal::from(fault)),
-    }
-}
-
-/// Gives the leaf its higher prices.
-fn reprice<'i, H: Hub<'i>>(hub: &mut H, number: u32, leaf: Priced<'i>) -> Result<(), Refusal> {
-    match hub.reprice(number, leaf) {
-        Ok(()) => Ok(()),
-        Err((_, fault)) => Err(Refusal::from(fault)),
-    }
+    let (first, second) = worker.split(number, arc, used, unused)?;
+    let first = OpenNode {
+        number: first,
+        value: first_value,
+        start: used_start,
+    };
+    let second = OpenNode {
+        number: second,
+        value: second_value,
+        start: unused_start,
+    };
+    nodes.push_children(first, second)
 }
 
 /// Gives the root its raised prices, to which the next turn returns as long as it rises, and another leaf
 /// where they end the work at it; splits it elsewhere, with the raised prices at both children.
 fn bring<'i, H: Hub<'i>, G: Gate>(
-    spot: &Spot<'_, G>,
-    hub: &mut H,
+    worker: &mut Worker<'_, 'i, H, G>,
     number: u32,
     leaf: Priced<'i>,
     is_raised: bool,
-    target: u64,
     labels: usize,
     nodes: &mut Nodes<'_, 'i>,
 ) -> Result<(), Refusal> {
-    if leaf.value() >= i128::from(target) {
-        return reprice(hub, number, leaf);
+    if leaf.value() >= i128::from(worker.target()) {
+        return worker.reprice(number, leaf);
     }
     if leaf.region().is_root() && nodes.stays_at_root(is_raised) {
         nodes.keep(number);
         return if is_raised {
-            reprice(hub, number, leaf)
+            worker.reprice(number, leaf)
         } else {
             Ok(())
         };
     }
-    match branch(spot.alloc, &leaf, &mut nodes.pool, Some(labels)) {
-        Ok(Some(children)) => split(spot, hub, number, children, nodes),
+    match branch(worker.alloc, &leaf, &mut nodes.pool, Some(labels)) {
+        Ok(Some(children)) => split(worker, number, children, nodes),
         Ok(None) | Err(PriceFault::LabelLimit | PriceFault::PriceRange) => {
-            reprice(hub, number, leaf)
+            worker.reprice(number, leaf)
         }
         Err(PriceFault::Memory) => Err(Refusal::EndsWork),
     }
@@ -98,64 +78,40 @@ fn bring<'i, H: Hub<'i>, G: Gate>(
 /// Offers the routes that make up the prices raised last, where they are a plan that is cheaper than
 /// those known.
 fn offer_routes<'i, H: Hub<'i>, G: Gate>(
-    spot: &Spot<'_, G>,
-    hub: &mut H,
-    instance: &'i Instance,
-    pool: &RoutePool<'_>,
-    seat: &mut CeilingSeat,
-) -> Result<(), Refusal>
-    requires { IsSeatOf spot.now.ceiling.now seat.old }
-    ensures { IsSeatOf spot.now.ceiling.now seat.new }
-{
-    let Ok(plan) = Feasible::check(instance, pool.main_routes()?) else {
+    worker: &mut Worker<'_, 'i, H, G>,
+    nodes: &Nodes<'_, 'i>,
+) -> Result<(), Refusal> {
+    let Ok(plan) = Feasible::check(worker.instance, nodes.pool.main_routes()?) else {
         return Ok(());
     };
-    let cost = plan.cost().get();
-    if cost >= spot.ceiling.cost(seat) {
+    if plan.cost().get() >= worker.target() {
         return Ok(());
     }
-    match hub.offer(plan) {
-        Ok(_) => {
-            let _ = spot.ceiling.offer(seat, cost);
-            Ok(())
-        }
-        Err((_, fault)) => Err(Refusal::from(fault)),
-    }
+    worker.offer(plan)
 }
 
 /// The leaf with prices of a higher value, if some are found.
 fn raise_leaf<'i, H: Hub<'i>, G: Gate>(
-    spot: &Spot<'_, G>,
-    hub: &mut H,
+    worker: &mut Worker<'_, 'i, H, G>,
     start: Option<ChildStart>,
     is_again: bool,
     leaf: Priced<'i>,
     labels: usize,
     nodes: &mut Nodes<'_, 'i>,
-    seat: &mut CeilingSeat,
-) -> Priced<'i>
-    requires { IsSeatOf spot.now.ceiling.now seat.old }
-    ensures { IsSeatOf spot.now.ceiling.now seat.new }
-{
-    let cost = hub.gap().cost;
-    let target = spot.ceiling.cost(seat);
-    let goal = goal_of(&leaf, nodes, cost, is_again, target, labels);
-    raise(spot.alloc, &mut nodes.pool, leaf, start, &goal)
+) -> Priced<'i> {
+    let cost = worker.gap().cost;
+    let goal = goal_of(&leaf, nodes, cost, is_again, worker.target(), labels);
+    raise(worker.alloc, &mut nodes.pool, leaf, start, &goal)
 }
 
 /// Raises the value of a leaf, and brings what came of it to the book.
 fn work_at<'i, H: Hub<'i>, G: Gate>(
-    spot: &Spot<'_, G>,
-    hub: &mut H,
+    worker: &mut Worker<'_, 'i, H, G>,
     taken: Taken,
     leaf: Priced<'i>,
     labels: usize,
     nodes: &mut Nodes<'_, 'i>,
-    seat: &mut CeilingSeat,
-) -> Result<(), Refusal>
-    requires { IsSeatOf spot.now.ceiling.now seat.old }
-    ensures { IsSeatOf spot.now.ceiling.now seat.new }
-{
+) -> Result<(), Refusal> {
     let Taken {
         number,
         start,
@@ -163,59 +119,47 @@ fn work_at<'i, H: Hub<'i>, G: Gate>(
         ..
     } = taken;
     let before = leaf.value();
-    let leaf = raise_leaf(spot, hub, start, is_again, leaf, labels, nodes, seat);
-    spot.pass(GatePoint::Priced);
-    offer_routes(spot, hub, leaf.instance(), &nodes.pool, seat)?;
-    let target = spot.ceiling.cost(seat);
+    let leaf = raise_leaf(worker, start, is_again, leaf, labels, nodes);
+    worker.pass(GatePoint::Priced);
+    offer_routes(worker, nodes)?;
     let is_raised = leaf.value() > before;
-    bring(spot, hub, number, leaf, is_raised, target, labels, nodes)
+    bring(worker, number, leaf, is_raised, labels, nodes)
 }
 
 /// Takes a node, unless there is none, cost and bound have met, or the worker is ahead of the turns that
 /// it made; and works at it, unless its value reaches the cost. Answers whether there was one.
 fn work_on<'i, H: Hub<'i>, G: Gate>(
-    spot: &Spot<'_, G>,
-    hub: &mut H,
+    worker: &mut Worker<'_, 'i, H, G>,
     labels: usize,
     made: u32,
     nodes: &mut Nodes<'_, 'i>,
-    seat: &mut CeilingSeat,
-) -> Result<bool, Refusal>
-    requires { IsSeatOf spot.now.ceiling.now seat.old }
-    ensures { IsSeatOf spot.now.ceiling.now seat.new }
-{
-    if spot.is_closed(seat) || is_ahead(nodes, made) {
+) -> Result<bool, Refusal> {
+    if worker.is_closed() || is_ahead(nodes, made) {
         return Ok(false);
     }
     let Some(taken) = nodes.wait()? else {
         return Ok(false);
     };
     if taken.is_stolen {
-        spot.pass(GatePoint::Stolen);
+        worker.pass(GatePoint::Stolen);
     }
-    let leaf = hub.look(taken.number)?;
-    spot.pass(GatePoint::Looked);
-    if leaf.value() < i128::from(spot.ceiling.cost(seat)) {
-        work_at(spot, hub, taken, leaf, labels, nodes, seat)?;
-        let _ = spot.ceiling.raise(seat, hub.gap().bound.get());
+    let leaf = worker.hub.look(taken.number)?;
+    worker.pass(GatePoint::Looked);
+    if leaf.value() < i128::from(worker.target()) {
+        work_at(worker, taken, leaf, labels, nodes)?;
     }
     Ok(true)
 }
 
 /// Works at one leaf after the other, until it has done what the turns so far are worth.
 fn turn<'i, H: Hub<'i>, G: Gate>(
-    spot: &Spot<'_, G>,
-    hub: &mut H,
+    worker: &mut Worker<'_, 'i, H, G>,
     labels: usize,
     made: u32,
     nodes: &mut Nodes<'_, 'i>,
-    seat: &mut CeilingSeat,
-) -> Result<(), Refusal>
-    requires { IsSeatOf spot.now.ceiling.now seat.old }
-    ensures { IsSeatOf spot.now.ceiling.now seat.new }
-{
+) -> Result<(), Refusal> {
     for _leaf in 0..MOST_LEAVES {
-        if !work_on(spot, hub, labels, made, nodes, seat)? {
+        if !work_on(worker, labels, made, nodes)? {
             break;
         }
     }
@@ -233,30 +177,17 @@ fn turn<'i, H: Hub<'i>, G: Gate>(
 /// and where the worker has done more than the turns so far are worth, so that dear pricings don't make the
 /// work endless.
 pub fn bound_worker<'i, H: Hub<'i>, G: Gate>(
-    alloc: Global,
-    hub: &mut H,
-    gate: &G,
-    worker: u16,
+    worker: &mut Worker<'_, 'i, H, G>,
     settings: &Settings,
     mut nodes: Nodes<'_, 'i>,
-    ceiling: &Ceiling,
-    seat: &mut CeilingSeat,
 ) -> u32
-    requires { IsSeatOf ceiling.now seat.old }
-    ensures turns { result ≤ settings.now.turns }
-    ensures seat { IsSeatOf ceiling.now seat.new }
+    ensures { result ≤ settings.now.turns }
 {
-    let spot = Spot {
-        alloc,
-        gate,
-        worker,
-        ceiling,
-    };
     let labels = pricing_labels(settings, nodes.customers);
     for made in 0..settings.turns {
-        spot.pass(GatePoint::Start);
-        let done = turn(&spot, hub, labels, made, &mut nodes, seat);
-        spot.pass(GatePoint::End);
+        worker.pass(GatePoint::Start);
+        let done = turn(worker, labels, made, &mut nodes);
+        worker.end_turn();
         if let Err(Refusal::EndsWork) = done {
             return made + 1;
         }

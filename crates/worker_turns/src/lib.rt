@@ -10,7 +10,7 @@ mod random;
 mod refusal;
 mod searching;
 mod settings;
-mod spot;
+mod worker;
 
 pub use bounding::bound_worker;
 pub use gate::{Gate, GatePoint, NoGate};
@@ -20,3 +20,4 @@ pub use pricing::pricing_labels;
 pub use random::generator;
 pub use searching::search_worker;
 pub use settings::{MOST_BOUNDERS, MOST_LABELS, MOST_SEARCHERS, MOST_TURNS, Settings};
+pub use worker::Worker;

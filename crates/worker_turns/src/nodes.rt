@@ -44,7 +44,6 @@ pub struct Nodes<'p, 'i> {
     /// The leaf that stands in the worker's own deque, if it is still there.
     shared: Option<OpenNode>,
     deques: &'p [Thief],
-    place: usize,
     pass: Pass,
     /// The leaf to go on with.
     current: Option<u32>,
@@ -98,23 +97,21 @@ fn came_back(number: u32, shared: Option<OpenNode>) -> OpenNode {
     }
 }
 
-/// Tries each deque but the one at this place once, until one gives a number.
-fn steal(deques: &[Thief], place: usize, pass: &mut Pass) -> Option<u32>
+/// Tries each deque once, until one gives a number. The worker's own is empty then.
+fn steal(deques: &[Thief], pass: &mut Pass) -> Option<u32>
     requires { All (λ t. FitsAt (deque_at t) pass.old) deques.now }
     ensures { All (λ t. FitsAt (deque_at t) pass.new) deques.now }
 {
     for other in 0..deques.len() {
-        if other != place {
-            if let Stolen::One(number) = deques[other].steal(pass) {
-                return Some(number);
-            }
+        if let Stolen::One(number) = deques[other].steal(pass) {
+            return Some(number);
         }
     }
     None
 }
 
 impl<'p, 'i> Nodes<'p, 'i> {
-    /// The nodes of the worker whose deque stands at this place, and the routes of a plan to begin
+    /// The nodes of the worker that has this end of one of the deques, and the routes of a plan to begin
     /// with, if there is one; refused where memory is. No contract: it decides only how the worker works.
     pub fn new(
         alloc: Global,
@@ -122,7 +119,6 @@ impl<'p, 'i> Nodes<'p, 'i> {
         plan: Option<&Feasible<'_>>,
         own: Hand,
         deques: &'p [Thief],
-        place: usize,
         pass: Pass,
     ) -> Result<Nodes<'p, 'i>, AllocError>
         requires { All (λ t. FitsAt (deque_at t) pass) deques.now }
@@ -134,7 +130,6 @@ impl<'p, 'i> Nodes<'p, 'i> {
             own,
             shared: None,
             deques,
-            place,
             pass,
             current: None,
             idle_at_root: 0,
@@ -241,7 +236,7 @@ impl<'p, 'i> Nodes<'p, 'i> {
                 is_again: false,
             }));
         }
-        let Some(number) = steal(self.deques, self.place, &mut self.pass) else {
+        let Some(number) = steal(self.deques, &mut self.pass) else {
             return Ok(None);
         };
         Ok(Some(Taken {

@@ -1,14 +1,12 @@
 //! A worker that looks for plans.
 
-ghost use Rattle.std.specs.Prelude.{◌≡◌, ◌≤◌};
-ghost use Rattle.ceiling.specs.Seats.{IsSeatOf};
+ghost use Rattle.std.specs.Prelude.{◌≤◌};
 
 use crate::gate::{Gate, GatePoint};
 use crate::hub::Hub;
 use crate::refusal::Refusal;
-use crate::spot::Spot;
-use ceiling::{Ceiling, CeilingSeat};
-use insertion::{Built, InsertFault, Weights, build};
+use crate::worker::Worker;
+use insertion::{Weights, build_whole};
 use rand_core::Rng;
 use schedule::Feasible;
 use search::Searcher;
@@ -37,25 +35,19 @@ fn quest_at<'i, R: Rng + Drop>(alloc: Global, plan: Feasible<'i>, random: R) -> 
     }
 }
 
-/// Weights from the next three words.
-fn draw_weights<R: Rng>(random: &mut R) -> Weights {
-    let spared = random.next_u32();
-    let from_depot = random.next_u32();
-    let detour = random.next_u32();
-    Weights::of_words(spared, from_depot, detour)
-}
-
 /// Looks for a first plan by an insertion with drawn weights.
 fn begin<'i, R: Rng + Drop>(
     alloc: Global,
     instance: &'i Instance,
     mut random: R,
 ) -> Result<Quest<'i, R>, Refusal> {
-    let weights = draw_weights(&mut random);
-    match build(alloc, instance, &weights) {
-        Ok(Built::Whole(plan)) => Ok(quest_at(alloc, plan, random)),
-        Ok(Built::Part { .. }) => Ok(Quest::Nowhere(random)),
-        Err(InsertFault::Memory) => Err(Refusal::EndsWork),
+    let spared = random.next_u32();
+    let from_depot = random.next_u32();
+    let detour = random.next_u32();
+    let weights = Weights::of_words(spared, from_depot, detour);
+    match build_whole(alloc, instance, &weights)? {
+        Some(plan) => Ok(quest_at(alloc, plan, random)),
+        None => Ok(Quest::Nowhere(random)),
     }
 }
 
@@ -69,14 +61,10 @@ fn begin_anew<'i, R: Rng + Drop>(
     let from_depot = searcher.next_word();
     let detour = searcher.next_word();
     let weights = Weights::of_words(spared, from_depot, detour);
-    match build(alloc, instance, &weights) {
-        Ok(Built::Whole(plan)) => {
-            searcher.go_on_from(plan);
-            Ok(())
-        }
-        Ok(Built::Part { .. }) => Ok(()),
-        Err(InsertFault::Memory) => Err(Refusal::EndsWork),
+    if let Some(plan) = build_whole(alloc, instance, &weights)? {
+        searcher.go_on_from(plan);
     }
+    Ok(())
 }
 
 /// Makes a turn, after it began anew where too many turns found nothing cheaper; answers how many turns
@@ -114,49 +102,33 @@ fn seek<'i, R: Rng + Drop>(
     }
 }
 
-/// Offers a copy of the plan, and lowers the ceiling to its cost.
+/// Offers a copy of the plan.
 fn offer<'i, H: Hub<'i>, G: Gate>(
-    spot: &Spot<'_, G>,
-    hub: &mut H,
+    worker: &mut Worker<'_, 'i, H, G>,
     plan: &Feasible<'i>,
-    seat: &mut CeilingSeat,
-) -> Result<(), Refusal>
-    requires { IsSeatOf spot.now.ceiling.now seat.old }
-    ensures { IsSeatOf spot.now.ceiling.now seat.new }
-{
-    match hub.offer(plan.try_clone()?) {
-        Ok(_) => {
-            let _ = spot.ceiling.offer(seat, plan.cost().get());
-            spot.pass(GatePoint::Offered);
-            Ok(())
-        }
-        Err((_, fault)) => Err(Refusal::from(fault)),
-    }
+) -> Result<(), Refusal> {
+    worker.offer(plan.try_clone()?)?;
+    worker.pass(GatePoint::Offered);
+    Ok(())
 }
 
-/// What the worker has after a turn, unless that ended its work. Where the words for cost and bound
-/// have met, it has what it had.
+/// What the worker has after a turn, unless that ended its work. Where cost and bound have met, it has
+/// what it had.
 fn turn<'i, H: Hub<'i>, G: Gate, R: Rng + Drop>(
-    spot: &Spot<'_, G>,
-    hub: &mut H,
-    instance: &'i Instance,
+    worker: &mut Worker<'_, 'i, H, G>,
     quest: Quest<'i, R>,
-    seat: &mut CeilingSeat,
-) -> Option<Quest<'i, R>>
-    requires { IsSeatOf spot.now.ceiling.now seat.old }
-    ensures { IsSeatOf spot.now.ceiling.now seat.new }
-{
-    if spot.is_closed(seat) {
+) -> Option<Quest<'i, R>> {
+    if worker.is_closed() {
         if let Quest::At { .. } = &quest {
-            spot.pass(GatePoint::Offered);
+            worker.pass(GatePoint::Offered);
         }
         return Some(quest);
     }
-    let Ok(quest) = seek(spot.alloc, instance, quest) else {
+    let Ok(quest) = seek(worker.alloc, worker.instance, quest) else {
         return None;
     };
     let offered = match &quest {
-        Quest::At { searcher, .. } => offer(spot, hub, searcher.plan(), seat),
+        Quest::At { searcher, .. } => offer(worker, searcher.plan()),
         Quest::Nowhere(_) => Ok(()),
     };
     match offered {
@@ -173,35 +145,21 @@ fn turn<'i, H: Hub<'i>, G: Gate, R: Rng + Drop>(
 /// goes on from another plan, which is built with drawn weights. A refusal of the hub ends the turn, and
 /// the worker keeps its plan. Where the words for cost and bound have met, a turn does nothing.
 pub fn search_worker<'i, H: Hub<'i>, G: Gate, R: Rng + Drop>(
-    alloc: Global,
-    hub: &mut H,
-    gate: &G,
-    worker: u16,
-    instance: &'i Instance,
+    worker: &mut Worker<'_, 'i, H, G>,
     plan: Option<Feasible<'i>>,
     turns: u32,
     random: R,
-    ceiling: &Ceiling,
-    seat: &mut CeilingSeat,
 ) -> u32
-    requires { IsSeatOf ceiling.now seat.old }
-    ensures turns { result ≤ turns }
-    ensures seat { IsSeatOf ceiling.now seat.new }
+    ensures { result ≤ turns }
 {
-    let spot = Spot {
-        alloc,
-        gate,
-        worker,
-        ceiling,
-    };
     let mut quest = match plan {
-        Some(plan) => quest_at(alloc, plan, random),
+        Some(plan) => quest_at(worker.alloc, plan, random),
         None => Quest::Nowhere(random),
     };
     for made in 0..turns {
-        spot.pass(GatePoint::Start);
-        let left = turn(&spot, hub, instance, quest, seat);
-        spot.pass(GatePoint::End);
+        worker.pass(GatePoint::Start);
+        let left = turn(worker, quest);
+        worker.end_turn();
         let Some(next) = left else {
             return made + 1;
         };

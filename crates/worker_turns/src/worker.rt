@@ -1,0 +1,119 @@
+//! One worker, and all that it reaches the others by.
+
+ghost use Rattle.std.specs.Prelude.{◌≡◌};
+ghost use Rattle.ceiling.specs.Seats.{IsSeatOf};
+
+use crate::gate::{Gate, GatePoint};
+use crate::hub::Hub;
+use crate::refusal::Refusal;
+use branching::Arc;
+use ceiling::{Ceiling, CeilingSeat};
+use incumbent_book::Gap;
+use prices::Priced;
+use schedule::Feasible;
+use solomon_reader::Instance;
+use std::alloc::Global;
+use tenths::Tenths;
+
+/// One worker: its hub, the gate that it passes under its number, and its seat at the words for cost and
+/// bound, which it moves as what it brings moves the book.
+#[derive(Drop)]
+pub struct Worker<'a, 'i, H, G> {
+    /// Where its lists stand.
+    pub alloc: Global,
+    /// What is solved.
+    pub instance: &'i Instance,
+    /// The book, as it reaches it.
+    pub hub: H,
+    /// What it passes at the points of its turns.
+    pub gate: &'a G,
+    /// Its number, from 0.
+    pub number: u16,
+    /// The words for cost and bound.
+    pub ceiling: &'a Ceiling,
+    /// Its right to move them.
+    pub seat: CeilingSeat,
+    pub ghost own: { IsSeatOf ceiling.now seat },
+}
+
+impl<'i, H: Hub<'i>, G: Gate> Worker<'_, 'i, H, G> {
+    /// Passes a point of a turn.
+    pub(crate) fn pass(&self, point: GatePoint) {
+        self.gate.pass(self.number, point);
+    }
+
+    /// The least cost known in tenths; where no plan is known one more than any costs.
+    pub(crate) fn target(&mut self) -> u64 {
+        self.ceiling.cost(&mut self.seat)
+    }
+
+    /// What the words know of the least cost.
+    pub(crate) fn gap(&mut self) -> Gap {
+        let most = self.instance.ceiling().get();
+        let cost = Tenths::new(self.target()).filter(|cost| cost.get() <= most);
+        let bound = Tenths::new(self.ceiling.floor(&mut self.seat));
+        Gap {
+            cost,
+            bound: bound.unwrap_or(Tenths::from(0)),
+        }
+    }
+
+    /// Whether cost and bound have met, so that no work is left.
+    pub(crate) fn is_closed(&mut self) -> bool {
+        self.target() <= self.ceiling.floor(&mut self.seat)
+    }
+
+    /// Ends a turn.
+    pub(crate) fn end_turn(&mut self) {
+        let gap = self.gap();
+        self.gate.tell(&gap);
+        self.pass(GatePoint::End);
+    }
+
+    /// Offers a plan.
+    pub(crate) fn offer(&mut self, plan: Feasible<'i>) -> Result<(), Refusal> {
+        let cost = plan.cost().get();
+        match self.hub.offer(plan) {
+            Ok(_) => {
+                let _ = self.ceiling.offer(&mut self.seat, cost);
+                Ok(())
+            }
+            Err((_, fault)) => Err(Refusal::from(fault)),
+        }
+    }
+
+    /// Raises the word for the bound to what the book has.
+    fn raise(&mut self) {
+        let bound = self.hub.gap().bound.get();
+        let _ = self.ceiling.raise(&mut self.seat, bound);
+    }
+
+    /// Gives a leaf its higher prices.
+    pub(crate) fn reprice(&mut self, leaf: u32, priced: Priced<'i>) -> Result<(), Refusal> {
+        match self.hub.reprice(leaf, priced) {
+            Ok(()) => {
+                self.raise();
+                Ok(())
+            }
+            Err((_, fault)) => Err(Refusal::from(fault)),
+        }
+    }
+
+    /// Splits a leaf by an arc, and answers the numbers of the child that uses it and of the other.
+    pub(crate) fn split(
+        &mut self,
+        leaf: u32,
+        arc: Arc,
+        used: Priced<'i>,
+        unused: Priced<'i>,
+    ) -> Result<(u32, u32), Refusal> {
+        match self.hub.split(leaf, arc, used, unused) {
+            Ok(numbers) => {
+                self.raise();
+                self.pass(GatePoint::Split);
+                Ok(numbers)
+            }
+            Err((_, _, fault)) => Err(Refusal::from(fault)),
+        }
+    }
+}
