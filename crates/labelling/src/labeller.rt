@@ -35,6 +35,9 @@ const SLOTS_BETWEEN: usize = 100;
 
 const ENOUGH_ENDS: usize = 40;
 
+/// A step takes about as long as so many looks.
+const LOOKS_OF_STEP: u64 = 2;
+
 /// A search for the least reduced cost: bounds on what may follow, its labels, where they are looked up,
 /// and the best so far.
 #[derive(Drop)]
@@ -404,10 +407,11 @@ impl<'t, 'i> Labeller<'t, 'i> {
         Ok(())
     }
 
-    /// How much work the search was: the steps taken, the customers that bounds looked at, and how often a label
-    /// looked at the labels that remember the same customers.
+    /// How much work the search was: the steps taken, twice each, the customers that bounds looked at, and how
+    /// often a label looked at the labels that remember the same customers.
     fn looks(&self) -> u64 {
-        let looks = self.taken.saturating_add(self.completions.looks());
+        let steps = self.taken.saturating_mul(LOOKS_OF_STEP);
+        let looks = steps.saturating_add(self.completions.looks());
         looks.saturating_add(self.lookup.looks())
     }
 

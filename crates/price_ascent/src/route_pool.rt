@@ -108,9 +108,9 @@ impl<'i> RoutePool<'i> {
         self.pricings
     }
 
-    /// How much work the pricings, the projections and the trials were, in looks: of a label or a bound at a
-    /// customer, of a label at others, and `LOOKS_AT_ROUTE` for a route that prices are projected onto. No
-    /// contract: it only measures.
+    /// How much work the pricings, the projections and the trials were, in looks: of bounds at customers, of
+    /// labels at others, two for a step from a label, and `LOOKS_AT_ROUTE` for a route that prices are
+    /// projected onto. No contract: it only measures.
     pub fn looks(&self) -> u64 {
         self.looks
     }

@@ -184,6 +184,7 @@ pub fn bound_worker<'i, H: Hub<'i>, G: Gate>(
     ensures { result ≤ settings.now.turns }
 {
     let labels = pricing_labels(settings, nodes.customers);
+    nodes.place = u32::from(worker.number).saturating_sub(settings.searchers);
     for made in 0..settings.turns {
         worker.pass(GatePoint::Start);
         let done = turn(worker, labels, made, &mut nodes);

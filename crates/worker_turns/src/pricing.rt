@@ -14,7 +14,7 @@ const LEAF_PRICINGS: u32 = 8;
 
 /// How many looks a turn is worth for each customer, and for how many customers at least. A look takes about
 /// as long on every instance, so that turns do, too.
-const CUSTOMER_LOOKS: u64 = 15_000;
+const CUSTOMER_LOOKS: u64 = 10_000;
 
 const LEAST_CUSTOMERS: u64 = 80;
 
@@ -24,11 +24,7 @@ const PRICING_PART: u64 = 20;
 
 const LEAST_PRICING_TURNS: u64 = 5;
 
-/// A label that is active takes so many looks at each customer: it looks at other labels, too, and others are
-/// made that it dominates.
-const LOOKS_OF_LABEL: u64 = 2;
-
-/// How much work a turn is worth, in looks: labels, bounds on what may follow and the projections of prices
+/// How much work a turn is worth, in looks: steps, bounds on what may follow and the projections of prices
 /// count alike, so that turns take about as long at narrow windows as at wide ones.
 fn turn_looks(customers: u16) -> u64 {
     CUSTOMER_LOOKS.saturating_mul(u64::from(customers).max(LEAST_CUSTOMERS))
@@ -41,7 +37,8 @@ pub fn pricing_labels(settings: &Settings, customers: u16) -> usize {
     let worth = turn_looks(customers);
     let part = worth.saturating_mul(u64::from(settings.turns)) / PRICING_PART;
     let looks = part.max(worth.saturating_mul(LEAST_PRICING_TURNS));
-    let labels = looks / LOOKS_OF_LABEL / u64::from(customers.max(1));
+    // A label takes about one look for each customer: steps, other labels, and others that it dominates.
+    let labels = looks / u64::from(customers.max(1));
     labels.min(u64::from(settings.labels)) as usize
 }
 
@@ -59,6 +56,20 @@ fn pricings_at(leaf: &Priced<'_>) -> u32 {
     }
 }
 
+/// With so many first rises of the root the bound workers begin in turn.
+const FIRST_RISES: u32 = 4;
+
+/// The first rise of each price at a leaf, in grains. All bound workers begin at the root, each with a greater
+/// rise than the one before, so that they meet other routes and don't do the same work twice.
+fn rise_of(leaf: &Priced<'_>, cost: Option<Tenths>, place: u32) -> i64 {
+    let rise = rise_at(leaf, cost);
+    if leaf.region().is_root() {
+        rise.saturating_mul(1 + i64::from(place % FIRST_RISES))
+    } else {
+        rise
+    }
+}
+
 /// How far the prices of a leaf are to be raised: from where the worker ended at it in the turn before,
 /// or from its first rise.
 pub(crate) fn goal_of(
@@ -72,7 +83,7 @@ pub(crate) fn goal_of(
     let rise = if is_again {
         nodes.pool.rise()
     } else {
-        rise_at(leaf, cost)
+        rise_of(leaf, cost, nodes.place)
     };
     Goal {
         rise,
