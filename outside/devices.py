@@ -23,6 +23,8 @@ BEST = (b"BEST 10.0\n", b"", 0)
 FAILED = (b"", b"vrptw: file\n", 6)
 MEMORY = (b"", b"vrptw: memory\n", 4)
 BLANKS = 200_000_000
+# Few turns don't close it.
+OPEN = os.path.join(os.path.dirname(__file__), "..", "examples", "c1_50.txt")
 # Seconds that a case may take.
 LONGEST = 60
 # What isn't stated here is caught, or empty.
@@ -108,6 +110,17 @@ def refused_instance(streams, wanted):
     def case(program, folder):
         put(path_in(folder, "instance"), INSTANCE[:-4])
         expect(program, folder, solve_words(program, folder), wanted, b"", b"", streams)
+    return case
+
+
+def untold(stream):
+    """Lines of `--progress` that can't be written: the answer stands."""
+    def case(program, folder):
+        shutil.copy(OPEN, path_in(folder, "instance"))
+        words = solve_words(program, folder) + ["--progress", "--turns", "10"]
+        out, errors, status = run(words, None, [stream], LONGEST)
+        told = tuple(run(check_words(program, folder, certificate="bound", solution="plan"), None, (), LONGEST))
+        demand((out, errors, status) == told and status in (0, 1), "%r, and the check: %r" % (out, told))
     return case
 
 
@@ -277,6 +290,8 @@ STREAMS = [
     ("standard error closed", plain(solve_words, BEST, SOLUTION, CERTIFICATE, [CLOSED_ERRORS])),
     ("standard error closed, a refusal", refused_instance([CLOSED_ERRORS], (b"", b"", 3))),
     ("standard error full, a refusal", refused_instance([FULL_ERRORS], (b"", b"", 3))),
+    ("standard error closed, progress", untold(CLOSED_ERRORS)),
+    ("standard error full, progress", untold(FULL_ERRORS)),
     ("both full", plain(solve_words, (b"", b"", 6), SOLUTION, CERTIFICATE, [FULL_OUT, FULL_ERRORS])),
     ("standard output a pipe that nobody reads, solve",
      lambda program, folder: pipe_closed_early(program, folder, solve_words, (SOLUTION, CERTIFICATE))),

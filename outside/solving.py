@@ -1,5 +1,6 @@
 """Runs of `solve` with drawn options. Nothing is compared that a schedule of the threads may change."""
 import os
+import re
 
 import bounding
 import checking
@@ -19,6 +20,8 @@ FEW_LABELS = 100
 DEFAULTS = {"searchers": 2, "bounders": 2, "turns": 200, "seed": 1, "neighbours": 8, "labels": 1000000}
 # How many lists of stops are gone through for one leaf.
 FEW_ROUTES = 10_000
+# A line of `--progress`.
+TOLD = re.compile(r"vrptw: (\d+) % of the turns, (?:no plan|cost (\d+\.\d)), bound (\d+\.\d)(?:, gap (\d+\.\d) %)?")
 
 
 def drawn_options(random, most_turns):
@@ -45,6 +48,7 @@ def judge_solve(program, folder, random, count, most_turns, is_small):
     text = laid_out(random, instance_words(random, count))
     drawn = drawn_options(random, most_turns)
     words = [word for name, value in drawn.items() for word in ("--" + name, str(value))]
+    words += ["--progress"] * random.choice([0, 0, 1])
     with open(os.path.join(folder, "options"), "w") as file:
         file.write(" ".join(words) + "\n")
     try:
@@ -62,6 +66,9 @@ def judge_run(program, folder, text, words, settings, is_small):
         demand(settings["labels"] <= FEW_LABELS, "LabelLimit with %d labels" % settings["labels"])
         demand((solution, certificate) == (b"", b""), "files after LabelLimit")
         return "LabelLimit"
+    if "--progress" in words:
+        judge_progress(errors, out, settings)
+        errors = ""
     demand(errors == "" and out.split()[:1] in (["BEST"], ["GAP"], ["NO"], ["OPEN"]), "solve: %r" % (said,))
     demand((solution == b"") == (out.split()[0] in ("NO", "OPEN")), "a solution's text beside %r" % out)
     told = (out.replace("OPEN", "BOUND"), errors, status)
@@ -72,6 +79,31 @@ def judge_run(program, folder, text, words, settings, is_small):
         judge_optimum(read(text), solution, read_certificate(certificate).bound, out)
     judge_texts(text, certificate, solution or None, told, settings)
     return out.split()[0]
+
+
+def tenths(number):
+    """The tenths that a number of units is."""
+    return int(number.replace(".", ""))
+
+
+def judge_progress(errors, out, settings):
+    """Each hundredth of the turns is told once at most; no cost is below the last one, no bound above the last."""
+    lines = [TOLD.fullmatch(line) for line in errors.splitlines()]
+    demand(all(lines), "progress: %r" % errors)
+    parts = [int(line[1]) for line in lines]
+    turns = settings["turns"] * (settings["searchers"] + settings["bounders"])
+    demand(len(set(parts)) == len(parts) <= turns and set(parts) <= set(range(1, 101)), "progress: %r" % errors)
+    for line in lines:
+        demand((line[2] is None) == (line[4] is None), "progress: %r" % errors)
+        if line[2] is not None:
+            cost, bound = tenths(line[2]), tenths(line[3])
+            gap = (2000 * (cost - bound) + cost) // (2 * cost)
+            demand(bound < cost and tenths(line[4]) == gap, "gap: %r" % line[0])
+    last = [tenths(number) for number in out.split() if "." in number]
+    if out.startswith(("BEST", "GAP")):
+        demand(all(line[2] is None or tenths(line[2]) >= last[0] for line in lines), "%r, and %r" % (errors, out))
+    if last:
+        demand(all(tenths(line[3]) <= last[-1] for line in lines), "%r, and %r" % (errors, out))
 
 
 def judge_texts(text, certificate, solution, told, settings):

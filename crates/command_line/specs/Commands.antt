@@ -50,13 +50,17 @@ pricing_rules = number_option_rule (codes "neighbours") (between 0 MOST_NEIGHBOU
 abbrev pub closing_rules : List Rule
 closing_rules = flag_rule (codes "close") ∷ number_option_rule (codes "leaves") (between 1 MOST_LEAVES) (codes "100000") ∷ []
 
+-- whether to tell how far the turns are
+abbrev pub progress_rule : Rule
+progress_rule = flag_rule (codes "progress")
+
 abbrev pub shape_with : Text → List Rule → Shape
 shape_with name rules = record (new_app name).top { rules = rules }
 
 abbrev pub solve_shape : Shape
 solve_shape = shape_with (codes "solve")
     (path_rule (codes "INSTANCE") ∷ path_rule (codes "SOLUTION") ∷ path_rule (codes "CERTIFICATE")
-    ∷ thread_rules ++ (search_rules ++ (pricing_rules ++ closing_rules)))
+    ∷ thread_rules ++ (search_rules ++ (pricing_rules ++ (closing_rules ++ progress_rule ∷ []))))
 
 abbrev pub check_shape : Shape
 check_shape = shape_with (codes "check")

@@ -29,14 +29,15 @@ pub record HasClosing (rows : List Row) (close : Bool) (leaves : ℕ) : Type 0 w
   pub leaves_are : HasNumber (codes "leaves") rows leaves
   pub leaves_within : (1 ≤ leaves) × (leaves ≤ MOST_LEAVES)
 
--- the rows of the arguments of `solve` have these paths, these settings and this closing
+-- the rows of the arguments of `solve` have these paths, these settings and this closing, and say whether to tell how far the turns are
 pub record SaysSolve (rows : List Row) (instance solution certificate : Text)
-    (settings : Settings) (close : Bool) (leaves : ℕ) : Type 0 where
+    (settings : Settings) (close : Bool) (leaves : ℕ) (progress : Bool) : Type 0 where
   pub instance_path : first_of (codes "INSTANCE") rows ≡ Some instance
   pub solution_path : first_of (codes "SOLUTION") rows ≡ Some solution
   pub certificate_path : first_of (codes "CERTIFICATE") rows ≡ Some certificate
   pub settings_are : HasSettings rows settings
   pub closing_is : HasClosing rows close leaves
+  pub progress_is : HasFlag (codes "progress") rows progress
 
 -- the rows of the arguments of `check` have these paths, and this number of pairs, which is within its range
 pub record SaysCheck (rows : List Row) (instance certificate : Text) (solution : Option Text) (states : ℕ) : Type 0 where
@@ -48,8 +49,8 @@ pub record SaysCheck (rows : List Row) (instance certificate : Text) (solution :
 
 -- the command's name and the rows of its arguments are the job's
 abbrev pub Says : Text → List Row → Job → Type 0
-Says name rows (Solve instance solution certificate settings close leaves) =
-    (name ≡ codes "solve") × SaysSolve rows instance.now solution.now certificate.now settings close leaves
+Says name rows (Solve instance solution certificate settings close leaves progress) =
+    (name ≡ codes "solve") × SaysSolve rows instance.now solution.now certificate.now settings close leaves progress
 Says name rows (Check instance certificate solution states) =
     (name ≡ codes "check") × SaysCheck rows instance.now certificate.now (option_map (λ s. s.now) solution) states
 
@@ -71,14 +72,15 @@ abbrev pub IsFaultOf : Error → UsageFault → Type 0
 IsFaultOf error Memory = kind_of error ≡ OutOfMemory
 IsFaultOf error (Usage told) = (told ≡ error) × (kind_of error ≢ OutOfMemory)
 
--- two jobs of one kind with the same paths, as texts, and the same numbers
+-- two jobs of one kind with the same paths, as texts, and the same numbers and flags
 abbrev pub IsSameJob : Job → Job → Type 0
-IsSameJob (Solve instance solution certificate settings close leaves)
-    (Solve second_instance second_solution second_certificate second_settings second_close second_leaves) =
+IsSameJob (Solve instance solution certificate settings close leaves progress)
+    (Solve second_instance second_solution second_certificate second_settings second_close second_leaves second_progress) =
     (instance.now ≡ second_instance.now) × (solution.now ≡ second_solution.now)
-    × (certificate.now ≡ second_certificate.now) × (settings ≡ second_settings) × (close ≡ second_close) × (leaves ≡ second_leaves)
+    × (certificate.now ≡ second_certificate.now) × (settings ≡ second_settings)
+    × (close ≡ second_close) × (leaves ≡ second_leaves) × (progress ≡ second_progress)
 IsSameJob (Check instance certificate solution states) (Check second_instance second_certificate second_solution second_states) =
     (instance.now ≡ second_instance.now) × (certificate.now ≡ second_certificate.now)
     × (option_map (λ s. s.now) solution ≡ option_map (λ s. s.now) second_solution) × (states ≡ second_states)
-IsSameJob (Solve instance solution certificate settings close leaves) (Check second_instance second_certificate second_solution second_states) = ⊥
-IsSameJob (Check instance certificate solution states) (Solve second_instance second_solution second_certificate second_settings second_close second_leaves) = ⊥
+IsSameJob (Solve instance solution certificate settings close leaves progress) (Check second_instance second_certificate second_solution second_states) = ⊥
+IsSameJob (Check instance certificate solution states) (Solve second_instance second_solution second_certificate second_settings second_close second_leaves second_progress) = ⊥

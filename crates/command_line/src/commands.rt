@@ -172,7 +172,11 @@ fn solve_command<'a>(alloc: Global) -> Result<Command<'a>, AllocError>
     let command = with_thread_options(alloc, command)?;
     let command = with_search_options(alloc, command)?;
     let command = with_pricing_options(alloc, command)?;
-    with_closing_options(alloc, command)
+    with_closing_options(alloc, command)?.arg(flag(
+        alloc,
+        "progress",
+        "Tells on standard error how far the turns are, and cost, bound and gap",
+    ))
 }
 
 fn check_command<'a>(alloc: Global) -> Result<Command<'a>, AllocError>
@@ -285,6 +289,7 @@ fn solve_job<'a>(found: &ArgMatches<'a>) -> Option<Job<'a>>
         settings: settings_of(found)?,
         close,
         leaves,
+        progress: flag_of(found, "progress"),
     })
 }
 

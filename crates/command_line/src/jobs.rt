@@ -25,6 +25,8 @@ pub enum Job<'a> {
         close: bool,
         /// The most leaves of the closing's tree: 1 to 100,000, by default 100,000.
         leaves: u32,
+        /// Whether to tell on standard error how far the turns are. It changes nothing of the answer.
+        progress: bool,
     },
     /// To check a certificate, and a plan if there is one.
     Check {

@@ -11,7 +11,7 @@ use tenths::{Sink, StdSink};
 use vrptw::{run_words, words_fault};
 
 /// Runs the program with the words after its name.
-fn run<R: Env + Files + AllocGlobal + Threads + Wait + Sync, X: Sink, Y: Sink>(
+fn run<R: Env + Eprint + Files + AllocGlobal + Threads + Wait + Sync, X: Sink, Y: Sink>(
     rt: &R,
     alloc: Global,
     out: &mut X,

@@ -48,11 +48,13 @@ fn tell_parts<R: Runtime>(rt: &R, job: &Job<'_>) -> io::Result<()> {
             settings,
             close,
             leaves,
+            progress,
         } => {
             tell_paths(rt, instance, solution, certificate)?;
             tell_settings(rt, settings)?;
             tell(rt, "close", yes_or_no(*close))?;
-            tell_number(rt, "leaves", u64::from(*leaves))
+            tell_number(rt, "leaves", u64::from(*leaves))?;
+            tell(rt, "progress", yes_or_no(*progress))
         }
         Job::Check {
             instance,

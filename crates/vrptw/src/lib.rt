@@ -7,6 +7,7 @@ mod certifying;
 mod closing_text;
 mod lines;
 mod program;
+mod progress;
 mod solving;
 mod writing;
 

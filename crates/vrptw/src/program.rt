@@ -7,6 +7,7 @@ use crate::closing_text::close;
 use crate::lines::{
     check_fault, file_fault, open_fault, solve_fault, tell, tell_verdict, usage_fault,
 };
+use crate::progress::Progress;
 use crate::solving::solve;
 use checker::check;
 use command_line::{Job, job};
@@ -36,15 +37,16 @@ impl Paths<'_> {
 }
 
 /// How an instance is solved: within the settings, and where a number of leaves is given, by closing it
-/// with no more of them.
+/// with no more of them; and whether to tell how far the turns are.
 #[derive(Clone, Copy)]
 struct Work<'a> {
     settings: &'a Settings,
     closing: Option<u32>,
+    progress: bool,
 }
 
 /// Closes the instance of a text, or solves it.
-fn solve_text<R: Threads + Wait + Sync, X: Sink, Y: Sink>(
+fn solve_text<R: Eprint + Threads + Wait + Sync, X: Sink, Y: Sink>(
     rt: &R,
     alloc: Global,
     text: &[u8],
@@ -55,12 +57,16 @@ fn solve_text<R: Threads + Wait + Sync, X: Sink, Y: Sink>(
     let settings = work.settings;
     match work.closing {
         Some(leaves) => close(alloc, text, settings, leaves, solution, certificate),
+        None if work.progress => {
+            let gate = Progress::new(rt, settings);
+            solve(rt, alloc, text, settings, &gate, solution, certificate)
+        }
         None => solve(rt, alloc, text, settings, &NoGate, solution, certificate),
     }
 }
 
 /// Solves the instance of a file into two files, which are made once the instance was read.
-fn solve_files<R: Files + AllocGlobal + Threads + Wait + Sync, X: Sink, Y: Sink>(
+fn solve_files<R: Eprint + Files + AllocGlobal + Threads + Wait + Sync, X: Sink, Y: Sink>(
     rt: &R,
     alloc: Global,
     paths: Paths<'_>,
@@ -155,8 +161,9 @@ fn check_files<R: Files + AllocGlobal, X: Sink, Y: Sink>(
 /// the status: 0 for `BEST`, `NO PLAN` and help, 1 for `GAP`, `OPEN` and `BOUND`, 2 for wrong words,
 /// 3 for a refused instance, 4 where memory was refused, 5 for a refused certificate or solution, 6
 /// where a file or a stream failed or two paths of `solve` are the same words, 7 where the labels,
-/// the states or the leaves don't suffice, or an instance is too large to be closed. What files hold no contract can say.
-pub fn run_words<R: Files + AllocGlobal + Threads + Wait + Sync, X: Sink, Y: Sink>(
+/// the states or the leaves don't suffice, or an instance is too large to be closed. With `--progress` lines stand on
+/// standard error itself besides. What files hold no contract can say.
+pub fn run_words<R: Eprint + Files + AllocGlobal + Threads + Wait + Sync, X: Sink, Y: Sink>(
     rt: &R,
     alloc: Global,
     words: &[&str],
@@ -172,6 +179,7 @@ pub fn run_words<R: Files + AllocGlobal + Threads + Wait + Sync, X: Sink, Y: Sin
                 settings,
                 close,
                 leaves,
+                progress,
             },
         ) => {
             let paths = Paths {
@@ -182,6 +190,7 @@ pub fn run_words<R: Files + AllocGlobal + Threads + Wait + Sync, X: Sink, Y: Sin
             let work = Work {
                 settings: &settings,
                 closing: if close { Some(leaves) } else { None },
+                progress,
             };
             solve_files(rt, alloc, paths, work, out, errors)
         }

@@ -1,13 +1,13 @@
 use Rattle.std.proofs.Common.{rules, codes}
 use Rattle.std.proofs.lemmas.Result.{IfOk-weaker}
 use Rattle.clap.specs.Words.{new_app}
-use Rattle.command_line.specs.Commands.{HasShape, path_rule}
+use Rattle.command_line.specs.Commands.{HasShape, path_rule, progress_rule}
 use Rattle.command_line.proofs.Steps.{adds_rule}
 use Rattle.command_line.proofs.commands.solve_command.Goals as goal
 
 pub returns : goal.returns
 returns c =
-    let new : HasShape (new_app (codes "solve")) c.about.result = search rules in
+    let new : HasShape (new_app (codes "solve")) c.about.result = search (rules, c.new.ensures, c.about.ensures) in
     let one = adds_rule _ _ _ _ (path_rule (codes "INSTANCE")) new
     c.in_ok-arg.ensures c.path.ensures.rule c.path.ensures.own in
     let two = adds_rule _ _ _ _ (path_rule (codes "SOLUTION")) one
@@ -17,4 +17,5 @@ returns c =
     let threads = c.in_ok-command-2.ensures _ paths in
     let turns = c.in_ok-command-3.ensures _ threads in
     let prices = c.in_ok-command-4.ensures _ turns in
-    IfOk-weaker c.with_closing_options.result _ _ (λ made adds. adds _ prices) c.with_closing_options.ensures
+    let closing = c.in_ok-with_closing_options.ensures _ prices in
+    IfOk-weaker c.arg-4.result _ _ (λ made adds. adds_rule _ made _ _ progress_rule closing adds c.flag.ensures.rule c.flag.ensures.own) c.arg-4.ensures
