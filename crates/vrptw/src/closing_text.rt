@@ -3,7 +3,7 @@
 ghost use Rattle.std.specs.Prelude.{◌≡◌, ℕ, ◌≤◌, IfOk, IfErr, IsTrue, ◌↔◌};
 ghost use Rattle.solomon_reader.specs.declared.limits.TheConstants.{MOST_NEIGHBOURS};
 ghost use Rattle.closing.specs.Closing.{IsClosed};
-ghost use Rattle.vrptw.specs.Closing.{AreWithin, Closes, IsDescended, IsLeafLimit, WritesFound};
+ghost use Rattle.vrptw.specs.Closing.{AreWithin, Closes, IsDescended, WritesFound};
 ghost use Rattle.vrptw.specs.declared.answer.SolveFault.TheVariants.{Memory};
 
 use crate::answer::{Answer, SolveFault};
@@ -16,31 +16,23 @@ use solomon_reader::{Instance, MOST_LEAVES};
 use std::alloc::Global;
 use tenths::Sink;
 
-/// Whether a tree may have so many leaves.
-fn is_leaf_limit(leaves: u32) -> bool
-    ensures { IsTrue result ↔ IsLeafLimit leaves }
-{
-    leaves >= 1 && leaves <= MOST_LEAVES
-}
-
 /// Whether the settings and the number of leaves are within their ranges.
 fn are_within(settings: &Settings, leaf_limit: u32) -> bool
     ensures { IsTrue result ↔ AreWithin settings.now leaf_limit }
 {
-    settings.is_within() && is_leaf_limit(leaf_limit)
+    settings.is_within() && leaf_limit >= 1 && leaf_limit <= MOST_LEAVES
 }
 
 /// A plan, if there is one, descended once more.
 fn descend_if<'i>(
     alloc: Global,
     plan: Option<Feasible<'i>>,
-    seed: u32,
 ) -> Result<Option<Feasible<'i>>, SolveFault>
     ensures plan { IfOk result (IsDescended plan.entry) }
     ensures memory { IfErr result (λ e. e ≡ Memory) }
 {
     match plan {
-        Some(plan) => Ok(Some(descend(alloc, plan, seed)?)),
+        Some(plan) => Ok(Some(descend(alloc, plan)?)),
         None => Ok(None),
     }
 }
@@ -64,7 +56,7 @@ fn write_found<X: Sink, Y: Sink>(
 {
     let Closed { plan, bound, nodes } = closed;
     let neighbours = settings.neighbours;
-    let plan = descend_if(alloc, plan, settings.seed)?;
+    let plan = descend_if(alloc, plan)?;
     let cert = certify(alloc, instance, neighbours, bound, nodes)?;
     write_closed(plan, instance, neighbours, &cert, solution, certificate)
 }

@@ -189,54 +189,36 @@ fn write_line<X: Sink>(word: &str, numbers: &[Tenths], out: &mut X) -> Result<()
     write_text(b"\n", out)
 }
 
-/// Writes the line of an answer.
-fn write_answer<X: Sink>(answer: &Answer, out: &mut X) -> Result<(), Device> {
-    match answer {
-        Answer::Best { cost } => write_line("BEST", &[*cost], out),
-        Answer::Gap { cost, bound } => write_line("GAP", &[*cost, *bound], out),
-        Answer::NoPlan => write_line("NO PLAN", &[], out),
-        Answer::Open { bound } => write_line("OPEN", &[*bound], out),
-    }
-}
-
-/// The status of an answer.
-fn status_of(answer: &Answer) -> u8 {
-    match answer {
-        Answer::Best { .. } | Answer::NoPlan => FOUND,
-        Answer::Gap { .. } | Answer::Open { .. } => UNDECIDED,
-    }
-}
-
-/// Writes the line of a verdict.
-fn write_verdict<X: Sink>(verdict: &Verdict, out: &mut X) -> Result<(), Device> {
-    match verdict {
-        Verdict::Best { cost } => write_line("BEST", &[*cost], out),
-        Verdict::Gap { cost, bound } => write_line("GAP", &[*cost, *bound], out),
-        Verdict::NoPlan => write_line("NO PLAN", &[], out),
-        Verdict::BoundOnly { bound } => write_line("BOUND", &[*bound], out),
-    }
-}
-
-/// The status of a verdict.
-fn status_of_verdict(verdict: &Verdict) -> u8 {
-    match verdict {
-        Verdict::Best { .. } | Verdict::NoPlan => FOUND,
-        Verdict::Gap { .. } | Verdict::BoundOnly { .. } => UNDECIDED,
+/// Prints a line of a word and numbers, and answers the status that goes with it.
+fn tell_line<X: Sink, Y: Sink>(
+    word: &str,
+    numbers: &[Tenths],
+    status: u8,
+    out: &mut X,
+    errors: &mut Y,
+) -> u8 {
+    match write_line(word, numbers, out) {
+        Ok(()) => status,
+        Err(Device) => file_fault(errors),
     }
 }
 
 /// Prints a verdict, and answers its status.
 pub(crate) fn tell_verdict<X: Sink, Y: Sink>(verdict: &Verdict, out: &mut X, errors: &mut Y) -> u8 {
-    match write_verdict(verdict, out) {
-        Ok(()) => status_of_verdict(verdict),
-        Err(Device) => file_fault(errors),
+    match *verdict {
+        Verdict::Best { cost } => tell_line("BEST", &[cost], FOUND, out, errors),
+        Verdict::Gap { cost, bound } => tell_line("GAP", &[cost, bound], UNDECIDED, out, errors),
+        Verdict::NoPlan => tell_line("NO PLAN", &[], FOUND, out, errors),
+        Verdict::BoundOnly { bound } => tell_line("BOUND", &[bound], UNDECIDED, out, errors),
     }
 }
 
 /// Prints an answer, and answers its status.
 pub(crate) fn tell<X: Sink, Y: Sink>(answer: &Answer, out: &mut X, errors: &mut Y) -> u8 {
-    match write_answer(answer, out) {
-        Ok(()) => status_of(answer),
-        Err(Device) => file_fault(errors),
+    match *answer {
+        Answer::Best { cost } => tell_line("BEST", &[cost], FOUND, out, errors),
+        Answer::Gap { cost, bound } => tell_line("GAP", &[cost, bound], UNDECIDED, out, errors),
+        Answer::NoPlan => tell_line("NO PLAN", &[], FOUND, out, errors),
+        Answer::Open { bound } => tell_line("OPEN", &[bound], UNDECIDED, out, errors),
     }
 }

@@ -34,22 +34,16 @@ pub(crate) fn read_instance(alloc: Global, text: &[u8]) -> Result<Instance, Solv
     }
 }
 
-/// The worker whose random words stand beside the last descent, which draws none.
-const FIRST_WORKER: u16 = 0;
-
 /// The plan that a descent leads to.
-pub(crate) fn descend<'i>(
-    alloc: Global,
-    plan: Feasible<'i>,
-    seed: u32,
-) -> Result<Feasible<'i>, SolveFault>
+pub(crate) fn descend<'i>(alloc: Global, plan: Feasible<'i>) -> Result<Feasible<'i>, SolveFault>
     ensures problem { IfOk result (λ f. f.problem ≡ plan.entry.problem) }
     ensures cost { IfOk result (λ f. f.cost ≤ plan.entry.cost) }
     ensures solution { IfOk result (λ f. IsSolution f) }
     ensures optimum { IfOk result (λ f. IsLocalOptimum f.problem f.routes) }
     ensures memory { IfErr result (λ e. e ≡ Memory) }
 {
-    let mut searcher = Searcher::new(alloc, plan, generator(seed, FIRST_WORKER));
+    // A descent draws no random words.
+    let mut searcher = Searcher::new(alloc, plan, generator(0, 0));
     searcher.descend()?;
     let lower = searcher.into_plan();
     let _cost = lower.cost();
@@ -57,11 +51,7 @@ pub(crate) fn descend<'i>(
 }
 
 /// The plan of an outcome, if it has one, descended once more.
-fn last_plan<'i>(
-    alloc: Global,
-    outcome: &Outcome<'i>,
-    seed: u32,
-) -> Result<Option<Feasible<'i>>, SolveFault>
+fn last_plan<'i>(alloc: Global, outcome: &Outcome<'i>) -> Result<Option<Feasible<'i>>, SolveFault>
     ensures plan { IfOk result (λ plan. MatchOption plan (costs_of outcome.now.past ≡ [])
         (λ f. (f.problem ≡ outcome.now.problem) × IsLocalOptimum f.problem f.routes)) }
     ensures memory { IfErr result (λ e. e ≡ Memory) }
@@ -69,15 +59,13 @@ fn last_plan<'i>(
     let Some(plan) = outcome.plan() else {
         return Ok(None);
     };
-    let lower = descend(alloc, plan.try_clone()?, seed)?;
-    Ok(Some(lower))
+    Ok(Some(descend(alloc, plan.try_clone()?)?))
 }
 
 /// Writes an outcome: its plan, if it has one, descended once more, and then its certificate.
 fn write_outcome<X: Sink, Y: Sink>(
     alloc: Global,
     outcome: &Outcome<'_>,
-    seed: u32,
     solution: &mut X,
     certificate: &mut Y,
 ) -> Result<Answer, SolveFault>
@@ -88,7 +76,7 @@ fn write_outcome<X: Sink, Y: Sink>(
         (record { taken = Y.taken certificate.old; failures = Y.failures certificate.old })
         (record { taken = Y.taken certificate.new; failures = Y.failures certificate.new }) result }
 {
-    let plan = last_plan(alloc, outcome, seed)?;
+    let plan = last_plan(alloc, outcome)?;
     let cert = certify_outcome(alloc, outcome)?;
     write_both(plan.as_ref(), outcome, &cert, solution, certificate)
 }
@@ -120,5 +108,5 @@ pub fn solve<R: Threads + Wait + Sync, G: Gate + Sync, X: Sink, Y: Sink>(
 {
     let instance = read_instance(alloc, text)?;
     let outcome = run(rt, alloc, &instance, settings, gate)?;
-    write_outcome(alloc, &outcome, settings.seed, solution, certificate)
+    write_outcome(alloc, &outcome, solution, certificate)
 }
