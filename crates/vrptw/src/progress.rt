@@ -1,5 +1,7 @@
 //! Lines that tell how far the workers are.
 
+ghost use Rattle.std.specs.Prelude.{◌<◌};
+
 use incumbent_book::Gap;
 use search_workers::{Gate, GatePoint, Settings};
 use std::io;
@@ -13,6 +15,7 @@ pub(crate) struct Progress<'a, R: Eprint> {
     rt: &'a R,
     turns: u64,
     made: AtomicU64,
+    ghost some: { 0 < turns },
 }
 
 /// Writes a line of how far the turns are.
