@@ -7,7 +7,7 @@ ghost use Rattle.leaf_arcs.specs.Arcs.{AreFreeArcs};
 use crate::arcs::AllowedArc;
 use crate::free_arcs::all_free_arcs;
 use crate::neighbours::Neighbours;
-use crate::slots::Slots;
+use crate::slots::{Resource, Slots};
 use solomon_reader::Instance;
 use std::alloc::{AllocError, Global};
 
@@ -18,7 +18,8 @@ pub struct Network<'i> {
     pub neighbours: Neighbours<'i>,
     /// The arcs from each row where nothing is decided, at prices 0.
     pub(crate) arcs: Vec<Vec<AllowedArc>>,
-    pub(crate) slots: Slots,
+    pub(crate) time_slots: Slots,
+    pub(crate) load_slots: Slots,
     ghost arcs_are: { AreFreeArcs neighbours.instance.now neighbours.k arcs.items },
 }
 
@@ -39,7 +40,8 @@ impl<'i> Network<'i> {
         Ok(Network {
             neighbours,
             arcs,
-            slots: Slots::new(alloc, instance, leaves)?,
+            time_slots: Slots::new(alloc, instance, Resource::Time, leaves)?,
+            load_slots: Slots::new(alloc, instance, Resource::Load, leaves)?,
         })
     }
 }

@@ -4,7 +4,7 @@ ghost use Rattle.std.specs.Prelude.{◌≡◌, IfOk, IfSome};
 ghost use Rattle.leaf_arcs.specs.Leaves.{AreRowsIn, IsFloorIn, AreFloorsIn};
 
 use crate::arcs::ArcRow;
-use crate::floor::{Floor, floor_at, floors_of};
+use crate::floor::{Floor, floor_at, floors_of, greater};
 use crate::leaf::Leaf;
 use crate::rows::arc_rows;
 use std::alloc::{AllocError, Global};
@@ -14,27 +14,57 @@ use std::alloc::{AllocError, Global};
 pub struct Task<'a, 'i> {
     /// The leaf.
     pub leaf: Leaf<'a, 'i>,
+    /// The reduced cost in grains from which on relaxed routes don't count, if there is one.
+    pub limit: Option<i64>,
     /// Where a route may go from each row.
     pub rows: Vec<ArcRow>,
-    floors: Vec<Option<Floor>>,
+    time_floors: Vec<Option<Floor>>,
+    /// None until they are added.
+    load_floors: Vec<Option<Floor>>,
     ghost rows_are: { AreRowsIn leaf rows.items },
-    ghost floors_are: { AreFloorsIn leaf floors.items },
+    ghost by_time: { AreFloorsIn leaf time_floors.items },
+    ghost by_load: { AreFloorsIn leaf load_floors.items },
 }
 
 impl<'a, 'i> Task<'a, 'i> {
-    /// The task of a leaf.
+    /// The task of a leaf, with floors over time, and no limit.
     pub fn new(alloc: Global, leaf: Leaf<'a, 'i>) -> Result<Task<'a, 'i>, AllocError>
         ensures { IfOk result (λ t. t.leaf ≡ leaf.entry) }
     {
         let rows = arc_rows(alloc, &leaf)?;
-        let floors = floors_of(alloc, &leaf, rows.as_slice())?;
-        Ok(Task { leaf, rows, floors })
+        let network = leaf.network;
+        let time_floors = floors_of(alloc, &leaf, rows.as_slice(), &network.time_slots)?;
+        Ok(Task {
+            leaf,
+            limit: None,
+            rows,
+            time_floors,
+            load_floors: Vec::new(alloc),
+        })
     }
 
-    /// The floor that holds of a row at a time, if one is known.
-    pub fn floor_at(&self, row: u16, time: u64) -> Option<Floor>
-        ensures { IfSome result (λ f. IsFloorIn self.now.leaf row time f) }
+    /// Adds floors over load.
+    pub fn add_load_floors(&mut self, alloc: Global) -> Result<(), AllocError>
+        ensures leaf { self.new.leaf ≡ self.old.leaf }
+        ensures limit { self.new.limit ≡ self.old.limit }
     {
-        floor_at(&self.leaf, self.floors.as_slice(), row, time)
+        let network = self.leaf.network;
+        let rows = self.rows.as_slice();
+        self.load_floors = floors_of(alloc, &self.leaf, rows, &network.load_slots)?;
+        Ok(())
+    }
+
+    /// A floor that holds of a row at a time and a load, if one is known; of two the greater one.
+    pub fn floor_at(&self, row: u16, time: u64, load: usize) -> Option<Floor>
+        ensures { IfSome result (λ f. IsFloorIn self.now.leaf row time load f) }
+    {
+        let network = self.leaf.network;
+        let by_time = network.time_slots.place(row, time, load);
+        let by_load = network.load_slots.place(row, time, load);
+        let leaf = &self.leaf;
+        greater(
+            floor_at(leaf, self.time_floors.as_slice(), by_time, row, time, load),
+            floor_at(leaf, self.load_floors.as_slice(), by_load, row, time, load),
+        )
     }
 }

@@ -6,7 +6,7 @@ use Rattle.tree_bound.proofs.steps.is_dear_step.Goals as goal
 pub returns : goal.returns
 returns c = λ high. record {
   dear = λ s completes.
-      (let h = c.in-Some.ensures.holds _ s refl (omega (arith, c.begins.ensures.is, c.requires.arc.service_is)) (or_left (eqb c.args.arc.now.to c.args.arc.now.to) _ (eq-eqb c.args.arc.now.to c.args.arc.now.to refl)) completes in
+      (let h = c.in-Some.ensures.holds _ s refl (omega (arith, c.begins.ensures.is, c.requires.arc.service_is)) (omega (arith, c.requires.arc.demand_is)) (or_left (eqb c.args.arc.now.to c.args.arc.now.to) _ (eq-eqb c.args.arc.now.to c.args.arc.now.to refl)) completes in
       c.is_dear_with.ensures high _
       (omega (arith, ints, h.least, c.requires.arc.value_is, c.requires.arc.low, c.requires.arc.high, c.requires.bounded.low, c.requires.bounded.high)));
 }
