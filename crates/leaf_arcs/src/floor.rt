@@ -24,9 +24,9 @@ pub struct Floor {
     /// The row.
     pub row: u16,
     /// When a vehicle leaves the row, in tenths.
-    pub from: u64,
+    pub from: u32,
     /// What is loaded then.
-    pub loaded: usize,
+    pub loaded: u16,
     /// What is added at least, in grains.
     pub least: i64,
     /// The next customer of what adds the least; 0 for the way home.
@@ -51,7 +51,7 @@ pub(crate) fn floor_at(
         return None;
     }
     let found = floors[place]?;
-    if found.row != v || found.from > time || found.loaded > load {
+    if found.row != v || u64::from(found.from) > time || usize::from(found.loaded) > load {
         return None;
     }
     Some(found)
@@ -73,6 +73,7 @@ fn end_floor(leaf: &Leaf<'_, '_>, arcs: &ArcRow, start: &Start) -> Floor
     requires row { start.now.row < length (problem_of leaf.now).rows }
     requires arcs { IsRowIn leaf.now start.now.row arcs.now }
     requires from { start.now.from ≤ 20 * MOST_TIME }
+    requires load { start.now.loaded ≤ MOST_CAPACITY }
     ensures place { IsAt start.now.row start.now.from start.now.loaded result }
     ensures ordered { result.least ≤ℤ result.other }
     ensures ends { IsEndFloorIn leaf.now start.now.row start.now.from result.other }
@@ -85,8 +86,8 @@ fn end_floor(leaf: &Leaf<'_, '_>, arcs: &ArcRow, start: &Start) -> Floor
     }
     Floor {
         row: start.row,
-        from: start.from,
-        loaded: start.loaded,
+        from: start.from as u32,
+        loaded: start.loaded as u16,
         least,
         next: 0,
         other: least,
@@ -155,12 +156,12 @@ fn with_step(
     ensures place { IfSome result (IsAt floor.row floor.from floor.loaded) }
     ensures joined { IfSome result (IsJoinedIn leaf.now floor arc.now.to) }
 {
-    let begins = (floor.from + arc.travel).max(arc.ready);
+    let begins = (u64::from(floor.from) + arc.travel).max(arc.ready);
     if begins > arc.due {
         return Some(floor);
     }
     let network = leaf.network;
-    let load = floor.loaded + usize::from(arc.demand);
+    let load = usize::from(floor.loaded) + usize::from(arc.demand);
     if load > usize::from(network.neighbours.instance.capacity()) {
         return Some(floor);
     }
@@ -225,7 +226,7 @@ fn fill(leaf: &Leaf<'_, '_>, rows: &[ArcRow], slots: &Slots, floors: &mut [Optio
     requires floors { AreFloorsIn leaf.now floors.old }
     ensures { AreFloorsIn leaf.now floors.new }
 {
-    for start in slots.starts() {
+    for start in slots.starts.as_slice() {
         fill_at(leaf, rows, slots, floors, start);
     }
 }
@@ -240,7 +241,7 @@ pub(crate) fn floors_of(
     requires { AreRowsIn leaf.now rows.now }
     ensures { IfOk result (λ floors. AreFloorsIn leaf.now floors.items) }
 {
-    let mut floors = vec![in alloc; None; slots.starts().len()]?;
+    let mut floors = vec![in alloc; None; slots.starts.len()]?;
     fill(leaf, rows, slots, floors.as_mut_slice());
     Ok(floors)
 }

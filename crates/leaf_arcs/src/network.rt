@@ -7,7 +7,7 @@ ghost use Rattle.leaf_arcs.specs.Arcs.{AreFreeArcs};
 use crate::arcs::AllowedArc;
 use crate::free_arcs::all_free_arcs;
 use crate::neighbours::Neighbours;
-use crate::slots::{Resource, Slots};
+use crate::slots::{MANY_SLOTS, MOST_LOAD_SLOTS, MOST_SLOTS, Resource, Slots};
 use solomon_reader::Instance;
 use std::alloc::{AllocError, Global};
 
@@ -37,11 +37,17 @@ impl<'i> Network<'i> {
     {
         let neighbours = Neighbours::new(alloc, instance, k)?;
         let arcs = all_free_arcs(alloc, &neighbours)?;
+        let time_slots = Slots::new(alloc, instance, Resource::Time, leaves, MOST_SLOTS)?;
+        let mut most = MOST_LOAD_SLOTS;
+        if !time_slots.starts.is_empty() {
+            most = MANY_SLOTS.saturating_mul(u64::from(instance.customer_count()));
+        }
+        let load_slots = Slots::new(alloc, instance, Resource::Load, leaves, most)?;
         Ok(Network {
             neighbours,
             arcs,
-            time_slots: Slots::new(alloc, instance, Resource::Time, leaves)?,
-            load_slots: Slots::new(alloc, instance, Resource::Load, leaves)?,
+            time_slots,
+            load_slots,
         })
     }
 }

@@ -10,15 +10,19 @@ use std::alloc::{AllocError, Global};
 /// unless a slot were then longer than the shortest step.
 const FEW_SLOTS: u64 = 8;
 
-const MANY_SLOTS: u64 = 64;
+pub(crate) const MANY_SLOTS: u64 = 64;
 
 /// The most slots that a customer has in the mean for all leaves together, where they have more than few.
 const SHARED_SLOTS: u64 = 512;
 
-/// The most slots of time, and of load, of all customers.
-const MOST_TIME_SLOTS: u64 = 1_000_000;
+/// The most slots.
+pub(crate) const MOST_SLOTS: u64 = 1_000_000;
 
-const MOST_LOAD_SLOTS: u64 = 100_000;
+/// The most slots of load, where there are none of time.
+pub(crate) const MOST_LOAD_SLOTS: u64 = 100_000;
+
+/// In place of the shift of what slots don't depend on.
+const NO_SHIFT: u32 = 63;
 
 /// What each step of a route adds to.
 #[derive(Clone, Copy, Debug)]
@@ -52,13 +56,15 @@ struct RowSlots {
 /// Slots of one length, from 0 on. Each customer has one for each in which a vehicle may leave it.
 #[derive(Drop)]
 pub(crate) struct Slots {
-    resource: Resource,
-    /// A slot is 2 to the power of this.
-    shift: u32,
+    /// A slot is 2 to the power of this in tenths.
+    time_shift: u32,
+    /// Or so in load.
+    load_shift: u32,
     rows: Vec<RowSlots>,
     /// The latest first. Each step leads from the beginning of a slot into a later one.
-    starts: Vec<Start>,
-    ghost small: { shift < 64 },
+    pub(crate) starts: Vec<Start>,
+    ghost by_time: { time_shift < 64 },
+    ghost by_load: { load_shift < 64 },
 }
 
 /// What a step from a customer to another one adds at least.
@@ -118,17 +124,13 @@ fn count_at(instance: &Instance, resource: Resource, shift: u32) -> u64
 }
 
 /// The length of a slot for so many leaves, `None` where there are to be none.
-fn shift_of(instance: &Instance, resource: Resource, leaves: usize) -> Option<u32>
+fn shift_of(instance: &Instance, resource: Resource, leaves: usize, allowed: u64) -> Option<u32>
     ensures { IfSome result (λ s. s < 64) }
 {
     let shared = SHARED_SLOTS / (leaves as u64).max(1);
     let mean = shared.max(FEW_SLOTS).min(MANY_SLOTS);
     let most = mean.saturating_mul(u64::from(instance.customer_count()));
     let shortest = shortest(instance, resource);
-    let allowed = match resource {
-        Resource::Time => MOST_TIME_SLOTS,
-        Resource::Load => MOST_LOAD_SLOTS,
-    };
     if shortest == 0 {
         return None;
     }
@@ -175,20 +177,21 @@ fn add_row(
 
 impl Slots {
     /// The slots of an instance for so many leaves: the fewer there are, the more slots; none where a step
-    /// may add nothing, or there were too many. No contract: any slots are sound, since a floor is asked for
-    /// its row, time and load.
+    /// may add nothing, or there were more than are allowed. No contract: any slots are sound, since a floor is
+    /// asked for its row, time and load.
     pub(crate) fn new(
         alloc: Global,
         instance: &Instance,
         resource: Resource,
         leaves: usize,
+        allowed: u64,
     ) -> Result<Slots, AllocError> {
         let mut rows = Vec::new(alloc);
         let mut starts = Vec::new(alloc);
-        let Some(shift) = shift_of(instance, resource, leaves) else {
+        let Some(shift) = shift_of(instance, resource, leaves, allowed) else {
             return Ok(Slots {
-                resource,
-                shift: 0,
+                time_shift: NO_SHIFT,
+                load_shift: NO_SHIFT,
                 rows,
                 starts,
             });
@@ -202,17 +205,16 @@ impl Slots {
         }
         starts.sort()?;
         starts.reverse();
+        let (time_shift, load_shift) = match resource {
+            Resource::Time => (shift, NO_SHIFT),
+            Resource::Load => (NO_SHIFT, shift),
+        };
         Ok(Slots {
-            resource,
-            shift,
+            time_shift,
+            load_shift,
             rows,
             starts,
         })
-    }
-
-    /// From when on each floor holds, the latest first.
-    pub(crate) fn starts(&self) -> &[Start] {
-        self.starts.as_slice()
     }
 
     /// The place of the floor of a row at a time and a load.
@@ -220,11 +222,7 @@ impl Slots {
         let Some(row) = self.rows.get(usize::from(v)) else {
             return usize::MAX;
         };
-        let amount = match self.resource {
-            Resource::Time => time,
-            Resource::Load => load as u64,
-        };
-        let slot = amount >> self.shift;
+        let slot = (time >> self.time_shift).saturating_add(load as u64 >> self.load_shift);
         row.place
             .saturating_add(slot.saturating_sub(row.first) as usize)
     }

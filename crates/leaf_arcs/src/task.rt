@@ -59,12 +59,27 @@ impl<'a, 'i> Task<'a, 'i> {
         ensures { IfSome result (λ f. IsFloorIn self.now.leaf row time load f) }
     {
         let network = self.leaf.network;
-        let by_time = network.time_slots.place(row, time, load);
-        let by_load = network.load_slots.place(row, time, load);
-        let leaf = &self.leaf;
-        greater(
-            floor_at(leaf, self.time_floors.as_slice(), by_time, row, time, load),
-            floor_at(leaf, self.load_floors.as_slice(), by_load, row, time, load),
-        )
+        let place = network.time_slots.place(row, time, load);
+        let by_time = floor_at(
+            &self.leaf,
+            self.time_floors.as_slice(),
+            place,
+            row,
+            time,
+            load,
+        );
+        if self.load_floors.is_empty() {
+            return by_time;
+        }
+        let place = network.load_slots.place(row, time, load);
+        let by_load = floor_at(
+            &self.leaf,
+            self.load_floors.as_slice(),
+            place,
+            row,
+            time,
+            load,
+        );
+        greater(by_time, by_load)
     }
 }

@@ -16,7 +16,7 @@ use std::alloc::Global;
 use std::mem;
 
 /// So many labels for each row are few.
-const FEW_LABELS: usize = 8;
+const FEW_LABELS: usize = 16;
 
 /// Works a label: counts the route that ends there, and takes its steps.
 fn work_label(
@@ -131,16 +131,6 @@ pub(crate) fn beginning(leaf: &Leaf<'_, '_>) -> Label
     }
 }
 
-/// Works the empty beginning.
-fn begin(task: &Task<'_, '_>, table: &mut Table) -> Result<Option<i64>, BoundFault>
-    requires { table.old.buckets.items ≡ replicate ((problem_of task.now.leaf).capacity + 1) [] }
-    ensures { IfOk result (λ after. IsSweptIn task.now table.new.buckets.items [] 1 after) }
-{
-    let start = beginning(&task.leaf);
-    let best = work_label(task, table, 0, &start, task.limit)?;
-    Ok(best)
-}
-
 /// The least reduced cost over all relaxed routes of a task in grains; its limit, if there is one, where no
 /// route costs less.
 fn least_below(
@@ -153,7 +143,8 @@ fn least_below(
     let network = task.leaf.network;
     let capacity = network.neighbours.instance.capacity();
     let mut table = empty_table(alloc, capacity, state_limit)?;
-    let best = begin(task, &mut table)?;
+    let start = beginning(&task.leaf);
+    let best = work_label(task, &mut table, 0, &start, task.limit)?;
     let least = sweep(task, &mut table, best)?;
     Ok(least)
 }
