@@ -2,7 +2,7 @@
 //! and Toth 1981, at the times of windows or at loads), by a table from the latest time, or the greatest
 //! load, back.
 
-ghost use Rattle.std.specs.Prelude.{◌≡◌, ◌+◌, ◌*◌, ◌<◌, ◌≤◌, max, length, IfOk, IfSome, ◌≤ℤ◌, ◌⊎◌};
+ghost use Rattle.std.specs.Prelude.{◌≡◌, ◌+◌, ◌*◌, ◌<◌, ◌≤◌, max, length, IfOk, IfSome, ◌≤ℤ◌};
 ghost use Rattle.solomon_reader.specs.declared.limits.TheConstants.{MOST_CAPACITY, MOST_TIME};
 ghost use Rattle.leaf_arcs.specs.Leaves.{problem_of, IsArcIn, IsRowIn, AreRowsIn, IsFloorIn, AreFloorsIn, IsEndFloorIn, IsStepFloorIn, IsJoinedIn};
 ghost use Rattle.leaf_arcs.specs.Floors.{IsAt, IsJoined};
@@ -55,17 +55,6 @@ pub(crate) fn floor_at(
         return None;
     }
     Some(found)
-}
-
-/// Of two floors, where they are known, the one that says of more that it is added at least.
-pub(crate) fn greater(first: Option<Floor>, second: Option<Floor>) -> Option<Floor>
-    ensures { (result ≡ first) ⊎ (result ≡ second) }
-{
-    match (first, second) {
-        (Some(a), Some(b)) if a.least < b.least => second,
-        (None, _) => second,
-        _ => first,
-    }
 }
 
 /// The floor of a row from a start on, where only the way home follows.

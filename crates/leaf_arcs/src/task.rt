@@ -4,7 +4,7 @@ ghost use Rattle.std.specs.Prelude.{◌≡◌, IfOk, IfSome};
 ghost use Rattle.leaf_arcs.specs.Leaves.{AreRowsIn, IsFloorIn, AreFloorsIn};
 
 use crate::arcs::ArcRow;
-use crate::floor::{Floor, floor_at, floors_of, greater};
+use crate::floor::{Floor, floor_at, floors_of};
 use crate::leaf::Leaf;
 use crate::rows::arc_rows;
 use std::alloc::{AllocError, Global};
@@ -54,32 +54,26 @@ impl<'a, 'i> Task<'a, 'i> {
         Ok(())
     }
 
-    /// A floor that holds of a row at a time and a load, if one is known; of two the greater one.
+    /// The floor over time that holds of a row at a time and a load, if one is known.
     pub fn floor_at(&self, row: u16, time: u64, load: usize) -> Option<Floor>
         ensures { IfSome result (λ f. IsFloorIn self.now.leaf row time load f) }
     {
         let network = self.leaf.network;
         let place = network.time_slots.place(row, time, load);
-        let by_time = floor_at(
-            &self.leaf,
-            self.time_floors.as_slice(),
-            place,
-            row,
-            time,
-            load,
-        );
+        let floors = self.time_floors.as_slice();
+        floor_at(&self.leaf, floors, place, row, time, load)
+    }
+
+    /// The floor over load that holds of a row at a time and a load, if one is known.
+    pub fn load_floor_at(&self, row: u16, time: u64, load: usize) -> Option<Floor>
+        ensures { IfSome result (λ f. IsFloorIn self.now.leaf row time load f) }
+    {
         if self.load_floors.is_empty() {
-            return by_time;
+            return None;
         }
+        let network = self.leaf.network;
         let place = network.load_slots.place(row, time, load);
-        let by_load = floor_at(
-            &self.leaf,
-            self.load_floors.as_slice(),
-            place,
-            row,
-            time,
-            load,
-        );
-        greater(by_time, by_load)
+        let floors = self.load_floors.as_slice();
+        floor_at(&self.leaf, floors, place, row, time, load)
     }
 }

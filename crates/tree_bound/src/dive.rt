@@ -19,7 +19,9 @@ fn promise(task: &Task<'_, '_>, load: usize, label: &Label, arc: &AllowedArc) ->
         return None;
     }
     let longer = extend(&task.leaf, load, label, arc);
-    let more = floor_of(task, load + usize::from(arc.demand), &longer);
+    let load = load + usize::from(arc.demand);
+    let floor = task.floor_at(longer.customer, longer.time, load);
+    let more = floor_of(task, floor, load, &longer);
     Some(longer.cost.saturating_add(more.unwrap_or(0)))
 }
 
