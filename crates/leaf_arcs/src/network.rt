@@ -20,6 +20,8 @@ pub struct Network<'i> {
     pub(crate) arcs: Vec<Vec<AllowedArc>>,
     pub(crate) time_slots: Slots,
     pub(crate) load_slots: Slots,
+    /// Whether floors over load can be added.
+    pub has_load_slots: bool,
     ghost arcs_are: { AreFreeArcs neighbours.instance.now neighbours.k arcs.items },
 }
 
@@ -47,6 +49,7 @@ impl<'i> Network<'i> {
             neighbours,
             arcs,
             time_slots,
+            has_load_slots: !load_slots.starts.is_empty(),
             load_slots,
         })
     }

@@ -158,7 +158,11 @@ pub(crate) fn least(
 ) -> Result<Option<i64>, BoundFault>
     ensures { IfOk result (λ found. IsLeastBelowIn task.old found) }
 {
-    let few = task.rows.len().saturating_mul(FEW_LABELS).min(state_limit);
+    let network = task.leaf.network;
+    let mut few = state_limit;
+    if network.has_load_slots {
+        few = few.min(task.rows.len().saturating_mul(FEW_LABELS));
+    }
     match least_below(alloc, task, few) {
         Err(BoundFault::StateLimit) => {}
         result => return result,
