@@ -11,6 +11,7 @@ def instance_text(fleet, capacity, depot, customers):
 
 LINE = "1 3 4 1 0 1000 0\n2 6 8 1 0 1000 0\n"
 THREE = "1 100 1 1 0 1000 0\n2 100 2 1 0 1000 0\n3 100 0 1 0 1000 0\n"
+IN_LINE = "1 1 0 1 0 1000 0\n2 2 0 1 0 1000 0\n3 3 0 1 0 1000 0\n"
 MANY = "".join("%d 3 4 1 0 1000 0\n" % number for number in range(1, 401))
 
 INSTANCES = {
@@ -21,6 +22,8 @@ INSTANCES = {
     "apart": instance_text(2, 1, DEPOT, LINE),
     "together": instance_text(2, 2, DEPOT, LINE),
     "still": instance_text(2, 2, DEPOT, "1 0 0 1 0 1000 0\n2 0 0 1 0 1000 0\n"),
+    "room": instance_text(1, 3, DEPOT, IN_LINE),
+    "wide": instance_text(1, 4, DEPOT, IN_LINE),
     "near": instance_text(1, 3, DEPOT, "1 30 40 1 0 1000 0\n2 33 44 1 0 1000 0\n"),
     "three": instance_text(2, 2, "0 0 1 0 0 1000 0\n", THREE),
     "many": instance_text(400, 1, DEPOT, MANY),
@@ -89,18 +92,19 @@ def four_hundred(version, customers, said):
     return "%d customers, version %d" % (customers, version), INSTANCES["many"], certificate, solution, [], said
 
 
-def pairs(name, bound, price, states, said):
-    """Two customers in one vehicle, with this price for each."""
-    certificate = certificate_text(1, 2, 8, bound, "P %d %d\n" % (price, price))
+def pairs(name, customers, bound, price, states, said):
+    """Customers in one vehicle, with this price for each."""
+    certificate = certificate_text(1, customers, 8, bound, "P" + customers * (" %d" % price) + "\n")
     return "%d pairs, %s" % (states, name), INSTANCES[name], certificate, "", ["--states", str(states)], said
 
 
-# Customers at the depot have no floors, since a step may take no time: four pairs of time and cost stand, after 1, 2,
-# 1 2 and 2 1. On the line each route has a reduced cost of 0 or more, which doesn't lower the bound, and the floors say
-# so of each customer's first pair: none is kept.
-PAIRS = [pairs("together", "20.0", 100000, 4, "BOUND 20.0"), pairs("together", "20.0", 100000, 1, "BOUND 20.0"),
-         pairs("still", "0.0", 0, 4, "BOUND 0.0"), pairs("still", "0.0", 0, 3, "vrptw: limit: StateLimit"),
-         pairs("still", "0.0", 0, 1, "vrptw: limit: StateLimit")]
+# On the line of two each route has a reduced cost of 0 or more, which doesn't lower the bound, and the floors say so of
+# each customer's first pair: none is kept. At the depot the first route leaves the bound at 0.0. On the line of three
+# with room for three the floors over load see that no customer comes again. With room for four they don't, and twelve
+# pairs stand: after 1, 2 and 3, after each two of them and after all, by the last one.
+PAIRS = [pairs("together", 2, "20.0", 100000, 4, "BOUND 20.0"), pairs("together", 2, "20.0", 100000, 1, "BOUND 20.0"),
+         pairs("still", 2, "0.0", 0, 1, "BOUND 0.0"), pairs("room", 3, "6.0", 100000, 1, "BOUND 6.0"),
+         pairs("wide", 3, "6.0", 100000, 12, "BOUND 6.0"), pairs("wide", 3, "6.0", 100000, 11, "vrptw: limit: StateLimit")]
 
 ROWS = ([texts_of(line) for line in TABLE.strip().split("\n")]
         + PAIRS

@@ -1,5 +1,5 @@
 -- The arcs that a leaf allows.
-use Rattle.std.proofs.Common.{◌≡◌, refl, ℕ, suc, ◌+◌, true, false, ◌||◌, ◌==◌, ◌<◌, List, [], ◌∷◌, ◌++◌, length, length-append, arith, ◌∙◌, ◌⊎◌, inl, inr}
+use Rattle.std.proofs.Common.{◌≡◌, refl, ℕ, suc, true, false, ◌||◌, ◌==◌, ◌<◌, List, [], ◌∷◌, ◌++◌, length, length-append, arith, ◌∙◌, ◌⊎◌, inl, inr}
 use Rattle.std.specs.Prelude.{ℤ}
 use Rattle.std.proofs.lemmas.Bool.{cases_lt, or_cases, or_left, or_right, eq-eqb, eqb-true}
 use Rattle.std.proofs.lemmas.List.Folds.{list_any-append}

@@ -29,8 +29,8 @@ IsRowIn l v r = IsArcRow (problem_of l) (region_in l) l.network.now.neighbours.k
 abbrev pub AreRowsIn : Leaf → List ArcRow → Type 0
 AreRowsIn l rows = AreArcRows (problem_of l) (region_in l) l.network.now.neighbours.k l.prices.now rows
 
-abbrev pub IsFloorIn : Leaf → ℕ → ℕ → Floor → Type 0
-IsFloorIn l v t f = IsFloor (problem_of l) (region_in l) l.network.now.neighbours.k l.prices.now v t f
+abbrev pub IsFloorIn : Leaf → ℕ → ℕ → ℕ → Floor → Type 0
+IsFloorIn l v t q f = IsFloor (problem_of l) (region_in l) l.network.now.neighbours.k l.prices.now v t q f
 
 -- each floor of the list holds
 abbrev pub AreFloorsIn : Leaf → List (Option Floor) → Type 0
@@ -39,12 +39,12 @@ AreFloorsIn l fs = All (IsKnown (problem_of l) (region_in l) l.network.now.neigh
 abbrev pub IsEndFloorIn : Leaf → ℕ → ℕ → ℤ → Type 0
 IsEndFloorIn l v t h = IsEndFloor (problem_of l) (region_in l) v t h
 
-abbrev pub IsStepFloorIn : Leaf → ℕ → ℕ → ℕ → ℤ → Type 0
-IsStepFloorIn l v t j h = IsStepFloor (problem_of l) (region_in l) l.network.now.neighbours.k l.prices.now v t j h
+abbrev pub IsStepFloorIn : Leaf → ℕ → ℕ → ℕ → ℕ → ℤ → Type 0
+IsStepFloorIn l v t q j h = IsStepFloor (problem_of l) (region_in l) l.network.now.neighbours.k l.prices.now v t q j h
 
 -- what f says, and what a step to j with what may follow on it adds
 abbrev pub IsJoinedIn : Leaf → Floor → ℕ → Floor → Type 0
-IsJoinedIn l f j out = (z : ℤ) × (IsStepFloorIn l f.row f.from j z × IsJoined f j z out)
+IsJoinedIn l f j out = (z : ℤ) × (IsStepFloorIn l f.row f.from f.loaded j z × IsJoined f j z out)
 
-abbrev pub AreStepFloorsIn : Leaf → ℕ → ℕ → List AllowedArc → ℕ → Floor → Type 0
-AreStepFloorsIn l v t arcs i f = AreStepFloors (problem_of l) (region_in l) l.network.now.neighbours.k l.prices.now v t arcs i f
+abbrev pub AreStepFloorsIn : Leaf → ℕ → ℕ → ℕ → List AllowedArc → ℕ → Floor → Type 0
+AreStepFloorsIn l v t q arcs i f = AreStepFloors (problem_of l) (region_in l) l.network.now.neighbours.k l.prices.now v t q arcs i f

@@ -1,29 +1,32 @@
 //! Floors: at most what anything that may follow adds (the completion bounds of Christofides, Mingozzi
-//! and Toth 1981, at the times of windows), by a table from the latest time back.
+//! and Toth 1981, at the times of windows or at loads), by a table from the latest time, or the greatest
+//! load, back.
 
 ghost use Rattle.std.specs.Prelude.{◌≡◌, ◌+◌, ◌*◌, ◌<◌, ◌≤◌, max, length, IfOk, IfSome, ◌≤ℤ◌};
-ghost use Rattle.solomon_reader.specs.declared.limits.TheConstants.{MOST_TIME};
+ghost use Rattle.solomon_reader.specs.declared.limits.TheConstants.{MOST_CAPACITY, MOST_TIME};
 ghost use Rattle.leaf_arcs.specs.Leaves.{problem_of, IsArcIn, IsRowIn, AreRowsIn, IsFloorIn, AreFloorsIn, IsEndFloorIn, IsStepFloorIn, IsJoinedIn};
 ghost use Rattle.leaf_arcs.specs.Floors.{IsAt, IsJoined};
 
 use crate::arcs::{AllowedArc, ArcRow};
 use crate::bits::NO_BIT;
 use crate::leaf::Leaf;
-use crate::slots::Start;
-use solomon_reader::MOST_TIME;
+use crate::slots::{Slots, Start};
+use solomon_reader::{MOST_CAPACITY, MOST_TIME};
 use std::alloc::{AllocError, Global};
 
 /// The floor where nothing may follow, in grains: above all reduced costs together.
 const NOTHING: i64 = 4_000_000_000_000_000_000;
 
-/// What may follow from a row at a time or later adds at least so much. Of what is remembered a floor sees
-/// only that a route doesn't come back to a customer at once.
+/// What may follow from a row at a time or later and a load or more adds at least so much. Of what is
+/// remembered a floor sees only that a route doesn't come back to a customer at once.
 #[derive(Clone, Copy, Debug)]
 pub struct Floor {
     /// The row.
     pub row: u16,
     /// When a vehicle leaves the row, in tenths.
-    pub from: u64,
+    pub from: u32,
+    /// What is loaded then.
+    pub loaded: u16,
     /// What is added at least, in grains.
     pub least: i64,
     /// The next customer of what adds the least; 0 for the way home.
@@ -32,66 +35,64 @@ pub struct Floor {
     pub other: i64,
 }
 
-/// The floor that holds of a row at a time, if one is known.
+/// The floor at a place, if one is known there that holds of a row at a time and a load.
 pub(crate) fn floor_at(
     leaf: &Leaf<'_, '_>,
     floors: &[Option<Floor>],
+    place: usize,
     v: u16,
     time: u64,
+    load: usize,
 ) -> Option<Floor>
     requires { AreFloorsIn leaf.now floors.now }
-    ensures { IfSome result (λ f. IsFloorIn leaf.now v time f) }
+    ensures { IfSome result (λ f. IsFloorIn leaf.now v time load f) }
 {
-    let place = leaf.network.slots.place(v, time);
     if place >= floors.len() {
         return None;
     }
     let found = floors[place]?;
-    if found.row != v || found.from > time {
+    if found.row != v || u64::from(found.from) > time || usize::from(found.loaded) > load {
         return None;
     }
     Some(found)
 }
 
-/// The floor of a row at a time or later, where only the way home follows.
-fn end_floor(leaf: &Leaf<'_, '_>, arcs: &ArcRow, row: u16, from: u64) -> Floor
-    requires row { row < length (problem_of leaf.now).rows }
-    requires arcs { IsRowIn leaf.now row arcs.now }
-    requires from { from ≤ 20 * MOST_TIME }
-    ensures place { IsAt row from result }
+/// The floor of a row from a start on, where only the way home follows.
+fn end_floor(leaf: &Leaf<'_, '_>, arcs: &ArcRow, start: &Start) -> Floor
+    requires row { start.now.row < length (problem_of leaf.now).rows }
+    requires arcs { IsRowIn leaf.now start.now.row arcs.now }
+    requires from { start.now.from ≤ 20 * MOST_TIME }
+    requires load { start.now.loaded ≤ MOST_CAPACITY }
+    ensures place { IsAt start.now.row start.now.from start.now.loaded result }
     ensures ordered { result.least ≤ℤ result.other }
-    ensures ends { IsEndFloorIn leaf.now row from result.other }
+    ensures ends { IsEndFloorIn leaf.now start.now.row start.now.from result.other }
 {
     let network = leaf.network;
     let mut least = NOTHING;
-    if arcs.ends && from + arcs.back <= network.neighbours.instance.due(0) {
+    if arcs.ends && start.from + arcs.back <= network.neighbours.instance.due(0) {
         let grains = 1000 * arcs.back;
         least = grains as i64;
     }
     Floor {
-        row,
-        from,
+        row: start.row,
+        from: start.from as u32,
+        loaded: start.loaded as u16,
         least,
         next: 0,
         other: least,
     }
 }
 
-/// What a step from a row at a time or later over an arc adds, with what may follow on it, where this floor
+/// What a step from where a floor is over an arc adds, with what may follow on it, where another floor
 /// holds then. A route goes back to the row at once only where the customer's neighbour list doesn't hold
 /// it.
-fn step_value(
-    leaf: &Leaf<'_, '_>,
-    arc: &AllowedArc,
-    after: &Floor,
-    row: u16,
-    from: u64,
-) -> Option<i64>
-    requires row { row < length (problem_of leaf.now).rows }
-    requires arc { IsArcIn leaf.now row arc.now }
-    requires after { IsFloorIn leaf.now arc.now.to (max (from + arc.now.travel) arc.now.ready + arc.now.service) after.now }
-    ensures { IfSome result (λ h. IsStepFloorIn leaf.now row from arc.now.to h) }
+fn step_value(leaf: &Leaf<'_, '_>, arc: &AllowedArc, after: &Floor, floor: &Floor) -> Option<i64>
+    requires row { floor.now.row < length (problem_of leaf.now).rows }
+    requires arc { IsArcIn leaf.now floor.now.row arc.now }
+    requires after { IsFloorIn leaf.now arc.now.to (max (floor.now.from + arc.now.travel) arc.now.ready + arc.now.service) (floor.now.loaded + arc.now.demand) after.now }
+    ensures { IfSome result (λ h. IsStepFloorIn leaf.now floor.now.row floor.now.from floor.now.loaded arc.now.to h) }
 {
+    let row = floor.row;
     if after.next == row && leaf.network.neighbours.bit(arc.to, row) < NO_BIT {
         let value = arc.value.checked_add(after.other)?;
         return Some(value);
@@ -102,13 +103,14 @@ fn step_value(
 
 /// A floor that says of a step to a customer, too, that it adds at least so much.
 fn joined(floor: Floor, to: u16, value: i64) -> Floor
-    ensures place { IsAt floor.row floor.from result }
+    ensures place { IsAt floor.row floor.from floor.loaded result }
     ensures joined { IsJoined floor to value result }
 {
     if value < floor.least {
         return Floor {
             row: floor.row,
             from: floor.from,
+            loaded: floor.loaded,
             least: value,
             next: to,
             other: floor.least,
@@ -120,6 +122,7 @@ fn joined(floor: Floor, to: u16, value: i64) -> Floor
     Floor {
         row: floor.row,
         from: floor.from,
+        loaded: floor.loaded,
         least: floor.least,
         next: floor.next,
         other: value,
@@ -129,6 +132,7 @@ fn joined(floor: Floor, to: u16, value: i64) -> Floor
 /// A floor that holds for a step over an arc, too.
 fn with_step(
     leaf: &Leaf<'_, '_>,
+    slots: &Slots,
     floors: &[Option<Floor>],
     arc: &AllowedArc,
     floor: Floor,
@@ -136,22 +140,31 @@ fn with_step(
     requires floors { AreFloorsIn leaf.now floors.now }
     requires row { floor.row < length (problem_of leaf.now).rows }
     requires from { floor.from ≤ 20 * MOST_TIME }
+    requires load { floor.loaded ≤ MOST_CAPACITY }
     requires arc { IsArcIn leaf.now floor.row arc.now }
-    ensures place { IfSome result (IsAt floor.row floor.from) }
+    ensures place { IfSome result (IsAt floor.row floor.from floor.loaded) }
     ensures joined { IfSome result (IsJoinedIn leaf.now floor arc.now.to) }
 {
-    let begins = (floor.from + arc.travel).max(arc.ready);
+    let begins = (u64::from(floor.from) + arc.travel).max(arc.ready);
     if begins > arc.due {
         return Some(floor);
     }
-    let after = floor_at(leaf, floors, arc.to, begins + arc.service)?;
-    let value = step_value(leaf, arc, &after, floor.row, floor.from)?;
+    let network = leaf.network;
+    let load = usize::from(floor.loaded) + usize::from(arc.demand);
+    if load > usize::from(network.neighbours.instance.capacity()) {
+        return Some(floor);
+    }
+    let time = begins + arc.service;
+    let place = slots.place(arc.to, time, load);
+    let after = floor_at(leaf, floors, place, arc.to, time, load)?;
+    let value = step_value(leaf, arc, &after, &floor)?;
     Some(joined(floor, arc.to, value))
 }
 
-/// The floor of a row at a time or later, where those of later slots are known.
+/// The floor of a row from a start on, where those of later slots are known.
 fn floor_from(
     leaf: &Leaf<'_, '_>,
+    slots: &Slots,
     floors: &[Option<Floor>],
     arcs: &ArcRow,
     start: &Start,
@@ -161,55 +174,63 @@ fn floor_from(
     requires arcs { IsRowIn leaf.now start.now.row arcs.now }
     requires begun { arcs.now.earliest ≤ start.now.from }
     requires from { start.now.from ≤ 20 * MOST_TIME }
-    ensures { IfSome result (λ f. IsFloorIn leaf.now f.row f.from f) }
+    requires load { start.now.loaded ≤ MOST_CAPACITY }
+    ensures { IfSome result (λ f. IsFloorIn leaf.now f.row f.from f.loaded f) }
 {
-    let mut floor = end_floor(leaf, arcs, start.row, start.from);
+    let mut floor = end_floor(leaf, arcs, start);
     for arc in arcs.arcs.as_slice() {
-        floor = with_step(leaf, floors, arc, floor)?;
+        floor = with_step(leaf, slots, floors, arc, floor)?;
     }
     Some(floor)
 }
 
 /// Puts in the floor of a slot.
-fn fill_at(leaf: &Leaf<'_, '_>, rows: &[ArcRow], floors: &mut [Option<Floor>], start: &Start)
+fn fill_at(
+    leaf: &Leaf<'_, '_>,
+    rows: &[ArcRow],
+    slots: &Slots,
+    floors: &mut [Option<Floor>],
+    start: &Start,
+)
     requires rows { AreRowsIn leaf.now rows.now }
     requires floors { AreFloorsIn leaf.now floors.old }
     ensures { AreFloorsIn leaf.now floors.new }
 {
     let row = usize::from(start.row);
-    let place = leaf.network.slots.place(start.row, start.from);
-    if row >= rows.len() || place >= floors.len() {
+    let place = slots.place(start.row, start.from, start.loaded);
+    if row >= rows.len() || place >= floors.len() || start.loaded > usize::from(MOST_CAPACITY) {
         return;
     }
     let arcs = &rows[row];
     if start.from < arcs.earliest || start.from > u64::from(20 * MOST_TIME) {
         return;
     }
-    let floor = floor_from(leaf, floors, arcs, start);
+    let floor = floor_from(leaf, slots, floors, arcs, start);
     floors[place] = floor;
 }
 
 /// Puts in the floors of all slots, those of the latest first.
-fn fill(leaf: &Leaf<'_, '_>, rows: &[ArcRow], floors: &mut [Option<Floor>])
+fn fill(leaf: &Leaf<'_, '_>, rows: &[ArcRow], slots: &Slots, floors: &mut [Option<Floor>])
     requires rows { AreRowsIn leaf.now rows.now }
     requires floors { AreFloorsIn leaf.now floors.old }
     ensures { AreFloorsIn leaf.now floors.new }
 {
-    for start in leaf.network.slots.starts() {
-        fill_at(leaf, rows, floors, start);
+    for start in slots.starts.as_slice() {
+        fill_at(leaf, rows, slots, floors, start);
     }
 }
 
-/// The floors of a leaf.
+/// The floors of a leaf for slots of time or load.
 pub(crate) fn floors_of(
     alloc: Global,
     leaf: &Leaf<'_, '_>,
     rows: &[ArcRow],
+    slots: &Slots,
 ) -> Result<Vec<Option<Floor>>, AllocError>
     requires { AreRowsIn leaf.now rows.now }
     ensures { IfOk result (λ floors. AreFloorsIn leaf.now floors.items) }
 {
-    let mut floors = vec![in alloc; None; leaf.network.slots.starts().len()]?;
-    fill(leaf, rows, floors.as_mut_slice());
+    let mut floors = vec![in alloc; None; slots.starts.len()]?;
+    fill(leaf, rows, slots, floors.as_mut_slice());
     Ok(floors)
 }

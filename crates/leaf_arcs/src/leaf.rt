@@ -14,7 +14,5 @@ pub struct Leaf<'a, 'i> {
     pub path: &'a [Decision],
     /// The price of customer i in grains, at i - 1.
     pub prices: &'a [i64],
-    /// The reduced cost in grains from which on relaxed routes don't count, if there is one.
-    pub limit: Option<i64>,
     ghost pricing: { IsPricing network.now.neighbours.instance.now prices.now },
 }

@@ -7,7 +7,7 @@ ghost use Rattle.leaf_arcs.specs.Arcs.{AreFreeArcs};
 use crate::arcs::AllowedArc;
 use crate::free_arcs::all_free_arcs;
 use crate::neighbours::Neighbours;
-use crate::slots::Slots;
+use crate::slots::{MANY_SLOTS, MOST_LOAD_SLOTS, MOST_SLOTS, Resource, Slots};
 use solomon_reader::Instance;
 use std::alloc::{AllocError, Global};
 
@@ -18,7 +18,10 @@ pub struct Network<'i> {
     pub neighbours: Neighbours<'i>,
     /// The arcs from each row where nothing is decided, at prices 0.
     pub(crate) arcs: Vec<Vec<AllowedArc>>,
-    pub(crate) slots: Slots,
+    pub(crate) time_slots: Slots,
+    pub(crate) load_slots: Slots,
+    /// Whether floors over load can be added.
+    pub has_load_slots: bool,
     ghost arcs_are: { AreFreeArcs neighbours.instance.now neighbours.k arcs.items },
 }
 
@@ -36,10 +39,18 @@ impl<'i> Network<'i> {
     {
         let neighbours = Neighbours::new(alloc, instance, k)?;
         let arcs = all_free_arcs(alloc, &neighbours)?;
+        let time_slots = Slots::new(alloc, instance, Resource::Time, leaves, MOST_SLOTS)?;
+        let mut most = MOST_LOAD_SLOTS;
+        if !time_slots.starts.is_empty() {
+            most = MANY_SLOTS.saturating_mul(u64::from(instance.customer_count()));
+        }
+        let load_slots = Slots::new(alloc, instance, Resource::Load, leaves, most)?;
         Ok(Network {
             neighbours,
             arcs,
-            slots: Slots::new(alloc, instance, leaves)?,
+            time_slots,
+            has_load_slots: !load_slots.starts.is_empty(),
+            load_slots,
         })
     }
 }

@@ -14,27 +14,66 @@ use std::alloc::{AllocError, Global};
 pub struct Task<'a, 'i> {
     /// The leaf.
     pub leaf: Leaf<'a, 'i>,
+    /// The reduced cost in grains from which on relaxed routes don't count, if there is one.
+    pub limit: Option<i64>,
     /// Where a route may go from each row.
     pub rows: Vec<ArcRow>,
-    floors: Vec<Option<Floor>>,
+    time_floors: Vec<Option<Floor>>,
+    /// None until they are added.
+    load_floors: Vec<Option<Floor>>,
     ghost rows_are: { AreRowsIn leaf rows.items },
-    ghost floors_are: { AreFloorsIn leaf floors.items },
+    ghost by_time: { AreFloorsIn leaf time_floors.items },
+    ghost by_load: { AreFloorsIn leaf load_floors.items },
 }
 
 impl<'a, 'i> Task<'a, 'i> {
-    /// The task of a leaf.
+    /// The task of a leaf, with floors over time, and no limit.
     pub fn new(alloc: Global, leaf: Leaf<'a, 'i>) -> Result<Task<'a, 'i>, AllocError>
         ensures { IfOk result (λ t. t.leaf ≡ leaf.entry) }
     {
         let rows = arc_rows(alloc, &leaf)?;
-        let floors = floors_of(alloc, &leaf, rows.as_slice())?;
-        Ok(Task { leaf, rows, floors })
+        let network = leaf.network;
+        let time_floors = floors_of(alloc, &leaf, rows.as_slice(), &network.time_slots)?;
+        Ok(Task {
+            leaf,
+            limit: None,
+            rows,
+            time_floors,
+            load_floors: Vec::new(alloc),
+        })
     }
 
-    /// The floor that holds of a row at a time, if one is known.
-    pub fn floor_at(&self, row: u16, time: u64) -> Option<Floor>
-        ensures { IfSome result (λ f. IsFloorIn self.now.leaf row time f) }
+    /// Adds floors over load.
+    pub fn add_load_floors(&mut self, alloc: Global) -> Result<(), AllocError>
+        ensures leaf { self.new.leaf ≡ self.old.leaf }
+        ensures limit { self.new.limit ≡ self.old.limit }
     {
-        floor_at(&self.leaf, self.floors.as_slice(), row, time)
+        let network = self.leaf.network;
+        let rows = self.rows.as_slice();
+        self.load_floors = floors_of(alloc, &self.leaf, rows, &network.load_slots)?;
+        Ok(())
+    }
+
+    /// The floor over time that holds of a row at a time and a load, if one is known.
+    pub fn floor_at(&self, row: u16, time: u64, load: usize) -> Option<Floor>
+        ensures { IfSome result (λ f. IsFloorIn self.now.leaf row time load f) }
+    {
+        let network = self.leaf.network;
+        let place = network.time_slots.place(row, time, load);
+        let floors = self.time_floors.as_slice();
+        floor_at(&self.leaf, floors, place, row, time, load)
+    }
+
+    /// The floor over load that holds of a row at a time and a load, if one is known.
+    pub fn load_floor_at(&self, row: u16, time: u64, load: usize) -> Option<Floor>
+        ensures { IfSome result (λ f. IsFloorIn self.now.leaf row time load f) }
+    {
+        if self.load_floors.is_empty() {
+            return None;
+        }
+        let network = self.leaf.network;
+        let place = network.load_slots.place(row, time, load);
+        let floors = self.load_floors.as_slice();
+        floor_at(&self.leaf, floors, place, row, time, load)
     }
 }

@@ -1,6 +1,6 @@
 -- There is a least reduced cost, or no relaxed route: it could be found by trying all.
-use Rattle.std.proofs.Common.{◌≡◌, refl, ℕ, zero, suc, ◌+◌, ◌<◌, ◌≤◌, Bool, true, List, [], ◌∷◌, length, arith, ap, ◌∙◌, ◌⊎◌, inl, inr, Option, Some, None}
-use Rattle.std.specs.Prelude.{ℤ, pos, ◌≤ℤ◌}
+use Rattle.std.proofs.Common.{◌≡◌, refl, ℕ, zero, suc, ◌+◌, ◌<◌, ◌≤◌, List, [], ◌∷◌, length, arith, ap, ◌∙◌, ◌⊎◌, inl, inr, Option, Some, None}
+use Rattle.std.specs.Prelude.{ℤ, ◌≤ℤ◌}
 use Rattle.std.proofs.lemmas.Int.{ints, by_lt_z}
 use Rattle.std.proofs.lemmas.Bool.{cases_lt, cases_Bool, both_ways}
 use Rattle.solomon_reader.specs.Problem.{Problem, IsCustomer, demand, due}
@@ -9,7 +9,7 @@ use Rattle.solomon_reader.specs.Region.{Region, IsAllowed}
 use Rattle.solomon_reader.specs.Relaxed.{IsRelaxed, IsLeastOrZero, reduced_cost}
 use Rattle.solomon_reader.specs.States.{State, start, step, begins, CanStep, CanEnd, Completes, value_with}
 use Rattle.solomon_reader.proofs.Completions.{completes_relaxed, relaxed_completes, value_is}
-use Rattle.tree_bound.specs.Cover.{IsAtMost, IsLeastBelow, IsSought, or_zero}
+use Rattle.tree_bound.specs.Cover.{IsAtMost, IsLeastBelow, or_zero}
 
 -- exactly one of the two is known
 abbrev pub Decides : Type 0 → Type 0
@@ -124,7 +124,7 @@ module _ (p : Problem) (g : Region) (k : ℕ) (prices : List ℤ) where
     least_from zero a last enough = whole a last (λ j can. absurd (omega (arith, can.load, enough)))
     least_from (suc fuel) a last enough = whole a last (λ j can. least_from fuel (step p k prices a j) (omega (arith, can.customer.1, can.customer.0)) (omega (arith, enough, carried j can.customer)))
 
-    least_exists : 1 ≤ length p.rows → (b : Option ℤ) × IsLeastBelow p g k prices None b
+    pub least_exists : 1 ≤ length p.rows → (b : Option ℤ) × IsLeastBelow p g k prices None b
     least_exists some =
         let all = least_from (p.capacity + 1) (start p) (omega (arith, some)) (omega arith) in
         (all.0, record { low = λ r relaxed. rw (← value_is p g k prices r) (all.1.low r tt (completes_relaxed p g k prices r relaxed)); found = found all.0 all.1.found })
@@ -135,7 +135,7 @@ module _ (p : Problem) (g : Region) (k : ℕ) (prices : List ℤ) where
         found b (inr one) = inr (one.0, (relaxed_completes p g k prices one.0 one.1.0, one.1.1 ∙ ap (λ (z : ℤ). Some z) (value_is p g k prices one.0)))
 
   -- what isn't the limit is exact
-  exact : (limit b : Option ℤ) → IsLeastBelow p g k prices limit b → (b ≡ limit → limit ≡ None) → IsLeastOrZero p g k prices (or_zero b)
+  pub exact : (limit b : Option ℤ) → IsLeastBelow p g k prices limit b → (b ≡ limit → limit ≡ None) → IsLeastOrZero p g k prices (or_zero b)
   exact limit None below apart = inr (below.low, refl)
   exact limit (Some z) below apart = elim below.found [
     | inl same ↦ absurd (let e = apart same in cc)
@@ -144,23 +144,3 @@ module _ (p : Problem) (g : Region) (k : ℕ) (prices : List ℤ) where
     where
       value : (r : List ℕ) → Some z ≡ Some (reduced_cost p prices r) → reduced_cost p prices r ≡ z
       value r e = cc
-
-  pub sought_some : (limit within b : Option ℤ) (routeless : Bool) → IsLeastBelow p g k prices within b → (b ≡ within → within ≡ None) → IsSought p g k prices limit routeless (Some (or_zero b))
-  sought_some limit within b routeless below apart = record { least = or_zero b; is_least = exact within b below apart; some = λ z e. cc; none = λ e. absurd (cc) }
-
-  pub sought_none : ((i j : ℕ) → i < length p.rows → j < length p.rows → Decides (IsAllowed g (i, j))) → (limit : Option ℤ) (routeless : Bool) (t : ℤ) → limit ≡ Some t → IsLeastBelow p g k prices limit (Some t) → (routeless ≡ true) ⊎ ((r : List ℕ) × IsRelaxed p g k r)
-      → ((i : ℕ) → IsCustomer p i → 1 ≤ demand p i) → 1 ≤ length p.rows → IsSought p g k prices limit routeless None
-  sought_none decide limit routeless t is below why carried some =
-      let found = least_exists decide carried some in
-      record { least = or_zero found.0; is_least = exact None found.0 found.1 (λ e. refl); some = λ z e. absurd (cc); none = λ e. (t, (is, high found.0 found.1 why)) }
-    where
-      at : (z : ℤ) (r : List ℕ) → IsRelaxed p g k r → Some z ≡ Some (reduced_cost p prices r) → t ≤ℤ z
-      at z r relaxed e = let same : z ≡ reduced_cost p prices r = cc in rw same (below.low r relaxed)
-
-      high : (b : Option ℤ) → IsLeastBelow p g k prices None b → (routeless ≡ true) ⊎ ((r : List ℕ) × IsRelaxed p g k r) → (t ≤ℤ or_zero b) ⊎ ((routeless ≡ true) × (or_zero b ≡ pos 0))
-      high None least (inl routeless_is) = inr (routeless_is, refl)
-      high None least (inr one) = absurd (least.low one.0 one.1)
-      high (Some z) least why = elim least.found [
-        | inl routeless ↦ absurd (cc)
-        | inr one ↦ inl (at z one.0 one.1.0 one.1.1)
-      ]

@@ -4,7 +4,7 @@ use Rattle.std.specs.Prelude.{ℤ}
 use Rattle.std.proofs.lemmas.Bool.{cases_lt, cases_eq}
 use Rattle.solomon_reader.specs.Problem.{Problem, IsCustomer}
 use Rattle.solomon_reader.specs.Region.{Region, IsAllowed}
-use Rattle.solomon_reader.specs.States.{State, step, CanStep, IsAsGood, Reaches}
+use Rattle.solomon_reader.specs.States.{State, step, CanStep, IsAsGood}
 use Rattle.solomon_reader.proofs.Completions.{reaches_more}
 use Rattle.leaf_arcs.specs.declared.arcs.AllowedArc.{AllowedArc}
 use Rattle.tree_bound.specs.declared.label.Label.{Label}
@@ -51,6 +51,13 @@ module _ (p : Problem) (g : Region) (k : ℕ) (prices : List ℤ) (b : Option �
   pub step_dear : (bs : List (List Label)) (q : ℕ) (x : Label) (j : ℕ) → IsTable p g k prices bs (q + 1) → IsDear p g k prices b (step p k prices (state_of p k q x) j) → TakesStep p g k prices b bs bs q x j
   step_dear bs q x j table dear = record { moved = moved_none p k bs (q + 1); table = table; met = λ can. inr dear }
 
+  -- the label after a step is one
+  pub label_extended : (q : ℕ) (x : Label) (load j : ℕ) (y : Label) → IsLabel p g k prices q x → IsCustomer p j → IsAllowed g (x.customer, j) → CanExtend p k q x j → IsExtension p k prices q x load j y → IsLabel p g k prices load y
+  label_extended q x load j y pair customer allowed can extension = record {
+    bounded = extension.bounded;
+    reached = (pair.reached.0 ++ (j ∷ []), reaches_same p g k prices _ _ _ extension.same (reaches_more p g k prices pair.reached.0 (state_of p k q x) j pair.reached.1 (can_step q x j customer allowed can)));
+  }
+
   -- y was kept at its load
   module _ (bs cs : List (List Label)) (q : ℕ) (x : Label) (load j : ℕ) (y : Label) (later : q + 1 ≤ load) (added : IsAdded bs cs load y) where
     moved_added : IsMoved p k bs cs (q + 1)
@@ -91,12 +98,9 @@ module _ (p : Problem) (g : Region) (k : ℕ) (prices : List ℤ) (b : Option �
         → TakesStep p g k prices b bs cs q x j
     step_yes table pair customer allowed can extension = record {
       moved = moved_added;
-      table = table_added table (record { bounded = extension.bounded; reached = (pair.reached.0 ++ (j ∷ []), reaches_same p g k prices _ _ _ extension.same reached) });
+      table = table_added table (label_extended q x load j y pair customer allowed can extension);
       met = λ _. inl (let met = dominated_met p k cs (q + 1) load y later added.here.new in (met.0, (met.1.0, good_through _ _ _ met.1.1 (good_same _ _ extension.same))));
     }
-      where
-        reached : Reaches p g k prices (pair.reached.0 ++ (j ∷ [])) (step p k prices (state_of p k q x) j)
-        reached = reaches_more p g k prices pair.reached.0 (state_of p k q x) j pair.reached.1 (can_step q x j customer allowed can)
 
   pub steps_none : (bs : List (List Label)) (q : ℕ) (x : Label) (hs : List AllowedArc) → IsTable p g k prices bs (q + 1) → TakesSteps p g k prices b bs bs q x hs 0
   steps_none bs q x hs table = record { moved = moved_none p k bs (q + 1); table = table; met = λ m w can. absurd (omega (arith, w)) }

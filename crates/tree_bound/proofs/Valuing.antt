@@ -1,5 +1,5 @@
 -- The value of a leaf from its parts.
-use Rattle.std.proofs.Common.{◌≡◌, refl, ℕ, zero, suc, ◌+◌, ◌*◌, ◌/◌, ◌≤◌, min, Bool, true, List, [], ◌∷◌, length, get_or, subst, arith, ap, sym, ◌∙◌, ◌⊎◌, inl, inr, Option, Some, None}
+use Rattle.std.proofs.Common.{◌≡◌, refl, ℕ, zero, suc, ◌+◌, ◌*◌, ◌/◌, ◌≤◌, min, List, [], ◌∷◌, length, get_or, subst, arith, ap, sym, ◌∙◌, ◌⊎◌, inl, inr, Option, Some, None}
 use Rattle.std.specs.Prelude.{ℤ, pos, negsuc, ◌+ℤ◌, ◌-ℤ◌, ◌*ℤ◌, ◌≤ℤ◌, ◌<ℤ◌, neg_ℤ, nat_abs, IfSome}
 use Rattle.std.specs.List.{AllByRecursion}
 use Rattle.std.specs.Int.{int_min, int_max}
@@ -9,10 +9,11 @@ use Rattle.std.proofs.lemmas.Int.{ints, clamps}
 use Rattle.solomon_reader.specs.CertificateText.{IsPrice}
 use Rattle.solomon_reader.specs.Problem.{Problem, customer_count}
 use Rattle.solomon_reader.specs.Region.{Region}
-use Rattle.solomon_reader.specs.Relaxed.{int_sum}
+use Rattle.solomon_reader.specs.Relaxed.{IsRelaxed, int_sum, reduced_cost}
 use Rattle.solomon_reader.specs.Bound.{Version, grains_of, routes_counted, IsRoundedUp}
-use Rattle.tree_bound.specs.Cover.{IsSought}
-use Rattle.tree_bound.specs.Grains.{up, down, IsWorth, IsLesserValue}
+use Rattle.tree_bound.specs.Cover.{IsAtMost, IsRouteCost, IsLeastBelow, or_zero}
+use Rattle.tree_bound.specs.Grains.{up, down, IsWorth, IsLowered, IsLesserValue}
+use Rattle.tree_bound.proofs.Existing.{exact}
 
 pub price_small : (prices : List ℤ) (k : ℕ) → AllByRecursion IsPrice prices → nat_abs (get_or prices k (pos 0)) ≤ 1000000000000
 price_small [] k all = omega arith
@@ -116,32 +117,90 @@ module _ (version : Version) (p : Problem) (prices : List ℤ) where
       same : grains_of version p prices (pos n) ≡ grains_of version p prices (pos 0)
       same = sym (at (pos n)) ∙ (omega (arith, ints, lost n, lost 0) ∙ at (pos 0))
 
-  -- the lesser of a number and a leaf's value, by what was found of the least reduced cost
-  module _ (g : Region) (k : ℕ) (most kept routeless : ℕ) (limit : Option ℤ) (flag : Bool) (found : Option ℤ) (count : length prices ≡ customer_count p)
-      (routeless_is : IsRoundedUp (grains_of version p prices (pos 0)) routeless) (kept_is : ((routes_counted version p ≡ 0) × (kept ≡ min most routeless)) ⊎ (kept ≡ most))
-      (sought : IsSought p g k prices limit flag found) where
-    same_lesser : (v : ℕ) → IsRoundedUp (grains_of version p prices sought.least) v → min kept v ≡ min most v
-    same_lesser v is = elim kept_is [
-      | inl h ↦ omega (arith, h.1, routeless_most sought.least v routeless h.0 is routeless_is)
-      | inr h ↦ omega (arith, h)
+  -- what was found of a leaf's least reduced cost
+  module _ (g : Region) (k : ℕ) (b : Option ℤ) (least : IsLeastBelow p g k prices None b) where
+    never_some : (z : ℤ) → b ≡ None → ¬ IsRouteCost p g k prices z
+    never_some z none h = (let low = least.low h.0 h.1.0 in rw none at low)
+
+    at_cost : (z : ℤ) → IsRouteCost p g k prices z → or_zero b ≤ℤ z
+    at_cost z h = by b (least.low h.0 h.1.0)
+      where
+        by : (c : Option ℤ) → IsAtMost c (reduced_cost p prices h.0) → or_zero c ≤ℤ z
+        by None low = absurd low
+        by (Some m) low = omega (arith, ints, low, h.1.1)
+
+    -- it is 0 without routes, or the cost of one
+    is_cost : (b ≡ None) ⊎ IsRouteCost p g k prices (or_zero b)
+    is_cost = elim least.found [
+      | inl none ↦ inl none
+      | inr one ↦ inr (one.0, (one.1.0, ap or_zero one.1.1))
     ]
 
-    pub lesser_some : (z : ℤ) (v : ℕ) → found ≡ Some z → IsRoundedUp (grains_of version p prices z) v → IsLesserValue version p g k prices most (min kept v)
-    lesser_some z v e is =
-        let here : IsRoundedUp (grains_of version p prices sought.least) v = subst (λ (y : ℤ). IsRoundedUp (grains_of version p prices y) v) (sym (sought.some z e)) is in
-        record { value = v; is_value = record { priced = count; least = sought.least; is_least = sought.is_least; rounded = here }; lesser = same_lesser v here }
+    -- no leaf is worth more than at the cost of a known route
+    known_high : (known : Option ℤ) (v w : ℕ) → IfSome known (IsRouteCost p g k prices) → (known ≡ None → routes_counted version p ≡ 0)
+        → IsRoundedUp (grains_of version p prices (or_zero b)) v → IsRoundedUp (grains_of version p prices (or_zero known)) w → v ≤ w
+    known_high None v w known why is at = routeless_most (or_zero b) v w (why refl) is at
+    known_high (Some z) v w known why is at = value_grows (or_zero b) z v w (at_cost z known) is at
 
-    pub lesser_none : found ≡ None → IfSome limit (λ t. IsWorth version p prices t kept) → (flag ≡ true → kept ≤ routeless) → IsLesserValue version p g k prices most kept
-    lesser_none e worth harmless =
-        let v = rounded (grains_of version p prices sought.least) in
-        record {
-          value = v.0;
-          is_value = record { priced = count; least = sought.least; is_least = sought.is_least; rounded = v.1 };
-          lesser = omega (arith, same_lesser v.0 v.1, high v.0 v.1);
-        }
+    lowered_same : (known : Option ℤ) (most kept v : ℕ) → IfSome known (IsRouteCost p g k prices) → (kept ≡ most) ⊎ IsLowered version p prices known most kept
+        → IsRoundedUp (grains_of version p prices (or_zero b)) v → min kept v ≡ min most v
+    lowered_same known most kept v route (inl same) is = omega (arith, same)
+    lowered_same known most kept v route (inr low) is = omega (arith, low.lesser, known_high known v low.value route low.why is low.rounded)
+
+    -- where it is as low as a limit, the leaf is worth the number or more
+    limit_high : (t : ℤ) (known : Option ℤ) (kept v : ℕ) → ((r : List ℕ) → IsRelaxed p g k r → t ≤ℤ reduced_cost p prices r) → IfSome known (IsRouteCost p g k prices) → IsWorth version p prices t kept
+        → (known ≡ None → IsWorth version p prices (pos 0) kept) → IsRoundedUp (grains_of version p prices (or_zero b)) v → kept ≤ v
+    limit_high t known kept v low route worth routeless is = elim is_cost [
+      | inr h ↦ omega (arith, worth.high, value_grows t (or_zero b) worth.value v (omega (arith, ints, low h.0 h.1.0, h.1.1)) worth.rounded is)
+      | inl none ↦ without known none route routeless
+    ]
       where
-        high : (v : ℕ) → IsRoundedUp (grains_of version p prices sought.least) v → kept ≤ v
-        high v is = let h = sought.none e in elim h.1.1 [
-          | inl above ↦ (let e = h.1.0 in let w = rw e at worth in omega (arith, w.high, value_grows h.0 sought.least w.value v above w.rounded is))
-          | inr routeless_too ↦ omega (arith, harmless routeless_too.0, same_value (pos 0) v routeless (subst (λ (y : ℤ). IsRoundedUp (grains_of version p prices y) v) routeless_too.1 is) routeless_is)
+        without : (c : Option ℤ) → b ≡ None → IfSome c (IsRouteCost p g k prices) → (c ≡ None → IsWorth version p prices (pos 0) kept) → kept ≤ v
+        without (Some z) none route routeless = absurd (never_some z none route)
+        without None none route routeless = (let w = routeless refl in let at = rw none at is in omega (arith, w.high, same_value (pos 0) w.value v w.rounded at))
+
+    -- what was found is the least, or the limit
+    found_same : (limit found known : Option ℤ) (kept v w : ℕ) → IsLeastBelow p g k prices limit found → IfSome known (IsRouteCost p g k prices) → IfSome limit (λ t. IsWorth version p prices t kept)
+        → IfSome limit (λ t. known ≡ None → IsWorth version p prices (pos 0) kept)
+        → IsRoundedUp (grains_of version p prices (or_zero b)) v → IsRoundedUp (grains_of version p prices (or_zero found)) w → min kept w ≡ min kept v
+    found_same limit found known kept v w below route worth routeless is at = elim below.found [
+      | inr one ↦ at_route one.0 one.1.0 one.1.1
+      | inl same ↦ by limit same worth routeless
+    ]
+      where
+        equal : or_zero found ≡ or_zero b → min kept w ≡ min kept v
+        equal e = (let there = rw e at at in omega (arith, same_value (or_zero b) w v there is))
+
+        at_most : (c : Option ℤ) (y z : ℤ) → c ≡ Some y → IsAtMost c z → y ≤ℤ z
+        at_most c y z e low = rw e at low
+
+        at_route : (r : List ℕ) → IsRelaxed p g k r → found ≡ Some (reduced_cost p prices r) → min kept w ≡ min kept v
+        at_route r relaxed e = elim is_cost [
+          | inl none ↦ absurd (never_some (reduced_cost p prices r) none (r, (relaxed, refl)))
+          | inr h ↦ equal (omega (arith, ints, ap or_zero e, at_cost (reduced_cost p prices r) (r, (relaxed, refl)), at_most found (reduced_cost p prices r) _ e (below.low h.0 h.1.0), h.1.1))
         ]
+
+        by : (limit : Option ℤ) → found ≡ limit → IfSome limit (λ t. IsWorth version p prices t kept) → IfSome limit (λ t. known ≡ None → IsWorth version p prices (pos 0) kept) → min kept w ≡ min kept v
+        by None same worth routeless = elim is_cost [
+          | inl none ↦ equal (ap or_zero same ∙ sym (ap or_zero none))
+          | inr h ↦ absurd (let low = below.low h.0 h.1.0 in rw same at low)
+        ]
+        by (Some t) same worth routeless =
+            let high = limit_high t known kept v (λ r relaxed. at_most found t _ same (below.low r relaxed)) route worth routeless is in
+            let there = rw same at at in
+            omega (arith, high, worth.high, same_value t worth.value w worth.rounded there)
+
+    module _ (most kept : ℕ) (known : Option ℤ) (count : length prices ≡ customer_count p) (route : IfSome known (IsRouteCost p g k prices)) (low : (kept ≡ most) ⊎ IsLowered version p prices known most kept) where
+      pub is_lesser : (x : ℕ) → ((v : ℕ) → IsRoundedUp (grains_of version p prices (or_zero b)) v → x ≡ min kept v) → IsLesserValue version p g k prices most x
+      is_lesser x is = (let v = rounded (grains_of version p prices (or_zero b)) in record {
+        value = v.0;
+        is_value = record { priced = count; least = or_zero b; is_least = exact p g k prices None b least (λ e. refl); rounded = v.1 };
+        lesser = is v.0 v.1 ∙ lowered_same known most kept v.0 route low v.1;
+      })
+
+      pub lesser_found : (limit found : Option ℤ) (w : ℕ) → IsLeastBelow p g k prices limit found → IfSome limit (λ t. IsWorth version p prices t kept) → IfSome limit (λ t. known ≡ None → IsWorth version p prices (pos 0) kept)
+          → IsRoundedUp (grains_of version p prices (or_zero found)) w → IsLesserValue version p g k prices most (min kept w)
+      lesser_found limit found w below worth routeless at = is_lesser (min kept w) (λ v is. found_same limit found known kept v w below route worth routeless is at)
+
+      pub lesser_none : kept ≡ 0 → IsLesserValue version p g k prices most 0
+      lesser_none none = is_lesser 0 (λ v is. omega (arith, none))

@@ -1,33 +1,31 @@
 -- Loads are worked, the lowest first.
 use Rattle.std.proofs.Common.{◌≡◌, refl, ℕ, ◌+◌, ◌*◌, ◌<◌, ◌≤◌, true, false, List, [], ◌++◌, length, subst, arith, ap, sym, ◌∙◌, ◌⊎◌, inl, inr, Option, Some, None, replicate, ◌∷◌}
-use Rattle.std.specs.Prelude.{ℤ, pos, slice_index_or}
+use Rattle.std.specs.Prelude.{ℤ, pos, slice_index_or, IfSome}
 use Rattle.std.specs.List.{AllByRecursion}
-use Rattle.std.specs.Option.{is_some}
 use Rattle.std.proofs.Math.ListN.{set, length-set}
 use Rattle.std.proofs.lemmas.Int.{ints}
 use Rattle.std.proofs.lemmas.Bool.{cases_lt, cases_eq}
 use Rattle.std.proofs.lemmas.List.{get_or_past, get_or-set_other, get_or-replicate, length-replicate}
 use Rattle.std.proofs.lemmas.List.Elements.{All-from_recursion, All-weaker}
 use Rattle.solomon_reader.specs.declared.row.Row.{Row}
-use Rattle.solomon_reader.specs.Problem.{Problem, IsCustomer, customer_count, ready, service}
+use Rattle.solomon_reader.specs.Problem.{Problem, customer_count, ready, service}
 use Rattle.solomon_reader.specs.Layout.{IsWithinLimits, AreRows}
-use Rattle.solomon_reader.specs.Region.{Region, IsAllowed}
-use Rattle.solomon_reader.specs.Relaxed.{IsRelaxed}
+use Rattle.solomon_reader.specs.Region.{Region}
 use Rattle.solomon_reader.specs.States.{State, start, step, CanStep, CanEnd, IsAsGood, IsSameState}
 use Rattle.solomon_reader.specs.CertificateText.{IsPrice}
 use Rattle.solomon_reader.proofs.BoundedRows.{customer_row}
-use Rattle.solomon_reader.proofs.Completions.{reaches_none, relaxed_completes}
+use Rattle.solomon_reader.proofs.Completions.{reaches_none, relaxed_completes, value_is}
 use Rattle.leaf_arcs.specs.declared.arcs.AllowedArc.{AllowedArc}
 use Rattle.tree_bound.specs.declared.label.Label.{Label}
-use Rattle.tree_bound.specs.Cover.{IsAtMost, IsFound, IsDear, IsLeastBelow}
+use Rattle.tree_bound.specs.Cover.{IsAtMost, IsFound, IsDear, IsRouteCost, IsLeastBelow}
 use Rattle.leaf_arcs.specs.Memories.{bit_in}
 use Rattle.tree_bound.specs.Labels.{label_in, labels_at, state_of, IsBounded, IsLabel, IsTable, AreLabels, IsDominated, IsKept, Waits, IsMet}
 use Rattle.leaf_arcs.specs.Arcs.{IsPriced, IsPricing, AreAllowedArcs, IsInTime, arc_in}
-use Rattle.tree_bound.specs.Steps.{CanExtend, IsExtension, IsCared, TakesSteps, ClosesRoute, IsDone, IsSettled, AreSettled, Remains, IsPassed, IsWorked, IsSwept, route_value}
-use Rattle.solomon_reader.proofs.Goodness.{good_itself, good_same, good_back, reaches_same, completes_too, value_no_greater}
+use Rattle.tree_bound.specs.Steps.{IsCared, TakesSteps, ClosesRoute, IsDone, IsSettled, AreSettled, Remains, IsPassed, IsWorked, IsSwept, route_value}
+use Rattle.solomon_reader.proofs.Goodness.{good_itself, good_same, reaches_same, completes_too, value_no_greater}
 use Rattle.tree_bound.proofs.Buckets.{first_kept}
 use Rattle.tree_bound.proofs.Covering.{covers_moved, covers_itself, covers_worked, covers_passed, covers_dear, least_at_end}
-use Rattle.tree_bound.proofs.Stepping.{dominating_good, can_step}
+use Rattle.tree_bound.proofs.Stepping.{dominating_good}
 use Rattle.leaf_arcs.proofs.Leading.{leads_index}
 use Rattle.leaf_arcs.proofs.Remembered.{has_nothing}
 
@@ -68,6 +66,21 @@ module _ (p : Problem) (g : Region) (k : ℕ) (prices : List ℤ) where
 
   pub start_label : (x : Label) → IsSameState (state_of p k 0 x) (start p) → IsBounded p 0 x → IsLabel p g k prices 0 x
   start_label x same bounded = record { bounded = bounded; reached = ([], reaches_same p g k prices [] _ _ same (reaches_none p g k prices)) }
+
+  -- what is found once the route that ends at a label was counted
+  pub found_closed : (limit : Option ℤ) (q : ℕ) (x : Label) (b c : Option ℤ) → IsLabel p g k prices q x → IsFound p g k prices limit b
+      → (c ≡ b) ⊎ (CanEnd p g (state_of p k q x) × (c ≡ Some (route_value p x))) → IsFound p g k prices limit c
+  found_closed limit q x b c pair found (inl same) = rw same found
+  found_closed limit q x b c pair found (inr h) = inr (pair.reached.0 ++ [], (pair.reached.1.completes [] h.0, h.1 ∙ ap (λ (z : ℤ). Some z) (sym (pair.reached.1.value []))))
+
+  -- what is found without a limit is the reduced cost of a relaxed route
+  pub found_cost : (b : Option ℤ) → IsFound p g k prices None b → IfSome b (IsRouteCost p g k prices)
+  found_cost None found = tt
+  found_cost (Some z) (inl none) = absurd (cc)
+  found_cost (Some z) (inr h) = (h.0, (relaxed_completes p g k prices h.0 h.1.0, some_same _ _ h.1.1 ∙ value_is p g k prices h.0))
+    where
+      some_same : (x y : ℤ) → Some x ≡ Some y → x ≡ y
+      some_same x y e = cc
 
 module _ (p : Problem) (g : Region) (k : ℕ) (prices : List ℤ) (limit : Option ℤ) where
   module _ (bs : List (List Label)) (ds : List Label) (q : ℕ) (xs : List Label) (i : ℕ) (b : Option ℤ) (so_far : IsWorked p g k prices limit bs ds q xs i b) where
@@ -153,7 +166,7 @@ module _ (p : Problem) (g : Region) (k : ℕ) (prices : List ℤ) (limit : Optio
       table = done.table;
       covers = covers_worked p g k prices b c (Remains p k bs q xs i) (Remains p k cs q xs (i + 1)) x done.closes.lower done.closes.counted spread (remains_behind cs done.moved) _ 1 so_far.covers;
       settled = settled;
-      found = found done.closes.from;
+      found = found_closed p g k prices limit q (label_in xs i) b c pair so_far.found done.closes.from;
     }
       where
         x : State
@@ -184,10 +197,6 @@ module _ (p : Problem) (g : Region) (k : ℕ) (prices : List ℤ) (limit : Optio
           | inl new ↦ rw new here
           | inr old ↦ rw old.1 (before m old.0 (rw (← old.1) active))
         ]
-
-        found : (c ≡ b) ⊎ (CanEnd p g x × (c ≡ Some (route_value p (label_in xs i)))) → IsFound p g k prices limit c
-        found (inl same) = rw same so_far.found
-        found (inr h) = inr (pair.reached.0 ++ [], (pair.reached.1.completes [] h.0, h.1 ∙ ap (λ (z : ℤ). Some z) (sym (pair.reached.1.value []))))
 
   -- the labels of a load were taken out
   module _ (bs : List (List Label)) (ds : List Label) (q : ℕ) (b : Option ℤ) (swept : IsSwept p g k prices limit bs ds q b) where
@@ -257,17 +266,6 @@ module _ (p : Problem) (g : Region) (k : ℕ) (prices : List ℤ) (limit : Optio
       where
         forget : IsSwept p g k prices limit cs (x ∷ []) 1 c → IsSwept p g k prices limit cs [] 1 c
         forget h = record { table = h.table; covers = h.covers; settled = λ m w stands. absurd (omega (arith, w)); found = h.found }
-
--- a customer that can be served alone is a relaxed route
-module _ (p : Problem) (g : Region) (k : ℕ) (prices : List ℤ) where
-  pub alone_relaxed : (x y : Label) (load j : ℕ) (c : Option ℤ) → IsSameState (state_of p k 0 x) (start p) → IsCustomer p j → IsAllowed g (x.customer, j) → CanExtend p k 0 x j → IsExtension p k prices 0 x load j y
-      → ClosesRoute p g k load y None c → is_some c ≡ true → IsRelaxed p g k (j ∷ [])
-  alone_relaxed x y load j None same customer allowed can extension closes closed = absurd (cc)
-  alone_relaxed x y load j (Some z) same customer allowed can extension closes closed = elim closes.from [
-    | inl routeless ↦ absurd (cc)
-    | inr h ↦ relaxed_completes p g k prices (j ∷ []) (completes_too p g k prices (j ∷ []) (start p) (state_of p k 0 x) (good_back _ _ same)
-        (can_step p g k prices None 0 x j customer allowed can, completes_too p g k prices [] _ (state_of p k load y) (good_back _ _ extension.same) h.0))
-  ]
 
 -- the depot with an empty memory is the beginning
 pub start_same : (p : Problem) (k : ℕ) (x : Label) → x.customer ≡ 0 → x.time ≡ ready p 0 → x.cost ≡ pos 0 → x.memory ≡ 0 → IsSameState (state_of p k 0 x) (start p)

@@ -1,8 +1,8 @@
 -- How far the work has come: each way to go on from the start is covered by the best so far, or by a state that waits.
-use Rattle.std.specs.Prelude.{◌≡◌, ℕ, ◌+◌, ◌<◌, ◌⊎◌, List, length, Bool, true, ℤ, pos, ◌≤ℤ◌, Option, Some, None}
+use Rattle.std.specs.Prelude.{◌≡◌, ℕ, ◌+◌, ◌<◌, ◌⊎◌, List, length, ℤ, pos, ◌+ℤ◌, ◌≤ℤ◌, Option, Some, None}
 use Rattle.solomon_reader.specs.Problem.{Problem}
 use Rattle.solomon_reader.specs.Region.{Region}
-use Rattle.solomon_reader.specs.Relaxed.{IsRelaxed, IsLeastOrZero, reduced_cost}
+use Rattle.solomon_reader.specs.Relaxed.{IsRelaxed, reduced_cost}
 use Rattle.solomon_reader.specs.States.{State, start, Completes, value_with, Reaches}
 
 -- the best so far is at most z
@@ -30,6 +30,10 @@ CoversAfter p g k prices b Waits a more = (s : List ℕ) → Completes p g k pri
 abbrev pub CoversAll : Problem → Region → ℕ → List ℤ → Option ℤ → (State → Type 0) → Type 0
 CoversAll p g k prices b Waits = CoversAfter p g k prices b Waits (start p) 1
 
+-- whatever comes after the state adds at least h
+pub record Adds (p : Problem) (g : Region) (k : ℕ) (prices : List ℤ) (a : State) (h : ℤ) : Type 0 where
+  pub adds : (s : List ℕ) → Completes p g k prices a s → (a.cost +ℤ h) ≤ℤ value_with p k prices a s
+
 -- whatever comes after the state, the best so far is at most its value
 pub record IsDear (p : Problem) (g : Region) (k : ℕ) (prices : List ℤ) (b : Option ℤ) (a : State) : Type 0 where
   pub dear : (s : List ℕ) → Completes p g k prices a s → IsAtMost b (value_with p k prices a s)
@@ -38,17 +42,14 @@ pub record IsDear (p : Problem) (g : Region) (k : ℕ) (prices : List ℤ) (b : 
 abbrev pub IsFound : Problem → Region → ℕ → List ℤ → Option ℤ → Option ℤ → Type 0
 IsFound p g k prices limit b = (b ≡ limit) ⊎ ((r : List ℕ) × (Completes p g k prices (start p) r × (b ≡ Some (value_with p k prices (start p) r))))
 
+-- z is the reduced cost of a relaxed route
+abbrev pub IsRouteCost : Problem → Region → ℕ → List ℤ → ℤ → Type 0
+IsRouteCost p g k prices z = (r : List ℕ) × (IsRelaxed p g k r × (z ≡ reduced_cost p prices r))
+
 -- no relaxed route costs less than b, which is the limit or the reduced cost of one
 pub record IsLeastBelow (p : Problem) (g : Region) (k : ℕ) (prices : List ℤ) (limit b : Option ℤ) : Type 0 where
   pub low : (r : List ℕ) → IsRelaxed p g k r → IsAtMost b (reduced_cost p prices r)
   pub found : (b ≡ limit) ⊎ ((r : List ℕ) × (IsRelaxed p g k r × (b ≡ Some (reduced_cost p prices r))))
-
--- the least reduced cost, or 0 where there is no relaxed route: it is the number that was found; where none was found it isn't below the limit, or it stands for no route and that may be
-pub record IsSought (p : Problem) (g : Region) (k : ℕ) (prices : List ℤ) (limit : Option ℤ) (routeless : Bool) (found : Option ℤ) : Type 0 where
-  pub least : ℤ
-  pub is_least : IsLeastOrZero p g k prices least
-  pub some : (z : ℤ) → found ≡ Some z → least ≡ z
-  pub none : found ≡ None → (t : ℤ) × ((limit ≡ Some t) × ((t ≤ℤ least) ⊎ ((routeless ≡ true) × (least ≡ pos 0))))
 
 abbrev pub IsReached : Problem → Region → ℕ → List ℤ → State → Type 0
 IsReached p g k prices a = (r : List ℕ) × Reaches p g k prices r a

@@ -1,12 +1,12 @@
 -- What is said of labels and the table, for a leaf.
-use Rattle.std.specs.Prelude.{ℕ, List, Bool, ℤ, Option}
-use Rattle.solomon_reader.specs.Relaxed.{IsRelaxed}
+use Rattle.std.specs.Prelude.{ℕ, List, ℤ, Option}
 use Rattle.solomon_reader.specs.States.{State, step}
 use Rattle.leaf_arcs.specs.declared.arcs.AllowedArc.{AllowedArc}
 use Rattle.leaf_arcs.specs.declared.leaf.Leaf.{Leaf}
+use Rattle.leaf_arcs.specs.declared.task.Task.{Task}
 use Rattle.leaf_arcs.specs.Leaves.{problem_of, region_in}
 use Rattle.tree_bound.specs.declared.label.Label.{Label}
-use Rattle.tree_bound.specs.Cover.{IsDear, IsLeastBelow, IsSought}
+use Rattle.tree_bound.specs.Cover.{Adds, IsDear, IsFound, IsLeastBelow}
 use Rattle.tree_bound.specs.Labels.{state_of, IsBounded, IsLabel, IsTable, AreLabels}
 use Rattle.tree_bound.specs.Steps.{CanExtend, IsExtension, TakesStep, TakesSteps, ClosesRoute, IsWorked, IsSwept, IsDone, IsPassed}
 
@@ -43,20 +43,17 @@ ClosesRouteIn l q x b c = ClosesRoute (problem_of l) (region_in l) l.network.now
 abbrev pub IsDoneIn : Leaf → List (List Label) → List (List Label) → ℕ → Label → Option ℤ → Option ℤ → Type 0
 IsDoneIn l bs cs q x b c = IsDone (problem_of l) (region_in l) l.network.now.neighbours.k l.prices.now bs cs q x b c
 
-abbrev pub IsWorkedIn : Leaf → List (List Label) → List Label → ℕ → List Label → ℕ → Option ℤ → Type 0
-IsWorkedIn l bs ds q xs i b = IsWorked (problem_of l) (region_in l) l.network.now.neighbours.k l.prices.now l.limit bs ds q xs i b
+abbrev pub IsWorkedIn : Task → List (List Label) → List Label → ℕ → List Label → ℕ → Option ℤ → Type 0
+IsWorkedIn t bs ds q xs i b = IsWorked (problem_of t.leaf) (region_in t.leaf) t.leaf.network.now.neighbours.k t.leaf.prices.now t.limit bs ds q xs i b
 
-abbrev pub IsSweptIn : Leaf → List (List Label) → List Label → ℕ → Option ℤ → Type 0
-IsSweptIn l bs ds q b = IsSwept (problem_of l) (region_in l) l.network.now.neighbours.k l.prices.now l.limit bs ds q b
+abbrev pub IsSweptIn : Task → List (List Label) → List Label → ℕ → Option ℤ → Type 0
+IsSweptIn t bs ds q b = IsSwept (problem_of t.leaf) (region_in t.leaf) t.leaf.network.now.neighbours.k t.leaf.prices.now t.limit bs ds q b
 
 abbrev pub IsPassedIn : Leaf → Option ℤ → List Label → ℕ → Label → Type 0
 IsPassedIn l b ds q x = IsPassed (problem_of l) (region_in l) l.network.now.neighbours.k l.prices.now b ds q x
 
-abbrev pub IsLeastBelowIn : Leaf → Option ℤ → Type 0
-IsLeastBelowIn l b = IsLeastBelow (problem_of l) (region_in l) l.network.now.neighbours.k l.prices.now l.limit b
-
-abbrev pub IsSoughtIn : Leaf → Bool → Option ℤ → Type 0
-IsSoughtIn l routeless found = IsSought (problem_of l) (region_in l) l.network.now.neighbours.k l.prices.now l.limit routeless found
+abbrev pub IsLeastBelowIn : Task → Option ℤ → Type 0
+IsLeastBelowIn t b = IsLeastBelow (problem_of t.leaf) (region_in t.leaf) t.leaf.network.now.neighbours.k t.leaf.prices.now t.limit b
 
 abbrev pub step_in : Leaf → ℕ → Label → ℕ → State
 step_in l q x j = step (problem_of l) l.network.now.neighbours.k l.prices.now (state_in l q x) j
@@ -64,5 +61,8 @@ step_in l q x j = step (problem_of l) l.network.now.neighbours.k l.prices.now (s
 abbrev pub IsDearIn : Leaf → Option ℤ → State → Type 0
 IsDearIn l b a = IsDear (problem_of l) (region_in l) l.network.now.neighbours.k l.prices.now b a
 
-abbrev pub IsRelaxedIn : Leaf → List ℕ → Type 0
-IsRelaxedIn l r = IsRelaxed (problem_of l) (region_in l) l.network.now.neighbours.k r
+abbrev pub AddsIn : Leaf → State → ℤ → Type 0
+AddsIn l a h = Adds (problem_of l) (region_in l) l.network.now.neighbours.k l.prices.now a h
+
+abbrev pub IsFoundIn : Leaf → Option ℤ → Option ℤ → Type 0
+IsFoundIn l limit b = IsFound (problem_of l) (region_in l) l.network.now.neighbours.k l.prices.now limit b

@@ -3,6 +3,7 @@
 #![tactic(auto)]
 
 mod bucket;
+mod dive;
 mod fault;
 mod label;
 mod setting;

@@ -1,19 +1,19 @@
 //! The steps from a label.
 
-ghost use Rattle.std.specs.Prelude.{◌≡◌, ◌↔◌, ◌+◌, ◌*◌, ◌<◌, ◌≤◌, length, true, IfOk, IsTrue, ℤ, ◌+ℤ◌, ◌≤ℤ◌};
+ghost use Rattle.std.specs.Prelude.{◌≡◌, ◌↔◌, ◌+◌, ◌*◌, ◌<◌, ◌≤◌, length, true, IfOk, IfSome, IsTrue, ℤ, ◌+ℤ◌, ◌≤ℤ◌};
 ghost use Rattle.solomon_reader.specs.declared.limits.TheConstants.{MOST_TIME};
 ghost use Rattle.solomon_reader.specs.Problem.{demand};
 ghost use Rattle.solomon_reader.specs.Region.{IsAllowed};
 ghost use Rattle.solomon_reader.specs.States.{begins};
 ghost use Rattle.tree_bound.specs.Steps.{route_value};
 ghost use Rattle.tree_bound.specs.Cover.{IsAtMost};
-ghost use Rattle.leaf_arcs.specs.Leaves.{problem_of, region_in, IsArcIn, AreArcsIn, IsRowIn};
-ghost use Rattle.tree_bound.specs.Leaves.{state_in, IsBoundedIn, CanExtendIn, IsExtensionIn, IsDearIn, step_in, IsLabelIn, IsTableIn, TakesStepIn, TakesStepsIn, ClosesRouteIn};
+ghost use Rattle.leaf_arcs.specs.Leaves.{problem_of, region_in, IsArcIn, AreArcsIn, IsRowIn, IsFloorIn};
+ghost use Rattle.tree_bound.specs.Leaves.{state_in, IsBoundedIn, CanExtendIn, IsExtensionIn, AddsIn, IsDearIn, step_in, IsLabelIn, IsTableIn, TakesStepIn, TakesStepsIn, ClosesRouteIn};
 
 use crate::fault::BoundFault;
 use crate::label::Label;
 use crate::table::{Table, keep};
-use leaf_arcs::{AllowedArc, ArcRow, Leaf, Task, contains};
+use leaf_arcs::{AllowedArc, ArcRow, Floor, Leaf, Task, contains};
 
 /// When service at a further customer begins, in tenths.
 fn begins(leaf: &Leaf<'_, '_>, load: usize, label: &Label, arc: &AllowedArc) -> u64
@@ -71,22 +71,43 @@ fn is_dear_with(best: Option<i64>, cost: i64, more: i64) -> bool
     }
 }
 
+/// What anything that may come after a label adds at least, where a floor is known.
+pub(crate) fn floor_of(
+    task: &Task<'_, '_>,
+    floor: Option<Floor>,
+    load: usize,
+    label: &Label,
+) -> Option<i64>
+    requires { IfSome floor (λ f. IsFloorIn task.now.leaf label.now.customer label.now.time load f) }
+    ensures { IfSome result (λ h. AddsIn task.now.leaf (state_in task.now.leaf load label.now) h) }
+{
+    let network = task.leaf.network;
+    let (row, memory) = (label.customer, label.memory);
+    let floor = floor?;
+    if !network.neighbours.recalls(row, memory, row) {
+        return None;
+    }
+    if network.neighbours.recalls(row, memory, floor.next) {
+        return Some(floor.other);
+    }
+    Some(floor.least)
+}
+
 /// Whether all that may come after a label is dear: the floor says that it costs at least the best so far.
 pub(crate) fn is_dear(task: &Task<'_, '_>, load: usize, label: &Label, best: Option<i64>) -> bool
     ensures { IsTrue result → IsDearIn task.now.leaf best (state_in task.now.leaf load label.now) }
 {
-    let network = task.leaf.network;
-    let (row, memory) = (label.customer, label.memory);
-    let Some(floor) = task.floor_at(row, label.time) else {
-        return false;
-    };
-    if !network.neighbours.recalls(row, memory, row) {
-        return false;
+    let by_time = task.floor_at(label.customer, label.time, load);
+    if let Some(more) = floor_of(task, by_time, load, label) {
+        if is_dear_with(best, label.cost, more) {
+            return true;
+        }
     }
-    if network.neighbours.recalls(row, memory, floor.next) {
-        return is_dear_with(best, label.cost, floor.other);
+    let by_load = task.load_floor_at(label.customer, label.time, load);
+    match floor_of(task, by_load, load, label) {
+        Some(more) => is_dear_with(best, label.cost, more),
+        None => false,
     }
-    is_dear_with(best, label.cost, floor.least)
 }
 
 /// Whether all that may come after the step over an arc is dear, whatever is remembered.
@@ -103,10 +124,17 @@ fn is_dear_step(
     ensures { IsTrue result → IsDearIn task.now.leaf best (step_in task.now.leaf load label.now arc.now.to) }
 {
     let time = begins(&task.leaf, load, label, arc) + arc.service;
-    let Some(floor) = task.floor_at(arc.to, time) else {
-        return false;
-    };
-    is_dear_with(best, label.cost + arc.value, floor.least)
+    let load = load + usize::from(arc.demand);
+    let cost = label.cost + arc.value;
+    if let Some(floor) = task.floor_at(arc.to, time, load) {
+        if is_dear_with(best, cost, floor.least) {
+            return true;
+        }
+    }
+    match task.load_floor_at(arc.to, time, load) {
+        Some(floor) => is_dear_with(best, cost, floor.least),
+        None => false,
+    }
 }
 
 /// Takes the step from a label over an arc, unless all that may come after it is dear.

@@ -1,6 +1,6 @@
 //! The value of a leaf.
 
-ghost use Rattle.std.specs.Prelude.{◌≡◌, ◌+◌, ◌*◌, ◌<◌, ◌≤◌, ◌^◌, ◌⊎◌, min, length, IfOk, IfSome, IsTrue, pos, ◌-ℤ◌};
+ghost use Rattle.std.specs.Prelude.{◌≡◌, ◌+◌, ◌*◌, ◌<◌, ◌≤◌, ◌^◌, ◌⊎◌, length, None, IfOk, IfSome, pos, ◌-ℤ◌};
 ghost use Rattle.std.specs.List.{AllByRecursion};
 ghost use Rattle.solomon_reader.specs.Problem.{customer_count};
 ghost use Rattle.solomon_reader.specs.Relaxed.{int_sum};
@@ -10,12 +10,13 @@ ghost use Rattle.solomon_reader.specs.declared.limits.TheConstants.{MOST_CUSTOME
 ghost use Rattle.certificate.specs.Text.{version_of};
 ghost use Rattle.tree_bound.specs.Cover.{or_zero};
 ghost use Rattle.leaf_arcs.specs.Decisions.{region_of};
-ghost use Rattle.tree_bound.specs.Grains.{up, down, IsWorth, IsLesserValue};
+ghost use Rattle.tree_bound.specs.Grains.{up, down, IsWorth, IsLowered, IsLesserValue};
 
+use crate::dive::dive;
 use crate::fault::BoundFault;
 use crate::setting::Setting;
 use crate::work::least;
-use leaf_arcs::{Decision, Leaf};
+use leaf_arcs::{Decision, Leaf, Task};
 use std::alloc::Global;
 
 /// A number of grains, as a difference.
@@ -110,12 +111,17 @@ fn guess_limit(setting: &Setting<'_>, prices: &[i64], most: u32) -> i64
     missing as i64
 }
 
-/// A reduced cost with which a leaf's value is so many tenths or more.
-fn limit_of(setting: &Setting<'_>, prices: &[i64], most: u32) -> Option<i64>
+/// A reduced cost with which a leaf's value is so many tenths or more; `None` where no relaxed route is known
+/// and the value without any is less.
+fn limit_of(setting: &Setting<'_>, prices: &[i64], most: u32, known: Option<i64>) -> Option<i64>
     requires count { length prices.now ≡ customer_count setting.now.network.neighbours.instance.now }
     requires priced { AllByRecursion IsPrice prices.now }
-    ensures { IfSome result (λ t. IsWorth (version_of setting.now.version) setting.now.network.neighbours.instance.now prices.now t most) }
+    ensures worth { IfSome result (λ t. IsWorth (version_of setting.now.version) setting.now.network.neighbours.instance.now prices.now t most) }
+    ensures routeless { IfSome result (λ _. known ≡ None → IsWorth (version_of setting.now.version) setting.now.network.neighbours.instance.now prices.now (pos 0) most) }
 {
+    if known.is_none() && value_at(setting, prices, None) < u128::from(most) {
+        return None;
+    }
     let limit = Some(guess_limit(setting, prices, most));
     if value_at(setting, prices, limit) >= u128::from(most) {
         return limit;
@@ -123,22 +129,17 @@ fn limit_of(setting: &Setting<'_>, prices: &[i64], most: u32) -> Option<i64>
     None
 }
 
-/// A number of tenths; the lesser of it and the value that a leaf without relaxed routes has (`routeless`) where
-/// no routes are counted on, since then no leaf with these prices has a greater value.
-fn lowered(setting: &Setting<'_>, most: u32, routeless: u128) -> u32
-    ensures { ((setting.now.routes ≡ 0) × (result ≡ min most routeless)) ⊎ (result ≡ most) }
+/// A number of tenths, or less where the leaf's value is known to be less: by the reduced cost of a relaxed
+/// route, or, where no routes are counted on, as one without relaxed routes.
+fn lowered(setting: &Setting<'_>, prices: &[i64], most: u32, known: Option<i64>) -> u32
+    requires count { length prices.now ≡ customer_count setting.now.network.neighbours.instance.now }
+    requires priced { AllByRecursion IsPrice prices.now }
+    ensures { (result ≡ most) ⊎ IsLowered (version_of setting.now.version) setting.now.network.neighbours.instance.now prices.now known most result }
 {
-    if setting.routes == 0 {
-        return u128::from(most).min(routeless) as u32;
+    if known.is_none() && setting.routes > 0 {
+        return most;
     }
-    most
-}
-
-/// Whether a number of tenths is at most another one.
-fn is_within(most: u32, routeless: u128) -> bool
-    ensures { IsTrue result → most ≤ routeless }
-{
-    u128::from(most) <= routeless
+    u128::from(most).min(value_at(setting, prices, known)) as u32
 }
 
 /// The lesser of a number of tenths and the value of the leaf with these decisions on its path and these
@@ -154,19 +155,20 @@ pub(crate) fn lesser_value(
     requires priced { AllByRecursion IsPrice prices.now }
     ensures { IfOk result (λ b. IsLesserValue (version_of setting.now.version) setting.now.network.neighbours.instance.now (region_of (customer_count setting.now.network.neighbours.instance.now) path.now) setting.now.network.neighbours.k prices.now most b) }
 {
-    let instance = setting.network.neighbours.instance;
-    instance.law_of_limits();
-    let routeless = value_at(setting, prices, None);
-    let most = lowered(setting, most, routeless);
+    let network = &setting.network;
+    network.neighbours.instance.law_of_limits();
     let leaf = Leaf {
-        network: &setting.network,
+        network,
         path,
         prices,
-        limit: limit_of(setting, prices, most),
     };
-    let found = least(alloc, setting, leaf, is_within(most, routeless))?;
-    match found {
-        Some(_) => Ok(u128::from(most).min(value_at(setting, prices, found)) as u32),
-        None => Ok(most),
+    let mut task = Task::new(alloc, leaf)?;
+    let known = dive(&task);
+    let most = lowered(setting, prices, most, known);
+    if most == 0 {
+        return Ok(0);
     }
+    task.limit = limit_of(setting, prices, most, known);
+    let found = least(alloc, &mut task, setting.state_limit)?;
+    Ok(u128::from(most).min(value_at(setting, prices, found)) as u32)
 }

@@ -1,22 +1,22 @@
 //! The least reduced cost of a leaf, by a table over last customer, load and memory.
 
-ghost use Rattle.std.specs.Prelude.{◌≡◌, ℕ, ◌+◌, ◌<◌, ◌≤◌, length, [], ◌∷◌, replicate, true, List, Option, Some, None, ℤ, IfOk, IsTrue, IsFalse, ◌⊎◌};
-ghost use Rattle.solomon_reader.specs.Region.{IsAllowed};
+ghost use Rattle.std.specs.Prelude.{◌≡◌, ◌+◌, ◌<◌, length, [], replicate, true, List, IfOk, IsTrue, IsFalse};
 ghost use Rattle.solomon_reader.specs.States.{start, IsSameState};
 ghost use Rattle.tree_bound.specs.declared.label.Label.{Label};
-ghost use Rattle.tree_bound.specs.Cover.{or_zero};
-ghost use Rattle.leaf_arcs.specs.Leaves.{problem_of, region_in, IsArcIn, AreArcsIn, IsRowIn};
-ghost use Rattle.tree_bound.specs.Leaves.{state_in, IsLabelIn, AreLabelsIn, IsTableIn, IsDoneIn, IsWorkedIn, IsSweptIn, IsPassedIn, IsLeastBelowIn, IsSoughtIn, IsRelaxedIn};
+ghost use Rattle.leaf_arcs.specs.Leaves.{problem_of};
+ghost use Rattle.tree_bound.specs.Leaves.{state_in, IsLabelIn, AreLabelsIn, IsTableIn, IsDoneIn, IsWorkedIn, IsSweptIn, IsPassedIn, IsLeastBelowIn};
 
 use crate::bucket::Bucket;
 use crate::fault::BoundFault;
 use crate::label::Label;
-use crate::setting::Setting;
-use crate::steps::{can_extend, close_route, extend, is_dear, take_steps};
+use crate::steps::{close_route, is_dear, take_steps};
 use crate::table::{Table, empty_table, settle};
-use leaf_arcs::{AllowedArc, ArcRow, Leaf, Task};
+use leaf_arcs::{Leaf, Task};
 use std::alloc::Global;
 use std::mem;
+
+/// So many labels for each row are few.
+const FEW_LABELS: usize = 16;
 
 /// Works a label: counts the route that ends there, and takes its steps.
 fn work_label(
@@ -61,8 +61,8 @@ fn work_labels(
     best: Option<i64>,
 ) -> Result<Option<i64>, BoundFault>
     requires labels { AreLabelsIn task.now.leaf load labels.now }
-    requires begun { IsWorkedIn task.now.leaf table.old.buckets.items settled.old load labels.now 0 best }
-    ensures { IfOk result (λ after. IsWorkedIn task.now.leaf table.new.buckets.items settled.new load labels.now (length labels.now) after) }
+    requires begun { IsWorkedIn task.now table.old.buckets.items settled.old load labels.now 0 best }
+    ensures { IfOk result (λ after. IsWorkedIn task.now table.new.buckets.items settled.new load labels.now (length labels.now) after) }
 {
     let mut best = best;
     for label in labels {
@@ -86,8 +86,8 @@ fn work_load(
     best: Option<i64>,
 ) -> Result<Option<i64>, BoundFault>
     requires load { load < length table.old.buckets.items }
-    requires swept { IsSweptIn task.now.leaf table.old.buckets.items settled.old load best }
-    ensures { IfOk result (λ after. IsSweptIn task.now.leaf table.new.buckets.items settled.new (load + 1) after) }
+    requires swept { IsSweptIn task.now table.old.buckets.items settled.old load best }
+    ensures { IfOk result (λ after. IsSweptIn task.now table.new.buckets.items settled.new (load + 1) after) }
 {
     let bucket = mem::replace(&mut table.buckets[load], Bucket::new(table.alloc));
     let after = work_labels(task, table, settled, load, bucket.labels(), best)?;
@@ -101,8 +101,8 @@ fn sweep(
     table: &mut Table,
     best: Option<i64>,
 ) -> Result<Option<i64>, BoundFault>
-    requires { IsSweptIn task.now.leaf table.old.buckets.items [] 1 best }
-    ensures { IfOk result (λ after. (settled : List Label) × IsSweptIn task.now.leaf table.new.buckets.items settled (length table.new.buckets.items) after) }
+    requires { IsSweptIn task.now table.old.buckets.items [] 1 best }
+    ensures { IfOk result (λ after. (settled : List Label) × IsSweptIn task.now table.new.buckets.items settled (length table.new.buckets.items) after) }
 {
     let mut settled = Bucket::new(table.alloc);
     let mut best = best;
@@ -113,7 +113,7 @@ fn sweep(
 }
 
 /// The empty beginning at the depot, which the table doesn't keep.
-fn beginning(leaf: &Leaf<'_, '_>) -> Label
+pub(crate) fn beginning(leaf: &Leaf<'_, '_>) -> Label
     ensures same { IsSameState (state_in leaf.now 0 result) (start (problem_of leaf.now)) }
     ensures label { IsLabelIn leaf.now 0 result }
     ensures active { result.active ≡ true }
@@ -131,123 +131,42 @@ fn beginning(leaf: &Leaf<'_, '_>) -> Label
     }
 }
 
-/// Works the empty beginning.
-fn begin(task: &Task<'_, '_>, table: &mut Table) -> Result<Option<i64>, BoundFault>
-    requires { table.old.buckets.items ≡ replicate ((problem_of task.now.leaf).capacity + 1) [] }
-    ensures { IfOk result (λ after. IsSweptIn task.now.leaf table.new.buckets.items [] 1 after) }
-{
-    let start = beginning(&task.leaf);
-    let best = work_label(task, table, 0, &start, task.leaf.limit)?;
-    Ok(best)
-}
-
-/// The least reduced cost over all relaxed routes of a leaf in grains; the leaf's limit, if there is one,
-/// where no route costs less.
+/// The least reduced cost over all relaxed routes of a task in grains; its limit, if there is one, where no
+/// route costs less.
 fn least_below(
     alloc: Global,
     task: &Task<'_, '_>,
     state_limit: usize,
 ) -> Result<Option<i64>, BoundFault>
-    ensures { IfOk result (λ found. IsLeastBelowIn task.now.leaf found) }
+    ensures { IfOk result (λ found. IsLeastBelowIn task.now found) }
 {
     let network = task.leaf.network;
     let capacity = network.neighbours.instance.capacity();
     let mut table = empty_table(alloc, capacity, state_limit)?;
-    let best = begin(task, &mut table)?;
+    let start = beginning(&task.leaf);
+    let best = work_label(task, &mut table, 0, &start, task.limit)?;
     let least = sweep(task, &mut table, best)?;
     Ok(least)
 }
 
-/// Whether a customer can be served alone, and the arcs from and to the depot are allowed.
-fn fits_alone(task: &Task<'_, '_>, arc: &AllowedArc) -> bool
-    requires arc { IsArcIn task.now.leaf 0 arc.now }
-    requires allowed { IsAllowed (region_in task.now.leaf) (0, arc.now.to) }
-    ensures { IsTrue result → IsRelaxedIn task.now.leaf (arc.now.to ∷ []) }
-{
-    let leaf = &task.leaf;
-    let start = beginning(leaf);
-    if !can_extend(leaf, 0, &start, arc) {
-        return false;
-    }
-    let longer = extend(leaf, 0, &start, arc);
-    let row = &task.rows[usize::from(arc.to)];
-    close_route(leaf, row, usize::from(arc.demand), &longer, None).is_some()
-}
-
-/// Whether some customer can be served alone, so that there is a relaxed route.
-fn some_fits_alone(task: &Task<'_, '_>, arcs: &[AllowedArc]) -> bool
-    requires { AreArcsIn task.now.leaf 0 arcs.now }
-    ensures { IsTrue result → (r : List ℕ) × IsRelaxedIn task.now.leaf r }
-{
-    for arc in arcs {
-        if fits_alone(task, arc) {
-            return true;
-        }
-    }
-    false
-}
-
-/// Whether what was found is the limit.
-fn is_limit(found: Option<i64>, limit: Option<i64>) -> bool
-    ensures yes { IsTrue result → (t : ℤ) × ((limit ≡ Some t) × (found ≡ Some t)) }
-    ensures no { IsFalse result → found ≡ limit → limit ≡ None }
-{
-    match (found, limit) {
-        (Some(found), Some(limit)) => found == limit,
-        _ => false,
-    }
-}
-
-/// The number, or 0 where there is none.
-fn or_zero(found: Option<i64>) -> Option<i64>
-    ensures { result ≡ Some (or_zero found) }
-{
-    match found {
-        Some(_) => found,
-        None => Some(0),
-    }
-}
-
-/// Whether 0 does no harm (`routeless`), or there is a relaxed route, as far as customers alone tell.
-fn is_harmless(task: &Task<'_, '_>, depot: &ArcRow, routeless: bool) -> bool
-    requires { IsRowIn task.now.leaf 0 depot.now }
-    ensures { IsTrue result → (routeless ≡ true) ⊎ ((r : List ℕ) × IsRelaxedIn task.now.leaf r) }
-{
-    if routeless {
-        return true;
-    }
-    some_fits_alone(task, depot.arcs.as_slice())
-}
-
-/// The least reduced cost of a leaf in grains, or 0 where there is no relaxed route; `None` where it
-/// isn't below the leaf's limit. With `routeless`, which says that 0 does no harm where no route is relaxed,
-/// `None` also where there is none.
+/// The least reduced cost over all relaxed routes of a task in grains; its limit, if there is one, where no
+/// route costs less. Where there are more than a few labels, floors over load are added, too.
 pub(crate) fn least(
     alloc: Global,
-    setting: &Setting<'_>,
-    leaf: Leaf<'_, '_>,
-    routeless: bool,
+    task: &mut Task<'_, '_>,
+    state_limit: usize,
 ) -> Result<Option<i64>, BoundFault>
-    ensures { IfOk result (λ found. IsSoughtIn leaf.entry routeless found) }
+    ensures { IfOk result (λ found. IsLeastBelowIn task.old found) }
 {
-    let network = leaf.network;
-    let _count = network.neighbours.instance.customer_count();
-    let task = Task::new(alloc, leaf)?;
-    let found = least_below(alloc, &task, setting.state_limit)?;
-    if !is_limit(found, leaf.limit) {
-        return Ok(or_zero(found));
+    let network = task.leaf.network;
+    let mut few = state_limit;
+    if network.has_load_slots {
+        few = few.min(task.rows.len().saturating_mul(FEW_LABELS));
     }
-    let depot = &task.rows[0];
-    if is_harmless(&task, depot, routeless) {
-        return Ok(None);
+    match least_below(alloc, task, few) {
+        Err(BoundFault::StateLimit) => {}
+        result => return result,
     }
-    let unlimited = Leaf {
-        network,
-        path: leaf.path,
-        prices: leaf.prices,
-        limit: None,
-    };
-    let task = Task::new(alloc, unlimited)?;
-    let found = least_below(alloc, &task, setting.state_limit)?;
-    Ok(or_zero(found))
+    task.add_load_floors(alloc)?;
+    least_below(alloc, task, state_limit)
 }

@@ -4,6 +4,6 @@ use Rattle.leaf_arcs.proofs.floor.floor_from.Given as goal
 
 abbrev pub invariant-loop-arc : goal.invariant-loop-arc
 invariant-loop-arc l = record {
-  place : IsAt l.start.row l.start.from l.floor;
-  steps : AreStepFloorsIn l.leaf l.start.row l.start.from l.arcs.arcs.items l.arc-index l.floor;
+  place : IsAt l.start.row l.start.from l.start.loaded l.floor;
+  steps : AreStepFloorsIn l.leaf l.start.row l.start.from l.start.loaded l.arcs.arcs.items l.arc-index l.floor;
 }

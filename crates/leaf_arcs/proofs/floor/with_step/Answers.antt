@@ -1,27 +1,18 @@
-use Rattle.std.proofs.Common.{refl, arith, inl}
+use Rattle.std.proofs.Common.{arith}
 use mir.Syntax.{w64}
 use mir.Val.{to_z, of_z}
-use Rattle.std.specs.Int.{int_max}
-use Rattle.std.proofs.lemmas.Int.{ints, clamps}
-use Rattle.leaf_arcs.proofs.Flooring.{step_late, step_lower}
+use Rattle.std.proofs.lemmas.Int.{ints}
+use Rattle.leaf_arcs.proofs.Flooring.{step_late, step_heavy, step_lower, joined_none}
 use Rattle.leaf_arcs.proofs.floor.with_step.Goals as goal
 
 pub returns-then-begins-arc-clause-joined : goal.returns-then-begins-arc-clause-joined
-returns-then-begins-arc-clause-joined c = (
-  int_max c.args.floor.least c.args.floor.other,
-  (
-    step_late _ _ _ _ c.args.floor.row c.args.floor.from c.args.arc.now c.requires.arc _ (omega arith),
-    record {
-      ordered = λ h. h;
-      least = omega (arith, ints);
-      step = omega (arith, ints, clamps);
-      other = inl (refl, (omega (arith, ints), omega (arith, ints, clamps)));
-    },
-  ),
-)
+returns-then-begins-arc-clause-joined c = joined_none _ _ _ _ _ _ _ _ c.args.floor (λ h. step_late _ _ _ _ c.args.floor.row c.args.floor.from c.args.floor.loaded c.args.arc.now c.requires.arc h (omega arith))
+
+pub returns-then-load-from-clause-joined : goal.returns-then-load-from-clause-joined
+returns-then-load-from-clause-joined c = joined_none _ _ _ _ _ _ _ _ c.args.floor (λ h. step_heavy _ _ _ _ c.args.floor.row c.args.floor.from c.args.floor.loaded c.args.arc.now c.requires.arc h (omega arith))
 
 pub returns-clause-joined : goal.returns-clause-joined
 returns-clause-joined c = (
   to_z w64 (of_z w64 c.in_ok-value.value),
-  (step_lower _ _ _ _ c.args.floor.row c.args.floor.from c.args.arc.now.to c.in_ok-value.value _ (omega (arith, ints)) c.in_ok-value.ensures, c.joined.ensures.joined),
+  (step_lower _ _ _ _ c.args.floor.row c.args.floor.from c.args.floor.loaded c.args.arc.now.to c.in_ok-value.value _ (omega (arith, ints)) c.in_ok-value.ensures, c.joined.ensures.joined),
 )

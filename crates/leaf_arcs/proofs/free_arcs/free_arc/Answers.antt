@@ -1,4 +1,4 @@
-use Rattle.std.proofs.Common.{rules, arith, ◌∙◌}
+use Rattle.std.proofs.Common.{arith, ◌∙◌}
 use Rattle.std.proofs.lemmas.Int.{ints}
 use Rattle.solomon_reader.proofs.BoundedRows.{customer_row}
 use Rattle.leaf_arcs.proofs.Remembered.{bit_bound}

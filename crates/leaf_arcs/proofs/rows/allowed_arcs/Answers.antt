@@ -1,4 +1,4 @@
-use Rattle.std.proofs.Common.{◌≡◌, ◌+◌, length, arith, ◌∙◌, inl, inr}
+use Rattle.std.proofs.Common.{◌≡◌, ◌+◌, arith, ◌∙◌, inl, inr}
 use Rattle.std.proofs.lemmas.Bool.{cases_lt, both_ways}
 use Rattle.solomon_reader.specs.Problem.{customer_count}
 use Rattle.leaf_arcs.specs.Arcs.{arc_in}

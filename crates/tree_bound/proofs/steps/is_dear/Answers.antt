@@ -1,19 +1,9 @@
-use Rattle.std.proofs.Common.{refl, arith}
+use Rattle.std.proofs.Common.{arith}
 use Rattle.std.proofs.lemmas.Int.{ints}
-use Rattle.leaf_arcs.proofs.Flooring.{not_next}
 use Rattle.tree_bound.proofs.steps.is_dear.Goals as goal
 
-pub returns-then-recalls : goal.returns-then-recalls
-returns-then-recalls c = λ high. record {
-  dear = λ s completes.
-      (let h = c.in-Some.ensures.holds _ s refl (omega arith) (c.recalls.ensures c.if-not-recalls.false) completes in
-      let other = h.other (not_next _ _ _ _ _ s c.in-Some.floor.next (c.recalls-2.ensures c.if-recalls.true) completes) in
-      c.is_dear_with.ensures high _ (omega (arith, ints, other)));
-}
+pub returns-then-is_dear_with : goal.returns-then-is_dear_with
+returns-then-is_dear_with c = λ _. record { dear = λ s completes. (let adds = c.in-Some.ensures.adds s completes in c.is_dear_with.ensures c.if-is_dear_with.true _ (omega (arith, ints, adds))) }
 
-pub returns : goal.returns
-returns c = λ high. record {
-  dear = λ s completes.
-      (let h = c.in-Some.ensures.holds _ s refl (omega arith) (c.recalls.ensures c.if-not-recalls.false) completes in
-      c.is_dear_with-2.ensures high _ (omega (arith, ints, h.least)));
-}
+pub returns-in-Some-floor_of : goal.returns-in-Some-floor_of
+returns-in-Some-floor_of c = λ high. record { dear = λ s completes. (let adds = c.in-Some-floor_of.ensures.adds s completes in c.is_dear_with-in-Some-floor_of.ensures high _ (omega (arith, ints, adds))) }

@@ -4,6 +4,6 @@ use Rattle.tree_bound.proofs.work.sweep.Given as goal
 
 abbrev pub invariant-loop-load : goal.invariant-loop-load
 invariant-loop-load l = record {
-  swept : IsSweptIn l.task.leaf l.table.buckets.items l.settled l.load l.best;
+  swept : IsSweptIn l.task l.table.buckets.items l.settled l.load l.best;
   same : length l.table.buckets.items ≡ length l.initial.table.buckets.items;
 }
