@@ -9,7 +9,6 @@ use crate::descent::descend;
 use crate::fault::SearchFault;
 use crate::near_shake::shake_near;
 use rand_core::Rng;
-use schedule::Feasible;
 use std::alloc::{AllocError, Global};
 use working_plan::WorkingPlan;
 
@@ -67,13 +66,13 @@ fn hold<'i>(held: &mut Held<'i>, next: WorkingPlan<'i>, threshold: u64) -> Resul
 }
 
 /// The plan that the rounds of a turn begin with: a descent from the plan held.
-fn begin<'i>(alloc: Global, plan: &Feasible<'i>) -> Result<Held<'i>, SearchFault>
+fn begin<'i>(start: WorkingPlan<'i>) -> Result<Held<'i>, SearchFault>
     ensures same { IfOk result (λ h. h.best ≡ h.current) }
-    ensures problem { IfOk result (λ h. h.current.problem ≡ plan.now.problem) }
-    ensures descends { IfOk result (λ h. Descends plan.now.problem plan.now.routes h.current.routes) }
-    ensures optimum { IfOk result (λ h. IsLocalOptimum plan.now.problem h.current.routes) }
+    ensures problem { IfOk result (λ h. h.current.problem ≡ start.entry.problem) }
+    ensures descends { IfOk result (λ h. Descends start.entry.problem start.entry.routes h.current.routes) }
+    ensures optimum { IfOk result (λ h. IsLocalOptimum start.entry.problem h.current.routes) }
 {
-    let mut current = WorkingPlan::new(alloc, plan)?;
+    let mut current = start;
     descend(&mut current)?;
     let best = current.try_clone()?;
     Ok(Held { current, best })
@@ -83,17 +82,17 @@ fn begin<'i>(alloc: Global, plan: &Feasible<'i>) -> Result<Held<'i>, SearchFault
 /// was come to before: the last one, or where that was too dear the one before it.
 pub fn find_by_rounds<'i, R: Rng>(
     alloc: Global,
-    plan: &Feasible<'i>,
+    start: WorkingPlan<'i>,
     random: &mut R,
-) -> Result<Feasible<'i>, SearchFault>
-    ensures problem { IfOk result (λ f. f.problem ≡ plan.now.problem) }
-    ensures found { IfOk result (λ f. (plans : List (List (List ℕ))) × AreRounds plan.now.problem ROUNDS plan.now.routes plans × IsCheapest plan.now.problem plans f.routes) }
+) -> Result<WorkingPlan<'i>, SearchFault>
+    ensures problem { IfOk result (λ f. f.problem ≡ start.entry.problem) }
+    ensures found { IfOk result (λ f. (plans : List (List (List ℕ))) × AreRounds start.entry.problem ROUNDS start.entry.routes plans × IsCheapest start.entry.problem plans f.routes) }
 {
-    let mut held = begin(alloc, plan)?;
+    let mut held = begin(start)?;
     for round in 0..ROUNDS {
         let threshold = threshold_of(&held.best, round);
         let next = make_round(alloc, &held.current, random)?;
         hold(&mut held, next, threshold)?;
     }
-    Ok(held.best.into_plan())
+    Ok(held.best)
 }
