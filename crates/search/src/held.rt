@@ -66,14 +66,13 @@ impl<'i> HeldPlan<'i> {
     /// it is the one held.
     pub fn hold(&mut self, found: WorkingPlan<'i>) -> Result<(), AllocError>
         requires { found.problem ≡ self.old.problem }
-        ensures held { OnOk result (((found.cost < self.old.cost) × (self.new ≡ found)) ⊎ ((self.old.cost ≤ found.cost) × (self.new ≡ self.old))) }
+        ensures held { OnOk result (((found.entry.cost < self.old.cost) × (self.new ≡ found.entry)) ⊎ ((self.old.cost ≤ found.entry.cost) × (self.new ≡ self.old))) }
         ensures fault { OnErr result (self.new ≡ self.old) }
     {
-        let is_cheaper = found.cost().get() < self.plan.cost().get();
-        if is_cheaper {
+        if found.cost().get() < self.plan.cost().get() {
             self.plan = found.to_plan()?;
-        }
-        if is_cheaper || found.routes() == self.plan.routes() {
+            self.working = Some(found);
+        } else if found.routes() == self.plan.routes() {
             self.working = Some(found);
         }
         Ok(())
