@@ -63,10 +63,10 @@ fn gain_between(
     ensures best { IsBestAmong (problem_of trees.now) (visits_of trees.now) (IsBetween kind first second) result }
 {
     let (from, into) = (usize::from(first), usize::from(second));
-    let mut entry = kept.at(from, into);
-    if let Some(found) = entry.known(kind) {
+    if let Some(found) = kept.at(from, into).known(kind) {
         return found_between(found, first, second);
     }
+    let mut entry = *kept.at(from, into);
     let neighbourhood = Neighbourhood {
         trees,
         kind,

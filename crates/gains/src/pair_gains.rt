@@ -65,13 +65,13 @@ impl PairGains {
 
     /// What is kept of the moves from a route into a route.
     #[inline(always)]
-    pub fn at(&self, first: usize, second: usize) -> Entry
-        ensures { result ≡ entry_of self.now first second }
+    pub fn at(&self, first: usize, second: usize) -> &Entry
+        ensures { result.now ≡ entry_of self.now first second }
     {
         if first < self.rows.len() && second < self.rows[first].len() {
-            return self.rows[first][second];
+            return &self.rows[first][second];
         }
-        UNKNOWN
+        &UNKNOWN
     }
 
     /// Puts an entry in its place, if there is one for it.

@@ -91,7 +91,7 @@ same_held : (start earlier later held : Solution) → earlier.problem ≡ start.
 same_held start earlier later held e l (inl is) = ap (λ s. s.problem) is.1 ∙ l
 same_held start earlier later held e l (inr is) = ap (λ s. s.problem) is.1 ∙ e
 
-same_either : (start one other held : Solution) → one.problem ≡ start.problem → other.problem ≡ start.problem → (held ≡ one) ⊎ (held ≡ other) → held.problem ≡ start.problem
+pub same_either : (start one other held : Solution) → one.problem ≡ start.problem → other.problem ≡ start.problem → (held ≡ one) ⊎ (held ≡ other) → held.problem ≡ start.problem
 same_either start one other held e l (inl is) = ap (λ s. s.problem) is ∙ e
 same_either start one other held e l (inr is) = ap (λ s. s.problem) is ∙ l
 

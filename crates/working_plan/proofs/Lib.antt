@@ -3,3 +3,4 @@ pub mod KeptRoutes
 pub mod AppliedMoves
 pub mod KeptNumbers
 pub mod PlanCosts
+pub mod Copies

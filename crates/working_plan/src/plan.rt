@@ -8,7 +8,7 @@ ghost use Rattle.moves.specs.Values.{after, HasValue, IsValue};
 ghost use Rattle.moves.specs.declared.fault.MoveFault.TheVariants.{NotFeasible};
 ghost use Rattle.working_plan.specs.Gains.{HasNoGain, IsBestGain};
 
-use crate::replacing::{replace, replaced_by};
+use crate::replacing::{copy_over, replace, replaced_by};
 use gains::{PairGains, best_gain};
 use moves::{Kind, Move, MoveFault, change_of, trees_of, value};
 use schedule::Feasible;
@@ -96,6 +96,25 @@ impl<'i> WorkingPlan<'i> {
         };
         let gains = self.gains.try_clone()?;
         let routes = copy_of(self.alloc, self.routes.as_slice())?;
+        Ok(WorkingPlan {
+            alloc: self.alloc,
+            routes,
+            trees,
+            cost: self.cost,
+            gains,
+        })
+    }
+
+    /// A copy, made of another working plan of the instance: its routes that are the same stay.
+    /// `Err` where memory runs out.
+    pub fn copy_over(&self, spare: WorkingPlan<'i>) -> Result<WorkingPlan<'i>, AllocError>
+        requires { spare.problem ≡ self.now.problem }
+        ensures { IfOk result (λ w. w ≡ self.now) }
+    {
+        let mut routes = spare.routes;
+        let mut trees = spare.trees;
+        copy_over(self.alloc, &mut routes, &mut trees, self.routes.as_slice())?;
+        let gains = self.gains.try_clone()?;
         Ok(WorkingPlan {
             alloc: self.alloc,
             routes,
