@@ -1,4 +1,4 @@
-use Rattle.std.proofs.Common.{ap, sym, ◌∙◌}
+use Rattle.std.proofs.Common.{ap, ◌∙◌}
 use Rattle.search.proofs.Rounds.{held_first, held_next, same_either}
 use Rattle.search.proofs.turning.find_by_rounds.Goals as goal
 
@@ -10,14 +10,11 @@ loop-round-init g c =
       spare = ap (λ s. s.problem) c.in_ok-spare.ensures ∙ begun.problem;
     }
 
-pub make_round-next-requires : goal.make_round-next-requires
-make_round-next-requires g c = c.loop-round.invariant.spare ∙ sym c.loop-round.invariant.held.same_current
-
 pub loop-round-preserved : goal.loop-round-preserved
 loop-round-preserved g c =
     let before = c.loop-round.invariant.held in
     record {
       held = held_next c.args.start c.loop-round.round c.loop-round.held.current c.loop-round.held.best c.in_ok-next.next c.hold.new.held.current c.hold.new.held.best
-          before c.in_ok-next.ensures.problem c.in_ok-next.ensures.round c.in_ok-hold.ensures.current c.in_ok-hold.ensures.best;
-      spare = same_either c.args.start c.in_ok-next.next c.loop-round.held.current c.in_ok-hold.hold (c.in_ok-next.ensures.problem ∙ before.same_current) before.same_current c.in_ok-hold.ensures.spare;
+          before c.in_ok-next.ensures.problem c.in_ok-next.ensures.round c.in_ok-spare-2.ensures.current c.in_ok-spare-2.ensures.best;
+      spare = same_either c.args.start c.in_ok-next.next c.loop-round.held.current c.in_ok-spare-2.spare (c.in_ok-next.ensures.problem ∙ before.same_current) before.same_current c.in_ok-spare-2.ensures.spare;
     }
