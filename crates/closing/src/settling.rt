@@ -56,8 +56,6 @@ pub(crate) fn settle<'i>(
     if let Some(customer) = unserved(instance, found.routes.as_slice()) {
         return Ok((raise(found.prices, customer, fee), None));
     }
-    match Feasible::check(instance, found.routes) {
-        Ok(plan) => Ok((found.prices, Some(plan))),
-        Err(_) => unreachable!(),
-    }
+    let plan = Feasible::known(instance, found.routes);
+    Ok((found.prices, Some(plan)))
 }

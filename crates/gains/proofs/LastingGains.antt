@@ -1,6 +1,6 @@
 -- Gains that last through a change of two routes.
 use Rattle.std.proofs.Common.{◌≡◌, ◌≢◌, refl, sym, ap, subst, ◌∙◌, ℕ, zero, suc, ◌<◌, ◌≤◌, Bool, true, false, List, [], ◌∷◌, length, get_or, set, arith, inl, inr}
-use Rattle.std.specs.Prelude.{ℤ, Option, None, Some, IfSome, ◌⊎◌}
+use Rattle.std.specs.Prelude.{ℤ, pos, ◌≤ℤ◌, Option, None, Some, IfSome, ◌⊎◌}
 use Rattle.std.specs.List.{AllByRecursion}
 use Rattle.std.proofs.lemmas.Bool.{cases_lt, cases_eq}
 use Rattle.std.proofs.lemmas.List.{get_or_past}
@@ -8,12 +8,16 @@ use Rattle.solomon_reader.specs.Problem.{Problem}
 use Rattle.solomon_reader.specs.Plan.{IsPlan, IsFitting}
 use Rattle.solomon_reader.specs.Moves.{route}
 use Rattle.moves.specs.declared.candidate.Move.{Move}
+use Rattle.moves.specs.declared.candidate.Move.TheVariants.{Relocate, Exchange, OrOpt, TwoOptStar, Cross}
 use Rattle.moves.specs.declared.candidate.Kind.{Kind}
 use Rattle.moves.specs.Values.{HasValue}
+use Rattle.moves.specs.Search.{numbers}
+use Rattle.moves.specs.declared.candidate.Kind.TheVariants as kind
+use Rattle.gains.specs.declared.entry.Entry.{Entry}
 use Rattle.gains.specs.declared.pair_gains.PairGains.{PairGains}
 use Rattle.gains.specs.declared.replaced.Replaced.{Replaced}
 use Rattle.gains.specs.Gains.{Found, IsNoBetter, IsFoundAmong, IsBestAmong}
-use Rattle.gains.specs.Kept.{second_route, IsBetween, with_routes, found_between, rows_of, entry_of, AreKept, IsForgotten, HasSameEntries, skip, skip_if, origin_of, IsOther, Follows, IsReplaced}
+use Rattle.gains.specs.Kept.{second_route, IsBetween, with_routes, found_between, unknown, known_of, with_found, rows_of, entry_of, IsKept, AreKept, IsForgotten, HasSameEntries, skip, skip_if, origin_of, IsOther, Follows, IsReplaced}
 use Rattle.gains.proofs.KeptRows.{put_entry}
 use Rattle.gains.proofs.Renumbering.{Stands, StandBoth, same_value, kind_with, first_with, second_with, with_twice, with_same, no_better_elsewhere}
 
@@ -21,19 +25,64 @@ same_found : (p : Problem) (routes : List (List ℕ)) (k : Kind) (a b : ℕ) (o 
 same_found p routes k a b None h = refl
 same_found p routes k a b (Some r) h = ap (λ n. Some (n, r.1)) (with_same r.0 a b h.0.first h.0.second)
 
+-- an entry with what was found of a kind keeps it, and the rest stays
+with_known : (p : Problem) (routes : List (List ℕ)) (k : Kind) (a b : ℕ) (found : Found) (e : Entry) → IsKept p routes a b e → IsBestAmong p routes (IsBetween k a b) (found_between found a b) → IsKept p routes a b (with_found k found e)
+with_known p routes kind.Relocate a b found e kept is = elim [ kind.Relocate ↦ is | kind.Exchange ↦ kept kind.Exchange | kind.OrOpt ↦ kept kind.OrOpt | kind.TwoOptStar ↦ kept kind.TwoOptStar | kind.Cross ↦ kept kind.Cross ]
+with_known p routes kind.Exchange a b found e kept is = elim [ kind.Relocate ↦ kept kind.Relocate | kind.Exchange ↦ is | kind.OrOpt ↦ kept kind.OrOpt | kind.TwoOptStar ↦ kept kind.TwoOptStar | kind.Cross ↦ kept kind.Cross ]
+with_known p routes kind.OrOpt a b found e kept is = elim [ kind.Relocate ↦ kept kind.Relocate | kind.Exchange ↦ kept kind.Exchange | kind.OrOpt ↦ is | kind.TwoOptStar ↦ kept kind.TwoOptStar | kind.Cross ↦ kept kind.Cross ]
+with_known p routes kind.TwoOptStar a b found e kept is = elim [ kind.Relocate ↦ kept kind.Relocate | kind.Exchange ↦ kept kind.Exchange | kind.OrOpt ↦ kept kind.OrOpt | kind.TwoOptStar ↦ is | kind.Cross ↦ kept kind.Cross ]
+with_known p routes kind.Cross a b found e kept is = elim [ kind.Relocate ↦ kept kind.Relocate | kind.Exchange ↦ kept kind.Exchange | kind.OrOpt ↦ kept kind.OrOpt | kind.TwoOptStar ↦ kept kind.TwoOptStar | kind.Cross ↦ is ]
+
+abbrev IsOrOptKind : Kind → Type 0
+IsOrOptKind kind.Relocate = ⊥
+IsOrOptKind kind.Exchange = ⊥
+IsOrOptKind kind.OrOpt = Unit {0}
+IsOrOptKind kind.TwoOptStar = ⊥
+IsOrOptKind kind.Cross = ⊥
+
+-- where no relocation between two routes is a gain no chain of one stop has one
+pub no_single : (p : Problem) (routes : List (List ℕ)) (a b : ℕ) → IsBestAmong p routes (IsBetween kind.Relocate a b) None → (n : Move) (u : ℤ) → IsBetween kind.OrOpt a b n → get_or (numbers n) 2 0 ≡ 1 → HasValue p routes n u → pos 0 ≤ℤ u
+no_single p routes a b best (Relocate f t) u of one h = absurd (subst IsOrOptKind (sym of.kind) tt)
+no_single p routes a b best (Exchange f t) u of one h = absurd (subst IsOrOptKind (sym of.kind) tt)
+no_single p routes a b best (OrOpt c t) u of one h =
+    let same : HasValue p routes (OrOpt (record { route = c.route; position = c.position; length = 1 }) t) u = subst (λ l. HasValue p routes (OrOpt (record { route = c.route; position = c.position; length = l }) t) u) one h in
+    best.best (Relocate (record { route = c.route; position = c.position }) t) u (record { kind = refl; first = of.first; second = of.second }) (record { well_formed = same.well_formed; plan = same.plan; exact = same.exact })
+no_single p routes a b best (TwoOptStar f t) u of one h = absurd (subst IsOrOptKind (sym of.kind) tt)
+no_single p routes a b best (Cross c d) u of one h = absurd (subst IsOrOptKind (sym of.kind) tt)
+
+-- what is kept of relocations tells of chains of one stop
+pub no_single_kept : (p : Problem) (routes : List (List ℕ)) (a b : ℕ) (k : Kind) (e : Entry) → IsKept p routes a b e → k ≡ kind.OrOpt → e.relocate ≡ Some None
+    → (n : Move) (u : ℤ) → IsBetween k a b n → get_or (numbers n) 2 0 ≡ 1 → HasValue p routes n u → pos 0 ≤ℤ u
+no_single_kept p routes a b k e kept is none n u of one h =
+    no_single p routes a b (subst (λ o. IfSome o (λ found. IsBestAmong p routes (IsBetween kind.Relocate a b) (found_between found a b))) none (kept kind.Relocate))
+    n u (subst (λ k. IsBetween k a b n) is of) one h
+
+-- by an entry by which nothing is known nothing is claimed
+none_known : (p : Problem) (routes : List (List ℕ)) (a b : ℕ) → IsKept p routes a b unknown
+none_known p routes a b = elim [ kind.Relocate ↦ tt | kind.Exchange ↦ tt | kind.OrOpt ↦ tt | kind.TwoOptStar ↦ tt | kind.Cross ↦ tt ]
+
 -- what is found is kept
-pub one_found : (p : Problem) (routes : List (List ℕ)) (k : Kind) (a b : ℕ) (found : Found) (old new : PairGains) → AreKept p routes k old → IsBestAmong p routes (IsBetween k a b) found
-    → rows_of new ≡ set (rows_of old) a (set (get_or (rows_of old) a []) b (Some found)) → AreKept p routes k new
-one_found p routes k a b found old new kept best is c d known_c known_d =
-    let put : entry_of new c d ≡ get_or (get_or (set (rows_of old) a (set (get_or (rows_of old) a []) b (Some found))) c []) d None
-    = ap (λ r. get_or (get_or r c []) d None) is in
-    elim (put_entry (rows_of old) a b (Some found) c d) [
-      | inl same ↦ subst (λ o. IfSome o (λ f. IsBestAmong p routes (IsBetween k c d) (found_between f c d))) (sym (put ∙ same)) (kept c d known_c known_d)
-      | inr new ↦ subst (λ o. IfSome o (λ f. IsBestAmong p routes (IsBetween k c d) (found_between f c d))) (sym (put ∙ new.1.1))
-          (subst (λ i. IsBestAmong p routes (IsBetween k i d) (found_between found i d)) (sym new.0)
-          (subst (λ j. IsBestAmong p routes (IsBetween k a j) (found_between found a j)) (sym new.1.0)
-          (subst (IsBestAmong p routes (IsBetween k a b)) (sym (same_found p routes k a b found best.found)) best)))
+pub one_found : (p : Problem) (routes : List (List ℕ)) (k : Kind) (a b : ℕ) (found : Found) (old new : PairGains) → a < length routes → b ≤ length routes → AreKept p routes old → IsBestAmong p routes (IsBetween k a b) found
+    → rows_of new ≡ set (rows_of old) a (set (get_or (rows_of old) a []) b (with_found k found (entry_of old a b))) → AreKept p routes new
+one_found p routes k a b found old new known_a known_b kept best is c d known_c known_d =
+    let e = with_found k found (entry_of old a b) in
+    let put : entry_of new c d ≡ get_or (get_or (set (rows_of old) a (set (get_or (rows_of old) a []) b e)) c []) d unknown
+    = ap (λ r. get_or (get_or r c []) d unknown) is in
+    elim (put_entry (rows_of old) a b e c d) [
+      | inl same ↦ subst (IsKept p routes c d) (sym (put ∙ same)) (kept c d known_c known_d)
+      | inr new ↦ subst (IsKept p routes c d) (sym (put ∙ new.1.1))
+          (subst (λ i. IsKept p routes i d e) (sym new.0)
+          (subst (λ j. IsKept p routes a j e) (sym new.1.0)
+          (with_known p routes k a b found (entry_of old a b) (kept a b known_a known_b) (subst (IsBestAmong p routes (IsBetween k a b)) (sym (same_found p routes k a b found best.found)) best))))
     ]
+
+-- nothing is claimed where nothing is known
+pub nothing_kept : (p : Problem) (routes : List (List ℕ)) (t : PairGains) → ((a b : ℕ) → entry_of t a b ≡ unknown) → AreKept p routes t
+nothing_kept p routes t none a b _ _ = subst (IsKept p routes a b) (sym (none a b)) (none_known p routes a b)
+
+-- a copy keeps the same
+pub same_kept : (p : Problem) (routes : List (List ℕ)) (old new : PairGains) → rows_of new ≡ rows_of old → AreKept p routes old → AreKept p routes new
+same_kept p routes old new same kept a b known_a known_b = subst (IsKept p routes a b) (sym (ap (λ r. get_or (get_or r a []) b unknown) same)) (kept a b known_a known_b)
 
 -- AFTER TWO ROUTES WERE REPLACED
 
@@ -44,7 +93,7 @@ module _ (r : Replaced) (count : ℕ) (old b1 b2 b3 b4 b5 new : PairGains) (firs
   abbrev C : ℕ → ℕ
   C c = origin_of r c
 
-  none_last : (c d : ℕ) → entry_of b5 c d ≡ None → entry_of new c d ≡ None
+  none_last : (c d : ℕ) → entry_of b5 c d ≡ unknown → entry_of new c d ≡ unknown
   none_last c d h = same c d ∙ h
 
   from_b2 : (c d : ℕ) → entry_of b5 c d ≡ entry_of b4 c d → entry_of new c d ≡ entry_of b2 (C c) (C d)
@@ -60,16 +109,16 @@ module _ (r : Replaced) (count : ℕ) (old b1 b2 b3 b4 b5 new : PairGains) (firs
   kept_all c d x y = kept_second c d x.known y.known x.second y.second ∙ first.kept (C c) (C d) x.first y.first
 
   abbrev Each : ℕ → ℕ → Type 0
-  Each c d = (entry_of new c d ≡ None) ⊎ (IsOther r count c × (IsOther r count d × (entry_of new c d ≡ entry_of old (origin_of r c) (origin_of r d))))
+  Each c d = (entry_of new c d ≡ unknown) ⊎ (IsOther r count c × (IsOther r count d × (entry_of new c d ≡ entry_of old (origin_of r c) (origin_of r d))))
 
   each_of : (c d : ℕ) → ((c ≡ count) ⊎ (c ≢ count)) → ((d ≡ count) ⊎ (d ≢ count)) → ((C c ≡ r.second) ⊎ (C c ≢ r.second)) → ((C d ≡ r.second) ⊎ (C d ≢ r.second))
       → ((C c ≡ r.first) ⊎ (C c ≢ r.first)) → ((C d ≡ r.first) ⊎ (C d ≢ r.first)) → Each c d
-  each_of c d (inl e) y z w u v = inl (none_last c d (subst (λ i. entry_of b5 i d ≡ None) (sym e) (last.from d)))
-  each_of c d x (inl e) z w u v = inl (none_last c d (subst (λ i. entry_of b5 c i ≡ None) (sym e) (last.into c)))
-  each_of c d (inr x) (inr y) (inl e) w u v = inl (kept_last c d x y ∙ subst (λ i. entry_of b2 i (C d) ≡ None) (sym e) (second.from (C d)))
-  each_of c d (inr x) (inr y) z (inl e) u v = inl (kept_last c d x y ∙ subst (λ i. entry_of b2 (C c) i ≡ None) (sym e) (second.into (C c)))
-  each_of c d (inr x) (inr y) (inr z) (inr w) (inl e) v = inl (kept_second c d x y z w ∙ subst (λ i. entry_of b1 i (C d) ≡ None) (sym e) (first.from (C d)))
-  each_of c d (inr x) (inr y) (inr z) (inr w) u (inl e) = inl (kept_second c d x y z w ∙ subst (λ i. entry_of b1 (C c) i ≡ None) (sym e) (first.into (C c)))
+  each_of c d (inl e) y z w u v = inl (none_last c d (subst (λ i. entry_of b5 i d ≡ unknown) (sym e) (last.from d)))
+  each_of c d x (inl e) z w u v = inl (none_last c d (subst (λ i. entry_of b5 c i ≡ unknown) (sym e) (last.into c)))
+  each_of c d (inr x) (inr y) (inl e) w u v = inl (kept_last c d x y ∙ subst (λ i. entry_of b2 i (C d) ≡ unknown) (sym e) (second.from (C d)))
+  each_of c d (inr x) (inr y) z (inl e) u v = inl (kept_last c d x y ∙ subst (λ i. entry_of b2 (C c) i ≡ unknown) (sym e) (second.into (C c)))
+  each_of c d (inr x) (inr y) (inr z) (inr w) (inl e) v = inl (kept_second c d x y z w ∙ subst (λ i. entry_of b1 i (C d) ≡ unknown) (sym e) (first.from (C d)))
+  each_of c d (inr x) (inr y) (inr z) (inr w) u (inl e) = inl (kept_second c d x y z w ∙ subst (λ i. entry_of b1 (C c) i ≡ unknown) (sym e) (first.into (C c)))
   each_of c d (inr x) (inr y) (inr z) (inr w) (inr u) (inr v) =
       let one : IsOther r count c = record { first = u; second = z; known = x } in
       let other : IsOther r count d = record { first = v; second = w; known = y } in
@@ -158,15 +207,21 @@ module _ (p : Problem) (old new : List (List ℕ)) (r : Replaced) (before : IsPl
   }
 
   -- what is kept of two other routes stays so
-  pub entries_last : (k : Kind) (b c : PairGains) → AreKept p old k b → Follows r (length new) b c → AreKept p new k c
-  entries_last k b c kept follows i j known_i known_j = elim (follows.each i j) [
-    | inl none ↦ subst (λ o. IfSome o (λ f. IsBestAmong p new (IsBetween k i j) (found_between f i j))) (sym none) tt
+  pub entries_last : (b c : PairGains) → AreKept p old b → Follows r (length new) b c → AreKept p new c
+  entries_last b c kept follows i j known_i known_j = elim (follows.each i j) [
+    | inl none ↦ subst (IsKept p new i j) (sym none) (none_known p new i j)
     | inr f ↦
         let last : j ≢ length new = f.1.0.known in
         let both = stand_both i j known_i (omega (arith, known_j, last)) f.0 f.1.0 in
         let back = turned new old i j (origin_of r i) (origin_of r j) both in
-        subst (λ o. IfSome o (λ f. IsBestAmong p new (IsBetween k i j) (found_between f i j))) (sym f.1.1)
-        (through (entry_of b (origin_of r i) (origin_of r j)) (λ f. IsBestAmong p old (IsBetween k (origin_of r i) (origin_of r j)) (found_between f (origin_of r i) (origin_of r j))) (λ f. IsBestAmong p new (IsBetween k i j) (found_between f i j))
+        let e = entry_of b (origin_of r i) (origin_of r j) in
+        subst (IsKept p new i j) (sym f.1.1)
+        (λ k. through (known_of k e) (λ f. IsBestAmong p old (IsBetween k (origin_of r i) (origin_of r j)) (found_between f (origin_of r i) (origin_of r j))) (λ f. IsBestAmong p new (IsBetween k i j) (found_between f i j))
         (best_there p old new k (origin_of r i) (origin_of r j) i j before after back)
-        (kept (origin_of r i) (origin_of r j) both.one.there (omega (arith, both.other.there))))
+        (kept (origin_of r i) (origin_of r j) both.one.there (omega (arith, both.other.there)) k))
   ]
+
+-- what is kept follows a change of two routes
+pub kept_through : (p : Problem) (old new : List (List ℕ)) (r : Replaced) (count : ℕ) (g h : PairGains) → IsPlan p old → IsPlan p new → IsReplaced old new r → count ≡ length new
+    → Follows r count g h → AreKept p old g → AreKept p new h
+kept_through p old new r count g h before after replaced is follows kept = entries_last p old new r before after replaced g h kept (subst (λ n. Follows r n g h) is follows)

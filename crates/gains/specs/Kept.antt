@@ -11,6 +11,7 @@ use Rattle.moves.specs.Order.{kind_of}
 use Rattle.moves.specs.Search.{numbers}
 use Rattle.solomon_reader.specs.Moves.{route}
 use Rattle.gains.specs.declared.replaced.Replaced.{Replaced}
+use Rattle.gains.specs.declared.entry.Entry.{Entry}
 use Rattle.gains.specs.declared.pair_gains.PairGains.{PairGains}
 
 -- the two routes of a move, which may be one
@@ -38,18 +39,41 @@ abbrev pub found_between : Found → ℕ → ℕ → Found
 found_between None a b = None
 found_between (Some r) a b = Some (with_routes r.0 a b, r.1)
 
+-- an entry by which nothing is known
+abbrev pub unknown : Entry
+unknown = record { relocate = None; exchange = None; or_opt = None; two_opt_star = None; cross = None }
+
+-- what an entry keeps of a kind of moves, none where nothing is known
+abbrev pub known_of : Kind → Entry → Option Found
+known_of kind.Relocate e = e.relocate
+known_of kind.Exchange e = e.exchange
+known_of kind.OrOpt e = e.or_opt
+known_of kind.TwoOptStar e = e.two_opt_star
+known_of kind.Cross e = e.cross
+
+-- the entry with what was found of a kind
+abbrev pub with_found : Kind → Found → Entry → Entry
+with_found kind.Relocate f e = record { relocate = Some f; exchange = e.exchange; or_opt = e.or_opt; two_opt_star = e.two_opt_star; cross = e.cross }
+with_found kind.Exchange f e = record { relocate = e.relocate; exchange = Some f; or_opt = e.or_opt; two_opt_star = e.two_opt_star; cross = e.cross }
+with_found kind.OrOpt f e = record { relocate = e.relocate; exchange = e.exchange; or_opt = Some f; two_opt_star = e.two_opt_star; cross = e.cross }
+with_found kind.TwoOptStar f e = record { relocate = e.relocate; exchange = e.exchange; or_opt = e.or_opt; two_opt_star = Some f; cross = e.cross }
+with_found kind.Cross f e = record { relocate = e.relocate; exchange = e.exchange; or_opt = e.or_opt; two_opt_star = e.two_opt_star; cross = Some f }
+
 -- what is kept, a row for each first route; the routes of the moves may have had other numbers
-abbrev pub rows_of : PairGains → List (List (Option Found))
-rows_of t = map (λ (v : Vec (Option Found) Global). v.items) t.rows.items
+abbrev pub rows_of : PairGains → List (List Entry)
+rows_of t = map (λ (v : Vec Entry Global). v.items) t.rows.items
 
--- what is kept of the moves from route a into route b, none where nothing is known
-abbrev pub entry_of : PairGains → ℕ → ℕ → Option Found
-entry_of t a b = slice_index_or (slice_index_or (rows_of t) a []) b None
+-- what is kept of the moves from route a into route b
+abbrev pub entry_of : PairGains → ℕ → ℕ → Entry
+entry_of t a b = slice_index_or (slice_index_or (rows_of t) a []) b unknown
 
--- what is kept of two routes of the plan, the second of which may be the new one, is the best gain between them
-abbrev pub AreKept : Problem → List (List ℕ) → Kind → PairGains → Type 0
-AreKept p routes k t =
-    (a b : ℕ) → a < length routes → b ≤ length routes → IfSome (entry_of t a b) (λ found. IsBestAmong p routes (IsBetween k a b) (found_between found a b))
+-- the entry keeps of each kind the best gain between two routes, or nothing
+abbrev pub IsKept : Problem → List (List ℕ) → ℕ → ℕ → Entry → Type 0
+IsKept p routes a b e = (k : Kind) → IfSome (known_of k e) (λ found. IsBestAmong p routes (IsBetween k a b) (found_between found a b))
+
+-- what is kept of two routes of the plan, the second of which may be the new one, are the best gains between them
+abbrev pub AreKept : Problem → List (List ℕ) → PairGains → Type 0
+AreKept p routes t = (a b : ℕ) → a < length routes → b ≤ length routes → IsKept p routes a b (entry_of t a b)
 
 -- the number that a route has before route r goes
 abbrev pub skip : ℕ → ℕ → ℕ
@@ -64,8 +88,8 @@ skip_if goes r c = if goes then skip r c else c
 -- nothing is kept of route r, and the rest is as it was
 pub record IsForgotten (r : ℕ) (old new : PairGains) : Type 0 where
   pub kept : (a b : ℕ) → a ≢ r → b ≢ r → entry_of new a b ≡ entry_of old a b
-  pub into : (a : ℕ) → entry_of new a r ≡ None
-  pub from : (b : ℕ) → entry_of new r b ≡ None
+  pub into : (a : ℕ) → entry_of new a r ≡ unknown
+  pub from : (b : ℕ) → entry_of new r b ≡ unknown
 
 -- what is kept of route r goes, and the routes behind it are numbered anew
 abbrev pub IsTakenOut : ℕ → PairGains → PairGains → Type 0
@@ -87,7 +111,7 @@ pub record IsOther (r : Replaced) (count c : ℕ) : Type 0 where
 -- after two routes were replaced each entry is unknown or that of two other routes, and all of these are as they were
 pub record Follows (r : Replaced) (count : ℕ) (old new : PairGains) : Type 0 where
   pub kept : (c d : ℕ) → IsOther r count c → IsOther r count d → entry_of new c d ≡ entry_of old (origin_of r c) (origin_of r d)
-  pub each : (c d : ℕ) → (entry_of new c d ≡ None) ⊎ (IsOther r count c × (IsOther r count d × (entry_of new c d ≡ entry_of old (origin_of r c) (origin_of r d))))
+  pub each : (c d : ℕ) → (entry_of new c d ≡ unknown) ⊎ (IsOther r count c × (IsOther r count d × (entry_of new c d ≡ entry_of old (origin_of r c) (origin_of r d))))
 
 -- two routes of the old plan were replaced, and the new one has the others in their order
 pub record IsReplaced (old new : List (List ℕ)) (r : Replaced) : Type 0 where

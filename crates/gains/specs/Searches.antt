@@ -1,5 +1,5 @@
 -- Searches for the best gain.
-use Rattle.std.specs.Prelude.{◌≡◌, ℕ, List, ◌∷◌, [], ℤ}
+use Rattle.std.specs.Prelude.{◌≡◌, ℕ, List, ◌∷◌, [], slice_index_or, ℤ, pos, ◌≤ℤ◌, IsTrue}
 use Rattle.solomon_reader.specs.Problem.{Problem}
 use Rattle.solomon_reader.specs.Moves.{route}
 use Rattle.segments.specs.PlanTrees.{problem_of}
@@ -29,8 +29,13 @@ plan_of m = visits_of m.trees.now
 abbrev pub moves_of : Neighbourhood → Move → Type 0
 moves_of m n = IsBetween m.kind m.first m.second n
 
--- its trees are those of a plan, and its stops are those of its routes
+-- no move of a chain of one stop leaves a cheaper plan
+abbrev pub NoSingle : Neighbourhood → Type 0
+NoSingle m = (n : Move) (u : ℤ) → moves_of m n → slice_index_or (numbers n) 2 0 ≡ 1 → HasValue (instance_of m) (plan_of m) n u → pos 0 ≤ℤ u
+
+-- its trees are those of a plan, and its stops are those of its routes; what it says of single stops holds
 pub record IsOfPlan (m : Neighbourhood) : Type 0 where
+  pub single : IsTrue m.no_single → NoSingle m
   pub trees : AreOfPlan m.trees.now
   pub stops : m.stops.now ≡ route (plan_of m) m.first
   pub others : m.others.now ≡ route (plan_of m) m.second

@@ -6,7 +6,7 @@ ghost use Rattle.gains.specs.Gains.{IsFirstCut, IsBestAmong};
 ghost use Rattle.gains.specs.Searches.{instance_of, plan_of, moves_of, IsOfPlan, SearchesFrom};
 
 use crate::cuts::{Cut, cut_of};
-use crate::found::Found;
+use crate::found::{Found, may_be_better};
 use crate::neighbourhood::Neighbourhood;
 use moves::{Chain, first_lengths, first_positions, second_lengths, second_positions};
 
@@ -43,6 +43,9 @@ impl Neighbourhood<'_, '_> {
         requires first { first.now.route ≡ self.now.first }
         ensures { SearchesFrom self.now (first.now.route ∷ first.now.position ∷ first.now.length ∷ []) before result }
     {
+        if self.no_single && first.length == 1 && !may_be_better(0, before) {
+            return before;
+        }
         let Some(cut) = cut_of(self.stops, self.first_chain(*first)) else {
             return before;
         };

@@ -56,25 +56,29 @@ fn gain_between(
 ) -> Found
     requires plan { AreOfPlan trees.now }
     requires routes { lists routes.now ≡ visits_of trees.now }
-    requires kept { AreKept (problem_of trees.now) (visits_of trees.now) kind kept.old }
+    requires kept { AreKept (problem_of trees.now) (visits_of trees.now) kept.old }
     requires first { first < length (visits_of trees.now) }
     requires second { second ≤ length (visits_of trees.now) }
-    ensures kept { AreKept (problem_of trees.now) (visits_of trees.now) kind kept.new }
+    ensures kept { AreKept (problem_of trees.now) (visits_of trees.now) kept.new }
     ensures best { IsBestAmong (problem_of trees.now) (visits_of trees.now) (IsBetween kind first second) result }
 {
-    if let Some(found) = kept.at(first, second) {
+    let (from, into) = (usize::from(first), usize::from(second));
+    if let Some(found) = kept.at(from, into).known(kind) {
         return found_between(found, first, second);
     }
+    let mut entry = *kept.at(from, into);
     let neighbourhood = Neighbourhood {
         trees,
         kind,
         first,
         second,
+        no_single: entry.has_no_single(kind),
         stops: stops_of(routes, first),
         others: stops_of(routes, second),
     };
     let found = neighbourhood.best_gain();
-    kept.put(usize::from(first), usize::from(second), Some(found));
+    entry.keep(kind, found);
+    kept.put(from, into, entry);
     found
 }
 
@@ -90,10 +94,10 @@ fn gain_from(
 ) -> Found
     requires plan { AreOfPlan trees.now }
     requires routes { lists routes.now ≡ visits_of trees.now }
-    requires kept { AreKept (problem_of trees.now) (visits_of trees.now) kind kept.old }
+    requires kept { AreKept (problem_of trees.now) (visits_of trees.now) kept.old }
     requires first { first < length (visits_of trees.now) }
     requires found { IsFoundAmong (problem_of trees.now) (visits_of trees.now) (λ n. kind_of n ≡ kind) before }
-    ensures kept { AreKept (problem_of trees.now) (visits_of trees.now) kind kept.new }
+    ensures kept { AreKept (problem_of trees.now) (visits_of trees.now) kept.new }
     ensures search { Searches (problem_of trees.now) (visits_of trees.now) (λ n. kind_of n ≡ kind) (λ n. first_route n ≡ first) before result }
 {
     let seconds = seconds_of(trees, kind, first);
@@ -117,8 +121,8 @@ pub fn best_gain(
 ) -> Option<(Move, i64)>
     requires plan { AreOfPlan trees.now }
     requires routes { lists routes.now ≡ visits_of trees.now }
-    requires kept { AreKept (problem_of trees.now) (visits_of trees.now) kind kept.old }
-    ensures kept { AreKept (problem_of trees.now) (visits_of trees.now) kind kept.new }
+    requires kept { AreKept (problem_of trees.now) (visits_of trees.now) kept.old }
+    ensures kept { AreKept (problem_of trees.now) (visits_of trees.now) kept.new }
     ensures best { IsBestGainIfAny (problem_of trees.now) (visits_of trees.now) kind result }
 {
     let mut best = None;

@@ -5,6 +5,7 @@
 mod choosing;
 mod comparing;
 mod cuts;
+mod entry;
 mod found;
 mod keeping;
 mod laws;

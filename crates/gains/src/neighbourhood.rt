@@ -11,6 +11,8 @@ pub struct Neighbourhood<'a, 'i> {
     pub kind: Kind,
     pub first: u16,
     pub second: u16,
+    /// Where it holds, no chain of one stop has a gain.
+    pub no_single: bool,
     pub stops: &'a [u16],
     pub others: &'a [u16],
 }

@@ -1,24 +1,24 @@
 //! The best gains between two routes, which are kept while a plan changes.
 
-ghost use Rattle.std.specs.Prelude.{◌≡◌, ◌≢◌, ℕ, [], None, IfOk, slice_index_or, slice_set};
-ghost use Rattle.gains.specs.Kept.{rows_of, entry_of, skip, skip_if, Follows, IsForgotten, IsTakenOut, HasSameEntries};
+ghost use Rattle.std.specs.Prelude.{◌≡◌, ◌≢◌, ℕ, [], IfOk, slice_index_or, slice_set};
+ghost use Rattle.gains.specs.Kept.{unknown, rows_of, entry_of, skip, skip_if, Follows, IsForgotten, IsTakenOut, HasSameEntries};
 
-use crate::found::Found;
+use crate::entry::{Entry, UNKNOWN};
 use crate::replaced::Replaced;
 use std::alloc::{AllocError, Global};
 
-/// For moves of a kind from a route into a route the best that makes the plan cheaper, if one does. Of
+/// For moves from a route into a route the best of each kind that makes the plan cheaper, if one does. Of
 /// pairs of routes without an entry nothing is known. Routes are counted from 0.
 #[derive(Drop)]
 pub struct PairGains {
     alloc: Global,
-    rows: Vec<Vec<Option<Found>>>,
+    rows: Vec<Vec<Entry>>,
 }
 
 /// Takes an item out, if it is there.
 #[tactic(auto, using(crate::proofs::KeptRows::without_row, crate::proofs::KeptRows::nothing_behind))]
-fn take_out_of(row: &mut Vec<Option<Found>>, number: usize)
-    ensures { (i : ℕ) → slice_index_or row.new.items i None ≡ slice_index_or row.old.items (skip number i) None }
+fn take_out_of(row: &mut Vec<Entry>, number: usize)
+    ensures { (i : ℕ) → slice_index_or row.new.items i unknown ≡ slice_index_or row.old.items (skip number i) unknown }
 {
     if number < row.len() {
         row.remove(number);
@@ -26,11 +26,11 @@ fn take_out_of(row: &mut Vec<Option<Found>>, number: usize)
 }
 
 /// Makes a row at least this long, unless memory is refused.
-fn lengthen(row: &mut Vec<Option<Found>>, count: usize)
-    ensures { (i : ℕ) → slice_index_or row.new.items i None ≡ slice_index_or row.old.items i None }
+fn lengthen(row: &mut Vec<Entry>, count: usize)
+    ensures { (i : ℕ) → slice_index_or row.new.items i unknown ≡ slice_index_or row.old.items i unknown }
 {
     for _ in row.len()..count {
-        if row.push(None).is_err() {
+        if row.push(UNKNOWN).is_err() {
             return;
         }
     }
@@ -39,7 +39,7 @@ fn lengthen(row: &mut Vec<Option<Found>>, count: usize)
 impl PairGains {
     /// Nothing is known, and there are places for this many routes and the new one.
     pub fn new(alloc: Global, count: usize) -> PairGains
-        ensures { (a b : ℕ) → entry_of result a b ≡ None }
+        ensures { (a b : ℕ) → entry_of result a b ≡ unknown }
     {
         let mut gains = PairGains {
             alloc,
@@ -63,19 +63,19 @@ impl PairGains {
         })
     }
 
-    /// What is kept of the moves from a route into a route; the move may have other routes' numbers.
-    pub fn at(&self, first: u16, second: u16) -> Option<Found>
-        ensures { result ≡ entry_of self.now first second }
+    /// What is kept of the moves from a route into a route.
+    #[inline(always)]
+    pub fn at(&self, first: usize, second: usize) -> &Entry
+        ensures { result.now ≡ entry_of self.now first second }
     {
-        let row = self.rows.get(usize::from(first))?;
-        match row.get(usize::from(second)) {
-            Some(entry) => *entry,
-            None => None,
+        if first < self.rows.len() && second < self.rows[first].len() {
+            return &self.rows[first][second];
         }
+        &UNKNOWN
     }
 
     /// Puts an entry in its place, if there is one for it.
-    pub fn put(&mut self, first: usize, second: usize, entry: Option<Found>)
+    pub fn put(&mut self, first: usize, second: usize, entry: Entry)
         ensures { rows_of self.new ≡ slice_set (rows_of self.old) first (slice_set (slice_index_or (rows_of self.old) first []) second entry) }
     {
         if first < self.rows.len() && second < self.rows[first].len() {
@@ -86,21 +86,21 @@ impl PairGains {
     /// Forgets all that is kept of the moves into a route.
     fn forget_into(&mut self, route: usize)
         ensures kept { (a b : ℕ) → b ≢ route → entry_of self.new a b ≡ entry_of self.old a b }
-        ensures into { (a : ℕ) → entry_of self.new a route ≡ None }
+        ensures into { (a : ℕ) → entry_of self.new a route ≡ unknown }
     {
         for first in 0..self.rows.len() {
-            self.put(first, route, None);
+            self.put(first, route, UNKNOWN);
         }
     }
 
     /// Forgets all that is kept of the moves from a route.
     fn forget_from(&mut self, route: usize)
         ensures kept { (a b : ℕ) → a ≢ route → entry_of self.new a b ≡ entry_of self.old a b }
-        ensures from { (b : ℕ) → entry_of self.new route b ≡ None }
+        ensures from { (b : ℕ) → entry_of self.new route b ≡ unknown }
     {
         if route < self.rows.len() {
             for second in 0..self.rows[route].len() {
-                self.put(route, second, None);
+                self.put(route, second, UNKNOWN);
             }
         }
     }

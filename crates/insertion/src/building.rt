@@ -107,10 +107,7 @@ fn answer<'i>(instance: &'i Instance, routes: Vec<Vec<u16>>, unrouted: Vec<u16>)
             left: unrouted,
         };
     }
-    match Feasible::check(instance, routes) {
-        Ok(plan) => Built::Whole(plan),
-        Err(_) => unreachable!(),
-    }
+    Built::Whole(Feasible::known(instance, routes))
 }
 
 /// Builds routes one after the other (Solomon 1987, insertion heuristic I1). Of the customers that

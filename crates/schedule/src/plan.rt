@@ -62,6 +62,22 @@ impl<'i> Feasible<'i> {
         })
     }
 
+    /// The plan of routes that are known as one. Each route is walked once, for its cost.
+    pub fn known(instance: &'i Instance, routes: Vec<Vec<u16>>) -> Feasible<'i>
+        requires { IsPlan instance.now (lists routes.items) }
+        ensures problem { result.problem ≡ instance.now }
+        ensures routes { result.routes ≡ lists routes.items }
+        ensures solution { IsSolution result }
+    {
+        instance.law_of_limits();
+        let cost = total_cost(instance, routes.as_slice());
+        Feasible {
+            instance,
+            routes,
+            cost,
+        }
+    }
+
     /// The sum of the routes' costs, in tenths.
     pub fn cost(&self) -> Tenths
         ensures is { result ≡ self.now.cost }

@@ -91,7 +91,7 @@ same_held : (start earlier later held : Solution) → earlier.problem ≡ start.
 same_held start earlier later held e l (inl is) = ap (λ s. s.problem) is.1 ∙ l
 same_held start earlier later held e l (inr is) = ap (λ s. s.problem) is.1 ∙ e
 
-same_either : (start one other held : Solution) → one.problem ≡ start.problem → other.problem ≡ start.problem → (held ≡ one) ⊎ (held ≡ other) → held.problem ≡ start.problem
+pub same_either : (start one other held : Solution) → one.problem ≡ start.problem → other.problem ≡ start.problem → (held ≡ one) ⊎ (held ≡ other) → held.problem ≡ start.problem
 same_either start one other held e l (inl is) = ap (λ s. s.problem) is ∙ e
 same_either start one other held e l (inr is) = ap (λ s. s.problem) is ∙ l
 
@@ -126,10 +126,10 @@ optimum_of p start plans found come one =
     let is : IsLocalOptimum p (slice_index_or plans one.0 []) = optimum_at p start plans one.0 one.1 come in
     rw one.2 at is
 
-found_of : (old found new : Solution) → found.problem ≡ old.problem
+pub turned : (old found new : Solution) → found.problem ≡ old.problem
     → (plans : List (List (List ℕ))) × AreRounds old.problem ROUNDS old.routes plans × IsCheapest old.problem plans found.routes
     → ((found.cost < old.cost) × (new ≡ found)) ⊎ ((old.cost ≤ found.cost) × (new ≡ old)) → IsTurned old new
-found_of old found new same come held = record {
+turned old found new same come held = record {
   plans = come.0;
   found = found;
   problem = same;
@@ -139,21 +139,12 @@ found_of old found new same come held = record {
   held = held;
 }
 
-pub turned_to : (old found : Solution) → found.problem ≡ old.problem
+pub kept_or_better : (old found new : Solution) → found.problem ≡ old.problem
     → (plans : List (List (List ℕ))) × AreRounds old.problem ROUNDS old.routes plans × IsCheapest old.problem plans found.routes
-    → found.cost < old.cost → IsTurned old found
-turned_to old found same come below = found_of old found found same come (inl (below, refl))
-
-pub not_turned : (old found : Solution) → found.problem ≡ old.problem
-    → (plans : List (List (List ℕ))) × AreRounds old.problem ROUNDS old.routes plans × IsCheapest old.problem plans found.routes
-    → old.cost ≤ found.cost → IsTurned old old
-not_turned old found same come above = found_of old found old same come (inr (above, refl))
-
-pub better_optimum : (old found : Solution) → found.problem ≡ old.problem
-    → (plans : List (List (List ℕ))) × AreRounds old.problem ROUNDS old.routes plans × IsCheapest old.problem plans found.routes
-    → found.cost < old.cost → IsBetterOptimum old found
-better_optimum old found same come below = record {
+    → ((found.cost < old.cost) × (new ≡ found)) ⊎ ((old.cost ≤ found.cost) × (new ≡ old)) → (new ≡ old) ⊎ IsBetterOptimum old new
+kept_or_better old found new same come (inr kept) = inl kept.1
+kept_or_better old found new same come (inl held) = inr (rw held.1 (record {
   problem = same;
-  cheaper = below;
+  cheaper = held.0;
   optimum = rw same (optimum_of old.problem old.routes come.0 found.routes come.1.come_to come.2.one);
-}
+}))

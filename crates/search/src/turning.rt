@@ -9,8 +9,8 @@ use crate::descent::descend;
 use crate::fault::SearchFault;
 use crate::near_shake::shake_near;
 use rand_core::Rng;
-use schedule::Feasible;
 use std::alloc::{AllocError, Global};
+use std::mem;
 use working_plan::WorkingPlan;
 
 /// How many rounds a turn makes.
@@ -35,45 +35,53 @@ fn threshold_of(plan: &WorkingPlan<'_>, round: u32) -> u64 {
     first.saturating_mul(u64::from(ROUNDS.saturating_sub(round))) / u64::from(ROUNDS)
 }
 
-/// Shakes a copy of the plan, and descends from there.
+/// Shakes a copy of the plan, which is made of a spare one, and descends from there.
 fn make_round<'i, R: Rng>(
     alloc: Global,
     current: &WorkingPlan<'i>,
+    spare: WorkingPlan<'i>,
     random: &mut R,
 ) -> Result<WorkingPlan<'i>, SearchFault>
+    requires { spare.problem ≡ current.now.problem }
     ensures problem { IfOk result (λ w. w.problem ≡ current.now.problem) }
     ensures round { IfOk result (λ w. IsRound current.now.problem current.now.routes w.routes) }
 {
-    let mut next = current.try_clone()?;
+    let mut next = current.copy_over(spare)?;
     shake_near(alloc, &mut next, random)?;
     descend(&mut next)?;
     Ok(next)
 }
 
 /// Holds the next plan as the cheapest where it is cheaper than that, and goes on from it where it is
-/// dearer than the cheapest before it by less than the threshold.
-fn hold<'i>(held: &mut Held<'i>, next: WorkingPlan<'i>, threshold: u64) -> Result<(), AllocError>
+/// dearer than the cheapest before it by less than the threshold. Answers the plan that it doesn't go on
+/// from.
+fn hold<'i>(
+    held: &mut Held<'i>,
+    next: WorkingPlan<'i>,
+    threshold: u64,
+) -> Result<WorkingPlan<'i>, AllocError>
     ensures current { OnOk result ((held.new.current ≡ next.entry) ⊎ (held.new.current ≡ held.old.current)) }
     ensures best { OnOk result (IsCheaper held.old.best next.entry held.new.best) }
+    ensures spare { IfOk result (λ w. (w ≡ next.entry) ⊎ (w ≡ held.old.current)) }
 {
     let most = held.best.cost().get().saturating_add(threshold);
     if next.cost().get() < held.best.cost().get() {
         held.best = next.try_clone()?;
     }
     if next.cost().get() < most {
-        held.current = next;
+        return Ok(mem::replace(&mut held.current, next));
     }
-    Ok(())
+    Ok(next)
 }
 
 /// The plan that the rounds of a turn begin with: a descent from the plan held.
-fn begin<'i>(alloc: Global, plan: &Feasible<'i>) -> Result<Held<'i>, SearchFault>
+fn begin<'i>(start: WorkingPlan<'i>) -> Result<Held<'i>, SearchFault>
     ensures same { IfOk result (λ h. h.best ≡ h.current) }
-    ensures problem { IfOk result (λ h. h.current.problem ≡ plan.now.problem) }
-    ensures descends { IfOk result (λ h. Descends plan.now.problem plan.now.routes h.current.routes) }
-    ensures optimum { IfOk result (λ h. IsLocalOptimum plan.now.problem h.current.routes) }
+    ensures problem { IfOk result (λ h. h.current.problem ≡ start.entry.problem) }
+    ensures descends { IfOk result (λ h. Descends start.entry.problem start.entry.routes h.current.routes) }
+    ensures optimum { IfOk result (λ h. IsLocalOptimum start.entry.problem h.current.routes) }
 {
-    let mut current = WorkingPlan::new(alloc, plan)?;
+    let mut current = start;
     descend(&mut current)?;
     let best = current.try_clone()?;
     Ok(Held { current, best })
@@ -83,17 +91,18 @@ fn begin<'i>(alloc: Global, plan: &Feasible<'i>) -> Result<Held<'i>, SearchFault
 /// was come to before: the last one, or where that was too dear the one before it.
 pub fn find_by_rounds<'i, R: Rng>(
     alloc: Global,
-    plan: &Feasible<'i>,
+    start: WorkingPlan<'i>,
     random: &mut R,
-) -> Result<Feasible<'i>, SearchFault>
-    ensures problem { IfOk result (λ f. f.problem ≡ plan.now.problem) }
-    ensures found { IfOk result (λ f. (plans : List (List (List ℕ))) × AreRounds plan.now.problem ROUNDS plan.now.routes plans × IsCheapest plan.now.problem plans f.routes) }
+) -> Result<WorkingPlan<'i>, SearchFault>
+    ensures problem { IfOk result (λ f. f.problem ≡ start.entry.problem) }
+    ensures found { IfOk result (λ f. (plans : List (List (List ℕ))) × AreRounds start.entry.problem ROUNDS start.entry.routes plans × IsCheapest start.entry.problem plans f.routes) }
 {
-    let mut held = begin(alloc, plan)?;
+    let mut held = begin(start)?;
+    let mut spare = held.current.try_clone()?;
     for round in 0..ROUNDS {
         let threshold = threshold_of(&held.best, round);
-        let next = make_round(alloc, &held.current, random)?;
-        hold(&mut held, next, threshold)?;
+        let next = make_round(alloc, &held.current, spare, random)?;
+        spare = hold(&mut held, next, threshold)?;
     }
-    Ok(held.best.into_plan())
+    Ok(held.best)
 }

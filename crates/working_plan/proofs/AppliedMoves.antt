@@ -1,6 +1,8 @@
 -- A plan after a move that was made in place, or wasn't.
-use Rattle.std.proofs.Common.{◌≡◌, refl, ℕ, ◌≤◌, List, sym, ◌∙◌, arith, inl, inr}
+use Rattle.std.proofs.Common.{◌≡◌, refl, ℕ, ◌≤◌, List, length, sym, ap, subst, ◌∙◌, arith, inl, inr}
 use Rattle.std.specs.Prelude.{ℤ, pos, ◌+ℤ◌, ◌≤ℤ◌}
+use Rattle.std.specs.Prelude.{Vec}
+use Rattle.std.specs.declared.alloc.Global.{Global}
 use Rattle.std.specs.List.{All}
 use Rattle.std.proofs.lemmas.Int.{ints}
 use Rattle.std.proofs.lemmas.List.Elements.{All-from_recursion}
@@ -10,6 +12,8 @@ use Rattle.solomon_reader.specs.Problem.{Problem, IsCustomer, customer_count}
 use Rattle.solomon_reader.specs.Layout.{IsWithinLimits}
 use Rattle.solomon_reader.specs.Plan.{IsPlan, plan_cost}
 use Rattle.solomon_reader.specs.Moves.{kept}
+use Rattle.solomon_reader.specs.Lists.{lists}
+use Rattle.segments.proofs.KnownRoutes.{known_routes}
 use Rattle.segments.specs.PlanTrees.{problem_of}
 use Rattle.segments.specs.declared.plan_trees.PlanTrees.{PlanTrees}
 use Rattle.moves.specs.declared.candidate.Move.{Move}
@@ -19,6 +23,10 @@ use Rattle.moves.specs.Values.{HasValue, after}
 use Rattle.moves.specs.Changes.{IsEmptyOrFitting, IsChangeTo, joined, changed}
 use Rattle.moves.proofs.Rebuilding.{rebuilt_parts}
 use Rattle.moves.proofs.PlanStops.{visits_are, are_of_plan}
+use Rattle.gains.specs.declared.pair_gains.PairGains.{PairGains}
+use Rattle.gains.specs.declared.replaced.Replaced.{Replaced}
+use Rattle.gains.specs.Kept.{AreKept, Follows, IsReplaced}
+use Rattle.gains.proofs.LastingGains.{kept_through}
 use Rattle.working_plan.specs.Replacing.{AreTreesOf}
 use Rattle.working_plan.proofs.PlanCosts.{cost_within}
 
@@ -36,30 +44,56 @@ module _ (p : Problem) (routes : List (List ℕ)) (m : Move) (v : ℤ) (c : Chan
   pub second_known : All (λ i. IsCustomer p i) (joined routes c.second.chains.items)
   second_known = rw to.is_second.stops (known_list p to.y (rebuilt_parts p routes to.a to.x to.b to.y to.rebuilds plan (rw to.is_result at value.plan)).1)
 
-pub applied : (old new : PlanTrees) (routes later : List (List ℕ)) (m : Move) (v : ℤ) (c : Change) (cost next : ℕ)
-    → visits_of old ≡ routes → cost ≡ plan_cost (problem_of old) routes
+-- the plan after a move, with what is kept of its routes
+pub applied : (old new : PlanTrees) (routes later : List (List ℕ)) (m : Move) (v : ℤ) (c : Change) (cost next : ℕ) (r : Replaced) (count : ℕ) (g h : PairGains)
+    → AreOfPlan old → visits_of old ≡ routes → cost ≡ plan_cost (problem_of old) routes → AreKept (problem_of old) (visits_of old) g
     → HasValue (problem_of old) routes m v → IsChangeTo routes (after routes m) c
     → problem_of new ≡ problem_of old → later ≡ kept (changed routes c) → AreTreesOf later new → pos next ≡ pos cost +ℤ v
-    → AreOfPlan new × (visits_of new ≡ later) × (next ≡ plan_cost (problem_of new) later)
-applied old new routes later m v c cost next visits exact value to same made trees sum =
-    let e : later ≡ after routes m = made ∙ changed_is routes (after routes m) c to in (
-      are_of_plan new (problem_of new) later refl trees.stops trees.trees (rw (same, e) value.plan),
-      visits_are new (problem_of new) later trees.stops,
-      rw (same, e) (same_cost _ _ cost next v value.exact exact sum),
-    )
+    → IsReplaced (visits_of old) (kept (changed (visits_of old) c)) r → count ≡ length later → Follows r count g h
+    → AreOfPlan new × (visits_of new ≡ later) × (next ≡ plan_cost (problem_of new) later) × AreKept (problem_of new) (visits_of new) h
+applied old new routes later m v c cost next r count g h plan visits exact gains value to same made trees sum replaced long follows =
+    (of_plan, is, rw (same, e) (same_cost _ _ cost next v value.exact exact sum), kept_on)
   where
+    e : later ≡ after routes m
+    e = made ∙ changed_is routes (after routes m) c to
+
+    of_plan : AreOfPlan new
+    of_plan = are_of_plan new (problem_of new) later refl trees.stops trees.trees (rw (same, e) value.plan)
+
+    is : visits_of new ≡ later
+    is = visits_are new (problem_of new) later trees.stops
+
     same_cost : (new old cost next : ℕ) (v : ℤ) → pos new ≡ pos old +ℤ v → cost ≡ old → pos next ≡ pos cost +ℤ v → next ≡ new
     same_cost new old cost next v e f g = omega (arith, ints)
 
+    changed_there : kept (changed (visits_of old) c) ≡ visits_of new
+    changed_there = ap (λ (q : List (List ℕ)). kept (changed q c)) visits ∙ sym made ∙ sym is
+
+    kept_on : AreKept (problem_of new) (visits_of new) h
+    kept_on =
+        kept_through (problem_of new) (visits_of old) (visits_of new) r count g h
+        (subst (λ p. IsPlan p (visits_of old)) (sym same) plan.plan) of_plan.plan (subst (λ q. IsReplaced (visits_of old) q r) changed_there replaced)
+        (long ∙ ap length (sym is)) follows (subst (λ p. AreKept p (visits_of old) g) (sym same) gains)
+
 -- where none was made the plan is as it was
-pub none_applied : (old new : PlanTrees) (routes later : List (List ℕ)) (cost : ℕ) → AreOfPlan old → visits_of old ≡ routes → cost ≡ plan_cost (problem_of old) routes
+pub none_applied : (old new : PlanTrees) (routes later : List (List ℕ)) (cost : ℕ) (g : PairGains) → AreOfPlan old → visits_of old ≡ routes → cost ≡ plan_cost (problem_of old) routes → AreKept (problem_of old) (visits_of old) g
     → problem_of new ≡ problem_of old → later ≡ routes → AreTreesOf later new
-    → AreOfPlan new × (visits_of new ≡ later) × (cost ≡ plan_cost (problem_of new) later)
-none_applied old new routes later cost plan visits exact same e trees = (
+    → AreOfPlan new × (visits_of new ≡ later) × (cost ≡ plan_cost (problem_of new) later) × AreKept (problem_of new) (visits_of new) g
+none_applied old new routes later cost g plan visits exact gains same e trees = (
   are_of_plan new (problem_of new) later refl trees.stops trees.trees (rw (same, e) (rw visits at plan.plan)),
-  visits_are new (problem_of new) later trees.stops,
+  is,
   rw (same, e) exact,
+  subst (λ q. AreKept (problem_of new) q g) (visits ∙ sym e ∙ sym is) (subst (λ p. AreKept p (visits_of old) g) (sym same) gains),
 )
+  where
+    is : visits_of new ≡ later
+    is = visits_are new (problem_of new) later trees.stops
+
+-- the routes of a plan visit customers of the same instance
+pub customers_of : (p q : Problem) (visits : List (List ℕ)) (routes : List (Vec ℕ Global)) → IsPlan q visits → visits ≡ lists routes → p ≡ q → All (λ r. All (λ i. IsCustomer p i) r.items) routes
+customers_of p q visits routes plan e same =
+    let here : IsPlan p (lists routes) = subst (λ x. IsPlan x (lists routes)) (sym same) (subst (IsPlan q) e plan) in
+    known_routes p routes here.fitting
 
 -- the cost after a move is within the limit of costs
 pub cost_fits : (p : Problem) (routes : List (List ℕ)) (m : Move) (v : ℤ) (cost : ℕ) → IsWithinLimits p → customer_count p ≤ MOST_CUSTOMERS

@@ -1,6 +1,6 @@
 pub mod TreeChanges
 pub mod KeptRoutes
 pub mod AppliedMoves
-pub mod KeptKinds
 pub mod KeptNumbers
 pub mod PlanCosts
+pub mod Copies

@@ -1,5 +1,5 @@
 -- A plan's trees after a route was put, removed or pushed.
-use Rattle.std.proofs.Common.{◌≡◌, ℕ, List, [], ◌∷◌, ◌++◌, length, map, set, sym, ap, ◌∙◌}
+use Rattle.std.proofs.Common.{◌≡◌, ℕ, zero, suc, ◌<◌, List, [], ◌∷◌, ◌++◌, length, map, get_or, set, sym, ap, ◌∙◌, arith}
 use Rattle.std.specs.List.{remove}
 use Rattle.std.specs.Prelude.{Vec}
 use Rattle.std.specs.declared.alloc.Global.{Global}
@@ -13,6 +13,11 @@ use Rattle.working_plan.specs.Replacing.{AreTreesOf}
 
 pub lists-length : (routes : List (Vec ℕ Global)) → length (lists routes) ≡ length routes
 lists-length routes = length-map routes (λ (r : Vec ℕ Global). r.items)
+
+pub lists-at : (routes : List (Vec ℕ Global)) (a : ℕ) (x : Vec ℕ Global) → a < length routes → x ≡ get_or routes a x → get_or (lists routes) a [] ≡ x.items
+lists-at [] a x h e = absurd (omega (arith, h))
+lists-at (r ∷ routes) zero x h e = ap (λ (v : Vec ℕ Global). v.items) (sym e)
+lists-at (r ∷ routes) (suc a) x h e = lists-at routes a x (omega (arith, h)) e
 
 pub lists-set : (routes : List (Vec ℕ Global)) (a : ℕ) (x : Vec ℕ Global) → lists (set routes a x) ≡ set (lists routes) a x.items
 lists-set routes a x = map-set (λ (r : Vec ℕ Global). r.items) routes a x

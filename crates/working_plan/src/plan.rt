@@ -1,38 +1,70 @@
 //! A plan that is changed in place.
 
-ghost use Rattle.std.specs.Prelude.{◌≡◌, ℤ, pos, ◌-ℤ◌, IfOk, IfErr, OnOk, OnErr, IfSome, IfNone};
+ghost use Rattle.std.specs.Prelude.{◌≡◌, ℤ, pos, ◌+ℤ◌, ◌-ℤ◌, ◌≤ℤ◌, IfOk, IfErr, OnOk, OnErr, IfSome, IfNone};
+ghost use Rattle.tenths.specs.declared.value.TheConstants.{MOST_TENTHS};
 ghost use Rattle.solomon_reader.specs.Lists.{lists};
 ghost use Rattle.schedule.specs.Solution.{IsSolution};
 ghost use Rattle.moves.specs.Values.{after, HasValue, IsValue};
 ghost use Rattle.moves.specs.declared.fault.MoveFault.TheVariants.{NotFeasible};
 ghost use Rattle.working_plan.specs.Gains.{HasNoGain, IsBestGain};
 
-use crate::kind_gains::KindGains;
-use crate::tree_plan::TreePlan;
-use moves::{Kind, Move, MoveFault};
+use crate::replacing::{copy_over, replace, replaced_by};
+use gains::{PairGains, best_gain};
+use moves::{Kind, Move, MoveFault, change_of, trees_of, value};
 use schedule::Feasible;
+use segments::PlanTrees;
 use solomon_reader::Instance;
 use std::alloc::{AllocError, Global};
 use std::marker::Model;
 use tenths::Tenths;
 
-/// A plan of its instance, at its exact cost, which moves change in place. Contracts see the instance,
-/// the routes as lists and the cost.
+/// A plan of its instance, at its exact cost, which moves change in place, with the trees of its routes
+/// and the best gains between them. Contracts see the instance, the routes as lists and the cost.
 #[derive(Drop)]
 pub struct WorkingPlan<'i> {
-    plan: TreePlan<'i>,
-    gains: KindGains,
+    alloc: Global,
+    routes: Vec<Vec<u16>>,
+    trees: PlanTrees<'i>,
+    cost: Tenths,
+    gains: PairGains,
 }
 
 impl<'i> Model for WorkingPlan<'i> {
+    ghost use Rattle.std.specs.Prelude.{◌≡◌};
+    ghost use Rattle.solomon_reader.specs.Plan.{plan_cost};
+    ghost use Rattle.solomon_reader.specs.Lists.{lists};
     ghost use Rattle.schedule.specs.Solution.{Solution};
-    ghost use Rattle.working_plan.specs.KindGains.{AreOfEachKind};
+    ghost use Rattle.segments.specs.PlanTrees.{problem_of};
+    ghost use Rattle.moves.specs.Trees.{visits_of, AreOfPlan};
+    ghost use Rattle.gains.specs.Kept.{AreKept};
 
     ghost Value = { Solution };
 
-    ghost view = { λ w. w.plan };
+    ghost view = { λ w. record { problem = problem_of w.trees; routes = lists w.routes.items; cost = w.cost } };
 
-    ghost invariant = { λ w. AreOfEachKind w.plan.problem w.plan.routes w.gains };
+    ghost invariant = { λ w. AreOfPlan w.trees × (visits_of w.trees ≡ lists w.routes.items) × (w.cost ≡ plan_cost (problem_of w.trees) (lists w.routes.items)) × AreKept (problem_of w.trees) (visits_of w.trees) w.gains };
+}
+
+/// A copy of routes.
+fn copy_of(alloc: Global, routes: &[Vec<u16>]) -> Result<Vec<Vec<u16>>, AllocError>
+    ensures { IfOk result (λ v. lists v.items ≡ lists routes.now) }
+{
+    let mut copy = Vec::new(alloc);
+    for route in routes {
+        let visits = route.as_slice().to_vec(alloc)?;
+        copy.push(visits)?;
+    }
+    Ok(copy)
+}
+
+/// A cost after a change of it, both in tenths.
+fn cost_after(cost: Tenths, change: i64) -> Tenths
+    requires some { pos 0 ≤ℤ (pos cost +ℤ change) }
+    requires within { (pos cost +ℤ change) ≤ℤ pos MOST_TENTHS }
+    ensures { pos result ≡ pos cost +ℤ change }
+{
+    let sum = cost.get() as i64 + change;
+    Tenths::new(sum as u64).unwrap()
 }
 
 impl<'i> WorkingPlan<'i> {
@@ -40,18 +72,55 @@ impl<'i> WorkingPlan<'i> {
     pub fn new(alloc: Global, plan: &Feasible<'i>) -> Result<WorkingPlan<'i>, AllocError>
         ensures { IfOk result (λ w. w ≡ plan.now) }
     {
-        let gains = KindGains::new(alloc, plan.routes().len());
-        let plan = TreePlan::new(alloc, plan)?;
-        Ok(WorkingPlan { plan, gains })
+        let Ok(trees) = trees_of(alloc, plan) else {
+            return Err(AllocError);
+        };
+        let gains = PairGains::new(alloc, plan.routes().len());
+        let routes = copy_of(alloc, plan.routes())?;
+        Ok(WorkingPlan {
+            alloc,
+            routes,
+            trees,
+            cost: plan.cost(),
+            gains,
+        })
     }
 
     /// A copy, unless memory runs out.
     pub fn try_clone(&self) -> Result<WorkingPlan<'i>, AllocError>
         ensures { IfOk result (λ w. w ≡ self.now) }
     {
+        let plan = self.to_plan()?;
+        let Ok(trees) = trees_of(self.alloc, &plan) else {
+            return Err(AllocError);
+        };
+        let gains = self.gains.try_clone()?;
+        let routes = copy_of(self.alloc, self.routes.as_slice())?;
         Ok(WorkingPlan {
-            plan: self.plan.try_clone()?,
-            gains: self.gains.try_clone()?,
+            alloc: self.alloc,
+            routes,
+            trees,
+            cost: self.cost,
+            gains,
+        })
+    }
+
+    /// A copy, made of another working plan of the instance: its routes that are the same stay.
+    /// `Err` where memory runs out.
+    pub fn copy_over(&self, spare: WorkingPlan<'i>) -> Result<WorkingPlan<'i>, AllocError>
+        requires { spare.problem ≡ self.now.problem }
+        ensures { IfOk result (λ w. w ≡ self.now) }
+    {
+        let mut routes = spare.routes;
+        let mut trees = spare.trees;
+        copy_over(self.alloc, &mut routes, &mut trees, self.routes.as_slice())?;
+        let gains = self.gains.try_clone()?;
+        Ok(WorkingPlan {
+            alloc: self.alloc,
+            routes,
+            trees,
+            cost: self.cost,
+            gains,
         })
     }
 
@@ -59,21 +128,22 @@ impl<'i> WorkingPlan<'i> {
     pub fn to_plan(&self) -> Result<Feasible<'i>, AllocError>
         ensures { IfOk result (λ f. f ≡ self.now) }
     {
-        self.plan.to_plan()
+        let routes = copy_of(self.alloc, self.routes.as_slice())?;
+        Ok(Feasible::known(self.trees.instance(), routes))
     }
 
     /// The plan. It takes no memory.
     pub fn into_plan(self) -> Feasible<'i>
         ensures { result ≡ self.entry }
     {
-        self.plan.into_plan()
+        Feasible::known(self.trees.instance(), self.routes)
     }
 
     /// The instance whose plan this is.
     pub fn instance(&self) -> &'i Instance
         ensures { result.now ≡ self.now.problem }
     {
-        self.plan.instance()
+        self.trees.instance()
     }
 
     /// The sum of the routes' costs, in tenths.
@@ -81,14 +151,14 @@ impl<'i> WorkingPlan<'i> {
         ensures is { result ≡ self.now.cost }
         ensures solution { IsSolution self.now }
     {
-        self.plan.cost()
+        self.cost
     }
 
     /// The routes, each the customers that one vehicle serves, in order.
     pub fn routes(&self) -> &[Vec<u16>]
         ensures { lists result.now ≡ self.now.routes }
     {
-        self.plan.routes()
+        self.routes.as_slice()
     }
 
     /// By how many tenths a move changes the cost, or `None` where it is not well formed or leaves no
@@ -96,7 +166,7 @@ impl<'i> WorkingPlan<'i> {
     pub fn value(&self, candidate: &Move) -> Option<i64>
         ensures { IsValue self.now.problem self.now.routes candidate.now result }
     {
-        self.plan.value(candidate)
+        value(&self.trees, candidate)
     }
 
     /// Makes a move: `NotFeasible` exactly where it has no value, and `Memory`; the plan stays then.
@@ -107,10 +177,18 @@ impl<'i> WorkingPlan<'i> {
         ensures unchanged { OnErr result (self.new ≡ self.old) }
         ensures refused { IfErr result (λ e. e ≡ NotFeasible → (v : ℤ) → ¬ HasValue self.old.problem self.old.routes candidate.now v) }
     {
-        let _old = self.plan.cost();
-        let replaced = self.plan.apply(candidate)?;
-        let _new = self.plan.cost();
-        self.gains.follow(&replaced, self.plan.routes().len());
+        let Some(by) = value(&self.trees, candidate) else {
+            return Err(MoveFault::NotFeasible);
+        };
+        let Some(change) = change_of(&self.trees, candidate) else {
+            return Err(MoveFault::NotFeasible);
+        };
+        let replaced = replaced_by(&self.trees, &change);
+        self.trees.law_of_limits();
+        let cost = cost_after(self.cost, by);
+        replace(self.alloc, &mut self.routes, &mut self.trees, &change)?;
+        self.cost = cost;
+        self.gains.follow(&replaced, self.routes.len());
         Ok(())
     }
 
@@ -121,6 +199,16 @@ impl<'i> WorkingPlan<'i> {
         ensures gain { IfSome result (λ m. IsBestGain self.old.problem self.old.routes kind m) }
         ensures none { IfNone result (HasNoGain self.old.problem self.old.routes kind) }
     {
-        self.gains.best_gain(&self.plan, kind)
+        let (trees, routes) = (&self.trees, self.routes.as_slice());
+        // one search for each kind, compiled for it
+        let found = match kind {
+            Kind::Relocate => best_gain(&mut self.gains, trees, routes, Kind::Relocate),
+            Kind::Exchange => best_gain(&mut self.gains, trees, routes, Kind::Exchange),
+            Kind::OrOpt => best_gain(&mut self.gains, trees, routes, Kind::OrOpt),
+            Kind::TwoOptStar => best_gain(&mut self.gains, trees, routes, Kind::TwoOptStar),
+            Kind::Cross => best_gain(&mut self.gains, trees, routes, Kind::Cross),
+        };
+        let (candidate, _) = found?;
+        Some(candidate)
     }
 }

@@ -19,8 +19,8 @@ returns-in-Some-clause-settling c =
     rw c.raise.ensures (unserved_above _ _ c.requires.size c.requires.settled _ _ c.in_ok-found.ensures.prices c.in-Some.customer _ c.in-Some.ensures.customer
     (rw c.as_slice.ensures.value at c.in-Some.ensures.missing) c.fee_of-fee.ensures.value)
 
-pub unreachable-requires : goal.unreachable-requires
-unreachable-requires c = c.in-Err.ensures.refused (gathered_plan _ _ c.requires.settled _ _ _ _ c.in_ok-found.ensures.prices
+pub known-plan-requires : goal.known-plan-requires
+known-plan-requires c = (gathered_plan _ _ c.requires.settled _ _ _ _ c.in_ok-found.ensures.prices
     (rw c.as_slice.ensures.value at c.in_default.ensures.none) (omega (arith, length-map c.in_ok-found.found.routes.items (λ v. v.items), c.fleet.ensures.value, c.if-len-from.false)))
 
 pub returns-clause-in_range : goal.returns-clause-in_range
@@ -30,5 +30,5 @@ pub returns-clause-settling : goal.returns-clause-settling
 returns-clause-settling c =
     let there = rw c.as_slice.ensures.value at c.in_default.ensures.none in
     let obeys = served_obeys _ _ c.requires.size c.size-size.ensures.consistent _ c.in_ok-found.ensures.prices.fits there in
-    planned _ _ c.requires.size c.requires.settled _ _ c.in_ok-found.ensures.prices c.in-Ok.plan (rw (c.in-Ok.ensures.problem, c.in-Ok.ensures.routes) at c.in-Ok.ensures.solution.exact)
-    (rw c.in-Ok.ensures.routes obeys)
+    planned _ _ c.requires.size c.requires.settled _ _ c.in_ok-found.ensures.prices c.known-plan.result (rw (c.known-plan.ensures.problem, c.known-plan.ensures.routes) at c.known-plan.ensures.solution.exact)
+    (rw c.known-plan.ensures.routes obeys)

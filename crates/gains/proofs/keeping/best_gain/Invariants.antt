@@ -7,6 +7,6 @@ use Rattle.gains.proofs.keeping.best_gain.Given as goal
 
 abbrev pub invariant-loop-first : goal.invariant-loop-first
 invariant-loop-first l = record {
-  kept : AreKept (problem_of l.trees) (visits_of l.trees) l.fn.kind l.kept;
+  kept : AreKept (problem_of l.trees) (visits_of l.trees) l.kept;
   search : SearchesRows (problem_of l.trees) (visits_of l.trees) l.fn.kind l.first None l.best;
 }

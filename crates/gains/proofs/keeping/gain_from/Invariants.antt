@@ -8,6 +8,6 @@ use Rattle.gains.proofs.keeping.gain_from.Given as goal
 
 abbrev pub invariant-loop-second : goal.invariant-loop-second
 invariant-loop-second l = record {
-  kept : AreKept (problem_of l.trees) (visits_of l.trees) l.kind l.kept;
+  kept : AreKept (problem_of l.trees) (visits_of l.trees) l.kept;
   search : SearchesRow (problem_of l.trees) (visits_of l.trees) l.kind l.first l.second l.fn.before l.best;
 }

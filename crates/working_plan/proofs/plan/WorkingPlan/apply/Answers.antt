@@ -1,12 +1,40 @@
-use Rattle.std.proofs.Common.{◌≡◌, length, sym, ap, ◌∙◌}
+use Rattle.std.proofs.Common.{rules, ◌≡◌, length, sym, ◌∙◌, arith, to_z, of_z, w64}
+use Rattle.std.proofs.lemmas.Int.{ints}
+use Rattle.solomon_reader.specs.Lists.{lists}
+use Rattle.segments.specs.PlanTrees.{problem_of}
 use Rattle.working_plan.proofs.TreeChanges.{lists-length}
+use Rattle.working_plan.proofs.AppliedMoves.{first_known, second_known, cost_fits, applied, none_applied}
 use Rattle.working_plan.proofs.plan.WorkingPlan.apply.Goals as goal
+
+pub cost_after-cost-requires-clause-within : goal.cost_after-cost-requires-clause-within
+cost_after-cost-requires-clause-within c =
+    let same : to_z w64 (of_z w64 c.in-Some.by) ≡ c.in-Some.by = omega (arith, ints) in
+    rw same
+    (cost_fits (problem_of c.self.inside.trees) (lists c.self.inside.routes.items) c.args.candidate.now c.in-Some.by c.self.inside.cost
+    c.law_of_limits.ensures.limits c.law_of_limits.ensures.customers (rw c.self.invariant.1 at c.in-Some.ensures) c.self.invariant.2)
+
+pub replace-requires-clause-first_known : goal.replace-requires-clause-first_known
+replace-requires-clause-first_known c =
+    first_known (problem_of c.self.inside.trees) (lists c.self.inside.routes.items) c.args.candidate.now c.in-Some.by c.in-Some-change_of.change
+    (rw c.self.invariant.1 at c.self.invariant.0.plan) (rw c.self.invariant.1 at c.in-Some.ensures) (rw c.self.invariant.1 at c.in-Some-change_of.ensures.1)
+
+pub replace-requires-clause-second_known : goal.replace-requires-clause-second_known
+replace-requires-clause-second_known c =
+    second_known (problem_of c.self.inside.trees) (lists c.self.inside.routes.items) c.args.candidate.now c.in-Some.by c.in-Some-change_of.change
+    (rw c.self.invariant.1 at c.self.invariant.0.plan) (rw c.self.invariant.1 at c.in-Some.ensures) (rw c.self.invariant.1 at c.in-Some-change_of.ensures.1)
+
+pub invariant_of-self : goal.invariant_of-self
+invariant_of-self c =
+    none_applied c.self.inside.trees c.replace.new.trees (lists c.self.inside.routes.items) (lists c.replace.new.routes.items) c.self.inside.cost c.self.inside.gains
+    c.self.invariant.0 c.self.invariant.1 c.self.invariant.2 c.self.invariant.3 c.in_err-replace.ensures.problem c.in_err-replace.ensures.unchanged c.in_err-replace.ensures.trees
 
 pub invariant_of-self-2 : goal.invariant_of-self-2
 invariant_of-self-2 c =
-    let old = c.self.inside.plan in
-    let new = c.apply.new.self in
-    let count : length c.routes.result.now ≡ length new.routes = sym (lists-length c.routes.result.now) ∙ ap length c.routes.ensures in
-    rw c.in_ok-replaced.ensures.problem
-    (c.follow.ensures old.problem old.routes new.routes c.cost-old.ensures.solution.plan (rw c.in_ok-replaced.ensures.problem at c.cost-new.ensures.solution.plan)
-    c.in_ok-replaced.ensures.replaced count c.self.invariant)
+    let same : to_z w64 (of_z w64 c.in-Some.by) ≡ c.in-Some.by = omega (arith, ints) in
+    let long : c.len.result ≡ length c.replace.new.routes.items = search rules in
+    let count : c.len.result ≡ length (lists c.replace.new.routes.items) = long ∙ sym (lists-length c.replace.new.routes.items) in
+    applied c.self.inside.trees c.replace.new.trees (lists c.self.inside.routes.items) (lists c.replace.new.routes.items)
+    c.args.candidate.now c.in-Some.by c.in-Some-change_of.change c.self.inside.cost c.cost_after-cost.result c.replaced_by-replaced.result c.len.result c.self.inside.gains c.follow.new.self
+    c.self.invariant.0 c.self.invariant.1 c.self.invariant.2 c.self.invariant.3 (rw c.self.invariant.1 at c.in-Some.ensures) (rw c.self.invariant.1 at c.in-Some-change_of.ensures.1)
+    c.in_ok-replace.ensures.problem c.in_ok-replace.ensures.routes c.in_ok-replace.ensures.trees (rw same at c.cost_after-cost.ensures)
+    c.replaced_by-replaced.ensures count c.follow.ensures
