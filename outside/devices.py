@@ -24,7 +24,7 @@ FAILED = (b"", b"vrptw: file\n", 6)
 MEMORY = (b"", b"vrptw: memory\n", 4)
 BLANKS = 200_000_000
 # Few turns don't close it.
-OPEN = os.path.join(os.path.dirname(__file__), "..", "examples", "c1_50.txt")
+OPEN = os.path.join(os.path.dirname(__file__), "..", "examples", "rc1_100.txt")
 # Seconds that a case may take.
 LONGEST = 60
 # What isn't stated here is caught, or empty.
@@ -117,7 +117,7 @@ def untold(stream):
     """Lines of `--progress` that can't be written: the answer stands."""
     def case(program, folder):
         shutil.copy(OPEN, path_in(folder, "instance"))
-        words = solve_words(program, folder) + ["--progress", "--turns", "10"]
+        words = solve_words(program, folder) + ["--progress", "--turns", "3"]
         out, errors, status = run(words, None, [stream], LONGEST)
         told = tuple(run(check_words(program, folder, certificate="bound", solution="plan"), None, (), LONGEST))
         demand((out, errors, status) == told and status in (0, 1), "%r, and the check: %r" % (out, told))
