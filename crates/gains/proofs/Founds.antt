@@ -1,6 +1,6 @@
 -- Moves that are better than what was found, and moves that aren't.
 use Rattle.std.proofs.Common.{◌≡◌, ℕ, List, sym, subst, ◌∙◌, arith, inl, inr}
-use Rattle.std.specs.Prelude.{ℤ, pos, ◌+ℤ◌, ◌≤ℤ◌, ◌<ℤ◌, Option, Some, None, IfSome, ◌⊎◌}
+use Rattle.std.specs.Prelude.{ℤ, pos, ◌+ℤ◌, ◌≤ℤ◌, ◌<ℤ◌, Some, None, IfSome}
 use Rattle.std.proofs.lemmas.Int.{ints}
 use Rattle.solomon_reader.specs.Problem.{Problem}
 use Rattle.solomon_reader.specs.Plan.{plan_cost}
@@ -10,7 +10,7 @@ use Rattle.moves.specs.Values.{HasValue, after}
 use Rattle.moves.specs.Order.{kind_of, AreBefore}
 use Rattle.moves.specs.Search.{numbers}
 use Rattle.moves.proofs.Searching.{asymmetric, six}
-use Rattle.gains.specs.Gains.{Found, IsNoBetter, IsBetter, MayBeBetter, IsFoundAmong, IsGain, IsBestGainIfAny}
+use Rattle.gains.specs.Gains.{Found, IsNoBetter, IsBetter, MayBeBetter, IsFoundAmong, IsBestGainIfAny}
 use Rattle.gains.proofs.NumberOrder.{transitive, compared, before_by_fields}
 
 -- a move has one value

@@ -1,8 +1,7 @@
 -- A search for the best gain between two routes, through the moves by their numbers.
 use Rattle.std.proofs.Common.{◌≡◌, refl, ℕ, ◌+◌, ◌<◌, ◌≤◌, List, [], ◌∷◌, ◌++◌, length, get_or, sym, subst, ◌∙◌, arith, ◌⊎◌, inl, inr}
-use Rattle.std.specs.Prelude.{ℤ, pos, Some, None}
+use Rattle.std.specs.Prelude.{ℤ, pos, Some}
 use Rattle.std.proofs.lemmas.Bool.{cases_lt}
-use Rattle.solomon_reader.specs.Problem.{Problem}
 use Rattle.moves.specs.declared.candidate.Chain.{Chain}
 use Rattle.moves.specs.declared.candidate.Move.{Move}
 use Rattle.moves.specs.declared.candidate.Move.TheVariants.{Relocate, Exchange, OrOpt, TwoOptStar, Cross}
@@ -13,7 +12,7 @@ use Rattle.moves.proofs.Searching.{same_move, six}
 use Rattle.gains.specs.declared.neighbourhood.Neighbourhood.{Neighbourhood}
 use Rattle.gains.specs.Gains.{Found, IsNoBetter, IsBetter, MayBeBetter, Starts}
 use Rattle.gains.specs.Kept.{IsBetween, first_route, second_route}
-use Rattle.gains.specs.Searches.{Searches, instance_of, plan_of, moves_of, SearchesFrom, SearchesAt, SearchesRange, NoneIsBetter, NoSingle}
+use Rattle.gains.specs.Searches.{instance_of, plan_of, moves_of, SearchesFrom, SearchesAt, SearchesRange, NoneIsBetter, NoSingle}
 use Rattle.gains.proofs.Founds.{one_value, lower_of, itself_no_better, better_is_low, low_if_found, no_better_by}
 
 -- as many numbers that start with these are these

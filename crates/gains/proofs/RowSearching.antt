@@ -1,12 +1,12 @@
 -- A search for the best gain of a kind, by the best gains of pairs of routes.
-use Rattle.std.proofs.Common.{◌≡◌, ℕ, ◌+◌, ◌<◌, ◌≤◌, List, length, sym, subst, ap, ◌∙◌, arith, ◌⊎◌, inl, inr}
+use Rattle.std.proofs.Common.{◌≡◌, ℕ, ◌+◌, ◌<◌, ◌≤◌, List, length, sym, subst, arith, ◌⊎◌, inl, inr}
 use Rattle.std.specs.Prelude.{ℤ, Some, None, IfSome, pos, ◌<ℤ◌}
 use Rattle.std.proofs.lemmas.Bool.{cases_lt}
 use Rattle.solomon_reader.specs.Problem.{Problem}
 use Rattle.moves.specs.declared.candidate.Move.{Move}
 use Rattle.moves.specs.declared.candidate.Move.TheVariants.{Relocate, Exchange, OrOpt, TwoOptStar, Cross}
 use Rattle.moves.specs.declared.candidate.Kind.{Kind}
-use Rattle.moves.specs.Values.{HasValue, IsWellFormed}
+use Rattle.moves.specs.Values.{IsWellFormed}
 use Rattle.moves.specs.Order.{kind_of}
 use Rattle.gains.specs.Gains.{Found, IsNoBetter, IsFoundAmong, IsBestAmong, IsBestGainIfAny}
 use Rattle.gains.specs.Kept.{IsBetween, first_route, second_route, lowest_second, end_of_seconds}

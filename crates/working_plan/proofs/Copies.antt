@@ -1,5 +1,5 @@
 -- Routes that are put in the places of others, one after the other.
-use Rattle.std.proofs.Common.{◌≡◌, refl, ℕ, zero, suc, ◌+◌, ◌<◌, ◌≤◌, List, [], ◌∷◌, ◌++◌, length, get_or, set, sym, ap, subst, ◌∙◌, arith}
+use Rattle.std.proofs.Common.{◌≡◌, refl, ℕ, zero, suc, ◌+◌, ◌<◌, ◌≤◌, List, [], ◌∷◌, ◌++◌, length, get_or, set, sym, ap, subst, arith}
 use Rattle.working_plan.specs.Replacing.{put_at}
 
 pub put_known : (xs : List (List ℕ)) (n : ℕ) (x : List ℕ) → n < length xs → set xs n x ≡ put_at xs n x

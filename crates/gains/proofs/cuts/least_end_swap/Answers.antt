@@ -1,4 +1,4 @@
-use Rattle.std.proofs.Common.{◌≡◌, ◌≤◌, length, subst, arith, inl, inr, to_z, of_z, w64}
+use Rattle.std.proofs.Common.{◌≡◌, subst, arith, inl, inr, to_z, of_z, w64}
 use Rattle.std.specs.Prelude.{◌≤ℤ◌}
 use Rattle.std.proofs.lemmas.Int.{ints}
 use Rattle.std.proofs.lemmas.Bool.{cases_lt}

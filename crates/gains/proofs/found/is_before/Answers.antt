@@ -1,4 +1,4 @@
-use Rattle.std.proofs.Common.{◌≡◌, ◌<◌, get_or, length, ap, sym, ◌∙◌, arith, rules}
+use Rattle.std.proofs.Common.{◌<◌, get_or, length, ap, sym, ◌∙◌, arith}
 use Rattle.moves.specs.Search.{numbers}
 use Rattle.moves.proofs.Searching.{asymmetric, six}
 use Rattle.gains.proofs.NumberOrder.{before_at, none_before}

@@ -1,6 +1,4 @@
-use Rattle.std.proofs.Common.{◌≡◌, ◌<◌}
 use Rattle.segments.specs.PlanTrees.{problem_of}
-use Rattle.moves.specs.Order.{kind_of}
 use Rattle.moves.specs.Trees.{visits_of}
 use Rattle.gains.specs.Kept.{AreKept}
 use Rattle.gains.proofs.RowSearching.{SearchesRow}

@@ -1,4 +1,4 @@
-use Rattle.std.proofs.Common.{rules, ◌≡◌, ◌<◌, ◌≤◌, [], length, get_or, sym, ◌∙◌, arith}
+use Rattle.std.proofs.Common.{rules, ◌≡◌, ◌<◌, ◌≤◌, length, get_or, sym, ◌∙◌, arith}
 use Rattle.solomon_reader.specs.Lists.{lists}
 use Rattle.working_plan.proofs.TreeChanges.{lists-length, lists-at}
 use Rattle.working_plan.proofs.Copies.{copied_next, copied_there, copied_all}

@@ -1,4 +1,4 @@
-use Rattle.std.proofs.Common.{rules, ◌≡◌, ◌<◌, ◌≤◌, ℕ, [], length, get_or, OnOk, sym, ap, ◌∙◌, arith}
+use Rattle.std.proofs.Common.{rules, ◌≡◌, ◌<◌, ◌≤◌, length, sym, ◌∙◌, arith}
 use Rattle.solomon_reader.specs.Lists.{lists}
 use Rattle.working_plan.proofs.TreeChanges.{lists-length, lists-at}
 use Rattle.working_plan.proofs.Copies.{put_known, put_last, put_same}

@@ -1,4 +1,4 @@
-use Rattle.std.proofs.Common.{rules, ◌≡◌, ℕ, Bool, true, sym, ◌∙◌, nat_eq}
+use Rattle.std.proofs.Common.{rules, ◌≡◌, ℕ, true, sym, ◌∙◌, nat_eq}
 use Rattle.std.specs.Prelude.{Vec}
 use Rattle.std.specs.declared.alloc.Global.{Global}
 use Rattle.std.specs.Cmp.Lexicographic.{pointwise}
