@@ -5,7 +5,7 @@ ghost use Rattle.std.specs.Prelude.{◌≤◌};
 use crate::gate::{Gate, GatePoint};
 use crate::hub::Hub;
 use crate::nodes::{Nodes, OpenNode, Taken};
-use crate::pricing::{goal_of, is_ahead, pricing_labels};
+use crate::pricing::{Means, goal_of, is_ahead, pricing_labels};
 use crate::refusal::Refusal;
 use crate::settings::Settings;
 use crate::worker::Worker;
@@ -52,7 +52,7 @@ fn bring<'i, H: Hub<'i>, G: Gate>(
     number: u32,
     leaf: Priced<'i>,
     is_raised: bool,
-    labels: usize,
+    means: Means,
     nodes: &mut Nodes<'_, 'i>,
 ) -> Result<(), Refusal> {
     if leaf.value() >= i128::from(worker.target()) {
@@ -66,7 +66,7 @@ fn bring<'i, H: Hub<'i>, G: Gate>(
             Ok(())
         };
     }
-    match branch(worker.alloc, &leaf, &mut nodes.pool, Some(labels)) {
+    match branch(worker.alloc, &leaf, &mut nodes.pool, Some(means.labels)) {
         Ok(Some(children)) => split(worker, number, children, nodes),
         Ok(None) | Err(PriceFault::LabelLimit | PriceFault::PriceRange) => {
             worker.reprice(number, leaf)
@@ -96,11 +96,11 @@ fn raise_leaf<'i, H: Hub<'i>, G: Gate>(
     start: Option<ChildStart>,
     is_again: bool,
     leaf: Priced<'i>,
-    labels: usize,
+    means: Means,
     nodes: &mut Nodes<'_, 'i>,
 ) -> Priced<'i> {
     let cost = worker.gap().cost;
-    let goal = goal_of(&leaf, nodes, cost, is_again, worker.target(), labels);
+    let goal = goal_of(&leaf, nodes, cost, is_again, worker.target(), means);
     raise(worker.alloc, &mut nodes.pool, leaf, start, &goal)
 }
 
@@ -109,7 +109,7 @@ fn work_at<'i, H: Hub<'i>, G: Gate>(
     worker: &mut Worker<'_, 'i, H, G>,
     taken: Taken,
     leaf: Priced<'i>,
-    labels: usize,
+    means: Means,
     nodes: &mut Nodes<'_, 'i>,
 ) -> Result<(), Refusal> {
     let Taken {
@@ -119,18 +119,18 @@ fn work_at<'i, H: Hub<'i>, G: Gate>(
         ..
     } = taken;
     let before = leaf.value();
-    let leaf = raise_leaf(worker, start, is_again, leaf, labels, nodes);
+    let leaf = raise_leaf(worker, start, is_again, leaf, means, nodes);
     worker.pass(GatePoint::Priced);
     offer_routes(worker, nodes)?;
     let is_raised = leaf.value() > before;
-    bring(worker, number, leaf, is_raised, labels, nodes)
+    bring(worker, number, leaf, is_raised, means, nodes)
 }
 
 /// Takes a node, unless there is none, cost and bound have met, or the worker is ahead of the turns that
 /// it made; and works at it, unless its value reaches the cost. Answers whether there was one.
 fn work_on<'i, H: Hub<'i>, G: Gate>(
     worker: &mut Worker<'_, 'i, H, G>,
-    labels: usize,
+    means: Means,
     made: u32,
     nodes: &mut Nodes<'_, 'i>,
 ) -> Result<bool, Refusal> {
@@ -146,7 +146,7 @@ fn work_on<'i, H: Hub<'i>, G: Gate>(
     let leaf = worker.hub.look(taken.number)?;
     worker.pass(GatePoint::Looked);
     if leaf.value() < i128::from(worker.target()) {
-        work_at(worker, taken, leaf, labels, nodes)?;
+        work_at(worker, taken, leaf, means, nodes)?;
     }
     Ok(true)
 }
@@ -154,12 +154,12 @@ fn work_on<'i, H: Hub<'i>, G: Gate>(
 /// Works at one leaf after the other, until it has done what the turns so far are worth.
 fn turn<'i, H: Hub<'i>, G: Gate>(
     worker: &mut Worker<'_, 'i, H, G>,
-    labels: usize,
+    means: Means,
     made: u32,
     nodes: &mut Nodes<'_, 'i>,
 ) -> Result<(), Refusal> {
     for _leaf in 0..MOST_LEAVES {
-        if !work_on(worker, labels, made, nodes)? {
+        if !work_on(worker, means, made, nodes)? {
             break;
         }
     }
@@ -183,11 +183,13 @@ pub fn bound_worker<'i, H: Hub<'i>, G: Gate>(
 ) -> u32
     ensures { result ≤ settings.now.turns }
 {
-    let labels = pricing_labels(settings, nodes.customers);
-    nodes.place = u32::from(worker.number).saturating_sub(settings.searchers);
+    let means = Means {
+        labels: pricing_labels(settings, nodes.customers),
+        place: u32::from(worker.number).saturating_sub(settings.searchers),
+    };
     for made in 0..settings.turns {
         worker.pass(GatePoint::Start);
-        let done = turn(worker, labels, made, &mut nodes);
+        let done = turn(worker, means, made, &mut nodes);
         worker.end_turn();
         if let Err(Refusal::EndsWork) = done {
             return made + 1;

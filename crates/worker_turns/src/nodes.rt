@@ -51,8 +51,6 @@ pub struct Nodes<'p, 'i> {
     idle_at_root: u16,
     /// How often the worker looked for a leaf in vain since it had one.
     missed: u32,
-    /// The worker's place among the bound workers.
-    pub(crate) place: u32,
     pub(crate) pool: RoutePool<'i>,
     /// How many routes count where prices are raised.
     pub(crate) routes: u16,
@@ -136,7 +134,6 @@ impl<'p, 'i> Nodes<'p, 'i> {
             current: None,
             idle_at_root: 0,
             missed: 0,
-            place: 0,
             pool,
             routes: counted_routes(instance, routes),
             customers: instance.customer_count(),

@@ -30,6 +30,15 @@ fn turn_looks(customers: u16) -> u64 {
     CUSTOMER_LOOKS.saturating_mul(u64::from(customers).max(LEAST_CUSTOMERS))
 }
 
+/// What a bound worker goes by.
+#[derive(Clone, Copy, Debug)]
+pub(crate) struct Means {
+    /// How many labels may be active at once in one of its pricings.
+    pub(crate) labels: usize,
+    /// Its place among the bound workers.
+    pub(crate) place: u32,
+}
+
 /// How many labels may be active at once in a bound worker's pricing on so many customers: what the settings
 /// allow, and no more than its turns can pay for, so that no pricing runs away. No contract: any limit is
 /// sound.
@@ -78,12 +87,12 @@ pub(crate) fn goal_of(
     cost: Option<Tenths>,
     is_again: bool,
     target: u64,
-    labels: usize,
+    means: Means,
 ) -> Goal {
     let rise = if is_again {
         nodes.pool.rise()
     } else {
-        rise_of(leaf, cost, nodes.place)
+        rise_of(leaf, cost, means.place)
     };
     Goal {
         rise,
@@ -91,6 +100,6 @@ pub(crate) fn goal_of(
         idle_pricings: IDLE_PRICINGS,
         value: i128::from(target),
         routes: nodes.routes,
-        labels: Some(labels),
+        labels: Some(means.labels),
     }
 }
