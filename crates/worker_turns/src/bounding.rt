@@ -58,7 +58,8 @@ fn bring<'i, H: Hub<'i>, G: Gate>(
     if leaf.value() >= i128::from(worker.target()) {
         return worker.reprice(number, leaf);
     }
-    if leaf.region().is_root() && nodes.stays_at_root(is_raised) {
+    // The first worker alone splits the root, so that the tree begins with prices and routes that belong together.
+    if leaf.region().is_root() && (nodes.stays_at_root(is_raised) || means.place > 0) {
         nodes.keep(number);
         return if is_raised {
             worker.reprice(number, leaf)
@@ -172,7 +173,8 @@ fn turn<'i, H: Hub<'i>, G: Gate>(
 /// In each turn the worker takes the open node of its own that has the least value or steals one, and
 /// raises the value of the leaf. It gives the leaf the new prices at the root and where the value reaches
 /// the ceiling, else splits it; a leaf whose value had reached the ceiling is laid aside. Then it takes the
-/// next one, until it has done as much as the turns so far are worth, or ten leaves.
+/// next one, until it has done as much as the turns so far are worth, or ten leaves. The leaves that are open
+/// at the end are left for others to steal.
 /// A refusal of the hub ends the turn. Where the words for cost and bound have met, a turn does nothing,
 /// and where the worker has done more than the turns so far are worth, so that dear pricings don't make the
 /// work endless.
@@ -195,5 +197,6 @@ pub fn bound_worker<'i, H: Hub<'i>, G: Gate>(
             return made + 1;
         }
     }
+    nodes.leave();
     settings.turns
 }

@@ -247,6 +247,15 @@ impl<'p, 'i> Nodes<'p, 'i> {
         }))
     }
 
+    /// Puts the open leaves into the worker's own deque, for others to steal, as far as it takes them.
+    pub(crate) fn leave(&mut self) {
+        for node in &self.open {
+            if self.own.push(node.number).is_err() {
+                return;
+            }
+        }
+    }
+
     /// Takes a node. Where there is none, it looks again and again for one that another worker shares, and now
     /// and then gives the processor away, so that idle turns aren't used up before the others have leaves to
     /// share.
