@@ -1,6 +1,6 @@
 //! What is wrong with routes, and what they cost.
 
-ghost use Rattle.std.specs.Prelude.{◌≡◌, ℕ, ◌+◌, ◌*◌, ◌<◌, ◌≤◌, length, IsTrue, IsFalse, IfOk, IfErr, IfSome, IfNone};
+ghost use Rattle.std.specs.Prelude.{◌≡◌, ℕ, ◌+◌, ◌*◌, ◌<◌, ◌≤◌, length, MatchBool, IfOk, IfErr, IfSome, IfNone};
 ghost use Rattle.std.specs.List.{All, Any};
 ghost use Rattle.solomon_reader.specs.declared.limits.TheConstants.{MOST_TIME};
 ghost use Rattle.solomon_reader.specs.Problem.{IsCustomer, customer_count};
@@ -19,8 +19,7 @@ use tenths::Tenths;
 
 /// Whether each route serves somebody.
 fn serve_somebody(routes: &[Vec<u16>]) -> bool
-    ensures yes { IsTrue result → All (λ r. 0 < length r.items) routes.now }
-    ensures no { IsFalse result → Any (λ r. length r.items ≡ 0) routes.now }
+    ensures { MatchBool result (All (λ r. 0 < length r.items) routes.now) (Any (λ r. length r.items ≡ 0) routes.now) }
 {
     for route in routes {
         if route.is_empty() {
@@ -32,8 +31,8 @@ fn serve_somebody(routes: &[Vec<u16>]) -> bool
 
 /// Whether each stop of the routes is a customer's.
 fn know_stops(instance: &Instance, routes: &[Vec<u16>]) -> bool
-    ensures yes { IsTrue result → All (λ r. All (λ i. IsCustomer instance.now i) r.items) routes.now }
-    ensures no { IsFalse result → Any (λ r. Any (λ i. ¬ IsCustomer instance.now i) r.items) routes.now }
+    ensures { MatchBool result (All (λ r. All (λ i. IsCustomer instance.now i) r.items) routes.now)
+        (Any (λ r. Any (λ i. ¬ IsCustomer instance.now i) r.items) routes.now) }
 {
     for route in routes {
         if !knows_stops(instance, route.as_slice()) {
@@ -46,8 +45,8 @@ fn know_stops(instance: &Instance, routes: &[Vec<u16>]) -> bool
 /// Whether each customer is marked.
 fn serve_all(instance: &Instance, marks: &[bool]) -> bool
     requires { length marks.now ≡ customer_count instance.now + 1 }
-    ensures yes { IsTrue result → (before : _) → AreServed before marks.now → (i : ℕ) → IsCustomer instance.now i → count_of i before ≡ 1 }
-    ensures no { IsFalse result → (before : _) → AreServed before marks.now → (i : ℕ) × IsCustomer instance.now i × (count_of i before ≡ 0) }
+    ensures { (before : _) → AreServed before marks.now → MatchBool result ((i : ℕ) → IsCustomer instance.now i → count_of i before ≡ 1)
+        ((i : ℕ) × IsCustomer instance.now i × (count_of i before ≡ 0)) }
 {
     for customer in 1..instance.customer_count() + 1 {
         if !marks[usize::from(customer)] {
@@ -60,8 +59,8 @@ fn serve_all(instance: &Instance, marks: &[bool]) -> bool
 /// Whether each route's demands are at most what a vehicle holds.
 fn are_light(instance: &Instance, routes: &[Vec<u16>]) -> bool
     requires { All (λ r. All (λ i. IsCustomer instance.now i) r.items) routes.now }
-    ensures yes { IsTrue result → All (λ r. load_of instance.now r.items ≤ instance.now.capacity) routes.now }
-    ensures no { IsFalse result → Any (λ r. instance.now.capacity < load_of instance.now r.items) routes.now }
+    ensures { MatchBool result (All (λ r. load_of instance.now r.items ≤ instance.now.capacity) routes.now)
+        (Any (λ r. instance.now.capacity < load_of instance.now r.items) routes.now) }
 {
     for route in routes {
         if !is_light(instance, route.as_slice()) {

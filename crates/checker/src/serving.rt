@@ -1,6 +1,6 @@
 //! Who is served by routes.
 
-ghost use Rattle.std.specs.Prelude.{◌≡◌, ℕ, ◌+◌, ◌<◌, ◌≤◌, List, [], ◌∷◌, ◌++◌, length, IsTrue, IsFalse, IfOk, IfErr};
+ghost use Rattle.std.specs.Prelude.{◌≡◌, ℕ, ◌+◌, ◌<◌, ◌≤◌, List, [], ◌∷◌, ◌++◌, length, MatchBool, IfOk, IfErr};
 ghost use Rattle.std.specs.List.{All};
 ghost use Rattle.solomon_reader.specs.Plan.{count_of};
 ghost use Rattle.solomon_reader.specs.Lists.{lists};
@@ -25,8 +25,8 @@ fn no_marks(alloc: Global, count: u16) -> Result<Vec<bool>, AllocError>
 fn mark(marks: &mut Vec<bool>, number: u16) -> bool
     requires { number < length marks.old.items }
     ensures count { length marks.new.items ≡ length marks.old.items }
-    ensures again { (before : List ℕ) → AreServed before marks.old.items → IsFalse result → count_of number before ≡ 1 }
-    ensures once { (before : List ℕ) → AreServed before marks.old.items → IsTrue result → AreServed (before ++ number ∷ []) marks.new.items }
+    ensures marked { (before : List ℕ) → AreServed before marks.old.items
+        → MatchBool result (AreServed (before ++ number ∷ []) marks.new.items) (count_of number before ≡ 1) }
 {
     let index = usize::from(number);
     if marks[index] {
@@ -40,8 +40,8 @@ fn mark(marks: &mut Vec<bool>, number: u16) -> bool
 fn mark_stops(marks: &mut Vec<bool>, stops: &[u16]) -> bool
     requires { All (λ i. i < length marks.old.items) stops.now }
     ensures count { length marks.new.items ≡ length marks.old.items }
-    ensures again { (before : List ℕ) → AreServed before marks.old.items → IsFalse result → (i : ℕ) × (2 ≤ count_of i (before ++ stops.now)) }
-    ensures once { (before : List ℕ) → AreServed before marks.old.items → IsTrue result → AreServed (before ++ stops.now) marks.new.items }
+    ensures marked { (before : List ℕ) → AreServed before marks.old.items
+        → MatchBool result (AreServed (before ++ stops.now) marks.new.items) ((i : ℕ) × (2 ≤ count_of i (before ++ stops.now))) }
 {
     for stop in stops {
         if !mark(marks, *stop) {

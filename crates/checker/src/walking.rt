@@ -1,6 +1,6 @@
 //! Walks of routes.
 
-ghost use Rattle.std.specs.Prelude.{◌≡◌, ℕ, ◌+◌, ◌*◌, ◌<◌, ◌≤◌, length, IsTrue, IsFalse, IfSome, IfNone};
+ghost use Rattle.std.specs.Prelude.{◌≡◌, ℕ, ◌+◌, ◌*◌, ◌<◌, ◌≤◌, length, MatchBool, IfSome, IfNone};
 ghost use Rattle.std.specs.List.{All, Any};
 ghost use Rattle.solomon_reader.specs.declared.limits.TheConstants.{MOST_TIME};
 ghost use Rattle.solomon_reader.specs.Distance.{distance};
@@ -22,16 +22,14 @@ struct Vehicle {
 
 /// Whether a number is a customer's.
 fn is_customer(instance: &Instance, number: u16) -> bool
-    ensures yes { IsTrue result → IsCustomer instance.now number }
-    ensures no { IsFalse result → ¬ IsCustomer instance.now number }
+    ensures { MatchBool result (IsCustomer instance.now number) (¬ IsCustomer instance.now number) }
 {
     number != 0 && number <= instance.customer_count()
 }
 
 /// Whether each stop of a route is a customer's.
 pub(crate) fn knows_stops(instance: &Instance, stops: &[u16]) -> bool
-    ensures yes { IsTrue result → All (λ i. IsCustomer instance.now i) stops.now }
-    ensures no { IsFalse result → Any (λ i. ¬ IsCustomer instance.now i) stops.now }
+    ensures { MatchBool result (All (λ i. IsCustomer instance.now i) stops.now) (Any (λ i. ¬ IsCustomer instance.now i) stops.now) }
 {
     for stop in stops {
         if !is_customer(instance, *stop) {
@@ -44,8 +42,8 @@ pub(crate) fn knows_stops(instance: &Instance, stops: &[u16]) -> bool
 /// Whether the demands of a route are at most what a vehicle holds.
 pub(crate) fn is_light(instance: &Instance, stops: &[u16]) -> bool
     requires { All (λ i. IsCustomer instance.now i) stops.now }
-    ensures yes { IsTrue result → load_of instance.now stops.now ≤ instance.now.capacity }
-    ensures no { IsFalse result → instance.now.capacity < load_of instance.now stops.now }
+    ensures { MatchBool result (load_of instance.now stops.now ≤ instance.now.capacity)
+        (instance.now.capacity < load_of instance.now stops.now) }
 {
     let mut left = instance.capacity();
     for stop in stops {

@@ -1,11 +1,12 @@
 //! A book that is filled level by level, each split by the next arc of the row of customers, and the text
 //! of the certificate of its tree.
 
-use crate::starts::{Asked, Host, book_of, made, priced_at, wrong};
-use branching::{Arc, Region, TreeNode};
+use crate::starts::{Asked, Host, made, wrong};
+use branching::{Arc, TreeNode};
 use certificate::{Cert, CertNode, CertParts, Version, read, write};
-use incumbent_book::{Book, Outcome};
+use incumbent_book::{Book, Limits, Outcome};
 use prices::Priced;
+use row_texts::{book_of, children_at, priced_at};
 use std::alloc::Global;
 use std::io;
 use std::time::Instant;
@@ -14,65 +15,21 @@ use tenths::MemorySink;
 /// By how many grains the prices of a leaf rise.
 const RISE: i64 = 1_000;
 
-/// A leaf's prices, each raised, at a region.
-fn raised_at<'i>(alloc: Global, leaf: &Priced<'i>, region: Region, by: i64) -> Option<Priced<'i>> {
+/// A leaf's prices, each raised, at its region.
+fn higher_of<'i>(alloc: Global, leaf: &Priced<'i>) -> Option<Priced<'i>> {
     let mut prices = Vec::new(alloc);
     for price in leaf.prices() {
-        prices.push(price.saturating_add(by)).ok()?;
+        prices.push(price.saturating_add(RISE)).ok()?;
     }
+    let region = leaf.region().try_clone().ok()?;
     priced_at(
         alloc,
         leaf.instance(),
         region,
         leaf.neighbours(),
-        prices,
+        prices.as_slice(),
         None,
     )
-}
-
-/// The prices of both children of a leaf by an arc: where it is used, and where it is forbidden.
-fn children_of<'i>(alloc: Global, leaf: &Priced<'i>, arc: Arc) -> Option<(Priced<'i>, Priced<'i>)> {
-    let used = raised_at(alloc, leaf, leaf.region().used(arc).ok()?, 0)?;
-    let unused = raised_at(alloc, leaf, leaf.region().forbidden(arc).ok()?, 0)?;
-    Some((used, unused))
-}
-
-/// A leaf's prices, each raised, at its region.
-fn higher_of<'i>(alloc: Global, leaf: &Priced<'i>) -> Option<Priced<'i>> {
-    raised_at(alloc, leaf, leaf.region().try_clone().ok()?, RISE)
-}
-
-/// Splits a leaf, and answers the nanoseconds of that call. Node m is the one that split m splits, so that
-/// the levels are filled one after the other, each by an arc of its own.
-pub(crate) fn split<R: Host>(rt: &R, book: &mut Book<'_>, number: u32) -> io::Result<u128> {
-    let level = number.saturating_add(1).ilog2();
-    let from = u16::try_from(level).unwrap_or(0).saturating_add(1);
-    let to = from.saturating_add(1);
-    let arc = Arc { from, to };
-    let Some(leaf) = book.leaf(number) else {
-        return Err(wrong());
-    };
-    let (used, unused) = made(children_of(rt.alloc(), leaf, arc))?;
-    let begin = Instant::now(rt)?;
-    let accepted = book.split(0, number, arc, used, unused).is_ok();
-    let nanoseconds = begin.elapsed(rt)?.as_nanos();
-    if accepted {
-        Ok(nanoseconds)
-    } else {
-        Err(wrong())
-    }
-}
-
-/// Raises the prices of a leaf, and answers the nanoseconds of that call; 0 where it was not accepted.
-pub(crate) fn reprice<R: Host>(rt: &R, book: &mut Book<'_>, number: u32) -> io::Result<u128> {
-    let Some(leaf) = book.leaf(number) else {
-        return Err(wrong());
-    };
-    let priced = made(higher_of(rt.alloc(), leaf))?;
-    let begin = Instant::now(rt)?;
-    let accepted = book.reprice(0, number, priced).is_ok();
-    let nanoseconds = begin.elapsed(rt)?.as_nanos();
-    Ok(if accepted { nanoseconds.max(1) } else { 0 })
 }
 
 /// The neighbours of the relaxed routes.
@@ -86,11 +43,38 @@ fn of_call(nanoseconds: u128, calls: u32) -> u128 {
     nanoseconds / u128::from(calls.max(1)) / 100
 }
 
-/// Makes these splits, and answers the tenths of a microsecond of one.
+/// The prices of a leaf of a book at both of its children by an arc.
+fn children_of<'i>(
+    alloc: Global,
+    book: &Book<'i>,
+    number: u32,
+    arc: Arc,
+) -> Option<(Priced<'i>, Priced<'i>)> {
+    let leaf = book.leaf(number)?;
+    let (instance, region) = (leaf.instance(), leaf.region());
+    children_at(
+        alloc,
+        instance,
+        region,
+        leaf.neighbours(),
+        arc,
+        leaf.prices(),
+    )
+}
+
+/// Makes these splits, and answers the tenths of a microsecond of one. Node m is the one that split m splits,
+/// so that the levels are filled one after the other, each by an arc of its own.
 fn grow<R: Host>(rt: &R, book: &mut Book<'_>, first: u32, end: u32) -> io::Result<u128> {
     let mut sum: u128 = 0;
     for number in first..end {
-        sum = sum.saturating_add(split(rt, book, number)?);
+        let level = number.saturating_add(1).ilog2();
+        let from = u16::try_from(level).unwrap_or(0).saturating_add(1);
+        let to = from.saturating_add(1);
+        let arc = Arc { from, to };
+        let (used, unused) = made(children_of(rt.alloc(), book, number, arc))?;
+        let begin = Instant::now(rt)?;
+        made(book.split(0, number, arc, used, unused).ok())?;
+        sum = sum.saturating_add(begin.elapsed(rt)?.as_nanos());
     }
     Ok(of_call(sum, end.saturating_sub(first)))
 }
@@ -101,9 +85,15 @@ fn raise<R: Host>(rt: &R, book: &mut Book<'_>, splits: u32) -> io::Result<u128> 
     let mut raised: u32 = 0;
     let mut sum: u128 = 0;
     for below in 0..CALLS.min(splits) {
-        let nanoseconds = reprice(rt, book, last.saturating_sub(below))?;
-        raised = raised.saturating_add(u32::from(nanoseconds > 0));
-        sum = sum.saturating_add(nanoseconds);
+        let number = last.saturating_sub(below);
+        let priced = made(higher_of(rt.alloc(), made(book.leaf(number))?))?;
+        let begin = Instant::now(rt)?;
+        let is_raised = book.reprice(0, number, priced).is_ok();
+        let nanoseconds = begin.elapsed(rt)?.as_nanos();
+        if is_raised {
+            raised = raised.saturating_add(1);
+            sum = sum.saturating_add(nanoseconds);
+        }
     }
     print!(rt; " leaves, {raised} raised")?;
     Ok(of_call(sum, raised))
@@ -145,7 +135,7 @@ fn tell_step<R: Host>(
 
 /// Fills a book step by step, ten times as many leaves at each, and prints what it holds then.
 pub(crate) fn tell_book<R: Host>(rt: &R, asked: &Asked<'_>) -> io::Result<()> {
-    let mut book = made(book_of(rt.alloc(), asked.instance, NEIGHBOURS))?;
+    let mut book = made(book_of(rt.alloc(), asked.instance, NEIGHBOURS, Limits::MOST))?;
     let (mut fewer, mut size) = (0, 100);
     for _ in 0..7 {
         if size <= asked.number {
@@ -153,7 +143,8 @@ pub(crate) fn tell_book<R: Host>(rt: &R, asked: &Asked<'_>) -> io::Result<()> {
         }
         (fewer, size) = (size, size.saturating_mul(10));
     }
-    tell_texts(rt, book, asked.times)
+    let cert = made(cert_of(rt.alloc(), &book.finish()))?;
+    tell_text(rt, &cert, &mut MemorySink::new(rt.alloc()), asked.times)
 }
 
 /// The certificate of an outcome.
@@ -180,14 +171,6 @@ fn cert_of(alloc: Global, outcome: &Outcome<'_>) -> Option<Cert> {
     }
 }
 
-/// Whether a text is a certificate of so many nodes.
-fn is_read(alloc: Global, text: &[u8], nodes: usize) -> bool {
-    match read(alloc, text) {
-        Ok(again) => again.parts().nodes.len() == nodes,
-        Err(_) => false,
-    }
-}
-
 /// Writes a certificate and reads its text, and prints the size and the milliseconds of both.
 fn tell_text<R: Host>(rt: &R, cert: &Cert, sink: &mut MemorySink, times: bool) -> io::Result<()> {
     let begin = Instant::now(rt)?;
@@ -195,7 +178,10 @@ fn tell_text<R: Host>(rt: &R, cert: &Cert, sink: &mut MemorySink, times: bool) -
     let writing = begin.elapsed(rt)?.as_millis();
     let nodes = cert.parts().nodes.len();
     let begin = Instant::now(rt)?;
-    let again = is_read(rt.alloc(), sink.as_slice(), nodes);
+    let again = match read(rt.alloc(), sink.as_slice()) {
+        Ok(again) => again.parts().nodes.len() == nodes,
+        Err(_) => false,
+    };
     let reading = begin.elapsed(rt)?.as_millis();
     print!(rt; "{nodes} nodes, written {written}, read {again}")?;
     if times {
@@ -203,10 +189,4 @@ fn tell_text<R: Host>(rt: &R, cert: &Cert, sink: &mut MemorySink, times: bool) -
         print!(rt; "; {bytes} bytes; ms: writing {writing} reading {reading}")?;
     }
     println!(rt; "")
-}
-
-/// The same for the certificate of a book.
-pub(crate) fn tell_texts<R: Host>(rt: &R, book: Book<'_>, times: bool) -> io::Result<()> {
-    let cert = made(cert_of(rt.alloc(), &book.finish()))?;
-    tell_text(rt, &cert, &mut MemorySink::new(rt.alloc()), times)
 }

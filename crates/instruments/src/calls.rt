@@ -3,8 +3,8 @@
 //! second is made with what a refusal of the first gave back.
 
 use crate::given::tell_given;
-use crate::starts::{Host, made, plan_at, wrong};
-use crate::turns::{PlanSearcher, searcher_of};
+use crate::starts::{Host, made, wrong};
+use crate::turns::searcher_of;
 use branching::Region;
 use certificate::Cert;
 use checker::check;
@@ -12,7 +12,7 @@ use insertion::{Built, Weights, build};
 use labelling::least;
 use moves::{Move, Place, apply};
 use prices::{Priced, improve};
-use row_texts::{DEPOT, instance_text, three_apart, two_in_line};
+use row_texts::{DEPOT, instance_text, plan_at, three_apart, two_in_line};
 use schedule::Feasible;
 use solomon_reader::Instance;
 use std::alloc::Global;
@@ -43,7 +43,7 @@ fn instance_of(alloc: Global, name: &str) -> Option<Instance> {
 }
 
 /// Routes of them that cross.
-const ROUTES: [[u16; 2]; 2] = [[1, 4], [3, 2]];
+const ROUTES: [&[u16]; 2] = [&[1, 4], &[3, 2]];
 
 /// The ends of both routes change places.
 const CANDIDATE: Move = Move::TwoOptStar {
@@ -106,8 +106,11 @@ fn tell_applied<R: Host>(rt: &R, instance: &Instance) -> io::Result<()> {
     Ok(())
 }
 
-/// Descends twice, and prints what came of it.
-fn descend_twice<R: Host>(rt: &R, searcher: &mut PlanSearcher<'_>) -> io::Result<()> {
+/// Descends twice from the plan whose routes cross, and prints what came of it.
+fn tell_descents<R: Host>(rt: &R, instance: &Instance) -> io::Result<()> {
+    let plan = made(plan_at(rt.alloc(), instance, &ROUTES))?;
+    println!(rt; "ready")?;
+    let mut searcher = searcher_of(rt.alloc(), plan);
     for _ in 0..CALLS {
         match searcher.descend() {
             Ok(()) => tell_plan(rt, "Ok", searcher.plan())?,
@@ -120,38 +123,29 @@ fn descend_twice<R: Host>(rt: &R, searcher: &mut PlanSearcher<'_>) -> io::Result
     Ok(())
 }
 
-/// Descends twice from the plan whose routes cross.
-fn tell_descents<R: Host>(rt: &R, instance: &Instance) -> io::Result<()> {
-    let plan = made(plan_at(rt.alloc(), instance, &ROUTES))?;
-    println!(rt; "ready")?;
-    descend_twice(rt, &mut searcher_of(rt.alloc(), plan))
-}
-
 /// Prices at which a relaxed route that remembers nobody visits the second customer twice.
 const PRICES: [i64; 2] = [0, 1_100_000];
 
 /// Steps of which each raises the value.
 const STEPS: [i64; 3] = [64_000, 32_000, 16_000];
 
-/// Finds a relaxed route of least reduced cost, and prints what came of it.
-fn find_least<R: Host>(rt: &R, instance: &Instance, region: &Region) -> io::Result<()> {
-    if instance.customer_count() != 2 || region.size() != 2 {
+/// Finds a relaxed route of least reduced cost twice, and prints what came of it.
+fn tell_least<R: Host>(rt: &R, instance: &Instance) -> io::Result<()> {
+    if instance.customer_count() != 2 {
         return Err(wrong());
     }
-    match least(rt.alloc(), instance, region, &PRICES, 0, None) {
-        Ok(found) => {
-            let (value, route) = (found.value, found.route);
-            println!(rt; "Ok {value:?} {route:?}")
-        }
-        Err(fault) => println!(rt; "{fault}"),
-    }
-}
-
-fn tell_least<R: Host>(rt: &R, instance: &Instance) -> io::Result<()> {
     let region = Region::root(rt.alloc(), 2);
     println!(rt; "ready")?;
-    find_least(rt, instance, &region)?;
-    find_least(rt, instance, &region)
+    for _ in 0..CALLS {
+        match least(rt.alloc(), instance, &region, &PRICES, 0, None) {
+            Ok(found) => {
+                let (value, route) = (found.value, found.route);
+                println!(rt; "Ok {value:?} {route:?}")?
+            }
+            Err(fault) => println!(rt; "{fault}")?,
+        }
+    }
+    Ok(())
 }
 
 /// Improves prices, and prints the best that were found.
@@ -216,20 +210,17 @@ fn tell_written<R: Host>(rt: &R) -> io::Result<()> {
 }
 
 /// Checks the certificate with its solution twice, and prints what came of it.
-fn check_twice<R: Host>(rt: &R, instance: &[u8]) -> io::Result<()> {
+fn tell_checks<R: Host>(rt: &R) -> io::Result<()> {
+    let instance = made(three_apart(rt.alloc()).ok())?;
+    let text = instance.as_bytes();
+    println!(rt; "ready")?;
     for _ in 0..CALLS {
-        match check(rt.alloc(), instance, CERTIFICATE, Some(SOLUTION), STATES) {
+        match check(rt.alloc(), text, CERTIFICATE, Some(SOLUTION), STATES) {
             Ok(verdict) => println!(rt; "Ok {verdict:?}")?,
             Err(fault) => println!(rt; "{fault}")?,
         }
     }
     Ok(())
-}
-
-fn tell_checks<R: Host>(rt: &R) -> io::Result<()> {
-    let instance = made(three_apart(rt.alloc()).ok())?;
-    println!(rt; "ready")?;
-    check_twice(rt, instance.as_bytes())
 }
 
 /// Solves an instance by few turns of one worker of each kind, and prints the answer and both texts.
@@ -268,28 +259,25 @@ fn tell_solved<R: Host + Threads + Wait>(rt: &R, text: String) -> io::Result<()>
     solve_once(rt, text.as_bytes())
 }
 
-/// Makes a call that needs an instance.
-fn tell_with<R: Host>(rt: &R, instance: &Instance, name: &str) -> io::Result<()> {
-    match name {
-        "build" => tell_built(rt, instance),
-        "apply" => tell_applied(rt, instance),
-        "descend" => tell_descents(rt, instance),
-        "least" => tell_least(rt, instance),
-        "improve" => tell_improved(rt, instance),
-        "offer" | "reprice" | "split" => tell_given(rt, instance, name),
-        _ => Err(wrong()),
-    }
-}
-
-/// Makes the call of a name twice.
+/// Makes the call of a name twice, on an instance where it needs one.
 fn tell<R: Host + Threads + Wait>(rt: &R, name: &str) -> io::Result<()> {
     match name {
-        "read" => tell_read(rt),
-        "write" => tell_written(rt),
-        "check" => tell_checks(rt),
-        "solve_two" => tell_solved(rt, made(two_in_line(rt.alloc()).ok())?),
-        "solve_three" => tell_solved(rt, made(three_apart(rt.alloc()).ok())?),
-        _ => tell_with(rt, &made(instance_of(rt.alloc(), name))?, name),
+        "read" => return tell_read(rt),
+        "write" => return tell_written(rt),
+        "check" => return tell_checks(rt),
+        "solve_two" => return tell_solved(rt, made(two_in_line(rt.alloc()).ok())?),
+        "solve_three" => return tell_solved(rt, made(three_apart(rt.alloc()).ok())?),
+        _ => {}
+    }
+    let instance = made(instance_of(rt.alloc(), name))?;
+    match name {
+        "build" => tell_built(rt, &instance),
+        "apply" => tell_applied(rt, &instance),
+        "descend" => tell_descents(rt, &instance),
+        "least" => tell_least(rt, &instance),
+        "improve" => tell_improved(rt, &instance),
+        "offer" | "reprice" | "split" => tell_given(rt, &instance, name),
+        _ => Err(wrong()),
     }
 }
 

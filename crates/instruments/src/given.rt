@@ -1,10 +1,11 @@
 //! Calls of a book that has no room for a further event without a growth, nor, where a leaf is split, for
 //! its children: two customers in a line, which one vehicle can serve.
 
-use crate::starts::{Host, book_of, made, plan_at, priced_at};
+use crate::starts::{Host, made};
 use branching::{Arc, Region};
-use incumbent_book::{Book, Offered};
+use incumbent_book::{Book, Limits, Offered};
 use prices::Priced;
+use row_texts::{book_of, children_at, plan_at, priced_at};
 use schedule::Feasible;
 use solomon_reader::Instance;
 use std::alloc::Global;
@@ -30,46 +31,25 @@ enum Given<'i> {
     Children(Priced<'i>, Priced<'i>),
 }
 
-/// What a call gave back, where it was refused.
-type Back<'i> = io::Result<Option<Given<'i>>>;
-
-/// The same price for both customers at a region, with one neighbour.
-fn even_at<'i>(
-    alloc: Global,
-    instance: &'i Instance,
-    region: Region,
-    price: i64,
-) -> Option<Priced<'i>> {
-    let prices = Vec::from_slice(alloc, &[price, price]).ok()?;
-    priced_at(alloc, instance, region, 1, prices, None)
-}
-
-/// Prices of 0 at both children of a region by an arc.
-fn children_at<'i>(
-    alloc: Global,
-    instance: &'i Instance,
-    region: &Region,
-    arc: Arc,
-) -> Option<Given<'i>> {
-    let used = even_at(alloc, instance, region.used(arc).ok()?, 0)?;
-    let unused = even_at(alloc, instance, region.forbidden(arc).ok()?, 0)?;
-    Some(Given::Children(used, unused))
-}
-
-/// What the call of a name gives a book.
+/// What the call of a name gives a book; prices are for one neighbour.
 fn given_of<'i>(alloc: Global, instance: &'i Instance, name: &str) -> Option<Given<'i>> {
     let root = Region::root(alloc, 2);
-    match name {
-        "offer" => Some(Given::Plan(plan_at(alloc, instance, &[[1, 2]])?)),
-        "reprice" => Some(Given::Root(even_at(alloc, instance, root, 100_000)?)),
-        _ => children_at(alloc, instance, &root.forbidden(ONWARD).ok()?, BACK),
-    }
+    Some(match name {
+        "offer" => Given::Plan(plan_at(alloc, instance, &[&[1, 2]])?),
+        "reprice" => Given::Root(priced_at(alloc, instance, root, 1, &[100_000; 2], None)?),
+        _ => {
+            let apart = root.forbidden(ONWARD).ok()?;
+            let (used, unused) = children_at(alloc, instance, &apart, 1, BACK, &[0; 2])?;
+            Given::Children(used, unused)
+        }
+    })
 }
 
 /// Offers a plan of a route for each customer so many times, and says whether there was memory.
 fn fill<'i>(alloc: Global, instance: &'i Instance, book: &mut Book<'i>, offers: u32) -> Option<()> {
     for _ in 0..offers {
-        book.offer(0, plan_at(alloc, instance, &[[1], [2]])?).ok()?;
+        book.offer(0, plan_at(alloc, instance, &[&[1], &[2]])?)
+            .ok()?;
     }
     Some(())
 }
@@ -116,25 +96,33 @@ fn tell_reply<R: Host>(rt: &R, reply: &Offered<'_>) -> io::Result<()> {
     }
 }
 
-/// That a call was accepted, once its reply is printed.
-fn told<'i>(printed: io::Result<()>) -> Back<'i> {
-    printed?;
-    Ok(None)
-}
-
-/// Gives a book what its call takes, and prints the reply.
-fn give<'i, R: Host>(rt: &R, book: &mut Book<'i>, given: Given<'i>) -> Back<'i> {
+/// Gives a book what its call takes, prints the reply, and answers what the call gave back, where it was
+/// refused.
+fn give<'i, R: Host>(
+    rt: &R,
+    book: &mut Book<'i>,
+    given: Given<'i>,
+) -> io::Result<Option<Given<'i>>> {
     let (back, fault) = match given {
         Given::Plan(plan) => match book.offer(0, plan) {
-            Ok(reply) => return told(tell_reply(rt, &reply)),
+            Ok(reply) => {
+                tell_reply(rt, &reply)?;
+                return Ok(None);
+            }
             Err((plan, fault)) => (Given::Plan(plan), fault),
         },
         Given::Root(priced) => match book.reprice(0, 0, priced) {
-            Ok(()) => return told(print!(rt; "Ok ")),
+            Ok(()) => {
+                print!(rt; "Ok ")?;
+                return Ok(None);
+            }
             Err((priced, fault)) => (Given::Root(priced), fault),
         },
         Given::Children(used, unused) => match book.split(0, APART, BACK, used, unused) {
-            Ok((used, unused)) => return told(print!(rt; "Ok {used} {unused} ")),
+            Ok((used, unused)) => {
+                print!(rt; "Ok {used} {unused} ")?;
+                return Ok(None);
+            }
             Err((used, unused, fault)) => (Given::Children(used, unused), fault),
         },
     };
@@ -161,18 +149,15 @@ fn give_twice<'i, R: Host>(
 
 /// Splits the root of a book.
 fn split_root<'i>(alloc: Global, instance: &'i Instance, book: &mut Book<'i>) -> Option<()> {
-    match children_at(alloc, instance, &Region::root(alloc, 2), ONWARD)? {
-        Given::Children(used, unused) => {
-            book.split(0, 0, ONWARD, used, unused).ok()?;
-            Some(())
-        }
-        _ => None,
-    }
+    let root = Region::root(alloc, 2);
+    let (used, unused) = children_at(alloc, instance, &root, 1, ONWARD, &[0; 2])?;
+    book.split(0, 0, ONWARD, used, unused).ok()?;
+    Some(())
 }
 
 /// Makes the call of a name twice on a book whose room is full.
 pub(crate) fn tell_given<R: Host>(rt: &R, instance: &Instance, name: &str) -> io::Result<()> {
-    let mut book = made(book_of(rt.alloc(), instance, 1))?;
+    let mut book = made(book_of(rt.alloc(), instance, 1, Limits::MOST))?;
     if name == "split" {
         made(fill(rt.alloc(), instance, &mut book, FIRST_ROOM - 1))?;
         made(split_root(rt.alloc(), instance, &mut book))?;

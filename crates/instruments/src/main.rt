@@ -19,21 +19,12 @@ use crate::books::tell_book;
 use crate::calls::tell_calls;
 use crate::echoes::tell_echo;
 use crate::pricings::{tell_ascents, tell_closing, tell_labels};
-use crate::starts::{Asked, Host, wrong};
-use crate::turns::{tell_descents, tell_turns};
-use solomon_reader::Instance;
+use crate::starts::{Asked, Host, made, wrong};
+use crate::turns::tell_searches;
+use solomon_reader::read;
 use std::sync::Wait;
 use std::thread::Threads;
 use std::{env, fs, io};
-
-/// The instance of a file.
-fn instance_of<R: Host>(rt: &R, path: &str) -> io::Result<Instance> {
-    let text = fs::read(rt, path)?;
-    match solomon_reader::read(rt.alloc(), text.as_slice()) {
-        Ok(instance) => Ok(instance),
-        Err(_) => Err(wrong()),
-    }
-}
 
 /// Prints the rows of a script, of the library or of the program.
 fn tell_rows<R: Host + Threads + Wait>(rt: &R, kind: &str, path: &str) -> io::Result<()> {
@@ -58,7 +49,8 @@ fn tell<R: Host + Threads + Wait>(
         "rows" => return tell_rows(rt, first, second),
         _ => {}
     }
-    let instance = instance_of(rt, first)?;
+    let text = fs::read(rt, first)?;
+    let instance = made(read(rt.alloc(), text.as_slice()).ok())?;
     if mode == "labels" {
         return tell_labels(rt, &instance, second, times);
     }
@@ -74,25 +66,9 @@ fn tell<R: Host + Threads + Wait>(
         "ascent" => tell_ascents(rt, &asked),
         "book" => tell_book(rt, &asked),
         "closing" => tell_closing(rt, &asked),
-        "descents" => tell_descents(rt, &asked),
-        "turns" => tell_turns(rt, &asked),
+        "descents" | "turns" => tell_searches(rt, mode, &asked),
         _ => Err(wrong()),
     }
-}
-
-/// Prints what the first of the words ask for, and answers the words behind them.
-fn tell_first<'w, R: Host + Threads + Wait>(
-    rt: &R,
-    words: &'w [String],
-) -> io::Result<&'w [String]> {
-    if words.len() < 3 {
-        return Err(wrong());
-    }
-    let (given, behind) = words.split_at(3);
-    let times = behind.first().is_some_and(|word| word.as_str() == "times");
-    let (mode, first, second) = (given[0].as_str(), given[1].as_str(), given[2].as_str());
-    tell(rt, mode, first, second, times)?;
-    Ok(if times { &behind[1..] } else { behind })
 }
 
 /// Prints what all the words ask for.
@@ -105,7 +81,12 @@ fn tell_all<R: Host + Threads + Wait>(rt: &R, words: &[String]) -> io::Result<()
         if mode.as_str() == "call" {
             return tell_calls(rt, &rest[1..]);
         }
-        rest = tell_first(rt, rest)?;
+        let [_, first, second, behind @ ..] = rest else {
+            return Err(wrong());
+        };
+        let times = behind.first().is_some_and(|word| word.as_str() == "times");
+        tell(rt, mode.as_str(), first.as_str(), second.as_str(), times)?;
+        rest = if times { &behind[1..] } else { behind };
     }
     Ok(())
 }

@@ -1,16 +1,17 @@
 //! How dear pricings are: how many labels are active at once, what the root of an instance comes to after
 //! some numbers of pricings, and what it takes to close an instance.
 
-use crate::starts::{Asked, Host, made, plan_of, priced_at, wrong};
+use crate::starts::{Asked, Host, made, plan_of, wrong};
 use branching::{Arc, Region, TreeNode};
 use certificate::{Cert, CertNode};
 use closing::close_counted;
 use labelling::least;
 use price_ascent::{Goal, RoutePool, first_prices, first_rise, raise};
 use prices::Priced;
+use row_texts::priced_at;
 use schedule::Feasible;
 use solomon_reader::{Instance, MOST_LEAVES, MOST_NEIGHBOURS};
-use std::alloc::{AllocError, Global};
+use std::alloc::Global;
 use std::time::Instant;
 use std::{fs, io};
 
@@ -53,16 +54,11 @@ fn labels_of(alloc: Global, leaf: &Priced<'_>) -> usize {
     enough
 }
 
-/// A price of zero for each customer.
-fn zeros(alloc: Global, count: u16) -> Result<Vec<i64>, AllocError> {
-    vec![in alloc; 0; usize::from(count)]
-}
-
 /// The prices of the first leaf of a certificate.
-fn leaf_prices(alloc: Global, cert: &Cert) -> Option<Vec<i64>> {
+fn leaf_prices(cert: &Cert) -> Option<&[i64]> {
     for node in &cert.parts().nodes {
         if let CertNode::Leaf(prices) = node {
-            return Vec::from_slice(alloc, prices.as_slice()).ok();
+            return Some(prices.as_slice());
         }
     }
     None
@@ -80,7 +76,7 @@ fn tell_leaf<R: Host>(rt: &R, leaf: &Priced<'_>, times: bool) -> io::Result<()> 
 }
 
 /// Prints the line of these prices at the root, with so many neighbours.
-fn tell_root<R: Host>(rt: &R, asked: &Asked<'_>, prices: Vec<i64>) -> io::Result<()> {
+fn tell_root<R: Host>(rt: &R, asked: &Asked<'_>, prices: &[i64]) -> io::Result<()> {
     let root = Region::root(rt.alloc(), asked.instance.customer_count());
     match priced_at(
         rt.alloc(),
@@ -95,16 +91,8 @@ fn tell_root<R: Host>(rt: &R, asked: &Asked<'_>, prices: Vec<i64>) -> io::Result
     }
 }
 
-/// Prints the line of prices of zero, and that of the certificate's first leaf.
-fn tell_roots<R: Host>(rt: &R, asked: &Asked<'_>, cert: &Cert) -> io::Result<()> {
-    let zero = made(zeros(rt.alloc(), asked.instance.customer_count()).ok())?;
-    print!(rt; "zero")?;
-    tell_root(rt, asked, zero)?;
-    print!(rt; "certificate")?;
-    tell_root(rt, asked, made(leaf_prices(rt.alloc(), cert))?)
-}
-
-/// The same for the certificate of a file, with as many neighbours as it says.
+/// Prints the line of prices of zero at the root, and that of the prices of the first leaf of a file's
+/// certificate, with as many neighbours as it says.
 pub(crate) fn tell_labels<R: Host>(
     rt: &R,
     instance: &Instance,
@@ -112,16 +100,18 @@ pub(crate) fn tell_labels<R: Host>(
     times: bool,
 ) -> io::Result<()> {
     let text = fs::read(rt, path)?;
-    let Ok(cert) = certificate::read(rt.alloc(), text.as_slice()) else {
-        return Err(wrong());
-    };
+    let cert = made(certificate::read(rt.alloc(), text.as_slice()).ok())?;
     let number = cert.parts().neighbours;
     let asked = Asked {
         instance,
         number,
         times,
     };
-    tell_roots(rt, &asked, &cert)
+    let zeros = vec![in rt.alloc(); 0; usize::from(instance.customer_count())]?;
+    print!(rt; "zero")?;
+    tell_root(rt, &asked, zeros.as_slice())?;
+    print!(rt; "certificate")?;
+    tell_root(rt, &asked, made(leaf_prices(&cert))?)
 }
 
 /// The numbers of pricings.
@@ -144,10 +134,17 @@ fn root_of<'i>(
 ) -> Option<Priced<'i>> {
     let prices = match start {
         Some(plan) => first_prices(alloc, instance, plan.routes()).ok()?,
-        None => zeros(alloc, instance.customer_count()).ok()?,
+        None => vec![in alloc; 0; usize::from(instance.customer_count())].ok()?,
     };
     let region = Region::root(alloc, instance.customer_count());
-    priced_at(alloc, instance, region, neighbours, prices, LIMIT)
+    priced_at(
+        alloc,
+        instance,
+        region,
+        neighbours,
+        prices.as_slice(),
+        LIMIT,
+    )
 }
 
 /// A pool with the routes of a plan.
@@ -185,12 +182,6 @@ fn goal_of(instance: &Instance, start: Start<'_, '_>, pricings: u32) -> Goal {
     }
 }
 
-/// The arc that the pool would branch a leaf on.
-fn arc_of(pool: &RoutePool<'_>, leaf: &Priced<'_>) -> Option<Arc> {
-    let rows = pool.branching_arcs(leaf.instance()).ok()?;
-    leaf.region().choose(rows.as_slice())
-}
-
 /// Prints the milliseconds where times are to be printed, and ends the line.
 fn tell_end<R: Host>(rt: &R, milliseconds: u128, times: bool) -> io::Result<()> {
     if times {
@@ -212,7 +203,8 @@ fn tell_raised<'i, R: Host>(
     let milliseconds = begin.elapsed(rt)?.as_millis();
     let (pricings, value) = (goal.pricings, best.value());
     print!(rt; "pricings {pricings} value {value}")?;
-    if let Some(Arc { from, to }) = arc_of(pool, &best) {
+    let rows = made(pool.branching_arcs(best.instance()).ok())?;
+    if let Some(Arc { from, to }) = best.region().choose(rows.as_slice()) {
         print!(rt; " arc {from} {to}")?;
     }
     tell_end(rt, milliseconds, times)
@@ -240,17 +232,6 @@ pub(crate) fn tell_ascents<R: Host>(rt: &R, asked: &Asked<'_>) -> io::Result<()>
     }
 }
 
-/// How many of the nodes are leaves.
-fn leaves_of(nodes: &[TreeNode]) -> usize {
-    let mut leaves: usize = 0;
-    for node in nodes {
-        if let TreeNode::Leaf(_) = node {
-            leaves = leaves.saturating_add(1);
-        }
-    }
-    leaves
-}
-
 /// Closes an instance, and prints the bound in tenths, the leaves of the tree and the pricings.
 pub(crate) fn tell_closing<R: Host>(rt: &R, asked: &Asked<'_>) -> io::Result<()> {
     if asked.number > MOST_NEIGHBOURS {
@@ -258,7 +239,11 @@ pub(crate) fn tell_closing<R: Host>(rt: &R, asked: &Asked<'_>) -> io::Result<()>
     }
     match close_counted(rt.alloc(), asked.instance, asked.number, MOST_LEAVES) {
         Ok((closed, pricings)) => {
-            let (bound, leaves) = (closed.bound.get(), leaves_of(closed.nodes.as_slice()));
+            let bound = closed.bound.get();
+            let mut leaves: usize = 0;
+            for node in &closed.nodes {
+                leaves = leaves.saturating_add(usize::from(matches!(node, TreeNode::Leaf(_))));
+            }
             println!(rt; "bound {bound} leaves {leaves} pricings {pricings}")
         }
         Err(fault) => println!(rt; "{fault}"),

@@ -28,15 +28,6 @@ pub(crate) fn searcher_of<'i>(alloc: Global, plan: Feasible<'i>) -> PlanSearcher
     Searcher::new(alloc, plan, Xoshiro256PlusPlus::seed_from_u64(SEED))
 }
 
-/// Descends in one thread or in several, and says whether there was memory.
-fn descend<R: Threads + Sync>(rt: &R, searcher: &mut PlanSearcher<'_>, is_parallel: bool) -> bool {
-    if is_parallel {
-        searcher.descend_parallel(rt).is_ok()
-    } else {
-        searcher.descend().is_ok()
-    }
-}
-
 /// Prints a name and the cost of a plan, with microseconds where times are to be printed.
 fn tell_cost<R: Host>(
     rt: &R,
@@ -66,9 +57,12 @@ fn tell_descent<'i, R: Host + Threads>(
     for _ in 0..RUNS {
         searcher.go_on_from(made(plan.try_clone().ok())?);
         let begin = Instant::now(rt)?;
-        if !descend(rt, searcher, is_parallel) {
-            return Err(wrong());
-        }
+        let descended = if is_parallel {
+            searcher.descend_parallel(rt)
+        } else {
+            searcher.descend()
+        };
+        made(descended.ok())?;
         least = least.min(begin.elapsed(rt)?.as_micros());
     }
     tell_cost(rt, name, searcher.plan(), least, times)
@@ -92,14 +86,6 @@ fn tell_turned<R: Host>(
     tell_cost(rt, name, searcher.plan(), microseconds, times)
 }
 
-/// Prints the routes of a plan, one a line.
-fn tell_routes<R: Host>(rt: &R, plan: &Feasible<'_>) -> io::Result<()> {
-    for route in plan.routes() {
-        println!(rt; "route {route:?}")?;
-    }
-    Ok(())
-}
-
 /// Prints what descents in one thread and in several and then turns come to, and the routes then.
 fn tell_turns_of<'i, R: Host + Threads>(
     rt: &R,
@@ -111,16 +97,10 @@ fn tell_turns_of<'i, R: Host + Threads>(
     tell_descent(rt, "\nparallel", searcher, plan, true, asked.times)?;
     tell_turned(rt, "\nturns", searcher, asked.number, asked.times)?;
     println!(rt; "")?;
-    tell_routes(rt, searcher.plan())
-}
-
-/// The same from the plan that insertion builds.
-pub(crate) fn tell_turns<R: Host + Threads>(rt: &R, asked: &Asked<'_>) -> io::Result<()> {
-    let Some(plan) = plan_of(rt.alloc(), asked.instance) else {
-        return println!(rt; "no plan");
-    };
-    let copy = made(plan.try_clone().ok())?;
-    tell_turns_of(rt, asked, &mut searcher_of(rt.alloc(), copy), &plan)
+    for route in searcher.plan().routes() {
+        println!(rt; "route {route:?}")?;
+    }
+    Ok(())
 }
 
 /// The most moves of a plain descent.
@@ -241,12 +221,20 @@ fn tell_descents_of<'i, R: Host + Threads>(
     println!(rt; "")
 }
 
-/// Prints what both ways of descent from the plan that insertion builds and then turns come to.
-pub(crate) fn tell_descents<R: Host + Threads>(rt: &R, asked: &Asked<'_>) -> io::Result<()> {
+/// Prints what a mode's descents from the plan that insertion builds and then turns come to.
+pub(crate) fn tell_searches<R: Host + Threads>(
+    rt: &R,
+    mode: &str,
+    asked: &Asked<'_>,
+) -> io::Result<()> {
     let Some(plan) = plan_of(rt.alloc(), asked.instance) else {
         return println!(rt; "no plan");
     };
-    tell_plain(rt, made(plan.try_clone().ok())?, asked.times)?;
+    let copy = made(plan.try_clone().ok())?;
+    if mode == "turns" {
+        return tell_turns_of(rt, asked, &mut searcher_of(rt.alloc(), copy), &plan);
+    }
+    tell_plain(rt, copy, asked.times)?;
     let copy = made(plan.try_clone().ok())?;
     tell_descents_of(rt, asked, &mut searcher_of(rt.alloc(), copy), &plan)
 }

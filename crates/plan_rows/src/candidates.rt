@@ -2,7 +2,7 @@
 
 ghost use Rattle.moves.specs.Trees.{AreOfPlan};
 
-use crate::words::{listed, named, pair_of, then, told};
+use crate::words::{listed, named, pair_of};
 use moves::{
     Chain, KINDS, Kind, Move, MoveFault, Place, apply, best, best_parallel, trees_of, value,
 };
@@ -72,49 +72,17 @@ fn value_in(alloc: Global, plan: &Feasible<'_>, candidate: &Move) -> Option<Opti
     Some(value(&trees, candidate))
 }
 
-/// By how much the cost of a plan changes where a move is made, if there is memory for it.
-fn change_in(alloc: Global, plan: Feasible<'_>, candidate: &Move) -> Option<Option<i64>> {
-    let cost = plan.cost().get() as i64;
-    match apply(alloc, plan, candidate) {
-        Ok(after) => Some(Some(after.cost().get() as i64 - cost)),
-        Err((_same, MoveFault::NotFeasible)) => Some(None),
-        Err((_same, MoveFault::Memory)) => None,
-    }
-}
-
 /// The value of a move, and by how much it changes the cost where it is made.
 pub(crate) fn told_move(alloc: Global, plan: Feasible<'_>, words: &[&str]) -> Option<String> {
     let candidate = move_of(kind_of(words.get(1)?)?, words.get(2)?, words.get(3)?)?;
     let value = value_in(alloc, &plan, &candidate)?;
-    let change = change_in(alloc, plan, &candidate)?;
+    let cost = plan.cost().get() as i64;
+    let change = match apply(alloc, plan, &candidate) {
+        Ok(after) => Some(after.cost().get() as i64 - cost),
+        Err((_same, MoveFault::NotFeasible)) => None,
+        Err((_same, MoveFault::Memory)) => return None,
+    };
     named(alloc, "value change", &[value, change])
-}
-
-fn told_places(alloc: Global, first: &Place, second: &Place) -> Option<String> {
-    listed(
-        alloc,
-        "places",
-        &[first.route, first.position, second.route, second.position],
-    )
-}
-
-/// The places of a move of no chains.
-fn told_ends(alloc: Global, candidate: &Move) -> Option<String> {
-    match candidate {
-        Move::Relocate { from, to } => told_places(alloc, from, to),
-        Move::Exchange { first, second } => told_places(alloc, first, second),
-        Move::TwoOptStar { first, second } => told_places(alloc, first, second),
-        _ => told(alloc, "chains"),
-    }
-}
-
-/// Whether two answers are the same.
-fn are_same(one: &Option<(Move, i64)>, other: &Option<(Move, i64)>) -> bool {
-    match (one, other) {
-        (Some((one, value)), Some((other, other_value))) => one == other && value == other_value,
-        (None, None) => true,
-        _ => false,
-    }
 }
 
 /// The best move of a kind, if one thread and several threads find the same.
@@ -127,11 +95,7 @@ fn best_in<R: AllocGlobal + Threads + Sync>(
 {
     let found = best(trees, kind);
     let other = best_parallel(rt, rt.alloc(), trees, kind).ok()?;
-    if are_same(&found, &other) {
-        found
-    } else {
-        None
-    }
+    if found == other { found } else { None }
 }
 
 /// The value of the best move of each kind.
@@ -155,10 +119,13 @@ pub(crate) fn told_best<R: AllocGlobal + Threads + Sync>(
 ) -> Option<String> {
     let trees = trees_of(rt.alloc(), plan).ok()?;
     let (found, value) = best_in(rt, &trees, kind_of(words.get(1)?)?)?;
-    let ends = told_ends(rt.alloc(), &found)?;
-    then(
-        ends,
-        " ",
-        named(rt.alloc(), "value", &[Some(value)])?.as_str(),
-    )
+    let (first, second) = match found {
+        Move::Relocate { from, to } => (from, to),
+        Move::Exchange { first, second } => (first, second),
+        Move::TwoOptStar { first, second } => (first, second),
+        _ => return None,
+    };
+    let ends = [first.route, first.position, second.route, second.position];
+    let ends = listed(rt.alloc(), "places", &ends)?;
+    format!(in rt.alloc(); "{ends} value {value}").ok()
 }

@@ -1,7 +1,6 @@
 //! Lists of at most eight numbers: a second kind of items that may be joined, beside segments.
 
 ghost use Rattle.std.specs.Prelude.{◌≡◌, [], ◌∷◌, length};
-ghost use Rattle.plan_rows.specs.Few.{joined_end_to_end};
 
 use segments::Linked;
 use std::marker::Model;
@@ -33,23 +32,6 @@ impl Model for Few {
     ghost inverse_ok = { λ a is i. record { items = sym is.zeros i; len = length_kept a.items a.len is i } };
 }
 
-/// Both lists, one after the other, if that is a list of at most eight.
-pub fn concatenate(a: &Few, b: &Few) -> Option<Few>
-    ensures { result ≡ joined_end_to_end a.now b.now }
-{
-    if a.len + b.len > MOST {
-        return None;
-    }
-    let mut items = a.items;
-    for i in 0..b.len {
-        items[a.len + i] = b.items[i];
-    }
-    Some(Few {
-        items,
-        len: a.len + b.len,
-    })
-}
-
 impl Few {
     /// The list of one number.
     pub fn one(number: u8) -> Few
@@ -71,6 +53,7 @@ impl Few {
 
 /// Lists are joined end to end, up to eight numbers.
 impl Linked for Few {
+    ghost use Rattle.plan_rows.specs.Few.{joined_end_to_end};
     ghost use Rattle.plan_rows.specs.FewLaws.{joined-assoc};
 
     type Context = ();
@@ -78,7 +61,17 @@ impl Linked for Few {
     ghost op = { λ _ a b. joined_end_to_end a b };
 
     fn join(_context: &(), a: &Few, b: &Few) -> Option<Few> {
-        concatenate(a, b)
+        if a.len + b.len > MOST {
+            return None;
+        }
+        let mut items = a.items;
+        for i in 0..b.len {
+            items[a.len + i] = b.items[i];
+        }
+        Some(Few {
+            items,
+            len: a.len + b.len,
+        })
     }
 
     ghost law = { λ _ x y z. joined-assoc x y z };

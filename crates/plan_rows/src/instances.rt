@@ -1,65 +1,24 @@
 //! Instances that are read, what they tell, and plans that insertion builds of them.
 
-use crate::words::{
-    behind, list_of, listed, named, small_at, text_of, then, told, told_bytes, told_routes,
-};
+use crate::words::{behind, list_of, listed, small_at, text_of, told, told_routes};
 use insertion::{Built, Weights, build};
 use row_texts::{DEPOT, instance_text};
 use schedule::walk;
-use solomon_reader::{Instance, Row, read};
+use solomon_reader::{Instance, read};
 use std::alloc::Global;
 
-/// The numbers of a row behind its own.
-fn told_row(alloc: Global, row: &Row) -> Option<String> {
-    let (x, y, demand) = (i64::from(row.x), i64::from(row.y), i64::from(row.demand));
-    let times = [
-        Some(i64::from(row.ready)),
-        Some(i64::from(row.due)),
-        Some(i64::from(row.service)),
-    ];
-    let text = named(alloc, "last_x y demand", &[Some(x), Some(y), Some(demand)])?;
-    then(
-        text,
-        " ",
-        named(alloc, "ready due service", &times)?.as_str(),
-    )
-}
-
 /// The name, the sizes and the last row of an instance.
-fn told_instance(alloc: Global, instance: &Instance) -> Option<String> {
-    let name = told_bytes(alloc, instance.name())?;
-    let (fleet, capacity) = (i64::from(instance.fleet()), i64::from(instance.capacity()));
-    let numbers = [
-        Some(fleet),
-        Some(capacity),
-        Some(i64::from(instance.customer_count())),
-    ];
-    let sizes = named(alloc, "fleet capacity customers", &numbers)?;
-    let row = told_row(alloc, instance.rows().last()?)?;
-    then(then(name, " ", sizes.as_str())?, " ", row.as_str())
-}
-
-/// Reads an instance, and tells what was read or the fault.
-pub(crate) fn read_told(alloc: Global, text: &[u8]) -> (Option<Instance>, Option<String>) {
-    match read(alloc, text) {
-        Ok(instance) => {
-            let text = told_instance(alloc, &instance);
-            (Some(instance), text)
-        }
-        Err(fault) => (None, fault.to_string(alloc).ok()),
-    }
-}
-
-/// The text of an instance of these rows, by a command's fleet and capacity.
-fn text_with(alloc: Global, words: &[&str], rows: &str) -> Option<String> {
-    let (fleet, capacity) = (small_at(words, 1)?, small_at(words, 2)?);
-    instance_text(alloc, u32::from(fleet), u32::from(capacity), "", rows).ok()
-}
-
-/// The text of an instance, by a command's fleet, capacity and rows.
-pub(crate) fn text_by(alloc: Global, line: &str, words: &[&str]) -> Option<String> {
-    let rows = text_of(alloc, behind(line, 3))?;
-    text_with(alloc, words, str::from_utf8(rows.as_slice()).ok()?)
+pub(crate) fn told_instance(alloc: Global, instance: &Instance) -> Option<String> {
+    let name = str::from_utf8(instance.name()).ok()?;
+    let (fleet, capacity) = (instance.fleet(), instance.capacity());
+    let customers = instance.customer_count();
+    let row = instance.rows().last()?;
+    let last = format!(in alloc;
+        "last_x {} y {} demand {} ready {} due {} service {}",
+        row.x, row.y, row.demand, row.ready, row.due, row.service,
+    )
+    .ok()?;
+    format!(in alloc; "{name} fleet {fleet} capacity {capacity} customers {customers} {last}").ok()
 }
 
 /// The rows of the depot and so many customers from (X,Y) on, each a step to the right of the one before.
@@ -77,12 +36,18 @@ fn rows_in(alloc: Global, word: &str) -> Option<String> {
     Some(rows)
 }
 
-/// The text of an instance of such customers, and of the rows behind them.
-pub(crate) fn line_text_by(alloc: Global, line: &str, words: &[&str]) -> Option<String> {
-    let rows = rows_in(alloc, words.get(3)?)?;
-    let others = text_of(alloc, behind(line, 4))?;
-    let rows = then(rows, "", str::from_utf8(others.as_slice()).ok()?)?;
-    text_with(alloc, words, rows.as_str())
+/// The text of an instance, by a command's fleet and capacity and its rows, before which a `line` has the
+/// customers of such a line.
+pub(crate) fn text_by(alloc: Global, line: &str, words: &[&str]) -> Option<String> {
+    let (fleet, capacity) = (small_at(words, 1)?, small_at(words, 2)?);
+    let (first, count) = match *words.first()? {
+        "line" => (rows_in(alloc, words.get(3)?)?, 4),
+        _ => (String::new(alloc), 3),
+    };
+    let rows = text_of(alloc, behind(line, count))?;
+    let rows = str::from_utf8(rows.as_slice()).ok()?;
+    let (fleet, capacity) = (u32::from(fleet), u32::from(capacity));
+    instance_text(alloc, fleet, capacity, first.as_str(), rows).ok()
 }
 
 /// Whether an instance is the one of the text of a command.
@@ -114,9 +79,8 @@ pub(crate) fn told_walk(alloc: Global, instance: &Instance, words: &[&str]) -> O
     let Some(walk) = walk(instance, route.as_slice()) else {
         return told(alloc, "none");
     };
-    let (cost, finish) = (walk.cost.get() as i64, walk.finish.get() as i64);
-    let numbers = [Some(cost), Some(i64::from(walk.load)), Some(finish)];
-    named(alloc, "cost load finish", &numbers)
+    let (cost, load, finish) = (walk.cost.get(), walk.load, walk.finish.get());
+    format!(in alloc; "cost {cost} load {load} finish {finish}").ok()
 }
 
 /// What a build by the weights of a command ends with.
@@ -133,7 +97,8 @@ pub(crate) fn told_build(alloc: Global, instance: &Instance, words: &[&str]) -> 
         Built::Whole(plan) => told_routes(alloc, "whole", plan.routes()),
         Built::Part { routes, left } => {
             let part = told_routes(alloc, "part", routes.as_slice())?;
-            then(part, " ", listed(alloc, "left", left.as_slice())?.as_str())
+            let left = listed(alloc, "left", left.as_slice())?;
+            format!(in alloc; "{part} {left}").ok()
         }
     }
 }

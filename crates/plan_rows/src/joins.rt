@@ -1,7 +1,7 @@
 //! Stops and lists, joined in trees.
 
 use crate::few::Few;
-use crate::words::{named, then, told};
+use crate::words::{named, told};
 use segments::{Linked, RouteTree, Segment};
 use solomon_reader::Instance;
 use std::alloc::Global;
@@ -27,14 +27,11 @@ fn told_join(alloc: Global, join: Option<Segment>) -> Option<String> {
     let Some(join) = join else {
         return told(alloc, "none");
     };
-    let times = [
-        Some(join.latest()),
-        Some(join.duration()),
-        Some(join.earliest()),
-    ];
-    let sums = [Some(i64::from(join.load())), Some(i64::from(join.cost()))];
-    let text = named(alloc, "latest duration earliest", &times)?;
-    then(text, " ", named(alloc, "load cost", &sums)?.as_str())
+    let (latest, duration, earliest) = (join.latest(), join.duration(), join.earliest());
+    let (load, cost) = (join.load(), join.cost());
+    format!(in alloc;
+        "latest {latest} duration {duration} earliest {earliest} load {load} cost {cost}"
+    ).ok()
 }
 
 /// The joins of customers 1 and 2, alone and by a tree, and who is last in that.
@@ -43,11 +40,11 @@ pub(crate) fn told_joins(alloc: Global, instance: &Instance) -> Option<String> {
         return None;
     }
     let (first, second) = (Segment::stop(instance, 1), Segment::stop(instance, 2));
-    let alone = told_join(alloc, Segment::join(instance, &first, &second))?;
     let (whole, last) = joined_by_tree(alloc, instance, &first, &second)?;
-    let text = then(alone, "\n", told_join(alloc, whole)?.as_str())?;
     let last = named(alloc, "last", &[last.map(|stop| i64::from(stop.first()))])?;
-    then(text, "\n", last.as_str())
+    let whole = told_join(alloc, whole)?;
+    let alone = told_join(alloc, Segment::join(instance, &first, &second))?;
+    format!(in alloc; "{alone}\n{whole}\n{last}").ok()
 }
 
 /// How many numbers eight joined lists of one number have, and how many nine, and their last eight.

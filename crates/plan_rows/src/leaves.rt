@@ -1,6 +1,6 @@
 //! Prices at leaves: their values, steps, and the least reduced costs.
 
-use crate::words::{amounts_of, list_of, listed, named, number_at, pair_of, then, told};
+use crate::words::{amounts_of, list_of, listed, named, number_at, pair_of, told};
 use branching::{Arc, Region};
 use labelling::{Hints, least, least_by_hints};
 use prices::{Priced, improve};
@@ -23,68 +23,47 @@ fn region_of(alloc: Global, size: u16, word: &str) -> Option<Region> {
     }
 }
 
-/// The leaf of prices at a region, or why there is none and what came back; none where they do not fit
-/// the instance.
-fn leaf_at<'i>(
+/// The leaf of a command that names a region, the neighbours, the prices and perhaps a limit of labels, or
+/// why there is none and what came back; none where they do not fit the instance.
+fn leaf_by<'i>(
     alloc: Global,
     instance: &'i Instance,
-    region: Region,
-    neighbours: u64,
-    prices: Vec<i64>,
-    limit: Option<usize>,
-) -> Option<Result<Priced<'i>, Option<String>>> {
+    words: &[&str],
+) -> Option<Result<Priced<'i>, String>> {
     let count = instance.customer_count();
-    if region.size() != count || prices.len() != usize::from(count) {
-        return None;
-    }
-    if neighbours > u64::from(MOST_NEIGHBOURS) {
+    let neighbours = number_at(words, 2)?;
+    let limit = match words.get(4) {
+        Some(word) => Some(word.parse::<usize>().ok()?),
+        None => None,
+    };
+    let prices = amounts_of(alloc, words.get(3)?)?;
+    let region = region_of(alloc, count, words.get(1)?)?;
+    let fit = region.size() == count && prices.len() == usize::from(count);
+    if !fit || neighbours > u64::from(MOST_NEIGHBOURS) {
         return None;
     }
     match Priced::of(alloc, instance, region, neighbours as u32, prices, limit) {
         Ok(leaf) => Some(Ok(leaf)),
         Err((region, prices, fault)) => {
-            let fault = fault.to_string(alloc).ok()?;
-            Some(Err(told_back(alloc, fault, region.size(), prices.as_slice())))
+            let (customers, prices) = (region.size(), listed(alloc, "prices", prices.as_slice())?);
+            let back = format!(in alloc; "{fault} back_customers {customers} {prices}");
+            Some(Err(back.ok()?))
         }
     }
 }
 
-/// Why prices gave no leaf, and what came back.
-fn told_back(alloc: Global, fault: String, size: u16, prices: &[i64]) -> Option<String> {
-    let back = named(alloc, "back_customers", &[Some(i64::from(size))])?;
-    let text = then(fault, " ", back.as_str())?;
-    then(text, " ", listed(alloc, "prices", prices)?.as_str())
-}
-
-/// The leaf of a command that names a region, the neighbours, the prices and perhaps a limit of labels.
-fn leaf_by<'i>(
-    alloc: Global,
-    instance: &'i Instance,
-    words: &[&str],
-) -> Option<Result<Priced<'i>, Option<String>>> {
-    let region = region_of(alloc, instance.customer_count(), words.get(1)?)?;
-    let prices = amounts_of(alloc, words.get(3)?)?;
-    let limit = match words.get(4) {
-        Some(word) => Some(word.parse::<usize>().ok()?),
-        None => None,
-    };
-    leaf_at(alloc, instance, region, number_at(words, 2)?, prices, limit)
-}
-
 /// The value of a leaf, its prices, and what else it was made of.
 fn told_value(alloc: Global, leaf: &Priced<'_>) -> Option<String> {
-    let count = i64::from(leaf.instance().customer_count());
-    let value = i64::try_from(leaf.value()).ok()?;
-    let numbers = [Some(value), Some(count), Some(i64::from(leaf.neighbours()))];
-    let text = named(alloc, "value customers neighbours", &numbers)?;
-    then(text, " ", listed(alloc, "prices", leaf.prices())?.as_str())
+    let (value, customers) = (leaf.value(), leaf.instance().customer_count());
+    let (neighbours, prices) = (leaf.neighbours(), listed(alloc, "prices", leaf.prices())?);
+    format!(in alloc; "value {value} customers {customers} neighbours {neighbours} {prices}").ok()
 }
 
 /// The leaf of a command.
 pub(crate) fn told_leaf(alloc: Global, instance: &Instance, words: &[&str]) -> Option<String> {
     match leaf_by(alloc, instance, words)? {
         Ok(leaf) => told_value(alloc, &leaf),
-        Err(back) => back,
+        Err(back) => Some(back),
     }
 }
 
@@ -93,8 +72,12 @@ fn told_cost(alloc: Global, cost: Option<i128>) -> Option<String> {
     named(alloc, "least", &[i64::try_from(cost?).ok()])
 }
 
-/// The least reduced cost at a leaf's prices, found with at most so many labels.
-fn told_least_within(alloc: Global, leaf: &Priced<'_>, limit: u64) -> Option<String> {
+/// The least reduced cost at the prices of a command: as a leaf keeps it, or found with a limit.
+pub(crate) fn told_least(alloc: Global, instance: &Instance, words: &[&str]) -> Option<String> {
+    let leaf = leaf_by(alloc, instance, words.get(..4)?)?.ok()?;
+    let Some(limit) = number_at(words, 4) else {
+        return told_cost(alloc, leaf.least().value);
+    };
     let _value = leaf.value();
     let found = least(
         alloc,
@@ -107,15 +90,6 @@ fn told_least_within(alloc: Global, leaf: &Priced<'_>, limit: u64) -> Option<Str
     match found {
         Ok(found) => told_cost(alloc, found.value),
         Err(fault) => fault.to_string(alloc).ok(),
-    }
-}
-
-/// The least reduced cost at the prices of a command: as a leaf keeps it, or found with a limit.
-pub(crate) fn told_least(alloc: Global, instance: &Instance, words: &[&str]) -> Option<String> {
-    let leaf = leaf_by(alloc, instance, words.get(..4)?)?.ok()?;
-    match number_at(words, 4) {
-        Some(limit) => told_least_within(alloc, &leaf, limit),
-        None => told_cost(alloc, leaf.least().value),
     }
 }
 
@@ -152,13 +126,14 @@ pub(crate) fn told_met(alloc: Global, instance: &Instance, words: &[&str]) -> Op
         let cost = reduced_cost(instance, prices, route.as_slice())?;
         costs.push(cost).ok()?;
     }
-    let text = told_cost(alloc, found.ok()?.value)?;
-    then(text, " ", listed(alloc, "met", costs.as_slice())?.as_str())
+    let met = listed(alloc, "met", costs.as_slice())?;
+    let cost = told_cost(alloc, found.ok()?.value)?;
+    format!(in alloc; "{cost} {met}").ok()
 }
 
 /// A leaf behind what was told before it, with its least reduced cost, if a copy has the same prices, value
 /// and least route.
-fn told_behind(alloc: Global, before: String, leaf: &Priced<'_>) -> Option<String> {
+fn told_behind(alloc: Global, before: &str, leaf: &Priced<'_>) -> Option<String> {
     let copy = leaf.try_clone().ok()?;
     let is_same = copy.prices() == leaf.prices()
         && copy.value() == leaf.value()
@@ -166,15 +141,9 @@ fn told_behind(alloc: Global, before: String, leaf: &Priced<'_>) -> Option<Strin
     if !is_same {
         return told(alloc, "copied otherwise");
     }
-    let text = then(before, "\n", told_value(alloc, leaf)?.as_str())?;
-    then(text, "\n", told_cost(alloc, leaf.least().value)?.as_str())
-}
-
-/// What steps make of a leaf.
-fn told_improved(alloc: Global, leaf: Priced<'_>, steps: &[i64]) -> Option<String> {
-    let before = told_value(alloc, &leaf)?;
-    let better = improve(alloc, leaf, steps, None);
-    told_behind(alloc, before, &better)
+    let value = told_value(alloc, leaf)?;
+    let cost = told_cost(alloc, leaf.least().value)?;
+    format!(in alloc; "{before}\n{value}\n{cost}").ok()
 }
 
 /// What steps make of the prices of a command: the leaf before them and behind them, and its least reduced
@@ -182,7 +151,9 @@ fn told_improved(alloc: Global, leaf: Priced<'_>, steps: &[i64]) -> Option<Strin
 pub(crate) fn told_steps(alloc: Global, instance: &Instance, words: &[&str]) -> Option<String> {
     let steps = amounts_of(alloc, words.get(4)?)?;
     let leaf = leaf_by(alloc, instance, words.get(..4)?)?.ok()?;
-    told_improved(alloc, leaf, steps.as_slice())
+    let before = told_value(alloc, &leaf)?;
+    let better = improve(alloc, leaf, steps.as_slice(), None);
+    told_behind(alloc, before.as_str(), &better)
 }
 
 /// Whether a copy of the root's region allows an arc.
@@ -190,11 +161,7 @@ pub(crate) fn told_allowed(alloc: Global, instance: &Instance, words: &[&str]) -
     let (from, to) = pair_of(words.get(1)?)?;
     let leaf = Priced::root(alloc, instance, 8, None).ok()?;
     let root = leaf.region().try_clone().ok()?;
-    let (size, is_allowed) = (i64::from(root.size()), root.allows(from, to));
-    let text = named(alloc, "customers", &[Some(size)])?;
-    then(
-        text,
-        " ",
-        if is_allowed { "allowed" } else { "not allowed" },
-    )
+    let (size, is_allowed) = (root.size(), root.allows(from, to));
+    let mark = if is_allowed { "" } else { " not" };
+    format!(in alloc; "customers {size}{mark} allowed").ok()
 }

@@ -32,44 +32,26 @@ pub mod script;
 mod words;
 
 use crate::candidates::{told_best, told_bests, told_move};
-use crate::instances::{
-    line_text_by, read_told, text_by, told_arc, told_build, told_same, told_walk,
-};
+use crate::instances::{text_by, told_arc, told_build, told_instance, told_same, told_walk};
 use crate::joins::{told_joins, told_lists};
 use crate::leaves::{told_allowed, told_leaf, told_least, told_met, told_steps};
-use crate::numbers::{told_count, told_distances, told_pieces, told_root, told_tenths};
+use crate::numbers::{told_count, told_distances, told_pieces, told_tenths};
 use crate::parts::told_parts;
-use crate::plans::{
-    copies_of, descended, descended_in_threads, routes_of, told_copy, told_plan, told_shake,
-    told_trees, told_turn,
-};
-use crate::words::{behind, named, text_of, told_routes};
+use crate::plans::{copies_of, descended, routes_of, told_copy, told_drawn, told_plan, told_trees};
+use crate::words::{behind, number_at, small_at, text_of, told_routes};
 use schedule::Feasible;
-use solomon_reader::Instance;
+use solomon_reader::{Instance, read};
 use std::alloc::Global;
 use std::io;
 use std::rt::Runtime;
 use std::thread::Threads;
+use tenths::root;
 
 /// The instance and the routes to which commands refer.
 #[derive(Drop)]
 struct State {
     instance: Option<Instance>,
     routes: Vec<Vec<u16>>,
-}
-
-/// What comes of a call that needs no instance.
-fn told_alone(alloc: Global, line: &str, words: &[&str]) -> Option<String> {
-    match *words.first()? {
-        "root" => told_root(alloc, words),
-        "distances" => told_distances(alloc, words.get(1..)?),
-        "tenths" => told_tenths(alloc, text_of(alloc, behind(line, 1))?.as_slice()),
-        "text" => told_count(alloc, words),
-        "pieces" => told_pieces(alloc, words),
-        "lists" => told_lists(alloc),
-        "parts" => told_parts(alloc, words),
-        _ => None,
-    }
 }
 
 /// What comes of a call that needs an instance.
@@ -104,8 +86,8 @@ fn told_of_plan<R: AllocGlobal + Threads + Sync>(
         "move" => told_move(rt.alloc(), plan, words),
         "best" => told_best(rt, &plan, words),
         "bests" => told_bests(rt, &plan),
-        "shake" => told_shake(rt.alloc(), plan, words),
-        "turn" => told_turn(rt.alloc(), plan, words),
+        "shake" => told_drawn(rt.alloc(), plan, Some(small_at(words, 1)?), words.get(2)?),
+        "turn" => told_drawn(rt.alloc(), plan, None, words.get(1)?),
         _ => None,
     }
 }
@@ -121,17 +103,12 @@ fn descend<R: AllocGlobal + Threads + Sync>(
     instance: &Instance,
     routes: &mut Vec<Vec<u16>>,
 ) -> Option<String> {
-    let other = descended_in_threads(rt, plan_of(rt.alloc(), instance, routes.as_slice())?)?;
-    let end = descended(
-        rt.alloc(),
-        plan_of(rt.alloc(), instance, routes.as_slice())?,
-    )?;
-    let costs = [
-        Some(end.cost().get() as i64),
-        Some(other.cost().get() as i64),
-    ];
+    let plan = plan_of(rt.alloc(), instance, routes.as_slice())?;
+    let in_threads = descended(rt, plan.try_clone().ok()?, true)?.cost().get();
+    let end = descended(rt, plan, false)?;
+    let cost = end.cost().get();
     *routes = copies_of(rt.alloc(), end.routes())?;
-    named(rt.alloc(), "cost in_threads", &costs)
+    format!(in rt.alloc(); "cost {cost} in_threads {in_threads}").ok()
 }
 
 /// What comes of a call that needs an instance or a plan.
@@ -159,11 +136,19 @@ fn told_held<R: AllocGlobal + Threads + Sync>(
     }
 }
 
-/// Reads an instance, which is held, and tells what was read.
+/// Reads an instance, which is held, and tells what was read or the fault.
 fn read_held(alloc: Global, state: &mut State, text: &[u8]) -> Option<String> {
-    let (found, outcome) = read_told(alloc, text);
-    state.instance = found;
-    outcome
+    match read(alloc, text) {
+        Ok(instance) => {
+            let outcome = told_instance(alloc, &instance);
+            state.instance = Some(instance);
+            outcome
+        }
+        Err(fault) => {
+            state.instance = None;
+            fault.to_string(alloc).ok()
+        }
+    }
 }
 
 /// What comes of a command, if it is one.
@@ -175,22 +160,17 @@ fn told_command<R: AllocGlobal + Threads + Sync>(
 ) -> Option<String> {
     let alloc = rt.alloc();
     match *words.first()? {
-        "instance" => read_held(alloc, state, text_by(alloc, line, words)?.as_bytes()),
-        "line" => read_held(alloc, state, line_text_by(alloc, line, words)?.as_bytes()),
+        "instance" | "line" => read_held(alloc, state, text_by(alloc, line, words)?.as_bytes()),
         "bytes" => read_held(alloc, state, text_of(alloc, behind(line, 1))?.as_slice()),
-        _ => match told_alone(alloc, line, words) {
-            Some(outcome) => Some(outcome),
-            None => told_held(rt, state, line, words),
-        },
+        "root" => root(number_at(words, 1)?).to_string(alloc).ok(),
+        "distances" => told_distances(alloc, words.get(1..)?),
+        "tenths" => told_tenths(alloc, text_of(alloc, behind(line, 1))?.as_slice()),
+        "text" => told_count(alloc, words),
+        "pieces" => told_pieces(alloc, words),
+        "lists" => told_lists(alloc),
+        "parts" => told_parts(alloc, words),
+        _ => told_held(rt, state, line, words),
     }
-}
-
-/// Prints the lines of an outcome.
-fn tell<R: Runtime>(rt: &R, outcome: &str) -> io::Result<()> {
-    for line in outcome.lines() {
-        println!(rt; "  {line}")?;
-    }
-    Ok(())
 }
 
 /// Prints a line, and what comes of it where it is a command.
@@ -204,10 +184,13 @@ fn tell_line<R: Runtime + AllocGlobal + Threads + Sync>(
         return Ok(());
     }
     let words: Vec<&str> = line.split_whitespace().collect(rt.alloc())?;
-    match told_command(rt, state, line, words.as_slice()) {
-        Some(outcome) => tell(rt, outcome.as_str()),
-        None => tell(rt, "not understood"),
+    let Some(outcome) = told_command(rt, state, line, words.as_slice()) else {
+        return println!(rt; "  not understood");
+    };
+    for line in outcome.as_str().lines() {
+        println!(rt; "  {line}")?;
     }
+    Ok(())
 }
 
 /// Prints the lines of a script, and what comes of each command, or that it isn't understood.

@@ -1,18 +1,13 @@
-//! Roots, distances, tenths, and writers that take texts.
+//! Distances, tenths, and writers that take texts.
 
 ghost use Rattle.std.specs.Prelude.{◌≡◌, ◌<◌, length};
 
-use crate::words::{listed, number_at, pair_of, then, told, told_bytes};
+use crate::words::{listed, number_at, pair_of, told, told_bytes};
 use std::alloc::Global;
 use tenths::{
-    MemorySink, Point, StdSink, Table, Tenths, distance, read_tenths, root, write_pieces,
-    write_tenths, write_text,
+    MemorySink, Point, StdSink, Table, Tenths, distance, read_tenths, write_pieces, write_tenths,
+    write_text,
 };
-
-/// The root of a number, truncated.
-pub(crate) fn told_root(alloc: Global, words: &[&str]) -> Option<String> {
-    root(number_at(words, 1)?).to_string(alloc).ok()
-}
 
 fn points_of(alloc: Global, words: &[&str]) -> Option<Vec<Point>> {
     let mut points = Vec::new(alloc);
@@ -46,7 +41,8 @@ pub(crate) fn told_distances(alloc: Global, words: &[&str]) -> Option<String> {
     let mut text = String::new(alloc);
     for from in 0..points.len() {
         let row = row_of(alloc, &table, points.as_slice(), from)?;
-        text = then(text, listed(alloc, "from", row.as_slice())?.as_str(), "\n")?;
+        let row = listed(alloc, "from", row.as_slice())?;
+        text = format!(in alloc; "{text}{row}\n").ok()?;
     }
     Some(text)
 }

@@ -1,24 +1,22 @@
 //! Parts of which certificates are made, or none.
 
-use crate::words::{amounts_of, named, pair_of, small_at, then, told_bytes};
+use crate::words::{amounts_of, pair_of, small_at};
 use certificate::{Cert, CertNode, CertParts, Version, write};
 use std::alloc::Global;
 use tenths::{MemorySink, Tenths};
 
-/// A split, as `S:0,1`, or a leaf, as `P:100000`.
-fn node_of(alloc: Global, word: &str) -> Option<CertNode> {
-    let (kind, numbers) = word.split_once(':')?;
-    if kind == "S" {
-        let (from, to) = pair_of(numbers)?;
-        return Some(CertNode::Split { from, to });
-    }
-    Some(CertNode::Leaf(amounts_of(alloc, numbers)?))
-}
-
+/// Nodes, each a split, as `S:0,1`, or a leaf, as `P:100000`.
 fn nodes_of(alloc: Global, words: &[&str]) -> Option<Vec<CertNode>> {
     let mut nodes = Vec::new(alloc);
     for word in words {
-        nodes.push(node_of(alloc, word)?).ok()?;
+        let (kind, numbers) = word.split_once(':')?;
+        let node = if kind == "S" {
+            let (from, to) = pair_of(numbers)?;
+            CertNode::Split { from, to }
+        } else {
+            CertNode::Leaf(amounts_of(alloc, numbers)?)
+        };
+        nodes.push(node).ok()?;
     }
     Some(nodes)
 }
@@ -45,14 +43,9 @@ fn parts_by(alloc: Global, words: &[&str]) -> Option<CertParts> {
 fn told_cert(alloc: Global, cert: Cert) -> Option<String> {
     let mut sink = MemorySink::new(alloc);
     write(&cert, &mut sink).ok()?;
-    let text = told_bytes(alloc, sink.as_slice())?;
-    let size = i64::from(cert.parts().size);
-    let count = i64::try_from(cert.into_parts().nodes.len()).ok()?;
-    then(
-        text,
-        "",
-        named(alloc, "customers nodes", &[Some(size), Some(count)])?.as_str(),
-    )
+    let (customers, nodes) = (cert.parts().size, cert.into_parts().nodes.len());
+    let text = str::from_utf8(sink.as_slice()).ok()?;
+    format!(in alloc; "{text}customers {customers} nodes {nodes}").ok()
 }
 
 /// The certificate of parts, or why there is none, and how many nodes came back.
@@ -60,13 +53,8 @@ pub(crate) fn told_parts(alloc: Global, words: &[&str]) -> Option<String> {
     match Cert::new(alloc, parts_by(alloc, words)?) {
         Ok(cert) => told_cert(alloc, cert),
         Err((back, fault)) => {
-            let text = fault.to_string(alloc).ok()?;
-            let count = i64::try_from(back.nodes.len()).ok()?;
-            then(
-                text,
-                " ",
-                named(alloc, "back_nodes", &[Some(count)])?.as_str(),
-            )
+            let nodes = back.nodes.len();
+            format!(in alloc; "{fault} back_nodes {nodes}").ok()
         }
     }
 }

@@ -1,7 +1,7 @@
 //! Plans, their copies and trees, and what a searcher makes of them.
 
 use crate::script::Script;
-use crate::words::{list_of, named, small_at, then, told_routes};
+use crate::words::{list_of, named, told_routes};
 use rand_core::SeedableRng;
 use rand_xoshiro::Xoshiro256PlusPlus;
 use schedule::Feasible;
@@ -24,9 +24,8 @@ pub(crate) fn routes_of(alloc: Global, words: &[&str]) -> Option<Vec<Vec<u16>>> 
 pub(crate) fn copies_of(alloc: Global, routes: &[Vec<u16>]) -> Option<Vec<Vec<u16>>> {
     let mut copies = Vec::new(alloc);
     for route in routes {
-        copies
-            .push(Vec::from_slice(alloc, route.as_slice()).ok()?)
-            .ok()?;
+        let copy = Vec::from_slice(alloc, route.as_slice()).ok()?;
+        copies.push(copy).ok()?;
     }
     Some(copies)
 }
@@ -49,12 +48,9 @@ pub(crate) fn told_copy(alloc: Global, instance: &Instance, plan: &Feasible<'_>)
     if *copy.instance() != *instance {
         return None;
     }
-    let cost = named(alloc, "cost", &[Some(copy.cost().get() as i64)])?;
-    then(
-        cost,
-        " ",
-        told_routes(alloc, "routes", copy.routes())?.as_str(),
-    )
+    let (cost, routes) = (copy.cost(), told_routes(alloc, "routes", copy.routes())?);
+    let cost = cost.get();
+    format!(in alloc; "cost {cost} {routes}").ok()
 }
 
 /// How many stops the first tree of a plan has, and its height, if the trees are of the instance.
@@ -72,35 +68,33 @@ pub(crate) fn told_trees(
     named(alloc, "stops height", &[stops, Some(height)])
 }
 
-/// The plan at which a descent ends.
-pub(crate) fn descended<'i>(alloc: Global, plan: Feasible<'i>) -> Option<Feasible<'i>> {
-    let mut searcher = Searcher::new(alloc, plan, Xoshiro256PlusPlus::seed_from_u64(1));
-    searcher.descend().ok()?;
-    Some(searcher.into_plan())
-}
-
-/// The plan at which the descent of `descend_parallel` ends.
-pub(crate) fn descended_in_threads<'i, R: AllocGlobal + Threads + Sync>(
+/// The plan at which a descent ends, in one thread or in several.
+pub(crate) fn descended<'i, R: AllocGlobal + Threads + Sync>(
     rt: &R,
     plan: Feasible<'i>,
+    is_parallel: bool,
 ) -> Option<Feasible<'i>> {
     let mut searcher = Searcher::new(rt.alloc(), plan, Xoshiro256PlusPlus::seed_from_u64(1));
-    searcher.descend_parallel(rt).ok()?;
+    if is_parallel {
+        searcher.descend_parallel(rt).ok()?;
+    } else {
+        searcher.descend().ok()?;
+    }
     Some(searcher.into_plan())
 }
 
-/// The routes behind so many moves of a shake by random words.
-pub(crate) fn told_shake(alloc: Global, plan: Feasible<'_>, words: &[&str]) -> Option<String> {
-    let draws = list_of(alloc, words.get(2)?)?;
+/// The routes behind so many moves of a shake by random words, or else behind a turn by them.
+pub(crate) fn told_drawn(
+    alloc: Global,
+    plan: Feasible<'_>,
+    count: Option<u16>,
+    draws: &str,
+) -> Option<String> {
+    let draws = list_of(alloc, draws)?;
     let mut searcher = Searcher::new(alloc, plan, Script::new(draws.as_slice()));
-    searcher.shake(u32::from(small_at(words, 1)?)).ok()?;
-    told_routes(alloc, "routes", searcher.plan().routes())
-}
-
-/// The routes behind a turn by random words.
-pub(crate) fn told_turn(alloc: Global, plan: Feasible<'_>, words: &[&str]) -> Option<String> {
-    let draws = list_of(alloc, words.get(1)?)?;
-    let mut searcher = Searcher::new(alloc, plan, Script::new(draws.as_slice()));
-    searcher.turn().ok()?;
+    match count {
+        Some(count) => searcher.shake(u32::from(count)).ok()?,
+        None => searcher.turn().ok()?,
+    }
     told_routes(alloc, "routes", searcher.plan().routes())
 }

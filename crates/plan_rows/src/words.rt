@@ -29,22 +29,14 @@ pub(crate) fn list_of(alloc: Global, word: &str) -> Option<Vec<u16>> {
     Some(list)
 }
 
-/// An amount and how often it stands: once, or as often as a number before a star says.
-fn repeated(part: &str) -> Option<(u16, i64)> {
-    match part.split_once('*') {
-        Some((count, amount)) => Some((count.parse::<u16>().ok()?, amount.parse::<i64>().ok()?)),
-        None => Some((1, part.parse::<i64>().ok()?)),
-    }
-}
-
-/// Prices or steps in grains.
+/// Prices or steps in grains; a number before a star says how often an amount stands.
 pub(crate) fn amounts_of(alloc: Global, word: &str) -> Option<Vec<i64>> {
     let mut amounts = Vec::new(alloc);
     for part in word.split(',') {
-        let (count, amount) = repeated(part)?;
-        for _ in 0..count {
-            amounts.push(amount).ok()?;
-        }
+        let (count, amount) = part.split_once('*').unwrap_or(("1", part));
+        let (count, amount) = (count.parse::<u16>().ok()?, amount.parse::<i64>().ok()?);
+        let len = amounts.len().saturating_add(usize::from(count));
+        amounts.resize(len, amount).ok()?;
     }
     Some(amounts)
 }
@@ -58,22 +50,18 @@ pub(crate) fn behind(line: &str, count: u8) -> &str {
     rest
 }
 
-/// The byte that one of a script stands for.
-fn byte_of(shown: u8) -> u8 {
-    match shown {
-        b'|' => b'\n',
-        b'^' => b'\r',
-        b'_' => b' ',
-        b'~' => 0x80,
-        other => other,
-    }
-}
-
 /// The text that one of a script stands for.
 pub(crate) fn text_of(alloc: Global, shown: &str) -> Option<Vec<u8>> {
     let mut text = Vec::new(alloc);
     for byte in shown.as_bytes() {
-        text.push(byte_of(*byte)).ok()?;
+        let meant = match *byte {
+            b'|' => b'\n',
+            b'^' => b'\r',
+            b'_' => b' ',
+            b'~' => 0x80,
+            other => other,
+        };
+        text.push(meant).ok()?;
     }
     Some(text)
 }
@@ -87,27 +75,15 @@ pub(crate) fn told_bytes(alloc: Global, bytes: &[u8]) -> Option<String> {
     told(alloc, str::from_utf8(bytes).ok()?)
 }
 
-/// A text with a second one behind it.
-pub(crate) fn then(mut text: String, mark: &str, other: &str) -> Option<String> {
-    text.push_str(mark).ok()?;
-    text.push_str(other).ok()?;
-    Some(text)
-}
-
-/// A name and a number, or `none`.
-fn named_one(alloc: Global, name: &str, number: Option<i64>) -> Option<String> {
-    match number {
-        Some(number) => format!(in alloc; "{name} {number}").ok(),
-        None => then(told(alloc, name)?, " ", "none"),
-    }
-}
-
-/// Numbers behind their names.
+/// Numbers behind their names, or `none`.
 pub(crate) fn named(alloc: Global, names: &str, numbers: &[Option<i64>]) -> Option<String> {
     let mut text = String::new(alloc);
     for (name, number) in names.split(' ').zip(numbers) {
         let mark = if text.is_empty() { "" } else { " " };
-        text = then(text, mark, named_one(alloc, name, *number)?.as_str())?;
+        text = match number {
+            Some(number) => format!(in alloc; "{text}{mark}{name} {number}").ok()?,
+            None => format!(in alloc; "{text}{mark}{name} none").ok()?,
+        };
     }
     Some(text)
 }
@@ -117,7 +93,7 @@ pub(crate) fn listed<T: Display>(alloc: Global, name: &str, items: &[T]) -> Opti
     let mut text = told(alloc, name)?;
     let mut mark = " ";
     for item in items {
-        text = then(text, mark, item.to_string(alloc).ok()?.as_str())?;
+        text = format!(in alloc; "{text}{mark}{item}").ok()?;
         mark = ",";
     }
     Some(text)
@@ -127,7 +103,8 @@ pub(crate) fn listed<T: Display>(alloc: Global, name: &str, items: &[T]) -> Opti
 pub(crate) fn told_routes(alloc: Global, name: &str, routes: &[Vec<u16>]) -> Option<String> {
     let mut text = told(alloc, name)?;
     for route in routes {
-        text = then(text, "", listed(alloc, "", route.as_slice())?.as_str())?;
+        let route = listed(alloc, "", route.as_slice())?;
+        text = format!(in alloc; "{text}{route}").ok()?;
     }
     Some(text)
 }

@@ -14,31 +14,17 @@ pub struct Bound {
     leaves: usize,
 }
 
-fn is_leaf(node: &CertNode) -> bool {
-    match node {
-        CertNode::Leaf(_) => true,
-        CertNode::Split { .. } => false,
-    }
-}
-
-fn leaf_count(nodes: &[CertNode]) -> usize {
-    let mut count = 0usize;
-    for node in nodes {
-        if is_leaf(node) {
-            count = count.saturating_add(1);
-        }
-    }
-    count
-}
-
 /// The bound of a text, if it is a certificate.
 pub fn bound_of(alloc: Global, text: &[u8]) -> Option<Bound> {
     let cert = read(alloc, text).ok()?;
-    let parts = cert.parts();
-    Some(Bound {
-        tenths: parts.bound,
-        leaves: leaf_count(parts.nodes.as_slice()),
-    })
+    let mut leaves = 0usize;
+    for node in &cert.parts().nodes {
+        if let CertNode::Leaf(_) = node {
+            leaves = leaves.saturating_add(1);
+        }
+    }
+    let tenths = cert.parts().bound;
+    Some(Bound { tenths, leaves })
 }
 
 /// The text of a bound; where memory is refused it isn't whole, and differs from what was printed.
@@ -51,35 +37,17 @@ pub fn bound_text(alloc: Global, bound: Tenths) -> MemorySink {
 /// How many lines of a certificate tell its version, its name, its customers and its neighbours.
 const HEAD: u32 = 4;
 
-/// How many bytes these lines have.
-fn head_len(text: &[u8]) -> usize {
+/// Prints how a text begins that may be a certificate.
+pub fn tell_head<R: Runtime + AllocGlobal>(rt: &R, text: &[u8]) -> io::Result<()> {
     let mut lines = Lines::new(text);
     let mut len = 0usize;
     for _ in 0..HEAD {
-        match lines.next() {
-            Some(line) => len = len.saturating_add(line.len()).saturating_add(1),
-            None => return text.len(),
-        }
+        len = match lines.next() {
+            Some(line) => len.saturating_add(line.len()).saturating_add(1),
+            None => text.len(),
+        };
     }
-    len
-}
-
-/// Prints how a text begins that may be a certificate.
-pub fn tell_head<R: Runtime + AllocGlobal>(rt: &R, text: &[u8]) -> io::Result<()> {
-    let head = text.get(..head_len(text)).unwrap_or(text);
-    tell_text(rt, "certificate", head)
-}
-
-/// Prints how many leaves there are, or where a word gives the most, only that they are no more.
-fn tell_leaves<R: Runtime>(rt: &R, leaves: usize, most: &[&str]) -> io::Result<()> {
-    if let [most] = most {
-        if let Some(most) = number_of(most) {
-            if leaves <= most as usize {
-                return tell_number(rt, "leaves at most", u64::from(most));
-            }
-        }
-    }
-    tell_number(rt, "leaves", leaves as u64)
+    tell_text(rt, "certificate", text.get(..len).unwrap_or(text))
 }
 
 /// Prints the bound of a file and its leaves, of which the second word gives the most, and says whether
@@ -94,7 +62,16 @@ pub fn tell_bound<R: Runtime + AllocGlobal>(rt: &R, words: &[&str]) -> io::Resul
     };
     let shown = bound_text(rt.alloc(), bound.tenths);
     tell_text(rt, "bound", shown.as_slice())?;
-    tell_leaves(rt, bound.leaves, most)?;
+    let most = match most {
+        [most] => number_of(most),
+        _ => None,
+    };
+    match most {
+        Some(most) if bound.leaves <= most as usize => {
+            tell_number(rt, "leaves at most", u64::from(most))?
+        }
+        _ => tell_number(rt, "leaves", bound.leaves as u64)?,
+    }
     Ok(true)
 }
 

@@ -72,14 +72,6 @@ impl<'a, R: Clock> Gate for Hold<'a, R> {
     }
 }
 
-/// The cost in tenths of a verdict with a plan.
-fn cost_of(verdict: Verdict) -> Option<u64> {
-    match verdict {
-        Verdict::Best { cost } | Verdict::Gap { cost, .. } => Some(cost.get()),
-        _ => None,
-    }
-}
-
 /// Solves while a worker is held at a point, and has both texts checked: the cost in tenths, or none where
 /// they aren't accepted.
 fn cost_held<R: Runtime + AllocGlobal + Threads + Wait + Sync>(
@@ -112,7 +104,10 @@ fn cost_held<R: Runtime + AllocGlobal + Threads + Wait + Sync>(
     )
     .ok()?;
     let (plan, certificate) = (Some(first.as_slice()), second.as_slice());
-    cost_of(check(rt.alloc(), text, certificate, plan, STATES).ok()?)
+    match check(rt.alloc(), text, certificate, plan, STATES).ok()? {
+        Verdict::Best { cost } | Verdict::Gap { cost, .. } => Some(cost.get()),
+        _ => None,
+    }
 }
 
 /// Prints the costs where a worker is held at each of the points.
@@ -134,11 +129,8 @@ fn tell_worker<R: Runtime + AllocGlobal + Threads + Wait + Sync>(
 /// Solves the instance of a file while each worker is held at each point, and prints the costs in tenths.
 pub fn tell_held<R: Runtime + AllocGlobal + Threads + Wait + Sync>(
     rt: &R,
-    words: &[&str],
+    path: &str,
 ) -> io::Result<bool> {
-    let [path] = words else {
-        return Ok(false);
-    };
     let text = fs::read(rt, path)?;
     for worker in 0..WORKERS {
         tell_worker(rt, text.as_slice(), worker)?;

@@ -77,20 +77,13 @@ pub fn tell_job<R: Runtime + AllocGlobal>(rt: &R, words: &[&str]) -> io::Result<
     Ok(true)
 }
 
-/// The kind of fault that a word names.
-fn kind_of(word: &str) -> Option<io::ErrorKind> {
-    match word {
-        "InvalidData" => Some(io::ErrorKind::InvalidData),
-        "OutOfMemory" => Some(io::ErrorKind::OutOfMemory),
-        "Other" => Some(io::ErrorKind::Other),
-        _ => None,
-    }
-}
-
 /// Prints the status where the words can't be had for a fault of this kind, and how what is said begins.
 pub fn tell_unheard<R: Runtime + AllocGlobal>(rt: &R, word: &str) -> io::Result<bool> {
-    let Some(kind) = kind_of(word) else {
-        return Ok(false);
+    let kind = match word {
+        "InvalidData" => io::ErrorKind::InvalidData,
+        "OutOfMemory" => io::ErrorKind::OutOfMemory,
+        "Other" => io::ErrorKind::Other,
+        _ => return Ok(false),
     };
     let mut errors = MemorySink::new(rt.alloc());
     let status = words_fault(rt.alloc(), &io::Error::from(kind), &mut errors);

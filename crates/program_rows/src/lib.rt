@@ -31,7 +31,7 @@ use crate::bounds::tell_bound;
 use crate::held::tell_held;
 use crate::jobs::{tell_job, tell_unheard};
 use crate::library::tell_library;
-use crate::runs::{tell_run, tell_streams};
+use crate::runs::{run, tell_printed, tell_streams};
 use crate::sinks::tell_sinks;
 use crate::texts::{tell_file, write_file, write_text};
 use std::io;
@@ -39,44 +39,27 @@ use std::rt::Runtime;
 use std::sync::Wait;
 use std::thread::Threads;
 
-/// Does what a command of one word asks for, and says whether it was understood.
-fn tell_one<R: Runtime + AllocGlobal>(rt: &R, command: &str, rest: &[&str]) -> io::Result<bool> {
-    let [word] = rest else {
-        return Ok(false);
-    };
-    match command {
-        "show" => tell_file(rt, word),
-        "unheard" => tell_unheard(rt, word),
-        _ => Ok(false),
-    }
-}
-
-/// Does what a command that starts no thread asks for, and says whether it was understood.
-fn obey_alone<R: Runtime + AllocGlobal>(rt: &R, command: &str, rest: &[&str]) -> io::Result<bool> {
-    match command {
-        "#" => Ok(true),
-        "file" => write_file(rt, rest),
-        "text" => write_text(rt, rest),
-        "bound" => tell_bound(rt, rest),
-        "job" => tell_job(rt, rest),
-        _ => tell_one(rt, command, rest),
-    }
-}
-
 /// Does what a command asks for, and says whether it was understood.
 fn obey<R: Runtime + AllocGlobal + Threads + Wait + Sync>(
     rt: &R,
     command: &str,
     rest: &[&str],
 ) -> io::Result<bool> {
-    match command {
-        "run" => tell_run(rt, rest),
-        "streams" => tell_streams(rt, rest),
-        "solve" => tell_solving(rt, rest),
-        "library" => tell_library(rt, rest),
-        "sinks" => tell_sinks(rt, rest),
-        "held" => tell_held(rt, rest),
-        _ => obey_alone(rt, command, rest),
+    match (command, rest) {
+        ("#", _) => Ok(true),
+        ("file", _) => write_file(rt, rest),
+        ("text", _) => write_text(rt, rest),
+        ("show", [path]) => tell_file(rt, path),
+        ("bound", _) => tell_bound(rt, rest),
+        ("job", _) => tell_job(rt, rest),
+        ("unheard", [kind]) => tell_unheard(rt, kind),
+        ("run", _) => tell_printed(rt, &run(rt, rest)),
+        ("streams", _) => tell_streams(rt, rest),
+        ("solve", _) => tell_solving(rt, rest),
+        ("library", _) => tell_library(rt, rest),
+        ("sinks", [which, path]) => tell_sinks(rt, which, path),
+        ("held", [path]) => tell_held(rt, path),
+        _ => Ok(false),
     }
 }
 

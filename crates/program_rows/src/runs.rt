@@ -36,15 +36,6 @@ pub fn tell_printed<R: Runtime + AllocGlobal>(rt: &R, printed: &Printed) -> io::
     Ok(true)
 }
 
-/// Runs the program, and prints all that comes of it.
-pub fn tell_run<R: Runtime + AllocGlobal + Threads + Wait + Sync>(
-    rt: &R,
-    words: &[&str],
-) -> io::Result<bool> {
-    let printed = run(rt, words);
-    tell_printed(rt, &printed)
-}
-
 /// The word for a text that isn't shown.
 fn kind_of(text: &[u8]) -> &'static str {
     if text.is_empty() { "empty" } else { "written" }

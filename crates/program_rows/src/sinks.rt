@@ -89,12 +89,6 @@ const MANY_WRITES: usize = 200;
 
 const FEW_WRITES: usize = 3;
 
-/// Whether both texts are whole.
-fn are_whole(alloc: Global, solution: &[u8], certificate: &[u8]) -> bool {
-    let has_head = certificate.starts_with(HEAD);
-    solution == SOLUTION && has_head && bound_of(alloc, certificate).is_some()
-}
-
 /// Whether the texts are what may stand where the first sink failed, or else the second.
 fn are_cut(alloc: Global, is_first: bool, solution: &[u8], certificate: &[u8]) -> bool {
     if is_first {
@@ -118,7 +112,10 @@ fn ends_whole<R: Runtime + AllocGlobal + Threads + Wait + Sync>(
     let answer = solve_text(rt, text, &settings, &mut first, &mut second);
     let (solution, certificate) = (first.as_slice(), second.as_slice());
     let (is_right, is_whole) = match answer {
-        Ok(_) => (are_whole(rt.alloc(), solution, certificate), true),
+        Ok(_) => {
+            let begin = solution == SOLUTION && certificate.starts_with(HEAD);
+            (begin && bound_of(rt.alloc(), certificate).is_some(), true)
+        }
         Err(SolveFault::Device) => (are_cut(rt.alloc(), is_first, solution, certificate), false),
         Err(_) => (false, false),
     };
@@ -149,39 +146,24 @@ fn fails_well<R: Runtime + AllocGlobal + Threads + Wait + Sync>(
     false
 }
 
-/// Whether bytes that are taken one at a time make both texts.
-fn drips_well<R: Runtime + AllocGlobal + Threads + Wait + Sync>(rt: &R, text: &[u8]) -> bool {
-    let first = Tight::new(rt.alloc(), usize::MAX, true);
-    let second = Tight::new(rt.alloc(), usize::MAX, true);
-    ends_whole(rt, text, true, first, second) == Some(true)
-}
-
-/// Whether the sinks that a word names do as they should.
-fn does_well<R: Runtime + AllocGlobal + Threads + Wait + Sync>(
-    rt: &R,
-    which: &str,
-    text: &[u8],
-) -> Option<bool> {
-    match which {
-        "first" => Some(fails_well(rt, text, true)),
-        "second" => Some(fails_well(rt, text, false)),
-        "dripping" => Some(drips_well(rt, text)),
-        _ => None,
-    }
-}
-
-/// Prints whether the sinks that the first word names do as they should, where the instance of the second
-/// is solved, and says whether the words were understood.
+/// Prints whether the sinks that a word names do as they should, where the instance of a file is solved, and
+/// says whether the word was understood. Dripping ones take one byte at a time.
 pub fn tell_sinks<R: Runtime + AllocGlobal + Threads + Wait + Sync>(
     rt: &R,
-    words: &[&str],
+    which: &str,
+    path: &str,
 ) -> io::Result<bool> {
-    let [which, path] = words else {
-        return Ok(false);
-    };
     let text = fs::read(rt, path)?;
-    let Some(is_right) = does_well(rt, which, text.as_slice()) else {
-        return Ok(false);
+    let text = text.as_slice();
+    let is_right = match which {
+        "first" => fails_well(rt, text, true),
+        "second" => fails_well(rt, text, false),
+        "dripping" => {
+            let first = Tight::new(rt.alloc(), usize::MAX, true);
+            let second = Tight::new(rt.alloc(), usize::MAX, true);
+            ends_whole(rt, text, true, first, second) == Some(true)
+        }
+        _ => return Ok(false),
     };
     rt.println(if is_right {
         "  holds"

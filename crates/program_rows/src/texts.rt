@@ -31,20 +31,6 @@ fn text_meant(alloc: Global, words: &[&str]) -> Result<String, AllocError> {
     Ok(text)
 }
 
-/// A text as a script's words would have it, so that it stands on one line.
-fn in_one_line(alloc: Global, text: &[u8]) -> Result<String, AllocError> {
-    let mut line = String::new(alloc);
-    for byte in text {
-        let shown = match *byte {
-            b'\n' => '|',
-            1 => '~',
-            other => char::from(other),
-        };
-        line.push(shown)?;
-    }
-    Ok(line)
-}
-
 /// Prints a word after its name.
 pub fn tell<R: Runtime>(rt: &R, name: &str, word: &str) -> io::Result<()> {
     println!(rt; "  {name} {word}")
@@ -55,12 +41,20 @@ pub fn tell_number<R: Runtime>(rt: &R, name: &str, number: u64) -> io::Result<()
     println!(rt; "  {name} {number}")
 }
 
-/// Prints a text after its name.
+/// Prints a text after its name, as a script's words would have it, so that it stands on one line.
 pub fn tell_text<R: Runtime + AllocGlobal>(rt: &R, name: &str, text: &[u8]) -> io::Result<()> {
     if text.is_empty() {
         return tell(rt, name, "empty");
     }
-    let line = in_one_line(rt.alloc(), text)?;
+    let mut line = String::new(rt.alloc());
+    for byte in text {
+        let shown = match *byte {
+            b'\n' => '|',
+            1 => '~',
+            other => char::from(other),
+        };
+        line.push(shown)?;
+    }
     tell(rt, name, line.as_str())
 }
 

@@ -1,7 +1,10 @@
-//! Instance texts of the worked rows, in the usual layout: each line of its own, ended by a line
-//! feed.
+//! What the worked rows start from: instance texts in the usual layout, each line of its own, ended by a line
+//! feed; plans, prices and books.
 #![tactic(auto)]
 
+mod starts;
+
+pub use crate::starts::{book_of, children_at, plan_at, priced_at};
 use std::alloc::{AllocError, Global};
 
 /// The depot at (0,0), open from 0 to 1000.

@@ -19,23 +19,6 @@ use std::thread::Threads;
 use std::{fs, io};
 use tenths::{Sink, StdSink};
 
-/// The paths of a job to solve.
-#[derive(Clone, Copy)]
-struct Paths<'a> {
-    instance: &'a str,
-    solution: &'a str,
-    certificate: &'a str,
-}
-
-impl Paths<'_> {
-    /// Whether two of the paths are the same words, so that one file would overwrite another.
-    fn repeat(self) -> bool {
-        self.instance == self.solution
-            || self.instance == self.certificate
-            || self.solution == self.certificate
-    }
-}
-
 /// How an instance is solved: within the settings, and where a number of leaves is given, by closing it
 /// with no more of them; and whether to tell how far the turns are.
 #[derive(Clone, Copy)]
@@ -65,27 +48,28 @@ fn solve_text<R: Eprint + Threads + Wait + Sync, X: Sink, Y: Sink>(
     }
 }
 
-/// Solves the instance of a file into two files, which are made once the instance was read.
+/// Solves the instance of the first file into the two others, which are made once the instance was read. No
+/// two paths may be the same words, since one file would overwrite another.
 fn solve_files<R: Eprint + Files + AllocGlobal + Threads + Wait + Sync, X: Sink, Y: Sink>(
     rt: &R,
     alloc: Global,
-    paths: Paths<'_>,
+    [instance, solution, certificate]: [&str; 3],
     work: Work<'_>,
     out: &mut X,
     errors: &mut Y,
 ) -> u8 {
-    if paths.repeat() {
+    if instance == solution || instance == certificate || solution == certificate {
         return file_fault(errors);
     }
-    let text = match fs::read(rt, paths.instance) {
+    let text = match fs::read(rt, instance) {
         Ok(text) => text,
         Err(error) => return open_fault(&error, errors),
     };
-    let mut solution = match fs::create(rt, paths.solution) {
+    let mut solution = match fs::create(rt, solution) {
         Ok(file) => StdSink::new(file),
         Err(error) => return open_fault(&error, errors),
     };
-    let mut certificate = match fs::create(rt, paths.certificate) {
+    let mut certificate = match fs::create(rt, certificate) {
         Ok(file) => StdSink::new(file),
         Err(error) => return open_fault(&error, errors),
     };
@@ -102,14 +86,6 @@ fn solve_files<R: Eprint + Files + AllocGlobal + Threads + Wait + Sync, X: Sink,
     }
 }
 
-/// The paths of a job to check.
-#[derive(Clone, Copy)]
-struct Checked<'a> {
-    instance: &'a str,
-    certificate: &'a str,
-    solution: Option<&'a str>,
-}
-
 /// What a file holds, if it is named.
 fn read_if<R: Files + AllocGlobal>(rt: &R, path: Option<&str>) -> io::Result<Option<Vec<u8>>> {
     let Some(path) = path else {
@@ -123,20 +99,20 @@ fn read_if<R: Files + AllocGlobal>(rt: &R, path: Option<&str>) -> io::Result<Opt
 fn check_files<R: Files + AllocGlobal, X: Sink, Y: Sink>(
     rt: &R,
     alloc: Global,
-    paths: Checked<'_>,
+    (instance, certificate, solution): (&str, &str, Option<&str>),
     states: u32,
     out: &mut X,
     errors: &mut Y,
 ) -> u8 {
-    let instance = match fs::read(rt, paths.instance) {
+    let instance = match fs::read(rt, instance) {
         Ok(text) => text,
         Err(error) => return open_fault(&error, errors),
     };
-    let certificate = match fs::read(rt, paths.certificate) {
+    let certificate = match fs::read(rt, certificate) {
         Ok(text) => text,
         Err(error) => return open_fault(&error, errors),
     };
-    let solution = match read_if(rt, paths.solution) {
+    let solution = match read_if(rt, solution) {
         Ok(text) => text,
         Err(error) => return open_fault(&error, errors),
     };
@@ -170,45 +146,36 @@ pub fn run_words<R: Eprint + Files + AllocGlobal + Threads + Wait + Sync, X: Sin
     out: &mut X,
     errors: &mut Y,
 ) -> u8 {
-    match job(alloc, words) {
-        Ok(
-            Job::Solve {
-                instance,
-                solution,
-                certificate,
-                settings,
-                close,
-                leaves,
-                progress,
-            },
-        ) => {
-            let paths = Paths {
-                instance,
-                solution,
-                certificate,
-            };
+    let job = match job(alloc, words) {
+        Ok(job) => job,
+        Err(fault) => return usage_fault(alloc, &fault, out, errors),
+    };
+    match job {
+        Job::Solve {
+            instance,
+            solution,
+            certificate,
+            settings,
+            close,
+            leaves,
+            progress,
+        } => {
+            let paths = [instance, solution, certificate];
             let work = Work {
                 settings: &settings,
-                closing: if close { Some(leaves) } else { None },
+                closing: close.then_some(leaves),
                 progress,
             };
             solve_files(rt, alloc, paths, work, out, errors)
         }
-        Ok(
-            Job::Check {
-                instance,
-                certificate,
-                solution,
-                states,
-            },
-        ) => {
-            let paths = Checked {
-                instance,
-                certificate,
-                solution,
-            };
+        Job::Check {
+            instance,
+            certificate,
+            solution,
+            states,
+        } => {
+            let paths = (instance, certificate, solution);
             check_files(rt, alloc, paths, states, out, errors)
         }
-        Err(fault) => usage_fault(alloc, &fault, out, errors),
     }
 }

@@ -4,14 +4,14 @@ ghost use Rattle.std.specs.List.{All};
 ghost use Rattle.node_pool.specs.Deques.{FitsAt};
 ghost use Rattle.node_pool.specs.Ends.{deque_at};
 
-use crate::asked::{in_line, priced_at};
+use crate::asked::in_line;
 use crate::fake::{Counts, Fake};
 use branching::Region;
 use ceiling::Ceiling;
 use incumbent_book::BookFault;
 use node_pool::{Hand, Pass, Pool, Thief};
 use prices::Priced;
-use row_texts::{DEPOT, instance_text};
+use row_texts::{DEPOT, instance_text, priced_at};
 use search_workers::{GatePoint, Nodes, Settings, Worker, bound_worker};
 use solomon_reader::{Instance, read};
 use std::alloc::Global;
@@ -103,42 +103,49 @@ fn turns_made(
     turns_over(alloc, &instance, hub, 10, is_stolen, work)
 }
 
-/// Three customers at one place, of which a route serves two in time: the best prices of the root say
-/// 15.0, and a plan costs 20.0.
-fn in_pairs(alloc: Global) -> Result<Instance, Fail> {
+/// Three turns over a root that has the best prices, so that it is split; each split is refused so, if it
+/// is. The deques take so many numbers, the root among them. Of the three customers, at one place, a route
+/// serves two in time: the best prices of the root say 15.0, and a plan costs 20.0.
+fn turns_splitting(alloc: Global, room: usize, refusal: Option<BookFault>) -> Result<Done, Fail> {
     let rows = "1 3 4 1 0 20 10\n2 3 4 1 0 20 10\n3 3 4 1 0 20 10\n";
     let text = instance_text(alloc, 3, 3, DEPOT, rows)?;
-    Ok(read(alloc, text.as_bytes())?)
-}
-
-/// Three turns over a root that has the best prices, so that it is split; each split is refused so, if it
-/// is. The deques take so many numbers, the root among them.
-fn turns_splitting(alloc: Global, room: usize, refusal: Option<BookFault>) -> Result<Done, Fail> {
-    let instance = in_pairs(alloc)?;
-    let root = Region::root(alloc, 3);
-    let mut hub = Fake::new(priced_at(alloc, &instance, root, &[50_000; 3])?);
+    let instance = read(alloc, text.as_bytes())?;
+    let root = priced_at(
+        alloc,
+        &instance,
+        Region::root(alloc, 3),
+        1,
+        &[50_000; 3],
+        None,
+    );
+    let mut hub = Fake::new(root.ok_or("prices were refused")?);
     hub.split_refusal = refusal;
     turns_over(alloc, &instance, hub, room, false, (3, 100))
 }
 
 #[test]
-fn the_first_turn_raises_or_splits_the_root(rt: HostRuntime) -> Result<(), Fail> {
-    let made = turns_made(rt.alloc(), (1, 100), false, false)?;
-    assert!(rt; made == (1, 1, 1, 0, 1));
-    Ok(())
-}
-
-#[test]
-fn an_idle_worker_steals(rt: HostRuntime) -> Result<(), Fail> {
-    let made = turns_made(rt.alloc(), (1, 100), true, false)?;
-    assert!(rt; made == (1, 1, 1, 1, 1));
-    Ok(())
-}
-
-#[test]
-fn numbers_without_a_leaf_are_laid_aside(rt: HostRuntime) -> Result<(), Fail> {
-    let made = turns_made(rt.alloc(), (3, 100), false, true)?;
-    assert!(rt; made == (3, 0, 0, 0, 3));
+fn turns_go_as_far_as_there_is_work(rt: HostRuntime) -> Result<(), Fail> {
+    let rows = [
+        (
+            "the first turn raises or splits the root",
+            1,
+            false,
+            false,
+            (1, 1, 1, 0, 1),
+        ),
+        ("an idle worker steals", 1, true, false, (1, 1, 1, 1, 1)),
+        (
+            "numbers without a leaf are laid aside",
+            3,
+            false,
+            true,
+            (3, 0, 0, 0, 3),
+        ),
+    ];
+    for (name, turns, is_stolen, is_bare, expected) in rows {
+        let made = turns_made(rt.alloc(), (turns, 100), is_stolen, is_bare)?;
+        assert!(rt; made == expected, "{name}");
+    }
     Ok(())
 }
 

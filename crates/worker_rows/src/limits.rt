@@ -1,9 +1,9 @@
 //! Books with small limits, and values that are foreign to a book.
 
-use crate::asked::{BACK, ONWARD, book_with, children_at, in_line, plan_of, priced_at};
+use crate::asked::{BACK, ONWARD, in_line};
 use branching::{Arc, Region};
 use incumbent_book::{Book, BookFault, Limits, OpenFault, Steps};
-use row_texts::one_customer;
+use row_texts::{book_of, children_at, one_customer, plan_at, priced_at};
 use solomon_reader::{Instance, read};
 use std::alloc::Global;
 use std::process::Abort;
@@ -16,7 +16,7 @@ fn offer_fault<'i, R: AllocGlobal>(
     book: &mut Book<'i>,
     routes: &[&[u16]],
 ) -> Result<Option<BookFault>, Fail> {
-    let plan = plan_of(rt.alloc(), instance, routes)?;
+    let plan = plan_at(rt.alloc(), instance, routes).ok_or("a plan was refused")?;
     Ok(match book.offer(0, plan) {
         Ok(_) => None,
         Err((_, fault)) => Some(fault),
@@ -32,7 +32,8 @@ fn split_fault<'i, R: AllocGlobal>(
     (region, arc): (&Region, Arc),
     prices: [i64; 2],
 ) -> Result<Option<BookFault>, Fail> {
-    let (used, unused) = children_at(rt.alloc(), instance, region, arc, prices)?;
+    let children = children_at(rt.alloc(), instance, region, 1, arc, &prices);
+    let (used, unused) = children.ok_or("prices were refused")?;
     Ok(match book.split(0, leaf, arc, used, unused) {
         Ok(_) => None,
         Err((_, _, fault)) => Some(fault),
@@ -88,7 +89,7 @@ fn fill<'i, R: Abort + AllocGlobal>(
         leaves,
         depth: 1,
     };
-    let mut book = book_with(rt.alloc(), instance, limits)?;
+    let mut book = book_of(rt.alloc(), instance, 1, limits).ok_or("no book")?;
     split_twice(rt, instance, &mut book, leaves, fault)?;
     offer_until_full(rt, instance, &mut book, &TWO_OFFERS)?;
     let foreign = offer_fault(rt, other, &mut book, &[&[1]])?;
@@ -105,21 +106,6 @@ fn a_full_book_refuses(rt: HostRuntime) -> Result<(), Fail> {
     Ok(())
 }
 
-/// A book of one event and one leaf refuses a split and a second offer.
-fn fill_small<'i, R: Abort + AllocGlobal>(
-    rt: &R,
-    instance: &'i Instance,
-    book: &mut Book<'i>,
-) -> Result<(), Fail> {
-    let root = Region::root(rt.alloc(), 2);
-    let split = split_fault(rt, instance, book, 0, (&root, ONWARD), [0, 0])?;
-    assert_eq!(rt;
-        (split, book.history().len()),
-        (Some(BookFault::LeavesFull), 0)
-    );
-    offer_until_full(rt, instance, book, &[None, Some(BookFault::JournalFull)])
-}
-
 #[test]
 fn a_book_of_one_event_and_one_leaf(rt: HostRuntime) -> Result<(), Fail> {
     let instance = in_line(rt.alloc())?;
@@ -128,8 +114,19 @@ fn a_book_of_one_event_and_one_leaf(rt: HostRuntime) -> Result<(), Fail> {
         leaves: 1,
         depth: 1,
     };
-    let mut book = book_with(rt.alloc(), &instance, limits)?;
-    fill_small(&rt, &instance, &mut book)
+    let root = Region::root(rt.alloc(), 2);
+    let mut book = book_of(rt.alloc(), &instance, 1, limits).ok_or("no book")?;
+    let split = split_fault(&rt, &instance, &mut book, 0, (&root, ONWARD), [0, 0])?;
+    assert_eq!(rt;
+        (split, book.history().len()),
+        (Some(BookFault::LeavesFull), 0)
+    );
+    offer_until_full(
+        &rt,
+        &instance,
+        &mut book,
+        &[None, Some(BookFault::JournalFull)],
+    )
 }
 
 /// The fault of a book that opens with prices 0 at a region, if it was refused.
@@ -139,7 +136,8 @@ fn opening_fault(
     region: Region,
     limits: Option<Limits>,
 ) -> Result<Option<OpenFault>, Fail> {
-    let priced = priced_at(alloc, instance, region, &[0, 0])?;
+    let priced = priced_at(alloc, instance, region, 1, &[0, 0], None);
+    let priced = priced.ok_or("prices were refused")?;
     let opened = match limits {
         Some(limits) => Book::with_limits(alloc, priced, limits),
         None => Book::new(alloc, priced),

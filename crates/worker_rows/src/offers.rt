@@ -1,9 +1,10 @@
 //! Offers, new prices and splits at a desk.
 
-use crate::asked::{BACK, ONWARD, children_at, plan_of, priced_at};
+use crate::asked::{BACK, ONWARD};
 use branching::{Arc, Region, TreeNode};
 use desk::{Desk, LookFault, Naming, Share};
 use incumbent_book::{BookFault, Offered, Outcome};
+use row_texts::{children_at, plan_at, priced_at};
 use solomon_reader::Instance;
 use std::process::Abort;
 use std::sync::Wait;
@@ -24,7 +25,7 @@ fn offer<'i, R: Wait + AllocGlobal, J: Naming>(
     place: &mut Place<'_, 'i, J>,
     routes: &[&[u16]],
 ) -> Result<(bool, Option<Tenths>), Fail> {
-    let plan = plan_of(rt.alloc(), instance, routes)?;
+    let plan = plan_at(rt.alloc(), instance, routes).ok_or("a plan was refused")?;
     let reply = match place.desk.offer(rt, &mut place.share, plan) {
         Ok(reply) => reply,
         Err(_) => return Err(Fail::from("an offer was refused")),
@@ -64,7 +65,8 @@ fn reprice<'i, R: Wait + AllocGlobal, J: Naming>(
     region: Region,
     prices: [i64; 2],
 ) -> Result<Result<(), BookFault>, Fail> {
-    let priced = priced_at(rt.alloc(), instance, region, &prices)?;
+    let priced = priced_at(rt.alloc(), instance, region, 1, &prices, None);
+    let priced = priced.ok_or("prices were refused")?;
     Ok(
         match place.desk.reprice(rt, &mut place.share, leaf, priced) {
             Ok(()) => Ok(()),
@@ -82,7 +84,8 @@ fn split<'i, R: Wait + AllocGlobal, J: Naming>(
     (region, arc): (&Region, Arc),
     prices: [i64; 2],
 ) -> Result<Result<(u32, u32), BookFault>, Fail> {
-    let (used, unused) = children_at(rt.alloc(), instance, region, arc, prices)?;
+    let children = children_at(rt.alloc(), instance, region, 1, arc, &prices);
+    let (used, unused) = children.ok_or("prices were refused")?;
     let share = &mut place.share;
     Ok(match place.desk.split(rt, share, leaf, arc, used, unused) {
         Ok(made) => Ok(made),
@@ -177,30 +180,21 @@ fn prices_at(nodes: &[TreeNode], index: usize) -> Option<&[i64]> {
     }
 }
 
-/// Asserts the nodes of the tree.
-fn assert_nodes<R: Abort>(rt: &R, nodes: &[TreeNode]) {
+/// Asserts the outcome's bound in tenths, its neighbours, how many events it has, whether it has a plan, the
+/// size of its instance, and its tree.
+pub fn assert_outcome<R: Abort + AllocGlobal>(rt: &R, outcome: &Outcome<'_>) -> Result<(), Fail> {
+    let (bound, neighbours) = (outcome.bound().get(), outcome.neighbours());
+    let (events, has_plan) = (outcome.history().len(), outcome.plan().is_some());
+    let size = outcome.instance().customer_count();
+    assert_eq!(rt;
+        (bound, neighbours, events, has_plan, size),
+        (200, 1, 6, true, 2)
+    );
+    let nodes = outcome.nodes(rt.alloc())?;
+    let nodes = nodes.as_slice();
     let is_split = matches!(nodes.first(), Some(TreeNode::Split(arc)) if *arc == ONWARD);
     let leaves = (prices_at(nodes, 1), prices_at(nodes, 2));
     let expected = (Some([0, 0].as_slice()), Some([100_000, 100_000].as_slice()));
     assert_eq!(rt; (nodes.len(), is_split, leaves), (3, true, expected));
-}
-
-/// The outcome's bound in tenths, its neighbours, how many events it has, whether it has a plan, and the
-/// size of its instance.
-fn told_of(outcome: &Outcome<'_>) -> (u64, u32, usize, bool, u16) {
-    (
-        outcome.bound().get(),
-        outcome.neighbours(),
-        outcome.history().len(),
-        outcome.plan().is_some(),
-        outcome.instance().customer_count(),
-    )
-}
-
-/// Asserts the outcome's bound and its tree.
-pub fn assert_outcome<R: Abort + AllocGlobal>(rt: &R, outcome: &Outcome<'_>) -> Result<(), Fail> {
-    assert_eq!(rt; told_of(outcome), (200, 1, 6, true, 2));
-    let nodes = outcome.nodes(rt.alloc())?;
-    assert_nodes(rt, nodes.as_slice());
     Ok(())
 }

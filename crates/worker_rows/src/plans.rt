@@ -46,31 +46,47 @@ fn five_turns(
 }
 
 #[test]
-fn each_turn_offers_once(rt: HostRuntime) -> Result<(), Fail> {
-    let made = five_turns(rt.alloc(), 6, BookFault::Memory, (1000, 0))?;
-    assert!(rt; made == (5, 5, 5, 5));
-    Ok(())
-}
-
-#[test]
-fn a_full_history_ends_the_work(rt: HostRuntime) -> Result<(), Fail> {
-    for fault in [BookFault::JournalFull, BookFault::Memory] {
-        let made = five_turns(rt.alloc(), 3, fault, (1000, 0))?;
-        assert!(rt; made == (3, 3, 2, 3), "{fault}");
+fn each_turn_offers_once_until_the_hub_has_no_room(rt: HostRuntime) -> Result<(), Fail> {
+    let rows = [
+        (
+            "each turn offers once",
+            6,
+            BookFault::Memory,
+            0,
+            (5, 5, 5, 5),
+        ),
+        (
+            "a full history ends the work",
+            3,
+            BookFault::JournalFull,
+            0,
+            (3, 3, 2, 3),
+        ),
+        (
+            "refused memory ends the work",
+            3,
+            BookFault::Memory,
+            0,
+            (3, 3, 2, 3),
+        ),
+        (
+            "other refusals end the turn",
+            3,
+            BookFault::ForeignInstance,
+            0,
+            (5, 5, 2, 5),
+        ),
+        (
+            "no work is left where cost and bound have met",
+            6,
+            BookFault::Memory,
+            1000,
+            (5, 0, 0, 5),
+        ),
+    ];
+    for (name, first, fault, bound, expected) in rows {
+        let made = five_turns(rt.alloc(), first, fault, (1000, bound))?;
+        assert!(rt; made == expected, "{name}");
     }
-    Ok(())
-}
-
-#[test]
-fn other_refusals_end_the_turn(rt: HostRuntime) -> Result<(), Fail> {
-    let made = five_turns(rt.alloc(), 3, BookFault::ForeignInstance, (1000, 0))?;
-    assert!(rt; made == (5, 5, 2, 5));
-    Ok(())
-}
-
-#[test]
-fn no_work_is_left_where_cost_and_bound_have_met(rt: HostRuntime) -> Result<(), Fail> {
-    let made = five_turns(rt.alloc(), 6, BookFault::Memory, (1000, 1000))?;
-    assert!(rt; made == (5, 0, 0, 5));
     Ok(())
 }

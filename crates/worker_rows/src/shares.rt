@@ -5,10 +5,11 @@ ghost use Rattle.desk.specs.Opening.{HasPlanIf};
 ghost use Rattle.desk.specs.Tally.{each};
 ghost use Rattle.desk.specs.Blanks.{names_of, parts_of};
 
-use crate::asked::{book_with, in_line};
+use crate::asked::in_line;
 use crate::offers::{Place, assert_outcome, branch, offer_plans};
 use desk::{Blanks, Desk, DeskFault, Naming, Share};
 use incumbent_book::{Book, Gap, Limits, Outcome};
+use row_texts::book_of;
 use solomon_reader::Instance;
 use std::io::Eprint;
 use std::marker::Brand;
@@ -126,7 +127,7 @@ fn run<'i, J: Naming + Send, R: Abort + Threads + Wait + Eprint + Sync + AllocGl
 #[test]
 fn a_second_share_is_told_what_the_first_did(rt: HostRuntime) -> Result<(), Fail> {
     let instance = in_line(rt.alloc())?;
-    let book = book_with(rt.alloc(), &instance, Limits::MOST)?;
+    let book = book_of(rt.alloc(), &instance, 1, Limits::MOST).ok_or("no book")?;
     let (gap, outcome) = run::<Brand, _>(&rt, &instance, book, Blanks::new(2))?;
     let of_plan = Tenths::from(200);
     assert_eq!(rt; (gap.cost, gap.bound), (Some(of_plan), of_plan));

@@ -1,4 +1,4 @@
-use Rattle.std.proofs.Common.{◌≡◌, refl, ℕ, ◌<◌, arith}
+use Rattle.std.proofs.Common.{◌≡◌, ℕ, ◌<◌, arith}
 use Rattle.std.proofs.lemmas.Result.{err_from_is_err_and}
 use Rattle.std.specs.Prelude.{Vec}
 use Rattle.std.specs.declared.alloc.Global.{Global}
@@ -13,34 +13,34 @@ use Rattle.checker.proofs.judging.check_stops.Goals as goal
 
 pub returns-then-not-know_stops-clause-refused : goal.returns-then-not-know_stops-clause-refused
 returns-then-not-know_stops-clause-refused c = record {
-  holds = Any-map (λ r. Any (λ i. ¬ IsCustomer c.args.instance.now i) r) (λ (v : Vec ℕ Global). v.items) c.args.routes.now (c.if-not-know_stops.ensures.no refl);
-  lowest = after_empty _ _ (c.if-not-serve_somebody.ensures.yes refl);
+  holds = Any-map (λ r. Any (λ i. ¬ IsCustomer c.args.instance.now i) r) (λ (v : Vec ℕ Global). v.items) c.args.routes.now c.if-not-know_stops.ensures;
+  lowest = after_empty _ _ c.if-not-serve_somebody.ensures;
 }
 
 pub returns-in_err-marks-clause-refused : goal.returns-in_err-marks-clause-refused
 returns-in_err-marks-clause-refused c =
     let p = err_from_is_err_and c.from_residual.result c.from_residual.ensures.1 in
-    rw (p.1, p.2) (twice_refused c.args.instance.now c.args.routes.now (c.if-not-serve_somebody.ensures.yes refl) (c.if-not-know_stops.ensures.yes refl) c.in_err-marks.field-0.0 c.in_err-marks.ensures.refused)
+    rw (p.1, p.2) (twice_refused c.args.instance.now c.args.routes.now c.if-not-serve_somebody.ensures c.if-not-know_stops.ensures c.in_err-marks.field-0.0 c.in_err-marks.ensures.refused)
 
 pub returns-then-not-serve_all-clause-refused : goal.returns-then-not-serve_all-clause-refused
 returns-then-not-serve_all-clause-refused c =
-    let missing = rw c.as_slice.ensures.value at (c.if-not-serve_all.ensures.no refl) in
+    let missing = rw c.as_slice.ensures.value at c.if-not-serve_all.ensures in
     record {
       holds = missing (stops (lists c.args.routes.now)) c.in_ok-marks.ensures.served;
-      lowest = after_twice _ _ (c.if-not-serve_somebody.ensures.yes refl) (c.if-not-know_stops.ensures.yes refl) (at_most_once c.args.instance.now c.args.routes.now c.in_ok-marks.marks.items c.in_ok-marks.ensures.served (omega (arith, c.in_ok-marks.ensures.count, c.customer_count.ensures.value)));
+      lowest = after_twice _ _ c.if-not-serve_somebody.ensures c.if-not-know_stops.ensures (at_most_once c.args.instance.now c.args.routes.now c.in_ok-marks.marks.items c.in_ok-marks.ensures.served (omega (arith, c.in_ok-marks.ensures.count, c.customer_count.ensures.value)));
     }
 
 pub returns-then-not-are_light-clause-refused : goal.returns-then-not-are_light-clause-refused
 returns-then-not-are_light-clause-refused c =
-    let served = rw c.as_slice.ensures.value at (c.if-not-serve_all.ensures.yes refl) in
+    let served = rw c.as_slice.ensures.value at c.if-not-serve_all.ensures in
     let one : (i : ℕ) → IsCustomer c.args.instance.now i → count_of i (stops (lists c.args.routes.now)) ≡ 1 = λ i h. served (stops (lists c.args.routes.now)) c.in_ok-marks.ensures.served i h in
     record {
-      holds = Any-map (λ r. c.args.instance.now.capacity < load_of c.args.instance.now r) (λ (v : Vec ℕ Global). v.items) c.args.routes.now (c.if-not-are_light.ensures.no refl);
-      lowest = after_missing _ _ (c.if-not-serve_somebody.ensures.yes refl) (c.if-not-know_stops.ensures.yes refl) (λ i h. omega (arith, one i h)) (λ i h. omega (arith, one i h));
+      holds = Any-map (λ r. c.args.instance.now.capacity < load_of c.args.instance.now r) (λ (v : Vec ℕ Global). v.items) c.args.routes.now c.if-not-are_light.ensures;
+      lowest = after_missing _ _ c.if-not-serve_somebody.ensures c.if-not-know_stops.ensures (λ i h. omega (arith, one i h)) (λ i h. omega (arith, one i h));
     }
 
 pub returns-clause-once : goal.returns-clause-once
 returns-clause-once c =
-    let served = rw c.as_slice.ensures.value at (c.if-not-serve_all.ensures.yes refl) in
+    let served = rw c.as_slice.ensures.value at c.if-not-serve_all.ensures in
     let one : (i : ℕ) → IsCustomer c.args.instance.now i → count_of i (stops (lists c.args.routes.now)) ≡ 1 = λ i h. served (stops (lists c.args.routes.now)) c.in_ok-marks.ensures.served i h in
     one

@@ -1,6 +1,6 @@
 use Rattle.std.proofs.Common.{◌≡◌, arith}
 use Rattle.plan_rows.proofs.FewEnds.{written, is_filled, answered}
-use Rattle.plan_rows.proofs.few.concatenate.Goals as goal
+use Rattle.plan_rows.proofs.few.FewLinked.join.Goals as goal
 
 pub loop-i-preserved : goal.loop-i-preserved
 loop-i-preserved c = written c.a.inside.items c.b.inside.items c.loop-i.items c.a.inside.len c.b.inside.len c.a.invariant c.b.invariant (omega arith) c.loop-i.i (omega arith) c.loop-i.invariant
