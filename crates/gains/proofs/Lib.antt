@@ -6,6 +6,8 @@ pub mod GainSearching
 pub mod KeptRows
 pub mod KeptChanges
 pub mod MoveChanges
+pub mod Timeliness
+pub mod GapRows
 pub mod TwoRoutes
 pub mod Renumbering
 pub mod LastingGains

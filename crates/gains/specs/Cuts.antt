@@ -64,14 +64,6 @@ AreKnownCuts p r = (i l : ℕ) → i + l ≤ length r → IsKnownCut p (cut_at r
 abbrev pub IsLeastSwap : Problem → List ℕ → Cut → ℕ → ℕ → ℤ → Type 0
 IsLeastSwap p r c low high x = (i l : ℕ) → low ≤ l → l ≤ high → i + l ≤ length r → x ≤ℤ change_apart p c (cut_at r i l)
 
--- the same from some positions on
-abbrev pub IsLeastSwapIn : Problem → List ℕ → Cut → ℕ → ℕ → ℕ → ℕ → ℤ → Type 0
-IsLeastSwapIn p r c low high from to x = (i l : ℕ) → from ≤ i → i < to → low ≤ l → l ≤ high → i + l ≤ length r → x ≤ℤ change_apart p c (cut_at r i l)
-
--- and from one position on
-abbrev pub IsLeastSwapAt : Problem → List ℕ → Cut → ℕ → ℕ → ℕ → ℤ → Type 0
-IsLeastSwapAt p r c low high i x = (l : ℕ) → low ≤ l → l ≤ high → i + l ≤ length r → x ≤ℤ change_apart p c (cut_at r i l)
-
 -- the chain c, put into any of some gaps of a route, changes the cost by no less
 abbrev pub IsLeastShift : Problem → List ℕ → Cut → ℕ → ℕ → ℤ → Type 0
 IsLeastShift p r c from to x = (i : ℕ) → from ≤ i → i < to → i ≤ length r → x ≤ℤ change_apart p c (cut_at r i 0)

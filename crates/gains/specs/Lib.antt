@@ -1,4 +1,5 @@
 pub mod Cuts
+pub mod Gaps
 pub mod Gains
 pub mod TwoRoutes
 pub mod Kept

@@ -9,6 +9,7 @@ use Rattle.moves.specs.Search.{numbers, IsFirstLength, IsSecondLength, IsInRange
 use Rattle.moves.specs.Trees.{visits_of, AreOfPlan}
 use Rattle.moves.specs.Values.{HasValue}
 use Rattle.gains.specs.Gains.{Found, IsNoBetter, IsFoundAmong, Starts}
+use Rattle.gains.specs.Gaps.{AreGaps}
 use Rattle.gains.specs.Kept.{IsBetween}
 use Rattle.gains.specs.declared.neighbourhood.Neighbourhood.{Neighbourhood}
 
@@ -33,12 +34,13 @@ moves_of m n = IsBetween m.kind m.first m.second n
 abbrev pub NoSingle : Neighbourhood → Type 0
 NoSingle m = (n : Move) (u : ℤ) → moves_of m n → slice_index_or (numbers n) 2 0 ≡ 1 → HasValue (instance_of m) (plan_of m) n u → pos 0 ≤ℤ u
 
--- its trees are those of a plan, and its stops are those of its routes; what it says of single stops holds
+-- its trees are those of a plan, and its stops and gaps are those of its routes; what it says of single stops holds
 pub record IsOfPlan (m : Neighbourhood) : Type 0 where
   pub single : IsTrue m.no_single → NoSingle m
   pub trees : AreOfPlan m.trees.now
   pub stops : m.stops.now ≡ route (plan_of m) m.first
   pub others : m.others.now ≡ route (plan_of m) m.second
+  pub gaps : AreGaps (instance_of m) m.others.now m.gaps.now
 
 -- the lengths of the two chains are as a move of the kind has them, 0 where it lacks them
 abbrev pub AreLengths : Neighbourhood → Chain → Chain → Type 0
@@ -59,3 +61,7 @@ SearchesRange m xs high before result = Searches (instance_of m) (plan_of m) (mo
 -- no move with these first numbers is better than what was found
 abbrev pub NoneIsBetter : Neighbourhood → List ℕ → Found → Type 0
 NoneIsBetter m xs before = (n : Move) (u : ℤ) → moves_of m n → Starts xs (numbers n) → HasValue (instance_of m) (plan_of m) n u → IsNoBetter before n u
+
+-- no move with these first numbers changes the cost by less
+abbrev pub NoneIsLess : Neighbourhood → List ℕ → ℤ → Type 0
+NoneIsLess m xs x = (n : Move) (u : ℤ) → moves_of m n → Starts xs (numbers n) → HasValue (instance_of m) (plan_of m) n u → x ≤ℤ u

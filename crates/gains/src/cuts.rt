@@ -5,7 +5,7 @@ ghost use Rattle.solomon_reader.specs.Problem.{customer_count};
 ghost use Rattle.solomon_reader.specs.Distance.{distance};
 ghost use Rattle.solomon_reader.specs.declared.limits.TheConstants.{MOST_DISTANCE};
 ghost use Rattle.segments.specs.Segments.{first_of, last_from};
-ghost use Rattle.gains.specs.Cuts.{IsCut, IsKnownCut, joint_of, change_apart, change_within, ends_change, AreKnownCuts, IsLeastSwap, IsLeastSwapAt, IsLeastSwapIn, IsLeastShift, IsLeastEndSwap};
+ghost use Rattle.gains.specs.Cuts.{IsCut, IsKnownCut, joint_of, change_apart, change_within, ends_change, AreKnownCuts, IsLeastSwap, IsLeastShift, IsLeastEndSwap};
 
 use moves::Chain;
 use solomon_reader::{Instance, MOST_DISTANCE};
@@ -28,7 +28,7 @@ pub struct Cut {
 
 /// The stop at a position, and the depot behind the last.
 #[inline(always)]
-fn stop_at(stops: &[u16], position: usize) -> u16
+pub fn stop_at(stops: &[u16], position: usize) -> u16
     ensures { result ≡ slice_index_or stops.now position 0 }
 {
     match stops.get(position) {
@@ -40,7 +40,7 @@ fn stop_at(stops: &[u16], position: usize) -> u16
 /// The stop before a position, and the depot before the first.
 #[inline(always)]
 #[tactic(auto, using(crate::proofs::CutStops::before_position))]
-fn stop_before(stops: &[u16], position: usize) -> u16
+pub fn stop_before(stops: &[u16], position: usize) -> u16
     requires { position ≤ length stops.now }
     ensures { result ≡ last_from 0 (take position stops.now) }
 {
@@ -91,7 +91,7 @@ pub fn cut_of(stops: &[u16], chain: Chain) -> Option<Cut>
 
 /// What the arcs to and from a chain between two stops cost, in tenths.
 #[inline(always)]
-fn joint(instance: &Instance, before: u16, chain: &Cut, behind: u16) -> i64
+pub fn joint(instance: &Instance, before: u16, chain: &Cut, behind: u16) -> i64
     requires before { before ≤ customer_count instance.now }
     requires chain { IsKnownCut instance.now chain.now }
     requires behind { behind ≤ customer_count instance.now }
@@ -123,7 +123,7 @@ pub fn change_apart(instance: &Instance, one: &Cut, other: &Cut) -> i64
 /// By how much the cost changes where two chains of two routes change places, in tenths, from the arcs
 /// round the first and the arc past it.
 #[inline(always)]
-fn change_from(instance: &Instance, one: &Cut, other: &Cut, arcs: i64, past: i64) -> i64
+pub fn change_from(instance: &Instance, one: &Cut, other: &Cut, arcs: i64, past: i64) -> i64
     requires one { IsKnownCut instance.now one.now }
     requires other { IsKnownCut instance.now other.now }
     requires arcs { arcs ≡ pos (joint_of instance.now one.now.before one.now one.now.behind) }
@@ -144,88 +144,12 @@ fn change_from(instance: &Instance, one: &Cut, other: &Cut, arcs: i64, past: i64
 
 /// The lesser of two numbers.
 #[inline(always)]
-fn lesser(one: i64, other: i64) -> i64
+pub fn lesser(one: i64, other: i64) -> i64
     ensures one { result ≤ℤ one }
     ensures other { result ≤ℤ other }
     ensures is { (result ≡ one) ⊎ (result ≡ other) }
 {
     if other < one { other } else { one }
-}
-
-/// The least of what swaps of a chain with some stops of a route from a position on change of the cost,
-/// or what was found before, if that is less.
-#[inline(always)]
-fn least_swap_at(
-    instance: &Instance,
-    stops: &[u16],
-    position: usize,
-    chain: &Cut,
-    low: usize,
-    high: usize,
-    arcs: i64,
-    past: i64,
-    before: i64,
-) -> i64
-    requires arcs { arcs ≡ pos (joint_of instance.now chain.now.before chain.now chain.now.behind) }
-    requires past { past ≡ pos (distance instance.now chain.now.before chain.now.behind) }
-    requires few_arcs { arcs ≤ℤ pos (2 * MOST_DISTANCE) }
-    requires few_past { past ≤ℤ pos (2 * MOST_DISTANCE) }
-    requires chain { IsKnownCut instance.now chain.now }
-    requires stops { AreKnownCuts instance.now stops.now }
-    requires position { position ≤ length stops.now }
-    requires few { high ≤ 3 }
-    ensures lower { result ≤ℤ before }
-    ensures least { IsLeastSwapAt instance.now stops.now chain.now low high position result }
-{
-    let most = high.min(stops.len() - position);
-    let mut least = before;
-    for count in low..most + 1 {
-        let other = cut_of_stops(stops, position, count);
-        least = lesser(least, change_from(instance, chain, &other, arcs, past));
-    }
-    least
-}
-
-/// The least of what swaps of a chain with low to high stops of a route, from one of some positions on,
-/// change of the cost, in tenths, or what was found before, if that is less.
-#[inline(always)]
-fn least_swap_in(
-    instance: &Instance,
-    stops: &[u16],
-    chain: &Cut,
-    low: usize,
-    high: usize,
-    positions: Range<usize>,
-    before: i64,
-) -> i64
-    requires chain { IsKnownCut instance.now chain.now }
-    requires stops { AreKnownCuts instance.now stops.now }
-    requires positions { positions.end ≤ length stops.now + 1 }
-    requires few { high ≤ 3 }
-    ensures lower { result ≤ℤ before }
-    ensures least { IsLeastSwapIn instance.now stops.now chain.now low high positions.start positions.end result }
-{
-    let arcs = joint(instance, chain.before, chain, chain.behind);
-    let past = arc(instance, chain.before, chain.behind);
-    let mut least = before;
-    for position in positions.start..positions.end {
-        least = least_swap_at(
-            instance, stops, position, chain, low, high, arcs, past, least,
-        );
-    }
-    least
-}
-
-/// A number of tenths, at most 0: no swap of a chain with low to high stops of a route changes the cost
-/// by less.
-#[inline(always)]
-fn least_of_swaps(instance: &Instance, stops: &[u16], chain: &Cut, low: usize, high: usize) -> i64
-    requires chain { IsKnownCut instance.now chain.now }
-    requires stops { AreKnownCuts instance.now stops.now }
-    requires few { high ≤ 3 }
-    ensures { IsLeastSwap instance.now stops.now chain.now low high result }
-{
-    least_swap_in(instance, stops, chain, low, high, 0..stops.len() + 1, 0)
 }
 
 /// What the exchange of the ends behind two gaps changes of the cost, in tenths. A gap is given by the
@@ -270,7 +194,7 @@ fn least_front(last: (i64, i64, i64), most: usize) -> i64
 /// or 0, if that is less. A swap changes the cost as two exchanges of ends do, one at the front of the
 /// chain and one behind it, so that each gap of the route is looked at once.
 #[inline(always)]
-fn least_of_ends(instance: &Instance, stops: &[u16], chain: &Cut, most: usize) -> i64
+pub fn least_of_ends(instance: &Instance, stops: &[u16], chain: &Cut, most: usize) -> i64
     requires chain { IsKnownCut instance.now chain.now }
     requires some { chain.now.some ≡ true }
     requires stops { AreKnownCuts instance.now stops.now }
@@ -308,23 +232,6 @@ pub fn least_end_swap(instance: &Instance, stops: &[u16], chain: &Cut) -> i64
     least
 }
 
-/// A number of tenths, at most 0: no swap of a chain with some stops of a route changes the cost by
-/// less.
-pub fn least_swap(instance: &Instance, stops: &[u16], chain: &Cut, low: usize, high: usize) -> i64
-    requires chain { IsKnownCut instance.now chain.now }
-    requires stops { AreKnownCuts instance.now stops.now }
-    requires few { high ≤ 3 }
-    ensures { IsLeastSwap instance.now stops.now chain.now low high result }
-{
-    // known counts make the loops over them go
-    match (low, high) {
-        (0, 0) => least_of_swaps(instance, stops, chain, 0, 0),
-        (1, 1) if chain.some => least_of_ends(instance, stops, chain, 1),
-        (1, 3) if chain.some => least_of_ends(instance, stops, chain, 3),
-        _ => least_of_swaps(instance, stops, chain, low, high),
-    }
-}
-
 /// The least of what a chain changes of the cost that goes into one of some gaps of a route, counted by
 /// the stops before them, in tenths, or what was found before, if that is less.
 pub fn least_shift(
@@ -340,11 +247,18 @@ pub fn least_shift(
     ensures lower { result ≤ℤ before }
     ensures least { IsLeastShift instance.now stops.now chain.now gaps.start gaps.end result }
 {
-    least_swap_in(instance, stops, chain, 0, 0, gaps, before)
+    let arcs = joint(instance, chain.before, chain, chain.behind);
+    let past = arc(instance, chain.before, chain.behind);
+    let mut least = before;
+    for position in gaps.start..gaps.end {
+        let gap = cut_of_stops(stops, position, 0);
+        least = lesser(least, change_from(instance, chain, &gap, arcs, past));
+    }
+    least
 }
 
 /// The cost of an arc, in tenths.
-fn arc(instance: &Instance, from: u16, to: u16) -> i64
+pub fn arc(instance: &Instance, from: u16, to: u16) -> i64
     requires from { from ≤ customer_count instance.now }
     requires to { to ≤ customer_count instance.now }
     ensures value { result ≡ pos (distance instance.now from to) }

@@ -2,17 +2,18 @@
 
 ghost use Rattle.std.specs.Prelude.{◌≡◌, ◌<◌, ◌≤◌, length};
 ghost use Rattle.solomon_reader.specs.Lists.{lists};
-ghost use Rattle.solomon_reader.specs.Moves.{route};
 ghost use Rattle.segments.specs.PlanTrees.{problem_of};
 ghost use Rattle.moves.specs.Order.{kind_of};
 ghost use Rattle.moves.specs.Trees.{visits_of, AreOfPlan};
 ghost use Rattle.gains.specs.Gains.{IsBestGainIfAny, IsBestAmong, IsFoundAmong};
+ghost use Rattle.gains.specs.Gaps.{AreGapsOf};
 ghost use Rattle.gains.specs.Kept.{IsBetween, AreKept, first_route, lowest_second, end_of_seconds};
 ghost use Rattle.gains.specs.Searches.{Searches};
 
 use crate::found::{Found, better, found_between};
 use crate::neighbourhood::Neighbourhood;
 use crate::pair_gains::PairGains;
+use crate::route_gaps::{RouteGaps, stops_of};
 use moves::{Kind, Move, route_count};
 use segments::PlanTrees;
 use std::ops::Range;
@@ -32,22 +33,12 @@ fn seconds_of(trees: &PlanTrees<'_>, kind: Kind, first: u16) -> Range<u16>
     }
 }
 
-/// The stops of a route; an unknown one has none.
-#[inline(always)]
-fn stops_of(routes: &[Vec<u16>], number: u16) -> &[u16]
-    ensures { result.now ≡ route (lists routes.now) number }
-{
-    match routes.get(usize::from(number)) {
-        Some(stops) => stops.as_slice(),
-        None => &[],
-    }
-}
-
 /// The best gain of a kind from a route into a route, which may be the new one: the one that is kept, or
 /// one that is found and kept.
 #[inline(always)]
 fn gain_between(
     kept: &mut PairGains,
+    gaps: &RouteGaps,
     trees: &PlanTrees<'_>,
     routes: &[Vec<u16>],
     kind: Kind,
@@ -56,6 +47,7 @@ fn gain_between(
 ) -> Found
     requires plan { AreOfPlan trees.now }
     requires routes { lists routes.now ≡ visits_of trees.now }
+    requires gaps { AreGapsOf (problem_of trees.now) (visits_of trees.now) gaps.now }
     requires kept { AreKept (problem_of trees.now) (visits_of trees.now) kept.old }
     requires first { first < length (visits_of trees.now) }
     requires second { second ≤ length (visits_of trees.now) }
@@ -73,8 +65,9 @@ fn gain_between(
         first,
         second,
         no_single: entry.has_no_single(kind),
-        stops: stops_of(routes, first),
-        others: stops_of(routes, second),
+        stops: stops_of(routes, from),
+        others: stops_of(routes, into),
+        gaps: gaps.of(into),
     };
     let found = neighbourhood.best_gain();
     entry.keep(kind, found);
@@ -86,6 +79,7 @@ fn gain_between(
 #[inline(always)]
 fn gain_from(
     kept: &mut PairGains,
+    gaps: &RouteGaps,
     trees: &PlanTrees<'_>,
     routes: &[Vec<u16>],
     kind: Kind,
@@ -94,6 +88,7 @@ fn gain_from(
 ) -> Found
     requires plan { AreOfPlan trees.now }
     requires routes { lists routes.now ≡ visits_of trees.now }
+    requires gaps { AreGapsOf (problem_of trees.now) (visits_of trees.now) gaps.now }
     requires kept { AreKept (problem_of trees.now) (visits_of trees.now) kept.old }
     requires first { first < length (visits_of trees.now) }
     requires found { IsFoundAmong (problem_of trees.now) (visits_of trees.now) (λ n. kind_of n ≡ kind) before }
@@ -103,7 +98,7 @@ fn gain_from(
     let seconds = seconds_of(trees, kind, first);
     let mut best = before;
     for second in seconds.start..seconds.end {
-        let found = gain_between(kept, trees, routes, kind, first, second);
+        let found = gain_between(kept, gaps, trees, routes, kind, first, second);
         best = better(best, found);
     }
     best
@@ -115,19 +110,21 @@ fn gain_from(
 #[inline(always)]
 pub fn best_gain(
     kept: &mut PairGains,
+    gaps: &RouteGaps,
     trees: &PlanTrees<'_>,
     routes: &[Vec<u16>],
     kind: Kind,
 ) -> Option<(Move, i64)>
     requires plan { AreOfPlan trees.now }
     requires routes { lists routes.now ≡ visits_of trees.now }
+    requires gaps { AreGapsOf (problem_of trees.now) (visits_of trees.now) gaps.now }
     requires kept { AreKept (problem_of trees.now) (visits_of trees.now) kept.old }
     ensures kept { AreKept (problem_of trees.now) (visits_of trees.now) kept.new }
     ensures best { IsBestGainIfAny (problem_of trees.now) (visits_of trees.now) kind result }
 {
     let mut best = None;
     for first in 0..route_count(trees) {
-        best = gain_from(kept, trees, routes, kind, first, best);
+        best = gain_from(kept, gaps, trees, routes, kind, first, best);
     }
     best
 }

@@ -13,8 +13,10 @@ mod neighbourhood;
 mod pair_gains;
 mod passing;
 mod replaced;
+mod route_gaps;
 
 pub use keeping::best_gain;
 pub use laws::law_of_two_routes;
 pub use pair_gains::PairGains;
 pub use replaced::Replaced;
+pub use route_gaps::RouteGaps;

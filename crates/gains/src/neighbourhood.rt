@@ -1,10 +1,11 @@
 //! The moves among which a gain is sought.
 
+use crate::route_gaps::Gap;
 use moves::Kind;
 use segments::PlanTrees;
 
 /// The moves of a kind from a route of a plan into a route, which may be the new one, with the stops of
-/// both routes.
+/// both routes and the gaps of the second.
 #[derive(Drop)]
 pub struct Neighbourhood<'a, 'i> {
     pub trees: &'a PlanTrees<'i>,
@@ -15,4 +16,6 @@ pub struct Neighbourhood<'a, 'i> {
     pub no_single: bool,
     pub stops: &'a [u16],
     pub others: &'a [u16],
+    /// The gaps of the second route, or none where they aren't known.
+    pub gaps: &'a [Gap],
 }

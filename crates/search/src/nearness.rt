@@ -13,6 +13,17 @@ pub fn arc(instance: &Instance, from: u16, to: u16) -> u32 {
     instance.distance(from, to).get() as u32
 }
 
+/// Whether a vehicle that serves one place as early as it may can serve another in time right behind it,
+/// where 0 is the depot. No contract.
+pub fn may_follow(instance: &Instance, from: u16, to: u16) -> bool {
+    let count = instance.customer_count();
+    if from > count || to > count {
+        return false;
+    }
+    let left = instance.ready(from) + if from == 0 { 0 } else { instance.service(from) };
+    left + instance.distance(from, to).get() <= instance.due(to)
+}
+
 /// How far a customer is from a place in tenths, and the customer.
 pub type Nearness = (u32, u16);
 

@@ -6,7 +6,7 @@ ghost use Rattle.search.specs.Searching.{Moves};
 use crate::drawing::{below, stop_count};
 use crate::fault::SearchFault;
 use crate::making::make;
-use crate::nearness::{arc, number_of, place_of};
+use crate::nearness::{arc, may_follow, number_of, place_of};
 use moves::{Move, Place};
 use rand_core::Rng;
 use solomon_reader::Instance;
@@ -20,18 +20,25 @@ const PASSED_OVER: usize = 100;
 struct Detour {
     to: Place,
     length: i64,
+    /// Whether a vehicle may be in time there, as far as the stops beside the place tell.
+    is_timely: bool,
 }
 
-/// By how many tenths a route gets longer where a customer goes before this position.
-fn detour_at(instance: &Instance, route: &[u16], position: usize, customer: u16) -> i64 {
+/// The detour of a customer to a place of a route, whose stops are given.
+fn detour_to(instance: &Instance, route: &[u16], to: Place, customer: u16) -> Detour {
+    let position = usize::from(to.position);
     let before = match position.checked_sub(1) {
         Some(last) => route.get(last).copied().unwrap_or(0),
         None => 0,
     };
     let behind = route.get(position).copied().unwrap_or(0);
-    let to = i64::from(arc(instance, before, customer));
+    let there = i64::from(arc(instance, before, customer));
     let on = i64::from(arc(instance, customer, behind));
-    to + on - i64::from(arc(instance, before, behind))
+    Detour {
+        to,
+        length: there + on - i64::from(arc(instance, before, behind)),
+        is_timely: may_follow(instance, before, customer) && may_follow(instance, customer, behind),
+    }
 }
 
 /// The better of the best place so far and this one, where the customer may go there. Now and then a
@@ -50,9 +57,10 @@ fn better_place<R: Rng>(
         from,
         to: detour.to,
     };
-    match plan.value(&candidate) {
-        Some(_) => Some(detour),
-        None => best,
+    if detour.is_timely && plan.value(&candidate).is_some() {
+        Some(detour)
+    } else {
+        best
     }
 }
 
@@ -70,12 +78,12 @@ fn best_in_route<R: Rng>(
     };
     let mut best = before;
     for position in 0..=route.len() {
-        let length = detour_at(plan.instance(), route.as_slice(), position, customer);
         let to = Place {
             route: number,
             position: number_of(position),
         };
-        best = better_place(plan, random, from, Detour { to, length }, best);
+        let detour = detour_to(plan.instance(), route.as_slice(), to, customer);
+        best = better_place(plan, random, from, detour, best);
     }
     best
 }

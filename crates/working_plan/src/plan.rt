@@ -9,7 +9,7 @@ ghost use Rattle.moves.specs.declared.fault.MoveFault.TheVariants.{NotFeasible};
 ghost use Rattle.working_plan.specs.Gains.{HasNoGain, IsBestGain};
 
 use crate::replacing::{copy_over, replace, replaced_by};
-use gains::{PairGains, best_gain};
+use gains::{PairGains, RouteGaps, best_gain};
 use moves::{Kind, Move, MoveFault, change_of, trees_of, value};
 use schedule::Feasible;
 use segments::PlanTrees;
@@ -18,8 +18,8 @@ use std::alloc::{AllocError, Global};
 use std::marker::Model;
 use tenths::Tenths;
 
-/// A plan of its instance, at its exact cost, which moves change in place, with the trees of its routes
-/// and the best gains between them. Contracts see the instance, the routes as lists and the cost.
+/// A plan of its instance, at its exact cost, which moves change in place, with the trees of its routes,
+/// the best gains between them and their gaps. Contracts see the instance, the routes as lists and the cost.
 #[derive(Drop)]
 pub struct WorkingPlan<'i> {
     alloc: Global,
@@ -27,6 +27,7 @@ pub struct WorkingPlan<'i> {
     trees: PlanTrees<'i>,
     cost: Tenths,
     gains: PairGains,
+    gaps: RouteGaps,
 }
 
 impl<'i> Model for WorkingPlan<'i> {
@@ -37,12 +38,13 @@ impl<'i> Model for WorkingPlan<'i> {
     ghost use Rattle.segments.specs.PlanTrees.{problem_of};
     ghost use Rattle.moves.specs.Trees.{visits_of, AreOfPlan};
     ghost use Rattle.gains.specs.Kept.{AreKept};
+    ghost use Rattle.gains.specs.Gaps.{AreGapsOf};
 
     ghost Value = { Solution };
 
     ghost view = { λ w. record { problem = problem_of w.trees; routes = lists w.routes.items; cost = w.cost } };
 
-    ghost invariant = { λ w. AreOfPlan w.trees × (visits_of w.trees ≡ lists w.routes.items) × (w.cost ≡ plan_cost (problem_of w.trees) (lists w.routes.items)) × AreKept (problem_of w.trees) (visits_of w.trees) w.gains };
+    ghost invariant = { λ w. AreOfPlan w.trees × (visits_of w.trees ≡ lists w.routes.items) × (w.cost ≡ plan_cost (problem_of w.trees) (lists w.routes.items)) × AreKept (problem_of w.trees) (visits_of w.trees) w.gains × AreGapsOf (problem_of w.trees) (visits_of w.trees) w.gaps };
 }
 
 /// A copy of routes.
@@ -83,6 +85,7 @@ impl<'i> WorkingPlan<'i> {
             trees,
             cost: plan.cost(),
             gains,
+            gaps: RouteGaps::new(alloc),
         })
     }
 
@@ -102,6 +105,7 @@ impl<'i> WorkingPlan<'i> {
             trees,
             cost: self.cost,
             gains,
+            gaps: RouteGaps::new(self.alloc),
         })
     }
 
@@ -121,6 +125,7 @@ impl<'i> WorkingPlan<'i> {
             trees,
             cost: self.cost,
             gains,
+            gaps: RouteGaps::new(self.alloc),
         })
     }
 
@@ -186,6 +191,7 @@ impl<'i> WorkingPlan<'i> {
         let replaced = replaced_by(&self.trees, &change);
         self.trees.law_of_limits();
         let cost = cost_after(self.cost, by);
+        self.gaps.forget();
         replace(self.alloc, &mut self.routes, &mut self.trees, &change)?;
         self.cost = cost;
         self.gains.follow(&replaced, self.routes.len());
@@ -193,20 +199,22 @@ impl<'i> WorkingPlan<'i> {
     }
 
     /// The best move of a kind where it makes the plan cheaper, or `None` where no move of the kind
-    /// does. The plan stays as it is. It takes no memory.
+    /// does. The plan stays as it is. Where memory is refused, it only takes longer.
     pub fn best_gain(&mut self, kind: Kind) -> Option<Move>
         ensures unchanged { self.new ≡ self.old }
         ensures gain { IfSome result (λ m. IsBestGain self.old.problem self.old.routes kind m) }
         ensures none { IfNone result (HasNoGain self.old.problem self.old.routes kind) }
     {
         let (trees, routes) = (&self.trees, self.routes.as_slice());
+        self.gaps.find(trees, routes);
+        let gaps = &self.gaps;
         // one search for each kind, compiled for it
         let found = match kind {
-            Kind::Relocate => best_gain(&mut self.gains, trees, routes, Kind::Relocate),
-            Kind::Exchange => best_gain(&mut self.gains, trees, routes, Kind::Exchange),
-            Kind::OrOpt => best_gain(&mut self.gains, trees, routes, Kind::OrOpt),
-            Kind::TwoOptStar => best_gain(&mut self.gains, trees, routes, Kind::TwoOptStar),
-            Kind::Cross => best_gain(&mut self.gains, trees, routes, Kind::Cross),
+            Kind::Relocate => best_gain(&mut self.gains, gaps, trees, routes, Kind::Relocate),
+            Kind::Exchange => best_gain(&mut self.gains, gaps, trees, routes, Kind::Exchange),
+            Kind::OrOpt => best_gain(&mut self.gains, gaps, trees, routes, Kind::OrOpt),
+            Kind::TwoOptStar => best_gain(&mut self.gains, gaps, trees, routes, Kind::TwoOptStar),
+            Kind::Cross => best_gain(&mut self.gains, gaps, trees, routes, Kind::Cross),
         };
         let (candidate, _) = found?;
         Some(candidate)

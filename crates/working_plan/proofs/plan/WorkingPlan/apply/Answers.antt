@@ -2,6 +2,7 @@ use Rattle.std.proofs.Common.{rules, ◌≡◌, length, sym, ◌∙◌, arith, t
 use Rattle.std.proofs.lemmas.Int.{ints}
 use Rattle.solomon_reader.specs.Lists.{lists}
 use Rattle.segments.specs.PlanTrees.{problem_of}
+use Rattle.moves.specs.Trees.{visits_of}
 use Rattle.working_plan.proofs.TreeChanges.{lists-length}
 use Rattle.working_plan.proofs.AppliedMoves.{first_known, second_known, cost_fits, applied, none_applied}
 use Rattle.working_plan.proofs.plan.WorkingPlan.apply.Goals as goal
@@ -25,16 +26,18 @@ replace-requires-clause-second_known c =
 
 pub invariant_of-self : goal.invariant_of-self
 invariant_of-self c =
-    none_applied c.self.inside.trees c.replace.new.trees (lists c.self.inside.routes.items) (lists c.replace.new.routes.items) c.self.inside.cost c.self.inside.gains
-    c.self.invariant.0 c.self.invariant.1 c.self.invariant.2 c.self.invariant.3 c.in_err-replace.ensures.problem c.in_err-replace.ensures.unchanged c.in_err-replace.ensures.trees
+    let t = none_applied c.self.inside.trees c.replace.new.trees (lists c.self.inside.routes.items) (lists c.replace.new.routes.items) c.self.inside.cost c.self.inside.gains
+    c.self.invariant.0 c.self.invariant.1 c.self.invariant.2 c.self.invariant.3 c.in_err-replace.ensures.problem c.in_err-replace.ensures.unchanged c.in_err-replace.ensures.trees in
+    (t.0, t.1, t.2, t.3, c.forget.ensures (problem_of c.replace.new.trees) (visits_of c.replace.new.trees))
 
 pub invariant_of-self-2 : goal.invariant_of-self-2
 invariant_of-self-2 c =
     let same : to_z w64 (of_z w64 c.in-Some.by) ≡ c.in-Some.by = omega (arith, ints) in
     let long : c.len.result ≡ length c.replace.new.routes.items = search rules in
     let count : c.len.result ≡ length (lists c.replace.new.routes.items) = long ∙ sym (lists-length c.replace.new.routes.items) in
-    applied c.self.inside.trees c.replace.new.trees (lists c.self.inside.routes.items) (lists c.replace.new.routes.items)
+    let t = applied c.self.inside.trees c.replace.new.trees (lists c.self.inside.routes.items) (lists c.replace.new.routes.items)
     c.args.candidate.now c.in-Some.by c.in-Some-change_of.change c.self.inside.cost c.cost_after-cost.result c.replaced_by-replaced.result c.len.result c.self.inside.gains c.follow.new.self
     c.self.invariant.0 c.self.invariant.1 c.self.invariant.2 c.self.invariant.3 (rw c.self.invariant.1 at c.in-Some.ensures) (rw c.self.invariant.1 at c.in-Some-change_of.ensures.1)
     c.in_ok-replace.ensures.problem c.in_ok-replace.ensures.routes c.in_ok-replace.ensures.trees (rw same at c.cost_after-cost.ensures)
-    c.replaced_by-replaced.ensures count c.follow.ensures
+    c.replaced_by-replaced.ensures count c.follow.ensures in
+    (t.0, t.1, t.2, t.3, c.forget.ensures (problem_of c.replace.new.trees) (visits_of c.replace.new.trees))

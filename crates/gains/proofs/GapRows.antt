@@ -1,0 +1,106 @@
+-- The gaps of routes, one after the other.
+use Rattle.std.proofs.Common.{◌≡◌, refl, sym, ap, subst, ◌∙◌, ℕ, ◌+◌, ◌-◌, ◌<◌, ◌≤◌, false, List, [], ◌∷◌, ◌++◌, length, map, get_or, take, drop, arith, inl, inr}
+use Rattle.std.specs.Prelude.{ℤ, pos, ◌≤ℤ◌, Option, Vec}
+use Rattle.std.specs.declared.alloc.Global.{Global}
+use Rattle.std.proofs.lemmas.Bool.{cases_lt}
+use Rattle.std.proofs.lemmas.List.{get_or_append_left, get_or_past, get_or_push, length_push, map-append, take_rest}
+use Rattle.std.proofs.Math.ListN.{length-map}
+use Rattle.solomon_reader.specs.Problem.{Problem, due, ready, service}
+use Rattle.solomon_reader.specs.Moves.{route}
+use Rattle.segments.specs.Segments.{Summary, join, first_of}
+use Rattle.segments.specs.Linked.{chain}
+use Rattle.segments.specs.PlanTrees.{problem_of, routes_of}
+use Rattle.segments.specs.declared.plan_trees.PlanTrees.{PlanTrees}
+use Rattle.std.specs.Prelude.{slice_range}
+use Rattle.moves.specs.Costs.{segment_of}
+use Rattle.moves.specs.Trees.{visits_of, AreOfPlan}
+use Rattle.moves.proofs.JoinedStops.{piece_is}
+use Rattle.gains.specs.declared.cuts.Cut.{Cut}
+use Rattle.gains.specs.declared.route_gaps.Gap.{Gap}
+use Rattle.gains.specs.Cuts.{cut_at, change_apart}
+use Rattle.gains.specs.Gaps.{IsGap, AreGaps, MayStand}
+use Rattle.gains.proofs.SwapBounds.{low_enough, cut_is}
+
+-- one gap more
+pub gaps_next : (p : Problem) (r : List ℕ) (gaps : List Gap) (g : Gap) (n : ℕ) → length gaps ≡ n → AreGaps p r gaps → IsGap p r n g → AreGaps p r (gaps ++ g ∷ [])
+gaps_next p r gaps g n long are is k d below =
+    elim (cases_lt k (length gaps)) [
+      | inl earlier ↦ subst (IsGap p r k) (sym (get_or_append_left gaps (g ∷ []) d k earlier)) (are k d earlier)
+      | inr past ↦
+          let at : length gaps ≡ k = omega (arith, below, past, length_push gaps g) in
+          let same : n ≡ k = omega (arith, at, long) in
+          subst (IsGap p r k) (sym (get_or_push gaps g d k at)) (subst (λ i. IsGap p r i g) same is)
+    ]
+
+no_gaps : (p : Problem) (r : List ℕ) → AreGaps p r []
+no_gaps p r k d below = absurd (omega (arith, below))
+
+-- the gaps of one route more
+pub rows_next : (p : Problem) (routes : List (List ℕ)) (rows : List (Vec Gap Global)) (v : Vec Gap Global) (n : ℕ) → length rows ≡ n
+    → ((a : ℕ) → AreGaps p (route routes a) (get_or (map (λ (v : Vec Gap Global). v.items) rows) a [])) → AreGaps p (route routes n) v.items
+    → (a : ℕ) → AreGaps p (route routes a) (get_or (map (λ (v : Vec Gap Global). v.items) (rows ++ v ∷ [])) a [])
+rows_next p routes rows v n long are is a =
+    let items : Vec Gap Global → List Gap = λ v. v.items in
+    let known = map items rows in
+    let count : length known ≡ length rows = length-map rows items in
+    let pushed : map items (rows ++ v ∷ []) ≡ known ++ v.items ∷ [] = map-append items rows (v ∷ []) in
+    let P : List Gap → Type 0 = λ gs. AreGaps p (route routes a) gs in
+    subst (λ ls. P (get_or ls a [])) (sym pushed)
+    (elim (cases_lt a (length known)) [
+      | inl earlier ↦ subst P (sym (get_or_append_left known (v.items ∷ []) [] a earlier)) (are a)
+      | inr past ↦ elim (cases_lt (length known) a) [
+        | inl behind ↦ subst P (sym (get_or_past (known ++ v.items ∷ []) a [] (omega (arith, behind, length_push known v.items)))) (no_gaps p (route routes a))
+        | inr here ↦
+            let at : length known ≡ a = omega (arith, past, here) in
+            let same : n ≡ a = omega (arith, at, long, count) in
+            subst P (sym (get_or_push known v.items [] a at)) (subst (λ i. AreGaps p (route routes i) v.items) same is)
+      ]
+    ])
+
+-- what a search through the gaps has found before gap k
+abbrev pub LeastBefore : Problem → List ℕ → Cut → ℕ → ℤ → Type 0
+LeastBefore p r c k x = (i : ℕ) → i < k → MayStand p r i c → x ≤ℤ change_apart p c (cut_at r i 0)
+
+-- what stands round no stop in a gap
+abbrev pub gap_cut : Gap → Cut
+gap_cut g = record { before = g.before; some = false; first = 0; last = 0; behind = g.behind }
+
+module _ (p : Problem) (r : List ℕ) (c : Cut) (k : ℕ) (g : Gap) (gap : IsGap p r k g) where
+  gap_is : gap_cut g ≡ cut_at r k 0
+  gap_is =
+      let none : k ≡ k + 0 = omega arith in
+      cut_is r k 0 (gap_cut g) (record { before = gap.before; some = refl; first = refl; last = refl; behind = gap.behind ∙ ap (λ n. first_of (drop n r)) none })
+
+  -- a gap is taken
+  pub gap_taken : (x y : ℤ) → LeastBefore p r c k x → y ≤ℤ x → y ≤ℤ change_apart p c (gap_cut g) → LeastBefore p r c (k + 1) y
+  gap_taken x y h less here i below stands = elim (cases_lt i k) [
+    | inl earlier ↦ low_enough y x (change_apart p c (cut_at r i 0)) less (h i earlier stands)
+    | inr past ↦
+        let e : k ≡ i = omega (arith, below, past) in
+        subst (λ m. y ≤ℤ change_apart p c (cut_at r m 0)) e (subst (λ q. y ≤ℤ change_apart p c q) gap_is here)
+  ]
+
+  -- a gap is passed over where the chain may not stand
+  pub gap_passed : (x : ℤ) → LeastBefore p r c k x → ((g.leaves ≤ℤ pos (due p c.first)) → (pos (ready p c.last + service p c.last) ≤ℤ g.latest) → ⊥) → LeastBefore p r c (k + 1) x
+  gap_passed x h closed i below stands = elim (cases_lt i k) [
+    | inl earlier ↦ h i earlier stands
+    | inr past ↦
+        let e : k ≡ i = omega (arith, below, past) in
+        let t = stands g (subst (λ m. IsGap p r m g) e gap) in absurd (closed t.0 t.1)
+  ]
+
+-- the stops of a plan's route before a position, and from there on, by the spans of its tree
+pub front_is : (t : PlanTrees) (a j : ℕ) (p : Problem) (items : List Summary) (o : Option Summary) → AreOfPlan t → p ≡ problem_of t → items ≡ get_or (routes_of t) a []
+    → o ≡ chain (join p) (slice_range items 0 j) → segment_of (problem_of t) (take j (route (visits_of t) a)) ≡ o
+front_is t a j p items o h same read is =
+    let none : j ≡ 0 + j = omega arith in
+    piece_is t (record { route = a; position = 0; length = j }) p items o h same read (is ∙ ap (λ n. chain (join p) (slice_range items 0 n)) none)
+
+pub back_is : (t : PlanTrees) (a j end : ℕ) (p : Problem) (items : List Summary) (o : Option Summary) → AreOfPlan t → p ≡ problem_of t → items ≡ get_or (routes_of t) a []
+    → end ≡ length (route (visits_of t) a) → j ≤ end → o ≡ chain (join p) (slice_range items j end) → segment_of (problem_of t) (drop j (route (visits_of t) a)) ≡ o
+back_is t a j end p items o h same read long within is =
+    let sum : end ≡ j + (end - j) = omega (arith, within) in
+    let r = route (visits_of t) a in
+    let whole : take (end - j) (drop j r) ≡ drop j r = ap (λ n. take (n - j) (drop j r)) long ∙ take_rest r j in
+    sym (ap (segment_of (problem_of t)) whole)
+    ∙ piece_is t (record { route = a; position = j; length = end - j }) p items o h same read (is ∙ ap (λ n. chain (join p) (slice_range items j n)) sum)
