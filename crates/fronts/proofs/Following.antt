@@ -1,59 +1,47 @@
 -- Bounds on what may follow.
-use Rattle.std.proofs.Common.{◌≡◌, refl, ℕ, ◌+◌, ◌*◌, ◌-◌, ◌<◌, ◌≤◌, Bool, true, false, ◌&&◌, ◌||◌, eqb, List, [], ◌∷◌, arith, ap, sym, ◌∙◌, inl, inr, ◌⊎◌}
+use Rattle.std.proofs.Common.{◌≡◌, refl, ℕ, ◌+◌, ◌*◌, ◌-◌, ◌<◌, ◌≤◌, eqb, List, [], ◌∷◌, arith, ap, sym, inl, inr, ◌⊎◌}
 use Rattle.std.specs.Prelude.{ℤ, pos, ◌+ℤ◌, ◌-ℤ◌, ◌≤ℤ◌, IsTrue}
 use Rattle.std.proofs.lemmas.Int.{ints}
-use Rattle.std.proofs.lemmas.Bool.{eq-eqb, or_left, or_right, and_from, both_ways}
+use Rattle.std.proofs.lemmas.Bool.{eq-eqb, or_left}
 use Rattle.std.proofs.lemmas.List.Sums.{sum_by-cons}
 use Rattle.solomon_reader.specs.declared.limits.TheConstants.{MOST_PRICE, MOST_CAPACITY}
 use Rattle.solomon_reader.specs.Distance.{distance}
 use Rattle.solomon_reader.specs.Plan.{load_of}
-use Rattle.solomon_reader.specs.Problem.{Problem, IsCustomer, demand, due}
-use Rattle.solomon_reader.specs.Region.{Region}
+use Rattle.solomon_reader.specs.Problem.{IsCustomer, demand, due}
 use Rattle.solomon_reader.specs.Relaxed.{price_of}
-use Rattle.solomon_reader.specs.Remembering.{near}
-use Rattle.solomon_reader.specs.States.{State, begins, step, CanStep, CanEnd, Completes, value_with}
+use Rattle.solomon_reader.specs.States.{Pricing, State, begins, step, CanStep, CanEnd, Completes, value_with, IsPriced}
 use Rattle.fronts.specs.declared.front.Front.{Front}
 use Rattle.fronts.specs.declared.bound.Bound.{Bound}
-use Rattle.fronts.specs.Completions.{most_paid, IsSmall, StartsWith, Holds, IsBound, StartsIn, IsBoundAmong, IsEndBound, IsBoundWith, IsOnward, IsBelowStep, IsJoined}
-use Rattle.fronts.specs.Fronts.{bare_state, end_cost, IsTask, IsPriced, IsAfter}
-use Rattle.fronts.specs.Memories.{place_of}
-use Rattle.fronts.proofs.Places.{place_none}
+use Rattle.fronts.specs.Completions.{most_paid, IsSmall, Holds, IsBound, StartsIn, IsBoundAmong, IsEndBound, IsBoundWith, IsOnward, IsBelowStep, IsJoined}
+use Rattle.fronts.specs.Fronts.{bare_state, end_cost, IsTask, IsAfter}
+use Rattle.solomon_reader.specs.Memories.{place_of}
+use Rattle.solomon_reader.proofs.Places.{near_at}
+use Rattle.solomon_reader.proofs.Completions.{never_back}
 
-module _ (p : Problem) (g : Region) (k : ℕ) (prices : List ℤ) where
-  load_fits : (s : List ℕ) (a : State) → a.load ≤ p.capacity → Completes p g k prices a s → a.load + load_of p s ≤ p.capacity
+module _ (q : Pricing) where
+  load_fits : (s : List ℕ) (a : State) → a.load ≤ q.problem.capacity → Completes q a s → a.load + load_of q.problem s ≤ q.problem.capacity
   load_fits [] a light h = omega arith
-  load_fits (j ∷ s) a light h = omega (arith, load_fits s (step p k prices a j) h.0.load h.1, sum_by-cons (demand p) j s)
+  load_fits (j ∷ s) a light h = omega (arith, load_fits s (step q a j) h.0.load h.1, sum_by-cons (demand q.problem) j s)
 
-  pub room_whole : (s : List ℕ) (a : State) → Completes p g k prices a s → load_of p s ≤ p.capacity
+  pub room_whole : (s : List ℕ) (a : State) → Completes q a s → load_of q.problem s ≤ q.problem.capacity
   room_whole [] a h = omega arith
-  room_whole (j ∷ s) a h = omega (arith, load_fits s (step p k prices a j) h.0.load h.1, sum_by-cons (demand p) j s)
+  room_whole (j ∷ s) a h = omega (arith, load_fits s (step q a j) h.0.load h.1, sum_by-cons (demand q.problem) j s)
 
-  module _ (task : IsTask p g prices) where
-    price_small : (j : ℕ) → IsCustomer p j → IsPriced (price_of prices j)
+  module _ (task : IsTask q.problem q.region q.prices) where
+    price_small : (j : ℕ) → IsCustomer q.problem j → IsPriced (price_of q.prices j)
     price_small j c = task.priced (j - 1) (pos 0) (omega (arith, task.count, c.0, c.1))
 
-    least_whole : (s : List ℕ) (a : State) → Completes p g k prices a s → a.cost ≤ℤ (value_with p k prices a s +ℤ pos (MOST_PRICE * load_of p s))
+    least_whole : (s : List ℕ) (a : State) → Completes q a s → a.cost ≤ℤ (value_with q a s +ℤ pos (MOST_PRICE * load_of q.problem s))
     least_whole [] a h = omega (arith, ints)
     least_whole (j ∷ s) a h =
-        omega (arith, ints, least_whole s (step p k prices a j) h.1, (price_small j h.0.customer).high, task.carried j h.0.customer, sum_by-cons (demand p) j s)
+        omega (arith, ints, least_whole s (step q a j) h.1, (price_small j h.0.customer).high, task.carried j h.0.customer, sum_by-cons (demand q.problem) j s)
 
-    pub paid_little : p.capacity ≤ MOST_CAPACITY → (s : List ℕ) (a : State) → Completes p g k prices a s → a.cost ≤ℤ (value_with p k prices a s +ℤ pos most_paid)
+    pub paid_little : q.problem.capacity ≤ MOST_CAPACITY → (s : List ℕ) (a : State) → Completes q a s → a.cost ≤ℤ (value_with q a s +ℤ pos most_paid)
     paid_little held s a h = omega (arith, ints, least_whole s a h, room_whole s a h, held)
 
-  -- after a step to j that comes from v the next stop isn't v, where j's neighbour list holds v
-  pub never_back : (a : State) (s : List ℕ) (v j n : ℕ) → n ≡ v → IsTrue (a.memory v) → place_of p k j v < 16 → Completes p g k prices (step p k prices a j) s → ¬ StartsWith n s
-  never_back a [] v j n same remembered low h starts = starts
-  never_back a (i ∷ s) v j n same remembered low h starts =
-      let e : i ≡ v = starts ∙ same in
-      both_ways ((eqb v j) || (a.memory v && near p k j v)) (rw e at h.0.fresh) (or_right (eqb v j) _ (and_from _ _ remembered (listed (near p k j v) refl)))
-    where
-      listed : (b : Bool) → b ≡ near p k j v → near p k j v ≡ true
-      listed true e = sym e
-      listed false e = absurd (omega (arith, low, place_none p j k v (sym e)))
-
-module _ (p : Problem) (g : Region) (k : ℕ) (prices : List ℤ) (task : IsTask p g prices) (held : p.capacity ≤ MOST_CAPACITY) where
+module _ (q : Pricing) (task : IsTask q.problem q.region q.prices) (held : q.problem.capacity ≤ MOST_CAPACITY) where
   -- of anything that may follow
-  pub bound_whole : (v t : ℕ) (b : Bound) → p.capacity ≡ b.room → (b.least +ℤ pos most_paid) ≡ pos 0 → (b.other +ℤ pos most_paid) ≡ pos 0 → IsBound p g k prices v t b
+  pub bound_whole : (v t : ℕ) (b : Bound) → q.problem.capacity ≡ b.room → (b.least +ℤ pos most_paid) ≡ pos 0 → (b.other +ℤ pos most_paid) ≡ pos 0 → IsBound q v t b
   bound_whole v t b room least other = record {
     small = record {
       room = omega (arith, room, held);
@@ -61,17 +49,17 @@ module _ (p : Problem) (g : Region) (k : ℕ) (prices : List ℤ) (task : IsTask
       other = record { low = omega (arith, ints, other); high = omega (arith, ints, other) };
     };
     holds = λ a s last time remembered h. record {
-      room = omega (arith, room_whole p g k prices s a h, room);
-      least = omega (arith, ints, least, paid_little p g k prices task held s a h);
-      other = λ _. omega (arith, ints, other, paid_little p g k prices task held s a h);
+      room = omega (arith, room_whole q s a h, room);
+      least = omega (arith, ints, least, paid_little q task held s a h);
+      other = λ _. omega (arith, ints, other, paid_little q task held s a h);
     };
   }
 
   module _ (f : Front) (v t : ℕ) (last_is : f.last ≡ v) (time_is : f.time ≡ t) (load : f.load ≡ 0) (cost : f.cost ≡ pos 0) where
-    begins_no_later : (a : State) (j : ℕ) → a.last ≡ v → t ≤ a.time → begins p (bare_state f) j ≤ begins p a j
-    begins_no_later a j last later = omega (arith, later, time_is, ap (λ (i : ℕ). distance p i j) last, ap (λ (i : ℕ). distance p i j) last_is)
+    begins_no_later : (a : State) (j : ℕ) → a.last ≡ v → t ≤ a.time → begins q.problem (bare_state f) j ≤ begins q.problem a j
+    begins_no_later a j last later = omega (arith, later, time_is, ap (λ (i : ℕ). distance q.problem i j) last, ap (λ (i : ℕ). distance q.problem i j) last_is)
 
-    can_step_sooner : (a : State) (j : ℕ) → a.last ≡ v → t ≤ a.time → CanStep p g a j → CanStep p g (bare_state f) j
+    can_step_sooner : (a : State) (j : ℕ) → a.last ≡ v → t ≤ a.time → CanStep q a j → CanStep q (bare_state f) j
     can_step_sooner a j last later can = record {
       customer = can.customer;
       allowed = rw last_is (rw last at can.allowed);
@@ -80,60 +68,60 @@ module _ (p : Problem) (g : Region) (k : ℕ) (prices : List ℤ) (task : IsTask
       fresh = refl;
     }
 
-    can_end_sooner : (a : State) → a.last ≡ v → t ≤ a.time → CanEnd p g a → CanEnd p g (bare_state f)
+    can_end_sooner : (a : State) → a.last ≡ v → t ≤ a.time → CanEnd q a → CanEnd q (bare_state f)
     can_end_sooner a last later can = record {
       allowed = rw last_is (rw last at can.allowed);
-      closing = omega (arith, later, time_is, can.closing, ap (λ (i : ℕ). distance p i 0) last, ap (λ (i : ℕ). distance p i 0) last_is);
+      closing = omega (arith, later, time_is, can.closing, ap (λ (i : ℕ). distance q.problem i 0) last, ap (λ (i : ℕ). distance q.problem i 0) last_is);
     }
 
-    pub bound_none : (b : Bound) → IsSmall b → b.other ≡ b.least → (CanEnd p g (bare_state f) → ⊥) ⊎ (b.least ≤ℤ end_cost p f) → IsEndBound p g k prices v t b
+    pub bound_none : (b : Bound) → IsSmall b → b.other ≡ b.least → (CanEnd q (bare_state f) → ⊥) ⊎ (b.least ≤ℤ end_cost q.problem f) → IsEndBound q v t b
     bound_none b small same end = record { small = small; holds = holds }
       where
-        ends : (a : State) → a.last ≡ v → t ≤ a.time → CanEnd p g a → b.least ≤ℤ end_cost p f
+        ends : (a : State) → a.last ≡ v → t ≤ a.time → CanEnd q a → b.least ≤ℤ end_cost q.problem f
         ends a last later can = elim end [
           | inl never ↦ absurd (never (can_end_sooner a last later can))
           | inr low ↦ low
         ]
 
-        holds : (a : State) (s : List ℕ) → a.last ≡ v → t ≤ a.time → IsTrue (a.memory v) → StartsIn (λ _. ⊥) s → Completes p g k prices a s → Holds p k prices a s b
+        holds : (a : State) (s : List ℕ) → a.last ≡ v → t ≤ a.time → IsTrue (a.memory v) → StartsIn (λ _. ⊥) s → Completes q a s → Holds q a s b
         holds a [] last later remembered below h =
-            let low : (a.cost +ℤ b.least) ≤ℤ value_with p k prices a [] = omega (arith, ints, ends a last later h, cost, ap (λ (i : ℕ). distance p i 0) last, ap (λ (i : ℕ). distance p i 0) last_is) in
+            let low : (a.cost +ℤ b.least) ≤ℤ value_with q a [] = omega (arith, ints, ends a last later h, cost, ap (λ (i : ℕ). distance q.problem i 0) last, ap (λ (i : ℕ). distance q.problem i 0) last_is) in
             record { room = omega arith; least = low; other = λ _. omega (arith, ints, same, low) }
         holds a (j ∷ s) last later remembered below h = absurd below
 
-    pub bound_no : (j : ℕ) (b : Bound) → IsSmall b → ¬ CanStep p g (bare_state f) j → IsBoundWith p g k prices v t j b b
+    pub bound_no : (j : ℕ) (b : Bound) → IsSmall b → ¬ CanStep q (bare_state f) j → IsBoundWith q v t j b b
     bound_no j b small cannot = record {
       small = small;
       older = λ a s h. h;
       on = λ a s last later remembered h. absurd (cannot (can_step_sooner a j last later h.0));
     }
 
-    module _ (j : ℕ) (b : Bound) (next : Front) (on : Bound) (least z : ℤ) (is : z ≡ least) (out : Bound) (after : IsAfter p prices f j next)
-        (bound : IsBound p g k prices j next.time on) (onward : IsOnward p g k prices v j next.time least) (joined_z : IsJoined b j next.load next.cost on.room z out) where
+    module _ (j : ℕ) (b : Bound) (next : Front) (on : Bound) (least z : ℤ) (is : z ≡ least) (out : Bound) (after : IsAfter q.problem q.prices f j next)
+        (bound : IsBound q j next.time on) (onward : IsOnward q v j next.time least) (joined_z : IsJoined b j next.load next.cost on.room z out) where
       joined : IsJoined b j next.load next.cost on.room least out
       joined = rw is at joined_z
 
-      soon : (a : State) → a.last ≡ v → t ≤ a.time → next.time ≤ (step p k prices a j).time
+      soon : (a : State) → a.last ≡ v → t ≤ a.time → next.time ≤ (step q a j).time
       soon a last later = omega (arith, after.time, begins_no_later a j last later)
 
-      remembers : (a : State) → IsTrue ((step p k prices a j).memory j)
+      remembers : (a : State) → IsTrue ((step q a j).memory j)
       remembers a = or_left (eqb j j) _ (eq-eqb j j refl)
 
       -- what is below the step is below the value with it
-      reach : (z : ℤ) → IsBelowStep next.cost least z → (a : State) (s : List ℕ) → a.last ≡ v → t ≤ a.time → IsTrue (a.memory v) → Completes p g k prices a (j ∷ s) → (a.cost +ℤ z) ≤ℤ value_with p k prices a (j ∷ s)
+      reach : (z : ℤ) → IsBelowStep next.cost least z → (a : State) (s : List ℕ) → a.last ≡ v → t ≤ a.time → IsTrue (a.memory v) → Completes q a (j ∷ s) → (a.cost +ℤ z) ≤ℤ value_with q a (j ∷ s)
       reach z below a s last later remembered h =
-          let paid = paid_little p g k prices task held (j ∷ s) a h in
-          let far : distance p a.last j ≡ distance p f.last j = omega (arith, ap (λ (i : ℕ). distance p i j) last, ap (λ (i : ℕ). distance p i j) last_is) in
-          let low : z ≤ℤ (value_with p k prices a (j ∷ s) -ℤ a.cost) =
+          let paid = paid_little q task held (j ∷ s) a h in
+          let far : distance q.problem a.last j ≡ distance q.problem f.last j = omega (arith, ap (λ (i : ℕ). distance q.problem i j) last, ap (λ (i : ℕ). distance q.problem i j) last_is) in
+          let low : z ≤ℤ (value_with q a (j ∷ s) -ℤ a.cost) =
           below _ (omega (arith, ints, onward.least a s last remembered (soon a last later) h.0 h.1, after.cost, cost, far)) (omega (arith, ints, paid)) in
           omega (arith, ints, low)
 
-      at_step : (a : State) (s : List ℕ) → a.last ≡ v → t ≤ a.time → IsTrue (a.memory v) → Completes p g k prices a (j ∷ s) → Holds p k prices a (j ∷ s) out
+      at_step : (a : State) (s : List ℕ) → a.last ≡ v → t ≤ a.time → IsTrue (a.memory v) → Completes q a (j ∷ s) → Holds q a (j ∷ s) out
       at_step a s last later remembered h =
-          let on_it = bound.holds (step p k prices a j) s refl (soon a last later) (remembers a) h.1 in
-          let whole = room_whole p g k prices (j ∷ s) a h in
+          let on_it = bound.holds (step q a j) s refl (soon a last later) (remembers a) h.1 in
+          let whole = room_whole q (j ∷ s) a h in
           record {
-            room = joined.step_room _ (omega (arith, on_it.room, after.load, load, sum_by-cons (demand p) j s)) (omega (arith, whole, held));
+            room = joined.step_room _ (omega (arith, on_it.room, after.load, load, sum_by-cons (demand q.problem) j s)) (omega (arith, whole, held));
             least = reach out.least joined.step_least a s last later remembered h;
             other = λ apart. elim joined.other [
               | inl next_is ↦ absurd (apart (sym next_is.0))
@@ -141,7 +129,7 @@ module _ (p : Problem) (g : Region) (k : ℕ) (prices : List ℤ) (task : IsTask
             ];
           }
 
-      older : (a : State) (s : List ℕ) → Holds p k prices a s b → Holds p k prices a s out
+      older : (a : State) (s : List ℕ) → Holds q a s b → Holds q a s out
       older a s h = record {
         room = omega (arith, h.room, joined.room);
         least = omega (arith, ints, h.least, joined.least);
@@ -151,51 +139,51 @@ module _ (p : Problem) (g : Region) (k : ℕ) (prices : List ℤ) (task : IsTask
         ];
       }
 
-      pub bound_yes : IsBoundWith p g k prices v t j b out
+      pub bound_yes : IsBoundWith q v t j b out
       bound_yes = record { small = joined.small; older = older; on = at_step }
 
-  pub bound_more : (v t j : ℕ) (P Q : ℕ → Type 0) (b out : Bound) → ((i : ℕ) → Q i → P i ⊎ (i ≡ j)) → IsBoundAmong p g k prices v t P b → IsBoundWith p g k prices v t j b out → IsBoundAmong p g k prices v t Q out
+  pub bound_more : (v t j : ℕ) (P Q : ℕ → Type 0) (b out : Bound) → ((i : ℕ) → Q i → P i ⊎ (i ≡ j)) → IsBoundAmong q v t P b → IsBoundWith q v t j b out → IsBoundAmong q v t Q out
   bound_more v t j P Q b out split so_far with_it = record { small = with_it.small; holds = holds }
     where
-      holds : (a : State) (s : List ℕ) → a.last ≡ v → t ≤ a.time → IsTrue (a.memory v) → StartsIn Q s → Completes p g k prices a s → Holds p k prices a s out
+      holds : (a : State) (s : List ℕ) → a.last ≡ v → t ≤ a.time → IsTrue (a.memory v) → StartsIn Q s → Completes q a s → Holds q a s out
       holds a [] last later remembered starts h = with_it.older a [] (so_far.holds a [] last later remembered tt h)
       holds a (i ∷ s) last later remembered starts h = elim (split i starts) [
         | inl old ↦ with_it.older a (i ∷ s) (so_far.holds a (i ∷ s) last later remembered old h)
         | inr same ↦ rw same (with_it.on a s last later remembered (rw same at h))
       ]
 
-  pub bound_fewer : (v t : ℕ) (P Q : ℕ → Type 0) (b : Bound) → ((i : ℕ) → Q i → P i) → IsBoundAmong p g k prices v t P b → IsBoundAmong p g k prices v t Q b
+  pub bound_fewer : (v t : ℕ) (P Q : ℕ → Type 0) (b : Bound) → ((i : ℕ) → Q i → P i) → IsBoundAmong q v t P b → IsBoundAmong q v t Q b
   bound_fewer v t P Q b fewer h = record { small = h.small; holds = holds }
     where
-      holds : (a : State) (s : List ℕ) → a.last ≡ v → t ≤ a.time → IsTrue (a.memory v) → StartsIn Q s → Completes p g k prices a s → Holds p k prices a s b
+      holds : (a : State) (s : List ℕ) → a.last ≡ v → t ≤ a.time → IsTrue (a.memory v) → StartsIn Q s → Completes q a s → Holds q a s b
       holds a [] last later remembered starts c = h.holds a [] last later remembered tt c
       holds a (i ∷ s) last later remembered starts c = h.holds a (i ∷ s) last later remembered (fewer i starts) c
 
   -- of all that follows, where the customers are those that may be reached in time
-  pub bound_all : (v t : ℕ) (P : ℕ → Type 0) (b : Bound) → ((i : ℕ) → IsCustomer p i → t + distance p v i ≤ due p i → P i) → IsBoundAmong p g k prices v t P b → IsBound p g k prices v t b
+  pub bound_all : (v t : ℕ) (P : ℕ → Type 0) (b : Bound) → ((i : ℕ) → IsCustomer q.problem i → t + distance q.problem v i ≤ due q.problem i → P i) → IsBoundAmong q v t P b → IsBound q v t b
   bound_all v t P b reached so_far = record { small = so_far.small; holds = holds }
     where
-      holds : (a : State) (s : List ℕ) → a.last ≡ v → t ≤ a.time → IsTrue (a.memory v) → Completes p g k prices a s → Holds p k prices a s b
+      holds : (a : State) (s : List ℕ) → a.last ≡ v → t ≤ a.time → IsTrue (a.memory v) → Completes q a s → Holds q a s b
       holds a [] last later remembered h = so_far.holds a [] last later remembered tt h
-      holds a (i ∷ s) last later remembered h = so_far.holds a (i ∷ s) last later remembered (reached i h.0.customer (omega (arith, later, h.0.due, ap (λ (u : ℕ). distance p u i) last))) h
+      holds a (i ∷ s) last later remembered h = so_far.holds a (i ∷ s) last later remembered (reached i h.0.customer (omega (arith, later, h.0.due, ap (λ (u : ℕ). distance q.problem u i) last))) h
 
-module _ (p : Problem) (g : Region) (k : ℕ) (prices : List ℤ) where
+module _ (q : Pricing) where
   -- a bound of an earlier time holds later
-  pub bound_later : (v t w u : ℕ) (b : Bound) → v ≡ w → t ≤ u → IsBound p g k prices v t b → IsBound p g k prices w u b
+  pub bound_later : (v t w u : ℕ) (b : Bound) → v ≡ w → t ≤ u → IsBound q v t b → IsBound q w u b
   bound_later v t w u b same le h =
-      let later : IsBound p g k prices v u b = record { small = h.small; holds = λ a s last later remembered c. h.holds a s last (omega (arith, le, later)) remembered c } in
+      let later : IsBound q v u b = record { small = h.small; holds = λ a s last later remembered c. h.holds a s last (omega (arith, le, later)) remembered c } in
       rw same at later
 
   -- after a step to j that comes from v
-  pub onward_least : (v j t : ℕ) (on : Bound) (z : ℤ) → z ≡ on.least → IsBound p g k prices j t on → IsOnward p g k prices v j t z
+  pub onward_least : (v j t : ℕ) (on : Bound) (z : ℤ) → z ≡ on.least → IsBound q j t on → IsOnward q v j t z
   onward_least v j t on z is h = rw is (record {
     cut = h.small.least;
-    least = λ a s last remembered later can c. (h.holds (step p k prices a j) s refl later (or_left (eqb j j) _ (eq-eqb j j refl)) c).least;
+    least = λ a s last remembered later can c. (h.holds (step q a j) s refl later (or_left (eqb j j) _ (eq-eqb j j refl)) c).least;
   })
 
-  pub onward_other : (v j t : ℕ) (on : Bound) (z : ℤ) → z ≡ on.other → on.next ≡ v → place_of p k j v < 16 → IsBound p g k prices j t on → IsOnward p g k prices v j t z
+  pub onward_other : (v j t : ℕ) (on : Bound) (z : ℤ) → z ≡ on.other → on.next ≡ v → place_of q.problem q.neighbours j v < 16 → IsBound q j t on → IsOnward q v j t z
   onward_other v j t on z is next low h = rw is (record {
     cut = h.small.other;
     least = λ a s last remembered later can c.
-        (h.holds (step p k prices a j) s refl later (or_left (eqb j j) _ (eq-eqb j j refl)) c).other (never_back p g k prices a s v j on.next next remembered low c);
+        (h.holds (step q a j) s refl later (or_left (eqb j j) _ (eq-eqb j j refl)) c).other (never_back q a s v j on.next next remembered (near_at q.problem j q.neighbours v low) c);
   })

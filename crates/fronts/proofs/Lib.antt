@@ -1,7 +1,7 @@
 pub mod Flagged
 pub mod Tabled
 pub mod Narrowing
-pub mod Places
+pub mod Listed
 pub mod Recalling
 pub mod Following
 pub mod Stepping

@@ -4,8 +4,9 @@ use Rattle.std.proofs.lemmas.Nat.Bits.{bit_at_above, bit_at-zero}
 use Rattle.std.proofs.lemmas.Bool.{cases_Bool, cases_eq, eq-eqb, ne_eqb, or_left, false_from_ne_true, both_ways}
 use Rattle.solomon_reader.specs.Problem.{Problem}
 use Rattle.solomon_reader.specs.Remembering.{near}
-use Rattle.fronts.specs.Memories.{has_bit, place_of, recalls, IsNeighbourList, Keeps}
-use Rattle.fronts.proofs.Places.{place_none, place_near}
+use Rattle.solomon_reader.specs.Memories.{has_bit, place_of, recalls}
+use Rattle.fronts.specs.Memories.{IsNeighbourList, Keeps}
+use Rattle.solomon_reader.proofs.Places.{place_none, place_near}
 
 -- the places below i were looked at: the first is kept, and each other one whose row the memory has
 pub record Holds (p : Problem) (k v memory : ℕ) (list : List ℕ) (i after : ℕ) : Type 0 where

@@ -2,9 +2,7 @@
 use Rattle.std.specs.Prelude.{◌≡◌, ℕ, ◌+◌, ◌*◌, ◌≤◌, List, [], ◌∷◌, ℤ, pos, ◌+ℤ◌, ◌≤ℤ◌, IsTrue, ◌⊎◌}
 use Rattle.solomon_reader.specs.declared.limits.TheConstants.{MOST_PRICE, MOST_CAPACITY}
 use Rattle.solomon_reader.specs.Plan.{load_of}
-use Rattle.solomon_reader.specs.Problem.{Problem}
-use Rattle.solomon_reader.specs.Region.{Region}
-use Rattle.solomon_reader.specs.States.{State, step, CanStep, Completes, value_with}
+use Rattle.solomon_reader.specs.States.{Pricing, State, step, CanStep, Completes, value_with, StartsWith}
 use Rattle.fronts.specs.declared.bound.Bound.{Bound}
 use Rattle.fronts.specs.declared.bound.RowBound.{RowBound}
 
@@ -22,21 +20,16 @@ pub record IsSmall (b : Bound) : Type 0 where
   pub least : IsCut b.least
   pub other : IsCut b.other
 
--- the first of the stops is n
-abbrev pub StartsWith : ℕ → List ℕ → Type 0
-StartsWith n [] = ⊥
-StartsWith n (j ∷ s) = j ≡ n
-
 -- the stops load no more than the room, and change the reduced cost by no less than the least; by no less than the other one, where they don't start with the next customer
-pub record Holds (p : Problem) (k : ℕ) (prices : List ℤ) (a : State) (s : List ℕ) (b : Bound) : Type 0 where
-  pub room : load_of p s ≤ b.room
-  pub least : (a.cost +ℤ b.least) ≤ℤ value_with p k prices a s
-  pub other : ¬ StartsWith b.next s → (a.cost +ℤ b.other) ≤ℤ value_with p k prices a s
+pub record Holds (q : Pricing) (a : State) (s : List ℕ) (b : Bound) : Type 0 where
+  pub room : load_of q.problem s ≤ b.room
+  pub least : (a.cost +ℤ b.least) ≤ℤ value_with q a s
+  pub other : ¬ StartsWith b.next s → (a.cost +ℤ b.other) ≤ℤ value_with q a s
 
 -- of all that may follow from v at t or later; v itself is remembered there
-pub record IsBound (p : Problem) (g : Region) (k : ℕ) (prices : List ℤ) (v t : ℕ) (b : Bound) : Type 0 where
+pub record IsBound (q : Pricing) (v t : ℕ) (b : Bound) : Type 0 where
   pub small : IsSmall b
-  pub holds : (a : State) (s : List ℕ) → a.last ≡ v → t ≤ a.time → IsTrue (a.memory v) → Completes p g k prices a s → Holds p k prices a s b
+  pub holds : (a : State) (s : List ℕ) → a.last ≡ v → t ≤ a.time → IsTrue (a.memory v) → Completes q a s → Holds q a s b
 
 -- the first of the stops is one of these customers, or there is none
 abbrev pub StartsIn : (ℕ → Type 0) → List ℕ → Type 0
@@ -44,28 +37,28 @@ StartsIn P [] = Unit {0}
 StartsIn P (j ∷ s) = P j
 
 -- the same of what ends at v, or goes on to one of these customers
-pub record IsBoundAmong (p : Problem) (g : Region) (k : ℕ) (prices : List ℤ) (v t : ℕ) (P : ℕ → Type 0) (b : Bound) : Type 0 where
+pub record IsBoundAmong (q : Pricing) (v t : ℕ) (P : ℕ → Type 0) (b : Bound) : Type 0 where
   pub small : IsSmall b
-  pub holds : (a : State) (s : List ℕ) → a.last ≡ v → t ≤ a.time → IsTrue (a.memory v) → StartsIn P s → Completes p g k prices a s → Holds p k prices a s b
+  pub holds : (a : State) (s : List ℕ) → a.last ≡ v → t ≤ a.time → IsTrue (a.memory v) → StartsIn P s → Completes q a s → Holds q a s b
 
 -- the same of what ends at v
-abbrev pub IsEndBound : Problem → Region → ℕ → List ℤ → ℕ → ℕ → Bound → Type 0
-IsEndBound p g k prices v t b = IsBoundAmong p g k prices v t (λ _. ⊥) b
+abbrev pub IsEndBound : Pricing → ℕ → ℕ → Bound → Type 0
+IsEndBound q v t b = IsBoundAmong q v t (λ _. ⊥) b
 
 -- out bounds what b does, and what goes on from v to j
-pub record IsBoundWith (p : Problem) (g : Region) (k : ℕ) (prices : List ℤ) (v t j : ℕ) (b out : Bound) : Type 0 where
+pub record IsBoundWith (q : Pricing) (v t j : ℕ) (b out : Bound) : Type 0 where
   pub small : IsSmall out
-  pub older : (a : State) (s : List ℕ) → Holds p k prices a s b → Holds p k prices a s out
-  pub on : (a : State) (s : List ℕ) → a.last ≡ v → t ≤ a.time → IsTrue (a.memory v) → Completes p g k prices a (j ∷ s) → Holds p k prices a (j ∷ s) out
+  pub older : (a : State) (s : List ℕ) → Holds q a s b → Holds q a s out
+  pub on : (a : State) (s : List ℕ) → a.last ≡ v → t ≤ a.time → IsTrue (a.memory v) → Completes q a (j ∷ s) → Holds q a (j ∷ s) out
 
-abbrev pub IsRowBound : Problem → Region → ℕ → List ℤ → RowBound → Type 0
-IsRowBound p g k prices b = IsBound p g k prices b.row b.from b.bound
+abbrev pub IsRowBound : Pricing → RowBound → Type 0
+IsRowBound q b = IsBound q b.row b.from b.bound
 
 -- what follows on a step from v to j that ends at t or later adds no less than z
-pub record IsOnward (p : Problem) (g : Region) (k : ℕ) (prices : List ℤ) (v j t : ℕ) (z : ℤ) : Type 0 where
+pub record IsOnward (q : Pricing) (v j t : ℕ) (z : ℤ) : Type 0 where
   pub cut : IsCut z
-  pub least : (a : State) (s : List ℕ) → a.last ≡ v → IsTrue (a.memory v) → t ≤ (step p k prices a j).time → CanStep p g a j → Completes p g k prices (step p k prices a j) s
-      → ((step p k prices a j).cost +ℤ z) ≤ℤ value_with p k prices (step p k prices a j) s
+  pub least : (a : State) (s : List ℕ) → a.last ≡ v → IsTrue (a.memory v) → t ≤ (step q a j).time → CanStep q a j → Completes q (step q a j) s
+      → ((step q a j).cost +ℤ z) ≤ℤ value_with q (step q a j) s
 
 -- z is at most what a step of this cost and what follows on it add
 abbrev pub IsBelowStep : ℤ → ℤ → ℤ → Type 0

@@ -1,11 +1,11 @@
 -- Fronts as states, and what the caller hands in.
 use Rattle.std.specs.Prelude.{◌≡◌, ℕ, ◌+◌, ◌*◌, ◌<◌, ◌≤◌, Bool, false, List, length, ℤ, pos, ◌+ℤ◌, ◌≤ℤ◌}
 use Rattle.std.specs.List.{All}
-use Rattle.solomon_reader.specs.declared.limits.TheConstants.{MOST_TIME, MOST_CAPACITY, MOST_PRICE, MOST_DISTANCE}
+use Rattle.solomon_reader.specs.declared.limits.TheConstants.{MOST_TIME, MOST_CAPACITY}
 use Rattle.solomon_reader.specs.Problem.{Problem, IsCustomer, customer_count, demand, ready, due, service}
 use Rattle.solomon_reader.specs.Distance.{distance}
 use Rattle.solomon_reader.specs.Region.{Region}
-use Rattle.solomon_reader.specs.States.{State, arc_value, begins}
+use Rattle.solomon_reader.specs.States.{State, arc_value, begins, most_grains, IsPriced}
 use Rattle.fronts.specs.declared.front.Front.{Front}
 
 abbrev pub state_of : Front → (ℕ → Bool) → State
@@ -14,15 +14,6 @@ state_of f memory = record { last = f.last; time = f.time; load = f.load; cost =
 -- the state of a front that remembers nothing
 abbrev pub bare_state : Front → State
 bare_state f = state_of f (λ _. false)
-
--- the most that a stop adds to a reduced cost, or takes from it
-abbrev pub most_grains : ℕ
-most_grains = MOST_PRICE + 1000 * MOST_DISTANCE
-
--- a price in its range
-pub record IsPriced (z : ℤ) : Type 0 where
-  pub low : pos 0 ≤ℤ (z +ℤ pos MOST_PRICE)
-  pub high : z ≤ℤ pos MOST_PRICE
 
 -- the numbers of a front are small; the reduced cost by its load, since each customer has a demand
 pub record IsBounded (p : Problem) (f : Front) : Type 0 where

@@ -3,4 +3,5 @@ pub mod Fronts
 pub mod Memories
 pub mod Tables
 pub mod Steps
+pub mod Tasks
 pub mod Completions

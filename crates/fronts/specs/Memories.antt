@@ -1,33 +1,17 @@
--- Memories as numbers: the bit at a place of the last stop's neighbour list.
-use Rattle.std.specs.Prelude.{◌≡◌, ℕ, ◌+◌, ◌<◌, Bool, ◌==◌, List, length, slice_index_or, if◌then◌else◌, Vec, Option, MatchOption, ◌≤◌, IsTrue}
+-- Neighbour lists, and what a visit leaves of a memory.
+use Rattle.std.specs.Prelude.{◌≡◌, ℕ, ◌<◌, List, length, slice_index_or, Vec, Option, MatchOption, ◌≤◌, IsTrue}
 use Rattle.std.specs.declared.alloc.Global.{Global}
-use Rattle.std.specs.Int.{bit_at}
 use Rattle.solomon_reader.specs.Problem.{Problem}
 use Rattle.solomon_reader.specs.Relaxed.{rank}
 use Rattle.solomon_reader.specs.Remembering.{near, remember}
-use Rattle.solomon_reader.specs.States.{State}
+use Rattle.solomon_reader.specs.Memories.{place_of, recalls, HasPlaces}
+use Rattle.solomon_reader.specs.States.{Pricing, State}
 use Rattle.fronts.specs.declared.front.Front.{Front}
 use Rattle.fronts.specs.Fronts.{state_of}
-
-abbrev pub has_bit : ℕ → ℕ → Bool
-has_bit n i = bit_at n i == 1
-
--- where u stands in the neighbour list of v: v itself is its first, then the nearest; 16 where u isn't in it
-unfoldable pub place_of : Problem → ℕ → ℕ → ℕ → ℕ
-place_of p k v u = if u == v then 0 else (if near p k v u then rank p v u + 1 else 16)
-
--- whether the memory of a label that stands at v has u
-abbrev pub recalls : Problem → ℕ → ℕ → ℕ → ℕ → Bool
-recalls p k v memory u = has_bit memory (place_of p k v u)
 
 -- none, or a row before which, seen from v, at least k customers stand: what is behind it isn't in v's neighbour list
 abbrev pub IsBeyond : Problem → ℕ → ℕ → Option ℕ → Type 0
 IsBeyond p k v far = MatchOption far (Unit {0}) (λ w. (w < length p.rows) × (k ≤ rank p v w))
-
--- the place of each row below i in the neighbour list of v
-pub record HasPlaces (p : Problem) (k v i : ℕ) (places : List ℕ) : Type 0 where
-  pub count : length places ≡ i
-  pub each : (u : ℕ) → u < i → slice_index_or places u 0 ≡ place_of p k v u
 
 -- the rows below i that are in the neighbour list of v, each at its place; at the other places any row
 pub record IsNeighbourList (p : Problem) (k v i : ℕ) (list : List ℕ) : Type 0 where
@@ -48,5 +32,5 @@ abbrev pub Keeps : Problem → ℕ → ℕ → ℕ → ℕ → ℕ → Type 0
 Keeps p k v memory j after = (u : ℕ) → recalls p k j after u ≡ remember (near p k) (recalls p k v memory) j u
 
 -- the state of a front with this memory, which is read by the neighbour list of its last stop
-abbrev pub state_with : Problem → ℕ → Front → ℕ → State
-state_with p k f memory = state_of f (recalls p k f.last memory)
+abbrev pub state_with : Pricing → Front → ℕ → State
+state_with q f memory = state_of f (recalls q.problem q.neighbours f.last memory)

@@ -6,10 +6,11 @@ ghost use Rattle.std.specs.Prelude.{◌≡◌, ◌+◌, ◌*◌, ◌<◌, ◌≤
 ghost use Rattle.std.specs.List.{All};
 ghost use Rattle.solomon_reader.specs.Problem.{IsCustomer, customer_count};
 ghost use Rattle.solomon_reader.specs.declared.limits.TheConstants.{MOST_TIME, MOST_CAPACITY};
-ghost use Rattle.solomon_reader.specs.States.{CanStep, CanEnd};
+ghost use Rattle.solomon_reader.specs.States.{CanStep, CanEnd, most_grains};
 ghost use Rattle.fronts.specs.Completions.{most_paid, IsCut, IsSmall, IsBound, IsEndBound, IsBoundWith, IsRowBound, IsOnward, IsBelowStep, IsJoined};
-ghost use Rattle.fronts.specs.Fronts.{bare_state, most_grains, CanServe, IsBounded};
+ghost use Rattle.fronts.specs.Fronts.{bare_state, CanServe, IsBounded};
 ghost use Rattle.fronts.specs.Tables.{IsAllowedRow};
+ghost use Rattle.fronts.specs.Tasks.{pricing_of};
 
 use crate::bound::{Bound, RowBound};
 use crate::customer_set::CustomerSet;
@@ -24,7 +25,7 @@ const MOST_PAID: i64 = MOST_PRICE as i64 * MOST_CAPACITY as i64;
 
 /// What bounds all that may follow from any row at any time.
 fn unknown(task: &Task<'_>) -> Bound
-    ensures { (v t : ℕ) → IsBound task.now.instance.now task.now.region.now task.now.neighbours task.now.prices.now v t result }
+    ensures { (v t : ℕ) → IsBound (pricing_of task.now) v t result }
 {
     Bound {
         room: u32::from(task.instance.capacity()),
@@ -36,8 +37,8 @@ fn unknown(task: &Task<'_>) -> Bound
 
 /// What bounds all that may follow from a row at a time, as far as these bounds tell.
 fn bound_at(task: &Task<'_>, bounds: &[RowBound], v: u16, time: u64) -> Bound
-    requires { All (IsRowBound task.now.instance.now task.now.region.now task.now.neighbours task.now.prices.now) bounds.now }
-    ensures { IsBound task.now.instance.now task.now.region.now task.now.neighbours task.now.prices.now v time result }
+    requires { All (IsRowBound (pricing_of task.now)) bounds.now }
+    ensures { IsBound (pricing_of task.now) v time result }
 {
     let place = task.slots.place(v, time);
     if place >= bounds.len() {
@@ -75,10 +76,10 @@ fn added(cost: i64, least: i64) -> i64
 /// The least that follows on a step from v to j, where these bounds hold from then on. A route that comes
 /// from v goes back there at once only where j's neighbour list doesn't hold v.
 fn least_onward(task: &Task<'_>, on: Bound, v: u16, j: u16, time: u64) -> i64
-    requires on { IsBound task.now.instance.now task.now.region.now task.now.neighbours task.now.prices.now j time on }
+    requires on { IsBound (pricing_of task.now) j time on }
     requires v { v < length task.now.instance.now.rows }
     requires j { IsCustomer task.now.instance.now j }
-    ensures { IsOnward task.now.instance.now task.now.region.now task.now.neighbours task.now.prices.now v j time result }
+    ensures { IsOnward (pricing_of task.now) v j time result }
 {
     if on.next != v || task.place(j, v) >= LIST_SIZE {
         return on.least;
@@ -120,7 +121,7 @@ fn joined(bound: Bound, j: u16, next: &Front, room: u32, least: i64) -> Bound
 fn can_end(task: &Task<'_>, front: &Front, rows: &CustomerSet) -> bool
     requires rows { IsAllowedRow task.now.region.now front.now.last rows.now }
     requires bounded { IsBounded task.now.instance.now front.now }
-    ensures no { IsFalse result → ¬ CanEnd task.now.instance.now task.now.region.now (bare_state front.now) }
+    ensures no { IsFalse result → ¬ CanEnd (pricing_of task.now) (bare_state front.now) }
 {
     rows.contains(0) && front.is_back_in_time(task.instance)
 }
@@ -131,7 +132,7 @@ fn can_go(task: &Task<'_>, front: &Front, rows: &CustomerSet, j: u16) -> bool
     requires bounded { IsBounded task.now.instance.now front.now }
     requires j { IsCustomer task.now.instance.now j }
     ensures yes { IsTrue result → CanServe task.now.instance.now front.now j }
-    ensures no { IsFalse result → ¬ CanStep task.now.instance.now task.now.region.now (bare_state front.now) j }
+    ensures no { IsFalse result → ¬ CanStep (pricing_of task.now) (bare_state front.now) j }
 {
     rows.contains(j) && front.can_serve(task.instance, j)
 }
@@ -142,7 +143,7 @@ fn end_bound(task: &Task<'_>, front: &Front, rows: &CustomerSet) -> Bound
     requires bounded { IsBounded task.now.instance.now front.now }
     requires load { front.now.load ≡ 0 }
     requires cost { front.now.cost ≡ pos 0 }
-    ensures { IsEndBound task.now.instance.now task.now.region.now task.now.neighbours task.now.prices.now front.now.last front.now.time result }
+    ensures { IsEndBound (pricing_of task.now) front.now.last front.now.time result }
 {
     let mut least = MOST_PAID;
     if can_end(task, front, rows) {
@@ -165,14 +166,14 @@ fn with_step(
     j: u16,
     bound: Bound,
 ) -> Bound
-    requires bounds { All (IsRowBound task.now.instance.now task.now.region.now task.now.neighbours task.now.prices.now) bounds.now }
+    requires bounds { All (IsRowBound (pricing_of task.now)) bounds.now }
     requires rows { IsAllowedRow task.now.region.now front.now.last rows.now }
     requires bounded { IsBounded task.now.instance.now front.now }
     requires load { front.now.load ≡ 0 }
     requires cost { front.now.cost ≡ pos 0 }
     requires j { IsCustomer task.now.instance.now j }
     requires small { IsSmall bound }
-    ensures { IsBoundWith task.now.instance.now task.now.region.now task.now.neighbours task.now.prices.now front.now.last front.now.time j bound result }
+    ensures { IsBoundWith (pricing_of task.now) front.now.last front.now.time j bound result }
 {
     if !can_go(task, front, rows, j) {
         return bound;
@@ -185,10 +186,10 @@ fn with_step(
 
 /// What bounds all that may follow from a row at a time or later, and how many customers were looked at.
 fn bound_from(task: &Task<'_>, bounds: &[RowBound], v: u16, from: u64) -> (Bound, u64)
-    requires bounds { All (IsRowBound task.now.instance.now task.now.region.now task.now.neighbours task.now.prices.now) bounds.now }
+    requires bounds { All (IsRowBound (pricing_of task.now)) bounds.now }
     requires v { v < length task.now.instance.now.rows }
     requires from { from ≤ 20 * MOST_TIME }
-    ensures { IsBound task.now.instance.now task.now.region.now task.now.neighbours task.now.prices.now v from result.0 }
+    ensures { IsBound (pricing_of task.now) v from result.0 }
 {
     task.instance.law_of_limits();
     let rows = &task.allowed_rows[usize::from(v)];
@@ -212,9 +213,9 @@ fn bound_from(task: &Task<'_>, bounds: &[RowBound], v: u16, from: u64) -> (Bound
 
 /// Puts in the bounds of a customer in a slot, if it has some, and says how many customers were looked at.
 fn fill_at(task: &Task<'_>, bounds: &mut [RowBound], v: u16, slot: u64) -> u64
-    requires bounds { All (IsRowBound task.now.instance.now task.now.region.now task.now.neighbours task.now.prices.now) bounds.old }
+    requires bounds { All (IsRowBound (pricing_of task.now)) bounds.old }
     requires v { v < length task.now.instance.now.rows }
-    ensures { All (IsRowBound task.now.instance.now task.now.region.now task.now.neighbours task.now.prices.now) bounds.new }
+    ensures { All (IsRowBound (pricing_of task.now)) bounds.new }
 {
     let Some(from) = task.slots.start(v, slot) else {
         return 0;
@@ -233,8 +234,8 @@ fn fill_at(task: &Task<'_>, bounds: &mut [RowBound], v: u16, slot: u64) -> u64
 
 /// Puts in the bounds of all customers in a slot, and says how many customers were looked at.
 fn fill_slot(task: &Task<'_>, bounds: &mut [RowBound], slot: u64) -> u64
-    requires { All (IsRowBound task.now.instance.now task.now.region.now task.now.neighbours task.now.prices.now) bounds.old }
-    ensures { All (IsRowBound task.now.instance.now task.now.region.now task.now.neighbours task.now.prices.now) bounds.new }
+    requires { All (IsRowBound (pricing_of task.now)) bounds.old }
+    ensures { All (IsRowBound (pricing_of task.now)) bounds.new }
 {
     let mut looks: u64 = 0;
     for v in 1..task.instance.customer_count() + 1 {
@@ -245,8 +246,8 @@ fn fill_slot(task: &Task<'_>, bounds: &mut [RowBound], slot: u64) -> u64
 
 /// Puts in all bounds, those of the last slot first, and says how many customers were looked at.
 fn fill(task: &Task<'_>, bounds: &mut [RowBound]) -> u64
-    requires { All (IsRowBound task.now.instance.now task.now.region.now task.now.neighbours task.now.prices.now) bounds.old }
-    ensures { All (IsRowBound task.now.instance.now task.now.region.now task.now.neighbours task.now.prices.now) bounds.new }
+    requires { All (IsRowBound (pricing_of task.now)) bounds.old }
+    ensures { All (IsRowBound (pricing_of task.now)) bounds.new }
 {
     let last = task.slots.last();
     let mut looks: u64 = 0;
@@ -263,7 +264,7 @@ pub struct Completions<'t, 'i> {
     pub task: &'t Task<'i>,
     bounds: Vec<RowBound>,
     looks: u64,
-    ghost hold: { All (IsRowBound task.now.instance.now task.now.region.now task.now.neighbours task.now.prices.now) bounds.items },
+    ghost hold: { All (IsRowBound (pricing_of task.now)) bounds.items },
 }
 
 impl<'t, 'i> Completions<'t, 'i> {
@@ -303,7 +304,7 @@ impl<'t, 'i> Completions<'t, 'i> {
 
     /// What bounds all that may follow from a row at a time, in tenths.
     pub fn at(&self, v: u16, time: u64) -> Bound
-        ensures { IsBound self.now.task.now.instance.now self.now.task.now.region.now self.now.task.now.neighbours self.now.task.now.prices.now v time result }
+        ensures { IsBound (pricing_of self.now.task.now) v time result }
     {
         bound_at(self.task, self.bounds.as_slice(), v, time)
     }

@@ -5,8 +5,8 @@ ghost use Rattle.std.specs.List.{All};
 ghost use Rattle.solomon_reader.specs.declared.limits.TheConstants.{MOST_TIME};
 ghost use Rattle.solomon_reader.specs.Problem.{IsCustomer, customer_count, demand, due};
 ghost use Rattle.solomon_reader.specs.Distance.{distance};
-ghost use Rattle.solomon_reader.specs.States.{arc_value, begins};
-ghost use Rattle.fronts.specs.Fronts.{bare_state, end_cost, most_grains, IsBounded, IsPriced, CanServe, IsAfter, IsStart};
+ghost use Rattle.solomon_reader.specs.States.{arc_value, begins, most_grains, IsPriced};
+ghost use Rattle.fronts.specs.Fronts.{bare_state, end_cost, IsBounded, CanServe, IsAfter, IsStart};
 
 use solomon_reader::Instance;
 

@@ -1,7 +1,7 @@
 //! What labels remember.
 
 ghost use Rattle.std.specs.Prelude.{◌≡◌, ℕ, ◌<◌, ◌≤◌, ◌^◌, ◌==◌, ◌&&◌, ◌||◌, ◌↔◌, IsTrue};
-ghost use Rattle.fronts.specs.Memories.{has_bit};
+ghost use Rattle.solomon_reader.specs.Memories.{has_bit};
 
 /// The customers that a route may not visit next, as places in the neighbour list of its last stop:
 /// bit i stands for place i.

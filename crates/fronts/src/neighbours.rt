@@ -4,7 +4,8 @@ ghost use Rattle.std.specs.Prelude.{◌≡◌, ◌+◌, ◌<◌, ◌≤◌, min,
 ghost use Rattle.solomon_reader.specs.Problem.{IsCustomer};
 ghost use Rattle.solomon_reader.specs.Relaxed.{stands_before, rank};
 ghost use Rattle.solomon_reader.specs.Remembering.{ahead};
-ghost use Rattle.fronts.specs.Memories.{place_of, IsBeyond, HasPlaces, IsNeighbourList};
+ghost use Rattle.solomon_reader.specs.Memories.{place_of, HasPlaces};
+ghost use Rattle.fronts.specs.Memories.{IsBeyond, IsNeighbourList};
 
 use solomon_reader::Instance;
 use std::alloc::{AllocError, Global};

@@ -2,9 +2,10 @@
 
 ghost use Rattle.std.specs.Prelude.{◌≡◌, ◌<◌, ◌≤◌, length, IfOk, IsTrue, IsFalse};
 ghost use Rattle.solomon_reader.specs.Problem.{IsCustomer};
-ghost use Rattle.solomon_reader.specs.States.{CanStep};
+ghost use Rattle.solomon_reader.specs.States.{pricing, CanStep};
 ghost use Rattle.fronts.specs.Fronts.{IsTask, IsBounded};
-ghost use Rattle.fronts.specs.Memories.{place_of, state_with, HasPlaces, ArePlaces, IsWholeList, Keeps};
+ghost use Rattle.solomon_reader.specs.Memories.{place_of, HasPlaces};
+ghost use Rattle.fronts.specs.Memories.{state_with, ArePlaces, IsWholeList, Keeps};
 ghost use Rattle.fronts.specs.Steps.{IsStepList, AreStepsFrom};
 ghost use Rattle.fronts.specs.Tables.{IsAllowedRow, IsTable};
 ghost use Rattle.fronts.specs.declared.neighbours.TheConstants.{LIST_SIZE};
@@ -105,10 +106,15 @@ impl<'i> Task<'i> {
     ) -> bool
         requires j { IsCustomer self.now.instance.now j }
         requires rows { IsAllowedRow self.now.region.now front.now.last rows.now }
-        requires places { HasPlaces self.now.instance.now self.now.neighbours front.now.last (length self.now.instance.now.rows) places.now }
+        requires places { let p = self.now.instance.now in
+            HasPlaces p self.now.neighbours front.now.last (length p.rows) places.now }
         requires bounded { IsBounded self.now.instance.now front.now }
-        ensures yes { IsTrue result → CanStep self.now.instance.now self.now.region.now (state_with self.now.instance.now self.now.neighbours front.now memory.bits) j }
-        ensures no { IsFalse result → ¬ CanStep self.now.instance.now self.now.region.now (state_with self.now.instance.now self.now.neighbours front.now memory.bits) j }
+        ensures yes { let t = self.now in
+            let q = pricing t.instance.now t.region.now t.neighbours t.prices.now in
+            IsTrue result → CanStep q (state_with q front.now memory.bits) j }
+        ensures no { let t = self.now in
+            let q = pricing t.instance.now t.region.now t.neighbours t.prices.now in
+            IsFalse result → ¬ CanStep q (state_with q front.now memory.bits) j }
     {
         if !rows.contains(j) {
             return false;

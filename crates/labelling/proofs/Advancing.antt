@@ -8,22 +8,21 @@ use Rattle.std.proofs.lemmas.List.{reverse-append, length-reverse, take_all, dro
 use Rattle.std.proofs.lemmas.Nat.Bits.{bit_at-zero}
 use Rattle.solomon_reader.specs.Distance.{distance}
 use Rattle.solomon_reader.specs.Problem.{Problem, IsCustomer, due}
-use Rattle.solomon_reader.specs.Region.{Region}
 use Rattle.solomon_reader.specs.Relaxed.{IsRelaxed, reduced_cost}
-use Rattle.solomon_reader.specs.States.{State, start, step, CanStep, CanEnd}
-use Rattle.solomon_reader.proofs.Completions.{reaches_none, reaches_more}
+use Rattle.solomon_reader.specs.States.{Pricing, State, start, step, CanStep, CanEnd, IsAtMost}
+use Rattle.solomon_reader.proofs.Completions.{reaches_none, reaches_more, at_most_more}
 use Rattle.labelling.specs.declared.least_cost.Least.{Least}
 use Rattle.labelling.specs.declared.best.Best.{Best}
 use Rattle.labelling.specs.declared.label.Label.{Label}
-use Rattle.labelling.specs.Answer.{HasLeastValue, HasItsRoute}
+use Rattle.labelling.specs.Answer.{IsLeastOf}
 use Rattle.labelling.specs.Arena.{label_in, state_at, trace, IsLabel, IsArena, IsPending, HasActive, HasPending, IsDominated, inactive, IsPruned, IsExtension, IsAdded, IsSameStop, IsLater, IsGrown, IsMoved, IsMet, TakesStep, TakesSteps, CountsEnd, EndsAt, IsAttained, IsComplete, IsOnward, NonePending, IsAnswer, IsInList, IsFirst, blank}
-use Rattle.labelling.specs.Cover.{IsAtMost, CoversAll, Carries, IsCounted, IsPassed}
+use Rattle.labelling.specs.Cover.{CoversAll, Carries, IsCounted, IsPassed}
 use Rattle.fronts.specs.Fronts.{end_cost, IsBounded, IsStart, IsAfter}
 use Rattle.fronts.specs.declared.front.Front.{Front}
-use Rattle.fronts.specs.Memories.{place_of}
+use Rattle.solomon_reader.specs.Memories.{place_of}
 use Rattle.solomon_reader.proofs.Goodness.{reaches_same}
 use Rattle.labelling.proofs.Carrying.{carries_itself, carries_same, carries_through}
-use Rattle.labelling.proofs.Cover.{at_most_more, covers_grown, covers_retired, least_at_end}
+use Rattle.labelling.proofs.Cover.{covers_grown, covers_retired, least_at_end}
 use Rattle.labelling.proofs.Ends.{IsReached, least_value, least_route}
 
 -- a label that was read is the label of the list
@@ -34,7 +33,7 @@ pub first_is : (p : Problem) (xs : List Label) (l : Label) → xs ≡ l ∷ [] �
 first_is p xs l one start bounded memory parent stops pending = record {
   label = l;
   one = one;
-  start = λ k. record { last = start.last; time = start.time; load = start.load; cost = start.cost; memory = λ u. rw (memory, bit_at-zero (place_of p k l.front.last u)) refl };
+  start = λ q same. record { last = start.last; time = rw same start.time; load = start.load; cost = start.cost; memory = λ u. rw (memory, bit_at-zero (place_of q.problem q.neighbours l.front.last u)) refl };
   bounded = bounded;
   parent = parent;
   stops = stops;
@@ -47,8 +46,8 @@ same_itself a = record { front = refl; memory = refl; parent = refl; stops = ref
 same_through : (a b c : Label) → IsSameStop a b → IsSameStop b c → IsSameStop a c
 same_through a b c h e = record { front = e.front ∙ h.front; memory = e.memory ∙ h.memory; parent = e.parent ∙ h.parent; stops = e.stops ∙ h.stops }
 
-same_state : (p : Problem) (k : ℕ) (a b : Label) → IsSameStop a b → state_at p k b ≡ state_at p k a
-same_state p k a b h = rw (h.front, h.memory) refl
+same_state : (q : Pricing) (a b : Label) → IsSameStop a b → state_at q b ≡ state_at q a
+same_state q a b h = rw (h.front, h.memory) refl
 
 later_itself : (a : Label) → IsLater a a
 later_itself a = record { same = same_itself a; active = λ h. h; extended = refl }
@@ -73,11 +72,11 @@ trace_same xs ys h parents zero a b within same = refl
 trace_same xs ys h parents (suc n) a b within same =
     rw (same.front, same.parent) (ap (λ r. r ++ (a.front.last ∷ [])) (trace_same xs ys h parents n (label_in xs a.parent) (label_in ys a.parent) (parents a.parent within) (h.same a.parent within)))
 
-module _ (p : Problem) (g : Region) (k : ℕ) (prices : List ℤ) where
-  pub parents_of : (xs : List Label) → IsArena p g k prices xs → (m : ℕ) → m < length xs → (label_in xs m).parent < length xs
+module _ (q : Pricing) where
+  pub parents_of : (xs : List Label) → IsArena q xs → (m : ℕ) → m < length xs → (label_in xs m).parent < length xs
   parents_of xs arena m within = (arena.each m within).parent
 
-  label_longer : (xs ys : List Label) (a b : Label) → IsLonger xs ys → IsArena p g k prices xs → IsLabel p g k prices xs a → IsSameStop a b → IsLabel p g k prices ys b
+  label_longer : (xs ys : List Label) (a b : Label) → IsLonger xs ys → IsArena q xs → IsLabel q xs a → IsSameStop a b → IsLabel q ys b
   label_longer xs ys a b h arena label same =
       let e : trace xs a.stops a ≡ trace ys a.stops b = trace_same xs ys h (parents_of xs arena) a.stops a b label.parent same in
       let t : trace xs a.stops a ≡ trace ys b.stops b = e ∙ ap (λ (n : ℕ). trace ys n b) (sym same.stops) in
@@ -85,10 +84,10 @@ module _ (p : Problem) (g : Region) (k : ℕ) (prices : List ℤ) where
         bounded = rw same.front label.bounded;
         light = rw (same.front, same.stops) label.light;
         parent = omega (arith, label.parent, same.parent, h.longer);
-        reached = rw (← t, same_state p k a b same) label.reached;
+        reached = rw (← t, same_state q a b same) label.reached;
       }
 
-  arena_longer : (xs ys : List Label) → IsLonger xs ys → length ys ≡ length xs → IsArena p g k prices xs → IsArena p g k prices ys
+  arena_longer : (xs ys : List Label) → IsLonger xs ys → length ys ≡ length xs → IsArena q xs → IsArena q ys
   arena_longer xs ys h count arena = record {
     each = λ m w. (let old : m < length xs = omega (arith, w, count) in label_longer xs ys (label_in xs m) (label_in ys m) h arena (arena.each m old) (h.same m old));
   }
@@ -96,11 +95,11 @@ module _ (p : Problem) (g : Region) (k : ℕ) (prices : List ℤ) where
 grown_none : (xs : List Label) → IsGrown xs xs
 grown_none xs = record { longer = omega arith; later = λ m w. later_itself _; fresh = λ m low high. absurd (omega (arith, low, high)) }
 
-moved_none : (p : Problem) (g : Region) (k : ℕ) (prices : List ℤ) (xs : List Label) → IsMoved p g k prices xs xs
-moved_none p g k prices xs = record { grown = grown_none xs; pending = λ a s. (a, (s, carries_itself p g k prices a)); active = λ a s. (a, (s, carries_itself p g k prices a)) }
+moved_none : (q : Pricing) (xs : List Label) → IsMoved q xs xs
+moved_none q xs = record { grown = grown_none xs; pending = λ a s. (a, (s, carries_itself q a)); active = λ a s. (a, (s, carries_itself q a)) }
 
-dominated_through : (p : Problem) (g : Region) (k : ℕ) (prices : List ℤ) (xs ys : List Label) (a : State) → IsMoved p g k prices xs ys → IsDominated p g k prices xs a → IsDominated p g k prices ys a
-dominated_through p g k prices xs ys a moved (t, h) = let on = moved.active t h.0 in (on.0, (on.1.0, carries_through p g k prices _ _ _ on.1.1 h.1))
+dominated_through : (q : Pricing) (xs ys : List Label) (a : State) → IsMoved q xs ys → IsDominated q xs a → IsDominated q ys a
+dominated_through q xs ys a moved (t, h) = let on = moved.active t h.0 in (on.0, (on.1.0, carries_through q _ _ _ on.1.1 h.1))
 
 grown_through : (xs ys zs : List Label) → IsGrown xs ys → IsGrown ys zs → IsGrown xs zs
 grown_through xs ys zs h e = record {
@@ -112,15 +111,15 @@ grown_through xs ys zs h e = record {
   ];
 }
 
-moved_through : (p : Problem) (g : Region) (k : ℕ) (prices : List ℤ) (xs ys zs : List Label) → IsMoved p g k prices xs ys → IsMoved p g k prices ys zs → IsMoved p g k prices xs zs
-moved_through p g k prices xs ys zs h e = record {
+moved_through : (q : Pricing) (xs ys zs : List Label) → IsMoved q xs ys → IsMoved q ys zs → IsMoved q xs zs
+moved_through q xs ys zs h e = record {
   grown = grown_through xs ys zs h.grown e.grown;
-  pending = λ a s. (let t = h.pending a s in let u = e.pending t.0 t.1.0 in (u.0, (u.1.0, carries_through p g k prices _ _ _ u.1.1 t.1.1)));
-  active = λ a s. dominated_through p g k prices ys zs a e (h.active a s);
+  pending = λ a s. (let t = h.pending a s in let u = e.pending t.0 t.1.0 in (u.0, (u.1.0, carries_through q _ _ _ u.1.1 t.1.1)));
+  active = λ a s. dominated_through q ys zs a e (h.active a s);
 }
 
 -- x was added, and what it dominates was dropped
-module _ (p : Problem) (g : Region) (k : ℕ) (prices : List ℤ) (xs zs : List Label) (x : Label) (unextended : IsPending x) (pruned : IsPruned p g k prices xs zs (state_at p k x)) where
+module _ (q : Pricing) (xs zs : List Label) (x : Label) (unextended : IsPending x) (pruned : IsPruned q xs zs (state_at q x)) where
   more : length (zs ++ (x ∷ [])) ≡ length xs + 1
   more = omega (arith, length-append zs (x ∷ []), pruned.same)
 
@@ -143,55 +142,52 @@ module _ (p : Problem) (g : Region) (k : ℕ) (prices : List ℤ) (xs zs : List 
     fresh = λ m low high. (let same : m ≡ length xs = omega (arith, low, high, more) in rw (same, new_at) unextended.extended);
   }
 
-  active_new : HasActive p k (zs ++ (x ∷ [])) (state_at p k x)
-  active_new = record { index = length xs; within = omega (arith, more); active = rw new_at unextended.active; is = ap (state_at p k) new_at }
+  active_new : HasActive q (zs ++ (x ∷ [])) (state_at q x)
+  active_new = record { index = length xs; within = omega (arith, more); active = rw new_at unextended.active; is = ap (state_at q) new_at }
 
-  pending_new : HasPending p k (zs ++ (x ∷ [])) (state_at p k x)
-  pending_new = record { index = length xs; within = omega (arith, more); unextended = rw new_at unextended; is = ap (state_at p k) new_at }
+  pending_new : HasPending q (zs ++ (x ∷ [])) (state_at q x)
+  pending_new = record { index = length xs; within = omega (arith, more); unextended = rw new_at unextended; is = ap (state_at q) new_at }
 
-  moved_added : IsMoved p g k prices xs (zs ++ (x ∷ []))
+  moved_added : IsMoved q xs (zs ++ (x ∷ []))
   moved_added = record { grown = grown_added; pending = pending; active = active }
     where
-      pending : (a : State) → HasPending p k xs a → (t : State) × (HasPending p k (zs ++ (x ∷ [])) t × Carries p g k prices t a)
+      pending : (a : State) → HasPending q xs a → (t : State) × (HasPending q (zs ++ (x ∷ [])) t × Carries q t a)
       pending a s = elim (pruned.each s.index s.within) [
         | inl same ↦ (let e = old_at s.index s.within ∙ same in
-            (a, (record { index = s.index; within = omega (arith, s.within, more); unextended = rw e s.unextended; is = ap (state_at p k) e ∙ s.is }, carries_itself p g k prices a)))
-        | inr past ↦ (state_at p k x, (pending_new, rw s.is at past.0))
+            (a, (record { index = s.index; within = omega (arith, s.within, more); unextended = rw e s.unextended; is = ap (state_at q) e ∙ s.is }, carries_itself q a)))
+        | inr past ↦ (state_at q x, (pending_new, rw s.is at past.0))
       ]
 
-      active : (a : State) → HasActive p k xs a → IsDominated p g k prices (zs ++ (x ∷ [])) a
+      active : (a : State) → HasActive q xs a → IsDominated q (zs ++ (x ∷ [])) a
       active a s = elim (pruned.each s.index s.within) [
         | inl same ↦ (let e = old_at s.index s.within ∙ same in
-            (a, (record { index = s.index; within = omega (arith, s.within, more); active = rw e s.active; is = ap (state_at p k) e ∙ s.is }, carries_itself p g k prices a)))
-        | inr past ↦ (state_at p k x, (active_new, rw s.is at past.0))
+            (a, (record { index = s.index; within = omega (arith, s.within, more); active = rw e s.active; is = ap (state_at q) e ∙ s.is }, carries_itself q a)))
+        | inr past ↦ (state_at q x, (active_new, rw s.is at past.0))
       ]
 
-  dominated_added : IsDominated p g k prices (zs ++ (x ∷ [])) (state_at p k x)
-  dominated_added = (state_at p k x, (active_new, carries_itself p g k prices (state_at p k x)))
+  dominated_added : IsDominated q (zs ++ (x ∷ [])) (state_at q x)
+  dominated_added = (state_at q x, (active_new, carries_itself q (state_at q x)))
 
-module _ (p : Problem) (g : Region) (k : ℕ) (prices : List ℤ) where
-  module _ (xs : List Label) (l : Label) (index j : ℕ) (arena : IsArena p g k prices xs) (within : index < length xs) (here : IsSameStop (label_in xs index) l) where
-    pub label_here : IsLabel p g k prices xs l
-    label_here = label_longer p g k prices xs xs (label_in xs index) l (grown_longer xs xs (grown_none xs)) arena (arena.each index within) here
+module _ (q : Pricing) where
+  module _ (xs : List Label) (l : Label) (index j : ℕ) (arena : IsArena q xs) (within : index < length xs) (here : IsSameStop (label_in xs index) l) where
+    pub label_here : IsLabel q xs l
+    label_here = label_longer q xs xs (label_in xs index) l (grown_longer xs xs (grown_none xs)) arena (arena.each index within) here
 
-    pub step_refused : (b : Option ℤ) → ¬ CanStep p g (state_at p k l) j → TakesStep p g k prices b xs xs l j
-    step_refused b cannot = record { moved = moved_none p g k prices xs; labelled = arena; met = λ can. absurd (cannot can) }
+    pub step_refused : (b : Option ℤ) → ¬ CanStep q (state_at q l) j → TakesStep q b xs xs l j
+    step_refused b cannot = record { moved = moved_none q xs; labelled = arena; met = λ can. absurd (cannot can) }
 
     -- nothing after the step costs less than the best
-    pub step_passed : (b : Option ℤ) (f : Front) → IsAfter p prices l.front j f → IsPassed p g k prices b f.last f.time f.cost → TakesStep p g k prices b xs xs l j
-    step_passed b f after passed = record { moved = moved_none p g k prices xs; labelled = arena; met = λ can. inr (counted can) }
+    pub step_passed : (b : Option ℤ) (f : Front) → IsAfter q.problem q.prices l.front j f → IsPassed q b f → TakesStep q b xs xs l j
+    step_passed b f after passed = record { moved = moved_none q xs; labelled = arena; met = λ can. inr (counted can) }
       where
-        remembers : IsTrue ((step p k prices (state_at p k l) j).memory j)
-        remembers = or_left (eqb j j) _ (eq-eqb j j refl)
+        remembers : (i : ℕ) → i ≡ j → IsTrue ((step q (state_at q l) j).memory i)
+        remembers i same = rw same (or_left (eqb j j) _ (eq-eqb j j refl))
 
-        at_j : (i : ℕ) → i ≡ j → IsPassed p g k prices b i f.time f.cost → IsCounted p g k prices b (step p k prices (state_at p k l) j)
-        at_j i same h = (rw same at h).each (step p k prices (state_at p k l) j) refl (omega (arith, after.time)) (omega (arith, ints, after.cost)) remembers
-
-        counted : CanStep p g (state_at p k l) j → IsCounted p g k prices b (step p k prices (state_at p k l) j)
-        counted can = at_j f.last after.last passed
+        counted : CanStep q (state_at q l) j → IsCounted q b (step q (state_at q l) j)
+        counted can = passed.each (step q (state_at q l) j) (sym after.last) (omega (arith, after.time)) (omega (arith, ints, after.cost)) (remembers f.last after.last)
 
     -- the extension is a label of the longer list
-    extension_labelled : (ys : List Label) (x : Label) → IsGrown xs ys → IsExtension p k prices l index j x → CanStep p g (state_at p k l) j → IsLabel p g k prices ys x
+    extension_labelled : (ys : List Label) (x : Label) → IsGrown xs ys → IsExtension q l index j x → CanStep q (state_at q l) j → IsLabel q ys x
     extension_labelled ys x grown extension can =
         let longer = grown_longer xs ys grown in
         let before : IsSameStop l (label_in ys index) = record {
@@ -200,59 +196,59 @@ module _ (p : Problem) (g : Region) (k : ℕ) (prices : List ℤ) where
           parent = (longer.same index within).parent ∙ sym here.parent;
           stops = (longer.same index within).stops ∙ sym here.stops;
         } in
-        let t : trace xs l.stops l ≡ trace ys l.stops (label_in ys index) = trace_same xs ys longer (parents_of p g k prices xs arena) l.stops l (label_in ys index) label_here.parent before in
+        let t : trace xs l.stops l ≡ trace ys l.stops (label_in ys index) = trace_same xs ys longer (parents_of q xs arena) l.stops l (label_in ys index) label_here.parent before in
         let whole : trace xs l.stops l ++ (j ∷ []) ≡ trace ys x.stops x = unfolded ys x t extension in
         record {
           bounded = extension.bounded;
           light = extension.light;
           parent = omega (arith, extension.parent, within, grown.longer);
-          reached = rw (← whole) (reaches_same p g k prices (trace xs l.stops l ++ (j ∷ [])) (state_at p k x) (step p k prices (state_at p k l) j) extension.same
-              (reaches_more p g k prices (trace xs l.stops l) (state_at p k l) j label_here.reached can));
+          reached = rw (← whole) (reaches_same q (trace xs l.stops l ++ (j ∷ [])) (state_at q x) (step q (state_at q l) j) extension.same
+              (reaches_more q (trace xs l.stops l) (state_at q l) j label_here.reached can));
         }
       where
-        unfolded : (ys : List Label) (x : Label) → trace xs l.stops l ≡ trace ys l.stops (label_in ys index) → IsExtension p k prices l index j x
+        unfolded : (ys : List Label) (x : Label) → trace xs l.stops l ≡ trace ys l.stops (label_in ys index) → IsExtension q l index j x
             → trace xs l.stops l ++ (j ∷ []) ≡ trace ys x.stops x
         unfolded ys x t extension =
             let one : l.stops + 1 ≡ suc l.stops = omega arith in
             rw (extension.stops, one, extension.parent, extension.same.last) (ap (λ r. r ++ (j ∷ [])) t)
 
     -- what may come after the step may come after x, at the same cost
-    met_by : (b : Option ℤ) (ys : List Label) (x : Label) → IsExtension p k prices l index j x → IsMet p g k prices b ys (state_at p k x) → IsMet p g k prices b ys (step p k prices (state_at p k l) j)
-    met_by b ys x extension (inl t) = inl (t.0, (t.1.0, carries_through p g k prices _ _ _ t.1.1 (carries_same p g k prices _ _ extension.same)))
-    met_by b ys x extension (inr counted) = inr (λ s h. (let on = (carries_same p g k prices _ _ extension.same).on s h in at_most_more b _ _ on.1 (counted s on.0)))
+    met_by : (b : Option ℤ) (ys : List Label) (x : Label) → IsExtension q l index j x → IsMet q b ys (state_at q x) → IsMet q b ys (step q (state_at q l) j)
+    met_by b ys x extension (inl t) = inl (t.0, (t.1.0, carries_through q _ _ _ t.1.1 (carries_same q _ _ extension.same)))
+    met_by b ys x extension (inr counted) = inr (λ s h. (let on = (carries_same q _ _ extension.same).on s h in at_most_more b _ _ on.1 (counted s on.0)))
 
-    pub step_taken : (b : Option ℤ) (ys : List Label) (x : Label) → IsExtension p k prices l index j x → CanStep p g (state_at p k l) j → IsAdded p g k prices xs ys x → TakesStep p g k prices b xs ys l j
+    pub step_taken : (b : Option ℤ) (ys : List Label) (x : Label) → IsExtension q l index j x → CanStep q (state_at q l) j → IsAdded q xs ys x → TakesStep q b xs ys l j
     step_taken b ys x extension can (inl same) = rw same.0 (record {
-      moved = moved_none p g k prices xs;
+      moved = moved_none q xs;
       labelled = arena;
       met = λ _. met_by b xs x extension (inl same.1);
     })
     step_taken b ys x extension can (inr (zs, kept)) =
-        let grown : IsGrown xs (zs ++ (x ∷ [])) = grown_added p g k prices xs zs x extension.unextended kept.0 in
+        let grown : IsGrown xs (zs ++ (x ∷ [])) = grown_added q xs zs x extension.unextended kept.0 in
         rw kept.1 (record {
-          moved = moved_added p g k prices xs zs x extension.unextended kept.0;
+          moved = moved_added q xs zs x extension.unextended kept.0;
           labelled = record { each = each_of zs x grown kept.0 extension };
-          met = λ _. met_by b _ x extension (inl (dominated_added p g k prices xs zs x extension.unextended kept.0));
+          met = λ _. met_by b _ x extension (inl (dominated_added q xs zs x extension.unextended kept.0));
         })
       where
-        each_of : (zs : List Label) (x : Label) → IsGrown xs (zs ++ (x ∷ [])) → IsPruned p g k prices xs zs (state_at p k x) → IsExtension p k prices l index j x
-            → (m : ℕ) → m < length (zs ++ (x ∷ [])) → IsLabel p g k prices (zs ++ (x ∷ [])) (label_in (zs ++ (x ∷ [])) m)
+        each_of : (zs : List Label) (x : Label) → IsGrown xs (zs ++ (x ∷ [])) → IsPruned q xs zs (state_at q x) → IsExtension q l index j x
+            → (m : ℕ) → m < length (zs ++ (x ∷ [])) → IsLabel q (zs ++ (x ∷ [])) (label_in (zs ++ (x ∷ [])) m)
         each_of zs x grown pruned extension m w = elim (cases_lt m (length xs)) [
-          | inl old ↦ label_longer p g k prices xs (zs ++ (x ∷ [])) (label_in xs m) (label_in (zs ++ (x ∷ [])) m) (grown_longer xs _ grown) arena (arena.each m old) (grown.later m old).same
-          | inr new ↦ (let same : m ≡ length xs = omega (arith, new, w, more p g k prices xs zs x extension.unextended pruned) in
-              rw (same, new_at p g k prices xs zs x extension.unextended pruned) (extension_labelled (zs ++ (x ∷ [])) x grown extension can))
+          | inl old ↦ label_longer q xs (zs ++ (x ∷ [])) (label_in xs m) (label_in (zs ++ (x ∷ [])) m) (grown_longer xs _ grown) arena (arena.each m old) (grown.later m old).same
+          | inr new ↦ (let same : m ≡ length xs = omega (arith, new, w, more q xs zs x extension.unextended pruned) in
+              rw (same, new_at q xs zs x extension.unextended pruned) (extension_labelled (zs ++ (x ∷ [])) x grown extension can))
         ]
 
-  pub steps_none : (b : Option ℤ) (xs : List Label) (l : Label) (P : ℕ → Type 0) → ((j : ℕ) → P j → ⊥) → IsArena p g k prices xs → TakesSteps p g k prices b xs xs l P
-  steps_none b xs l P none labelled = record { moved = moved_none p g k prices xs; labelled = labelled; met = λ j among can. absurd (none j among) }
+  pub steps_none : (b : Option ℤ) (xs : List Label) (l : Label) (P : ℕ → Type 0) → ((j : ℕ) → P j → ⊥) → IsArena q xs → TakesSteps q b xs xs l P
+  steps_none b xs l P none labelled = record { moved = moved_none q xs; labelled = labelled; met = λ j among can. absurd (none j among) }
 
-  pub steps_more : (b : Option ℤ) (xs ys zs : List Label) (l : Label) (i : ℕ) (P Q : ℕ → Type 0) → ((j : ℕ) → Q j → P j ⊎ (j ≡ i)) → TakesSteps p g k prices b xs ys l P → TakesStep p g k prices b ys zs l i → TakesSteps p g k prices b xs zs l Q
+  pub steps_more : (b : Option ℤ) (xs ys zs : List Label) (l : Label) (i : ℕ) (P Q : ℕ → Type 0) → ((j : ℕ) → Q j → P j ⊎ (j ≡ i)) → TakesSteps q b xs ys l P → TakesStep q b ys zs l i → TakesSteps q b xs zs l Q
   steps_more b xs ys zs l i P Q split steps stepped = record {
-    moved = moved_through p g k prices xs ys zs steps.moved stepped.moved;
+    moved = moved_through q xs ys zs steps.moved stepped.moved;
     labelled = stepped.labelled;
     met = λ j among can. elim (split j among) [
       | inl old ↦ elim (steps.met j old can) [
-        | inl dominated ↦ inl (dominated_through p g k prices ys zs _ stepped.moved dominated)
+        | inl dominated ↦ inl (dominated_through q ys zs _ stepped.moved dominated)
         | inr counted ↦ inr counted
       ]
       | inr same ↦ rw same (stepped.met (rw same at can))
@@ -260,10 +256,10 @@ module _ (p : Problem) (g : Region) (k : ℕ) (prices : List ℤ) where
   }
 
   -- each customer to whom a step may be taken is one of these
-  pub steps_all : (b : Option ℤ) (xs ys : List Label) (l : Label) (P : ℕ → Type 0) → ((j : ℕ) → IsCustomer p j → l.front.time + distance p l.front.last j ≤ due p j → P j) → TakesSteps p g k prices b xs ys l P → TakesSteps p g k prices b xs ys l (IsCustomer p)
+  pub steps_all : (b : Option ℤ) (xs ys : List Label) (l : Label) (P : ℕ → Type 0) → ((j : ℕ) → IsCustomer q.problem j → l.front.time + distance q.problem l.front.last j ≤ due q.problem j → P j) → TakesSteps q b xs ys l P → TakesSteps q b xs ys l (IsCustomer q.problem)
   steps_all b xs ys l P reached steps = record { moved = steps.moved; labelled = steps.labelled; met = λ j customer can. steps.met j (reached j customer (omega (arith, can.due))) can }
 
-  pub here_still : (b : Option ℤ) (xs ys : List Label) (l : Label) (index : ℕ) (P : ℕ → Type 0) → index < length xs → IsSameStop (label_in xs index) l → TakesSteps p g k prices b xs ys l P → IsSameStop (label_in ys index) l
+  pub here_still : (b : Option ℤ) (xs ys : List Label) (l : Label) (index : ℕ) (P : ℕ → Type 0) → index < length xs → IsSameStop (label_in xs index) l → TakesSteps q b xs ys l P → IsSameStop (label_in ys index) l
   here_still b xs ys l index P within here steps =
       let later = (steps.moved.grown.later index within).same in
       record {
@@ -273,73 +269,73 @@ module _ (p : Problem) (g : Region) (k : ℕ) (prices : List ℤ) where
         stops = here.stops ∙ sym later.stops;
       }
 
-module _ (p : Problem) (g : Region) (k : ℕ) (prices : List ℤ) (l : Label) (b : Best) (counted : IsCounted p g k prices b.value (state_at p k l)) where
+module _ (q : Pricing) (l : Label) (b : Best) (counted : IsCounted q b.value (state_at q l)) where
   -- nothing after the label costs less than the best: it needs no step
-  pub end_passed : (index : ℕ) → CountsEnd p g k l index b b
+  pub end_passed : (index : ℕ) → CountsEnd q l index b b
   end_passed index = record { lower = λ y h. h; counted = λ can. counted [] can; from = inl refl }
 
-  pub steps_passed : (xs : List Label) (P : ℕ → Type 0) → IsArena p g k prices xs → TakesSteps p g k prices b.value xs xs l P
-  steps_passed xs P labelled = record { moved = moved_none p g k prices xs; labelled = labelled; met = λ j among can. inr (λ s h. counted (j ∷ s) (can, h)) }
+  pub steps_passed : (xs : List Label) (P : ℕ → Type 0) → IsArena q xs → TakesSteps q b.value xs xs l P
+  steps_passed xs P labelled = record { moved = moved_none q xs; labelled = labelled; met = λ j among can. inr (λ s h. counted (j ∷ s) (can, h)) }
 
 -- what ended at a label still ends there
-module _ (p : Problem) (g : Region) (k : ℕ) (xs ys : List Label) (longer : IsLonger xs ys) where
-  ends_longer : (m : ℕ) (z : ℤ) → EndsAt p g k xs m z → EndsAt p g k ys m z
+module _ (q : Pricing) (xs ys : List Label) (longer : IsLonger xs ys) where
+  ends_longer : (m : ℕ) (z : ℤ) → EndsAt q xs m z → EndsAt q ys m z
   ends_longer m z h =
       let same = longer.same m h.within in
       record {
         within = omega (arith, h.within, longer.longer);
-        can = rw (same_state p k _ _ same) h.can;
+        can = rw (same_state q _ _ same) h.can;
         value = rw same.front h.value;
       }
 
-  attained_longer : (o : Option ℤ) (m : ℕ) → MatchOption o (Unit {0}) (λ z. EndsAt p g k xs m z) → MatchOption o (Unit {0}) (λ z. EndsAt p g k ys m z)
+  attained_longer : (o : Option ℤ) (m : ℕ) → MatchOption o (Unit {0}) (λ z. EndsAt q xs m z) → MatchOption o (Unit {0}) (λ z. EndsAt q ys m z)
   attained_longer None m h = tt
   attained_longer (Some z) m h = ends_longer m z h
 
-  attained_by : (b c : Best) (l : Label) (index : ℕ) → index < length xs → label_in xs index ≡ l → IsAttained p g k xs b → CountsEnd p g k l index b c → IsAttained p g k ys c
+  attained_by : (b c : Best) (l : Label) (index : ℕ) → index < length xs → label_in xs index ≡ l → IsAttained q xs b → CountsEnd q l index b c → IsAttained q ys c
   attained_by b c l index within here before ending = by ending.from
     where
-      by : ((c ≡ b) ⊎ (CanEnd p g (state_at p k l) × ((c.value ≡ Some (end_cost p l.front)) × (c.index ≡ index)))) → IsAttained p g k ys c
+      by : ((c ≡ b) ⊎ (CanEnd q (state_at q l) × ((c.value ≡ Some (end_cost q.problem l.front)) × (c.index ≡ index)))) → IsAttained q ys c
       by (inl same) = rw same (attained_longer b.value b.index before)
-      by (inr h) = rw (h.1.0, h.1.1) (ends_longer index (end_cost p l.front) (record { within = within; can = rw here h.0; value = ap (λ (a : Label). end_cost p a.front) here }))
+      by (inr h) = rw (h.1.0, h.1.1) (ends_longer index (end_cost q.problem l.front) (record { within = within; can = rw here h.0; value = ap (λ (a : Label). end_cost q.problem a.front) here }))
 
 -- labels were added and dropped, none was extended, and the best hasn't grown
-module _ (p : Problem) (g : Region) (k : ℕ) (prices : List ℤ) (xs ys : List Label) where
-  active_or_pending : IsGrown xs ys → (a : State) → HasActive p k ys a → HasActive p k xs a ⊎ HasPending p k ys a
+module _ (q : Pricing) (xs ys : List Label) where
+  active_or_pending : IsGrown xs ys → (a : State) → HasActive q ys a → HasActive q xs a ⊎ HasPending q ys a
   active_or_pending grown a s = elim (cases_lt s.index (length xs)) [
     | inl old ↦ (let later = grown.later s.index old in
-        inl (record { index = s.index; within = old; active = later.active s.active; is = sym (same_state p k _ _ later.same) ∙ s.is }))
+        inl (record { index = s.index; within = old; active = later.active s.active; is = sym (same_state q _ _ later.same) ∙ s.is }))
     | inr new ↦ inr (record { index = s.index; within = s.within; unextended = record { active = s.active; extended = grown.fresh s.index new s.within }; is = s.is })
   ]
 
-  covers_moved : (b c : Option ℤ) → IsMoved p g k prices xs ys → ((y : ℤ) → IsAtMost b y → IsAtMost c y)
-      → CoversAll p g k prices b (HasPending p k xs) (HasActive p k xs) → CoversAll p g k prices c (HasPending p k ys) (HasActive p k ys)
+  covers_moved : (b c : Option ℤ) → IsMoved q xs ys → ((y : ℤ) → IsAtMost b y → IsAtMost c y)
+      → CoversAll q b (HasPending q xs) (HasActive q xs) → CoversAll q c (HasPending q ys) (HasActive q ys)
   covers_moved b c moved lower covers =
-      covers_grown p g k prices b c (HasPending p k xs) (HasActive p k xs) (HasPending p k ys) (HasActive p k ys) lower moved.pending (active_or_pending moved.grown) covers
+      covers_grown q b c (HasPending q xs) (HasActive q xs) (HasPending q ys) (HasActive q ys) lower moved.pending (active_or_pending moved.grown) covers
 
-  pub complete_stepped : (b : Best) (o : Option ℤ) (l : Label) (j : ℕ) → IsComplete p g k prices xs b → TakesStep p g k prices o xs ys l j → IsComplete p g k prices ys b
+  pub complete_stepped : (b : Best) (o : Option ℤ) (l : Label) (j : ℕ) → IsComplete q xs b → TakesStep q o xs ys l j → IsComplete q ys b
   complete_stepped b o l j so_far step = record {
     labelled = step.labelled;
-    first = dominated_through p g k prices xs ys (start p) step.moved so_far.first;
+    first = dominated_through q xs ys (start q) step.moved so_far.first;
     covers = covers_moved b.value b.value step.moved (λ y h. h) so_far.covers;
-    attained = attained_longer p g k xs ys (grown_longer xs ys step.moved.grown) b.value b.index so_far.attained;
+    attained = attained_longer q xs ys (grown_longer xs ys step.moved.grown) b.value b.index so_far.attained;
   }
 
-pub complete_counted : (p : Problem) (g : Region) (k : ℕ) (prices : List ℤ) (xs : List Label) (b c : Best) (l : Label) (index : ℕ) → index < length xs → label_in xs index ≡ l
-    → IsComplete p g k prices xs b → CountsEnd p g k l index b c → IsComplete p g k prices xs c
-complete_counted p g k prices xs b c l index within here so_far ending = record {
+pub complete_counted : (q : Pricing) (xs : List Label) (b c : Best) (l : Label) (index : ℕ) → index < length xs → label_in xs index ≡ l
+    → IsComplete q xs b → CountsEnd q l index b c → IsComplete q xs c
+complete_counted q xs b c l index within here so_far ending = record {
   labelled = so_far.labelled;
   first = so_far.first;
-  covers = covers_moved p g k prices xs xs b.value c.value (moved_none p g k prices xs) ending.lower so_far.covers;
-  attained = attained_by p g k xs xs (grown_longer xs xs (grown_none xs)) b c l index within here so_far.attained ending;
+  covers = covers_moved q xs xs b.value c.value (moved_none q xs) ending.lower so_far.covers;
+  attained = attained_by q xs xs (grown_longer xs xs (grown_none xs)) b c l index within here so_far.attained ending;
 }
 
 -- the label at an index was extended
 abbrev pub done : Label → Label
 done l = record l { extended = true }
 
-module _ (p : Problem) (g : Region) (k : ℕ) (prices : List ℤ) (xs ys : List Label) (index : ℕ) (b after : Best) (l : Label) (so_far : IsComplete p g k prices xs b) (within : index < length xs)
-    (here : label_in xs index ≡ l) (ending : CountsEnd p g k l index b after) (steps : TakesSteps p g k prices after.value xs ys l (IsCustomer p)) where
+module _ (q : Pricing) (xs ys : List Label) (index : ℕ) (b after : Best) (l : Label) (so_far : IsComplete q xs b) (within : index < length xs)
+    (here : label_in xs index ≡ l) (ending : CountsEnd q l index b after) (steps : TakesSteps q after.value xs ys l (IsCustomer q.problem)) where
   abbrev zs : List Label
   zs = set ys index (done (label_in ys index))
 
@@ -367,28 +363,28 @@ module _ (p : Problem) (g : Region) (k : ℕ) (prices : List ℤ) (xs ys : List 
     | inr apart ↦ ap (λ (a : Label). a.active) (zs_other m apart)
   ]
 
-  active_zs : (a : State) → HasActive p k ys a → HasActive p k zs a
-  active_zs a s = record { index = s.index; within = omega (arith, s.within, count_zs); active = zs_active s.index ∙ s.active; is = same_state p k _ _ (zs_same s.index) ∙ s.is }
+  active_zs : (a : State) → HasActive q ys a → HasActive q zs a
+  active_zs a s = record { index = s.index; within = omega (arith, s.within, count_zs); active = zs_active s.index ∙ s.active; is = same_state q _ _ (zs_same s.index) ∙ s.is }
 
-  active_ys : (a : State) → HasActive p k zs a → HasActive p k ys a
-  active_ys a s = record { index = s.index; within = omega (arith, s.within, count_zs); active = sym (zs_active s.index) ∙ s.active; is = sym (same_state p k _ _ (zs_same s.index)) ∙ s.is }
+  active_ys : (a : State) → HasActive q zs a → HasActive q ys a
+  active_ys a s = record { index = s.index; within = omega (arith, s.within, count_zs); active = sym (zs_active s.index) ∙ s.active; is = sym (same_state q _ _ (zs_same s.index)) ∙ s.is }
 
-  is_here : state_at p k (label_in ys index) ≡ state_at p k l
-  is_here = same_state p k _ _ (steps.moved.grown.later index within).same ∙ ap (state_at p k) here
+  is_here : state_at q (label_in ys index) ≡ state_at q l
+  is_here = same_state q _ _ (steps.moved.grown.later index within).same ∙ ap (state_at q) here
 
-  others : (a : State) → HasPending p k ys a → (a ≡ state_at p k l) ⊎ HasPending p k zs a
+  others : (a : State) → HasPending q ys a → (a ≡ state_at q l) ⊎ HasPending q zs a
   others a s = elim (cases_eq s.index index) [
-    | inl same ↦ inl (sym s.is ∙ ap (λ (m : ℕ). state_at p k (label_in ys m)) same ∙ is_here)
+    | inl same ↦ inl (sym s.is ∙ ap (λ (m : ℕ). state_at q (label_in ys m)) same ∙ is_here)
     | inr apart ↦ (let e = zs_other s.index apart in
-        inr (record { index = s.index; within = omega (arith, s.within, count_zs); unextended = rw e s.unextended; is = ap (state_at p k) e ∙ s.is }))
+        inr (record { index = s.index; within = omega (arith, s.within, count_zs); unextended = rw e s.unextended; is = ap (state_at q) e ∙ s.is }))
   ]
 
-  each_step : (j : ℕ) → CanStep p g (state_at p k l) j → IsMet p g k prices after.value ys (step p k prices (state_at p k l) j)
+  each_step : (j : ℕ) → CanStep q (state_at q l) j → IsMet q after.value ys (step q (state_at q l) j)
   each_step j can = steps.met j can.customer can
 
-  covers : CoversAll p g k prices after.value (HasPending p k zs) (HasActive p k zs)
-  covers a active = covers_retired p g k prices after.value (HasPending p k ys) (HasPending p k zs) (HasActive p k ys) (state_at p k l) ending.counted each_step others
-      (covers_moved p g k prices xs ys b.value after.value steps.moved ending.lower so_far.covers) a (active_ys a active)
+  covers : CoversAll q after.value (HasPending q zs) (HasActive q zs)
+  covers a active = covers_retired q after.value (HasPending q ys) (HasPending q zs) (HasActive q ys) (state_at q l) ending.counted each_step others
+      (covers_moved q xs ys b.value after.value steps.moved ending.lower so_far.covers) a (active_ys a active)
 
   longer_zs : IsLonger ys zs
   longer_zs = record { longer = omega (arith, count_zs); same = λ m w. zs_same m }
@@ -399,13 +395,13 @@ module _ (p : Problem) (g : Region) (k : ℕ) (prices : List ℤ) (xs ys : List 
   xs_longer_zs : IsLonger xs zs
   xs_longer_zs = record { longer = omega (arith, count_zs, steps.moved.grown.longer); same = xs_zs }
 
-  first : IsDominated p g k prices zs (start p)
+  first : IsDominated q zs (start q)
   first =
-      let b = dominated_through p g k prices xs ys (start p) steps.moved so_far.first in
+      let b = dominated_through q xs ys (start q) steps.moved so_far.first in
       (b.0, (active_zs b.0 b.1.0, b.1.1))
 
-  complete_zs : IsComplete p g k prices zs after
-  complete_zs = record { labelled = arena_longer p g k prices ys zs longer_zs count_zs steps.labelled; first = first; covers = covers; attained = attained_by p g k xs zs xs_longer_zs b after l index within here so_far.attained ending }
+  complete_zs : IsComplete q zs after
+  complete_zs = record { labelled = arena_longer q ys zs longer_zs count_zs steps.labelled; first = first; covers = covers; attained = attained_by q xs zs xs_longer_zs b after l index within here so_far.attained ending }
 
   onward_zs : IsOnward xs zs index
   onward_zs = record { longer = omega (arith, count_zs, steps.moved.grown.longer); still = still }
@@ -422,7 +418,7 @@ module _ (p : Problem) (g : Region) (k : ℕ) (prices : List ℤ) (xs ys : List 
   written : (r : Label) → r ≡ get_or ys index r → set ys index (done r) ≡ zs
   written r e = ap (λ (a : Label). set ys index (done a)) (get_or_read ys index r in_ys e blank)
 
-  pub complete_written : (r : Label) → r ≡ get_or ys index r → IsComplete p g k prices (set ys index (done r)) after
+  pub complete_written : (r : Label) → r ≡ get_or ys index r → IsComplete q (set ys index (done r)) after
   complete_written r e = rw (written r e) complete_zs
 
   pub onward_written : (r : Label) → r ≡ get_or ys index r → IsOnward xs (set ys index (done r)) index
@@ -463,51 +459,48 @@ pending_more xs ys index within swept onward = record { each = each }
 pub pending_all : (xs : List Label) (index : ℕ) → length xs ≤ index → NonePending xs index → NonePending xs (length xs)
 pending_all xs index past swept = record { each = λ m low within. swept.each m (omega (arith, low, past)) within }
 
-module _ (p : Problem) (g : Region) (k : ℕ) (prices : List ℤ) where
-  pub complete_first : (xs : List Label) (f : Best) → IsFirst p xs → f.value ≡ None → IsComplete p g k prices xs f
+module _ (q : Pricing) where
+  pub complete_first : (xs : List Label) (f : Best) → IsFirst q.problem xs → f.value ≡ None → IsComplete q xs f
   complete_first xs f h value =
-      let reached : IsLabel p g k prices (h.label ∷ []) h.label = record {
+      let reached : IsLabel q (h.label ∷ []) h.label = record {
         bounded = h.bounded;
         light = omega (arith, h.stops);
         parent = omega (arith, h.parent);
-        reached = rw h.stops (reaches_same p g k prices [] (state_at p k h.label) (start p) (h.start k) (reaches_none p g k prices));
+        reached = rw h.stops (reaches_same q [] (state_at q h.label) (start q) (h.start q refl) (reaches_none q));
       } in
       rw h.one (record {
         labelled = record { each = λ m w. (let e : m ≡ 0 = omega (arith, w) in rw e reached) };
-        first = (state_at p k h.label, (record { index = 0; within = omega arith; active = h.unextended.active; is = refl }, carries_same p g k prices _ _ (h.start k)));
+        first = (state_at q h.label, (record { index = 0; within = omega arith; active = h.unextended.active; is = refl }, carries_same q _ _ (h.start q refl)));
         covers = λ a active s completes. inr (record { state = a; pending = to_pending a active; rest = s; short = omega arith; completes = completes; low = omega (arith, ints) });
         attained = rw value tt;
       })
     where
-      to_pending : (a : State) → HasActive p k (h.label ∷ []) a → HasPending p k (h.label ∷ []) a
+      to_pending : (a : State) → HasActive q (h.label ∷ []) a → HasPending q (h.label ∷ []) a
       to_pending a s =
           let e : s.index ≡ 0 = omega (arith, s.within) in
           record { index = 0; within = omega arith; unextended = h.unextended; is = rw e at s.is }
 
-  module _ (xs : List Label) (f : Best) (searched : IsComplete p g k prices xs f) where
+  module _ (xs : List Label) (f : Best) (searched : IsComplete q xs f) where
     pub in_list : IsInList xs f
     in_list = by f.value searched.attained
       where
-        by : (o : Option ℤ) → MatchOption o (Unit {0}) (λ z. EndsAt p g k xs f.index z) → MatchOption o (Unit {0}) (λ _. f.index < length xs)
+        by : (o : Option ℤ) → MatchOption o (Unit {0}) (λ z. EndsAt q xs f.index z) → MatchOption o (Unit {0}) (λ _. f.index < length xs)
         by None h = tt
         by (Some z) h = h.within
 
     module _ (swept : NonePending xs (length xs)) (l : Least) (answer : IsAnswer xs f l.value l.route.items) where
-      reached_by : (o : Option ℤ) → MatchOption o (Unit {0}) (λ z. EndsAt p g k xs f.index z)
-          → MatchOption o (l.route.items ≡ []) (λ _. l.route.items ≡ trace xs (label_in xs f.index).stops (label_in xs f.index)) → IsReached p g k prices o l.route.items
+      reached_by : (o : Option ℤ) → MatchOption o (Unit {0}) (λ z. EndsAt q xs f.index z)
+          → MatchOption o (l.route.items ≡ []) (λ _. l.route.items ≡ trace xs (label_in xs f.index).stops (label_in xs f.index)) → IsReached q o l.route.items
       reached_by None h e = e
       reached_by (Some z) h e =
           let label = searched.labelled.each f.index h.within in
           rw e (rw append-nil at (label.reached.completes [] h.can), rw append-nil at (label.reached.value []) ∙ h.value)
 
-      reached : IsReached p g k prices l.value l.route.items
+      reached : IsReached q l.value l.route.items
       reached = rw answer.amount (reached_by f.value searched.attained answer.stops)
 
-      each : (r : List ℕ) → IsRelaxed p g k r → IsAtMost l.value (reduced_cost p prices r)
-      each r relaxed = rw answer.amount (least_at_end p g k prices f.value (HasPending p k xs) (HasActive p k xs) searched.covers (λ a s. swept.each s.index s.within s.within s.unextended) searched.first r relaxed)
+      each : (r : List ℕ) → IsRelaxed q.problem q.region q.neighbours r → IsAtMost l.value (reduced_cost q.problem q.prices r)
+      each r relaxed = rw answer.amount (least_at_end q f.value (HasPending q xs) (HasActive q xs) searched.covers (λ a s. swept.each s.index s.within s.within s.unextended) searched.first r relaxed)
 
-      pub value_at_end : HasLeastValue p g k prices l
-      value_at_end = least_value p g k prices l reached each
-
-      pub route_at_end : HasItsRoute p g k prices l
-      route_at_end = least_route p g k prices l reached
+      pub is_least_at_end : IsLeastOf q l
+      is_least_at_end = record { value = least_value q l reached each; route = least_route q l reached }

@@ -1,28 +1,22 @@
 -- Each relaxed route is covered: by the best so far, or by a pending state, with the stops that come after it.
-use Rattle.std.proofs.Common.{◌≡◌, ℕ, zero, suc, ◌≤◌, List, [], ◌∷◌, length, arith, ◌⊎◌, inl, inr, Option, Some, None}
+use Rattle.std.proofs.Common.{◌≡◌, ℕ, zero, suc, ◌≤◌, List, [], ◌∷◌, length, arith, ◌⊎◌, inl, inr, Option}
 use Rattle.std.specs.Prelude.{ℤ, ◌≤ℤ◌}
 use Rattle.std.proofs.lemmas.Int.{ints}
-use Rattle.solomon_reader.specs.Problem.{Problem}
-use Rattle.solomon_reader.specs.Region.{Region}
 use Rattle.solomon_reader.specs.Relaxed.{IsRelaxed, reduced_cost}
-use Rattle.solomon_reader.specs.States.{State, start, step, CanStep, CanEnd, Completes, value_with}
-use Rattle.labelling.specs.Cover.{IsAtMost, IsCovered, CoversAll, Carries, IsCounted}
-use Rattle.solomon_reader.proofs.Completions.{completes_relaxed, value_is}
+use Rattle.solomon_reader.specs.States.{Pricing, State, start, step, CanStep, CanEnd, Completes, value_with, IsAtMost}
+use Rattle.labelling.specs.Cover.{IsCovered, CoversAll, Carries, IsCounted}
+use Rattle.solomon_reader.proofs.Completions.{completes_relaxed, value_is, at_most_more}
 
-pub at_most_more : (b : Option ℤ) (y z : ℤ) → y ≤ℤ z → IsAtMost b y → IsAtMost b z
-at_most_more None y z le h = absurd h
-at_most_more (Some m) y z le h = omega (arith, ints, le, h)
-
-module _ (p : Problem) (g : Region) (k : ℕ) (prices : List ℤ) where
-  pub covered_more : (b : Option ℤ) (Pending : State → Type 0) (n m : ℕ) (y z : ℤ) → n ≤ m → y ≤ℤ z → IsCovered p g k prices b Pending n y → IsCovered p g k prices b Pending m z
+module _ (q : Pricing) where
+  pub covered_more : (b : Option ℤ) (Pending : State → Type 0) (n m : ℕ) (y z : ℤ) → n ≤ m → y ≤ℤ z → IsCovered q b Pending n y → IsCovered q b Pending m z
   covered_more b Pending n m y z le low (inl h) = inl (at_most_more b y z low h)
   covered_more b Pending n m y z le low (inr w) = inr (record { state = w.state; pending = w.pending; rest = w.rest; short = omega (arith, w.short); completes = w.completes; low = omega (arith, ints, w.low) })
 
   -- for each pending state one that carries it is pending afterwards, and the best hasn't grown
   pub covered_moved : (b c : Option ℤ) (Pending After : State → Type 0) (n : ℕ) (z : ℤ)
       → ((y : ℤ) → IsAtMost b y → IsAtMost c y)
-      → ((a : State) → Pending a → (t : State) × (After t × Carries p g k prices t a))
-      → IsCovered p g k prices b Pending n z → IsCovered p g k prices c After n z
+      → ((a : State) → Pending a → (t : State) × (After t × Carries q t a))
+      → IsCovered q b Pending n z → IsCovered q c After n z
   covered_moved b c Pending After n z found moved (inl h) = inl (found z h)
   covered_moved b c Pending After n z found moved (inr w) =
       let t = moved w.state w.pending in
@@ -38,9 +32,9 @@ module _ (p : Problem) (g : Region) (k : ℕ) (prices : List ℤ) where
   -- what active afterwards stood before, or is pending
   pub covers_grown : (b c : Option ℤ) (Pending Active After Now : State → Type 0)
       → ((y : ℤ) → IsAtMost b y → IsAtMost c y)
-      → ((a : State) → Pending a → (t : State) × (After t × Carries p g k prices t a))
+      → ((a : State) → Pending a → (t : State) × (After t × Carries q t a))
       → ((a : State) → Now a → Active a ⊎ After a)
-      → CoversAll p g k prices b Pending Active → CoversAll p g k prices c After Now
+      → CoversAll q b Pending Active → CoversAll q c After Now
   covers_grown b c Pending Active After Now found moved grown covers a now s h =
       elim (grown a now) [
         | inl active ↦ covered_moved b c Pending After (length s) _ found moved (covers a active s h)
@@ -49,32 +43,32 @@ module _ (p : Problem) (g : Region) (k : ℕ) (prices : List ℤ) where
 
   -- a state is retired: its own end was counted, and each of its steps active or is beaten by what active
   module _ (b : Option ℤ) (Pending After Active : State → Type 0) (x : State)
-      (counted : CanEnd p g x → IsAtMost b (value_with p k prices x []))
-      (spread : (j : ℕ) → CanStep p g x j → ((t : State) × (Active t × Carries p g k prices t (step p k prices x j))) ⊎ IsCounted p g k prices b (step p k prices x j))
+      (counted : CanEnd q x → IsAtMost b (value_with q x []))
+      (spread : (j : ℕ) → CanStep q x j → ((t : State) × (Active t × Carries q t (step q x j))) ⊎ IsCounted q b (step q x j))
       (others : (a : State) → Pending a → (a ≡ x) ⊎ After a)
-      (covers : CoversAll p g k prices b Pending Active) where
-    ends_at_x : (n : ℕ) (z : ℤ) → Completes p g k prices x [] → value_with p k prices x [] ≤ℤ z → IsCovered p g k prices b After n z
+      (covers : CoversAll q b Pending Active) where
+    ends_at_x : (n : ℕ) (z : ℤ) → Completes q x [] → value_with q x [] ≤ℤ z → IsCovered q b After n z
     ends_at_x n z h low = inl (at_most_more b _ z low (counted h))
 
-    goes_on_at_x : (n : ℕ) (z : ℤ) (j : ℕ) (s : List ℕ) → ((y : ℤ) → IsCovered p g k prices b Pending n y → IsCovered p g k prices b After n y)
-        → length s ≤ n → CanStep p g x j → Completes p g k prices (step p k prices x j) s → value_with p k prices (step p k prices x j) s ≤ℤ z → IsCovered p g k prices b After (suc n) z
+    goes_on_at_x : (n : ℕ) (z : ℤ) (j : ℕ) (s : List ℕ) → ((y : ℤ) → IsCovered q b Pending n y → IsCovered q b After n y)
+        → length s ≤ n → CanStep q x j → Completes q (step q x j) s → value_with q (step q x j) s ≤ℤ z → IsCovered q b After (suc n) z
     goes_on_at_x n z j s again short can h low = elim (spread j can) [
       | inl t ↦ (let on = t.1.1.on s h in
-          let now : IsCovered p g k prices b Pending n (value_with p k prices t.0 s) = covered_more b Pending (length s) n _ _ short (omega (arith, ints)) (covers t.0 t.1.0 s on.0) in
-          covered_more b After n (suc n) (value_with p k prices t.0 s) z (omega arith) (omega (arith, ints, on.1, low)) (again _ now))
+          let now : IsCovered q b Pending n (value_with q t.0 s) = covered_more b Pending (length s) n _ _ short (omega (arith, ints)) (covers t.0 t.1.0 s on.0) in
+          covered_more b After n (suc n) (value_with q t.0 s) z (omega arith) (omega (arith, ints, on.1, low)) (again _ now))
       | inr counted ↦ inl (at_most_more b _ z low (counted s h))
     ]
 
-    at_none : (z : ℤ) (rest : List ℕ) → length rest ≤ 0 → Completes p g k prices x rest → value_with p k prices x rest ≤ℤ z → IsCovered p g k prices b After 0 z
+    at_none : (z : ℤ) (rest : List ℕ) → length rest ≤ 0 → Completes q x rest → value_with q x rest ≤ℤ z → IsCovered q b After 0 z
     at_none z [] short h low = ends_at_x 0 z h low
     at_none z (j ∷ s) short h low = absurd (omega (arith, short))
 
-    at_some : (n : ℕ) (z : ℤ) (rest : List ℕ) → ((y : ℤ) → IsCovered p g k prices b Pending n y → IsCovered p g k prices b After n y)
-        → length rest ≤ suc n → Completes p g k prices x rest → value_with p k prices x rest ≤ℤ z → IsCovered p g k prices b After (suc n) z
+    at_some : (n : ℕ) (z : ℤ) (rest : List ℕ) → ((y : ℤ) → IsCovered q b Pending n y → IsCovered q b After n y)
+        → length rest ≤ suc n → Completes q x rest → value_with q x rest ≤ℤ z → IsCovered q b After (suc n) z
     at_some n z [] again short h low = ends_at_x (suc n) z h low
     at_some n z (j ∷ s) again short h low = goes_on_at_x n z j s again (omega (arith, short)) h.0 h.1 low
 
-    retire : (n : ℕ) (z : ℤ) → IsCovered p g k prices b Pending n z → IsCovered p g k prices b After n z
+    retire : (n : ℕ) (z : ℤ) → IsCovered q b Pending n z → IsCovered q b After n z
     retire n z (inl h) = inl h
     retire zero z (inr w) = elim (others w.state w.pending) [
       | inl same ↦ at_none z w.rest w.short (rw same at w.completes) (rw same at w.low)
@@ -85,17 +79,17 @@ module _ (p : Problem) (g : Region) (k : ℕ) (prices : List ℤ) where
       | inr after ↦ inr (record { state = w.state; pending = after; rest = w.rest; short = w.short; completes = w.completes; low = w.low })
     ]
 
-    pub covers_retired : CoversAll p g k prices b After Active
+    pub covers_retired : CoversAll q b After Active
     covers_retired a active s h = retire (length s) _ (covers a active s h)
 
   -- nothing is pending any more, and something as good as the start active
-  pub least_at_end : (b : Option ℤ) (Pending Active : State → Type 0) → CoversAll p g k prices b Pending Active → ((a : State) → ¬ Pending a)
-      → (t : State) × (Active t × Carries p g k prices t (start p))
-      → (r : List ℕ) → IsRelaxed p g k r → IsAtMost b (reduced_cost p prices r)
+  pub least_at_end : (b : Option ℤ) (Pending Active : State → Type 0) → CoversAll q b Pending Active → ((a : State) → ¬ Pending a)
+      → (t : State) × (Active t × Carries q t (start q))
+      → (r : List ℕ) → IsRelaxed q.problem q.region q.neighbours r → IsAtMost b (reduced_cost q.problem q.prices r)
   least_at_end b Pending Active covers nothing first r relaxed =
-      let from_start = completes_relaxed p g k prices r relaxed in
+      let from_start = completes_relaxed q r relaxed in
       let on = first.1.1.on r from_start in
       elim (covers first.0 first.1.0 r on.0) [
-        | inl h ↦ rw (← value_is p g k prices r) (at_most_more b _ _ on.1 h)
+        | inl h ↦ rw (← value_is q r) (at_most_more b _ _ on.1 h)
         | inr w ↦ absurd (nothing w.state w.pending)
       ]

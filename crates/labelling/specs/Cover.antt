@@ -1,30 +1,24 @@
 -- How far a search for the least reduced cost has come.
-use Rattle.std.specs.Prelude.{◌≡◌, ℕ, ◌≤◌, IsTrue, ◌⊎◌, List, length, ℤ, ◌≤ℤ◌, Option, Some, None}
-use Rattle.solomon_reader.specs.Problem.{Problem}
-use Rattle.solomon_reader.specs.Region.{Region}
-use Rattle.solomon_reader.specs.States.{State, Completes, value_with}
-
--- the best is at most z
-abbrev pub IsAtMost : Option ℤ → ℤ → Type 0
-IsAtMost None z = ⊥
-IsAtMost (Some m) z = m ≤ℤ z
+use Rattle.std.specs.Prelude.{◌≡◌, ℕ, ◌≤◌, IsTrue, ◌⊎◌, List, length, ℤ, ◌≤ℤ◌, Option}
+use Rattle.solomon_reader.specs.States.{Pricing, State, Completes, value_with, IsAtMost}
+use Rattle.fronts.specs.declared.front.Front.{Front}
 
 -- a pending state with at most n stops after it, at a value of at most z
-pub record Witness (p : Problem) (g : Region) (k : ℕ) (prices : List ℤ) (Pending : State → Type 0) (n : ℕ) (z : ℤ) : Type 0 where
+pub record Witness (q : Pricing) (Pending : State → Type 0) (n : ℕ) (z : ℤ) : Type 0 where
   pub state : State
   pub pending : Pending state
   pub rest : List ℕ
   pub short : length rest ≤ n
-  pub completes : Completes p g k prices state rest
-  pub low : value_with p k prices state rest ≤ℤ z
+  pub completes : Completes q state rest
+  pub low : value_with q state rest ≤ℤ z
 
-abbrev pub IsCovered : Problem → Region → ℕ → List ℤ → Option ℤ → (State → Type 0) → ℕ → ℤ → Type 0
-IsCovered p g k prices b Pending n z = IsAtMost b z ⊎ Witness p g k prices Pending n z
+abbrev pub IsCovered : Pricing → Option ℤ → (State → Type 0) → ℕ → ℤ → Type 0
+IsCovered q b Pending n z = IsAtMost b z ⊎ Witness q Pending n z
 
 -- all that may come after an active state is covered
-abbrev pub CoversAll : Problem → Region → ℕ → List ℤ → Option ℤ → (State → Type 0) → (State → Type 0) → Type 0
-CoversAll p g k prices b Pending Active =
-    (a : State) → Active a → (s : List ℕ) → Completes p g k prices a s → IsCovered p g k prices b Pending (length s) (value_with p k prices a s)
+abbrev pub CoversAll : Pricing → Option ℤ → (State → Type 0) → (State → Type 0) → Type 0
+CoversAll q b Pending Active =
+    (a : State) → Active a → (s : List ℕ) → Completes q a s → IsCovered q b Pending (length s) (value_with q a s)
 
 -- a is no worse than b, but maybe heavier
 pub record IsAhead (a b : State) : Type 0 where
@@ -34,13 +28,13 @@ pub record IsAhead (a b : State) : Type 0 where
   pub memory : (u : ℕ) → IsTrue (a.memory u) → IsTrue (b.memory u)
 
 -- all that may come after b may come after a, at no greater cost
-pub record Carries (p : Problem) (g : Region) (k : ℕ) (prices : List ℤ) (a b : State) : Type 0 where
-  pub on : (s : List ℕ) → Completes p g k prices b s → Completes p g k prices a s × (value_with p k prices a s ≤ℤ value_with p k prices b s)
+pub record Carries (q : Pricing) (a b : State) : Type 0 where
+  pub on : (s : List ℕ) → Completes q b s → Completes q a s × (value_with q a s ≤ℤ value_with q b s)
 
 -- all that may come after the state costs no less than the best
-abbrev pub IsCounted : Problem → Region → ℕ → List ℤ → Option ℤ → State → Type 0
-IsCounted p g k prices b a = (s : List ℕ) → Completes p g k prices a s → IsAtMost b (value_with p k prices a s)
+abbrev pub IsCounted : Pricing → Option ℤ → State → Type 0
+IsCounted q b a = (s : List ℕ) → Completes q a s → IsAtMost b (value_with q a s)
 
--- all that may come after a state that is no sooner and no cheaper, and remembers its last stop, costs no less than the best
-pub record IsPassed (p : Problem) (g : Region) (k : ℕ) (prices : List ℤ) (b : Option ℤ) (last time : ℕ) (cost : ℤ) : Type 0 where
-  pub each : (a : State) → a.last ≡ last → time ≤ a.time → cost ≤ℤ a.cost → IsTrue (a.memory last) → IsCounted p g k prices b a
+-- all that may come after a state that is no sooner and no cheaper than the front, and remembers its last stop, costs no less than the best
+pub record IsPassed (q : Pricing) (b : Option ℤ) (f : Front) : Type 0 where
+  pub each : (a : State) → a.last ≡ f.last → f.time ≤ a.time → f.cost ≤ℤ a.cost → IsTrue (a.memory f.last) → IsCounted q b a

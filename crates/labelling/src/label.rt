@@ -1,13 +1,11 @@
 //! Labels: the first stops of relaxed routes, with what the further ones depend on.
 
 ghost use Rattle.std.specs.Prelude.{◌≡◌, ◌+◌, ◌≤◌, ◌↔◌, IsTrue};
-ghost use Rattle.solomon_reader.specs.Problem.{IsCustomer};
 ghost use Rattle.solomon_reader.specs.States.{CanStep};
 ghost use Rattle.fronts.specs.Fronts.{IsAfter, IsBounded};
-ghost use Rattle.fronts.specs.Memories.{state_with};
+ghost use Rattle.fronts.specs.Tasks.{pricing_of};
 ghost use Rattle.labelling.specs.Arena.{state_at, IsExtension};
-ghost use Rattle.labelling.specs.Cover.{IsAhead};
-ghost use Rattle.labelling.specs.Search.{CarriesIn};
+ghost use Rattle.labelling.specs.Cover.{IsAhead, Carries};
 
 use fronts::{Completions, Front, Memory, Task};
 
@@ -40,11 +38,11 @@ impl Label {
     pub(crate) fn extend(&self, task: &Task<'_>, index: usize, front: Front, j: u16) -> Label
         requires bounded { IsBounded task.now.instance.now self.now.front }
         requires light { self.now.stops ≤ self.now.front.load }
-        requires can { CanStep task.now.instance.now task.now.region.now (state_at task.now.instance.now task.now.neighbours self.now) j }
+        requires can { CanStep (pricing_of task.now) (state_at (pricing_of task.now) self.now) j }
         requires after { IsAfter task.now.instance.now task.now.prices.now self.now.front j front }
         requires after_bounded { IsBounded task.now.instance.now front }
         requires carried { self.now.front.load + 1 ≤ front.load }
-        ensures { IsExtension task.now.instance.now task.now.neighbours task.now.prices.now self.now index j result }
+        ensures { IsExtension (pricing_of task.now) self.now index j result }
     {
         Label {
             front,
@@ -58,7 +56,8 @@ impl Label {
 
     /// Whether this one is no worse than another, the loads left aside.
     fn is_ahead(&self, task: &Task<'_>, other: &Label) -> bool
-        ensures { IsTrue result → IsAhead (state_at task.now.instance.now task.now.neighbours self.now) (state_at task.now.instance.now task.now.neighbours other.now) }
+        ensures { let q = pricing_of task.now in
+            IsTrue result → IsAhead (state_at q self.now) (state_at q other.now) }
     {
         self.front.last == other.front.last
             && self.front.time <= other.front.time
@@ -69,7 +68,8 @@ impl Label {
     /// Whether all that may come after another label may come after this one, at no greater cost. This
     /// one may be heavier where it has room for all that the other one may still load.
     pub(crate) fn dominates(&self, completions: &Completions<'_, '_>, other: &Label) -> bool
-        ensures { IsTrue result → CarriesIn completions.now self.now other.now }
+        ensures { let q = pricing_of completions.now.task.now in
+            IsTrue result → Carries q (state_at q self.now) (state_at q other.now) }
     {
         if !self.is_ahead(completions.task, other) {
             return false;

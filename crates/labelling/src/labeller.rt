@@ -5,12 +5,16 @@ ghost use Rattle.std.specs.Prelude.{◌≡◌, ◌≢◌, ℕ, ◌+◌, ◌<◌,
 ghost use Rattle.std.specs.List.{AllByRecursion};
 ghost use Rattle.solomon_reader.specs.Problem.{IsCustomer, customer_count};
 ghost use Rattle.solomon_reader.specs.CertificateText.{IsPrice};
+ghost use Rattle.solomon_reader.specs.States.{pricing, CanStep, IsAtMost};
 ghost use Rattle.solomon_reader.specs.declared.limits.TheConstants.{MOST_NEIGHBOURS};
-ghost use Rattle.labelling.specs.Answer.{HasLeastValue, HasItsRoute};
-ghost use Rattle.labelling.specs.Arena.{label_in, trace, IsPending, IsOnward, NonePending, IsInList, IsFirst, IsAnswer};
-ghost use Rattle.labelling.specs.Cover.{IsAtMost};
+ghost use Rattle.labelling.specs.Answer.{HasLeastValue, HasItsRoute, IsLeastOf};
+ghost use Rattle.labelling.specs.Arena.{label_in, state_at, trace, IsArena, CountsEnd, IsPending, IsOnward, NonePending, IsInList, IsFirst, IsAnswer};
+ghost use Rattle.labelling.specs.Cover.{IsCounted, IsPassed};
+ghost use Rattle.fronts.specs.Completions.{IsBound};
 ghost use Rattle.fronts.specs.Fronts.{IsBounded, IsTask};
-ghost use Rattle.labelling.specs.Search.{task_of, IsSameTask, AreLabels, StandsAt, CanStepTo, AreRowsFrom, ArePlacesFrom, IsAddedTo, IsBoundAt, PassesFront, PassesLabel, TakesStepTo, TakesEachStep, Recalls, AddsAtLeast, EndsFor, CountsEndOf, LosesNothing};
+ghost use Rattle.fronts.specs.Tables.{IsAllowedRow};
+ghost use Rattle.fronts.specs.Tasks.{pricing_of};
+ghost use Rattle.labelling.specs.Search.{task_of, pricing_in, KeepsBest, Continues, GoesOn, StandsAt, ArePlacesFrom, IsAddedTo, TakesStepTo, TakesEachStep, Recalls, AddsAtLeast, EndsFor, LosesNothing};
 ghost use Rattle.labelling.specs.declared.fault.LabelFault.TheVariants.{LabelLimit};
 
 use crate::best::Best;
@@ -146,8 +150,7 @@ impl<'t, 'i> Labeller<'t, 'i> {
     fn with(self, completions: &'t Completions<'t, 'i>) -> Labeller<'t, 'i>
         requires task { completions.now.task.now ≡ task_of self }
         requires complete { LosesNothing self }
-        ensures same { IsSameTask self.entry result }
-        ensures complete { LosesNothing result }
+        ensures { Continues self.entry result }
     {
         Labeller {
             completions,
@@ -172,9 +175,9 @@ impl<'t, 'i> Labeller<'t, 'i> {
 
     /// Whether nothing that may come after a front, which this bounds, costs less than the best.
     fn is_passed(&self, front: &Front, bound: &Bound, best: Option<i64>) -> bool
-        requires front { IsBounded (task_of self.now).instance.now front.now }
-        requires bound { IsBoundAt self.now front.now bound.now }
-        ensures { IsTrue result → PassesFront self.now best front.now }
+        requires front { IsBounded (pricing_in self.now).problem front.now }
+        requires bound { IsBound (pricing_in self.now) front.now.last front.now.time bound.now }
+        ensures { IsTrue result → IsPassed (pricing_in self.now) best front.now }
     {
         if front.cost + bound.least < self.cut {
             return false;
@@ -184,8 +187,8 @@ impl<'t, 'i> Labeller<'t, 'i> {
 
     /// Whether a label may not visit a customer next, as far as it remembers it.
     fn recalls(&self, label: &Label, customer: u16) -> bool
-        requires { IsBounded (task_of self.now).instance.now label.now.front }
-        ensures { IsTrue result → Recalls self.now label.now customer }
+        requires { IsBounded (pricing_in self.now).problem label.now.front }
+        ensures { IsTrue result → Recalls (pricing_in self.now) label.now customer }
     {
         let places = self.completions.task.places[usize::from(label.front.last)].as_slice();
         if usize::from(customer) >= places.len() {
@@ -198,9 +201,9 @@ impl<'t, 'i> Labeller<'t, 'i> {
     /// The least that what may come after a label adds to its reduced cost, in grains, where it remembers
     /// its last stop: the customer that comes next where the least is added may be one that it remembers.
     fn least_after(&self, label: &Label) -> i64
-        requires bounded { IsBounded (task_of self.now).instance.now label.now.front }
-        requires remembered { Recalls self.now label.now label.now.front.last }
-        ensures { AddsAtLeast self.now label.now result }
+        requires bounded { IsBounded (pricing_in self.now).problem label.now.front }
+        requires remembered { Recalls (pricing_in self.now) label.now label.now.front.last }
+        ensures { AddsAtLeast (pricing_in self.now) label.now result }
     {
         let bound = self.completions.at(label.front.last, label.front.time);
         if self.recalls(label, bound.next) {
@@ -211,8 +214,9 @@ impl<'t, 'i> Labeller<'t, 'i> {
 
     /// Whether nothing that may come after a label costs less than the best so far.
     fn leads_nowhere(&self, label: &Label) -> bool
-        requires { IsBounded (task_of self.now).instance.now label.now.front }
-        ensures { IsTrue result → PassesLabel self.now self.now.best.value label.now }
+        requires { IsBounded (pricing_in self.now).problem label.now.front }
+        ensures { let q = pricing_in self.now in
+            IsTrue result → IsCounted q self.now.best.value (state_at q label.now) }
     {
         if !self.recalls(label, label.front.last) {
             return false;
@@ -228,9 +232,7 @@ impl<'t, 'i> Labeller<'t, 'i> {
     /// an active one dominates it.
     fn add_label(&mut self, newer: &Label, room: u32) -> Result<(), LabelFault>
         ensures added { OnOk result (IsAddedTo self.old self.new newer.now) }
-        ensures same { IsSameTask self.old self.new }
-        ensures best { self.new.best ≡ self.old.best }
-        ensures unlimited { IfErr result (λ e. e ≡ LabelLimit → self.old.limit ≢ None) }
+        ensures kept { KeepsBest self.old self.new result }
     {
         let completions = self.completions;
         let index = self.labels.len();
@@ -263,14 +265,12 @@ impl<'t, 'i> Labeller<'t, 'i> {
         best: Option<i64>,
         j: u16,
     ) -> Result<(), LabelFault>
-        requires labels { AreLabels self.old }
+        requires labels { IsArena (pricing_in self.old) self.old.labels.items }
         requires index { StandsAt self.old.labels.items index label.now }
-        requires j { IsCustomer (task_of self.old).instance.now j }
-        requires can { CanStepTo self.old label.now j }
+        requires j { IsCustomer (pricing_in self.old).problem j }
+        requires can { CanStep (pricing_in self.old) (state_at (pricing_in self.old) label.now) j }
         ensures stepped { OnOk result (TakesStepTo self.old self.new best label.now j) }
-        ensures same { IsSameTask self.old self.new }
-        ensures best { self.new.best ≡ self.old.best }
-        ensures unlimited { IfErr result (λ e. e ≡ LabelLimit → self.old.limit ≢ None) }
+        ensures kept { KeepsBest self.old self.new result }
     {
         let task = self.completions.task;
         self.taken = self.taken.saturating_add(1);
@@ -296,15 +296,13 @@ impl<'t, 'i> Labeller<'t, 'i> {
         places: &[u8],
         j: u16,
     ) -> Result<(), LabelFault>
-        requires labels { AreLabels self.old }
+        requires labels { IsArena (pricing_in self.old) self.old.labels.items }
         requires index { StandsAt self.old.labels.items index label.now }
-        requires rows { AreRowsFrom self.old label.now rows.now }
-        requires places { ArePlacesFrom self.old label.now places.now }
-        requires j { IsCustomer (task_of self.old).instance.now j }
+        requires rows { IsAllowedRow (pricing_in self.old).region label.now.front.last rows.now }
+        requires places { ArePlacesFrom (pricing_in self.old) label.now places.now }
+        requires j { IsCustomer (pricing_in self.old).problem j }
         ensures stepped { OnOk result (TakesStepTo self.old self.new best label.now j) }
-        ensures same { IsSameTask self.old self.new }
-        ensures best { self.new.best ≡ self.old.best }
-        ensures unlimited { IfErr result (λ e. e ≡ LabelLimit → self.old.limit ≢ None) }
+        ensures kept { KeepsBest self.old self.new result }
     {
         let task = self.completions.task;
         if !task.can_step(&label.front, label.memory, rows, places, j) {
@@ -320,12 +318,10 @@ impl<'t, 'i> Labeller<'t, 'i> {
         index: usize,
         best: Option<i64>,
     ) -> Result<(), LabelFault>
-        requires labels { AreLabels self.old }
+        requires labels { IsArena (pricing_in self.old) self.old.labels.items }
         requires index { StandsAt self.old.labels.items index label.now }
         ensures stepped { OnOk result (TakesEachStep self.old self.new best label.now) }
-        ensures same { IsSameTask self.old self.new }
-        ensures best { self.new.best ≡ self.old.best }
-        ensures unlimited { IfErr result (λ e. e ≡ LabelLimit → self.old.limit ≢ None) }
+        ensures kept { KeepsBest self.old self.new result }
     {
         let task = self.completions.task;
         let last = usize::from(label.front.last);
@@ -342,8 +338,8 @@ impl<'t, 'i> Labeller<'t, 'i> {
 
     /// The reduced cost of the route that ends after a label, in grains, if a route may end there.
     fn end_cost(&self, label: &Label) -> Option<i64>
-        requires bounded { IsBounded (task_of self.now).instance.now label.now.front }
-        ensures { EndsFor self.now label.now result }
+        requires bounded { IsBounded (pricing_in self.now).problem label.now.front }
+        ensures { EndsFor (pricing_in self.now) label.now result }
     {
         let task = self.completions.task;
         let rows = &task.allowed_rows[usize::from(label.front.last)];
@@ -358,8 +354,8 @@ impl<'t, 'i> Labeller<'t, 'i> {
 
     /// The best with the return to the depot after the label at an index.
     fn best_with(&self, label: &Label, index: usize) -> Best
-        requires bounded { IsBounded (task_of self.now).instance.now label.now.front }
-        ensures { CountsEndOf self.now label.now index result }
+        requires bounded { IsBounded (pricing_in self.now).problem label.now.front }
+        ensures { CountsEnd (pricing_in self.now) label.now index self.now.best result }
     {
         match self.end_cost(label) {
             Some(value) if !is_at_most(self.best.value, value) => Best {
@@ -395,8 +391,7 @@ impl<'t, 'i> Labeller<'t, 'i> {
     /// Asks for cheaper routes alone, where more than enough were met that cost less than the known one.
     fn tighten(&mut self) -> Result<(), AllocError>
         requires { LosesNothing self.old }
-        ensures complete { LosesNothing self.new }
-        ensures same { IsSameTask self.old self.new }
+        ensures { Continues self.old self.new }
     {
         let ends = self.ends()?;
         if let Some(end) = ends.get(ENOUGH_ENDS)
@@ -446,10 +441,8 @@ impl<'t, 'i> Labeller<'t, 'i> {
     /// Extends the label at an index, if it is pending.
     fn extend_at(&mut self, index: usize) -> Result<(), LabelFault>
         requires { LosesNothing self.old }
-        ensures complete { OnOk result (LosesNothing self.new) }
+        ensures on { GoesOn self.old self.new result }
         ensures onward { OnOk result (IsOnward self.old.labels.items self.new.labels.items index) }
-        ensures same { IsSameTask self.old self.new }
-        ensures unlimited { IfErr result (λ e. e ≡ LabelLimit → self.old.limit ≢ None) }
     {
         if !self.is_pending(index) {
             return Ok(());
@@ -470,9 +463,7 @@ impl<'t, 'i> Labeller<'t, 'i> {
     /// label that it leads to stands, if it is a new one; nothing where there is no such label or stop.
     fn follow_to(&mut self, index: usize, j: u16) -> Result<Option<usize>, LabelFault>
         requires { LosesNothing self.old }
-        ensures complete { OnOk result (LosesNothing self.new) }
-        ensures same { IsSameTask self.old self.new }
-        ensures unlimited { IfErr result (λ e. e ≡ LabelLimit → self.old.limit ≢ None) }
+        ensures { GoesOn self.old self.new result }
     {
         let task = self.completions.task;
         let count = self.labels.len();
@@ -490,8 +481,7 @@ impl<'t, 'i> Labeller<'t, 'i> {
     /// Counts the route that ends at the label at an index, and asks from then on for cheaper ones alone.
     fn cut_at(&mut self, index: usize)
         requires { LosesNothing self.old }
-        ensures complete { LosesNothing self.new }
-        ensures same { IsSameTask self.old self.new }
+        ensures { Continues self.old self.new }
     {
         if index >= self.labels.len() {
             return;
@@ -504,9 +494,7 @@ impl<'t, 'i> Labeller<'t, 'i> {
     /// Goes along a known route as far as the region allows it.
     fn follow(&mut self, stops: &[u16]) -> Result<(), LabelFault>
         requires { LosesNothing self.old }
-        ensures complete { OnOk result (LosesNothing self.new) }
-        ensures same { IsSameTask self.old self.new }
-        ensures unlimited { IfErr result (λ e. e ≡ LabelLimit → self.old.limit ≢ None) }
+        ensures { GoesOn self.old self.new result }
     {
         let mut index = 0;
         for stop in stops {
@@ -540,9 +528,7 @@ impl<'t, 'i> Labeller<'t, 'i> {
     /// that a cheap route is met early.
     fn dive(&mut self, index: usize) -> Result<(), LabelFault>
         requires { LosesNothing self.old }
-        ensures complete { OnOk result (LosesNothing self.new) }
-        ensures same { IsSameTask self.old self.new }
-        ensures unlimited { IfErr result (λ e. e ≡ LabelLimit → self.old.limit ≢ None) }
+        ensures { GoesOn self.old self.new result }
     {
         let mut next = Some(index);
         for _stop in 0..u16::MAX {
@@ -559,9 +545,7 @@ impl<'t, 'i> Labeller<'t, 'i> {
     /// Dives from the most promising labels, unless a route is known.
     fn dive_often(&mut self) -> Result<(), LabelFault>
         requires { LosesNothing self.old }
-        ensures complete { OnOk result (LosesNothing self.new) }
-        ensures same { IsSameTask self.old self.new }
-        ensures unlimited { IfErr result (λ e. e ≡ LabelLimit → self.old.limit ≢ None) }
+        ensures { GoesOn self.old self.new result }
     {
         for _dive in 0..DIVES {
             if self.cut != i64::MIN {
@@ -578,9 +562,7 @@ impl<'t, 'i> Labeller<'t, 'i> {
     /// Extends the labels of a slot of time, until there are more than so many.
     fn extend_slot(&mut self, slot: usize, most: usize) -> Result<(), LabelFault>
         requires { LosesNothing self.old }
-        ensures complete { OnOk result (LosesNothing self.new) }
-        ensures same { IsSameTask self.old self.new }
-        ensures unlimited { IfErr result (λ e. e ≡ LabelLimit → self.old.limit ≢ None) }
+        ensures { GoesOn self.old self.new result }
     {
         for _label in 0..usize::MAX {
             if self.labels.len() > most {
@@ -597,9 +579,7 @@ impl<'t, 'i> Labeller<'t, 'i> {
     /// Extends the labels in the order of their times, until there are more than so many.
     fn extend_by_time(&mut self, most: usize) -> Result<(), LabelFault>
         requires { LosesNothing self.old }
-        ensures complete { OnOk result (LosesNothing self.new) }
-        ensures same { IsSameTask self.old self.new }
-        ensures unlimited { IfErr result (λ e. e ≡ LabelLimit → self.old.limit ≢ None) }
+        ensures { GoesOn self.old self.new result }
     {
         for slot in 0..self.lookup.slots() {
             self.extend_slot(slot, most)?;
@@ -613,10 +593,8 @@ impl<'t, 'i> Labeller<'t, 'i> {
     /// Extends what is still pending: after the work by time nothing is, so that this makes sure alone.
     fn extend_rest(&mut self) -> Result<(), LabelFault>
         requires { LosesNothing self.old }
-        ensures complete { OnOk result (LosesNothing self.new) }
+        ensures on { GoesOn self.old self.new result }
         ensures none { OnOk result (NonePending self.new.labels.items (length self.new.labels.items)) }
-        ensures same { IsSameTask self.old self.new }
-        ensures unlimited { IfErr result (λ e. e ≡ LabelLimit → self.old.limit ≢ None) }
     {
         for index in 0..usize::MAX {
             if index >= self.labels.len() {
@@ -630,10 +608,7 @@ impl<'t, 'i> Labeller<'t, 'i> {
     /// Extends all labels, the most promising first, and answers the least reduced cost with its route.
     fn extend_all(&mut self, hints: &mut Hints<'_>) -> Result<Least, LabelFault>
         requires { LosesNothing self.old }
-        ensures value { let task = task_of self.old in
-            IfOk result (HasLeastValue task.instance.now task.region.now task.neighbours task.prices.now) }
-        ensures route { let task = task_of self.old in
-            IfOk result (HasItsRoute task.instance.now task.region.now task.neighbours task.prices.now) }
+        ensures least { IfOk result (IsLeastOf (pricing_in self.old)) }
         ensures unlimited { IfErr result (λ e. e ≡ LabelLimit → self.old.limit ≢ None) }
     {
         self.dive_often()?;
@@ -665,8 +640,7 @@ fn least_of_task(
     limit: Option<usize>,
     hints: &mut Hints<'_>,
 ) -> Result<Least, LabelFault>
-    ensures value { IfOk result (HasLeastValue task.now.instance.now task.now.region.now task.now.neighbours task.now.prices.now) }
-    ensures route { IfOk result (HasItsRoute task.now.instance.now task.now.region.now task.now.neighbours task.now.prices.now) }
+    ensures least { IfOk result (IsLeastOf (pricing_of task.now)) }
     ensures unlimited { IfErr result (λ e. e ≡ LabelLimit → limit ≢ None) }
 {
     let unknown = Completions::unknown(task);
@@ -691,8 +665,8 @@ fn least_near(
     hints: &mut Hints<'_>,
 ) -> Result<Least, LabelFault>
     requires { IsTask nearness.now.instance.now region.now prices.now }
-    ensures value { IfOk result (HasLeastValue nearness.now.instance.now region.now nearness.now.neighbours prices.now) }
-    ensures route { IfOk result (HasItsRoute nearness.now.instance.now region.now nearness.now.neighbours prices.now) }
+    ensures least { let n = nearness.now in
+        IfOk result (IsLeastOf (pricing n.instance.now region.now n.neighbours prices.now)) }
     ensures unlimited { IfErr result (λ e. e ≡ LabelLimit → limit ≢ None) }
 {
     let task = Task::new(alloc, nearness, region, prices)?;

@@ -1,51 +1,38 @@
 -- Floors from those of what comes after.
-use Rattle.std.proofs.Common.{◌≡◌, refl, ℕ, ◌+◌, ◌<◌, ◌≤◌, true, ◌&&◌, ◌||◌, eqb, List, [], ◌∷◌, length, max, subst, arith, ap, sym, ◌∙◌, ◌⊎◌, inl, inr, Option, Some, None}
+use Rattle.std.proofs.Common.{◌≡◌, refl, ℕ, ◌+◌, ◌<◌, ◌≤◌, eqb, List, [], ◌∷◌, length, max, subst, arith, ap, sym, ◌∙◌, ◌⊎◌, inl, inr, Option, Some, None}
 use Rattle.std.specs.Prelude.{ℤ, ◌+ℤ◌, ◌≤ℤ◌, IfSome, IsTrue}
 use Rattle.std.specs.Int.{int_max}
 use Rattle.std.proofs.lemmas.Int.{ints, clamps}
-use Rattle.std.proofs.lemmas.Bool.{cases_lt, both_ways, eq-eqb, or_left, or_right, and_from}
-use Rattle.solomon_reader.specs.Problem.{Problem, ready, service}
+use Rattle.std.proofs.lemmas.Bool.{cases_lt, eq-eqb, or_left}
+use Rattle.solomon_reader.specs.Problem.{ready, service}
 use Rattle.solomon_reader.specs.Distance.{distance}
-use Rattle.solomon_reader.specs.Region.{Region}
-use Rattle.solomon_reader.specs.Remembering.{near}
-use Rattle.solomon_reader.specs.States.{State, step, CanStep, Completes, value_with, begins}
+use Rattle.solomon_reader.specs.States.{Pricing, State, step, CanStep, Completes, value_with, begins}
 use Rattle.leaf_arcs.specs.declared.arcs.AllowedArc.{AllowedArc}
 use Rattle.leaf_arcs.specs.declared.floor.Floor.{Floor}
 use Rattle.leaf_arcs.specs.Arcs.{IsAllowedArc, AreAllowedArcs, IsInTime, arc_in}
-use Rattle.leaf_arcs.specs.Floors.{StartsWith, Holds, IsFloor, IsKnown, IsEndFloor, IsStepFloor, AreStepFloors, IsJoined}
-use Rattle.leaf_arcs.specs.Memories.{bit_in}
+use Rattle.leaf_arcs.specs.Floors.{Holds, IsFloor, IsKnown, IsEndFloor, IsStepFloor, AreStepFloors, IsJoined}
+use Rattle.solomon_reader.specs.Memories.{place_of}
 use Rattle.leaf_arcs.proofs.Leading.{leads_index}
-use Rattle.leaf_arcs.proofs.Remembered.{bit_near}
+use Rattle.solomon_reader.proofs.Places.{near_at}
+use Rattle.solomon_reader.proofs.Completions.{never_back}
 
-module _ (p : Problem) (g : Region) (k : ℕ) (prices : List ℤ) where
-  pub known : (o : Option Floor) → IfSome o (λ f. IsFloor p g k prices f.row f.from f.loaded f) → IsKnown p g k prices o
+module _ (q : Pricing) where
+  pub known : (o : Option Floor) → IfSome o (λ f. IsFloor q f.row f.from f.loaded f) → IsKnown q o
   known None h = record { holds = λ f e. absurd (cc) }
   known (Some x) h = record { holds = λ f e. (let same : x ≡ f = cc in rw (← same) h) }
 
   -- a floor of an earlier time and a lower load holds later
-  pub floor_later : (v t q w u r : ℕ) (f : Floor) → v ≡ w → t ≤ u → q ≤ r → IsFloor p g k prices v t q f → IsFloor p g k prices w u r f
-  floor_later v t q w u r f same le light floor = record {
+  pub floor_later : (v t d w u r : ℕ) (f : Floor) → v ≡ w → t ≤ u → d ≤ r → IsFloor q v t d f → IsFloor q w u r f
+  floor_later v t d w u r f same le light floor = record {
     holds = λ a s last later loaded remembered completes. floor.holds a s (last ∙ sym same) (omega (arith, le, later)) (omega (arith, light, loaded)) (rw same remembered) completes;
   }
 
-  -- after a step to j that comes from v the next stop isn't v, where j's neighbour list holds v
-  never_back : (a : State) (s : List ℕ) (v j n : ℕ) → n ≡ v → IsTrue (a.memory v) → near p k j v ≡ true → Completes p g k prices (step p k prices a j) s → ¬ StartsWith n s
-  never_back a [] v j n same remembered listed h starts = starts
-  never_back a (i ∷ s) v j n same remembered listed h starts =
-      let e : i ≡ v = starts ∙ same in
-      both_ways ((eqb v j) || (a.memory v && near p k j v)) (rw e at h.0.fresh) (or_right (eqb v j) _ (and_from _ _ remembered listed))
-
-  -- what is remembered can't come next
-  pub not_next : (a : State) (s : List ℕ) (n : ℕ) → IsTrue (a.memory n) → Completes p g k prices a s → ¬ StartsWith n s
-  not_next a [] n remembered h starts = starts
-  not_next a (i ∷ s) n remembered h starts = both_ways (a.memory n) (rw starts at h.0.fresh) remembered
-
-  module _ (v t q : ℕ) where
-    pub step_lower : (j : ℕ) (h l : ℤ) → l ≤ℤ h → IsStepFloor p g k prices v t q j h → IsStepFloor p g k prices v t q j l
+  module _ (v t d : ℕ) where
+    pub step_lower : (j : ℕ) (h l : ℤ) → l ≤ℤ h → IsStepFloor q v t d j h → IsStepFloor q v t d j l
     step_lower j h l le floor = record { holds = λ a s last later loaded remembered can completes. omega (arith, ints, le, floor.holds a s last later loaded remembered can completes) }
 
     -- a step that can't be taken changes no floor
-    pub joined_none : (j : ℕ) (f : Floor) → ((h : ℤ) → IsStepFloor p g k prices v t q j h) → (z : ℤ) × (IsStepFloor p g k prices v t q j z × IsJoined f j z f)
+    pub joined_none : (j : ℕ) (f : Floor) → ((h : ℤ) → IsStepFloor q v t d j h) → (z : ℤ) × (IsStepFloor q v t d j z × IsJoined f j z f)
     joined_none j f none = (
       int_max f.least f.other,
       (
@@ -59,11 +46,11 @@ module _ (p : Problem) (g : Region) (k : ℕ) (prices : List ℤ) where
       ),
     )
 
-    pub steps_none : (hs : List AllowedArc) (f : Floor) → f.least ≤ℤ f.other → IsEndFloor p g v t f.other → AreStepFloors p g k prices v t q hs 0 f
+    pub steps_none : (hs : List AllowedArc) (f : Floor) → f.least ≤ℤ f.other → IsEndFloor q v t f.other → AreStepFloors q v t d hs 0 f
     steps_none hs f ordered ends = record { ordered = ordered; ends = ends; least = λ m w. absurd (omega (arith, w)); other = λ m w. absurd (omega (arith, w)) }
 
-    pub steps_next : (hs : List AllowedArc) (i : ℕ) (f : Floor) (z : ℤ) (out : Floor) → AreStepFloors p g k prices v t q hs i f → IsStepFloor p g k prices v t q (arc_in hs i).to z → IsJoined f (arc_in hs i).to z out
-        → AreStepFloors p g k prices v t q hs (i + 1) out
+    pub steps_next : (hs : List AllowedArc) (i : ℕ) (f : Floor) (z : ℤ) (out : Floor) → AreStepFloors q v t d hs i f → IsStepFloor q v t d (arc_in hs i).to z → IsJoined f (arc_in hs i).to z out
+        → AreStepFloors q v t d hs (i + 1) out
     steps_next hs i f z out so_far here joined = record {
       ordered = joined.ordered so_far.ordered;
       ends = record {
@@ -83,7 +70,7 @@ module _ (p : Problem) (g : Region) (k : ℕ) (prices : List ℤ) where
     }
       where
         old_step : (m : ℕ) → m < i → ((out.next ≡ f.next) × ((out.other ≤ℤ f.other) × (out.other ≤ℤ z))) ⊎ ((out.next ≡ (arc_in hs i).to) × (out.other ≤ℤ f.least))
-            → ((arc_in hs m).to ≡ out.next) ⊎ IsStepFloor p g k prices v t q (arc_in hs m).to out.other
+            → ((arc_in hs m).to ≡ out.next) ⊎ IsStepFloor q v t d (arc_in hs m).to out.other
         old_step m less (inl kept) = elim (so_far.other m less) [
           | inl next ↦ inl (next ∙ sym kept.0)
           | inr floor ↦ inr (step_lower _ f.other out.other kept.1.0 floor)
@@ -91,64 +78,64 @@ module _ (p : Problem) (g : Region) (k : ℕ) (prices : List ℤ) where
         old_step m less (inr fresh) = inr (step_lower _ f.least out.other fresh.1 (so_far.least m less))
 
         new_step : ((out.next ≡ f.next) × ((out.other ≤ℤ f.other) × (out.other ≤ℤ z))) ⊎ ((out.next ≡ (arc_in hs i).to) × (out.other ≤ℤ f.least))
-            → ((arc_in hs i).to ≡ out.next) ⊎ IsStepFloor p g k prices v t q (arc_in hs i).to out.other
+            → ((arc_in hs i).to ≡ out.next) ⊎ IsStepFloor q v t d (arc_in hs i).to out.other
         new_step (inl kept) = inr (step_lower _ z out.other kept.1.1 here)
         new_step (inr fresh) = inl (sym fresh.0)
 
     -- all steps of the row, and the way home
-    pub floor_whole : (hs : List AllowedArc) (f : Floor) → ready p v + service p v ≤ t → AreAllowedArcs p g k prices v hs → AreStepFloors p g k prices v t q hs (length hs) f → IsFloor p g k prices v t q f
+    pub floor_whole : (hs : List AllowedArc) (f : Floor) → ready q.problem v + service q.problem v ≤ t → AreAllowedArcs q v hs → AreStepFloors q v t d hs (length hs) f → IsFloor q v t d f
     floor_whole hs f begun arcs all = record { holds = holds }
       where
-        at : (a : State) (s : List ℕ) (m j : ℕ) → m < length hs → (arc_in hs m).to ≡ j → a.last ≡ v → t ≤ a.time → q ≤ a.load → IsTrue (a.memory v) → CanStep p g a j → Completes p g k prices (step p k prices a j) s
-            → Holds p k prices a (j ∷ s) f
+        at : (a : State) (s : List ℕ) (m j : ℕ) → m < length hs → (arc_in hs m).to ≡ j → a.last ≡ v → t ≤ a.time → d ≤ a.load → IsTrue (a.memory v) → CanStep q a j → Completes q (step q a j) s
+            → Holds q a (j ∷ s) f
         at a s m j w e last later loaded remembered can completes = record {
-          least = (subst (λ (n : ℕ). IsStepFloor p g k prices v t q n f.least) e (all.least m w)).holds a s last later loaded remembered can completes;
+          least = (subst (λ (n : ℕ). IsStepFloor q v t d n f.least) e (all.least m w)).holds a s last later loaded remembered can completes;
           other = λ apart. elim (all.other m w) [
             | inl next ↦ absurd (apart (sym e ∙ next))
-            | inr floor ↦ (subst (λ (n : ℕ). IsStepFloor p g k prices v t q n f.other) e floor).holds a s last later loaded remembered can completes
+            | inr floor ↦ (subst (λ (n : ℕ). IsStepFloor q v t d n f.other) e floor).holds a s last later loaded remembered can completes
           ];
         }
 
-        holds : (a : State) (s : List ℕ) → a.last ≡ v → t ≤ a.time → q ≤ a.load → IsTrue (a.memory v) → Completes p g k prices a s → Holds p k prices a s f
+        holds : (a : State) (s : List ℕ) → a.last ≡ v → t ≤ a.time → d ≤ a.load → IsTrue (a.memory v) → Completes q a s → Holds q a s f
         holds a [] last later loaded remembered can =
-            let home : (a.cost +ℤ f.other) ≤ℤ value_with p k prices a [] = omega (arith, ints, all.ends.holds a last later can, ap (λ (i : ℕ). distance p i 0) last) in
+            let home : (a.cost +ℤ f.other) ≤ℤ value_with q a [] = omega (arith, ints, all.ends.holds a last later can, ap (λ (i : ℕ). distance q.problem i 0) last) in
             record { least = omega (arith, ints, home, all.ordered); other = λ apart. home }
         holds a (j ∷ s) last later loaded remembered completes =
-            let timely : IsInTime p v j = omega (arith, begun, later, completes.0.due, ap (λ (i : ℕ). distance p i j) last) in
+            let timely : IsInTime q.problem v j = omega (arith, begun, later, completes.0.due, ap (λ (i : ℕ). distance q.problem i j) last) in
             let m = leads_index hs j (arcs.all j completes.0.customer (rw last at completes.0.allowed) timely) in
             at a s m.0 j m.1.0 m.1.1 last later loaded remembered completes.0 completes.1
 
     -- the step over an arc
-    module _ (arc : AllowedArc) (is : IsAllowedArc p k prices v arc) where
-      begins_no_later : (a : State) → a.last ≡ v → t ≤ a.time → max (t + arc.travel) arc.ready ≤ begins p a arc.to
-      begins_no_later a last later = omega (arith, later, is.travel_is, is.ready_is, ap (λ (i : ℕ). distance p i arc.to) last)
+    module _ (arc : AllowedArc) (is : IsAllowedArc q v arc) where
+      begins_no_later : (a : State) → a.last ≡ v → t ≤ a.time → max (t + arc.travel) arc.ready ≤ begins q.problem a arc.to
+      begins_no_later a last later = omega (arith, later, is.travel_is, is.ready_is, ap (λ (i : ℕ). distance q.problem i arc.to) last)
 
-      pub step_late : (h : ℤ) → arc.due < max (t + arc.travel) arc.ready → IsStepFloor p g k prices v t q arc.to h
+      pub step_late : (h : ℤ) → arc.due < max (t + arc.travel) arc.ready → IsStepFloor q v t d arc.to h
       step_late h late = record { holds = λ a s last later loaded remembered can completes. absurd (omega (arith, late, can.due, begins_no_later a last later, is.due_is)) }
 
-      pub step_heavy : (h : ℤ) → p.capacity < q + arc.demand → IsStepFloor p g k prices v t q arc.to h
+      pub step_heavy : (h : ℤ) → q.problem.capacity < d + arc.demand → IsStepFloor q v t d arc.to h
       step_heavy h heavy = record { holds = λ a s last later loaded remembered can completes. absurd (omega (arith, heavy, can.load, loaded, is.demand_is)) }
 
-      module _ (after : Floor) (h : ℤ) (floor : IsFloor p g k prices arc.to (max (t + arc.travel) arc.ready + arc.service) (q + arc.demand) after) where
-        on_it : (a : State) (s : List ℕ) → a.last ≡ v → t ≤ a.time → q ≤ a.load → Completes p g k prices (step p k prices a arc.to) s → Holds p k prices (step p k prices a arc.to) s after
+      module _ (after : Floor) (h : ℤ) (floor : IsFloor q arc.to (max (t + arc.travel) arc.ready + arc.service) (d + arc.demand) after) where
+        on_it : (a : State) (s : List ℕ) → a.last ≡ v → t ≤ a.time → d ≤ a.load → Completes q (step q a arc.to) s → Holds q (step q a arc.to) s after
         on_it a s last later loaded completes =
-            floor.holds (step p k prices a arc.to) s refl (omega (arith, begins_no_later a last later, is.service_is)) (omega (arith, loaded, is.demand_is)) (or_left (eqb arc.to arc.to) _ (eq-eqb arc.to arc.to refl)) completes
+            floor.holds (step q a arc.to) s refl (omega (arith, begins_no_later a last later, is.service_is)) (omega (arith, loaded, is.demand_is)) (or_left (eqb arc.to arc.to) _ (eq-eqb arc.to arc.to refl)) completes
 
-        pub step_least : h ≤ℤ (arc.value +ℤ after.least) → IsStepFloor p g k prices v t q arc.to h
+        pub step_least : h ≤ℤ (arc.value +ℤ after.least) → IsStepFloor q v t d arc.to h
         step_least le = record {
           holds = λ a s last later loaded remembered can completes.
-              omega (arith, ints, le, (on_it a s last later loaded completes).least, is.value_is, ap (λ (i : ℕ). distance p i arc.to) last);
+              omega (arith, ints, le, (on_it a s last later loaded completes).least, is.value_is, ap (λ (i : ℕ). distance q.problem i arc.to) last);
         }
 
-        pub step_other : after.next ≡ v → bit_in p k arc.to v < 16 → h ≤ℤ (arc.value +ℤ after.other) → IsStepFloor p g k prices v t q arc.to h
+        pub step_other : after.next ≡ v → place_of q.problem q.neighbours arc.to v < 16 → h ≤ℤ (arc.value +ℤ after.other) → IsStepFloor q v t d arc.to h
         step_other next low le = record {
           holds = λ a s last later loaded remembered can completes.
               omega (
                 arith,
                 ints,
                 le,
-                (on_it a s last later loaded completes).other (never_back a s v arc.to after.next next remembered (bit_near p k arc.to v low) completes),
+                (on_it a s last later loaded completes).other (never_back q a s v arc.to after.next next remembered (near_at q.problem arc.to q.neighbours v low) completes),
                 is.value_is,
-                ap (λ (i : ℕ). distance p i arc.to) last,
+                ap (λ (i : ℕ). distance q.problem i arc.to) last,
               );
         }

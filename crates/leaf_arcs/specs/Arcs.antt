@@ -2,41 +2,32 @@
 use Rattle.std.specs.Prelude.{◌≡◌, ◌↔◌, ℕ, ◌+◌, ◌*◌, ◌<◌, ◌≤◌, List, [], Vec, length, slice_index_or, IsTrue, Bool, true, ◌==◌, ℤ, pos, ◌+ℤ◌, ◌≤ℤ◌}
 use Rattle.std.specs.declared.alloc.Global.{Global}
 use Rattle.std.specs.List.{All, list_any}
-use Rattle.solomon_reader.specs.declared.limits.TheConstants.{MOST_TIME, MOST_DISTANCE, MOST_PRICE, MOST_DEMAND}
+use Rattle.solomon_reader.specs.declared.limits.TheConstants.{MOST_TIME, MOST_DISTANCE, MOST_DEMAND}
 use Rattle.solomon_reader.specs.Problem.{Problem, IsCustomer, customer_count, demand, ready, due, service}
 use Rattle.solomon_reader.specs.Distance.{distance}
-use Rattle.solomon_reader.specs.Region.{Region, IsAllowed, root_region}
-use Rattle.solomon_reader.specs.States.{arc_value}
+use Rattle.solomon_reader.specs.Region.{IsAllowed, root_region}
+use Rattle.solomon_reader.specs.States.{Pricing, pricing, arc_value, most_grains, IsPriced}
 use Rattle.leaf_arcs.specs.declared.arcs.AllowedArc.{AllowedArc}
 use Rattle.leaf_arcs.specs.declared.arcs.ArcRow.{ArcRow}
-use Rattle.leaf_arcs.specs.Memories.{bit_in}
-
--- the most that a stop adds to a reduced cost, or takes from it
-abbrev pub most_grains : ℕ
-most_grains = MOST_PRICE + 1000 * MOST_DISTANCE
-
--- a price in its range
-pub record IsPriced (z : ℤ) : Type 0 where
-  pub low : pos 0 ≤ℤ (z +ℤ pos MOST_PRICE)
-  pub high : z ≤ℤ pos MOST_PRICE
+use Rattle.solomon_reader.specs.Memories.{place_of}
 
 -- the arc from v has what a step over it needs
-pub record IsAllowedArc (p : Problem) (k : ℕ) (prices : List ℤ) (v : ℕ) (h : AllowedArc) : Type 0 where
-  pub customer : IsCustomer p h.to
-  pub bit : h.bit ≡ bit_in p k v h.to
+pub record IsAllowedArc (q : Pricing) (v : ℕ) (h : AllowedArc) : Type 0 where
+  pub customer : IsCustomer q.problem h.to
+  pub bit : h.bit ≡ place_of q.problem q.neighbours v h.to
   pub listed : h.bit ≤ 16
-  pub demand_is : h.demand ≡ demand p h.to
+  pub demand_is : h.demand ≡ demand q.problem h.to
   pub carried : 1 ≤ h.demand
   pub light : h.demand ≤ MOST_DEMAND
-  pub travel_is : h.travel ≡ distance p v h.to
+  pub travel_is : h.travel ≡ distance q.problem v h.to
   pub near : h.travel ≤ MOST_DISTANCE
-  pub ready_is : h.ready ≡ ready p h.to
+  pub ready_is : h.ready ≡ ready q.problem h.to
   pub early : h.ready ≤ 10 * MOST_TIME
-  pub due_is : h.due ≡ due p h.to
+  pub due_is : h.due ≡ due q.problem h.to
   pub late : h.due ≤ 10 * MOST_TIME
-  pub service_is : h.service ≡ service p h.to
+  pub service_is : h.service ≡ service q.problem h.to
   pub short : h.service ≤ 10 * MOST_TIME
-  pub value_is : h.value ≡ arc_value p prices v h.to
+  pub value_is : h.value ≡ arc_value q.problem q.prices v h.to
   pub low : pos 0 ≤ℤ (h.value +ℤ pos most_grains)
   pub high : h.value ≤ℤ pos most_grains
 
@@ -52,28 +43,32 @@ abbrev pub leads : List AllowedArc → ℕ → Bool
 leads hs j = list_any (λ h. h.to == j) hs
 
 -- the arcs from v to customers that the region and time allow
-pub record AreAllowedArcs (p : Problem) (g : Region) (k : ℕ) (prices : List ℤ) (v : ℕ) (hs : List AllowedArc) : Type 0 where
-  pub each : (m : ℕ) → m < length hs → IsAllowedArc p k prices v (arc_in hs m)
-  pub allowed : (m : ℕ) → m < length hs → IsAllowed g (v, (arc_in hs m).to)
-  pub all : (j : ℕ) → IsCustomer p j → IsAllowed g (v, j) → IsInTime p v j → leads hs j ≡ true
+pub record AreAllowedArcs (q : Pricing) (v : ℕ) (hs : List AllowedArc) : Type 0 where
+  pub each : (m : ℕ) → m < length hs → IsAllowedArc q v (arc_in hs m)
+  pub allowed : (m : ℕ) → m < length hs → IsAllowed q.region (v, (arc_in hs m).to)
+  pub all : (j : ℕ) → IsCustomer q.problem j → IsAllowed q.region (v, j) → IsInTime q.problem v j → leads hs j ≡ true
 
 -- the row says where a route may go from v
-pub record IsArcRow (p : Problem) (g : Region) (k : ℕ) (prices : List ℤ) (v : ℕ) (r : ArcRow) : Type 0 where
-  pub arcs : AreAllowedArcs p g k prices v r.arcs.items
-  pub ends : IsTrue r.ends ↔ IsAllowed g (v, 0)
-  pub back_is : r.back ≡ distance p v 0
+pub record IsArcRow (q : Pricing) (v : ℕ) (r : ArcRow) : Type 0 where
+  pub arcs : AreAllowedArcs q v r.arcs.items
+  pub ends : IsTrue r.ends ↔ IsAllowed q.region (v, 0)
+  pub back_is : r.back ≡ distance q.problem v 0
   pub near : r.back ≤ MOST_DISTANCE
-  pub earliest_is : r.earliest ≡ ready p v + service p v
+  pub earliest_is : r.earliest ≡ ready q.problem v + service q.problem v
 
 -- the row of each row of the instance
-pub record AreArcRows (p : Problem) (g : Region) (k : ℕ) (prices : List ℤ) (all : List ArcRow) : Type 0 where
-  pub count : length all ≡ length p.rows
-  pub each : (v : ℕ) (d : ArcRow) → v < length p.rows → IsArcRow p g k prices v (slice_index_or all v d)
+pub record AreArcRows (q : Pricing) (all : List ArcRow) : Type 0 where
+  pub count : length all ≡ length q.problem.rows
+  pub each : (v : ℕ) (d : ArcRow) → v < length q.problem.rows → IsArcRow q v (slice_index_or all v d)
 
--- the arcs from each row where nothing is decided, at prices 0
+-- where nothing is decided, at prices 0
+abbrev pub free_pricing : Problem → ℕ → Pricing
+free_pricing p k = pricing p (root_region (customer_count p)) k []
+
+-- the arcs from each row there
 pub record AreFreeArcs (p : Problem) (k : ℕ) (all : List (Vec AllowedArc Global)) : Type 0 where
   pub count : length all ≡ length p.rows
-  pub each : (v : ℕ) (d : Vec AllowedArc Global) → v < length p.rows → AreAllowedArcs p (root_region (customer_count p)) k [] v (slice_index_or all v d).items
+  pub each : (v : ℕ) (d : Vec AllowedArc Global) → v < length p.rows → AreAllowedArcs (free_pricing p k) v (slice_index_or all v d).items
 
 -- there is a price for each customer, and each has a demand
 pub record IsPricing (p : Problem) (prices : List ℤ) : Type 0 where

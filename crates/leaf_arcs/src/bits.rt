@@ -4,7 +4,7 @@ ghost use Rattle.std.specs.Prelude.{◌≡◌, ◌+◌, ◌<◌, ◌≤◌, min,
 ghost use Rattle.solomon_reader.specs.declared.limits.TheConstants.{MOST_NEIGHBOURS};
 ghost use Rattle.solomon_reader.specs.Relaxed.{rank};
 ghost use Rattle.solomon_reader.specs.Remembering.{ahead};
-ghost use Rattle.leaf_arcs.specs.Memories.{bit_in, AreBits};
+ghost use Rattle.solomon_reader.specs.Memories.{place_of, HasPlaces};
 
 use solomon_reader::Instance;
 use std::alloc::{AllocError, Global};
@@ -47,7 +47,7 @@ fn bit(instance: &Instance, k: u8, v: u16, u: u16) -> u8
     requires few { k ≤ MOST_NEIGHBOURS }
     requires v { v < length instance.now.rows }
     requires u { u < length instance.now.rows }
-    ensures { result ≡ bit_in instance.now k v u }
+    ensures { result ≡ place_of instance.now k v u }
 {
     if u == v {
         return 0;
@@ -63,7 +63,7 @@ fn bit(instance: &Instance, k: u8, v: u16, u: u16) -> u8
 pub(crate) fn bits(alloc: Global, instance: &Instance, k: u8, v: u16) -> Result<Vec<u8>, AllocError>
     requires few { k ≤ MOST_NEIGHBOURS }
     requires v { v < length instance.now.rows }
-    ensures { IfOk result (λ bits. AreBits instance.now k v bits.items) }
+    ensures { IfOk result (λ bits. HasPlaces instance.now k v (length instance.now.rows) bits.items) }
 {
     let mut bits = Vec::new(alloc);
     for u in 0..instance.customer_count() + 1 {

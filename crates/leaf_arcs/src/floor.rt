@@ -3,9 +3,11 @@
 //! load, back.
 
 ghost use Rattle.std.specs.Prelude.{◌≡◌, ◌+◌, ◌*◌, ◌<◌, ◌≤◌, max, length, IfOk, IfSome, ◌≤ℤ◌};
+ghost use Rattle.std.specs.List.{All};
 ghost use Rattle.solomon_reader.specs.declared.limits.TheConstants.{MOST_CAPACITY, MOST_TIME};
-ghost use Rattle.leaf_arcs.specs.Leaves.{problem_of, IsArcIn, IsRowIn, AreRowsIn, IsFloorIn, AreFloorsIn, IsEndFloorIn, IsStepFloorIn, IsJoinedIn};
-ghost use Rattle.leaf_arcs.specs.Floors.{IsAt, IsJoined};
+ghost use Rattle.leaf_arcs.specs.Arcs.{IsAllowedArc, IsArcRow, AreArcRows};
+ghost use Rattle.leaf_arcs.specs.Floors.{IsFloor, IsEndFloor, IsStepFloor, IsKnown, IsJoinedIn, IsAt, IsJoined};
+ghost use Rattle.leaf_arcs.specs.Leaves.{problem_of, pricing_of};
 
 use crate::arcs::{AllowedArc, ArcRow};
 use crate::bits::NO_BIT;
@@ -44,8 +46,8 @@ pub(crate) fn floor_at(
     time: u64,
     load: usize,
 ) -> Option<Floor>
-    requires { AreFloorsIn leaf.now floors.now }
-    ensures { IfSome result (λ f. IsFloorIn leaf.now v time load f) }
+    requires { All (IsKnown (pricing_of leaf.now)) floors.now }
+    ensures { IfSome result (λ f. IsFloor (pricing_of leaf.now) v time load f) }
 {
     if place >= floors.len() {
         return None;
@@ -60,12 +62,12 @@ pub(crate) fn floor_at(
 /// The floor of a row from a start on, where only the way home follows.
 fn end_floor(leaf: &Leaf<'_, '_>, arcs: &ArcRow, start: &Start) -> Floor
     requires row { start.now.row < length (problem_of leaf.now).rows }
-    requires arcs { IsRowIn leaf.now start.now.row arcs.now }
+    requires arcs { IsArcRow (pricing_of leaf.now) start.now.row arcs.now }
     requires from { start.now.from ≤ 20 * MOST_TIME }
     requires load { start.now.loaded ≤ MOST_CAPACITY }
     ensures place { IsAt start.now.row start.now.from start.now.loaded result }
     ensures ordered { result.least ≤ℤ result.other }
-    ensures ends { IsEndFloorIn leaf.now start.now.row start.now.from result.other }
+    ensures ends { IsEndFloor (pricing_of leaf.now) start.now.row start.now.from result.other }
 {
     let network = leaf.network;
     let mut least = NOTHING;
@@ -88,9 +90,12 @@ fn end_floor(leaf: &Leaf<'_, '_>, arcs: &ArcRow, start: &Start) -> Floor
 /// it.
 fn step_value(leaf: &Leaf<'_, '_>, arc: &AllowedArc, after: &Floor, floor: &Floor) -> Option<i64>
     requires row { floor.now.row < length (problem_of leaf.now).rows }
-    requires arc { IsArcIn leaf.now floor.now.row arc.now }
-    requires after { IsFloorIn leaf.now arc.now.to (max (floor.now.from + arc.now.travel) arc.now.ready + arc.now.service) (floor.now.loaded + arc.now.demand) after.now }
-    ensures { IfSome result (λ h. IsStepFloorIn leaf.now floor.now.row floor.now.from floor.now.loaded arc.now.to h) }
+    requires arc { IsAllowedArc (pricing_of leaf.now) floor.now.row arc.now }
+    requires after { let f = floor.now in
+        IsFloor (pricing_of leaf.now) arc.now.to (max (f.from + arc.now.travel) arc.now.ready + arc.now.service)
+        (f.loaded + arc.now.demand) after.now }
+    ensures { let f = floor.now in
+        IfSome result (λ h. IsStepFloor (pricing_of leaf.now) f.row f.from f.loaded arc.now.to h) }
 {
     let row = floor.row;
     if after.next == row && leaf.network.neighbours.bit(arc.to, row) < NO_BIT {
@@ -137,13 +142,13 @@ fn with_step(
     arc: &AllowedArc,
     floor: Floor,
 ) -> Option<Floor>
-    requires floors { AreFloorsIn leaf.now floors.now }
+    requires floors { All (IsKnown (pricing_of leaf.now)) floors.now }
     requires row { floor.row < length (problem_of leaf.now).rows }
     requires from { floor.from ≤ 20 * MOST_TIME }
     requires load { floor.loaded ≤ MOST_CAPACITY }
-    requires arc { IsArcIn leaf.now floor.row arc.now }
+    requires arc { IsAllowedArc (pricing_of leaf.now) floor.row arc.now }
     ensures place { IfSome result (IsAt floor.row floor.from floor.loaded) }
-    ensures joined { IfSome result (IsJoinedIn leaf.now floor arc.now.to) }
+    ensures joined { IfSome result (IsJoinedIn (pricing_of leaf.now) floor arc.now.to) }
 {
     let begins = (u64::from(floor.from) + arc.travel).max(arc.ready);
     if begins > arc.due {
@@ -169,13 +174,13 @@ fn floor_from(
     arcs: &ArcRow,
     start: &Start,
 ) -> Option<Floor>
-    requires floors { AreFloorsIn leaf.now floors.now }
+    requires floors { All (IsKnown (pricing_of leaf.now)) floors.now }
     requires row { start.now.row < length (problem_of leaf.now).rows }
-    requires arcs { IsRowIn leaf.now start.now.row arcs.now }
+    requires arcs { IsArcRow (pricing_of leaf.now) start.now.row arcs.now }
     requires begun { arcs.now.earliest ≤ start.now.from }
     requires from { start.now.from ≤ 20 * MOST_TIME }
     requires load { start.now.loaded ≤ MOST_CAPACITY }
-    ensures { IfSome result (λ f. IsFloorIn leaf.now f.row f.from f.loaded f) }
+    ensures { IfSome result (λ f. IsFloor (pricing_of leaf.now) f.row f.from f.loaded f) }
 {
     let mut floor = end_floor(leaf, arcs, start);
     for arc in arcs.arcs.as_slice() {
@@ -192,9 +197,9 @@ fn fill_at(
     floors: &mut [Option<Floor>],
     start: &Start,
 )
-    requires rows { AreRowsIn leaf.now rows.now }
-    requires floors { AreFloorsIn leaf.now floors.old }
-    ensures { AreFloorsIn leaf.now floors.new }
+    requires rows { AreArcRows (pricing_of leaf.now) rows.now }
+    requires floors { All (IsKnown (pricing_of leaf.now)) floors.old }
+    ensures { All (IsKnown (pricing_of leaf.now)) floors.new }
 {
     let row = usize::from(start.row);
     let place = slots.place(start.row, start.from, start.loaded);
@@ -211,9 +216,9 @@ fn fill_at(
 
 /// Puts in the floors of all slots, those of the latest first.
 fn fill(leaf: &Leaf<'_, '_>, rows: &[ArcRow], slots: &Slots, floors: &mut [Option<Floor>])
-    requires rows { AreRowsIn leaf.now rows.now }
-    requires floors { AreFloorsIn leaf.now floors.old }
-    ensures { AreFloorsIn leaf.now floors.new }
+    requires rows { AreArcRows (pricing_of leaf.now) rows.now }
+    requires floors { All (IsKnown (pricing_of leaf.now)) floors.old }
+    ensures { All (IsKnown (pricing_of leaf.now)) floors.new }
 {
     for start in slots.starts.as_slice() {
         fill_at(leaf, rows, slots, floors, start);
@@ -227,8 +232,8 @@ pub(crate) fn floors_of(
     rows: &[ArcRow],
     slots: &Slots,
 ) -> Result<Vec<Option<Floor>>, AllocError>
-    requires { AreRowsIn leaf.now rows.now }
-    ensures { IfOk result (λ floors. AreFloorsIn leaf.now floors.items) }
+    requires { AreArcRows (pricing_of leaf.now) rows.now }
+    ensures { IfOk result (λ floors. All (IsKnown (pricing_of leaf.now)) floors.items) }
 {
     let mut floors = vec![in alloc; None; slots.starts.len()]?;
     fill(leaf, rows, slots, floors.as_mut_slice());

@@ -1,9 +1,8 @@
 //! The arcs that time allows where nothing is decided.
 
-ghost use Rattle.std.specs.Prelude.{◌≡◌, ◌<◌, length, [], IfOk};
+ghost use Rattle.std.specs.Prelude.{◌≡◌, ◌<◌, length, IfOk};
 ghost use Rattle.solomon_reader.specs.Problem.{IsCustomer, customer_count};
-ghost use Rattle.solomon_reader.specs.Region.{root_region};
-ghost use Rattle.leaf_arcs.specs.Arcs.{IsAllowedArc, AreAllowedArcs, AreFreeArcs};
+ghost use Rattle.leaf_arcs.specs.Arcs.{IsAllowedArc, AreAllowedArcs, free_pricing, AreFreeArcs};
 
 use crate::arcs::AllowedArc;
 use crate::neighbours::Neighbours;
@@ -13,7 +12,7 @@ use std::alloc::{AllocError, Global};
 fn free_arc(neighbours: &Neighbours<'_>, v: u16, j: u16) -> AllowedArc
     requires v { v < length neighbours.now.instance.now.rows }
     requires j { IsCustomer neighbours.now.instance.now j }
-    ensures arc { IsAllowedArc neighbours.now.instance.now neighbours.now.k [] v result }
+    ensures arc { let n = neighbours.now in IsAllowedArc (free_pricing n.instance.now n.k) v result }
     ensures to { result.to ≡ j }
 {
     let instance = neighbours.instance;
@@ -39,7 +38,8 @@ fn free_arcs(
     v: u16,
 ) -> Result<Vec<AllowedArc>, AllocError>
     requires { v < length neighbours.now.instance.now.rows }
-    ensures { IfOk result (λ arcs. AreAllowedArcs neighbours.now.instance.now (root_region (customer_count neighbours.now.instance.now)) neighbours.now.k [] v arcs.items) }
+    ensures { let n = neighbours.now in
+        IfOk result (λ arcs. AreAllowedArcs (free_pricing n.instance.now n.k) v arcs.items) }
 {
     let instance = neighbours.instance;
     let earliest = instance.ready(v) + instance.service(v);

@@ -1,12 +1,12 @@
 //! Neighbour lists, and what is remembered.
 
-ghost use Rattle.std.specs.Prelude.{◌≡◌, ℕ, ◌<◌, ◌≤◌, length, slice_index_or, true, IfOk, IsTrue, Vec};
+ghost use Rattle.std.specs.Prelude.{◌≡◌, ℕ, ◌<◌, ◌≤◌, length, true, IfOk, IsTrue, Vec};
 ghost use Rattle.std.specs.declared.alloc.Global.{Global};
 ghost use Rattle.solomon_reader.specs.declared.limits.TheConstants.{MOST_NEIGHBOURS};
-ghost use Rattle.solomon_reader.specs.Problem.{IsCustomer};
 ghost use Rattle.solomon_reader.specs.Remembering.{near, remember};
 ghost use Rattle.leaf_arcs.specs.declared.neighbours.Neighbour.{Neighbour};
-ghost use Rattle.leaf_arcs.specs.Memories.{bit_in, memory_at, has, AreBitRows, AreNeighbourLists, AreBits, IsNeighbourList};
+ghost use Rattle.solomon_reader.specs.Memories.{place_of, recalls, has_bit, HasPlaces};
+ghost use Rattle.leaf_arcs.specs.Memories.{AreBitRows, AreNeighbourLists, IsNeighbourList};
 
 use crate::bits::{NO_BIT, bits};
 use crate::memory::{contains, insert};
@@ -32,7 +32,7 @@ fn neighbour_list(
 ) -> Result<Vec<Neighbour>, AllocError>
     requires few { k ≤ MOST_NEIGHBOURS }
     requires v { v < length instance.now.rows }
-    requires bits { AreBits instance.now k v bits.now }
+    requires bits { HasPlaces instance.now k v (length instance.now.rows) bits.now }
     ensures { IfOk result (λ list. IsNeighbourList instance.now k v (length instance.now.rows) list.items) }
 {
     let mut list = Vec::new(alloc);
@@ -85,7 +85,7 @@ impl<'i> Neighbours<'i> {
     pub(crate) fn bit(&self, v: u16, u: u16) -> u8
         requires v { v < length self.now.instance.now.rows }
         requires u { u < length self.now.instance.now.rows }
-        ensures { result ≡ bit_in self.now.instance.now self.now.k v u }
+        ensures { result ≡ place_of self.now.instance.now self.now.k v u }
     {
         self.bits[v as usize][u as usize]
     }
@@ -100,7 +100,7 @@ impl<'i> Neighbours<'i> {
 
     /// Whether a memory of a visit of v has u, where both are rows.
     pub fn recalls(&self, v: u16, memory: u16, u: u16) -> bool
-        ensures { IsTrue result → memory_at self.now.instance.now self.now.k v memory u ≡ true }
+        ensures { IsTrue result → recalls self.now.instance.now self.now.k v memory u ≡ true }
     {
         let count = self.instance.customer_count();
         v <= count && u <= count && contains(memory, self.bit(v, u))
@@ -110,7 +110,7 @@ impl<'i> Neighbours<'i> {
     pub fn remember(&self, v: u16, memory: u16, j: u16) -> u16
         requires v { v < length self.now.instance.now.rows }
         requires j { j < length self.now.instance.now.rows }
-        ensures { (u : ℕ) → has result (bit_in self.now.instance.now self.now.k j u) ≡ remember (near self.now.instance.now self.now.k) (memory_at self.now.instance.now self.now.k v memory) j u }
+        ensures { (u : ℕ) → has_bit result (place_of self.now.instance.now self.now.k j u) ≡ remember (near self.now.instance.now self.now.k) (recalls self.now.instance.now self.now.k v memory) j u }
     {
         let list = self.list(j);
         let mut after = insert(0, 0);

@@ -1,11 +1,10 @@
 //! Where a route of a leaf may go from each row.
 
-ghost use Rattle.std.specs.Prelude.{◌≡◌, ◌<◌, length, [], IfOk};
+ghost use Rattle.std.specs.Prelude.{◌≡◌, ◌<◌, length, IfOk};
 ghost use Rattle.solomon_reader.specs.Problem.{customer_count};
-ghost use Rattle.solomon_reader.specs.Region.{root_region};
 ghost use Rattle.leaf_arcs.specs.Decisions.{AreAllowed};
-ghost use Rattle.leaf_arcs.specs.Arcs.{IsAllowedArc, AreAllowedArcs};
-ghost use Rattle.leaf_arcs.specs.Leaves.{problem_of, IsArcIn, AreArcsIn, IsRowIn, AreRowsIn};
+ghost use Rattle.leaf_arcs.specs.Arcs.{IsAllowedArc, AreAllowedArcs, IsArcRow, AreArcRows};
+ghost use Rattle.leaf_arcs.specs.Leaves.{problem_of, pricing_of, free_of};
 
 use crate::arcs::{AllowedArc, ArcRow};
 use crate::decision::allowed_rows;
@@ -14,8 +13,8 @@ use std::alloc::{AllocError, Global};
 
 /// An arc from v at the prices of a leaf.
 fn priced(leaf: &Leaf<'_, '_>, v: u16, arc: &AllowedArc) -> AllowedArc
-    requires arc { IsAllowedArc (problem_of leaf.now) leaf.now.network.now.neighbours.k [] v arc.now }
-    ensures arc { IsArcIn leaf.now v result }
+    requires arc { IsAllowedArc (free_of leaf.now) v arc.now }
+    ensures arc { IsAllowedArc (pricing_of leaf.now) v result }
     ensures to { result.to ≡ arc.now.to }
 {
     let mut priced = *arc;
@@ -31,9 +30,9 @@ fn allowed_arcs(
     arcs: &[AllowedArc],
     allowed: &[bool],
 ) -> Result<Vec<AllowedArc>, AllocError>
-    requires arcs { AreAllowedArcs (problem_of leaf.now) (root_region (customer_count (problem_of leaf.now))) leaf.now.network.now.neighbours.k [] v arcs.now }
+    requires arcs { AreAllowedArcs (free_of leaf.now) v arcs.now }
     requires allowed { AreAllowed (customer_count (problem_of leaf.now)) leaf.now.path.now v allowed.now }
-    ensures { IfOk result (λ found. AreArcsIn leaf.now v found.items) }
+    ensures { IfOk result (λ found. AreAllowedArcs (pricing_of leaf.now) v found.items) }
 {
     let mut found = Vec::with_capacity(alloc, arcs.len())?;
     for arc in arcs {
@@ -47,7 +46,7 @@ fn allowed_arcs(
 /// Where a route may go from v.
 fn arc_row(alloc: Global, leaf: &Leaf<'_, '_>, v: u16) -> Result<ArcRow, AllocError>
     requires { v < length (problem_of leaf.now).rows }
-    ensures { IfOk result (λ r. IsRowIn leaf.now v r) }
+    ensures { IfOk result (λ r. IsArcRow (pricing_of leaf.now) v r) }
 {
     let network = leaf.network;
     let instance = network.neighbours.instance;
@@ -63,7 +62,7 @@ fn arc_row(alloc: Global, leaf: &Leaf<'_, '_>, v: u16) -> Result<ArcRow, AllocEr
 
 /// Where a route may go from each row.
 pub(crate) fn arc_rows(alloc: Global, leaf: &Leaf<'_, '_>) -> Result<Vec<ArcRow>, AllocError>
-    ensures { IfOk result (λ rows. AreRowsIn leaf.now rows.items) }
+    ensures { IfOk result (λ rows. AreArcRows (pricing_of leaf.now) rows.items) }
 {
     let network = leaf.network;
     let mut rows = Vec::new(alloc);

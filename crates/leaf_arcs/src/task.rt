@@ -1,7 +1,10 @@
 //! What the work on a leaf stands on.
 
 ghost use Rattle.std.specs.Prelude.{◌≡◌, IfOk, IfSome};
-ghost use Rattle.leaf_arcs.specs.Leaves.{AreRowsIn, IsFloorIn, AreFloorsIn};
+ghost use Rattle.std.specs.List.{All};
+ghost use Rattle.leaf_arcs.specs.Arcs.{AreArcRows};
+ghost use Rattle.leaf_arcs.specs.Floors.{IsFloor, IsKnown};
+ghost use Rattle.leaf_arcs.specs.Leaves.{pricing_of};
 
 use crate::arcs::ArcRow;
 use crate::floor::{Floor, floor_at, floors_of};
@@ -21,9 +24,9 @@ pub struct Task<'a, 'i> {
     time_floors: Vec<Option<Floor>>,
     /// None until they are added.
     load_floors: Vec<Option<Floor>>,
-    ghost rows_are: { AreRowsIn leaf rows.items },
-    ghost by_time: { AreFloorsIn leaf time_floors.items },
-    ghost by_load: { AreFloorsIn leaf load_floors.items },
+    ghost rows_are: { AreArcRows (pricing_of leaf) rows.items },
+    ghost by_time: { All (IsKnown (pricing_of leaf)) time_floors.items },
+    ghost by_load: { All (IsKnown (pricing_of leaf)) load_floors.items },
 }
 
 impl<'a, 'i> Task<'a, 'i> {
@@ -56,7 +59,7 @@ impl<'a, 'i> Task<'a, 'i> {
 
     /// The floor over time that holds of a row at a time and a load, if one is known.
     pub fn floor_at(&self, row: u16, time: u64, load: usize) -> Option<Floor>
-        ensures { IfSome result (λ f. IsFloorIn self.now.leaf row time load f) }
+        ensures { IfSome result (λ f. IsFloor (pricing_of self.now.leaf) row time load f) }
     {
         let network = self.leaf.network;
         let place = network.time_slots.place(row, time, load);
@@ -66,7 +69,7 @@ impl<'a, 'i> Task<'a, 'i> {
 
     /// The floor over load that holds of a row at a time and a load, if one is known.
     pub fn load_floor_at(&self, row: u16, time: u64, load: usize) -> Option<Floor>
-        ensures { IfSome result (λ f. IsFloorIn self.now.leaf row time load f) }
+        ensures { IfSome result (λ f. IsFloor (pricing_of self.now.leaf) row time load f) }
     {
         if self.load_floors.is_empty() {
             return None;

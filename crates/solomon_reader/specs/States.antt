@@ -1,10 +1,21 @@
 -- Where a vehicle stands after a front of a route, and what may come after it.
-use Rattle.std.specs.Prelude.{◌≡◌, ℕ, ◌+◌, ◌*◌, ◌≤◌, max, Bool, false, List, [], ◌∷◌, ◌++◌, IsTrue, IsFalse, ℤ, pos, ◌+ℤ◌, ◌-ℤ◌, ◌≤ℤ◌}
+use Rattle.std.specs.Prelude.{◌≡◌, ℕ, ◌+◌, ◌*◌, ◌≤◌, max, Bool, false, List, [], ◌∷◌, ◌++◌, IsTrue, IsFalse, Option, Some, None, ℤ, pos, ◌+ℤ◌, ◌-ℤ◌, ◌≤ℤ◌}
+use Rattle.solomon_reader.specs.declared.limits.TheConstants.{MOST_PRICE, MOST_DISTANCE}
 use Rattle.solomon_reader.specs.Problem.{Problem, IsCustomer, demand, ready, due, service}
 use Rattle.solomon_reader.specs.Distance.{distance}
 use Rattle.solomon_reader.specs.Region.{Region, IsAllowed}
 use Rattle.solomon_reader.specs.Relaxed.{price_of}
 use Rattle.solomon_reader.specs.Remembering.{near, remember}
+
+-- prices at a region of an instance, with the number of neighbours that are remembered
+pub record Pricing : Type 0 where
+  pub problem : Problem
+  pub region : Region
+  pub neighbours : ℕ
+  pub prices : List ℤ
+
+abbrev pub pricing : Problem → Region → ℕ → List ℤ → Pricing
+pricing p g k prices = record { problem = p; region = g; neighbours = k; prices = prices }
 
 pub record State : Type 0 where
   pub last : ℕ
@@ -13,8 +24,8 @@ pub record State : Type 0 where
   pub cost : ℤ
   pub memory : ℕ → Bool
 
-abbrev pub start : Problem → State
-start p = record { last = 0; time = ready p 0; load = 0; cost = pos 0; memory = λ _. false }
+abbrev pub start : Pricing → State
+start q = record { last = 0; time = ready q.problem 0; load = 0; cost = pos 0; memory = λ _. false }
 
 -- when service begins at j
 abbrev pub begins : Problem → State → ℕ → ℕ
@@ -24,40 +35,54 @@ begins p a j = max (a.time + distance p a.last j) (ready p j)
 abbrev pub arc_value : Problem → List ℤ → ℕ → ℕ → ℤ
 arc_value p prices i j = pos (1000 * distance p i j) -ℤ price_of prices j
 
-abbrev pub step : Problem → ℕ → List ℤ → State → ℕ → State
-step p k prices a j = record {
+-- the most that a stop adds to a reduced cost, or takes from it
+abbrev pub most_grains : ℕ
+most_grains = MOST_PRICE + 1000 * MOST_DISTANCE
+
+-- a price in its range
+pub record IsPriced (z : ℤ) : Type 0 where
+  pub low : pos 0 ≤ℤ (z +ℤ pos MOST_PRICE)
+  pub high : z ≤ℤ pos MOST_PRICE
+
+abbrev pub step : Pricing → State → ℕ → State
+step q a j = record {
   last = j;
-  time = begins p a j + service p j;
-  load = a.load + demand p j;
-  cost = a.cost +ℤ arc_value p prices a.last j;
-  memory = remember (near p k) a.memory j;
+  time = begins q.problem a j + service q.problem j;
+  load = a.load + demand q.problem j;
+  cost = a.cost +ℤ arc_value q.problem q.prices a.last j;
+  memory = remember (near q.problem q.neighbours) a.memory j;
 }
 
-pub record CanStep (p : Problem) (g : Region) (a : State) (j : ℕ) : Type 0 where
-  pub customer : IsCustomer p j
-  pub allowed : IsAllowed g (a.last, j)
-  pub load : a.load + demand p j ≤ p.capacity
-  pub due : begins p a j ≤ due p j
+pub record CanStep (q : Pricing) (a : State) (j : ℕ) : Type 0 where
+  pub customer : IsCustomer q.problem j
+  pub allowed : IsAllowed q.region (a.last, j)
+  pub load : a.load + demand q.problem j ≤ q.problem.capacity
+  pub due : begins q.problem a j ≤ due q.problem j
   pub fresh : IsFalse (a.memory j)
 
-pub record CanEnd (p : Problem) (g : Region) (a : State) : Type 0 where
-  pub allowed : IsAllowed g (a.last, 0)
-  pub closing : a.time + distance p a.last 0 ≤ due p 0
+pub record CanEnd (q : Pricing) (a : State) : Type 0 where
+  pub allowed : IsAllowed q.region (a.last, 0)
+  pub closing : a.time + distance q.problem a.last 0 ≤ due q.problem 0
 
 -- the stops of the list may come after the state, and then the depot
-abbrev pub Completes : Problem → Region → ℕ → List ℤ → State → List ℕ → Type 0
-Completes p g k prices a [] = CanEnd p g a
-Completes p g k prices a (j ∷ s) = CanStep p g a j × Completes p g k prices (step p k prices a j) s
+abbrev pub Completes : Pricing → State → List ℕ → Type 0
+Completes q a [] = CanEnd q a
+Completes q a (j ∷ s) = CanStep q a j × Completes q (step q a j) s
 
 -- the reduced cost of the whole route
-abbrev pub value_with : Problem → ℕ → List ℤ → State → List ℕ → ℤ
-value_with p k prices a [] = a.cost +ℤ pos (1000 * distance p a.last 0)
-value_with p k prices a (j ∷ s) = value_with p k prices (step p k prices a j) s
+abbrev pub value_with : Pricing → State → List ℕ → ℤ
+value_with q a [] = a.cost +ℤ pos (1000 * distance q.problem a.last 0)
+value_with q a (j ∷ s) = value_with q (step q a j) s
+
+-- the first of the stops is n
+abbrev pub StartsWith : ℕ → List ℕ → Type 0
+StartsWith n [] = ⊥
+StartsWith n (j ∷ s) = j ≡ n
 
 -- the stops lead from the start to the state
-pub record Reaches (p : Problem) (g : Region) (k : ℕ) (prices : List ℤ) (route : List ℕ) (a : State) : Type 0 where
-  pub completes : (s : List ℕ) → Completes p g k prices a s → Completes p g k prices (start p) (route ++ s)
-  pub value : (s : List ℕ) → value_with p k prices (start p) (route ++ s) ≡ value_with p k prices a s
+pub record Reaches (q : Pricing) (route : List ℕ) (a : State) : Type 0 where
+  pub completes : (s : List ℕ) → Completes q a s → Completes q (start q) (route ++ s)
+  pub value : (s : List ℕ) → value_with q (start q) (route ++ s) ≡ value_with q a s
 
 -- all that may come after b may come after a, at no greater cost
 pub record IsAsGood (a b : State) : Type 0 where
@@ -74,3 +99,8 @@ pub record IsSameState (a b : State) : Type 0 where
   pub load : a.load ≡ b.load
   pub cost : a.cost ≡ b.cost
   pub memory : (u : ℕ) → a.memory u ≡ b.memory u
+
+-- the best is at most z
+abbrev pub IsAtMost : Option ℤ → ℤ → Type 0
+IsAtMost None z = ⊥
+IsAtMost (Some m) z = m ≤ℤ z

@@ -1,8 +1,10 @@
 //! A route of low reduced cost, before the table is worked.
 
 ghost use Rattle.std.specs.Prelude.{None};
-ghost use Rattle.leaf_arcs.specs.Leaves.{IsArcIn, AreArcsIn};
-ghost use Rattle.tree_bound.specs.Leaves.{IsBoundedIn, IsFoundIn};
+ghost use Rattle.leaf_arcs.specs.Arcs.{IsAllowedArc, AreAllowedArcs};
+ghost use Rattle.leaf_arcs.specs.Leaves.{problem_of, pricing_of};
+ghost use Rattle.tree_bound.specs.Cover.{IsFound};
+ghost use Rattle.tree_bound.specs.Labels.{IsBounded};
 
 use crate::label::Label;
 use crate::steps::{can_extend, close_route, extend, floor_of, is_dear};
@@ -12,8 +14,8 @@ use leaf_arcs::{AllowedArc, Task};
 /// About what a route costs that goes on from a label over an arc, if it may: the floor, or the step alone.
 /// Nothing is said of it.
 fn promise(task: &Task<'_, '_>, load: usize, label: &Label, arc: &AllowedArc) -> Option<i64>
-    requires bounded { IsBoundedIn task.now.leaf load label.now }
-    requires arc { IsArcIn task.now.leaf label.now.customer arc.now }
+    requires bounded { IsBounded (problem_of task.now.leaf) load label.now }
+    requires arc { IsAllowedArc (pricing_of task.now.leaf) label.now.customer arc.now }
 {
     if !can_extend(&task.leaf, load, label, arc) {
         return None;
@@ -27,8 +29,8 @@ fn promise(task: &Task<'_, '_>, load: usize, label: &Label, arc: &AllowedArc) ->
 
 /// The place of the arc that promises the least, or the number of arcs.
 fn promising(task: &Task<'_, '_>, load: usize, label: &Label, arcs: &[AllowedArc]) -> usize
-    requires bounded { IsBoundedIn task.now.leaf load label.now }
-    requires arcs { AreArcsIn task.now.leaf label.now.customer arcs.now }
+    requires bounded { IsBounded (problem_of task.now.leaf) load label.now }
+    requires arcs { AreAllowedArcs (pricing_of task.now.leaf) label.now.customer arcs.now }
 {
     let mut least = i64::MAX;
     let mut found = arcs.len();
@@ -45,7 +47,7 @@ fn promising(task: &Task<'_, '_>, load: usize, label: &Label, arcs: &[AllowedArc
 /// Follows a route along what promises the least: the least reduced cost, in grains, of the relaxed routes
 /// that end where it passes, if one may.
 pub(crate) fn dive(task: &Task<'_, '_>) -> Option<i64>
-    ensures { IsFoundIn task.now.leaf None result }
+    ensures { IsFound (pricing_of task.now.leaf) None result }
 {
     let leaf = &task.leaf;
     let mut label = beginning(leaf);

@@ -4,11 +4,13 @@ ghost use Rattle.std.specs.Prelude.{◌≡◌, ◌↔◌, ◌+◌, ◌*◌, ◌<
 ghost use Rattle.solomon_reader.specs.declared.limits.TheConstants.{MOST_TIME};
 ghost use Rattle.solomon_reader.specs.Problem.{demand};
 ghost use Rattle.solomon_reader.specs.Region.{IsAllowed};
-ghost use Rattle.solomon_reader.specs.States.{begins};
-ghost use Rattle.tree_bound.specs.Steps.{route_value};
-ghost use Rattle.tree_bound.specs.Cover.{IsAtMost};
-ghost use Rattle.leaf_arcs.specs.Leaves.{problem_of, region_in, IsArcIn, AreArcsIn, IsRowIn, IsFloorIn};
-ghost use Rattle.tree_bound.specs.Leaves.{state_in, IsBoundedIn, CanExtendIn, IsExtensionIn, AddsIn, IsDearIn, step_in, IsLabelIn, IsTableIn, TakesStepIn, TakesStepsIn, ClosesRouteIn};
+ghost use Rattle.solomon_reader.specs.States.{begins, step, IsAtMost};
+ghost use Rattle.leaf_arcs.specs.Arcs.{IsAllowedArc, AreAllowedArcs, IsArcRow};
+ghost use Rattle.leaf_arcs.specs.Floors.{IsFloor};
+ghost use Rattle.leaf_arcs.specs.Leaves.{problem_of, region_in, pricing_of};
+ghost use Rattle.tree_bound.specs.Cover.{Adds, IsDear};
+ghost use Rattle.tree_bound.specs.Labels.{state_of, IsBounded, IsLabel, IsTable};
+ghost use Rattle.tree_bound.specs.Steps.{route_value, CanExtend, IsExtension, TakesStep, TakesSteps, ClosesRoute};
 
 use crate::fault::BoundFault;
 use crate::label::Label;
@@ -17,9 +19,10 @@ use leaf_arcs::{AllowedArc, ArcRow, Floor, Leaf, Task, contains};
 
 /// When service at a further customer begins, in tenths.
 fn begins(leaf: &Leaf<'_, '_>, load: usize, label: &Label, arc: &AllowedArc) -> u64
-    requires bounded { IsBoundedIn leaf.now load label.now }
-    requires arc { IsArcIn leaf.now label.now.customer arc.now }
-    ensures is { result ≡ begins (problem_of leaf.now) (state_in leaf.now load label.now) arc.now.to }
+    requires bounded { IsBounded (problem_of leaf.now) load label.now }
+    requires arc { IsAllowedArc (pricing_of leaf.now) label.now.customer arc.now }
+    ensures is { let q = pricing_of leaf.now in
+        result ≡ begins (problem_of leaf.now) (state_of q load label.now) arc.now.to }
     ensures small { result ≤ 30 * MOST_TIME }
 {
     (label.time + arc.travel).max(arc.ready)
@@ -27,9 +30,9 @@ fn begins(leaf: &Leaf<'_, '_>, load: usize, label: &Label, arc: &AllowedArc) -> 
 
 /// Whether load, window and memory leave a step.
 pub(crate) fn can_extend(leaf: &Leaf<'_, '_>, load: usize, label: &Label, arc: &AllowedArc) -> bool
-    requires bounded { IsBoundedIn leaf.now load label.now }
-    requires arc { IsArcIn leaf.now label.now.customer arc.now }
-    ensures { IsTrue result ↔ CanExtendIn leaf.now load label.now arc.now.to }
+    requires bounded { IsBounded (problem_of leaf.now) load label.now }
+    requires arc { IsAllowedArc (pricing_of leaf.now) label.now.customer arc.now }
+    ensures { IsTrue result ↔ CanExtend (pricing_of leaf.now) load label.now arc.now.to }
 {
     let network = leaf.network;
     let capacity = usize::from(network.neighbours.instance.capacity());
@@ -44,10 +47,11 @@ pub(crate) fn can_extend(leaf: &Leaf<'_, '_>, load: usize, label: &Label, arc: &
 
 /// The label with one more stop.
 pub(crate) fn extend(leaf: &Leaf<'_, '_>, load: usize, label: &Label, arc: &AllowedArc) -> Label
-    requires bounded { IsBoundedIn leaf.now load label.now }
-    requires arc { IsArcIn leaf.now label.now.customer arc.now }
-    requires can { CanExtendIn leaf.now load label.now arc.now.to }
-    ensures { IsExtensionIn leaf.now load label.now (load + arc.now.demand) arc.now.to result }
+    requires bounded { IsBounded (problem_of leaf.now) load label.now }
+    requires arc { IsAllowedArc (pricing_of leaf.now) label.now.customer arc.now }
+    requires can { CanExtend (pricing_of leaf.now) load label.now arc.now.to }
+    ensures { let q = pricing_of leaf.now in
+        IsExtension q load label.now (load + arc.now.demand) arc.now.to result }
 {
     let network = leaf.network;
     Label {
@@ -78,8 +82,10 @@ pub(crate) fn floor_of(
     load: usize,
     label: &Label,
 ) -> Option<i64>
-    requires { IfSome floor (λ f. IsFloorIn task.now.leaf label.now.customer label.now.time load f) }
-    ensures { IfSome result (λ h. AddsIn task.now.leaf (state_in task.now.leaf load label.now) h) }
+    requires { let q = pricing_of task.now.leaf in
+        IfSome floor (λ f. IsFloor q label.now.customer label.now.time load f) }
+    ensures { let q = pricing_of task.now.leaf in
+        IfSome result (λ h. Adds q (state_of q load label.now) h) }
 {
     let network = task.leaf.network;
     let (row, memory) = (label.customer, label.memory);
@@ -95,7 +101,8 @@ pub(crate) fn floor_of(
 
 /// Whether all that may come after a label is dear: the floor says that it costs at least the best so far.
 pub(crate) fn is_dear(task: &Task<'_, '_>, load: usize, label: &Label, best: Option<i64>) -> bool
-    ensures { IsTrue result → IsDearIn task.now.leaf best (state_in task.now.leaf load label.now) }
+    ensures { let q = pricing_of task.now.leaf in
+        IsTrue result → IsDear q best (state_of q load label.now) }
 {
     let by_time = task.floor_at(label.customer, label.time, load);
     if let Some(more) = floor_of(task, by_time, load, label) {
@@ -118,10 +125,11 @@ fn is_dear_step(
     arc: &AllowedArc,
     best: Option<i64>,
 ) -> bool
-    requires bounded { IsBoundedIn task.now.leaf load label.now }
-    requires arc { IsArcIn task.now.leaf label.now.customer arc.now }
-    requires can { CanExtendIn task.now.leaf load label.now arc.now.to }
-    ensures { IsTrue result → IsDearIn task.now.leaf best (step_in task.now.leaf load label.now arc.now.to) }
+    requires bounded { IsBounded (problem_of task.now.leaf) load label.now }
+    requires arc { IsAllowedArc (pricing_of task.now.leaf) label.now.customer arc.now }
+    requires can { CanExtend (pricing_of task.now.leaf) load label.now arc.now.to }
+    ensures { let q = pricing_of task.now.leaf in
+        IsTrue result → IsDear q best (step q (state_of q load label.now) arc.now.to) }
 {
     let time = begins(&task.leaf, load, label, arc) + arc.service;
     let load = load + usize::from(arc.demand);
@@ -146,11 +154,13 @@ fn take_step(
     arc: &AllowedArc,
     best: Option<i64>,
 ) -> Result<(), BoundFault>
-    requires table { IsTableIn task.now.leaf table.old.buckets.items (load + 1) }
-    requires label { IsLabelIn task.now.leaf load label.now }
-    requires arc { IsArcIn task.now.leaf label.now.customer arc.now }
+    requires table { IsTable (pricing_of task.now.leaf) table.old.buckets.items (load + 1) }
+    requires label { IsLabel (pricing_of task.now.leaf) load label.now }
+    requires arc { IsAllowedArc (pricing_of task.now.leaf) label.now.customer arc.now }
     requires allowed { IsAllowed (region_in task.now.leaf) (label.now.customer, arc.now.to) }
-    ensures { IfOk result (λ _. TakesStepIn task.now.leaf best table.old.buckets.items table.new.buckets.items load label.now arc.now.to) }
+    ensures { let q = pricing_of task.now.leaf in
+        IfOk result (λ _. TakesStep q best table.old.buckets.items table.new.buckets.items
+        load label.now arc.now.to) }
 {
     let leaf = &task.leaf;
     if !can_extend(leaf, load, label, arc) || is_dear_step(task, load, label, arc, best) {
@@ -174,10 +184,12 @@ pub(crate) fn take_steps(
     arcs: &[AllowedArc],
     best: Option<i64>,
 ) -> Result<(), BoundFault>
-    requires table { IsTableIn task.now.leaf table.old.buckets.items (load + 1) }
-    requires label { IsLabelIn task.now.leaf load label.now }
-    requires arcs { AreArcsIn task.now.leaf label.now.customer arcs.now }
-    ensures { IfOk result (λ _. TakesStepsIn task.now.leaf best table.old.buckets.items table.new.buckets.items load label.now arcs.now (length arcs.now)) }
+    requires table { IsTable (pricing_of task.now.leaf) table.old.buckets.items (load + 1) }
+    requires label { IsLabel (pricing_of task.now.leaf) load label.now }
+    requires arcs { AreAllowedArcs (pricing_of task.now.leaf) label.now.customer arcs.now }
+    ensures { let q = pricing_of task.now.leaf in
+        IfOk result (λ _. TakesSteps q best table.old.buckets.items table.new.buckets.items
+        load label.now arcs.now (length arcs.now)) }
 {
     for arc in arcs {
         take_step(task, table, load, label, arc, best)?;
@@ -187,8 +199,8 @@ pub(crate) fn take_steps(
 
 /// The reduced cost of the route that ends at a label, in grains.
 fn route_value(leaf: &Leaf<'_, '_>, row: &ArcRow, load: usize, label: &Label) -> i64
-    requires bounded { IsBoundedIn leaf.now load label.now }
-    requires row { IsRowIn leaf.now label.now.customer row.now }
+    requires bounded { IsBounded (problem_of leaf.now) load label.now }
+    requires row { IsArcRow (pricing_of leaf.now) label.now.customer row.now }
     ensures { result ≡ route_value (problem_of leaf.now) label.now }
 {
     let grains = 1000 * row.back;
@@ -203,9 +215,9 @@ pub(crate) fn close_route(
     label: &Label,
     best: Option<i64>,
 ) -> Option<i64>
-    requires bounded { IsBoundedIn leaf.now load label.now }
-    requires row { IsRowIn leaf.now label.now.customer row.now }
-    ensures { ClosesRouteIn leaf.now load label.now best result }
+    requires bounded { IsBounded (problem_of leaf.now) load label.now }
+    requires row { IsArcRow (pricing_of leaf.now) label.now.customer row.now }
+    ensures { ClosesRoute (pricing_of leaf.now) load label.now best result }
 {
     let network = leaf.network;
     let closing = network.neighbours.instance.due(0);

@@ -1,10 +1,12 @@
 //! The least reduced cost of a leaf, by a table over last customer, load and memory.
 
-ghost use Rattle.std.specs.Prelude.{◌≡◌, ◌+◌, ◌<◌, length, [], replicate, true, List, IfOk, IsTrue, IsFalse};
+ghost use Rattle.std.specs.Prelude.{◌≡◌, ◌+◌, ◌<◌, length, [], true, List, IfOk, IsTrue, IsFalse};
 ghost use Rattle.solomon_reader.specs.States.{start, IsSameState};
+ghost use Rattle.leaf_arcs.specs.Leaves.{pricing_of};
+ghost use Rattle.tree_bound.specs.Labels.{state_of, IsLabel, IsTable, AreLabels};
+ghost use Rattle.tree_bound.specs.Steps.{IsDone, IsPassed};
+ghost use Rattle.tree_bound.specs.Leaves.{IsWorkedIn, IsSweptIn, IsLeastBelowIn};
 ghost use Rattle.tree_bound.specs.declared.label.Label.{Label};
-ghost use Rattle.leaf_arcs.specs.Leaves.{problem_of};
-ghost use Rattle.tree_bound.specs.Leaves.{state_in, IsLabelIn, AreLabelsIn, IsTableIn, IsDoneIn, IsWorkedIn, IsSweptIn, IsPassedIn, IsLeastBelowIn};
 
 use crate::bucket::Bucket;
 use crate::fault::BoundFault;
@@ -26,9 +28,11 @@ fn work_label(
     label: &Label,
     best: Option<i64>,
 ) -> Result<Option<i64>, BoundFault>
-    requires table { IsTableIn task.now.leaf table.old.buckets.items (load + 1) }
-    requires label { IsLabelIn task.now.leaf load label.now }
-    ensures { IfOk result (λ after. IsDoneIn task.now.leaf table.old.buckets.items table.new.buckets.items load label.now best after) }
+    requires table { IsTable (pricing_of task.now.leaf) table.old.buckets.items (load + 1) }
+    requires label { IsLabel (pricing_of task.now.leaf) load label.now }
+    ensures { let q = pricing_of task.now.leaf in
+        IfOk result (λ after. IsDone q table.old.buckets.items table.new.buckets.items
+        load label.now best after) }
 {
     let row = &task.rows[label.customer as usize];
     let after = close_route(&task.leaf, row, load, label, best);
@@ -46,7 +50,8 @@ fn is_open(
     best: Option<i64>,
 ) -> bool
     ensures open { IsTrue result → label.now.active ≡ true }
-    ensures passed { IsFalse result → IsPassedIn task.now.leaf best settled.now load label.now }
+    ensures passed { let q = pricing_of task.now.leaf in
+        IsFalse result → IsPassed q best settled.now load label.now }
 {
     label.active && !settled.dominates(label) && !is_dear(task, load, label, best)
 }
@@ -60,7 +65,7 @@ fn work_labels(
     labels: &[Label],
     best: Option<i64>,
 ) -> Result<Option<i64>, BoundFault>
-    requires labels { AreLabelsIn task.now.leaf load labels.now }
+    requires labels { AreLabels (pricing_of task.now.leaf) load labels.now }
     requires begun { IsWorkedIn task.now table.old.buckets.items settled.old load labels.now 0 best }
     ensures { IfOk result (λ after. IsWorkedIn task.now table.new.buckets.items settled.new load labels.now (length labels.now) after) }
 {
@@ -114,8 +119,9 @@ fn sweep(
 
 /// The empty beginning at the depot, which the table doesn't keep.
 pub(crate) fn beginning(leaf: &Leaf<'_, '_>) -> Label
-    ensures same { IsSameState (state_in leaf.now 0 result) (start (problem_of leaf.now)) }
-    ensures label { IsLabelIn leaf.now 0 result }
+    ensures same { let q = pricing_of leaf.now in
+        IsSameState (state_of q 0 result) (start q) }
+    ensures label { IsLabel (pricing_of leaf.now) 0 result }
     ensures active { result.active ≡ true }
 {
     let network = leaf.network;

@@ -5,7 +5,7 @@ use Rattle.fronts.proofs.completions.bound_from.Goals as goal
 
 pub loop-step-init : goal.loop-step-init
 loop-step-init c =
-    bound_fewer _ _ _ _ c.args.task.now.task (omega arith) c.args.v c.args.from (λ _. ⊥) _ _ (λ i h. among_none c.steps_from-step-items.result.now i h) c.end_bound-bound.ensures
+    bound_fewer _ c.args.task.now.task (omega arith) c.args.v c.args.from (λ _. ⊥) _ _ (λ i h. among_none c.steps_from-step-items.result.now i h) c.end_bound-bound.ensures
 
 pub with_step-bound-requires-clause-j : goal.with_step-bound-requires-clause-j
 with_step-bound-requires-clause-j c =
@@ -14,16 +14,16 @@ with_step-bound-requires-clause-j c =
 
 pub loop-step-preserved : goal.loop-step-preserved
 loop-step-preserved c =
-    bound_more _ _ _ _ c.args.task.now.task (omega arith) c.args.v c.args.from _ _ _ _ _ (among_more c.steps_from-step-items.result.now c.loop-step.step-index) c.loop-step.invariant c.with_step-bound.ensures
+    bound_more _ c.args.task.now.task (omega arith) c.args.v c.args.from _ _ _ _ _ (among_more c.steps_from-step-items.result.now c.loop-step.step-index) c.loop-step.invariant c.with_step-bound.ensures
 
 pub returns-then-step-from : goal.returns-then-step-from
 returns-then-step-from c =
     let are = c.steps_from-step-items.ensures in
-    bound_all _ _ _ _ c.args.task.now.task (omega arith) c.args.v c.args.from _ _
+    bound_all _ c.args.task.now.task (omega arith) c.args.v c.args.from _ _
     (is_among _ c.args.v c.steps_from-step-items.result.now c.args.from c.loop-step.step-index are c.requires.from (inr c.if-step-from.true)) c.loop-step.invariant
 
 pub returns : goal.returns
 returns c =
     let are = c.steps_from-step-items.ensures in
-    bound_all _ _ _ _ c.args.task.now.task (omega arith) c.args.v c.args.from _ _
+    bound_all _ c.args.task.now.task (omega arith) c.args.v c.args.from _ _
     (is_among _ c.args.v c.steps_from-step-items.result.now c.args.from c.loop-step.step-index are c.requires.from (inl (omega arith))) c.loop-step.invariant

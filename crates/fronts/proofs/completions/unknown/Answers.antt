@@ -4,4 +4,4 @@ use Rattle.fronts.proofs.Following.{bound_whole}
 use Rattle.fronts.proofs.completions.unknown.Goals as goal
 
 pub returns : goal.returns
-returns c = λ v t. bound_whole _ _ _ _ c.args.task.now.task (omega arith) v t _ (omega arith) (omega (arith, ints)) (omega (arith, ints))
+returns c = λ v t. bound_whole _ c.args.task.now.task (omega arith) v t _ (omega arith) (omega (arith, ints)) (omega (arith, ints))

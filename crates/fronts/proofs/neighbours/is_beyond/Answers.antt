@@ -1,5 +1,5 @@
 use Rattle.std.proofs.Common.{arith, sym, ◌∙◌}
-use Rattle.fronts.proofs.Places.{rank_grows}
+use Rattle.solomon_reader.proofs.Places.{rank_grows}
 use Rattle.fronts.proofs.neighbours.is_beyond.Goals as goal
 
 pub returns-in-Some : goal.returns-in-Some

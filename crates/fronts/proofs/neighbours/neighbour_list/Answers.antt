@@ -1,6 +1,6 @@
 use Rattle.std.proofs.Common.{◌≡◌, ◌<◌, length, get_or, arith, ◌∙◌}
-use Rattle.fronts.specs.Memories.{place_of}
-use Rattle.fronts.proofs.Places.{listed_no, listed_yes}
+use Rattle.solomon_reader.specs.Memories.{place_of}
+use Rattle.fronts.proofs.Listed.{listed_no, listed_yes}
 use Rattle.fronts.proofs.neighbours.neighbour_list.Goals as goal
 use Rattle.fronts.proofs.neighbours.neighbour_list.Goals.{then-place-lt-LIST_SIZE, else-place-lt-LIST_SIZE}
 

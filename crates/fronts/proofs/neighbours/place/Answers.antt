@@ -1,6 +1,6 @@
 use Rattle.std.proofs.Common.{arith, sym, ◌≡◌, ◌<◌}
 use Rattle.solomon_reader.specs.Relaxed.{rank}
-use Rattle.fronts.proofs.Places.{place_first, place_ranked, place_far}
+use Rattle.solomon_reader.proofs.Places.{place_first, place_ranked, place_far}
 use Rattle.fronts.proofs.neighbours.place.Goals as goal
 
 pub returns-then-u-v-clause-is : goal.returns-then-u-v-clause-is

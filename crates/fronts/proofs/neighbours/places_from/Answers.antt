@@ -1,6 +1,6 @@
 use Rattle.std.proofs.Common.{◌≡◌, [], sym, ◌∙◌}
-use Rattle.fronts.specs.Memories.{place_of}
-use Rattle.fronts.proofs.Places.{depot_first, depot_far, places_none, places_more}
+use Rattle.solomon_reader.specs.Memories.{place_of}
+use Rattle.solomon_reader.proofs.Places.{depot_first, depot_far, places_none, places_more}
 use Rattle.fronts.proofs.neighbours.places_from.Goals as goal
 use Rattle.fronts.proofs.neighbours.places_from.Goals.{then-v-eq0, else-v-eq0}
 

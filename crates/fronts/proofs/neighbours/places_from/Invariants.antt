@@ -1,4 +1,5 @@
-use Rattle.fronts.specs.Memories.{HasPlaces, IsBeyond}
+use Rattle.solomon_reader.specs.Memories.{HasPlaces}
+use Rattle.fronts.specs.Memories.{IsBeyond}
 use Rattle.fronts.proofs.neighbours.places_from.Given as goal
 
 abbrev pub invariant-loop-u : goal.invariant-loop-u

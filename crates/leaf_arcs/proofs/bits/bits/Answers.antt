@@ -1,9 +1,9 @@
-use Rattle.std.proofs.Common.{arith}
-use Rattle.leaf_arcs.proofs.Listing.{bits_more, bits_all}
+use Rattle.std.proofs.Common.{◌≡◌, length, arith}
+use Rattle.solomon_reader.proofs.Places.{places_more}
 use Rattle.leaf_arcs.proofs.bits.bits.Goals as goal
 
 pub loop-u-preserved : goal.loop-u-preserved
-loop-u-preserved c = rw c.in_ok-push.ensures.items (bits_more c.args.instance.now c.args.k c.args.v c.loop-u.u c.loop-u.bits.items c.bit.result c.loop-u.invariant c.bit.ensures)
+loop-u-preserved c = rw c.in_ok-push.ensures.items (places_more c.args.instance.now c.args.v c.args.k c.loop-u.u c.loop-u.bits.items c.bit.result c.loop-u.invariant c.bit.ensures)
 
 pub returns : goal.returns
-returns c = bits_all c.args.instance.now c.args.k c.args.v c.loop-u.u c.loop-u.bits.items (omega arith) c.loop-u.invariant
+returns c = let all : c.loop-u.u ≡ length c.args.instance.now.rows = omega arith in rw all at c.loop-u.invariant

@@ -6,13 +6,13 @@ use Rattle.leaf_arcs.proofs.Flooring.{step_late, step_heavy, step_lower, joined_
 use Rattle.leaf_arcs.proofs.floor.with_step.Goals as goal
 
 pub returns-then-begins-arc-clause-joined : goal.returns-then-begins-arc-clause-joined
-returns-then-begins-arc-clause-joined c = joined_none _ _ _ _ _ _ _ _ c.args.floor (λ h. step_late _ _ _ _ c.args.floor.row c.args.floor.from c.args.floor.loaded c.args.arc.now c.requires.arc h (omega arith))
+returns-then-begins-arc-clause-joined c = joined_none _ _ _ _ _ c.args.floor (λ h. step_late _ c.args.floor.row c.args.floor.from c.args.floor.loaded c.args.arc.now c.requires.arc h (omega arith))
 
 pub returns-then-load-from-clause-joined : goal.returns-then-load-from-clause-joined
-returns-then-load-from-clause-joined c = joined_none _ _ _ _ _ _ _ _ c.args.floor (λ h. step_heavy _ _ _ _ c.args.floor.row c.args.floor.from c.args.floor.loaded c.args.arc.now c.requires.arc h (omega arith))
+returns-then-load-from-clause-joined c = joined_none _ _ _ _ _ c.args.floor (λ h. step_heavy _ c.args.floor.row c.args.floor.from c.args.floor.loaded c.args.arc.now c.requires.arc h (omega arith))
 
 pub returns-clause-joined : goal.returns-clause-joined
 returns-clause-joined c = (
   to_z w64 (of_z w64 c.in_ok-value.value),
-  (step_lower _ _ _ _ c.args.floor.row c.args.floor.from c.args.floor.loaded c.args.arc.now.to c.in_ok-value.value _ (omega (arith, ints)) c.in_ok-value.ensures, c.joined.ensures.joined),
+  (step_lower _ c.args.floor.row c.args.floor.from c.args.floor.loaded c.args.arc.now.to c.in_ok-value.value _ (omega (arith, ints)) c.in_ok-value.ensures, c.joined.ensures.joined),
 )

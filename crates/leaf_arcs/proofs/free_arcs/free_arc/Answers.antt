@@ -1,14 +1,14 @@
 use Rattle.std.proofs.Common.{arith, ◌∙◌}
 use Rattle.std.proofs.lemmas.Int.{ints}
 use Rattle.solomon_reader.proofs.BoundedRows.{customer_row}
-use Rattle.leaf_arcs.proofs.Remembered.{bit_bound}
+use Rattle.solomon_reader.proofs.Places.{place_bound}
 use Rattle.leaf_arcs.proofs.free_arcs.free_arc.Goals as goal
 
 pub returns-clause-arc : goal.returns-clause-arc
 returns-clause-arc c = record {
   customer = c.requires.j;
   bit = c.bit.ensures;
-  listed = omega (arith, c.bit.ensures, bit_bound c.args.neighbours.now.instance.now c.args.neighbours.now.k c.args.v c.args.j c.args.neighbours.now.few);
+  listed = omega (arith, c.bit.ensures, place_bound c.args.neighbours.now.instance.now c.args.v c.args.neighbours.now.k (omega (arith, c.args.neighbours.now.few)) c.args.j);
   demand_is = c.demand.ensures.value;
   carried = omega (arith, c.demand.ensures.value, (customer_row c.args.neighbours.now.instance.now c.args.j c.customer_count-count.ensures.limits c.requires.j).1);
   light = c.demand.ensures.bound;

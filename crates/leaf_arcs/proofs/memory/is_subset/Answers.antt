@@ -2,11 +2,11 @@ use Rattle.std.proofs.Common.{◌≡◌, ℕ, zero, suc, ◌<◌, ◌≤◌, tru
 use Rattle.std.specs.Int.{bit_at}
 use Rattle.std.proofs.lemmas.Nat.Bits.{bit_at_and, bit_at-lt}
 use Rattle.std.proofs.lemmas.Bool.{eqb-true}
-use Rattle.leaf_arcs.specs.Memories.{has}
+use Rattle.solomon_reader.specs.Memories.{has_bit}
 use Rattle.leaf_arcs.proofs.memory.is_subset.Goals as goal
 
 -- a number that is its meet with another has only bits of that
-within : (a b i : ℕ) → bit_and a b ≡ a → has a i ≡ true → has b i ≡ true
+within : (a b i : ℕ) → bit_and a b ≡ a → has_bit a i ≡ true → has_bit b i ≡ true
 within a b i same h = last (bit_at b i) (bit_at-lt b i) (omega (arith, eqb-true (bit_at a i) 1 h, sym (bit_at_and a b i) ∙ ap (λ n. bit_at n i) same))
   where
     last : (x : ℕ) → x < 2 → 1 ≤ x → eqb x 1 ≡ true

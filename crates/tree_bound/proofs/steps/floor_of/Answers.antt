@@ -1,13 +1,13 @@
 use Rattle.std.proofs.Common.{refl, arith}
 use Rattle.std.proofs.lemmas.Int.{ints}
-use Rattle.leaf_arcs.proofs.Flooring.{not_next}
+use Rattle.solomon_reader.proofs.Completions.{never_next}
 use Rattle.tree_bound.proofs.steps.floor_of.Goals as goal
 
 pub returns-then-recalls : goal.returns-then-recalls
 returns-then-recalls c = record {
   adds = λ s completes.
       (let h = (rw c.in_ok-floor.was at c.requires).holds _ s refl (omega arith) (omega arith) (c.recalls.ensures c.if-not-recalls.false) completes in
-      let other = h.other (not_next _ _ _ _ _ s c.in_ok-floor.floor.next (c.recalls-2.ensures c.if-recalls.true) completes) in
+      let other = h.other (never_next _ _ s c.in_ok-floor.floor.next (c.recalls-2.ensures c.if-recalls.true) completes) in
       omega (arith, ints, other));
 }
 

@@ -1,28 +1,29 @@
 use Rattle.std.proofs.Common.{arith}
 use Rattle.solomon_reader.specs.Problem.{customer_count}
+use Rattle.solomon_reader.specs.States.{pricing}
 use Rattle.leaf_arcs.specs.Decisions.{region_of}
 use Rattle.leaf_arcs.proofs.Deciding.{decided}
 use Rattle.tree_bound.proofs.Existing.{least_exists}
-use Rattle.tree_bound.proofs.Working.{found_cost, pricing}
+use Rattle.tree_bound.proofs.Working.{found_cost, is_pricing}
 use Rattle.tree_bound.proofs.Valuing.{lesser_found, lesser_none}
 use Rattle.tree_bound.proofs.value.lesser_value.Goals as goal
 
 pub returns-then-most-eq0 : goal.returns-then-most-eq0
 returns-then-most-eq0 c =
     let p = c.args.setting.now.network.neighbours.instance.now in
-    let g = region_of (customer_count p) c.args.path.now in
-    let least = least_exists p g c.args.setting.now.network.neighbours.k c.args.prices.now (λ i j from to. decided _ c.args.path.now i j (omega (arith, from, c.law_of_limits.ensures.rows)) (omega (arith, to, c.law_of_limits.ensures.rows)))
-    (pricing p c.args.prices.now c.law_of_limits.ensures.limits c.requires.count c.requires.priced).carried (omega (arith, c.law_of_limits.ensures.rows)) in
-    let known = found_cost p g c.args.setting.now.network.neighbours.k c.args.prices.now c.dive-known.result (rw c.in_ok-task.ensures at c.dive-known.ensures) in
-    lesser_none _ p c.args.prices.now g c.args.setting.now.network.neighbours.k least.0 least.1 c.args.most c.lowered-most.result c.dive-known.result c.requires.count known c.lowered-most.ensures c.if-most-eq0.true
+    let q = pricing p (region_of (customer_count p) c.args.path.now) c.args.setting.now.network.neighbours.k c.args.prices.now in
+    let least = least_exists q (λ i j from to. decided _ c.args.path.now i j (omega (arith, from, c.law_of_limits.ensures.rows)) (omega (arith, to, c.law_of_limits.ensures.rows)))
+    (is_pricing p c.args.prices.now c.law_of_limits.ensures.limits c.requires.count c.requires.priced).carried (omega (arith, c.law_of_limits.ensures.rows)) in
+    let known = found_cost q c.dive-known.result (rw c.in_ok-task.ensures at c.dive-known.ensures) in
+    lesser_none _ q least.0 least.1 c.args.most c.lowered-most.result c.dive-known.result c.requires.count known c.lowered-most.ensures c.if-most-eq0.true
 
 pub returns : goal.returns
 returns c =
     let p = c.args.setting.now.network.neighbours.instance.now in
-    let g = region_of (customer_count p) c.args.path.now in
-    let least = least_exists p g c.args.setting.now.network.neighbours.k c.args.prices.now (λ i j from to. decided _ c.args.path.now i j (omega (arith, from, c.law_of_limits.ensures.rows)) (omega (arith, to, c.law_of_limits.ensures.rows)))
-    (pricing p c.args.prices.now c.law_of_limits.ensures.limits c.requires.count c.requires.priced).carried (omega (arith, c.law_of_limits.ensures.rows)) in
-    let known = found_cost p g c.args.setting.now.network.neighbours.k c.args.prices.now c.dive-known.result (rw c.in_ok-task.ensures at c.dive-known.ensures) in
+    let q = pricing p (region_of (customer_count p) c.args.path.now) c.args.setting.now.network.neighbours.k c.args.prices.now in
+    let least = least_exists q (λ i j from to. decided _ c.args.path.now i j (omega (arith, from, c.law_of_limits.ensures.rows)) (omega (arith, to, c.law_of_limits.ensures.rows)))
+    (is_pricing p c.args.prices.now c.law_of_limits.ensures.limits c.requires.count c.requires.priced).carried (omega (arith, c.law_of_limits.ensures.rows)) in
+    let known = found_cost q c.dive-known.result (rw c.in_ok-task.ensures at c.dive-known.ensures) in
     rw (c.min.ensures, c.from.ensures)
-    (lesser_found _ p c.args.prices.now g c.args.setting.now.network.neighbours.k least.0 least.1 c.args.most c.lowered-most.result c.dive-known.result c.requires.count known c.lowered-most.ensures c.limit_of-task.result
+    (lesser_found _ q least.0 least.1 c.args.most c.lowered-most.result c.dive-known.result c.requires.count known c.lowered-most.ensures c.limit_of-task.result
     c.in_ok-found.found c.value_at.result (rw c.in_ok-task.ensures at c.in_ok-found.ensures) c.limit_of-task.ensures.worth c.limit_of-task.ensures.routeless c.value_at.ensures)

@@ -1,9 +1,10 @@
 use Rattle.std.proofs.lemmas.List.Elements.{All-replicate}
 use Rattle.fronts.specs.Completions.{IsRowBound}
+use Rattle.fronts.specs.Tasks.{pricing_of}
 use Rattle.fronts.proofs.completions.Completions.new.Goals as goal
 
 pub fill-looks-requires : goal.fill-looks-requires
 fill-looks-requires c =
     let task = c.args.task.now in
     rw (c.as_mut_slice.ensures.value, c.in_ok-bounds.ensures.items_if_clones_equal (λ y h. h))
-    (All-replicate (IsRowBound task.instance.now task.region.now task.neighbours task.prices.now) c.count.result (record { row = 0; from = 0; bound = c.unknown.result }) (c.unknown.ensures 0 0))
+    (All-replicate (IsRowBound (pricing_of task)) c.count.result (record { row = 0; from = 0; bound = c.unknown.result }) (c.unknown.ensures 0 0))

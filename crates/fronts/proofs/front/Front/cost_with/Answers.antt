@@ -1,7 +1,7 @@
 use Rattle.std.proofs.Common.{◌-◌, arith, get_or}
 use Rattle.std.specs.Prelude.{pos}
 use Rattle.std.proofs.lemmas.Int.{ints}
-use Rattle.fronts.specs.Fronts.{IsPriced}
+use Rattle.solomon_reader.specs.States.{IsPriced}
 use Rattle.fronts.proofs.front.Front.cost_with.Goals as goal
 
 pub returns-clause-low : goal.returns-clause-low

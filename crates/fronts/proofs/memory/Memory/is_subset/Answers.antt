@@ -3,7 +3,7 @@ use Rattle.std.specs.Int.{bit_at}
 use Rattle.std.proofs.lemmas.Nat.Bits.{bit_at_and, bit_at-lt, same_from_bits}
 use Rattle.std.proofs.lemmas.Bool.{eqb-true, eq-eqb, cases_eq}
 use Rattle.std.proofs.lemmas.Int.{clamps}
-use Rattle.fronts.specs.Memories.{has_bit}
+use Rattle.solomon_reader.specs.Memories.{has_bit}
 use Rattle.fronts.proofs.memory.Memory.is_subset.Goals as goal
 
 one : (x : ℕ) → x < 2 → 1 ≤ x → eqb x 1 ≡ true

@@ -4,7 +4,7 @@ use mir.Val.{bool_byte}
 use Rattle.std.specs.Int.{bit_at}
 use Rattle.std.proofs.lemmas.Nat.Bits.{bit_at_set_same, bit_at_set_other, bit_at_or, bit_at-zero}
 use Rattle.std.proofs.lemmas.Bool.{cases_eq, eq-eqb, ne_eqb}
-use Rattle.fronts.specs.Memories.{has_bit}
+use Rattle.solomon_reader.specs.Memories.{has_bit}
 use Rattle.fronts.proofs.memory.Memory.with_if.Goals as goal
 
 bits_are : (n place : ℕ) (b : Bool) → place < 16 → (i : ℕ) → has_bit (bit_or n (bool_byte b * 2 ^ place % 65536)) i ≡ ((b && eqb i place) || has_bit n i)

@@ -1,6 +1,6 @@
 use Rattle.std.proofs.Common.{◌≤◌, arith}
-use Rattle.fronts.specs.Memories.{place_of}
-use Rattle.fronts.proofs.Places.{place_bound}
+use Rattle.solomon_reader.specs.Memories.{place_of}
+use Rattle.solomon_reader.proofs.Places.{place_bound}
 use Rattle.fronts.proofs.task.Task.can_step.Goals as goal
 
 pub contains-requires-2 : goal.contains-requires-2

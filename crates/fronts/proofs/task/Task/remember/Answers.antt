@@ -1,8 +1,9 @@
 use Rattle.std.proofs.Common.{◌≡◌, ◌+◌, ◌<◌, ℕ, List, length, get_or, Vec, Global, arith, ap, sym, [], ◌∙◌, inl, inr}
 use Rattle.std.proofs.lemmas.Bool.{cases_Bool}
 use Rattle.fronts.specs.declared.task.Task.{Task}
-use Rattle.fronts.specs.Memories.{has_bit, recalls, HasPlaces, IsWholeList}
-use Rattle.fronts.proofs.Places.{place_bound}
+use Rattle.solomon_reader.specs.Memories.{has_bit, recalls, HasPlaces}
+use Rattle.fronts.specs.Memories.{IsWholeList}
+use Rattle.solomon_reader.proofs.Places.{place_bound}
 use Rattle.fronts.proofs.Recalling.{holds_no, holds_yes, holds_all}
 use Rattle.fronts.proofs.task.Task.remember.Goals as goal
 

@@ -1,8 +1,5 @@
-use Rattle.labelling.specs.Search.{LosesNothing, IsSameTask}
+use Rattle.labelling.specs.Search.{Continues}
 use Rattle.labelling.proofs.labeller.Labeller.follow.Given as goal
 
 abbrev pub invariant-loop-stop : goal.invariant-loop-stop
-invariant-loop-stop l = record {
-  complete : LosesNothing l.self;
-  same : IsSameTask l.initial.self l.self;
-}
+invariant-loop-stop l = Continues l.initial.self l.self

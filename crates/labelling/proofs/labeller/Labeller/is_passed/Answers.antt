@@ -1,6 +1,6 @@
 use Rattle.std.proofs.Common.{arith}
 use Rattle.std.proofs.lemmas.Int.{ints}
-use Rattle.labelling.proofs.Cover.{at_most_more}
+use Rattle.solomon_reader.proofs.Completions.{at_most_more}
 use Rattle.labelling.proofs.labeller.Labeller.is_passed.Goals as goal
 
 pub returns : goal.returns

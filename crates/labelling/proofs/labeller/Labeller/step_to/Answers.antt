@@ -3,10 +3,10 @@ use Rattle.labelling.proofs.labeller.Labeller.step_to.Goals as goal
 
 pub returns-then-is_passed-clause-stepped : goal.returns-then-is_passed-clause-stepped
 returns-then-is_passed-clause-stepped c =
-    step_passed _ _ _ _ _ c.args.label.now c.args.index c.args.j c.requires.labels c.requires.index.within c.requires.index.here c.args.best
+    step_passed _ _ c.args.label.now c.args.index c.args.j c.requires.labels c.requires.index.within c.requires.index.here c.args.best
     c.extend-front.result c.extend-front.ensures.after (c.is_passed.ensures c.if-is_passed.true)
 
 pub returns-clause-stepped : goal.returns-clause-stepped
 returns-clause-stepped c =
-    step_taken _ _ _ _ _ c.args.label.now c.args.index c.args.j c.requires.labels c.requires.index.within c.requires.index.here c.args.best
+    step_taken _ _ c.args.label.now c.args.index c.args.j c.requires.labels c.requires.index.within c.requires.index.here c.args.best
     _ c.extend-newer.result c.extend-newer.ensures c.requires.can c.in_ok-add_label.ensures.added

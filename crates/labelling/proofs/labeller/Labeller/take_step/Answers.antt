@@ -4,4 +4,4 @@ use Rattle.labelling.proofs.labeller.Labeller.take_step.Goals as goal
 
 pub returns-then-not-can_step-clause-stepped : goal.returns-then-not-can_step-clause-stepped
 returns-then-not-can_step-clause-stepped c =
-    step_refused _ _ _ _ _ c.args.label.now c.args.index c.args.j c.requires.labels c.requires.index.within c.requires.index.here c.args.best (c.if-not-can_step.ensures.no refl)
+    step_refused _ _ c.args.label.now c.args.index c.args.j c.requires.labels c.requires.index.within c.requires.index.here c.args.best (c.if-not-can_step.ensures.no refl)

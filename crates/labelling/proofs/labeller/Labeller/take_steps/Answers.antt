@@ -7,8 +7,8 @@ use Rattle.labelling.proofs.labeller.Labeller.take_steps.Goals as goal
 pub loop-step-preserved : goal.loop-step-preserved
 loop-step-preserved c =
     let before = c.loop-step.invariant in
-    let after = c.take_step.ensures in record {
-      stepped = steps_more _ _ _ _ _ _ _ _ _ _ _ _ (among_more c.steps_from-step-items.result.now c.loop-step.step-index) before.stepped (rw before.same.task at c.in_ok-take_step.ensures.stepped);
+    let after = c.take_step.ensures.kept in record {
+      stepped = steps_more _ _ _ _ _ _ _ _ _ (among_more c.steps_from-step-items.result.now c.loop-step.step-index) before.stepped (rw before.same.task at c.in_ok-take_step.ensures.stepped);
       same = record { task = after.same.task ∙ before.same.task; limit = after.same.limit ∙ before.same.limit };
       best = after.best ∙ before.best;
     }
@@ -16,11 +16,11 @@ loop-step-preserved c =
 pub returns-then-step-label-clause-stepped : goal.returns-then-step-label-clause-stepped
 returns-then-step-label-clause-stepped c =
     let soon : c.args.label.now.front.time ≤ 20 * MOST_TIME = rw c.requires.index.here.front (c.requires.labels.each c.args.index c.requires.index.within).bounded.time in
-    steps_all _ _ _ _ _ _ _ c.args.label.now _
+    steps_all _ _ _ _ c.args.label.now _
     (is_among _ c.args.label.now.front.last c.steps_from-step-items.result.now c.args.label.now.front.time c.loop-step.step-index c.steps_from-step-items.ensures soon (inr c.if-step-label.true)) c.loop-step.invariant.stepped
 
 pub returns-clause-stepped : goal.returns-clause-stepped
 returns-clause-stepped c =
     let soon : c.args.label.now.front.time ≤ 20 * MOST_TIME = rw c.requires.index.here.front (c.requires.labels.each c.args.index c.requires.index.within).bounded.time in
-    steps_all _ _ _ _ _ _ _ c.args.label.now _
+    steps_all _ _ _ _ c.args.label.now _
     (is_among _ c.args.label.now.front.last c.steps_from-step-items.result.now c.args.label.now.front.time c.loop-step.step-index c.steps_from-step-items.ensures soon (inl (omega arith))) c.loop-step.invariant.stepped

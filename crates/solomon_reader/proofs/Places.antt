@@ -1,13 +1,12 @@
 -- The places in a neighbour list: each of its rows has one of its own.
-use Rattle.std.proofs.Common.{◌≡◌, ◌≢◌, refl, ℕ, ◌+◌, ◌<◌, ◌≤◌, Bool, true, false, eqb, cond, List, [], ◌∷◌, ◌++◌, length, length-append, get_or, arith, sym, ◌∙◌, ◌⊎◌, inl, inr}
-use Rattle.std.proofs.Math.ListN.{set, length-set}
-use Rattle.std.proofs.lemmas.List.{get_or_append_left, get_or_push, get_or-set_same, get_or-set_other}
+use Rattle.std.proofs.Common.{◌≡◌, ◌≢◌, refl, ℕ, ◌+◌, ◌<◌, ◌≤◌, Bool, true, false, eqb, cond, List, [], ◌∷◌, ◌++◌, length-append, arith, sym, ◌∙◌, ◌⊎◌, inl, inr}
+use Rattle.std.proofs.lemmas.List.{get_or_append_left, get_or_push}
 use Rattle.std.proofs.lemmas.Bool.{cases_order, cases_lt, cases_eq, cases_Bool, lt-ltb, ltb-true, leb-true, le-leb, eq-eqb, ne_eqb, eqb-true, or_cases, or_left, or_right, and_parts, and_from, and_right, false_from_ne_true, not_from_false, both_ways}
 use Rattle.solomon_reader.specs.Problem.{Problem, IsCustomer, customer_count}
 use Rattle.solomon_reader.specs.Distance.{distance}
 use Rattle.solomon_reader.specs.Relaxed.{rank, stands_before}
 use Rattle.solomon_reader.specs.Remembering.{ahead, near}
-use Rattle.fronts.specs.Memories.{place_of, HasPlaces, IsNeighbourList}
+use Rattle.solomon_reader.specs.Memories.{place_of, HasPlaces}
 use Rattle.solomon_reader.proofs.Ranks.{count_no_more, count_fewer}
 
 module _ (p : Problem) (v : ℕ) where
@@ -68,7 +67,10 @@ module _ (p : Problem) (v : ℕ) where
     unfolding place_of
     place_first = rw (eq-eqb v v refl) refl
 
-    near_is : (u : ℕ) → near p k v u ≡ true → (u ≡ v) ⊎ (IsCustomer p u × (rank p v u < k))
+    pub place_self : (u : ℕ) → u ≡ v → place_of p k v u ≡ 0
+    place_self u e = rw e place_first
+
+    pub near_is : (u : ℕ) → near p k v u ≡ true → (u ≡ v) ⊎ (IsCustomer p u × (rank p v u < k))
     near_is u h = elim (or_cases _ _ h) [
       | inl e ↦ inl (eqb-true u v e)
       | inr t ↦ (let both = and_parts _ _ t in let range = and_parts _ _ both.0 in inr ((leb-true _ _ range.0, leb-true _ _ range.1), ltb-true _ _ both.1))
@@ -90,8 +92,7 @@ module _ (p : Problem) (v : ℕ) where
 
     -- the depot stands in its own list alone
     pub depot_first : v ≡ 0 → place_of p k v 0 ≡ 0
-    unfolding place_of
-    depot_first e = rw (eq-eqb 0 v (sym e)) refl
+    depot_first e = place_self 0 (sym e)
 
     pub depot_far : v ≢ 0 → place_of p k v 0 ≡ 16
     depot_far apart = place_far 0 (λ e. apart (sym e)) (λ h. absurd (omega (arith, h.0.0)))
@@ -99,7 +100,7 @@ module _ (p : Problem) (v : ℕ) where
     -- a row of the list is v, at its first place, or a customer behind it
     pub place_near : (u : ℕ) → near p k v u ≡ true → ((u ≡ v) × (place_of p k v u ≡ 0)) ⊎ ((u ≢ v) × (IsCustomer p u × ((rank p v u < k) × (place_of p k v u ≡ rank p v u + 1))))
     place_near u h = elim (cases_eq u v) [
-      | inl same ↦ inl (same, rw same place_first)
+      | inl same ↦ inl (same, place_self u same)
       | inr apart ↦ elim (near_is u h) [
         | inl same ↦ absurd (apart same)
         | inr c ↦ inr (apart, (c.0, (c.1, place_ranked u apart c.0 c.1)))
@@ -118,15 +119,15 @@ module _ (p : Problem) (v : ℕ) where
       ]
     ]
 
+    pub near_at : (u : ℕ) → place_of p k v u < 16 → near p k v u ≡ true
+    near_at u low = elim (cases_Bool (near p k v u)) [ inl h ↦ h | inr h ↦ absurd (omega (arith, low, place_none u h)) ]
+
     module _ (few : k < 16) where
       pub place_low : (u : ℕ) → near p k v u ≡ true → place_of p k v u < 16
       place_low u h = elim (place_near u h) [ inl a ↦ omega (arith, a.1) | inr a ↦ omega (arith, few, a.1.1.0, a.1.1.1) ]
 
       pub place_bound : (u : ℕ) → place_of p k v u ≤ 16
       place_bound u = elim (cases_Bool (near p k v u)) [ inl h ↦ omega (arith, place_low u h) | inr h ↦ omega (arith, place_none u h) ]
-
-      pub near_at : (u : ℕ) → place_of p k v u < 16 → near p k v u ≡ true
-      near_at u low = elim (cases_Bool (near p k v u)) [ inl h ↦ h | inr h ↦ absurd (omega (arith, low, place_none u h)) ]
 
       pub not_near : (u : ℕ) → 16 ≤ place_of p k v u → near p k v u ≡ false
       not_near u high = false_from_ne_true _ (λ h. omega (arith, high, place_low u h))
@@ -142,37 +143,3 @@ module _ (p : Problem) (v : ℕ) where
         | inr more ↦ (let same : u ≡ i = omega arith in rw same (get_or_push places x 0 i h.count ∙ here))
       ];
     }
-
-    -- the list without rows has the depot everywhere
-    pub listed_none : (list : List ℕ) → length list ≡ 16 → 1 ≤ length p.rows → ((m : ℕ) → get_or list m 0 ≡ 0) → IsNeighbourList p k v 0 list
-    listed_none list count some depots = record { count = count; rows = λ m low. omega (arith, some, depots m); listed = λ u below h. absurd (omega arith) }
-
-    module _ (few : k < 16) (i : ℕ) (list : List ℕ) (so_far : IsNeighbourList p k v i list) where
-      pub listed_no : 16 ≤ place_of p k v i → IsNeighbourList p k v (i + 1) list
-      listed_no high = record {
-        count = so_far.count;
-        rows = so_far.rows;
-        listed = λ u below h. elim (cases_eq u i) [
-          | inl same ↦ absurd (both_ways _ (not_near few i high) (rw same at h))
-          | inr apart ↦ so_far.listed u (omega arith) h
-        ];
-      }
-
-      pub listed_yes : (place : ℕ) → place ≡ place_of p k v i → place < 16 → i < length p.rows → IsNeighbourList p k v (i + 1) (set list place i)
-      listed_yes place is low within = record { count = length-set list place i ∙ so_far.count; rows = rows; listed = listed }
-        where
-          in_list : place < length list
-          in_list = omega (arith, low, so_far.count)
-
-          rows : (m : ℕ) → m < 16 → get_or (set list place i) m 0 < length p.rows
-          rows m below = elim (cases_eq m place) [
-            | inl same ↦ rw (same, get_or-set_same list place i 0 in_list) within
-            | inr apart ↦ rw (get_or-set_other list place m i 0 apart) (so_far.rows m below)
-          ]
-
-          listed : (u : ℕ) → u < i + 1 → near p k v u ≡ true → get_or (set list place i) (place_of p k v u) 0 ≡ u
-          listed u below h = elim (cases_eq u i) [
-            | inl same ↦ rw (same, ← is) (get_or-set_same list place i 0 in_list)
-            | inr apart ↦ get_or-set_other list place (place_of p k v u) i 0
-                (λ e. apart (same_place u i h (near_at few i (omega (arith, low, is))) (e ∙ is))) ∙ so_far.listed u (omega arith) h
-          ]
