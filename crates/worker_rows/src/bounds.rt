@@ -48,15 +48,15 @@ fn second_nodes<'p, 'i>(
 /// were passed.
 type Done = (u32, u32, usize, usize, usize);
 
-/// Turns over a fake, with so many labels for a pricing, by the worker at the second of two deques, each of
-/// which takes so many numbers.
+/// Turns over a fake, with so many labels for a pricing, by the worker of this number at the second of two
+/// deques, each of which takes so many numbers. The first worker that raises the bound has the number 2.
 fn turns_over<'i>(
     alloc: Global,
     instance: &'i Instance,
     hub: Fake<'i>,
     room: usize,
     is_stolen: bool,
-    (turns, labels): (u32, u32),
+    (number, turns, labels): (u16, u32, u32),
 ) -> Result<Done, Fail> {
     let (hands, deques, passes) = Pool::new(alloc, 2, room)?;
     let deques = deques.as_slice();
@@ -76,7 +76,7 @@ fn turns_over<'i>(
         instance,
         hub,
         gate: &gate,
-        number: 2,
+        number,
         ceiling: &ceiling,
         seat,
     };
@@ -100,13 +100,18 @@ fn turns_made(
     let instance = in_line(alloc)?;
     let mut hub = Fake::new(Priced::root(alloc, &instance, 8, None)?);
     hub.is_bare = is_bare;
-    turns_over(alloc, &instance, hub, 10, is_stolen, work)
+    turns_over(alloc, &instance, hub, 10, is_stolen, (2, work.0, work.1))
 }
 
-/// Three turns over a root that has the best prices, so that it is split; each split is refused so, if it
-/// is. The deques take so many numbers, the root among them. Of the three customers, at one place, a route
-/// serves two in time: the best prices of the root say 15.0, and a plan costs 20.0.
-fn turns_splitting(alloc: Global, room: usize, refusal: Option<BookFault>) -> Result<Done, Fail> {
+/// Three turns over a root that has the best prices, so that the first worker splits it; each split is refused
+/// so, if it is. The deques take so many numbers, the root among them. Of the three customers, at one place, a
+/// route serves two in time: the best prices of the root say 15.0, and a plan costs 20.0.
+fn turns_splitting(
+    alloc: Global,
+    number: u16,
+    room: usize,
+    refusal: Option<BookFault>,
+) -> Result<Done, Fail> {
     let rows = "1 3 4 1 0 20 10\n2 3 4 1 0 20 10\n3 3 4 1 0 20 10\n";
     let text = instance_text(alloc, 3, 3, DEPOT, rows)?;
     let instance = read(alloc, text.as_bytes())?;
@@ -120,7 +125,7 @@ fn turns_splitting(alloc: Global, room: usize, refusal: Option<BookFault>) -> Re
     );
     let mut hub = Fake::new(root.ok_or("prices were refused")?);
     hub.split_refusal = refusal;
-    turns_over(alloc, &instance, hub, room, false, (3, 100))
+    turns_over(alloc, &instance, hub, room, false, (number, 3, 100))
 }
 
 #[test]
@@ -158,9 +163,16 @@ fn a_pricing_that_meets_its_limit_ends_no_work(rt: HostRuntime) -> Result<(), Fa
 
 #[test]
 fn a_full_deque_ends_the_work(rt: HostRuntime) -> Result<(), Fail> {
-    let going = turns_splitting(rt.alloc(), 100, None)?;
-    let full = turns_splitting(rt.alloc(), 1, None)?;
+    let going = turns_splitting(rt.alloc(), 2, 100, None)?;
+    let full = turns_splitting(rt.alloc(), 2, 1, None)?;
     assert!(rt; (going, full) == ((3, 21, 21, 0, 3), (1, 1, 1, 0, 1)));
+    Ok(())
+}
+
+#[test]
+fn the_first_worker_alone_splits_the_root(rt: HostRuntime) -> Result<(), Fail> {
+    let second = turns_splitting(rt.alloc(), 3, 100, None)?;
+    assert!(rt; second == (3, 0, 21, 0, 3));
     Ok(())
 }
 
@@ -171,10 +183,10 @@ fn refusals_for_want_of_room_end_the_work(rt: HostRuntime) -> Result<(), Fail> {
         BookFault::JournalFull,
         BookFault::LeavesFull,
     ] {
-        let made = turns_splitting(rt.alloc(), 10, Some(refusal))?;
+        let made = turns_splitting(rt.alloc(), 2, 10, Some(refusal))?;
         assert!(rt; made == (1, 1, 1, 0, 1));
     }
-    let made = turns_splitting(rt.alloc(), 10, Some(BookFault::TooDeep))?;
+    let made = turns_splitting(rt.alloc(), 2, 10, Some(BookFault::TooDeep))?;
     assert!(rt; made == (3, 1, 1, 0, 3));
     Ok(())
 }
