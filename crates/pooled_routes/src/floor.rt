@@ -2,24 +2,16 @@
 
 /// A number that is to be at least 0, in grains, with the multiplier that holds it there.
 #[derive(Clone, Copy, Debug)]
-struct Part {
-    value: i64,
-    multiplier: i64,
+pub(crate) struct Part {
+    pub(crate) value: i64,
+    pub(crate) multiplier: i64,
 }
 
 impl Part {
-    /// The part that starts from a number, moved by the multiplier.
-    fn start(self, value: i64) -> Part {
+    /// The part with this number after a change.
+    fn at(self, value: i64, change: i64) -> Part {
         Part {
-            value: value.saturating_add(self.multiplier),
-            multiplier: self.multiplier,
-        }
-    }
-
-    /// The part after a change.
-    fn plus(self, change: i64) -> Part {
-        Part {
-            value: self.value.saturating_add(change),
+            value: value.saturating_add(change),
             multiplier: self.multiplier,
         }
     }
@@ -53,71 +45,48 @@ pub fn scaled(multiplier: i64, old: i64, new: i64) -> i64 {
 /// is below. Both parts are at least 0. The second is left out where no plan needs the whole fleet.
 #[derive(Clone, Copy, Debug)]
 pub struct Floor {
-    above: Part,
-    below: Option<Part>,
+    pub(crate) above: Part,
+    pub(crate) below: Option<Part>,
 }
 
 impl Floor {
     /// The floor of 0.
-    /// No contract: a rule of search; any prices are sound.
-    pub fn new(has_below: bool) -> Floor {
+    pub(crate) fn new(has_below: bool) -> Floor {
         let zero = Part {
             value: 0,
             multiplier: 0,
         };
         Floor {
             above: zero,
-            below: if has_below { Some(zero) } else { None },
+            below: has_below.then_some(zero),
         }
     }
 
     /// The floor that starts from these parts, moved by their multipliers.
-    /// No contract: a rule of search; any prices are sound.
-    pub fn start(self, above: i64, below: i64) -> Floor {
+    pub(crate) fn start(self, above: i64, below: i64) -> Floor {
         Floor {
-            above: self.above.start(above),
-            below: self.below.map(|part| part.start(below)),
+            above: self.above.at(above, self.above.multiplier),
+            below: self.below.map(|part| part.at(below, part.multiplier)),
         }
-    }
-
-    /// What it is above 0, in grains.
-    /// No contract: a rule of search; any prices are sound.
-    pub fn above(self) -> i64 {
-        self.above.value
     }
 
     /// What it is below 0, in grains.
-    /// No contract: a rule of search; any prices are sound.
-    pub fn below(self) -> i64 {
-        match self.below {
-            Some(part) => part.value,
-            None => 0,
-        }
+    pub(crate) fn below(self) -> i64 {
+        self.below.map_or(0, |part| part.value)
     }
 
     /// The floor in grains.
     /// No contract: a rule of search; any prices are sound.
     pub fn value(self) -> i64 {
-        self.above().saturating_sub(self.below())
-    }
-
-    /// How many parts it has, which is what it adds to the weight of a route.
-    /// No contract: a rule of search; any prices are sound.
-    pub fn weight(self) -> i64 {
-        match self.below {
-            Some(_) => 2,
-            None => 1,
-        }
+        self.above.value.saturating_sub(self.below())
     }
 
     /// The floor after each part took a change of its sign.
-    /// No contract: a rule of search; any prices are sound.
-    pub fn raised(self, change: i64) -> Floor {
+    pub(crate) fn raised(self, change: i64) -> Floor {
+        let fall = 0i64.saturating_sub(change);
         Floor {
-            above: self.above.plus(change),
-            below: self
-                .below
-                .map(|part| part.plus(0i64.saturating_sub(change))),
+            above: self.above.at(self.above.value, change),
+            below: self.below.map(|part| part.at(part.value, fall)),
         }
     }
 
@@ -131,8 +100,7 @@ impl Floor {
     }
 
     /// Projects each part onto the numbers from 0 on, and answers how far.
-    /// No contract: a rule of search; any prices are sound.
-    pub fn project(&mut self) -> u64 {
+    pub(crate) fn project(&mut self) -> u64 {
         let above = self.above.project();
         match &mut self.below {
             Some(below) => below.project().max(above),

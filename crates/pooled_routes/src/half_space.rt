@@ -1,5 +1,6 @@
 //! What a route says of prices.
 
+use crate::pseudocosts::Side;
 use crate::trial::Trial;
 use branching::Arc;
 
@@ -21,30 +22,15 @@ pub struct HalfSpace<'r> {
 }
 
 impl HalfSpace<'_> {
-    /// Moves a trial by the multiplier.
-    /// No contract: a rule of search; any prices are sound.
-    pub fn take_from(&self, trial: &mut Trial) {
-        if self.multiplier > 0 {
-            let change = 0i64.saturating_sub(self.multiplier);
-            trial.raise_along(self.stops, change);
-        }
-    }
-
-    /// How far a trial is from the bound, in grains; below 0 where it is beyond it.
-    /// No contract: a rule of search; any prices are sound.
-    pub fn slack(&self, trial: &Trial) -> i64 {
-        trial.slack(self.stops, self.cost)
-    }
-
     /// Projects a trial onto the half-space, as far as the multiplier allows (Hildreth 1957), and
     /// answers how far.
-    /// No contract: a rule of search; any prices are sound.
-    pub fn project(&mut self, trial: &mut Trial) -> u64 {
-        let slack = self.slack(trial);
+    pub(crate) fn project(&mut self, trial: &mut Trial) -> u64 {
+        let slack = trial.slack(self);
         if slack >= 0 && self.multiplier == 0 {
             return 0;
         }
-        let weight = self.weight.saturating_add(trial.floor().weight()).max(1);
+        let floors = if trial.floor.below.is_some() { 2 } else { 1 };
+        let weight = self.weight.saturating_add(floors).max(1);
         let fall = self.multiplier.min(slack.div_euclid(weight));
         if fall != 0 {
             self.multiplier = self.multiplier.saturating_sub(fall);
@@ -53,38 +39,27 @@ impl HalfSpace<'_> {
         fall.unsigned_abs().saturating_mul(weight.unsigned_abs())
     }
 
-    /// Whether a child in which an arc is required forbids the route: it leaves or enters a customer
-    /// of the arc by another one.
+    /// Whether a child by an arc forbids the route: it goes along the arc where that is forbidden, or
+    /// leaves or enters a customer of the arc by another one where that is required.
     /// No contract: a rule of search; any prices are sound.
-    pub fn avoids(&self, arc: Arc) -> bool {
+    pub fn is_forbidden_by(&self, arc: Arc, side: Side) -> bool {
         let mut from = 0;
         for stop in self.stops {
-            if is_excluded(from, *stop, arc) {
+            if is_forbidden(from, *stop, arc, side) {
                 return true;
             }
             from = *stop;
         }
-        is_excluded(from, 0, arc)
-    }
-
-    /// Whether the route goes along an arc.
-    /// No contract: a rule of search; any prices are sound.
-    pub fn uses(&self, arc: Arc) -> bool {
-        let mut from = 0;
-        for stop in self.stops {
-            if from == arc.from && *stop == arc.to {
-                return true;
-            }
-            from = *stop;
-        }
-        from == arc.from && arc.to == 0
+        is_forbidden(from, 0, arc, side)
     }
 }
 
-/// Whether going from one row to another leaves a customer that the arc leaves, or enters one that it
-/// enters, and isn't the arc.
-fn is_excluded(from: u16, to: u16, arc: Arc) -> bool {
-    let leaves = from != 0 && from == arc.from;
-    let enters = to != 0 && to == arc.to;
-    leaves && to != arc.to || enters && from != arc.from
+/// Whether a child by an arc forbids going from one row to another.
+fn is_forbidden(from: u16, to: u16, arc: Arc, side: Side) -> bool {
+    let leaves = from == arc.from;
+    let enters = to == arc.to;
+    match side {
+        Side::Used => from != 0 && leaves && !enters || to != 0 && enters && !leaves,
+        Side::Unused => leaves && enters,
+    }
 }

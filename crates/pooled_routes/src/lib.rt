@@ -19,4 +19,4 @@ pub use merit::Merit;
 pub use pooled_route::{GRAINS_OF_TENTH, PooledRoute, RouteShare, arc_cost};
 pub use projection::Projection;
 pub use pseudocosts::{Pseudocosts, Side};
-pub use trial::Trial;
+pub use trial::{Trial, reduced_cost};

@@ -32,10 +32,10 @@ impl Merit {
         }
     }
 
-    /// Whether the whole fleet counts.
+    /// The floor of 0, which has a part below 0 where the whole fleet counts.
     /// No contract: a rule of search; any prices are sound.
-    pub fn counts_fleet(self) -> bool {
-        self.routes == self.fleet
+    pub fn floor(self) -> Floor {
+        Floor::new(self.routes == self.fleet)
     }
 
     /// The floor from which the next projection starts: that of the least reduced cost, moved by the
@@ -61,7 +61,7 @@ impl Merit {
     /// The merit that prices would have if no route's reduced cost were below the floor, in grains.
     /// No contract: a rule of search; any prices are sound.
     pub fn promised(self, prices: &[i64], floor: Floor) -> i128 {
-        let gain = i128::from(floor.above()).saturating_mul(i128::from(self.fewest_routes));
+        let gain = i128::from(floor.above.value).saturating_mul(i128::from(self.fewest_routes));
         let loss = i128::from(floor.below()).saturating_mul(i128::from(self.fleet));
         sum_of(prices).saturating_add(gain).saturating_sub(loss)
     }

@@ -3,7 +3,7 @@
 use crate::arc_flow::ArcFlow;
 use crate::floor::scaled;
 use crate::half_space::HalfSpace;
-use branching::Region;
+use branching::{Arc, Region};
 use prices::allows_route;
 use solomon_reader::Instance;
 use std::alloc::{AllocError, Global};
@@ -26,16 +26,18 @@ const WHOLE: i64 = 1_000_000;
 pub struct PooledRoute {
     /// The how-manieth route it is that the pool met.
     number: u64,
-    stops: Vec<u16>,
+    /// The customers, in order.
+    pub stops: Vec<u16>,
     /// In grains.
-    cost: i64,
+    pub cost: i64,
     /// The sum of the squares of how often each customer is visited.
     weight: i64,
     /// How far the prices were moved by this route, in grains.
-    multiplier: i64,
+    pub multiplier: i64,
     /// The number of the pricing when the multiplier was last above 0.
     last_use: u64,
-    is_allowed: bool,
+    /// Whether the region entered last allows each of its arcs.
+    pub is_allowed: bool,
 }
 
 /// The cost of an arc in grains, 0 where the instance has no such rows.
@@ -91,23 +93,6 @@ impl PooledRoute {
         })
     }
 
-    /// The customers, in order.
-    /// No contract: a rule of search; any prices are sound.
-    pub fn stops(&self) -> &[u16] {
-        self.stops.as_slice()
-    }
-
-    /// The reduced cost at these prices, both in grains; that of customer i stands at i - 1.
-    /// No contract: a rule of search; any prices are sound.
-    pub fn reduced_cost(&self, prices: &[i64]) -> i64 {
-        let mut reduced = self.cost;
-        for stop in &self.stops {
-            let price = prices.get(usize::from(*stop).wrapping_sub(1));
-            reduced = reduced.saturating_sub(price.copied().unwrap_or(0));
-        }
-        reduced
-    }
-
     /// How much of the rise the multiplier is.
     /// No contract: a rule of search; any prices are sound.
     pub fn share(&self, rise: i64) -> RouteShare {
@@ -124,18 +109,6 @@ impl PooledRoute {
             Some(share) => scaled(share.millionths, WHOLE, rise),
             None => 0,
         };
-    }
-
-    /// Whether the multiplier is above 0.
-    /// No contract: a rule of search; any prices are sound.
-    pub fn is_used(&self) -> bool {
-        self.multiplier > 0
-    }
-
-    /// Whether the multiplier is above one half of the rise, which stands for one route.
-    /// No contract: a rule of search; any prices are sound.
-    pub fn is_main(&self, rise: i64) -> bool {
-        self.multiplier > rise / 2
     }
 
     /// Whether the route is to make room before another one: it has the lower multiplier, or was of
@@ -155,12 +128,6 @@ impl PooledRoute {
         }
     }
 
-    /// Whether the route counts in the region entered last.
-    /// No contract: a rule of search; any prices are sound.
-    pub fn is_allowed(&self) -> bool {
-        self.is_allowed
-    }
-
     /// What the route says of prices, which stands at this place of its pool.
     /// No contract: a rule of search; any prices are sound.
     pub fn half_space(&self, place: usize) -> HalfSpace<'_> {
@@ -172,12 +139,6 @@ impl PooledRoute {
             is_active: false,
             place,
         }
-    }
-
-    /// Takes the multiplier that a projection came to.
-    /// No contract: a rule of search; any prices are sound.
-    pub fn set_multiplier(&mut self, multiplier: i64) {
-        self.multiplier = multiplier;
     }
 
     /// Measures the multiplier by another rise.
@@ -195,14 +156,12 @@ impl PooledRoute {
         let flow = self.multiplier;
         let mut from = 0;
         for stop in &self.stops {
-            arcs.push(ArcFlow {
-                from,
-                to: *stop,
-                flow,
-            })?;
+            let arc = Arc { from, to: *stop };
+            arcs.push(ArcFlow { arc, flow })?;
             from = *stop;
         }
-        arcs.push(ArcFlow { from, to: 0, flow })?;
+        let arc = Arc { from, to: 0 };
+        arcs.push(ArcFlow { arc, flow })?;
         Ok(())
     }
 }

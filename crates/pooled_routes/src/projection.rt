@@ -2,7 +2,6 @@
 
 use crate::half_space::HalfSpace;
 use crate::trial::Trial;
-use std::alloc::{AllocError, Global};
 
 /// A sweep that goes less far ends a projection, in grains; a route counts as violated from here on.
 const ENOUGH: u64 = 20;
@@ -13,29 +12,20 @@ const SWEEPS_BETWEEN: u32 = 10;
 /// What routes say of prices, with the multipliers that a projection comes to.
 #[derive(Debug, Drop)]
 pub struct Projection<'r> {
-    spaces: Vec<HalfSpace<'r>>,
+    /// What the routes say.
+    pub spaces: Vec<HalfSpace<'r>>,
     /// How often a route was looked at.
-    looks: u64,
+    pub looks: u64,
 }
 
 impl<'r> Projection<'r> {
-    /// The projection onto these half-spaces, from their multipliers on.
-    /// No contract: a rule of search; any prices are sound.
-    pub fn new(spaces: Vec<HalfSpace<'r>>) -> Projection<'r> {
-        Projection { spaces, looks: 0 }
-    }
-
-    /// How often a route was looked at.
-    /// No contract: it only measures.
-    pub fn looks(&self) -> u64 {
-        self.looks
-    }
-
     /// Moves a trial by the multipliers; the routes that have one are the active ones.
     fn begin(&mut self, trial: &mut Trial) {
         for space in self.spaces.iter_mut() {
-            space.take_from(trial);
             space.is_active = space.multiplier > 0;
+            if space.is_active {
+                trial.raise_along(space.stops, 0i64.saturating_sub(space.multiplier));
+            }
         }
     }
 
@@ -44,7 +34,7 @@ impl<'r> Projection<'r> {
         self.looks = self.looks.saturating_add(self.spaces.len() as u64);
         let mut is_any = false;
         for space in self.spaces.iter_mut() {
-            if !space.is_active && space.slack(trial) <= -(ENOUGH as i64) {
+            if !space.is_active && trial.slack(space) <= -(ENOUGH as i64) {
                 space.is_active = true;
                 is_any = true;
                 space.project(trial);
@@ -65,7 +55,7 @@ impl<'r> Projection<'r> {
             }
         }
         self.looks = self.looks.saturating_add(looks);
-        trial.project_floor().max(farthest)
+        trial.floor.project().max(farthest)
     }
 
     /// Sweeps until a sweep goes less far than enough, at most so many times, and answers how often,
@@ -95,28 +85,5 @@ impl<'r> Projection<'r> {
             left = left.saturating_sub(made);
             is_enough = was_enough;
         }
-    }
-
-    /// The least reduced cost of the routes in grains, if there is one.
-    /// No contract: a rule of search; any prices are sound.
-    pub fn least(&self, trial: &Trial) -> Option<i64> {
-        let mut least: Option<i64> = None;
-        for space in &self.spaces {
-            let reduced = trial.reduced_cost(space.stops, space.cost);
-            if least.is_none_or(|found| reduced < found) {
-                least = Some(reduced);
-            }
-        }
-        least
-    }
-
-    /// The routes' places in their pool, with the multipliers.
-    /// No contract: a rule of search; any prices are sound.
-    pub fn multipliers(&self, alloc: Global) -> Result<Vec<(usize, i64)>, AllocError> {
-        let mut multipliers = Vec::new(alloc);
-        for space in &self.spaces {
-            multipliers.push((space.place, space.multiplier))?;
-        }
-        Ok(multipliers)
     }
 }

@@ -12,60 +12,20 @@ pub enum Side {
     Unused,
 }
 
-/// The rises seen so far, in grains.
+/// The rises seen in the children by an arc, on one side, in grains.
 #[derive(Clone, Copy, Debug)]
-struct Seen {
+struct Rises {
+    arc: Arc,
+    side: Side,
     sum: i128,
     count: u32,
-}
-
-impl Seen {
-    fn nothing() -> Seen {
-        Seen { sum: 0, count: 0 }
-    }
-
-    /// These rises and one more.
-    fn and(self, rise: i128) -> Seen {
-        Seen {
-            sum: self.sum.saturating_add(rise),
-            count: self.count.saturating_add(1),
-        }
-    }
-
-    fn mean(self) -> Option<i128> {
-        self.sum.checked_div(i128::from(self.count))
-    }
-}
-
-/// The rises seen in the children by an arc.
-#[derive(Clone, Copy, Debug)]
-struct ArcRises {
-    arc: Arc,
-    used: Seen,
-    unused: Seen,
-}
-
-impl ArcRises {
-    fn of(self, side: Side) -> Seen {
-        match side {
-            Side::Used => self.used,
-            Side::Unused => self.unused,
-        }
-    }
-
-    fn note(&mut self, side: Side, rise: i128) {
-        match side {
-            Side::Used => self.used = self.used.and(rise),
-            Side::Unused => self.unused = self.unused.and(rise),
-        }
-    }
 }
 
 /// For each arc and side the rises of merit that were seen in the children: what another child by the
 /// arc is likely to rise by, whatever its parent.
 #[derive(Debug, Drop)]
 pub struct Pseudocosts {
-    arcs: Vec<ArcRises>,
+    rises: Vec<Rises>,
 }
 
 impl Pseudocosts {
@@ -73,33 +33,34 @@ impl Pseudocosts {
     /// No contract: a rule of search; any prices are sound.
     pub fn new(alloc: Global) -> Pseudocosts {
         Pseudocosts {
-            arcs: Vec::new(alloc),
+            rises: Vec::new(alloc),
         }
     }
 
     /// The mean rise in grains, if one was seen.
     /// No contract: a rule of search; any prices are sound.
     pub fn mean(&self, arc: Arc, side: Side) -> Option<i128> {
-        let seen = self.arcs.iter().find(|seen| seen.arc == arc)?;
-        seen.of(side).mean()
+        let is_it = |seen: &&Rises| seen.arc == arc && seen.side == side;
+        let seen = self.rises.iter().find(is_it)?;
+        seen.sum.checked_div(i128::from(seen.count))
     }
 
     /// Takes in a rise in grains.
     /// No contract: a rule of search; any prices are sound.
     pub fn note(&mut self, arc: Arc, side: Side, rise: i128) -> Result<(), AllocError> {
-        for seen in self.arcs.iter_mut() {
-            if seen.arc == arc {
-                seen.note(side, rise);
+        for seen in self.rises.iter_mut() {
+            if seen.arc == arc && seen.side == side {
+                seen.sum = seen.sum.saturating_add(rise);
+                seen.count = seen.count.saturating_add(1);
                 return Ok(());
             }
         }
-        let mut seen = ArcRises {
+        self.rises.push(Rises {
             arc,
-            used: Seen::nothing(),
-            unused: Seen::nothing(),
-        };
-        seen.note(side, rise);
-        self.arcs.push(seen)?;
+            side,
+            sum: rise,
+            count: 1,
+        })?;
         Ok(())
     }
 }

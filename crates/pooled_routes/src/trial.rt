@@ -6,19 +6,32 @@ ghost use Rattle.solomon_reader.specs.Problem.{customer_count};
 ghost use Rattle.solomon_reader.specs.CertificateText.{IsPrice};
 
 use crate::floor::Floor;
+use crate::half_space::HalfSpace;
 use solomon_reader::{Instance, MOST_PRICE};
 use std::alloc::{AllocError, Global};
 
-/// Prices in grains, that of customer i at i - 1, and the floor of the reduced costs.
+/// Prices in grains, that of customer i at i - 1, also outside their range, and the floor of the reduced
+/// costs.
 #[derive(Debug, Drop)]
 pub struct Trial {
-    prices: Vec<i64>,
-    floor: Floor,
+    pub prices: Vec<i64>,
+    pub floor: Floor,
 }
 
-/// Where the price of a customer stands; for the depot, beyond any prices.
-fn place_of(customer: u16) -> usize {
-    usize::from(customer).wrapping_sub(1)
+/// The price of a customer among these, in grains; 0 where there is none.
+fn price_of(prices: &[i64], customer: u16) -> i64 {
+    let place = usize::from(customer).wrapping_sub(1);
+    prices.get(place).copied().unwrap_or(0)
+}
+
+/// The cost of a route less the prices of its stops, in grains; that of customer i stands at i - 1.
+/// No contract: a rule of search; any prices are sound.
+pub fn reduced_cost(prices: &[i64], stops: &[u16], cost: i64) -> i64 {
+    let mut reduced = cost;
+    for stop in stops {
+        reduced = reduced.saturating_sub(price_of(prices, *stop));
+    }
+    reduced
 }
 
 impl Trial {
@@ -37,55 +50,21 @@ impl Trial {
         Ok(Trial { prices, floor })
     }
 
-    /// The prices as they are, in grains, also outside their range.
-    /// No contract: a rule of search; any prices are sound.
-    pub fn as_slice(&self) -> &[i64] {
-        self.prices.as_slice()
-    }
-
-    /// The floor.
-    /// No contract: a rule of search; any prices are sound.
-    pub fn floor(&self) -> Floor {
-        self.floor
-    }
-
-    /// The price of a customer, in grains.
-    fn price(&self, customer: u16) -> i64 {
-        self.prices.get(place_of(customer)).copied().unwrap_or(0)
-    }
-
-    /// The cost of a route less the prices of its stops, in grains.
-    /// No contract: a rule of search; any prices are sound.
-    pub fn reduced_cost(&self, stops: &[u16], cost: i64) -> i64 {
-        let mut reduced = cost;
-        for stop in stops {
-            reduced = reduced.saturating_sub(self.price(*stop));
-        }
-        reduced
-    }
-
-    /// How far the stops' prices and the floor are from the cost of their route, in grains.
-    /// No contract: a rule of search; any prices are sound.
-    pub fn slack(&self, stops: &[u16], cost: i64) -> i64 {
-        self.reduced_cost(stops, cost)
-            .saturating_sub(self.floor.value())
+    /// How far the prices of a route's stops and the floor are from its cost, in grains; below 0 where
+    /// they are beyond it.
+    pub(crate) fn slack(&self, space: &HalfSpace<'_>) -> i64 {
+        let reduced = reduced_cost(self.prices.as_slice(), space.stops, space.cost);
+        reduced.saturating_sub(self.floor.value())
     }
 
     /// Raises the price of each stop, as often as it stands there, and the floor.
-    /// No contract: a rule of search; any prices are sound.
-    pub fn raise_along(&mut self, stops: &[u16], change: i64) {
+    pub(crate) fn raise_along(&mut self, stops: &[u16], change: i64) {
         self.floor = self.floor.raised(change);
         for stop in stops {
-            if let Some(price) = self.prices.get_mut(place_of(*stop)) {
+            if let Some(price) = self.prices.get_mut(usize::from(*stop).wrapping_sub(1)) {
                 *price = price.saturating_add(change);
             }
         }
-    }
-
-    /// Projects the floor, and answers how far.
-    /// No contract: a rule of search; any prices are sound.
-    pub fn project_floor(&mut self) -> u64 {
-        self.floor.project()
     }
 
     /// The price of a customer, cut to the range of prices.
@@ -93,11 +72,11 @@ impl Trial {
         ensures { IsPrice result }
     {
         let most = MOST_PRICE as i64;
-        self.price(customer).clamp(-most, most)
+        price_of(self.prices.as_slice(), customer).clamp(-most, most)
     }
 
     /// The prices of an instance's customers, cut to their range.
-    pub fn prices(&self, alloc: Global, instance: &Instance) -> Result<Vec<i64>, AllocError>
+    pub fn prices_in_range(&self, alloc: Global, instance: &Instance) -> Result<Vec<i64>, AllocError>
         ensures count { IfOk result (λ v. length v.items ≡ customer_count instance.now) }
         ensures in_range { IfOk result (λ v. AllByRecursion IsPrice v.items) }
     {

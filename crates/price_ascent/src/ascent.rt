@@ -20,12 +20,12 @@ const LEAST_GAP: i128 = 1_000;
 /// prices of a trial the centre of the next, and a null step only adds a route to the pool.
 #[derive(Debug, Drop)]
 pub(crate) struct Ascent {
-    centre: Centre,
+    pub(crate) centre: Centre,
     merit: Merit,
     floor: Floor,
     rise: i64,
     /// The value in tenths at which to stop.
-    target: i128,
+    pub(crate) target: i128,
 }
 
 /// Tenths in grains.
@@ -36,16 +36,6 @@ fn grains(tenths: i128) -> i128 {
 /// A rise within its range.
 fn rise_in_range(rise: i64) -> i64 {
     rise.clamp(LEAST_RISE, MOST_RISE)
-}
-
-/// The rise after a serious step.
-fn longer(rise: i64) -> i64 {
-    rise_in_range(rise.saturating_mul(3) / 2)
-}
-
-/// The rise after a null step.
-fn shorter(rise: i64) -> i64 {
-    rise_in_range(rise.saturating_mul(3) / 5)
 }
 
 impl Ascent {
@@ -65,20 +55,10 @@ impl Ascent {
         Ok(Ascent {
             centre,
             merit,
-            floor: Floor::new(merit.counts_fleet()),
+            floor: merit.floor(),
             rise,
             target: goal.value,
         })
-    }
-
-    /// The value in tenths at which to stop.
-    pub(crate) fn target(&self) -> i128 {
-        self.target
-    }
-
-    /// The merit of the centre, in grains.
-    pub(crate) fn merit(&self) -> i128 {
-        self.centre.merit
     }
 
     /// How much the merit has to rise in grains until the value, which is rounded up, is the target.
@@ -99,11 +79,6 @@ impl Ascent {
         reached.saturating_sub(merit).max(0)
     }
 
-    /// The centre as a trial that hasn't risen.
-    pub(crate) fn centre_prices(&self, alloc: Global) -> Result<Trial, AllocError> {
-        Trial::new(alloc, self.centre.prices.as_slice(), 0, self.floor)
-    }
-
     /// The centre after a rise in grains, from which a projection starts.
     pub(crate) fn start(&self, alloc: Global, rise: i64) -> Result<Trial, AllocError> {
         let floor = self.floor.scaled(self.rise, rise);
@@ -114,7 +89,7 @@ impl Ascent {
     /// How far the merit rises from the centre to the prices of a trial with this least reduced cost,
     /// in grains.
     pub(crate) fn rise_to(&self, trial: &Trial, least: i64) -> i128 {
-        let merit = self.merit.of(trial.as_slice(), i128::from(least));
+        let merit = self.merit.of(trial.prices.as_slice(), i128::from(least));
         merit.saturating_sub(self.centre.merit)
     }
 
@@ -136,19 +111,13 @@ impl Ascent {
         self.rise = rise;
     }
 
-    /// Goes on with a shorter rise, since the prices of a trial had no value.
+    /// Goes on with a shorter rise: after a null step, or where the prices of a trial had no value.
     pub(crate) fn draw_back(&mut self, pool: &mut RoutePool<'_>) {
-        self.scale(pool, shorter(self.rise));
+        self.scale(pool, rise_in_range(self.rise.saturating_mul(3) / 5));
     }
 
-    /// Whether the merit has grown by more than a tenth of what the trial promised.
-    fn is_serious(&self, next: &Centre, promised: i128) -> bool {
-        let before = self.centre.merit;
-        let growth = next.merit.saturating_sub(before);
-        growth.saturating_mul(10) > promised.saturating_sub(before)
-    }
-
-    /// Takes in what the prices of a trial led to.
+    /// Takes in what the prices of a trial led to: a serious step where the merit has grown by more than a
+    /// tenth of what the trial promised.
     pub(crate) fn take_in(
         &mut self,
         alloc: Global,
@@ -156,19 +125,20 @@ impl Ascent {
         trial: &Trial,
         priced: &Priced<'_>,
     ) -> Result<(), AllocError> {
-        self.floor = trial.floor();
+        self.floor = trial.floor;
         let next = Centre::new(alloc, priced, self.merit)?;
         if next.least < i128::from(self.floor.value()) {
             pool.add(priced.instance(), priced.least().route.as_slice())?;
         }
+        let before = self.centre.merit;
         let promised = self.merit.promised(priced.prices(), self.floor);
-        let rise = if self.is_serious(&next, promised) {
+        let growth = next.merit.saturating_sub(before);
+        if growth.saturating_mul(10) > promised.saturating_sub(before) {
             self.centre = next;
-            longer(self.rise)
+            self.scale(pool, rise_in_range(self.rise.saturating_mul(3) / 2));
         } else {
-            shorter(self.rise)
-        };
-        self.scale(pool, rise);
+            self.draw_back(pool);
+        }
         Ok(())
     }
 }

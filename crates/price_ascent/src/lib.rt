@@ -3,7 +3,6 @@
 #![tactic(auto)]
 
 mod ascent;
-mod candidates;
 mod centre;
 mod child;
 mod child_start;

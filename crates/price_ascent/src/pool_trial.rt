@@ -2,7 +2,7 @@
 
 use crate::ascent::Ascent;
 use branching::Arc;
-use pooled_routes::{HalfSpace, Projection, Side, Trial};
+use pooled_routes::{HalfSpace, Projection, Side, Trial, reduced_cost};
 use std::alloc::{AllocError, Global};
 
 /// The most sweeps of a trial.
@@ -29,33 +29,12 @@ pub(crate) struct ChildTrial {
 }
 
 /// Routes of lower rank serve better: those that make up the prices, and then those of the least
-/// reduced cost at the centre.
-fn rank(space: &HalfSpace<'_>, centre: &Trial) -> i64 {
+/// reduced cost at these prices.
+fn rank(space: &HalfSpace<'_>, prices: &[i64]) -> i64 {
     if space.multiplier > 0 {
         i64::MIN
     } else {
-        centre.reduced_cost(space.stops, space.cost)
-    }
-}
-
-/// Of these half-spaces the best, at most so many.
-fn best_spaces<'r>(
-    mut spaces: Vec<HalfSpace<'r>>,
-    centre: &Trial,
-    most: usize,
-) -> Result<Vec<HalfSpace<'r>>, AllocError> {
-    if spaces.len() > most {
-        spaces.sort_by_key(|space| rank(space, centre))?;
-        spaces.truncate(most);
-    }
-    Ok(spaces)
-}
-
-/// Whether a child by an arc forbids a route.
-fn forbids(arc: Arc, side: Side, space: &HalfSpace<'_>) -> bool {
-    match side {
-        Side::Used => space.avoids(arc),
-        Side::Unused => space.uses(arc),
+        reduced_cost(prices, space.stops, space.cost)
     }
 }
 
@@ -65,12 +44,15 @@ impl<'r> PoolTrial<'r> {
     pub(crate) fn new(
         alloc: Global,
         ascent: &'r Ascent,
-        spaces: Vec<HalfSpace<'r>>,
+        mut spaces: Vec<HalfSpace<'r>>,
         most: usize,
         rise: i64,
     ) -> Result<PoolTrial<'r>, AllocError> {
-        let centre = ascent.centre_prices(alloc)?;
-        let spaces = best_spaces(spaces, &centre, most)?;
+        if spaces.len() > most {
+            let prices = ascent.centre.prices.as_slice();
+            spaces.sort_by_key(|space| rank(space, prices))?;
+            spaces.truncate(most);
+        }
         Ok(PoolTrial {
             alloc,
             ascent,
@@ -79,30 +61,23 @@ impl<'r> PoolTrial<'r> {
         })
     }
 
-    /// The half-spaces of the routes that a child doesn't forbid.
-    fn spaces_of(&self, arc: Arc, side: Side) -> Result<Vec<HalfSpace<'r>>, AllocError> {
-        let mut spaces = Vec::new(self.alloc);
-        for space in &self.spaces {
-            if !forbids(arc, side, space) {
-                spaces.push(*space)?;
-            }
-        }
-        Ok(spaces)
-    }
-
-    /// The prices that a child's ascent would come to if it had only the pool's routes.
+    /// The prices that a child's ascent would come to if it had only those of the pool's routes that the
+    /// child doesn't forbid.
     pub(crate) fn of_child(&self, arc: Arc, side: Side) -> Result<ChildTrial, AllocError> {
-        let mut projection = Projection::new(self.spaces_of(arc, side)?);
-        let mut prices = self.ascent.start(self.alloc, self.rise)?;
-        projection.project(&mut prices, MOST_SWEEPS);
-        let rise = match projection.least(&prices) {
-            Some(least) => Some(self.ascent.rise_to(&prices, least)),
-            None => None,
-        };
+        let mut spaces = self.spaces.to_vec(self.alloc)?;
+        spaces.retain(|space| !space.is_forbidden_by(arc, side));
+        let mut projection = Projection { spaces, looks: 0 };
+        let mut trial = self.ascent.start(self.alloc, self.rise)?;
+        projection.project(&mut trial, MOST_SWEEPS);
+        let prices = trial.prices.as_slice();
+        let spaces = projection.spaces.iter();
+        let least = spaces
+            .map(|space| reduced_cost(prices, space.stops, space.cost))
+            .min();
         Ok(ChildTrial {
-            prices,
-            rise,
-            routes: projection.looks(),
+            rise: least.map(|least| self.ascent.rise_to(&trial, least)),
+            routes: projection.looks,
+            prices: trial,
         })
     }
 }

@@ -9,6 +9,7 @@ ghost use Rattle.price_ascent.specs.Branching.{IsPricedAt};
 
 use crate::route_pool::RoutePool;
 use branching::Region;
+use labelling::Hints;
 use prices::{PriceFault, Priced};
 use std::alloc::Global;
 
@@ -31,7 +32,7 @@ pub(crate) fn price<'i>(
 {
     let instance = leaf.instance();
     let known = pool.cheapest(&region, prices.as_slice())?;
-    let mut hints = pool.hints(known);
+    let mut hints = Hints::of(alloc, known, pool.nearness.take());
     let neighbours = leaf.neighbours();
     let priced = Priced::by_hints(
         alloc, instance, region, neighbours, prices, labels, &mut hints,

@@ -23,7 +23,7 @@ fn price_trial<'i>(
     ensures { IfOk result (IsPricedAt leaf.now.region leaf.now) }
 {
     let region = leaf.region().try_clone()?;
-    let prices = trial.prices(alloc, leaf.instance())?;
+    let prices = trial.prices_in_range(alloc, leaf.instance())?;
     price(alloc, pool, leaf, region, prices, labels)
 }
 
@@ -156,6 +156,6 @@ pub fn raise<'i>(
     if let Some(start) = &start {
         pool.learn(start, &ascent, best.value());
     }
-    pool.keep(ascent);
+    pool.ascent = Some(ascent);
     best
 }

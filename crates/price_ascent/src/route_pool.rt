@@ -8,7 +8,7 @@ use branching::{Arc, Region};
 use labelling::{Hints, Nearness};
 use pooled_routes::{
     ArcFlow, HalfSpace, PooledRoute, Projection, Pseudocosts, RouteShare, Side, Trial, merge,
-    scaled,
+    reduced_cost, scaled,
 };
 use prices::allows_route;
 use solomon_reader::Instance;
@@ -43,10 +43,11 @@ pub struct RoutePool<'i> {
     /// How much work they, the projections and the trials were, in looks.
     looks: u64,
     /// The tables that the pricings go by, from the first one on.
-    nearness: Option<Nearness<'i>>,
-    /// The last raising of prices.
-    ascent: Option<Ascent>,
-    pseudocosts: Pseudocosts,
+    pub(crate) nearness: Option<Nearness<'i>>,
+    /// The last raising of prices that has ended.
+    pub(crate) ascent: Option<Ascent>,
+    /// The rises of merit that were seen.
+    pub(crate) pseudocosts: Pseudocosts,
 }
 
 impl<'i> RoutePool<'i> {
@@ -83,7 +84,7 @@ impl<'i> RoutePool<'i> {
     /// the same is kept once, and the empty one isn't kept. Where the pool is full, the route that was
     /// of least use makes room. No contract: any prices are sound, whatever stands in a pool.
     pub fn add(&mut self, instance: &Instance, stops: &[u16]) -> Result<(), AllocError> {
-        if stops.is_empty() || self.routes.iter().any(|route| route.stops() == stops) {
+        if stops.is_empty() || self.routes.iter().any(|route| route.stops.as_slice() == stops) {
             return Ok(());
         }
         let route = PooledRoute::new(self.alloc, instance, stops, self.met, self.pricings)?;
@@ -124,23 +125,19 @@ impl<'i> RoutePool<'i> {
     /// The customers of the route of least reduced cost at these prices among those that a region allows;
     /// none where it allows none.
     pub(crate) fn cheapest(&self, region: &Region, prices: &[i64]) -> Result<Vec<u16>, AllocError> {
-        let mut cheapest: Option<(&PooledRoute, i64)> = None;
+        let mut cheapest: Option<(&[u16], i64)> = None;
         for route in &self.routes {
-            let cost = route.reduced_cost(prices);
+            let stops = route.stops.as_slice();
+            let cost = reduced_cost(prices, stops, route.cost);
             let is_cheaper = cheapest.is_none_or(|(_, least)| cost < least);
-            if is_cheaper && allows_route(region, route.stops()) {
-                cheapest = Some((route, cost));
+            if is_cheaper && allows_route(region, stops) {
+                cheapest = Some((stops, cost));
             }
         }
         match cheapest {
-            Some((route, _)) => Vec::from_slice(self.alloc, route.stops()),
+            Some((stops, _)) => Vec::from_slice(self.alloc, stops),
             None => Ok(Vec::new(self.alloc)),
         }
-    }
-
-    /// What a pricing goes by which knows this route.
-    pub(crate) fn hints(&mut self, known: Vec<u16>) -> Hints<'i> {
-        Hints::of(self.alloc, known, self.nearness.take())
     }
 
     /// Takes in what a pricing told: counts it, keeps the tables that it went by, and adds the routes that it
@@ -165,35 +162,29 @@ impl<'i> RoutePool<'i> {
         Ok(())
     }
 
-    /// The arcs that the routes of the pool use, with what they carry.
-    fn arcs(&self) -> Result<Vec<ArcFlow>, AllocError> {
-        let mut arcs = Vec::new(self.alloc);
-        for route in self.routes.iter().filter(|route| route.is_used()) {
-            route.push_arcs(&mut arcs)?;
-        }
-        Ok(arcs)
-    }
-
     /// Each arc that the routes of the pool use once, with all that it carries.
     pub(crate) fn flows(&self) -> Result<Vec<ArcFlow>, AllocError> {
-        merge(self.arcs()?, Vec::new(self.alloc))
+        let mut arcs = Vec::new(self.alloc);
+        for route in self.routes.iter().filter(|route| route.multiplier > 0) {
+            route.push_arcs(&mut arcs)?;
+        }
+        merge(arcs, Vec::new(self.alloc))
     }
 
     /// Arcs to branch on at the leaf whose prices were raised last, best ones first, for `choose` of
-    /// its region: fractional arcs between customers, those of the depot, and others; of each kind
-    /// first those that the routes of the pool, weighted as they make up the prices, use nearly one
-    /// half of a time. They stand one after the other as three numbers: one above the last customer,
+    /// its region: first those that the routes of the pool, weighted as they make up the prices, use
+    /// nearly one half of a time. They stand one after the other as three numbers: one above the last customer,
     /// so that the arcs to and from it are none of the region's, and the arc's two rows. No contract: `choose`
     /// judges each.
     pub fn branching_arcs(&self, instance: &Instance) -> Result<Vec<u16>, AllocError> {
         let between = instance.customer_count() + 1;
         let mut arcs = self.flows()?;
-        arcs.sort_by_key(|arc| arc.rank(self.rise))?;
+        arcs.sort_by_key(|flow| flow.distance_from_half(self.rise))?;
         let mut rows = Vec::new(self.alloc);
-        for arc in &arcs {
+        for flow in &arcs {
             rows.push(between)?;
-            rows.push(arc.from)?;
-            rows.push(arc.to)?;
+            rows.push(flow.arc.from)?;
+            rows.push(flow.arc.to)?;
         }
         rows.push(between)?;
         Ok(rows)
@@ -202,9 +193,10 @@ impl<'i> RoutePool<'i> {
     /// The routes that make up the prices raised last by more than one half of a route each: where no
     /// arc is fractional they may be a plan. No contract: who takes them for one has to check it.
     pub fn main_routes(&self) -> Result<Vec<Vec<u16>>, AllocError> {
+        let half = self.rise / 2;
         let mut routes = Vec::new(self.alloc);
-        for route in self.routes.iter().filter(|route| route.is_main(self.rise)) {
-            routes.push(Vec::from_slice(self.alloc, route.stops())?)?;
+        for route in self.routes.iter().filter(|route| route.multiplier > half) {
+            routes.push(route.stops.to_vec(self.alloc)?)?;
         }
         Ok(routes)
     }
@@ -241,7 +233,7 @@ impl<'i> RoutePool<'i> {
     fn half_spaces(&self) -> Result<Vec<HalfSpace<'_>>, AllocError> {
         let mut spaces = Vec::new(self.alloc);
         for (place, route) in self.routes.iter().enumerate() {
-            if route.is_allowed() {
+            if route.is_allowed {
                 spaces.push(route.half_space(place))?;
             }
         }
@@ -251,9 +243,14 @@ impl<'i> RoutePool<'i> {
     /// Projects a trial, and answers the places of the routes with the multipliers that it came to, and how
     /// often it looked at a route.
     fn projected(&self, trial: &mut Trial) -> Result<(Vec<(usize, i64)>, u64), AllocError> {
-        let mut projection = Projection::new(self.half_spaces()?);
+        let spaces = self.half_spaces()?;
+        let mut projection = Projection { spaces, looks: 0 };
         projection.project(trial, MOST_SWEEPS);
-        Ok((projection.multipliers(self.alloc)?, projection.looks()))
+        let spaces = projection.spaces.iter();
+        let multipliers = spaces
+            .map(|space| (space.place, space.multiplier))
+            .collect(self.alloc)?;
+        Ok((multipliers, projection.looks))
     }
 
     /// Projects a trial onto what all routes say, nearly, from where the multipliers lead.
@@ -262,19 +259,10 @@ impl<'i> RoutePool<'i> {
         self.count_routes(routes);
         for (place, multiplier) in &multipliers {
             if let Some(route) = self.routes.get_mut(*place) {
-                route.set_multiplier(*multiplier);
+                route.multiplier = *multiplier;
             }
         }
         Ok(())
-    }
-
-    /// The half-spaces with their multipliers measured by another rise.
-    fn scaled_spaces(&self, rise: i64) -> Result<Vec<HalfSpace<'_>>, AllocError> {
-        let mut spaces = self.half_spaces()?;
-        for space in spaces.iter_mut() {
-            space.multiplier = scaled(space.multiplier, self.rise, rise);
-        }
-        Ok(spaces)
     }
 
     /// Trials of the children of the leaf whose prices were raised last. They leave the pool as it is.
@@ -283,25 +271,19 @@ impl<'i> RoutePool<'i> {
         instance: &Instance,
         ascent: &'r Ascent,
     ) -> Result<PoolTrial<'r>, AllocError> {
-        let rise = trial_rise(instance, ascent.target());
+        let rise = trial_rise(instance, ascent.target);
         let most = usize::from(instance.customer_count()) * TRIAL_ROUTES;
-        PoolTrial::new(self.alloc, ascent, self.scaled_spaces(rise)?, most, rise)
-    }
-
-    /// The last raising of prices.
-    pub(crate) fn last_ascent(&self) -> Option<&Ascent> {
-        self.ascent.as_ref()
-    }
-
-    /// The rises of merit that were seen.
-    pub(crate) fn pseudocosts(&self) -> &Pseudocosts {
-        &self.pseudocosts
+        let mut spaces = self.half_spaces()?;
+        for space in spaces.iter_mut() {
+            space.multiplier = scaled(space.multiplier, self.rise, rise);
+        }
+        PoolTrial::new(self.alloc, ascent, spaces, most, rise)
     }
 
     /// The shares of the rise that the multipliers are.
     fn shares(&self) -> Result<Vec<RouteShare>, AllocError> {
         let mut shares = Vec::new(self.alloc);
-        for route in self.routes.iter().filter(|route| route.is_used()) {
+        for route in self.routes.iter().filter(|route| route.multiplier > 0) {
             shares.push(route.share(self.rise))?;
         }
         Ok(shares)
@@ -315,13 +297,13 @@ impl<'i> RoutePool<'i> {
         side: Side,
         trial: Option<Trial>,
     ) -> Result<Option<ChildStart>, AllocError> {
-        let Some(ascent) = self.last_ascent() else {
+        let Some(ascent) = &self.ascent else {
             return Ok(None);
         };
         Ok(Some(ChildStart {
             arc,
             side,
-            merit: ascent.merit(),
+            merit: ascent.centre.merit,
             trial,
             shares: self.shares()?,
         }))
@@ -339,10 +321,5 @@ impl<'i> RoutePool<'i> {
     pub(crate) fn learn(&mut self, start: &ChildStart, ascent: &Ascent, value: i128) {
         let rise = ascent.rise_since(start.merit, value);
         let _ = self.pseudocosts.note(start.arc, start.side, rise);
-    }
-
-    /// Keeps an ascent that has ended, for the trials at its leaf.
-    pub(crate) fn keep(&mut self, ascent: Ascent) {
-        self.ascent = Some(ascent);
     }
 }

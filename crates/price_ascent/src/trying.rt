@@ -1,13 +1,15 @@
 //! The arc that a leaf is best split on.
 
 use crate::ascent::Ascent;
-use crate::candidates::candidates;
 use crate::pool_trial::{ChildTrial, PoolTrial};
 use crate::route_pool::RoutePool;
-use branching::Arc;
-use pooled_routes::{Pseudocosts, Side, Trial};
+use branching::{Arc, Region};
+use pooled_routes::{ArcFlow, Pseudocosts, Side, Trial};
 use prices::Priced;
 use std::alloc::AllocError;
+
+/// The most arcs that are tried.
+const MOST_CANDIDATES: usize = 20;
 
 /// An arc that was tried, with the prices that its children came to; nothing where the rises seen so far
 /// spared the trial.
@@ -32,6 +34,23 @@ impl TriedArc {
             (None, None)
         }
     }
+}
+
+/// The arcs worth a trial: those that a region's routes may use and needn't, and that the pool's use in
+/// part, first those that they use nearly one half of a time.
+fn candidates(
+    region: &Region,
+    mut flows: Vec<ArcFlow>,
+    rise: i64,
+) -> Result<Vec<ArcFlow>, AllocError> {
+    flows.retain(|flow| {
+        flow.is_divided(rise)
+            && region.allows(flow.arc.from, flow.arc.to)
+            && region.is_undecided(flow.arc)
+    });
+    flows.sort_by_key(|flow| flow.distance_from_half(rise))?;
+    flows.truncate(MOST_CANDIDATES);
+    Ok(flows)
 }
 
 /// A rise within what counts of it, in grains: not more than the gap, and somewhat more than nothing, so
@@ -91,7 +110,7 @@ pub(crate) fn best_arc(
     leaf: &Priced<'_>,
     pool: &mut RoutePool<'_>,
 ) -> Result<Option<TriedArc>, AllocError> {
-    let Some(ascent) = pool.last_ascent() else {
+    let Some(ascent) = &pool.ascent else {
         return Ok(None);
     };
     let arcs = candidates(leaf.region(), pool.flows()?, pool.rise())?;
@@ -99,7 +118,7 @@ pub(crate) fn best_arc(
     let mut best: Option<TriedArc> = None;
     let mut routes: u64 = 0;
     for flow in &arcs {
-        let tried = try_arc(ascent, &trials, pool.pseudocosts(), flow.arc())?;
+        let tried = try_arc(ascent, &trials, &pool.pseudocosts, flow.arc)?;
         routes = routes.saturating_add(tried.routes);
         if best.as_ref().is_none_or(|best| tried.score > best.score) {
             best = Some(tried);

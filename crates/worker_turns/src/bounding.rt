@@ -60,7 +60,7 @@ fn bring<'i, H: Hub<'i>, G: Gate>(
     }
     // The first worker alone splits the root, so that the tree begins with prices and routes that belong together.
     if leaf.region().is_root() && (nodes.stays_at_root(is_raised) || means.place > 0) {
-        nodes.keep(number);
+        nodes.current = Some(number);
         return if is_raised {
             worker.reprice(number, leaf)
         } else {

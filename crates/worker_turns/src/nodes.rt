@@ -46,7 +46,7 @@ pub struct Nodes<'p, 'i> {
     deques: &'p [Thief],
     pass: Pass,
     /// The leaf to go on with.
-    current: Option<u32>,
+    pub(crate) current: Option<u32>,
     /// How many turns in a row raised nothing at the root.
     idle_at_root: u16,
     /// How often the worker looked for a leaf in vain since it had one.
@@ -140,15 +140,6 @@ impl<'p, 'i> Nodes<'p, 'i> {
         })
     }
 
-    /// How often a turn looks for a leaf, if there is none at first.
-    fn looks(&self) -> u32 {
-        if self.missed < MOST_LOOKS {
-            LOOKS_OF_TURN
-        } else {
-            1
-        }
-    }
-
     /// Keeps a leaf that waits for its turn. Where memory is refused, the worker's work ends.
     fn push(&mut self, node: OpenNode) -> Result<(), Refusal> {
         match self.open.push(node) {
@@ -211,11 +202,6 @@ impl<'p, 'i> Nodes<'p, 'i> {
         self.idle_at_root <= self.customers / CUSTOMERS_OF_PATIENCE
     }
 
-    /// Notes the leaf to go on with.
-    pub(crate) fn keep(&mut self, number: u32) {
-        self.current = Some(number);
-    }
-
     /// The leaf to go on with, else that of the least value of the worker's own, so that the bound
     /// rises, or one of another worker. Where memory is refused or the deque is full, the worker's work
     /// ends.
@@ -260,7 +246,12 @@ impl<'p, 'i> Nodes<'p, 'i> {
     /// and then gives the processor away, so that idle turns aren't used up before the others have leaves to
     /// share.
     pub(crate) fn wait(&mut self) -> Result<Option<Taken>, Refusal> {
-        for _look in 0..self.looks() {
+        let looks = if self.missed < MOST_LOOKS {
+            LOOKS_OF_TURN
+        } else {
+            1
+        };
+        for _look in 0..looks {
             if let Some(taken) = self.take()? {
                 self.missed = 0;
                 return Ok(Some(taken));

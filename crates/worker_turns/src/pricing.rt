@@ -56,31 +56,12 @@ pub(crate) fn is_ahead(nodes: &Nodes<'_, '_>, made: u32) -> bool {
     nodes.pool.looks() > turn_looks(nodes.customers).saturating_mul(u64::from(made))
 }
 
-/// How many pricings a turn makes at a leaf.
-fn pricings_at(leaf: &Priced<'_>) -> u32 {
-    if leaf.region().is_root() {
-        ROOT_PRICINGS
-    } else {
-        LEAF_PRICINGS
-    }
-}
-
 /// With so many first rises of the root the bound workers begin in turn.
 const FIRST_RISES: u32 = 4;
 
-/// The first rise of each price at a leaf, in grains. All bound workers begin at the root, each with a greater
-/// rise than the one before, so that they meet other routes and don't do the same work twice.
-fn rise_of(leaf: &Priced<'_>, cost: Option<Tenths>, place: u32) -> i64 {
-    let rise = rise_at(leaf, cost);
-    if leaf.region().is_root() {
-        rise.saturating_mul(1 + i64::from(place % FIRST_RISES))
-    } else {
-        rise
-    }
-}
-
 /// How far the prices of a leaf are to be raised: from where the worker ended at it in the turn before,
-/// or from its first rise.
+/// or from its first rise. All bound workers begin at the root, each with a greater rise than the one before,
+/// so that they meet other routes and don't do the same work twice.
 pub(crate) fn goal_of(
     leaf: &Priced<'_>,
     nodes: &Nodes<'_, '_>,
@@ -89,14 +70,19 @@ pub(crate) fn goal_of(
     target: u64,
     means: Means,
 ) -> Goal {
+    let (times, pricings) = if leaf.region().is_root() {
+        (1 + i64::from(means.place % FIRST_RISES), ROOT_PRICINGS)
+    } else {
+        (1, LEAF_PRICINGS)
+    };
     let rise = if is_again {
         nodes.pool.rise()
     } else {
-        rise_of(leaf, cost, means.place)
+        rise_at(leaf, cost).saturating_mul(times)
     };
     Goal {
         rise,
-        pricings: pricings_at(leaf),
+        pricings,
         idle_pricings: IDLE_PRICINGS,
         value: i128::from(target),
         routes: nodes.routes,

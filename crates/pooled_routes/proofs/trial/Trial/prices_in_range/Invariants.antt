@@ -1,7 +1,7 @@
 use Rattle.std.proofs.Common.{◌≡◌, ◌+◌, length}
 use Rattle.std.specs.List.{AllByRecursion}
 use Rattle.solomon_reader.specs.CertificateText.{IsPrice}
-use Rattle.pooled_routes.proofs.trial.Trial.prices.Given as goal
+use Rattle.pooled_routes.proofs.trial.Trial.prices_in_range.Given as goal
 
 abbrev pub invariant-loop-customer : goal.invariant-loop-customer
 invariant-loop-customer l = record {
