@@ -16,6 +16,9 @@ use std::alloc::Global;
 /// After this many turns that found nothing cheaper a worker begins anew.
 const IDLE_TURNS: u32 = 40;
 
+/// With more customers a plan that is built anew takes too many turns to be as cheap as the one before.
+const MOST_CUSTOMERS_ANEW: u16 = 100;
+
 /// What a search worker has: a plan to change, and how many turns in a row found nothing cheaper; or no
 /// more than its random words.
 #[derive(Drop)]
@@ -51,12 +54,18 @@ fn begin<'i, R: Rng + Drop>(
     }
 }
 
-/// Goes on from a plan that is built by an insertion with drawn weights, where that builds one.
+/// Goes on from a plan that is built by an insertion with drawn weights, where that builds one; with many
+/// customers from the plan held after as many random moves, of which few leave a plan.
 fn begin_anew<'i, R: Rng + Drop>(
     alloc: Global,
     instance: &'i Instance,
     searcher: &mut Searcher<'i, R>,
 ) -> Result<(), Refusal> {
+    let customers = instance.customer_count();
+    if customers > MOST_CUSTOMERS_ANEW {
+        searcher.shake(u32::from(customers))?;
+        return Ok(());
+    }
     let spared = searcher.next_word();
     let from_depot = searcher.next_word();
     let detour = searcher.next_word();
@@ -142,8 +151,9 @@ fn turn<'i, H: Hub<'i>, G: Gate, R: Rng + Drop>(
 ///
 /// In each turn the worker changes its plan by a turn of a searcher, or builds one with drawn weights
 /// where it has none, and offers the plan that it has then. After 40 turns that found nothing cheaper it
-/// goes on from another plan, which is built with drawn weights. A refusal of the hub ends the turn, and
-/// the worker keeps its plan. Where the words for cost and bound have met, a turn does nothing.
+/// goes on from another plan, which is built with drawn weights or, with more than 100 customers, its own
+/// after random moves. A refusal of the hub ends the turn, and the worker keeps its plan. Where the words for
+/// cost and bound have met, a turn does nothing.
 pub fn search_worker<'i, H: Hub<'i>, G: Gate, R: Rng + Drop>(
     worker: &mut Worker<'_, 'i, H, G>,
     plan: Option<Feasible<'i>>,
