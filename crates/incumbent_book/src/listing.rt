@@ -1,6 +1,6 @@
 //! The nodes of a tree in preorder.
 
-ghost use Rattle.std.specs.Prelude.{◌≡◌, ◌<◌, ◌++◌, ◌∷◌, [], map, length, IfOk, OnOk, OnErr};
+ghost use Rattle.std.specs.Prelude.{◌≡◌, ◌<◌, ◌++◌, ◌∷◌, [], map, length, OnOk, OnErr};
 ghost use Rattle.solomon_reader.specs.Bound.{Tree, preorder, leaf_node, split_node};
 ghost use Rattle.incumbent_book.specs.Forward.{IsForward, GrowsIn};
 ghost use Rattle.branching.specs.Nodes.{node_of};
@@ -10,21 +10,12 @@ use crate::node::Node;
 use branching::{Arc, TreeNode};
 use std::alloc::{AllocError, Global};
 
-/// A copy of prices.
-fn copy_of(alloc: Global, prices: &[i64]) -> Result<Vec<i64>, AllocError>
-    ensures { IfOk result (λ v. v.items ≡ prices.now) }
-{
-    let mut copy = Vec::new(alloc);
-    copy.extend_from_slice(prices)?;
-    Ok(copy)
-}
-
 /// Adds a leaf with these prices.
 fn add_leaf(alloc: Global, out: &mut Vec<TreeNode>, prices: &[i64]) -> Result<(), AllocError>
     ensures { OnOk result (map node_of out.new.items ≡ map node_of out.old.items ++ leaf_node prices.now ∷ []) }
 {
-    let copy = copy_of(alloc, prices)?;
-    out.push(TreeNode::Leaf(copy))?;
+    let prices = prices.to_vec(alloc)?;
+    out.push(TreeNode::Leaf(prices))?;
     Ok(())
 }
 
