@@ -44,7 +44,8 @@ fn read_certificate(alloc: Global, text: &[u8]) -> Result<Cert, CheckFault>
 
 /// The solution that a text is, if there is a text.
 fn read_solution(alloc: Global, text: Option<&[u8]>) -> Result<Option<Sol>, CheckFault>
-    ensures found { IfOk result (λ s. IsSolutionOf (option_map (λ t. t.now) text.entry) (option_map view s)) }
+    ensures found { IfOk result (λ s. IsSolutionOf (option_map (λ t. t.now) text.entry)
+        (option_map view s)) }
     ensures refused { IfErr result (RefusesSolutionText (option_map (λ t. t.now) text.entry)) }
 {
     let Some(text) = text else {
@@ -64,8 +65,10 @@ fn check_bound(
     cert: &Cert,
     state_limit: usize,
 ) -> Result<(), CheckFault>
-    ensures accepted { OnOk result ((c : Certificate) → cert.now ≡ listed c → IsFor instance.now c × HasBound instance.now c c.bound) }
-    ensures refused { IfErr result (λ e. (c : Certificate) → cert.now ≡ listed c → RefusesBound instance.now c e) }
+    ensures accepted { OnOk result ((c : Certificate) → cert.now ≡ listed c → IsFor instance.now c
+        × HasBound instance.now c c.bound) }
+    ensures refused { IfErr result (λ e. (c : Certificate) → cert.now ≡ listed c
+        → RefusesBound instance.now c e) }
 {
     let parts = cert.parts();
     if parts.name.as_slice() != instance.name() {
@@ -125,8 +128,10 @@ fn judge(
     bound: Tenths,
     solution: Option<&Sol>,
 ) -> Result<Verdict, CheckFault>
-    ensures verdict { IfOk result (Judges instance.now bound (option_map (λ s. view s.now) solution.entry)) }
-    ensures refused { IfErr result (RefusesSolution instance.now (option_map (λ s. view s.now) solution.entry)) }
+    ensures verdict { IfOk result (Judges instance.now bound
+        (option_map (λ s. view s.now) solution.entry)) }
+    ensures refused { IfErr result (RefusesSolution instance.now
+        (option_map (λ s. view s.now) solution.entry)) }
 {
     match solution {
         None => Ok(judge_bound(instance, bound)),

@@ -19,7 +19,8 @@ use tenths::Tenths;
 
 /// Whether each route serves somebody.
 fn serve_somebody(routes: &[Vec<u16>]) -> bool
-    ensures { MatchBool result (All (λ r. 0 < length r.items) routes.now) (Any (λ r. length r.items ≡ 0) routes.now) }
+    ensures { MatchBool result (All (λ r. 0 < length r.items) routes.now)
+        (Any (λ r. length r.items ≡ 0) routes.now) }
 {
     for route in routes {
         if route.is_empty() {
@@ -45,7 +46,8 @@ fn know_stops(instance: &Instance, routes: &[Vec<u16>]) -> bool
 /// Whether each customer is marked.
 fn serve_all(instance: &Instance, marks: &[bool]) -> bool
     requires { length marks.now ≡ customer_count instance.now + 1 }
-    ensures { (before : _) → AreServed before marks.now → MatchBool result ((i : ℕ) → IsCustomer instance.now i → count_of i before ≡ 1)
+    ensures { (before : _) → AreServed before marks.now → MatchBool result
+        ((i : ℕ) → IsCustomer instance.now i → count_of i before ≡ 1)
         ((i : ℕ) × IsCustomer instance.now i × (count_of i before ≡ 0)) }
 {
     for customer in 1..instance.customer_count() + 1 {
@@ -59,7 +61,8 @@ fn serve_all(instance: &Instance, marks: &[bool]) -> bool
 /// Whether each route's demands are at most what a vehicle holds.
 fn are_light(instance: &Instance, routes: &[Vec<u16>]) -> bool
     requires { All (λ r. All (λ i. IsCustomer instance.now i) r.items) routes.now }
-    ensures { MatchBool result (All (λ r. load_of instance.now r.items ≤ instance.now.capacity) routes.now)
+    ensures { MatchBool result (All (λ r. load_of instance.now r.items ≤ instance.now.capacity)
+        routes.now)
         (Any (λ r. instance.now.capacity < load_of instance.now r.items) routes.now) }
 {
     for route in routes {
@@ -91,9 +94,12 @@ fn drive_all(instance: &Instance, routes: &[Vec<u16>]) -> Option<u128>
 /// Checks all of a plan but its times and the fleet: `PlanRefused` with the first defect, or `Memory`.
 fn check_stops(alloc: Global, instance: &Instance, routes: &[Vec<u16>]) -> Result<(), CheckFault>
     ensures some { IfOk result (λ _. All (λ r. 0 < length r.items) routes.now) }
-    ensures known { IfOk result (λ _. All (λ r. All (λ i. IsCustomer instance.now i) r.items) routes.now) }
-    ensures once { IfOk result (λ _. (i : ℕ) → IsCustomer instance.now i → count_of i (stops (lists routes.now)) ≡ 1) }
-    ensures light { IfOk result (λ _. All (λ r. load_of instance.now r.items ≤ instance.now.capacity) routes.now) }
+    ensures known { IfOk result (λ _. All
+        (λ r. All (λ i. IsCustomer instance.now i) r.items) routes.now) }
+    ensures once { IfOk result (λ _. (i : ℕ) → IsCustomer instance.now i → count_of i
+        (stops (lists routes.now)) ≡ 1) }
+    ensures light { IfOk result (λ _. All
+        (λ r. load_of instance.now r.items ≤ instance.now.capacity) routes.now) }
     ensures refused { IfErr result (λ e. RefusesRoutes instance.now (lists routes.now) e) }
 {
     if !serve_somebody(routes) {

@@ -29,7 +29,8 @@ fn is_customer(instance: &Instance, number: u16) -> bool
 
 /// Whether each stop of a route is a customer's.
 pub(crate) fn knows_stops(instance: &Instance, stops: &[u16]) -> bool
-    ensures { MatchBool result (All (λ i. IsCustomer instance.now i) stops.now) (Any (λ i. ¬ IsCustomer instance.now i) stops.now) }
+    ensures { MatchBool result (All (λ i. IsCustomer instance.now i) stops.now)
+        (Any (λ i. ¬ IsCustomer instance.now i) stops.now) }
 {
     for stop in stops {
         if !is_customer(instance, *stop) {
@@ -64,12 +65,16 @@ fn serve(instance: &Instance, vehicle: Vehicle, stop: u16) -> Option<Vehicle>
     requires ready { vehicle.ready ≤ 20 * MOST_TIME }
     requires cost { vehicle.cost ≤ vehicle.ready }
     ensures stop { IfSome result (λ v. v.stop ≡ stop) }
-    ensures ready { IfSome result (λ v. v.ready ≡ start_of instance.now vehicle.stop vehicle.ready stop + service instance.now stop) }
+    ensures ready { IfSome result (λ v. v.ready ≡ start_of instance.now vehicle.stop vehicle.ready
+        stop + service instance.now stop) }
     ensures soon { IfSome result (λ v. v.ready ≤ 20 * MOST_TIME) }
-    ensures cost { IfSome result (λ v. v.cost ≡ vehicle.cost + distance instance.now vehicle.stop stop) }
+    ensures cost { IfSome result (λ v. v.cost ≡ vehicle.cost + distance instance.now vehicle.stop
+        stop) }
     ensures load { IfSome result (λ v. v.load ≡ vehicle.load + demand instance.now stop) }
-    ensures served { IfSome result (λ _. CanServe instance.now vehicle.stop vehicle.ready vehicle.load stop) }
-    ensures none { IfNone result (¬ CanServe instance.now vehicle.stop vehicle.ready vehicle.load stop) }
+    ensures served { IfSome result (λ _. CanServe instance.now vehicle.stop vehicle.ready
+        vehicle.load stop) }
+    ensures none { IfNone result (¬ CanServe instance.now vehicle.stop vehicle.ready vehicle.load
+        stop) }
 {
     let arc = instance.distance(vehicle.stop, stop).get();
     let begin = instance.ready(stop).max(vehicle.ready + arc);

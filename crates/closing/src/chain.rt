@@ -35,7 +35,9 @@ fn follow(
 ) -> Result<Option<Vec<u16>>, AllocError>
     requires settled { IsSettled region.now }
     requires start { IsAllowed region.now (0, start) }
-    ensures { IfOk result (λ o. MatchOption o ((q : List ℕ) → ¬ FitsIn instance.now region.now (start ∷ q)) (λ r. IsLine instance.now region.now start r.items)) }
+    ensures { IfOk result (λ o. MatchOption o
+        ((q : List ℕ) → ¬ FitsIn instance.now region.now (start ∷ q))
+        (λ r. IsLine instance.now region.now start r.items)) }
 {
     instance.law_of_limits();
     let mut route = Vec::new(alloc);
@@ -62,8 +64,10 @@ pub(crate) fn route_from(
     start: u16,
 ) -> Result<Option<(Vec<u16>, u64)>, AllocError>
     requires settled { IsSettled region.now }
-    ensures none { IfOk result (λ o. IfNone o ((q : List ℕ) → ¬ FitsIn instance.now region.now (start ∷ q))) }
-    ensures route { IfOk result (λ o. IfSome o (λ r. IsOnly instance.now region.now start r.0.items)) }
+    ensures none { IfOk result (λ o. IfNone o
+        ((q : List ℕ) → ¬ FitsIn instance.now region.now (start ∷ q))) }
+    ensures route { IfOk result (λ o. IfSome o
+        (λ r. IsOnly instance.now region.now start r.0.items)) }
     ensures cost { IfOk result (λ o. IfSome o (λ r. r.1 ≡ route_cost instance.now r.0.items)) }
     ensures small { IfOk result (λ o. IfSome o (λ r. r.1 ≤ 10 * MOST_TIME)) }
 {

@@ -34,7 +34,8 @@ fn built_plan<'i, R: Rng>(
     instance: &'i Instance,
     random: &mut R,
 ) -> Result<Option<Feasible<'i>>, AllocError>
-    ensures { IfOk result (λ plan. MatchOption plan (¬ IsServedAlone instance.now) (λ f. f.problem ≡ instance.now)) }
+    ensures { IfOk result (λ plan. MatchOption plan (¬ IsServedAlone instance.now)
+        (λ f. f.problem ≡ instance.now)) }
 {
     if let Some(plan) = build_whole(alloc, instance, &Weights::plain())? {
         return Ok(Some(plan));
@@ -77,7 +78,8 @@ pub(crate) fn first_plan<'i>(
     alloc: Global,
     instance: &'i Instance,
 ) -> Result<Option<Feasible<'i>>, AllocError>
-    ensures { IfOk result (λ plan. MatchOption plan (¬ IsServedAlone instance.now) (λ f. f.problem ≡ instance.now)) }
+    ensures { IfOk result (λ plan. MatchOption plan (¬ IsServedAlone instance.now)
+        (λ f. f.problem ≡ instance.now)) }
 {
     let mut random = Xoshiro256PlusPlus::seed_from_u64(SEED);
     let Some(plan) = built_plan(alloc, instance, &mut random)? else {

@@ -40,8 +40,10 @@ pub(crate) fn gather(
 ) -> Result<Gathered, AllocError>
     requires settled { IsSettled region.now }
     requires fee { fee ≤ MOST_FEE }
-    ensures prices { IfOk result (λ a. IsGathered instance.now region.now (customer_count instance.now + 1) 0 a.prices.items (lists a.routes.items)) }
-    ensures raised { IfOk result (λ a. IsGathered instance.now region.now (customer_count instance.now + 1) fee a.raised.items (lists a.routes.items)) }
+    ensures prices { IfOk result (λ a. IsGathered instance.now region.now
+        (customer_count instance.now + 1) 0 a.prices.items (lists a.routes.items)) }
+    ensures raised { IfOk result (λ a. IsGathered instance.now region.now
+        (customer_count instance.now + 1) fee a.raised.items (lists a.routes.items)) }
 {
     let mut prices = Vec::new(alloc);
     let mut raised = Vec::new(alloc);

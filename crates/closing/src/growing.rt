@@ -102,7 +102,8 @@ fn work_at<'i>(
     requires going { growth.old.is_stopped ≡ false }
     requires own { leaf.now.problem ≡ growth.old.instance.now }
     ensures growth { OnOk result (IsGrowth growth.new) }
-    ensures listed { IfOk result (λ found. IfNone found (Grows leaf.now.neighbours leaf.now.region growth.old growth.new)) }
+    ensures listed { IfOk result (λ found. IfNone found
+        (Grows leaf.now.neighbours leaf.now.region growth.old growth.new)) }
     ensures leaves { IfOk result (λ found. IfNone found (growth.new.leaves ≡ growth.old.leaves)) }
     ensures split { IfOk result (λ found. IfSome found (Splits leaf.now growth.old growth.new)) }
 {
@@ -134,7 +135,8 @@ fn raise_and_work<'i>(
     requires going { growth.old.is_stopped ≡ false }
     requires own { leaf.problem ≡ growth.old.instance.now }
     ensures growth { OnOk result (IsGrowth growth.new) }
-    ensures listed { IfOk result (λ found. IfNone found (Grows leaf.entry.neighbours leaf.entry.region growth.old growth.new)) }
+    ensures listed { IfOk result (λ found. IfNone found
+        (Grows leaf.entry.neighbours leaf.entry.region growth.old growth.new)) }
     ensures leaves { IfOk result (λ found. IfNone found (growth.new.leaves ≡ growth.old.leaves)) }
     ensures split { IfOk result (λ found. IfSome found (Splits leaf.entry growth.old growth.new)) }
 {
@@ -154,7 +156,8 @@ pub(crate) fn grow<'i>(
     requires growth { IsGrowth growth.old }
     requires own { leaf.problem ≡ growth.old.instance.now }
     ensures growth { OnOk result (IsGrowth growth.new) }
-    ensures grows { OnOk result (Grows leaf.entry.neighbours leaf.entry.region growth.old growth.new) }
+    ensures grows { OnOk result (Grows leaf.entry.neighbours leaf.entry.region growth.old
+        growth.new) }
     ensures more { OnOk result (growth.old.leaves ≤ growth.new.leaves) }
 {
     if growth.is_stopped {

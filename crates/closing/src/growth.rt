@@ -65,7 +65,8 @@ impl<'i> Growth<'i> {
         limit: u32,
         best: Option<Feasible<'i>>,
     ) -> Growth<'i>
-        requires own { MatchOption best (¬ IsServedAlone instance.now) (λ f. f.problem ≡ instance.now) }
+        requires own { MatchOption best (¬ IsServedAlone instance.now)
+            (λ f. f.problem ≡ instance.now) }
         requires some { 1 ≤ limit }
         ensures growth { IsGrowth result }
         ensures instance { result.instance.now ≡ instance.now }
@@ -186,7 +187,8 @@ impl<'i> Growth<'i> {
         requires { IsGrowth self.old }
         ensures growth { OnOk result (IsGrowth self.new) }
         ensures task { IsSameTask self.old self.new }
-        ensures nodes { OnOk result (map node_of self.new.nodes.items ≡ map node_of self.old.nodes.items ++ split_node (pair arc) ∷ []) }
+        ensures nodes { OnOk result (map node_of self.new.nodes.items ≡ map node_of
+            self.old.nodes.items ++ split_node (pair arc) ∷ []) }
         ensures leaves { self.new.leaves ≡ self.old.leaves }
         ensures bound { self.new.bound ≡ self.old.bound }
     {
@@ -198,9 +200,12 @@ impl<'i> Growth<'i> {
     pub(crate) fn finish(mut self, neighbours: u32) -> Result<Closed<'i>, CloseAloneFault>
         requires growth { IsGrowth self }
         requires small { customer_count self.instance.now ≤ MOST_CLOSED }
-        requires tree { IsListedTree self.instance.now neighbours (reverse self.nodes.items) self.bound self.leaves }
-        ensures closed { IfOk result (IsClosed self.entry.instance.now neighbours self.entry.limit) }
-        ensures left_open { IfErr result (IsLeftOpen self.entry.instance.now neighbours self.entry.limit) }
+        requires tree { IsListedTree self.instance.now neighbours
+            (reverse self.nodes.items) self.bound self.leaves }
+        ensures closed { IfOk result (IsClosed self.entry.instance.now neighbours
+            self.entry.limit) }
+        ensures left_open { IfErr result
+            (IsLeftOpen self.entry.instance.now neighbours self.entry.limit) }
     {
         bounds_hold();
         self.nodes.reverse();

@@ -32,7 +32,8 @@ pub fn settled_leaf<'i>(
     ensures neighbours { IfOk result (λ l. l.0.neighbours ≡ neighbours) }
     ensures priced { IfOk result (λ l. IsPricing l.0) }
     ensures plan { IfOk result (λ l. IfSome l.1 (λ f. f.problem ≡ instance.now)) }
-    ensures value { IfOk result (λ l. MatchOption l.1 (ceiling_of instance.now + 1 ≤ l.0.value) (λ f. l.0.value ≡ f.cost)) }
+    ensures value { IfOk result (λ l. MatchOption l.1 (ceiling_of instance.now + 1 ≤ l.0.value)
+        (λ f. l.0.value ≡ f.cost)) }
     ensures all_plans { IfOk result (λ l. IsSettledBy instance.now region l.0.value l.1) }
 {
     let (prices, plan) = settle(alloc, instance, &region)?;

@@ -32,7 +32,8 @@ fn is_served(routes: &[Vec<u16>], customer: u16) -> bool
 pub(crate) fn unserved(instance: &Instance, routes: &[Vec<u16>]) -> Option<u16>
     ensures customer { IfSome result (λ i. IsCustomer instance.now i) }
     ensures missing { IfSome result (λ i. count_of i (stops (lists routes.now)) ≡ 0) }
-    ensures none { IfNone result ((i : ℕ) → IsCustomer instance.now i → 1 ≤ count_of i (stops (lists routes.now))) }
+    ensures none { IfNone result ((i : ℕ) → IsCustomer instance.now i → 1 ≤ count_of i
+        (stops (lists routes.now))) }
 {
     for customer in 1..instance.customer_count() + 1 {
         if !is_served(routes, customer) {

@@ -22,7 +22,8 @@ fn raise(mut prices: Vec<i64>, customer: u16, fee: u64) -> Vec<i64>
     requires fee { fee ≤ MOST_FEE }
     requires low { 1 ≤ customer }
     requires high { customer ≤ length prices.items }
-    ensures { result.items ≡ slice_set prices.items (customer - 1) (slice_index_or prices.items (customer - 1) (pos 0) +ℤ pos fee) }
+    ensures { result.items ≡ slice_set prices.items (customer - 1)
+        (slice_index_or prices.items (customer - 1) (pos 0) +ℤ pos fee) }
 {
     let place = usize::from(customer) - 1;
     prices[place] += fee as i64;

@@ -15,7 +15,13 @@ pub(crate) fn count_all<J: Naming>(totals: &mut Totals<J>, mine: &mut Share<J>, 
     requires none { totals.old ≡ each 0 }
     requires mine { mine.old.tally ≡ each 0 }
     ensures totals { totals.new ≡ tally_of (past_of history.now) }
-    ensures mine { mine.new ≡ record { worker = mine.old.worker; tally = tally_of (past_of history.now); cost = mine.old.cost; bound = mine.old.bound } }
+    ensures mine { mine.new ≡ record {
+      worker = mine.old.worker;
+      tally = tally_of
+          (past_of history.now);
+      cost = mine.old.cost;
+      bound = mine.old.bound;
+    } }
 {
     for event in history {
         mine.count(totals, event);
@@ -35,7 +41,8 @@ pub(crate) fn deal<J: Naming>(
     requires first { first ≡ record { worker = 0; tally = first.tally; cost = seen.now.cost; bound = seen.now.bound } }
     requires rest { (rest.parts + 1 ≡ workers) × (rest.tally ≡ each 0) }
     requires seen { IsSeen J.problem seen.now.cost seen.now.bound }
-    ensures shares { result.items ≡ opening_accounts workers first.tally seen.now.cost seen.now.bound }
+    ensures shares { result.items ≡ opening_accounts workers first.tally seen.now.cost
+        seen.now.bound }
     ensures count { vec_len result ≡ workers }
 {
     shares.push_reserved(first);

@@ -127,7 +127,8 @@ impl<'i, J: Naming> Locked<'i, J> {
         used: Priced<'i>,
         unused: Priced<'i>,
     ) -> Result<(u32, u32), (Priced<'i>, Priced<'i>, BookFault)>
-        ensures { Splits J.problem J.neighbours mine.old leaf (pair arc) used.entry unused.entry result mine.new }
+        ensures { Splits J.problem J.neighbours mine.old leaf
+            (pair arc) used.entry unused.entry result mine.new }
     {
         let worker = mine.worker();
         let values = (value_of(&used), value_of(&unused));

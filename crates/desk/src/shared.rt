@@ -118,7 +118,8 @@ impl<'i, J: Naming> Desk<'i, J> {
         used: Priced<'i>,
         unused: Priced<'i>,
     ) -> Result<(u32, u32), (Priced<'i>, Priced<'i>, BookFault)>
-        ensures { Splits J.problem J.neighbours mine.old leaf (pair arc) used.entry unused.entry result mine.new }
+        ensures { Splits J.problem J.neighbours mine.old leaf
+            (pair arc) used.entry unused.entry result mine.new }
     {
         self.locked.lock(rt).split(mine, leaf, arc, used, unused)
     }

@@ -145,7 +145,11 @@ impl<J: Naming> Totals<J> {
     pub(crate) fn count(&mut self, mine: &mut Tokens<J>, event: &Event)
         requires { 0 < mine.old.parts }
         ensures totals { self.new ≡ plus self.old (tally_of_event (event_of event.now)) }
-        ensures mine { mine.new ≡ record { parts = mine.old.parts; tally = plus mine.old.tally (tally_of_event (event_of event.now)) } }
+        ensures mine { mine.new ≡ record {
+          parts = mine.old.parts;
+          tally = plus mine.old.tally
+              (tally_of_event (event_of event.now));
+        } }
     {
         match *event {
             Event::Offered {
@@ -174,7 +178,11 @@ impl<J: Naming> Totals<J> {
     fn count_offer(&mut self, mine: &mut Tokens<J>, worker: u16, cost: u64, better: bool)
         requires { 0 < mine.old.parts }
         ensures totals { self.new ≡ plus self.old (tally_of_event (offered worker cost better)) }
-        ensures mine { mine.new ≡ record { parts = mine.old.parts; tally = plus mine.old.tally (tally_of_event (offered worker cost better)) } }
+        ensures mine { mine.new ≡ record {
+          parts = mine.old.parts;
+          tally = plus mine.old.tally
+              (tally_of_event (offered worker cost better));
+        } }
     {
         self.accepted.add(&mut mine.accepted, 1);
         self.better.add(&mut mine.better, u64::from(better));
@@ -187,7 +195,11 @@ impl<J: Naming> Totals<J> {
     fn count_reprice(&mut self, mine: &mut Tokens<J>, worker: u16, leaf: u32, value: u128)
         requires { 0 < mine.old.parts }
         ensures totals { self.new ≡ plus self.old (tally_of_event (repriced worker leaf value)) }
-        ensures mine { mine.new ≡ record { parts = mine.old.parts; tally = plus mine.old.tally (tally_of_event (repriced worker leaf value)) } }
+        ensures mine { mine.new ≡ record {
+          parts = mine.old.parts;
+          tally = plus mine.old.tally
+              (tally_of_event (repriced worker leaf value));
+        } }
     {
         self.repriced.add(&mut mine.repriced, 1);
         self.workers.add(&mut mine.workers, u64::from(worker));
@@ -201,7 +213,11 @@ impl<J: Naming> Totals<J> {
     fn count_split(&mut self, mine: &mut Tokens<J>, worker: u16, leaf: u32, used: u32, unused: u32)
         requires { 0 < mine.old.parts }
         ensures totals { self.new ≡ plus self.old (split_tally worker leaf used unused) }
-        ensures mine { mine.new ≡ record { parts = mine.old.parts; tally = plus mine.old.tally (split_tally worker leaf used unused) } }
+        ensures mine { mine.new ≡ record {
+          parts = mine.old.parts;
+          tally = plus mine.old.tally
+              (split_tally worker leaf used unused);
+        } }
     {
         self.split.add(&mut mine.split, 1);
         self.workers.add(&mut mine.workers, u64::from(worker));

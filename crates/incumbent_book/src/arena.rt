@@ -97,7 +97,8 @@ impl<'i> Arena<'i> {
     pub(crate) fn list(&self, alloc: Global) -> Result<Vec<TreeNode>, AllocError>
         requires forward { IsForward self.now }
         requires root { 0 < length self.now }
-        ensures { IfOk result (λ v. (tree : Tree) → GrowsIn self.now 0 tree → map node_of v.items ≡ preorder tree) }
+        ensures { IfOk result (λ v. (tree : Tree) → GrowsIn self.now 0 tree
+            → map node_of v.items ≡ preorder tree) }
     {
         let mut out = Vec::new(alloc);
         add_tree(alloc, self.nodes.as_slice(), 0, &mut out)?;
@@ -123,7 +124,9 @@ impl<'i> Arena<'i> {
     /// Gives a leaf new prices of another value, or gives them back where memory was refused.
     pub(crate) fn reprice(&mut self, number: u32, priced: Priced<'i>) -> Result<(), Priced<'i>>
         requires { WithLeaf self.old number (λ leaf. leaf.priced.value ≢ priced.value) }
-        ensures ok { OnOk result (WithLeaf self.old number (λ leaf. self.new ≡ slice_set self.old number (Open (new_leaf leaf.depth priced.entry)))) }
+        ensures ok { OnOk result (WithLeaf self.old number
+            (λ leaf. self.new ≡ slice_set self.old number
+            (Open (new_leaf leaf.depth priced.entry)))) }
         ensures err { IfErr result (λ f. (f ≡ priced.entry) × (self.new ≡ self.old)) }
     {
         let Some(leaf) = leaf_in(self.nodes.as_slice(), number) else {
@@ -152,10 +155,12 @@ impl<'i> Arena<'i> {
     ) -> Result<(u32, u32), (Priced<'i>, Priced<'i>)>
         requires leaf { WithLeaf self.old number (λ leaf. leaf.depth < 2 ^ 31) }
         requires few { length self.old < 2 ^ 31 }
-        ensures numbers { IfOk result (λ made. (made.0 ≡ length self.old) × (made.1 ≡ length self.old + 1)) }
+        ensures numbers { IfOk result (λ made. (made.0 ≡ length self.old) ×
+            (made.1 ≡ length self.old + 1)) }
         ensures ok { OnOk result (WithLeaf self.old number (λ leaf. self.new
             ≡ slice_set self.old number (Split arc (length self.old) (length self.old + 1)) ++ Open (new_leaf (leaf.depth + 1) used.entry) ∷ Open (new_leaf (leaf.depth + 1) unused.entry) ∷ [])) }
-        ensures err { IfErr result (λ back. (back.0 ≡ used.entry) × (back.1 ≡ unused.entry) × (self.new ≡ self.old)) }
+        ensures err { IfErr result (λ back. (back.0 ≡ used.entry) × (back.1 ≡ unused.entry) ×
+            (self.new ≡ self.old)) }
     {
         let Some(leaf) = leaf_in(self.nodes.as_slice(), number) else {
             unreachable!()

@@ -158,7 +158,8 @@ impl<'i> Book<'i> {
         used: Priced<'i>,
         unused: Priced<'i>,
     ) -> Result<(u32, u32), (Priced<'i>, Priced<'i>, BookFault)>
-        ensures splits { Splits self.old worker leaf (pair arc) used.entry unused.entry result self.new }
+        ensures splits { Splits self.old worker leaf
+            (pair arc) used.entry unused.entry result self.new }
         ensures book { IsBook self.new }
     {
         let reply = match self.split_fault(leaf, arc, &used, &unused) {
@@ -186,7 +187,8 @@ impl<'i> Book<'i> {
     pub fn gap(&self) -> Gap
         ensures gap { IsGap self.now result }
         ensures within { result.bound ≤ MOST_TENTHS }
-        ensures holds { (routes : List (List ℕ)) → IsPlan self.now.problem routes → result.bound ≤ plan_cost self.now.problem routes }
+        ensures holds { (routes : List (List ℕ)) → IsPlan self.now.problem routes
+            → result.bound ≤ plan_cost self.now.problem routes }
         ensures book { IsBook self.now }
     {
         self.gap_counted(&mut Steps::new())
@@ -196,7 +198,8 @@ impl<'i> Book<'i> {
     pub fn gap_counted(&self, steps: &mut Steps) -> Gap
         ensures gap { IsGap self.now result }
         ensures within { result.bound ≤ MOST_TENTHS }
-        ensures holds { (routes : List (List ℕ)) → IsPlan self.now.problem routes → result.bound ≤ plan_cost self.now.problem routes }
+        ensures holds { (routes : List (List ℕ)) → IsPlan self.now.problem routes
+            → result.bound ≤ plan_cost self.now.problem routes }
         ensures at_most_one { (steps.old ≤ steps.new) × (steps.new ≤ steps.old + 1) }
         ensures book { IsBook self.now }
     {
@@ -253,7 +256,8 @@ impl<'i> Book<'i> {
 
     /// The nodes of the tree, in preorder.
     pub(crate) fn nodes(&self, alloc: Global) -> Result<Vec<TreeNode>, AllocError>
-        ensures { IfOk result (λ v. (tree : Tree) × IsTreeOf self.now tree × (map node_of v.items ≡ preorder tree)) }
+        ensures { IfOk result (λ v. (tree : Tree) × IsTreeOf self.now tree ×
+            (map node_of v.items ≡ preorder tree)) }
     {
         self.arena.list(alloc)
     }

@@ -84,7 +84,8 @@ impl<'i> Book<'i> {
         used: &Priced<'i>,
         unused: &Priced<'i>,
     ) -> bool
-        ensures { Decides result (AreChildren self.now leaf.now.priced.region (pair arc) used.now unused.now) }
+        ensures { Decides result (AreChildren self.now leaf.now.priced.region
+            (pair arc) used.now unused.now) }
     {
         let region = leaf.priced.region();
         if !region.is_undecided(arc) {

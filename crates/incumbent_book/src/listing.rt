@@ -12,7 +12,8 @@ use std::alloc::{AllocError, Global};
 
 /// Adds a leaf with these prices.
 fn add_leaf(alloc: Global, out: &mut Vec<TreeNode>, prices: &[i64]) -> Result<(), AllocError>
-    ensures { OnOk result (map node_of out.new.items ≡ map node_of out.old.items ++ leaf_node prices.now ∷ []) }
+    ensures { OnOk result (map node_of out.new.items ≡ map node_of out.old.items ++ leaf_node
+        prices.now ∷ []) }
 {
     let prices = prices.to_vec(alloc)?;
     out.push(TreeNode::Leaf(prices))?;
@@ -21,7 +22,8 @@ fn add_leaf(alloc: Global, out: &mut Vec<TreeNode>, prices: &[i64]) -> Result<()
 
 /// Adds a split by an arc.
 fn add_split(out: &mut Vec<TreeNode>, arc: Arc) -> Result<(), AllocError>
-    ensures { OnOk result (map node_of out.new.items ≡ map node_of out.old.items ++ split_node (pair arc) ∷ []) }
+    ensures { OnOk result (map node_of out.new.items ≡ map node_of out.old.items ++ split_node
+        (pair arc) ∷ []) }
 {
     out.push(TreeNode::Split(arc))?;
     Ok(())
@@ -36,7 +38,8 @@ pub(crate) fn add_tree(
 ) -> Result<(), AllocError>
     requires forward { IsForward nodes.now }
     requires number { number < length nodes.now }
-    ensures { OnOk result ((tree : Tree) → GrowsIn nodes.now number tree → map node_of out.new.items ≡ map node_of out.old.items ++ preorder tree) }
+    ensures { OnOk result ((tree : Tree) → GrowsIn nodes.now number tree
+        → map node_of out.new.items ≡ map node_of out.old.items ++ preorder tree) }
 {
     match &nodes[number as usize] {
         Node::Open(leaf) => {

@@ -54,7 +54,8 @@ impl<'i> Outcome<'i> {
     pub fn bound(&self) -> Tenths
         ensures bound { IsBound self.now.problem self.now.root self.now.past result }
         ensures within { result ≤ MOST_TENTHS }
-        ensures holds { (routes : List (List ℕ)) → IsPlan self.now.problem routes → result ≤ plan_cost self.now.problem routes }
+        ensures holds { (routes : List (List ℕ)) → IsPlan self.now.problem routes
+            → result ≤ plan_cost self.now.problem routes }
         ensures book { IsBook self.now }
     {
         self.book.gap().bound
@@ -77,7 +78,8 @@ impl<'i> Outcome<'i> {
     /// The nodes of the tree in preorder, the child in which an arc is required first. Its bound is
     /// `bound`. `AllocError` where memory is refused.
     pub fn nodes(&self, alloc: Global) -> Result<Vec<TreeNode>, AllocError>
-        ensures { IfOk result (λ v. (tree : Tree) × IsTreeOf self.now tree × (map node_of v.items ≡ preorder tree)) }
+        ensures { IfOk result (λ v. (tree : Tree) × IsTreeOf self.now tree ×
+            (map node_of v.items ≡ preorder tree)) }
     {
         self.book.nodes(alloc)
     }

@@ -95,7 +95,8 @@ impl<'i> Book<'i> {
 
     /// The best cost offered, if it is at most this one.
     fn best_within(&self, cost: Tenths) -> Option<Tenths>
-        ensures { MatchOption result (IsCheaper self.now.past cost) (λ best. IsBestCost self.now.past (Some best) × (best ≤ cost)) }
+        ensures { MatchOption result (IsCheaper self.now.past cost)
+            (λ best. IsBestCost self.now.past (Some best) × (best ≤ cost)) }
     {
         match self.best() {
             None => None,

@@ -36,8 +36,10 @@ fn fill<'i>(
     requires fits { IsFitting seeded.instance.now seeded.visits.items }
     requires known { All (λ i. IsCustomer seeded.instance.now i) unrouted.old.items }
     ensures fitting { IfOk result (λ v. IsFitting seeded.entry.instance.now v.items) }
-    ensures moved { IfOk result (λ v. IsPermutation (seeded.entry.visits.items ++ unrouted.old.items) (v.items ++ unrouted.new.items)) }
-    ensures rising { OnOk result (IsStrictlyIncreasing unrouted.old.items → IsStrictlyIncreasing unrouted.new.items) }
+    ensures moved { IfOk result (λ v. IsPermutation
+        (seeded.entry.visits.items ++ unrouted.old.items) (v.items ++ unrouted.new.items)) }
+    ensures rising { OnOk result (IsStrictlyIncreasing unrouted.old.items
+        → IsStrictlyIncreasing unrouted.new.items) }
 {
     let mut route = seeded;
     while let Some(proposal) = best_proposal(weights, &route, unrouted) {
@@ -82,7 +84,8 @@ fn all_routes(
     unrouted: &mut Vec<u16>,
 ) -> Result<Vec<Vec<u16>>, AllocError>
     requires { All (λ i. IsCustomer instance.now i) unrouted.old.items }
-    ensures { IfOk result (λ v. IsRouted instance.now unrouted.old.items (lists v.items) unrouted.new.items) }
+    ensures { IfOk result (λ v. IsRouted instance.now unrouted.old.items
+        (lists v.items) unrouted.new.items) }
 {
     let mut routes = Vec::new(alloc);
     for _ in 0..instance.fleet() {
@@ -134,7 +137,8 @@ pub fn build_whole<'i>(
     instance: &'i Instance,
     weights: &Weights,
 ) -> Result<Option<Feasible<'i>>, AllocError>
-    ensures { IfOk result (λ plan. MatchOption plan (¬ IsServedAlone instance.now) (λ f. f.problem ≡ instance.now)) }
+    ensures { IfOk result (λ plan. MatchOption plan (¬ IsServedAlone instance.now)
+        (λ f. f.problem ≡ instance.now)) }
 {
     match build(alloc, instance, weights) {
         Ok(Built::Whole(plan)) => Ok(Some(plan)),

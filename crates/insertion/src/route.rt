@@ -28,9 +28,11 @@ impl<'i> OpenRoute<'i> {
         instance: &'i Instance,
         visits: Vec<u16>,
     ) -> Result<Option<OpenRoute<'i>>, AllocError>
-        ensures instance { IfOk result (λ route. IfSome route (λ r. r.instance.now ≡ instance.now)) }
+        ensures instance { IfOk result
+            (λ route. IfSome route (λ r. r.instance.now ≡ instance.now)) }
         ensures visits { IfOk result (λ route. IfSome route (λ r. r.visits.items ≡ visits.items)) }
-        ensures fits { IfOk result (λ route. IfSome route (λ r. IsFitting instance.now visits.items)) }
+        ensures fits { IfOk result (λ route. IfSome route
+            (λ r. IsFitting instance.now visits.items)) }
         ensures none { IfOk result (λ route. IfNone route (¬ IsFitting instance.now visits.items)) }
     {
         let Some(walk) = walk(instance, &visits) else {
@@ -54,9 +56,12 @@ impl<'i> OpenRoute<'i> {
         customer: u16,
     ) -> Result<Option<OpenRoute<'i>>, AllocError>
         requires { position ≤ length self.now.visits.items }
-        ensures instance { IfOk result (λ route. IfSome route (λ r. r.instance.now ≡ self.now.instance.now)) }
-        ensures visits { IfOk result (λ route. IfSome route (λ r. r.visits.items ≡ insert self.now.visits.items position customer)) }
-        ensures fits { IfOk result (λ route. IfSome route (λ r. IsFitting self.now.instance.now r.visits.items)) }
+        ensures instance { IfOk result
+            (λ route. IfSome route (λ r. r.instance.now ≡ self.now.instance.now)) }
+        ensures visits { IfOk result (λ route. IfSome route
+            (λ r. r.visits.items ≡ insert self.now.visits.items position customer)) }
+        ensures fits { IfOk result (λ route. IfSome route
+            (λ r. IsFitting self.now.instance.now r.visits.items)) }
     {
         let mut visits = self.visits.clone()?;
         visits.insert(position, customer)?;

@@ -47,7 +47,8 @@ impl Weights {
     /// These weights in hundredths, or `None` where `mu` or `lambda` is above 1,000 or `a1` above
     /// 100.
     pub fn new(mu: u16, lambda: u16, a1: u16) -> Option<Weights>
-        ensures { let weighing : Weighing = record { mu = mu; lambda = lambda; a1 = a1 } in SomeIff result (IsWeighing weighing) weighing }
+        ensures { let weighing : Weighing = record { mu = mu; lambda = lambda; a1 = a1 } in SomeIff
+            result (IsWeighing weighing) weighing }
     {
         if mu > MOST_WEIGHT || lambda > MOST_WEIGHT || a1 > ONE {
             return None;

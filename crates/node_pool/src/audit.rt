@@ -20,10 +20,13 @@ impl Hand {
     fn take_all_back(&mut self, passes: &mut [Pass])
         requires fits { All (FitsAt (deque_of self.old)) passes.old }
         requires whole { length passes.old ≡ self.old.others }
-        ensures knows { known_to self.new ≡ known true all_parts (known_to self.old).pushed ((known_to self.old).taken ++ all_taken (map (taken_by (deque_of self.old)) passes.old)) }
+        ensures knows { known_to self.new ≡ known true all_parts (known_to self.old).pushed
+            ((known_to self.old).taken ++ all_taken
+            (map (taken_by (deque_of self.old)) passes.old)) }
         ensures alone { self.new.others ≡ 0 }
         ensures pushes { self.new.pushes ≡ self.old.pushes }
-        ensures others { (k : ℕ) (p : Pass) → k < length passes.old → KeepsOthers self.old.number (slice_index_or passes.old k p) (slice_index_or passes.new k p) }
+        ensures others { (k : ℕ) (p : Pass) → k < length passes.old → KeepsOthers self.old.number
+            (slice_index_or passes.old k p) (slice_index_or passes.new k p) }
     {
         for pass in passes.iter_mut() {
             self.take_back(&mut pass.passes[self.number]);
@@ -58,11 +61,15 @@ impl Hand {
         passes: &mut [Pass],
     ) -> Result<Vec<u32>, (Hand, PoolFault)>
         requires { All (FitsAt (deque_of self)) passes.old }
-        ensures balance { IfOk result (λ stands. IsBalanced (known_to self).pushed ((known_to self).taken ∷ map (taken_by (deque_of self)) passes.old) stands.items) }
+        ensures balance { IfOk result (λ stands. IsBalanced (known_to self).pushed
+            ((known_to self).taken ∷ map (taken_by (deque_of self)) passes.old) stands.items) }
         ensures whole { IfOk result (λ _. length passes.old ≡ self.others) }
-        ensures others { IfOk result (λ _. (k : ℕ) (p : Pass) → k < length passes.old → KeepsOthers self.number (slice_index_or passes.old k p) (slice_index_or passes.new k p)) }
+        ensures others { IfOk result (λ _. (k : ℕ) (p : Pass) → k < length passes.old
+            → KeepsOthers self.number (slice_index_or passes.old k p)
+            (slice_index_or passes.new k p)) }
         ensures back { IfErr result (λ e. (e.0 ≡ self) × (passes.new ≡ passes.old)) }
-        ensures fault { IfErr result (λ e. ((e.1 ≡ MissingPass) × (length passes.old ≢ self.others)) ⊎ (e.1 ≡ Memory)) }
+        ensures fault { IfErr result (λ e.
+            ((e.1 ≡ MissingPass) × (length passes.old ≢ self.others)) ⊎ (e.1 ≡ Memory)) }
     {
         if passes.len() != self.others {
             return Err((self, PoolFault::MissingPass));

@@ -59,9 +59,11 @@ impl Hand {
         requires { self.old.others < 2 ^ 64 - 1 }
         ensures of { IsShareOf (deque_of self.new) result }
         ensures fresh { view result ≡ known false 1 [] [] }
-        ensures knows { known_to self.new ≡ known true ((known_to self.old).parts - 1) (known_to self.old).pushed (known_to self.old).taken }
+        ensures knows { known_to self.new ≡ known true ((known_to self.old).parts - 1)
+            (known_to self.old).pushed (known_to self.old).taken }
         ensures others { self.new.others ≡ self.old.others + 1 }
-        ensures same { (deque_of self.new ≡ deque_of self.old) × (self.new.pushes ≡ self.old.pushes) × (self.new.room ≡ self.old.room) }
+        ensures same { (deque_of self.new ≡ deque_of self.old) ×
+            (self.new.pushes ≡ self.old.pushes) × (self.new.room ≡ self.old.room) }
     {
         self.others += 1;
         self.owner.another::<Dealt>()
@@ -71,9 +73,11 @@ impl Hand {
     pub(crate) fn take_back(&mut self, pass: &mut crossbeam_deque::Pass<u32, Known>)
         requires some { 0 < self.old.others }
         requires of { IsShareOf (deque_of self.old) pass.old }
-        ensures knows { known_to self.new ≡ known true ((known_to self.old).parts + 1) (known_to self.old).pushed ((known_to self.old).taken ++ (view pass.old).taken) }
+        ensures knows { known_to self.new ≡ known true ((known_to self.old).parts + 1)
+            (known_to self.old).pushed ((known_to self.old).taken ++ (view pass.old).taken) }
         ensures others { self.new.others + 1 ≡ self.old.others }
-        ensures same { (deque_of self.new ≡ deque_of self.old) × (self.new.pushes ≡ self.old.pushes) × (self.new.room ≡ self.old.room) }
+        ensures same { (deque_of self.new ≡ deque_of self.old) ×
+            (self.new.pushes ≡ self.old.pushes) × (self.new.room ≡ self.old.room) }
     {
         let spent = self.owner.another::<Spent>();
         let pass = replace(pass, spent);
@@ -84,10 +88,13 @@ impl Hand {
     /// How many numbers stand.
     pub(crate) fn standing(&mut self) -> usize
         requires { self.old.others ≡ 0 }
-        ensures count { (items : List ℕ) × (length items ≡ result) × Stand (known_to self.old) items }
+        ensures count { (items : List ℕ) × (length items ≡ result) × Stand
+            (known_to self.old) items }
         ensures few { result ≤ self.old.pushes }
         ensures knows { known_to self.new ≡ known_to self.old }
-        ensures same { (deque_of self.new ≡ deque_of self.old) × (self.new.others ≡ self.old.others) × (self.new.pushes ≡ self.old.pushes) × (self.new.room ≡ self.old.room) }
+        ensures same { (deque_of self.new ≡ deque_of self.old) ×
+            (self.new.others ≡ self.old.others) × (self.new.pushes ≡ self.old.pushes) ×
+            (self.new.room ≡ self.old.room) }
     {
         self.owner.len_as::<Standing>()
     }
@@ -101,7 +108,8 @@ impl Hand {
         ensures full { MatchResult result
             (λ _. (self.new.pushes ≡ self.old.pushes + 1) × (self.old.pushes < self.old.room))
             (λ _. (self.new.pushes ≡ self.old.pushes) × (self.old.pushes ≡ self.old.room)) }
-        ensures same { (deque_of self.new ≡ deque_of self.old) × (self.new.others ≡ self.old.others) × (self.new.room ≡ self.old.room) }
+        ensures same { (deque_of self.new ≡ deque_of self.old) ×
+            (self.new.others ≡ self.old.others) × (self.new.room ≡ self.old.room) }
     {
         if self.pushes == self.room {
             return Err((number, PoolFault::Full));
@@ -119,7 +127,9 @@ impl Hand {
         ensures rule { MatchOption result
             ((known_to self.new ≡ known_to self.old) × WasEmpty (known_to self.old))
             (λ x. (known_to self.new ≡ known true (known_to self.old).parts (known_to self.old).pushed ((known_to self.old).taken ++ x ∷ [])) × StoodFirst (known_to self.old) (x ∷ [])) }
-        ensures same { (deque_of self.new ≡ deque_of self.old) × (self.new.others ≡ self.old.others) × (self.new.pushes ≡ self.old.pushes) × (self.new.room ≡ self.old.room) }
+        ensures same { (deque_of self.new ≡ deque_of self.old) ×
+            (self.new.others ≡ self.old.others) × (self.new.pushes ≡ self.old.pushes) ×
+            (self.new.room ≡ self.old.room) }
     {
         self.owner.pop_as::<Taken>()
     }

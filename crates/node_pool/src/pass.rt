@@ -21,7 +21,8 @@ impl Pass {
         requires numbers { AreNumbered (deques_of hands.old) }
         requires few { All (λ h. h.others < 2 ^ 64 - 1) hands.old }
         ensures deques { IfOk result (λ _. deques_of hands.new ≡ deques_of hands.old) }
-        ensures empty { (n capacity : ℕ) → All (IsEmptyHand n capacity) hands.old → IfOk result (λ _. All (IsEmptyHand (n + 1) capacity) hands.new) }
+        ensures empty { (n capacity : ℕ) → All (IsEmptyHand n capacity) hands.old → IfOk result
+            (λ _. All (IsEmptyHand (n + 1) capacity) hands.new) }
         ensures fresh { IfOk result (λ p. All (λ d. IsFresh d p) (deques_of hands.old)) }
     {
         let mut passes = Vec::with_capacity(alloc, hands.len())?;

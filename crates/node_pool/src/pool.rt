@@ -42,8 +42,10 @@ fn passes(alloc: Global, hands: &mut [Hand], workers: usize) -> Result<Vec<Pass>
     requires empty { (capacity : ℕ) × All (IsEmptyHand 0 capacity) hands.old }
     ensures len { IfOk result (λ v. vec_len v ≡ workers) }
     ensures deques { IfOk result (λ _. deques_of hands.new ≡ deques_of hands.old) }
-    ensures empty { (capacity : ℕ) → All (IsEmptyHand 0 capacity) hands.old → IfOk result (λ _. All (IsEmptyHand workers capacity) hands.new) }
-    ensures fresh { IfOk result (λ v. All (λ p. All (λ d. IsFresh d p) (deques_of hands.old)) v.items) }
+    ensures empty { (capacity : ℕ) → All (IsEmptyHand 0 capacity) hands.old → IfOk result
+        (λ _. All (IsEmptyHand workers capacity) hands.new) }
+    ensures fresh { IfOk result (λ v. All
+        (λ p. All (λ d. IsFresh d p) (deques_of hands.old)) v.items) }
 {
     let mut passes = Vec::with_capacity(alloc, workers)?;
     for _ in 0..workers {
@@ -65,7 +67,8 @@ impl Pool {
         ensures numbers { IfOk result (λ r. AreNumbered (deques_of r.0.items)) }
         ensures thieves { IfOk result (λ r. deques_at r.1.items ≡ deques_of r.0.items) }
         ensures passes { IfOk result (λ r. vec_len r.2 ≡ workers) }
-        ensures fresh { IfOk result (λ r. All (λ p. All (λ d. IsFresh d p) (deques_of r.0.items)) r.2.items) }
+        ensures fresh { IfOk result (λ r. All
+            (λ p. All (λ d. IsFresh d p) (deques_of r.0.items)) r.2.items) }
         ensures memory { IfErr result (λ e. e ≡ Memory) }
     {
         let mut hands = hands(alloc, workers, capacity)?;

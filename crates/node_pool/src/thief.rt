@@ -51,7 +51,8 @@ impl Thief {
         requires { FitsAt (deque_at self.now) pass.old }
         ensures same { (d : Deque) → FitsAt d pass.old → FitsAt d pass.new }
         ensures others { KeepsOthers self.now.number pass.old pass.new }
-        ensures rule { IsStolen (known_by (deque_at self.now) pass.old) (known_by (deque_at self.now) pass.new) result }
+        ensures rule { IsStolen (known_by (deque_at self.now) pass.old)
+            (known_by (deque_at self.now) pass.new) result }
     {
         self.steal_by(&mut pass.passes[self.number])
     }

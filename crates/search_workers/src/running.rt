@@ -104,7 +104,8 @@ fn post_workers<'a, 'i, R: Wait, J: Naming, G>(
     requires few { vec_len kit.shares ≤ 2 ^ 16 }
     requires seats { vec_len kit.seats ≡ vec_len kit.shares }
     requires own { All (IsSeatOf site.now.ceiling.now) kit.seats.items }
-    requires fits { All (λ p. All (λ t. FitsAt (deque_at t) p) site.now.deques.now) kit.passes.items }
+    requires fits { All (λ p. All (λ t. FitsAt (deque_at t) p) site.now.deques.now)
+        kit.passes.items }
     ensures { IfOk result (λ crew. vec_len crew ≡ vec_len kit.shares) }
 {
     let given = site.given;
@@ -197,7 +198,8 @@ fn run_at_desk<'i, R: Threads + Wait + Sync, J: Naming + Send + Sync, G: Gate + 
     requires problem { opening.book.problem ≡ J.problem }
     requires neighbours { opening.book.neighbours ≡ J.neighbours }
     requires served { HasPlanIf J.has_plan opening.book.past }
-    requires workers { J.workers ≡ given.now.settings.now.searchers + given.now.settings.now.bounders }
+    requires workers { J.workers ≡ given.now.settings.now.searchers +
+        given.now.settings.now.bounders }
     requires names { names_of blanks ≡ J.names }
     requires parts { parts_of blanks ≡ each J.workers }
     ensures problem { IfOk result (λ o. o.problem ≡ J.problem) }
