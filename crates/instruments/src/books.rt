@@ -1,7 +1,7 @@
 //! A book that is filled level by level, each split by the next arc of the row of customers, and the text
 //! of the certificate of its tree.
 
-use crate::starts::{Asked, Host, made, wrong};
+use crate::starts::{Asked, Host, made};
 use branching::{Arc, TreeNode};
 use certificate::{Cert, CertNode, CertParts, Version, read, write};
 use incumbent_book::{Book, Limits, Outcome};
@@ -43,25 +43,6 @@ fn of_call(nanoseconds: u128, calls: u32) -> u128 {
     nanoseconds / u128::from(calls.max(1)) / 100
 }
 
-/// The prices of a leaf of a book at both of its children by an arc.
-fn children_of<'i>(
-    alloc: Global,
-    book: &Book<'i>,
-    number: u32,
-    arc: Arc,
-) -> Option<(Priced<'i>, Priced<'i>)> {
-    let leaf = book.leaf(number)?;
-    let (instance, region) = (leaf.instance(), leaf.region());
-    children_at(
-        alloc,
-        instance,
-        region,
-        leaf.neighbours(),
-        arc,
-        leaf.prices(),
-    )
-}
-
 /// Makes these splits, and answers the tenths of a microsecond of one. Node m is the one that split m splits,
 /// so that the levels are filled one after the other, each by an arc of its own.
 fn grow<R: Host>(rt: &R, book: &mut Book<'_>, first: u32, end: u32) -> io::Result<u128> {
@@ -71,7 +52,10 @@ fn grow<R: Host>(rt: &R, book: &mut Book<'_>, first: u32, end: u32) -> io::Resul
         let from = u16::try_from(level).unwrap_or(0).saturating_add(1);
         let to = from.saturating_add(1);
         let arc = Arc { from, to };
-        let (used, unused) = made(children_of(rt.alloc(), book, number, arc))?;
+        let leaf = made(book.leaf(number))?;
+        let (instance, region, neighbours) = (leaf.instance(), leaf.region(), leaf.neighbours());
+        let children = children_at(rt.alloc(), instance, region, neighbours, arc, leaf.prices());
+        let (used, unused) = made(children)?;
         let begin = Instant::now(rt)?;
         made(book.split(0, number, arc, used, unused).ok())?;
         sum = sum.saturating_add(begin.elapsed(rt)?.as_nanos());
@@ -99,17 +83,6 @@ fn raise<R: Host>(rt: &R, book: &mut Book<'_>, splits: u32) -> io::Result<u128> 
     Ok(of_call(sum, raised))
 }
 
-/// Asks for the gap some times, and answers the tenths of a microsecond of one call.
-fn look<R: Host>(rt: &R, book: &Book<'_>) -> io::Result<u128> {
-    let mut sum: u128 = 0;
-    for _ in 0..CALLS {
-        let begin = Instant::now(rt)?;
-        let _gap = book.gap();
-        sum = sum.saturating_add(begin.elapsed(rt)?.as_nanos());
-    }
-    Ok(of_call(sum, CALLS))
-}
-
 /// Fills a book up to so many leaves from fewer, and prints what it holds; of the splits the last are timed.
 fn tell_step<R: Host>(
     rt: &R,
@@ -124,9 +97,13 @@ fn tell_step<R: Host>(
     let split = grow(rt, book, middle, end)?;
     print!(rt; "{leaves}")?;
     let reprice = raise(rt, book, end)?;
-    let gap = look(rt, book)?;
+    let begin = Instant::now(rt)?;
+    let mut bound = 0;
+    for _ in 0..CALLS {
+        bound = book.gap().bound.get();
+    }
+    let gap = of_call(begin.elapsed(rt)?.as_nanos(), CALLS);
     if times {
-        let bound = book.gap().bound.get();
         print!(rt; ", bound {bound}; tenths of a microsecond: split {split}")?;
         print!(rt; " reprice {reprice} gap {gap}")?;
     }

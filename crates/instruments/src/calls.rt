@@ -3,19 +3,19 @@
 //! second is made with what a refusal of the first gave back.
 
 use crate::given::tell_given;
-use crate::starts::{Host, made, wrong};
+use crate::starts::{Host, WRONG, made};
 use crate::turns::searcher_of;
 use branching::Region;
-use certificate::Cert;
 use checker::check;
 use insertion::{Built, Weights, build};
 use labelling::least;
 use moves::{Move, Place, apply};
 use prices::{Priced, improve};
-use row_texts::{DEPOT, instance_text, plan_at, three_apart, two_in_line};
+use row_texts::{DEPOT, IN_LINE, instance_text, plan_at};
 use schedule::Feasible;
-use solomon_reader::Instance;
+use solomon_reader::{Instance, read};
 use std::alloc::Global;
+use std::fmt::{Debug, Display};
 use std::io;
 use std::sync::Wait;
 use std::thread::Threads;
@@ -29,17 +29,21 @@ const CROSSED: &str =
 /// Two customers far from the depot and near to each other.
 const NEAR: &str = "1 30 40 1 0 1000 0\n2 33 44 1 0 1000 0\n";
 
-/// Two customers in a line, which one vehicle can serve.
-const IN_LINE: &str = "1 3 4 1 0 1000 0\n2 6 8 1 0 1000 0\n";
+/// A depot with a demand, and three customers close to each other.
+const NEAR_DEPOT: &str = "0 0 1 0 0 1000 0\n";
 
-/// The instance that a call of this name needs.
-fn instance_of(alloc: Global, name: &str) -> Option<Instance> {
-    let text = match name {
-        "build" | "apply" | "descend" => instance_text(alloc, 2, 4, DEPOT, CROSSED).ok()?,
-        "least" | "improve" => instance_text(alloc, 1, 3, DEPOT, NEAR).ok()?,
-        _ => instance_text(alloc, 2, 2, DEPOT, IN_LINE).ok()?,
+const APART: &str = "1 100 1 1 0 1000 0\n2 100 2 1 0 1000 0\n3 100 0 1 0 1000 0\n";
+
+/// The text of the instance that a call of this name needs.
+fn text_of(alloc: Global, name: &str) -> Option<String> {
+    let (fleet, capacity, depot, customers) = match name {
+        "build" | "apply" | "descend" => (2, 4, DEPOT, CROSSED),
+        "least" | "improve" => (1, 3, DEPOT, NEAR),
+        "check" | "solve_three" => (2, 2, NEAR_DEPOT, APART),
+        "solve_two" => (2, 1, DEPOT, IN_LINE),
+        _ => (2, 2, DEPOT, IN_LINE),
     };
-    solomon_reader::read(alloc, text.as_bytes()).ok()
+    instance_text(alloc, fleet, capacity, depot, customers).ok()
 }
 
 /// Routes of them that cross.
@@ -81,28 +85,24 @@ fn tell_built<R: Host>(rt: &R, instance: &Instance) -> io::Result<()> {
     Ok(())
 }
 
-/// Makes the move and prints what came of it: the plan, if it was refused.
-fn apply_once<'i, R: Host>(rt: &R, plan: Feasible<'i>) -> io::Result<Option<Feasible<'i>>> {
-    match apply(rt.alloc(), plan, &CANDIDATE) {
-        Ok(after) => {
-            tell_plan(rt, "Ok", &after)?;
-            Ok(None)
-        }
-        Err((same, fault)) => {
-            print!(rt; "{fault} ")?;
-            tell_plan(rt, "back", &same)?;
-            Ok(Some(same))
-        }
-    }
-}
-
-/// Makes the move twice: once more in the plan that came back, or else in another.
+/// Makes the move twice, once more in the plan that came back, or else in another, and prints what came of it.
 fn tell_applied<R: Host>(rt: &R, instance: &Instance) -> io::Result<()> {
-    let plan = made(plan_at(rt.alloc(), instance, &ROUTES))?;
-    let other = made(plan_at(rt.alloc(), instance, &ROUTES))?;
+    let mut plan = made(plan_at(rt.alloc(), instance, &ROUTES))?;
+    let mut other = Some(made(plan_at(rt.alloc(), instance, &ROUTES))?);
     println!(rt; "ready")?;
-    let back = apply_once(rt, plan)?;
-    apply_once(rt, back.unwrap_or(other))?;
+    for _ in 0..CALLS {
+        plan = match apply(rt.alloc(), plan, &CANDIDATE) {
+            Ok(after) => {
+                tell_plan(rt, "Ok", &after)?;
+                other.take().unwrap_or(after)
+            }
+            Err((same, fault)) => {
+                print!(rt; "{fault} ")?;
+                tell_plan(rt, "back", &same)?;
+                same
+            }
+        };
+    }
     Ok(())
 }
 
@@ -132,7 +132,7 @@ const STEPS: [i64; 3] = [64_000, 32_000, 16_000];
 /// Finds a relaxed route of least reduced cost twice, and prints what came of it.
 fn tell_least<R: Host>(rt: &R, instance: &Instance) -> io::Result<()> {
     if instance.customer_count() != 2 {
-        return Err(wrong());
+        return Err(io::Error::from(WRONG));
     }
     let region = Region::root(rt.alloc(), 2);
     println!(rt; "ready")?;
@@ -148,20 +148,17 @@ fn tell_least<R: Host>(rt: &R, instance: &Instance) -> io::Result<()> {
     Ok(())
 }
 
-/// Improves prices, and prints the best that were found.
-fn improve_once<R: Host>(rt: &R, priced: Priced<'_>) -> io::Result<()> {
-    let best = improve(rt.alloc(), priced, &STEPS, None);
-    let (value, prices) = (best.value(), best.prices());
-    println!(rt; "best {value} {prices:?}")
-}
-
-/// Improves the prices of two roots.
+/// Improves the prices of two roots, and prints the best that were found.
 fn tell_improved<R: Host>(rt: &R, instance: &Instance) -> io::Result<()> {
     let priced = made(Priced::root(rt.alloc(), instance, 1, None).ok())?;
     let other = made(Priced::root(rt.alloc(), instance, 1, None).ok())?;
     println!(rt; "ready")?;
-    improve_once(rt, priced)?;
-    improve_once(rt, other)
+    for priced in [priced, other] {
+        let best = improve(rt.alloc(), priced, &STEPS, None);
+        let (value, prices) = (best.value(), best.prices());
+        println!(rt; "best {value} {prices:?}")?;
+    }
+    Ok(())
 }
 
 /// A tree of three leaves, whose bound is the cost of the solution.
@@ -173,103 +170,78 @@ const SOLUTION: &[u8] = b"Route #1: 2 1\nRoute #2: 3\nCost 401.0\n";
 /// The most pairs of time and cost of a check.
 const STATES: usize = 1_000_000;
 
-/// Reads the certificate twice, and prints what came of it.
-fn tell_read<R: Host>(rt: &R) -> io::Result<()> {
+/// Prints what came of a call that answers a value or a fault.
+fn tell_outcome<R: Host, T: Debug, E: Display>(rt: &R, outcome: &Result<T, E>) -> io::Result<()> {
+    match outcome {
+        Ok(value) => println!(rt; "Ok {value:?}"),
+        Err(fault) => println!(rt; "{fault}"),
+    }
+}
+
+/// Reads the certificate, or checks it with its solution and a text, twice, and prints what came of it.
+fn tell_read<R: Host>(rt: &R, text: Option<&[u8]>) -> io::Result<()> {
+    let (alloc, solution) = (rt.alloc(), Some(SOLUTION));
     println!(rt; "ready")?;
     for _ in 0..CALLS {
-        match certificate::read(rt.alloc(), CERTIFICATE) {
-            Ok(cert) => println!(rt; "Ok {cert:?}")?,
-            Err(fault) => println!(rt; "{fault}")?,
+        match text {
+            Some(text) => tell_outcome(rt, &check(alloc, text, CERTIFICATE, solution, STATES))?,
+            None => tell_outcome(rt, &certificate::read(alloc, CERTIFICATE))?,
         }
     }
     Ok(())
 }
 
-/// Prints the bytes of a sink as a text in quotes, behind a blank.
-fn tell_taken<R: Host>(rt: &R, sink: &MemorySink) -> io::Result<()> {
-    let taken = str::from_utf8(sink.as_slice()).unwrap_or("");
-    print!(rt; " {taken:?}")
-}
-
-/// Writes the certificate, and prints what came of it.
-fn write_once<R: Host>(rt: &R, cert: &Cert) -> io::Result<()> {
-    let mut sink = MemorySink::new(rt.alloc());
-    match certificate::write(cert, &mut sink) {
-        Ok(()) => print!(rt; "Ok")?,
-        Err(fault) => print!(rt; "{fault}")?,
+/// Prints the texts of sinks in quotes, each behind a blank, and ends the line.
+fn tell_taken<R: Host>(rt: &R, sinks: &[&MemorySink]) -> io::Result<()> {
+    for sink in sinks {
+        let taken = str::from_utf8(sink.as_slice()).unwrap_or("");
+        print!(rt; " {taken:?}")?;
     }
-    tell_taken(rt, &sink)?;
     println!(rt; "")
 }
 
+/// Writes the certificate twice, and prints what came of it.
 fn tell_written<R: Host>(rt: &R) -> io::Result<()> {
     let cert = made(certificate::read(rt.alloc(), CERTIFICATE).ok())?;
     println!(rt; "ready")?;
-    write_once(rt, &cert)?;
-    write_once(rt, &cert)
-}
-
-/// Checks the certificate with its solution twice, and prints what came of it.
-fn tell_checks<R: Host>(rt: &R) -> io::Result<()> {
-    let instance = made(three_apart(rt.alloc()).ok())?;
-    let text = instance.as_bytes();
-    println!(rt; "ready")?;
     for _ in 0..CALLS {
-        match check(rt.alloc(), text, CERTIFICATE, Some(SOLUTION), STATES) {
-            Ok(verdict) => println!(rt; "Ok {verdict:?}")?,
-            Err(fault) => println!(rt; "{fault}")?,
+        let mut sink = MemorySink::new(rt.alloc());
+        match certificate::write(&cert, &mut sink) {
+            Ok(()) => print!(rt; "Ok")?,
+            Err(fault) => print!(rt; "{fault}")?,
         }
+        tell_taken(rt, &[&sink])?;
     }
     Ok(())
 }
 
-/// Solves an instance by few turns of one worker of each kind, and prints the answer and both texts.
-fn solve_once<R: Host + Threads + Wait>(rt: &R, text: &[u8]) -> io::Result<()> {
-    let alloc = rt.alloc();
-    let mut solution = MemorySink::new(alloc);
-    let mut certificate = MemorySink::new(alloc);
-    let settings = Settings {
-        searchers: 1,
-        bounders: 1,
-        turns: 2,
-        ..Settings::default()
-    };
-    let answer = solve(
-        rt,
-        alloc,
-        text,
-        &settings,
-        &NoGate,
-        &mut solution,
-        &mut certificate,
-    );
-    match answer {
-        Ok(answer) => print!(rt; "Ok {answer:?}")?,
-        Err(fault) => print!(rt; "{fault}")?,
-    }
-    tell_taken(rt, &solution)?;
-    tell_taken(rt, &certificate)?;
-    println!(rt; "")
-}
-
-/// Solves an instance twice.
-fn tell_solved<R: Host + Threads + Wait>(rt: &R, text: String) -> io::Result<()> {
+/// Solves an instance twice, by few turns of one worker of each kind, and prints the answer and both texts.
+fn tell_solved<R: Host + Threads + Wait>(rt: &R, text: &[u8]) -> io::Result<()> {
+    let (alloc, mut settings) = (rt.alloc(), Settings::default());
+    (settings.searchers, settings.bounders, settings.turns) = (1, 1, 2);
     println!(rt; "ready")?;
-    solve_once(rt, text.as_bytes())?;
-    solve_once(rt, text.as_bytes())
+    for _ in 0..CALLS {
+        let (mut plan, mut tree) = (MemorySink::new(alloc), MemorySink::new(alloc));
+        match solve(rt, alloc, text, &settings, &NoGate, &mut plan, &mut tree) {
+            Ok(answer) => print!(rt; "Ok {answer:?}")?,
+            Err(fault) => print!(rt; "{fault}")?,
+        }
+        tell_taken(rt, &[&plan, &tree])?;
+    }
+    Ok(())
 }
 
 /// Makes the call of a name twice, on an instance where it needs one.
 fn tell<R: Host + Threads + Wait>(rt: &R, name: &str) -> io::Result<()> {
+    let text = made(text_of(rt.alloc(), name))?;
     match name {
-        "read" => return tell_read(rt),
+        "read" => return tell_read(rt, None),
         "write" => return tell_written(rt),
-        "check" => return tell_checks(rt),
-        "solve_two" => return tell_solved(rt, made(two_in_line(rt.alloc()).ok())?),
-        "solve_three" => return tell_solved(rt, made(three_apart(rt.alloc()).ok())?),
+        "check" => return tell_read(rt, Some(text.as_bytes())),
+        "solve_two" | "solve_three" => return tell_solved(rt, text.as_bytes()),
         _ => {}
     }
-    let instance = made(instance_of(rt.alloc(), name))?;
+    let instance = made(read(rt.alloc(), text.as_bytes()).ok())?;
     match name {
         "build" => tell_built(rt, &instance),
         "apply" => tell_applied(rt, &instance),
@@ -277,7 +249,7 @@ fn tell<R: Host + Threads + Wait>(rt: &R, name: &str) -> io::Result<()> {
         "least" => tell_least(rt, &instance),
         "improve" => tell_improved(rt, &instance),
         "offer" | "reprice" | "split" => tell_given(rt, &instance, name),
-        _ => Err(wrong()),
+        _ => Err(io::Error::from(WRONG)),
     }
 }
 

@@ -1,6 +1,6 @@
 //! A certificate or a solution, read and written again.
 
-use crate::starts::{Host, made, wrong};
+use crate::starts::{Host, WRONG, made};
 use std::{fs, io, str};
 use tenths::MemorySink;
 
@@ -13,7 +13,7 @@ pub(crate) fn tell_echo<R: Host>(rt: &R, kind: &str, path: &str) -> io::Result<(
             Ok(sol) => made(sol_writer::write(&sol.routes, sol.cost, &mut again).ok())?,
             Err(fault) => {
                 println!(rt; "{fault}")?;
-                return Err(wrong());
+                return Err(io::Error::from(WRONG));
             }
         }
     } else {
@@ -21,7 +21,7 @@ pub(crate) fn tell_echo<R: Host>(rt: &R, kind: &str, path: &str) -> io::Result<(
             Ok(cert) => made(certificate::write(&cert, &mut again).ok())?,
             Err(fault) => {
                 println!(rt; "{fault}")?;
-                return Err(wrong());
+                return Err(io::Error::from(WRONG));
             }
         }
     }

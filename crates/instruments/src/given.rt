@@ -12,7 +12,7 @@ use std::alloc::Global;
 use std::io;
 
 /// How many events a book has room for at first.
-const FIRST_ROOM: u32 = 16;
+const FIRST_ROOM: usize = 16;
 
 /// The arc from the first customer to the second.
 const ONWARD: Arc = Arc { from: 1, to: 2 };
@@ -45,11 +45,22 @@ fn given_of<'i>(alloc: Global, instance: &'i Instance, name: &str) -> Option<Giv
     })
 }
 
-/// Offers a plan of a route for each customer so many times, and says whether there was memory.
-fn fill<'i>(alloc: Global, instance: &'i Instance, book: &mut Book<'i>, offers: u32) -> Option<()> {
-    for _ in 0..offers {
-        book.offer(0, plan_at(alloc, instance, &[&[1], &[2]])?)
-            .ok()?;
+/// Splits the root of a book, if that is asked for, and offers a plan of a route for each customer until the
+/// book's room is full; says whether there was memory.
+fn fill<'i>(
+    alloc: Global,
+    instance: &'i Instance,
+    book: &mut Book<'i>,
+    is_split: bool,
+) -> Option<()> {
+    if is_split {
+        let root = Region::root(alloc, 2);
+        let (used, unused) = children_at(alloc, instance, &root, 1, ONWARD, &[0; 2])?;
+        book.split(0, 0, ONWARD, used, unused).ok()?;
+    }
+    for _ in book.history().len()..FIRST_ROOM {
+        let plan = plan_at(alloc, instance, &[&[1], &[2]])?;
+        book.offer(0, plan).ok()?;
     }
     Some(())
 }
@@ -147,22 +158,9 @@ fn give_twice<'i, R: Host>(
     tell_book(rt, book)
 }
 
-/// Splits the root of a book.
-fn split_root<'i>(alloc: Global, instance: &'i Instance, book: &mut Book<'i>) -> Option<()> {
-    let root = Region::root(alloc, 2);
-    let (used, unused) = children_at(alloc, instance, &root, 1, ONWARD, &[0; 2])?;
-    book.split(0, 0, ONWARD, used, unused).ok()?;
-    Some(())
-}
-
 /// Makes the call of a name twice on a book whose room is full.
 pub(crate) fn tell_given<R: Host>(rt: &R, instance: &Instance, name: &str) -> io::Result<()> {
     let mut book = made(book_of(rt.alloc(), instance, 1, Limits::MOST))?;
-    if name == "split" {
-        made(fill(rt.alloc(), instance, &mut book, FIRST_ROOM - 1))?;
-        made(split_root(rt.alloc(), instance, &mut book))?;
-    } else {
-        made(fill(rt.alloc(), instance, &mut book, FIRST_ROOM))?;
-    }
+    made(fill(rt.alloc(), instance, &mut book, name == "split"))?;
     give_twice(rt, &mut book, instance, name)
 }

@@ -1,10 +1,10 @@
 //! Measures for the benchmark, and calls and texts for the programs of `outside/`. Words: `labels` with an
 //! instance's file and a certificate's, `ascent` or `closing` with an instance's file and the number of
-//! neighbours, `book` with an instance's file and the number of leaves, `turns` or `descents` with an
-//! instance's file and the number of turns, each with `times` behind where the times are to be printed,
-//! too; `echo` with `certificate` or `solution` and a file; `rows` with `plan` or `program` and the file of
-//! a script; `call` with the names of calls. More such words may follow, but behind `call` all are names.
-//! The status is 1 where the words or the files are not such, or memory was refused.
+//! neighbours, `book` with an instance's file and the number of leaves, `turns` with an instance's file and
+//! the number of turns, each with `times` behind where the times are to be printed, too; `echo` with
+//! `certificate` or `solution` and a file; `rows` with `plan` or `program` and the file of a script; `call`
+//! with the names of calls. More such words may follow, but behind `call` all are names. The status is 1
+//! where the words or the files are not such, or memory was refused.
 #![tactic(auto)]
 
 mod books;
@@ -19,8 +19,8 @@ use crate::books::tell_book;
 use crate::calls::tell_calls;
 use crate::echoes::tell_echo;
 use crate::pricings::{tell_ascents, tell_closing, tell_labels};
-use crate::starts::{Asked, Host, made, wrong};
-use crate::turns::tell_searches;
+use crate::starts::{Asked, Host, WRONG, made};
+use crate::turns::tell_turns;
 use solomon_reader::read;
 use std::sync::Wait;
 use std::thread::Threads;
@@ -32,7 +32,7 @@ fn tell_rows<R: Host + Threads + Wait>(rt: &R, kind: &str, path: &str) -> io::Re
     match kind {
         "plan" => plan_rows::tell_rows(rt, script.as_str()),
         "program" => program_rows::tell_rows(rt, script.as_str()),
-        _ => Err(wrong()),
+        _ => Err(io::Error::from(WRONG)),
     }
 }
 
@@ -55,7 +55,7 @@ fn tell<R: Host + Threads + Wait>(
         return tell_labels(rt, &instance, second, times);
     }
     let Ok(number) = second.parse::<u32>() else {
-        return Err(wrong());
+        return Err(io::Error::from(WRONG));
     };
     let asked = Asked {
         instance: &instance,
@@ -66,8 +66,8 @@ fn tell<R: Host + Threads + Wait>(
         "ascent" => tell_ascents(rt, &asked),
         "book" => tell_book(rt, &asked),
         "closing" => tell_closing(rt, &asked),
-        "descents" | "turns" => tell_searches(rt, mode, &asked),
-        _ => Err(wrong()),
+        "turns" => tell_turns(rt, &asked),
+        _ => Err(io::Error::from(WRONG)),
     }
 }
 
@@ -82,7 +82,7 @@ fn tell_all<R: Host + Threads + Wait>(rt: &R, words: &[String]) -> io::Result<()
             return tell_calls(rt, &rest[1..]);
         }
         let [_, first, second, behind @ ..] = rest else {
-            return Err(wrong());
+            return Err(io::Error::from(WRONG));
         };
         let times = behind.first().is_some_and(|word| word.as_str() == "times");
         tell(rt, mode.as_str(), first.as_str(), second.as_str(), times)?;
@@ -94,7 +94,7 @@ fn tell_all<R: Host + Threads + Wait>(rt: &R, words: &[String]) -> io::Result<()
 fn main(rt: HostRuntime) -> io::Result<()> {
     let words: Vec<String> = env::args(&rt)?.skip(1).collect(rt.alloc())?;
     if words.is_empty() {
-        return Err(wrong());
+        return Err(io::Error::from(WRONG));
     }
     tell_all(&rt, words.as_slice())
 }

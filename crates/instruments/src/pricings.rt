@@ -1,9 +1,9 @@
 //! How dear pricings are: how many labels are active at once, what the root of an instance comes to after
 //! some numbers of pricings, and what it takes to close an instance.
 
-use crate::starts::{Asked, Host, made, plan_of, wrong};
+use crate::starts::{Asked, Host, WRONG, made, plan_of};
 use branching::{Arc, Region, TreeNode};
-use certificate::{Cert, CertNode};
+use certificate::CertNode;
 use closing::close_counted;
 use labelling::least;
 use price_ascent::{Goal, RoutePool, first_prices, first_rise, raise};
@@ -54,41 +54,23 @@ fn labels_of(alloc: Global, leaf: &Priced<'_>) -> usize {
     enough
 }
 
-/// The prices of the first leaf of a certificate.
-fn leaf_prices(cert: &Cert) -> Option<&[i64]> {
-    for node in &cert.parts().nodes {
-        if let CertNode::Leaf(prices) = node {
-            return Some(prices.as_slice());
-        }
-    }
-    None
-}
-
-/// Prints a leaf's value in tenths, its labels, and the milliseconds of one pricing.
-fn tell_leaf<R: Host>(rt: &R, leaf: &Priced<'_>, times: bool) -> io::Result<()> {
-    let value = leaf.value();
-    let begin = Instant::now(rt)?;
-    suffices(rt.alloc(), leaf, MOST_LABELS);
-    let milliseconds = begin.elapsed(rt)?.as_millis();
-    let labels = labels_of(rt.alloc(), leaf);
-    print!(rt; " value {value} labels {labels}")?;
-    tell_end(rt, milliseconds, times)
-}
-
-/// Prints the line of these prices at the root, with so many neighbours.
+/// Prints the line of these prices at the root, with so many neighbours: their value in tenths, the labels, and
+/// the milliseconds of one pricing.
 fn tell_root<R: Host>(rt: &R, asked: &Asked<'_>, prices: &[i64]) -> io::Result<()> {
-    let root = Region::root(rt.alloc(), asked.instance.customer_count());
-    match priced_at(
-        rt.alloc(),
-        asked.instance,
-        root,
-        asked.number,
-        prices,
-        LIMIT,
-    ) {
-        Some(leaf) => tell_leaf(rt, &leaf, asked.times),
-        None => println!(rt; " value - labels above {MOST_LABELS}"),
+    let (alloc, instance) = (rt.alloc(), asked.instance);
+    let root = Region::root(alloc, instance.customer_count());
+    let Some(leaf) = priced_at(alloc, instance, root, asked.number, prices, LIMIT) else {
+        return println!(rt; " value - labels above {MOST_LABELS}");
+    };
+    let begin = Instant::now(rt)?;
+    suffices(alloc, &leaf, MOST_LABELS);
+    let milliseconds = begin.elapsed(rt)?.as_millis();
+    let (value, labels) = (leaf.value(), labels_of(alloc, &leaf));
+    print!(rt; " value {value} labels {labels}")?;
+    if asked.times {
+        print!(rt; " ms {milliseconds}")?;
     }
+    println!(rt; "")
 }
 
 /// Prints the line of prices of zero at the root, and that of the prices of the first leaf of a file's
@@ -111,7 +93,11 @@ pub(crate) fn tell_labels<R: Host>(
     print!(rt; "zero")?;
     tell_root(rt, &asked, zeros.as_slice())?;
     print!(rt; "certificate")?;
-    tell_root(rt, &asked, made(leaf_prices(&cert))?)
+    let leaf = cert.parts().nodes.iter().find_map(|node| match node {
+        CertNode::Leaf(prices) => Some(prices.as_slice()),
+        CertNode::Split { .. } => None,
+    });
+    tell_root(rt, &asked, made(leaf)?)
 }
 
 /// The numbers of pricings.
@@ -125,41 +111,22 @@ const MORE_THAN_FEWEST: u64 = 3;
 /// The plan to start from, if there is one.
 type Start<'s, 'p> = Option<&'s Feasible<'p>>;
 
-/// The root at prices of zero, or at the first prices of a plan.
-fn root_of<'i>(
+/// The root at the first prices of these routes, which are zero where there is none, and a pool with them.
+fn start_of<'i>(
     alloc: Global,
     instance: &'i Instance,
-    start: Start<'_, '_>,
+    routes: &[Vec<u16>],
     neighbours: u32,
-) -> Option<Priced<'i>> {
-    let prices = match start {
-        Some(plan) => first_prices(alloc, instance, plan.routes()).ok()?,
-        None => vec![in alloc; 0; usize::from(instance.customer_count())].ok()?,
-    };
-    let region = Region::root(alloc, instance.customer_count());
-    priced_at(
-        alloc,
-        instance,
-        region,
-        neighbours,
-        prices.as_slice(),
-        LIMIT,
-    )
-}
-
-/// A pool with the routes of a plan.
-fn pool_of<'i>(
-    alloc: Global,
-    instance: &'i Instance,
-    start: Start<'_, '_>,
-) -> Option<RoutePool<'i>> {
+) -> Option<(Priced<'i>, RoutePool<'i>)> {
     let mut pool = RoutePool::new(alloc);
-    if let Some(plan) = start {
-        for route in plan.routes() {
-            pool.add(instance, route.as_slice()).ok()?;
-        }
+    for route in routes {
+        pool.add(instance, route.as_slice()).ok()?;
     }
-    Some(pool)
+    let prices = first_prices(alloc, instance, routes).ok()?;
+    let region = Region::root(alloc, instance.customer_count());
+    let prices = prices.as_slice();
+    let root = priced_at(alloc, instance, region, neighbours, prices, LIMIT)?;
+    Some((root, pool))
 }
 
 /// The goal of so many pricings.
@@ -182,14 +149,6 @@ fn goal_of(instance: &Instance, start: Start<'_, '_>, pricings: u32) -> Goal {
     }
 }
 
-/// Prints the milliseconds where times are to be printed, and ends the line.
-fn tell_end<R: Host>(rt: &R, milliseconds: u128, times: bool) -> io::Result<()> {
-    if times {
-        return println!(rt; " ms {milliseconds}");
-    }
-    println!(rt; "")
-}
-
 /// Raises the root by the routes of a pool, and prints its value and the arc, if there is one.
 fn tell_raised<'i, R: Host>(
     rt: &R,
@@ -207,16 +166,21 @@ fn tell_raised<'i, R: Host>(
     if let Some(Arc { from, to }) = best.region().choose(rows.as_slice()) {
         print!(rt; " arc {from} {to}")?;
     }
-    tell_end(rt, milliseconds, times)
+    if times {
+        print!(rt; " ms {milliseconds}")?;
+    }
+    println!(rt; "")
 }
 
 /// Prints the values from one start.
 fn tell_from<R: Host>(rt: &R, asked: &Asked<'_>, start: Start<'_, '_>) -> io::Result<()> {
-    let name = if start.is_some() { "plan" } else { "zero" };
+    let (name, routes): (_, &[Vec<u16>]) = match start {
+        Some(plan) => ("plan", plan.routes()),
+        None => ("zero", &[]),
+    };
     for pricings in COUNTS {
         print!(rt; "{name} ")?;
-        let root = made(root_of(rt.alloc(), asked.instance, start, asked.number))?;
-        let mut pool = made(pool_of(rt.alloc(), asked.instance, start))?;
+        let (root, mut pool) = made(start_of(rt.alloc(), asked.instance, routes, asked.number))?;
         let goal = goal_of(asked.instance, start, pricings);
         tell_raised(rt, &mut pool, root, &goal, asked.times)?;
     }
@@ -235,15 +199,15 @@ pub(crate) fn tell_ascents<R: Host>(rt: &R, asked: &Asked<'_>) -> io::Result<()>
 /// Closes an instance, and prints the bound in tenths, the leaves of the tree and the pricings.
 pub(crate) fn tell_closing<R: Host>(rt: &R, asked: &Asked<'_>) -> io::Result<()> {
     if asked.number > MOST_NEIGHBOURS {
-        return Err(wrong());
+        return Err(io::Error::from(WRONG));
     }
     match close_counted(rt.alloc(), asked.instance, asked.number, MOST_LEAVES) {
         Ok((closed, pricings)) => {
             let bound = closed.bound.get();
-            let mut leaves: usize = 0;
-            for node in &closed.nodes {
-                leaves = leaves.saturating_add(usize::from(matches!(node, TreeNode::Leaf(_))));
-            }
+            let nodes = closed.nodes.iter();
+            let leaves = nodes
+                .filter(|node| matches!(node, TreeNode::Leaf(_)))
+                .count();
             println!(rt; "bound {bound} leaves {leaves} pricings {pricings}")
         }
         Err(fault) => println!(rt; "{fault}"),

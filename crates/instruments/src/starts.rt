@@ -21,15 +21,13 @@ pub(crate) struct Asked<'a> {
 }
 
 /// That words or files are not such as a mode takes, or that memory was refused.
-pub(crate) fn wrong() -> io::Error {
-    io::Error::from(io::ErrorKind::InvalidInput)
-}
+pub(crate) const WRONG: io::ErrorKind = io::ErrorKind::InvalidInput;
 
 /// What was made, unless memory was refused.
 pub(crate) fn made<T>(found: Option<T>) -> io::Result<T> {
     match found {
         Some(value) => Ok(value),
-        None => Err(wrong()),
+        None => Err(io::Error::from(WRONG)),
     }
 }
 

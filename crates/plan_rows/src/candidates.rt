@@ -1,27 +1,19 @@
 //! Values of moves, and the best of each kind.
 
-ghost use Rattle.moves.specs.Trees.{AreOfPlan};
-
-use crate::words::{listed, named, pair_of};
-use moves::{
-    Chain, KINDS, Kind, Move, MoveFault, Place, apply, best, best_parallel, trees_of, value,
-};
+use crate::words::{list_of, listed, named};
+use moves::{Chain, KINDS, Move, MoveFault, Place, apply, best, best_parallel, trees_of, value};
 use schedule::Feasible;
-use segments::PlanTrees;
 use std::alloc::Global;
 use std::thread::Threads;
 
-/// A place, by its route and its position in it.
-fn place_of(word: &str) -> Option<Place> {
-    let (route, position) = pair_of(word)?;
-    Some(Place { route, position })
-}
-
-/// A chain, by its route, its position in it and its length.
-fn chain_of(word: &str) -> Option<Chain> {
-    let (route, rest) = word.split_once(',')?;
-    let (position, length) = pair_of(rest)?;
-    let route = route.parse::<u16>().ok()?;
+/// A chain, by its route, its position in it and its length, or of no length where there is none.
+fn chain_of(alloc: Global, word: &str) -> Option<Chain> {
+    let numbers = list_of::<u16>(alloc, word)?;
+    let (route, position, length) = match *numbers.as_slice() {
+        [route, position] => (route, position, 0),
+        [route, position, length] => (route, position, length),
+        _ => return None,
+    };
     Some(Chain {
         route,
         position,
@@ -30,40 +22,26 @@ fn chain_of(word: &str) -> Option<Chain> {
 }
 
 /// The move of a kind from one place or chain to another.
-fn move_of(kind: Kind, from: &str, to: &str) -> Option<Move> {
+fn move_of(kind: &str, first: Chain, second: Chain) -> Option<Move> {
+    let place_of = |chain: Chain| Place {
+        route: chain.route,
+        position: chain.position,
+    };
+    let (from, to) = (place_of(first), place_of(second));
     Some(match kind {
-        Kind::Relocate => Move::Relocate {
-            from: place_of(from)?,
-            to: place_of(to)?,
+        "relocate" => Move::Relocate { from, to },
+        "exchange" => Move::Exchange {
+            first: from,
+            second: to,
         },
-        Kind::Exchange => Move::Exchange {
-            first: place_of(from)?,
-            second: place_of(to)?,
+        "or_opt" => Move::OrOpt { chain: first, to },
+        "two_opt_star" => Move::TwoOptStar {
+            first: from,
+            second: to,
         },
-        Kind::OrOpt => Move::OrOpt {
-            chain: chain_of(from)?,
-            to: place_of(to)?,
-        },
-        Kind::TwoOptStar => Move::TwoOptStar {
-            first: place_of(from)?,
-            second: place_of(to)?,
-        },
-        Kind::Cross => Move::Cross {
-            first: chain_of(from)?,
-            second: chain_of(to)?,
-        },
+        "cross" => Move::Cross { first, second },
+        _ => return None,
     })
-}
-
-fn kind_of(word: &str) -> Option<Kind> {
-    match word {
-        "relocate" => Some(Kind::Relocate),
-        "exchange" => Some(Kind::Exchange),
-        "or_opt" => Some(Kind::OrOpt),
-        "two_opt_star" => Some(Kind::TwoOptStar),
-        "cross" => Some(Kind::Cross),
-        _ => None,
-    }
 }
 
 /// The value of a move in a plan, if there is memory for its trees.
@@ -74,7 +52,8 @@ fn value_in(alloc: Global, plan: &Feasible<'_>, candidate: &Move) -> Option<Opti
 
 /// The value of a move, and by how much it changes the cost where it is made.
 pub(crate) fn told_move(alloc: Global, plan: Feasible<'_>, words: &[&str]) -> Option<String> {
-    let candidate = move_of(kind_of(words.get(1)?)?, words.get(2)?, words.get(3)?)?;
+    let (from, to) = (words.get(2)?, words.get(3)?);
+    let candidate = move_of(words.get(1)?, chain_of(alloc, from)?, chain_of(alloc, to)?)?;
     let value = value_in(alloc, &plan, &candidate)?;
     let cost = plan.cost().get() as i64;
     let change = match apply(alloc, plan, &candidate) {
@@ -85,20 +64,7 @@ pub(crate) fn told_move(alloc: Global, plan: Feasible<'_>, words: &[&str]) -> Op
     named(alloc, "value change", &[value, change])
 }
 
-/// The best move of a kind, if one thread and several threads find the same.
-fn best_in<R: AllocGlobal + Threads + Sync>(
-    rt: &R,
-    trees: &PlanTrees<'_>,
-    kind: Kind,
-) -> Option<(Move, i64)>
-    requires { AreOfPlan trees.now }
-{
-    let found = best(trees, kind);
-    let other = best_parallel(rt, rt.alloc(), trees, kind).ok()?;
-    if found == other { found } else { None }
-}
-
-/// The value of the best move of each kind.
+/// The value of the best move of each kind, if one thread and several threads find the same.
 pub(crate) fn told_bests<R: AllocGlobal + Threads + Sync>(
     rt: &R,
     plan: &Feasible<'_>,
@@ -106,26 +72,11 @@ pub(crate) fn told_bests<R: AllocGlobal + Threads + Sync>(
     let trees = trees_of(rt.alloc(), plan).ok()?;
     let mut values = Vec::new(rt.alloc());
     for kind in KINDS {
-        values.push(best_in(rt, &trees, kind)?.1).ok()?;
+        let found = best(&trees, kind);
+        if found != best_parallel(rt, rt.alloc(), &trees, kind).ok()? {
+            return None;
+        }
+        values.push(found?.1).ok()?;
     }
     listed(rt.alloc(), "values", values.as_slice())
-}
-
-/// The best move of a kind of no chains, and its value.
-pub(crate) fn told_best<R: AllocGlobal + Threads + Sync>(
-    rt: &R,
-    plan: &Feasible<'_>,
-    words: &[&str],
-) -> Option<String> {
-    let trees = trees_of(rt.alloc(), plan).ok()?;
-    let (found, value) = best_in(rt, &trees, kind_of(words.get(1)?)?)?;
-    let (first, second) = match found {
-        Move::Relocate { from, to } => (from, to),
-        Move::Exchange { first, second } => (first, second),
-        Move::TwoOptStar { first, second } => (first, second),
-        _ => return None,
-    };
-    let ends = [first.route, first.position, second.route, second.position];
-    let ends = listed(rt.alloc(), "places", &ends)?;
-    format!(in rt.alloc(); "{ends} value {value}").ok()
 }

@@ -1,8 +1,8 @@
 //! Instances that are read, what they tell, and plans that insertion builds of them.
 
-use crate::words::{behind, list_of, listed, small_at, text_of, told, told_routes};
+use crate::words::{list_of, listed, number_at, told, told_routes};
 use insertion::{Built, Weights, build};
-use row_texts::{DEPOT, instance_text};
+use row_texts::{DEPOT, behind, bytes_meant, instance_text};
 use schedule::walk;
 use solomon_reader::{Instance, read};
 use std::alloc::Global;
@@ -23,7 +23,7 @@ pub(crate) fn told_instance(alloc: Global, instance: &Instance) -> Option<String
 
 /// The rows of the depot and so many customers from (X,Y) on, each a step to the right of the one before.
 fn rows_in(alloc: Global, word: &str) -> Option<String> {
-    let numbers = list_of(alloc, word)?;
+    let numbers = list_of::<u16>(alloc, word)?;
     let [count, mut x, y, step] = *numbers.as_slice() else {
         return None;
     };
@@ -36,17 +36,19 @@ fn rows_in(alloc: Global, word: &str) -> Option<String> {
     Some(rows)
 }
 
+/// The byte that a tilde stands for.
+pub(crate) const HIGH: u8 = 0x80;
+
 /// The text of an instance, by a command's fleet and capacity and its rows, before which a `line` has the
 /// customers of such a line.
 pub(crate) fn text_by(alloc: Global, line: &str, words: &[&str]) -> Option<String> {
-    let (fleet, capacity) = (small_at(words, 1)?, small_at(words, 2)?);
+    let (fleet, capacity) = (number_at(words, 1)?, number_at(words, 2)?);
     let (first, count) = match *words.first()? {
         "line" => (rows_in(alloc, words.get(3)?)?, 4),
         _ => (String::new(alloc), 3),
     };
-    let rows = text_of(alloc, behind(line, count))?;
+    let rows = bytes_meant(alloc, behind(line, count), HIGH).ok()?;
     let rows = str::from_utf8(rows.as_slice()).ok()?;
-    let (fleet, capacity) = (u32::from(fleet), u32::from(capacity));
     instance_text(alloc, fleet, capacity, first.as_str(), rows).ok()
 }
 
@@ -63,16 +65,6 @@ pub(crate) fn told_same(alloc: Global, instance: &Instance, text: &str) -> Optio
     )
 }
 
-/// The distance between two rows in tenths.
-pub(crate) fn told_arc(alloc: Global, instance: &Instance, words: &[&str]) -> Option<String> {
-    let (from, to) = (small_at(words, 1)?, small_at(words, 2)?);
-    let count = instance.customer_count();
-    if from > count || to > count {
-        return None;
-    }
-    instance.distance(from, to).get().to_string(alloc).ok()
-}
-
 /// The walk of a route.
 pub(crate) fn told_walk(alloc: Global, instance: &Instance, words: &[&str]) -> Option<String> {
     let route = list_of(alloc, words.get(1)?)?;
@@ -86,9 +78,9 @@ pub(crate) fn told_walk(alloc: Global, instance: &Instance, words: &[&str]) -> O
 /// What a build by the weights of a command ends with.
 pub(crate) fn told_build(alloc: Global, instance: &Instance, words: &[&str]) -> Option<String> {
     let (mu, lambda, a1) = (
-        small_at(words, 1)?,
-        small_at(words, 2)?,
-        small_at(words, 3)?,
+        number_at(words, 1)?,
+        number_at(words, 2)?,
+        number_at(words, 3)?,
     );
     let Some(weights) = Weights::new(mu, lambda, a1) else {
         return told(alloc, "weights out of range");

@@ -1,6 +1,6 @@
 //! Prices at leaves: their values, steps, and the least reduced costs.
 
-use crate::words::{amounts_of, list_of, listed, named, number_at, pair_of, told};
+use crate::words::{list_of, listed, named, number_at, pair_of};
 use branching::{Arc, Region};
 use labelling::{Hints, least, least_by_hints};
 use prices::{Priced, improve};
@@ -25,24 +25,24 @@ fn region_of(alloc: Global, size: u16, word: &str) -> Option<Region> {
 
 /// The leaf of a command that names a region, the neighbours, the prices and perhaps a limit of labels, or
 /// why there is none and what came back; none where they do not fit the instance.
-fn leaf_by<'i>(
+pub(crate) fn leaf_by<'i>(
     alloc: Global,
     instance: &'i Instance,
     words: &[&str],
 ) -> Option<Result<Priced<'i>, String>> {
     let count = instance.customer_count();
-    let neighbours = number_at(words, 2)?;
+    let neighbours = number_at::<u32>(words, 2)?;
     let limit = match words.get(4) {
         Some(word) => Some(word.parse::<usize>().ok()?),
         None => None,
     };
-    let prices = amounts_of(alloc, words.get(3)?)?;
+    let prices = list_of(alloc, words.get(3)?)?;
     let region = region_of(alloc, count, words.get(1)?)?;
     let fit = region.size() == count && prices.len() == usize::from(count);
-    if !fit || neighbours > u64::from(MOST_NEIGHBOURS) {
+    if !fit || neighbours > MOST_NEIGHBOURS {
         return None;
     }
-    match Priced::of(alloc, instance, region, neighbours as u32, prices, limit) {
+    match Priced::of(alloc, instance, region, neighbours, prices, limit) {
         Ok(leaf) => Some(Ok(leaf)),
         Err((region, prices, fault)) => {
             let (customers, prices) = (region.size(), listed(alloc, "prices", prices.as_slice())?);
@@ -53,18 +53,10 @@ fn leaf_by<'i>(
 }
 
 /// The value of a leaf, its prices, and what else it was made of.
-fn told_value(alloc: Global, leaf: &Priced<'_>) -> Option<String> {
+pub(crate) fn told_value(alloc: Global, leaf: &Priced<'_>) -> Option<String> {
     let (value, customers) = (leaf.value(), leaf.instance().customer_count());
     let (neighbours, prices) = (leaf.neighbours(), listed(alloc, "prices", leaf.prices())?);
     format!(in alloc; "value {value} customers {customers} neighbours {neighbours} {prices}").ok()
-}
-
-/// The leaf of a command.
-pub(crate) fn told_leaf(alloc: Global, instance: &Instance, words: &[&str]) -> Option<String> {
-    match leaf_by(alloc, instance, words)? {
-        Ok(leaf) => told_value(alloc, &leaf),
-        Err(back) => Some(back),
-    }
 }
 
 /// A least reduced cost.
@@ -75,7 +67,7 @@ fn told_cost(alloc: Global, cost: Option<i128>) -> Option<String> {
 /// The least reduced cost at the prices of a command: as a leaf keeps it, or found with a limit.
 pub(crate) fn told_least(alloc: Global, instance: &Instance, words: &[&str]) -> Option<String> {
     let leaf = leaf_by(alloc, instance, words.get(..4)?)?.ok()?;
-    let Some(limit) = number_at(words, 4) else {
+    let Some(limit) = number_at::<usize>(words, 4) else {
         return told_cost(alloc, leaf.least().value);
     };
     let _value = leaf.value();
@@ -85,7 +77,7 @@ pub(crate) fn told_least(alloc: Global, instance: &Instance, words: &[&str]) -> 
         leaf.region(),
         leaf.prices(),
         leaf.neighbours(),
-        Some(limit as usize),
+        Some(limit),
     );
     match found {
         Ok(found) => told_cost(alloc, found.value),
@@ -131,37 +123,14 @@ pub(crate) fn told_met(alloc: Global, instance: &Instance, words: &[&str]) -> Op
     format!(in alloc; "{cost} {met}").ok()
 }
 
-/// A leaf behind what was told before it, with its least reduced cost, if a copy has the same prices, value
-/// and least route.
-fn told_behind(alloc: Global, before: &str, leaf: &Priced<'_>) -> Option<String> {
-    let copy = leaf.try_clone().ok()?;
-    let is_same = copy.prices() == leaf.prices()
-        && copy.value() == leaf.value()
-        && copy.least().route.as_slice() == leaf.least().route.as_slice();
-    if !is_same {
-        return told(alloc, "copied otherwise");
-    }
-    let value = told_value(alloc, leaf)?;
-    let cost = told_cost(alloc, leaf.least().value)?;
-    format!(in alloc; "{before}\n{value}\n{cost}").ok()
-}
-
 /// What steps make of the prices of a command: the leaf before them and behind them, and its least reduced
-/// cost, if a copy is the same.
+/// cost.
 pub(crate) fn told_steps(alloc: Global, instance: &Instance, words: &[&str]) -> Option<String> {
-    let steps = amounts_of(alloc, words.get(4)?)?;
+    let steps = list_of(alloc, words.get(4)?)?;
     let leaf = leaf_by(alloc, instance, words.get(..4)?)?.ok()?;
     let before = told_value(alloc, &leaf)?;
     let better = improve(alloc, leaf, steps.as_slice(), None);
-    told_behind(alloc, before.as_str(), &better)
-}
-
-/// Whether a copy of the root's region allows an arc.
-pub(crate) fn told_allowed(alloc: Global, instance: &Instance, words: &[&str]) -> Option<String> {
-    let (from, to) = pair_of(words.get(1)?)?;
-    let leaf = Priced::root(alloc, instance, 8, None).ok()?;
-    let root = leaf.region().try_clone().ok()?;
-    let (size, is_allowed) = (root.size(), root.allows(from, to));
-    let mark = if is_allowed { "" } else { " not" };
-    format!(in alloc; "customers {size}{mark} allowed").ok()
+    let value = told_value(alloc, &better)?;
+    let cost = told_cost(alloc, better.least().value)?;
+    format!(in alloc; "{before}\n{value}\n{cost}").ok()
 }

@@ -1,13 +1,10 @@
-//! Distances, tenths, and writers that take texts.
+//! Distances.
 
 ghost use Rattle.std.specs.Prelude.{◌≡◌, ◌<◌, length};
 
-use crate::words::{listed, number_at, pair_of, told, told_bytes};
+use crate::words::{listed, pair_of};
 use std::alloc::Global;
-use tenths::{
-    MemorySink, Point, StdSink, Table, Tenths, distance, read_tenths, write_pieces, write_tenths,
-    write_text,
-};
+use tenths::{Point, Table, distance};
 
 fn points_of(alloc: Global, words: &[&str]) -> Option<Vec<Point>> {
     let mut points = Vec::new(alloc);
@@ -45,32 +42,4 @@ pub(crate) fn told_distances(alloc: Global, words: &[&str]) -> Option<String> {
         text = format!(in alloc; "{text}{row}\n").ok()?;
     }
     Some(text)
-}
-
-/// How many tenths a text is read as.
-pub(crate) fn told_tenths(alloc: Global, text: &[u8]) -> Option<String> {
-    match read_tenths(text) {
-        Some(tenths) => tenths.get().to_string(alloc).ok(),
-        None => told(alloc, "none"),
-    }
-}
-
-/// The text of so many tenths.
-pub(crate) fn told_count(alloc: Global, words: &[&str]) -> Option<String> {
-    let Some(tenths) = Tenths::new(number_at(words, 1)?) else {
-        return told(alloc, "none");
-    };
-    let mut sink = MemorySink::new(alloc);
-    write_tenths(tenths, &mut sink).ok()?;
-    told_bytes(alloc, sink.as_slice())
-}
-
-/// What a writer takes of two words, the second as two pieces.
-pub(crate) fn told_pieces(alloc: Global, words: &[&str]) -> Option<String> {
-    let (first, second) = (words.get(1)?, words.get(2)?);
-    let mut writer = Vec::new(alloc);
-    let mut sink = StdSink::new(&mut writer);
-    write_text(first.as_bytes(), &mut sink).ok()?;
-    write_pieces(&[b" ", second.as_bytes()], &mut sink).ok()?;
-    told_bytes(alloc, writer.as_slice())
 }

@@ -1,4 +1,4 @@
-//! Plans, their copies and trees, and what a searcher makes of them.
+//! Plans, their trees, and what a searcher makes of them.
 
 use crate::script::Script;
 use crate::words::{list_of, named, told_routes};
@@ -20,16 +20,6 @@ pub(crate) fn routes_of(alloc: Global, words: &[&str]) -> Option<Vec<Vec<u16>>> 
     Some(routes)
 }
 
-/// Lists of their own with the customers of the routes.
-pub(crate) fn copies_of(alloc: Global, routes: &[Vec<u16>]) -> Option<Vec<Vec<u16>>> {
-    let mut copies = Vec::new(alloc);
-    for route in routes {
-        let copy = Vec::from_slice(alloc, route.as_slice()).ok()?;
-        copies.push(copy).ok()?;
-    }
-    Some(copies)
-}
-
 /// The cost of the plan of routes, or their fault.
 pub(crate) fn told_plan(
     alloc: Global,
@@ -40,17 +30,6 @@ pub(crate) fn told_plan(
         Ok(plan) => named(alloc, "cost", &[Some(plan.cost().get() as i64)]),
         Err((_routes, fault)) => fault.to_string(alloc).ok(),
     }
-}
-
-/// The cost and the routes of a copy of a plan, if it is of the instance.
-pub(crate) fn told_copy(alloc: Global, instance: &Instance, plan: &Feasible<'_>) -> Option<String> {
-    let copy = plan.try_clone().ok()?;
-    if *copy.instance() != *instance {
-        return None;
-    }
-    let (cost, routes) = (copy.cost(), told_routes(alloc, "routes", copy.routes())?);
-    let cost = cost.get();
-    format!(in alloc; "cost {cost} {routes}").ok()
 }
 
 /// How many stops the first tree of a plan has, and its height, if the trees are of the instance.
@@ -68,19 +47,22 @@ pub(crate) fn told_trees(
     named(alloc, "stops height", &[stops, Some(height)])
 }
 
-/// The plan at which a descent ends, in one thread or in several.
-pub(crate) fn descended<'i, R: AllocGlobal + Threads + Sync>(
+/// Descends, holds the routes at the end of the descent in one thread, and tells the costs.
+pub(crate) fn descend<R: AllocGlobal + Threads + Sync>(
     rt: &R,
-    plan: Feasible<'i>,
-    is_parallel: bool,
-) -> Option<Feasible<'i>> {
+    instance: &Instance,
+    routes: &mut Vec<Vec<u16>>,
+) -> Option<String> {
+    let plan = Feasible::check(instance, routes.clone().ok()?).ok()?;
+    let again = plan.try_clone().ok()?;
     let mut searcher = Searcher::new(rt.alloc(), plan, Xoshiro256PlusPlus::seed_from_u64(1));
-    if is_parallel {
-        searcher.descend_parallel(rt).ok()?;
-    } else {
-        searcher.descend().ok()?;
-    }
-    Some(searcher.into_plan())
+    searcher.descend_parallel(rt).ok()?;
+    let in_threads = searcher.plan().cost().get();
+    searcher.go_on_from(again);
+    searcher.descend().ok()?;
+    let cost = searcher.plan().cost().get();
+    *routes = Vec::from_clones(rt.alloc(), searcher.plan().routes()).ok()?;
+    format!(in rt.alloc(); "cost {cost} in_threads {in_threads}").ok()
 }
 
 /// The routes behind so many moves of a shake by random words, or else behind a turn by them.
@@ -91,7 +73,13 @@ pub(crate) fn told_drawn(
     draws: &str,
 ) -> Option<String> {
     let draws = list_of(alloc, draws)?;
-    let mut searcher = Searcher::new(alloc, plan, Script::new(draws.as_slice()));
+    let mut searcher = Searcher::new(
+        alloc,
+        plan,
+        Script {
+            words: draws.as_slice(),
+        },
+    );
     match count {
         Some(count) => searcher.shake(u32::from(count)).ok()?,
         None => searcher.turn().ok()?,

@@ -1,6 +1,5 @@
 //! A source of random words that hands out given ones.
 
-ghost use Rattle.std.specs.Prelude.{◌≡◌};
 ghost use Rattle.rand_core.specs.Steps.{stream_of, steps_u32};
 ghost use Rattle.plan_rows.specs.Script.{next_of};
 
@@ -11,7 +10,7 @@ use std::marker::Model;
 /// The words that are still to come; behind the last of them come zeros. Contracts see their list.
 #[derive(Drop)]
 pub struct Script<'a> {
-    words: &'a [u16],
+    pub(crate) words: &'a [u16],
 }
 
 impl<'a> Model for Script<'a> {
@@ -20,15 +19,6 @@ impl<'a> Model for Script<'a> {
     ghost Value = { List ℕ };
 
     ghost view = { λ s. s.words.now };
-}
-
-impl<'a> Script<'a> {
-    /// The source of these words.
-    pub fn new(words: &'a [u16]) -> Script<'a>
-        ensures { result ≡ words.now }
-    {
-        Script { words }
-    }
 }
 
 impl NextWord<u32> for Script<'_> {

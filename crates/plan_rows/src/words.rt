@@ -2,13 +2,14 @@
 
 use std::alloc::Global;
 use std::fmt::Display;
+use std::str::FromStr;
 
-pub(crate) fn number_at(words: &[&str], index: usize) -> Option<u64> {
-    words.get(index)?.parse::<u64>().ok()
-}
-
-pub(crate) fn small_at(words: &[&str], index: usize) -> Option<u16> {
-    words.get(index)?.parse::<u16>().ok()
+/// The word at an index, as a number.
+pub(crate) fn number_at<T: FromStr>(words: &[&str], index: usize) -> Option<T>
+where
+    T::Err: Drop,
+{
+    words.get(index)?.parse::<T>().ok()
 }
 
 /// Two numbers with a comma between them.
@@ -17,62 +18,26 @@ pub(crate) fn pair_of(word: &str) -> Option<(u16, u16)> {
     Some((first.parse::<u16>().ok()?, second.parse::<u16>().ok()?))
 }
 
-/// Numbers with commas between them; none is a hyphen.
-pub(crate) fn list_of(alloc: Global, word: &str) -> Option<Vec<u16>> {
+/// Numbers with commas between them; none is a hyphen, and one before a star says how often a number stands.
+pub(crate) fn list_of<T: FromStr + Copy>(alloc: Global, word: &str) -> Option<Vec<T>>
+where
+    T::Err: Drop,
+{
     let mut list = Vec::new(alloc);
     if word == "-" {
         return Some(list);
     }
-    for number in word.split(',') {
-        list.push(number.parse::<u16>().ok()?).ok()?;
+    for part in word.split(',') {
+        let (count, number) = part.split_once('*').unwrap_or(("1", part));
+        let (count, number) = (count.parse::<u16>().ok()?, number.parse::<T>().ok()?);
+        let len = list.len().saturating_add(usize::from(count));
+        list.resize(len, number).ok()?;
     }
     Some(list)
 }
 
-/// Prices or steps in grains; a number before a star says how often an amount stands.
-pub(crate) fn amounts_of(alloc: Global, word: &str) -> Option<Vec<i64>> {
-    let mut amounts = Vec::new(alloc);
-    for part in word.split(',') {
-        let (count, amount) = part.split_once('*').unwrap_or(("1", part));
-        let (count, amount) = (count.parse::<u16>().ok()?, amount.parse::<i64>().ok()?);
-        let len = amounts.len().saturating_add(usize::from(count));
-        amounts.resize(len, amount).ok()?;
-    }
-    Some(amounts)
-}
-
-/// What stands behind so many words of a line.
-pub(crate) fn behind(line: &str, count: u8) -> &str {
-    let mut rest = line;
-    for _ in 0..count {
-        rest = rest.split_once(' ').map_or("", |parts| parts.1);
-    }
-    rest
-}
-
-/// The text that one of a script stands for.
-pub(crate) fn text_of(alloc: Global, shown: &str) -> Option<Vec<u8>> {
-    let mut text = Vec::new(alloc);
-    for byte in shown.as_bytes() {
-        let meant = match *byte {
-            b'|' => b'\n',
-            b'^' => b'\r',
-            b'_' => b' ',
-            b'~' => 0x80,
-            other => other,
-        };
-        text.push(meant).ok()?;
-    }
-    Some(text)
-}
-
 pub(crate) fn told(alloc: Global, word: &str) -> Option<String> {
     String::from_str(alloc, word).ok()
-}
-
-/// The bytes as a text.
-pub(crate) fn told_bytes(alloc: Global, bytes: &[u8]) -> Option<String> {
-    told(alloc, str::from_utf8(bytes).ok()?)
 }
 
 /// Numbers behind their names, or `none`.

@@ -1,13 +1,13 @@
 //! Instances that are solved and checked.
 
-use crate::bounds::{bound_of, bound_text, tell_head, tell_none};
+use crate::bounds::{Bound, bound_of, tell_head};
 use crate::runs::{Printed, run, tell_printed};
-use crate::texts::{tell, tell_text};
+use crate::texts::tell_text;
 use std::rt::Runtime;
 use std::sync::Wait;
 use std::thread::Threads;
 use std::{fs, io};
-use tenths::{Lines, MemorySink, Parts, Tenths, write_pieces};
+use tenths::{Lines, MemorySink, Parts, write_pieces};
 
 /// What a line tells of an instance: what a plan costs, that there is none, or that none was found.
 #[derive(Clone, Copy)]
@@ -54,10 +54,10 @@ fn tell_whether<R: Runtime + AllocGlobal>(
     };
     let is_line = printed.out.as_slice() == line.as_slice();
     if is_line && printed.errors.as_slice().is_empty() && printed.status == status {
-        tell(rt, name, "holds")?;
+        println!(rt; "  {name} holds")?;
         return Ok(true);
     }
-    tell(rt, name, "doesn't hold")?;
+    println!(rt; "  {name} doesn't hold")?;
     tell_printed(rt, printed)
 }
 
@@ -87,15 +87,12 @@ fn tell_holding<R: Runtime + AllocGlobal + Threads + Wait + Sync>(
 }
 
 /// Prints both texts that were written, and answers the bound.
-fn tell_written<R: Runtime + AllocGlobal>(rt: &R) -> io::Result<Option<Tenths>> {
+fn tell_written<R: Runtime + AllocGlobal>(rt: &R) -> io::Result<Option<Bound>> {
     let solution = fs::read(rt, "solution")?;
     tell_text(rt, "solution", solution.as_slice())?;
     let certificate = fs::read(rt, "certificate")?;
     tell_head(rt, certificate.as_slice())?;
-    match bound_of(rt.alloc(), certificate.as_slice()) {
-        Some(bound) => Ok(Some(bound.tenths)),
-        None => Ok(None),
-    }
+    Ok(bound_of(rt.alloc(), certificate.as_slice()))
 }
 
 /// Solves the instance of a file, with the options behind it, and prints what comes of it.
@@ -110,8 +107,8 @@ pub fn tell_solving<R: Runtime + AllocGlobal + Threads + Wait + Sync>(
     words.extend_from_slice(options)?;
     let printed = run(rt, words.as_slice());
     let Some(bound) = tell_written(rt)? else {
-        return tell_none(rt);
+        rt.println("  no certificate")?;
+        return Ok(true);
     };
-    let bound = bound_text(rt.alloc(), bound);
-    tell_holding(rt, name, &printed, bound.as_slice())
+    tell_holding(rt, name, &printed, bound.text.as_slice())
 }

@@ -1,37 +1,29 @@
 //! The bounds of certificates.
 
-use crate::texts::{number_of, tell_number, tell_text};
+use crate::texts::tell_text;
 use certificate::{CertNode, read};
 use std::alloc::Global;
 use std::rt::Runtime;
 use std::{fs, io};
-use tenths::{Lines, MemorySink, Tenths, write_tenths};
+use tenths::{Lines, MemorySink, write_tenths};
 
-/// The bound of a certificate, and how many leaves it has.
-#[derive(Clone, Copy)]
+/// The bound of a certificate, as its text has it, and how many leaves it has.
+#[derive(Drop)]
 pub struct Bound {
-    pub tenths: Tenths,
+    pub text: MemorySink,
     leaves: usize,
 }
 
 /// The bound of a text, if it is a certificate.
 pub fn bound_of(alloc: Global, text: &[u8]) -> Option<Bound> {
     let cert = read(alloc, text).ok()?;
-    let mut leaves = 0usize;
-    for node in &cert.parts().nodes {
-        if let CertNode::Leaf(_) = node {
-            leaves = leaves.saturating_add(1);
-        }
-    }
-    let tenths = cert.parts().bound;
-    Some(Bound { tenths, leaves })
-}
-
-/// The text of a bound; where memory is refused it isn't whole, and differs from what was printed.
-pub fn bound_text(alloc: Global, bound: Tenths) -> MemorySink {
     let mut text = MemorySink::new(alloc);
-    let _ = write_tenths(bound, &mut text);
-    text
+    write_tenths(cert.parts().bound, &mut text).ok()?;
+    let nodes = cert.parts().nodes.iter();
+    let leaves = nodes
+        .filter(|node| matches!(node, CertNode::Leaf(_)))
+        .count();
+    Some(Bound { text, leaves })
 }
 
 /// How many lines of a certificate tell its version, its name, its customers and its neighbours.
@@ -53,30 +45,21 @@ pub fn tell_head<R: Runtime + AllocGlobal>(rt: &R, text: &[u8]) -> io::Result<()
 /// Prints the bound of a file and its leaves, of which the second word gives the most, and says whether
 /// the words were understood.
 pub fn tell_bound<R: Runtime + AllocGlobal>(rt: &R, words: &[&str]) -> io::Result<bool> {
-    let [path, most @ ..] = words else {
-        return Ok(false);
+    let (path, most) = match words {
+        [path] => (path, None),
+        [path, most] => (path, most.parse::<usize>().ok()),
+        _ => return Ok(false),
     };
     let text = fs::read(rt, path)?;
     let Some(bound) = bound_of(rt.alloc(), text.as_slice()) else {
-        return tell_none(rt);
+        rt.println("  no certificate")?;
+        return Ok(true);
     };
-    let shown = bound_text(rt.alloc(), bound.tenths);
-    tell_text(rt, "bound", shown.as_slice())?;
-    let most = match most {
-        [most] => number_of(most),
-        _ => None,
-    };
+    tell_text(rt, "bound", bound.text.as_slice())?;
+    let leaves = bound.leaves;
     match most {
-        Some(most) if bound.leaves <= most as usize => {
-            tell_number(rt, "leaves at most", u64::from(most))?
-        }
-        _ => tell_number(rt, "leaves", bound.leaves as u64)?,
+        Some(most) if leaves <= most => println!(rt; "  leaves at most {most}")?,
+        _ => println!(rt; "  leaves {leaves}")?,
     }
-    Ok(true)
-}
-
-/// Prints that a text is no certificate.
-pub fn tell_none<R: Runtime>(rt: &R) -> io::Result<bool> {
-    rt.println("  no certificate")?;
     Ok(true)
 }

@@ -2,23 +2,24 @@
 //! then is accepted by the checker.
 
 use checker::{Verdict, check};
+use row_texts::is_seen;
 use std::rt::Runtime;
 use std::sync::Wait;
 use std::sync::atomic::{AtomicBool, AtomicUsize, Ordering};
-use std::thread::{self, Threads};
-use std::time::{Clock, Duration};
+use std::thread::Threads;
+use std::time::Clock;
 use std::{fs, io};
 use tenths::MemorySink;
 use vrptw::{Gate, GatePoint, Settings, solve};
-
-/// How often a held worker looks.
-const LOOKS: u32 = 10_000;
 
 /// Two workers that search, and two that raise the bound.
 const WORKERS: u16 = 4;
 
 /// The turns of each.
 const TURNS: u32 = 3;
+
+/// How often the others end a turn.
+const ENDS: usize = (WORKERS as usize - 1) * TURNS as usize;
 
 /// The most pairs that a check may keep.
 const STATES: usize = 1_000_000;
@@ -43,31 +44,21 @@ struct Hold<'a, R: Clock> {
     point: GatePoint,
     was_held: AtomicBool,
     ends_of_others: AtomicUsize,
-}
-
-impl<'a, R: Clock> Hold<'a, R> {
-    /// Looks until the others have ended all their turns.
-    fn wait(&self) {
-        let all = usize::from(WORKERS - 1) * TURNS as usize;
-        for _ in 0..LOOKS {
-            if self.ends_of_others.load(Ordering::SeqCst) >= all {
-                return;
-            }
-            thread::sleep(self.rt, Duration::from_millis(1));
-        }
-    }
+    have_ended: AtomicBool,
 }
 
 impl<'a, R: Clock> Gate for Hold<'a, R> {
     fn pass(&self, worker: u16, point: GatePoint) {
         if worker != self.worker {
-            if point == GatePoint::End {
-                self.ends_of_others.fetch_add(1, Ordering::SeqCst);
+            let before = match point {
+                GatePoint::End => self.ends_of_others.fetch_add(1, Ordering::SeqCst),
+                _ => 0,
+            };
+            if before == ENDS - 1 {
+                self.have_ended.store(true, Ordering::SeqCst);
             }
-            return;
-        }
-        if point == self.point && !self.was_held.swap(true, Ordering::SeqCst) {
-            self.wait();
+        } else if point == self.point && !self.was_held.swap(true, Ordering::SeqCst) {
+            is_seen(self.rt, &self.have_ended);
         }
     }
 }
@@ -86,6 +77,7 @@ fn cost_held<R: Runtime + AllocGlobal + Threads + Wait + Sync>(
         point,
         was_held: AtomicBool::new(false),
         ends_of_others: AtomicUsize::new(0),
+        have_ended: AtomicBool::new(false),
     };
     let settings = Settings {
         turns: TURNS,

@@ -11,7 +11,7 @@
 //! - `bound NAME` prints a certificate's bound and leaves, of which `bound NAME MOST` says only that they
 //!   are so many at most;
 //! - `library NAME OPTION NUMBER` calls the library with one setting, or with the most `leaves` to close;
-//! - `job WORDS` prints what the words ask for, and `unheard KIND` what is said where they can't be had;
+//! - `unheard KIND` prints what is said where the words can't be had;
 //! - `sinks WHICH NAME` tries sinks that fail or take little;
 //! - `held NAME` solves an instance while each of four workers is held at each of seven points of its turns,
 //!   until the others have ended theirs, and prints the costs that the checker accepts.
@@ -20,7 +20,6 @@
 mod answers;
 mod bounds;
 mod held;
-mod jobs;
 mod library;
 mod runs;
 mod sinks;
@@ -29,9 +28,8 @@ mod texts;
 use crate::answers::tell_solving;
 use crate::bounds::tell_bound;
 use crate::held::tell_held;
-use crate::jobs::{tell_job, tell_unheard};
 use crate::library::tell_library;
-use crate::runs::{run, tell_printed, tell_streams};
+use crate::runs::{run, tell_printed, tell_streams, tell_unheard};
 use crate::sinks::tell_sinks;
 use crate::texts::{tell_file, write_file, write_text};
 use std::io;
@@ -42,23 +40,22 @@ use std::thread::Threads;
 /// Does what a command asks for, and says whether it was understood.
 fn obey<R: Runtime + AllocGlobal + Threads + Wait + Sync>(
     rt: &R,
-    command: &str,
-    rest: &[&str],
+    line: &str,
+    words: &[&str],
 ) -> io::Result<bool> {
-    match (command, rest) {
-        ("#", _) => Ok(true),
-        ("file", _) => write_file(rt, rest),
-        ("text", _) => write_text(rt, rest),
-        ("show", [path]) => tell_file(rt, path),
-        ("bound", _) => tell_bound(rt, rest),
-        ("job", _) => tell_job(rt, rest),
-        ("unheard", [kind]) => tell_unheard(rt, kind),
-        ("run", _) => tell_printed(rt, &run(rt, rest)),
-        ("streams", _) => tell_streams(rt, rest),
-        ("solve", _) => tell_solving(rt, rest),
-        ("library", _) => tell_library(rt, rest),
-        ("sinks", [which, path]) => tell_sinks(rt, which, path),
-        ("held", [path]) => tell_held(rt, path),
+    match words {
+        [] | ["#", ..] => Ok(true),
+        ["file", path, fleet, capacity, ..] => write_file(rt, line, [path, fleet, capacity]),
+        ["text", path, ..] => write_text(rt, line, path),
+        ["show", path] => tell_file(rt, path),
+        ["bound", rest @ ..] => tell_bound(rt, rest),
+        ["unheard", kind] => tell_unheard(rt, kind),
+        ["run", rest @ ..] => tell_printed(rt, &run(rt, rest)),
+        ["streams", rest @ ..] => tell_streams(rt, &run(rt, rest)),
+        ["solve", rest @ ..] => tell_solving(rt, rest),
+        ["library", path, option, number] => tell_library(rt, [path, option, number]),
+        ["sinks", which, path] => tell_sinks(rt, which, path),
+        ["held", path] => tell_held(rt, path),
         _ => Ok(false),
     }
 }
@@ -70,10 +67,7 @@ fn tell_line<R: Runtime + AllocGlobal + Threads + Wait + Sync>(
 ) -> io::Result<()> {
     rt.println(line)?;
     let words: Vec<&str> = line.split_whitespace().collect(rt.alloc())?;
-    let [command, rest @ ..] = words.as_slice() else {
-        return Ok(());
-    };
-    if obey(rt, command, rest)? {
+    if obey(rt, line, words.as_slice())? {
         return Ok(());
     }
     rt.println("  not understood")

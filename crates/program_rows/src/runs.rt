@@ -1,12 +1,12 @@
 //! Runs of the program.
 
-use crate::texts::{tell, tell_number, tell_text};
+use crate::texts::tell_text;
 use std::io;
 use std::rt::Runtime;
 use std::sync::Wait;
 use std::thread::Threads;
-use tenths::MemorySink;
-use vrptw::run_words;
+use tenths::{Lines, MemorySink};
+use vrptw::{run_words, words_fault};
 
 /// What a run prints, and the status that it ends with.
 #[derive(Drop)]
@@ -30,25 +30,35 @@ pub fn run<R: Runtime + AllocGlobal + Threads + Wait + Sync>(rt: &R, words: &[&s
 
 /// Prints all that came of a run.
 pub fn tell_printed<R: Runtime + AllocGlobal>(rt: &R, printed: &Printed) -> io::Result<bool> {
-    tell_number(rt, "status", u64::from(printed.status))?;
+    println!(rt; "  status {}", printed.status)?;
     tell_text(rt, "out", printed.out.as_slice())?;
     tell_text(rt, "errors", printed.errors.as_slice())?;
     Ok(true)
 }
 
-/// The word for a text that isn't shown.
-fn kind_of(text: &[u8]) -> &'static str {
-    if text.is_empty() { "empty" } else { "written" }
+/// Prints the status of a run, and which of the streams stayed empty.
+pub fn tell_streams<R: Runtime>(rt: &R, printed: &Printed) -> io::Result<bool> {
+    println!(rt; "  status {}", printed.status)?;
+    for (name, sink) in [("out", &printed.out), ("errors", &printed.errors)] {
+        let is_empty = sink.as_slice().is_empty();
+        let kind = if is_empty { "empty" } else { "written" };
+        println!(rt; "  {name} {kind}")?;
+    }
+    Ok(true)
 }
 
-/// Runs the program, and prints its status and which of the streams stays empty.
-pub fn tell_streams<R: Runtime + AllocGlobal + Threads + Wait + Sync>(
-    rt: &R,
-    words: &[&str],
-) -> io::Result<bool> {
-    let printed = run(rt, words);
-    tell_number(rt, "status", u64::from(printed.status))?;
-    tell(rt, "out", kind_of(printed.out.as_slice()))?;
-    tell(rt, "errors", kind_of(printed.errors.as_slice()))?;
+/// Prints the status where the words can't be had for a fault of this kind, and how what is said begins.
+pub fn tell_unheard<R: Runtime + AllocGlobal>(rt: &R, word: &str) -> io::Result<bool> {
+    let kind = match word {
+        "InvalidData" => io::ErrorKind::InvalidData,
+        "OutOfMemory" => io::ErrorKind::OutOfMemory,
+        "Other" => io::ErrorKind::Other,
+        _ => return Ok(false),
+    };
+    let mut errors = MemorySink::new(rt.alloc());
+    let status = words_fault(rt.alloc(), &io::Error::from(kind), &mut errors);
+    println!(rt; "  status {status}")?;
+    let mut lines = Lines::new(errors.as_slice());
+    tell_text(rt, "errors begin", lines.next().unwrap_or(b""))?;
     Ok(true)
 }

@@ -9,11 +9,11 @@ use std::sync::Wait;
 use std::thread::Threads;
 use std::{fs, io};
 use tenths::{FailureCount, MemorySink, Sink, SinkFault};
-use vrptw::{Answer, NoGate, Settings, SolveFault, solve};
+use vrptw::{NoGate, Settings, SolveFault, solve};
 
 /// A sink that takes a number of writes, and then fails. It may take one byte at a time.
 #[derive(Drop)]
-pub struct Tight {
+struct Tight {
     inner: MemorySink,
     left: usize,
     drips: bool,
@@ -28,16 +28,6 @@ impl Tight {
             drips,
             failed: FailureCount::none(),
         }
-    }
-
-    /// A sink that takes all that is written to it.
-    pub fn open(alloc: Global) -> Tight {
-        Tight::new(alloc, usize::MAX, false)
-    }
-
-    /// The bytes taken so far.
-    pub fn as_slice(&self) -> &[u8] {
-        self.inner.as_slice()
     }
 }
 
@@ -59,25 +49,6 @@ impl Sink for Tight {
     }
 }
 
-/// The answer of the solver for a text.
-pub fn solve_text<R: Runtime + AllocGlobal + Threads + Wait + Sync>(
-    rt: &R,
-    text: &[u8],
-    settings: &Settings,
-    solution: &mut Tight,
-    certificate: &mut Tight,
-) -> Result<Answer, SolveFault> {
-    solve(
-        rt,
-        rt.alloc(),
-        text,
-        settings,
-        &NoGate,
-        solution,
-        certificate,
-    )
-}
-
 /// The solution of two customers on a line, with a vehicle for each.
 const SOLUTION: &[u8] = b"Route #1: 2\nRoute #2: 1\nCost 30.0\n";
 
@@ -89,16 +60,6 @@ const MANY_WRITES: usize = 200;
 
 const FEW_WRITES: usize = 3;
 
-/// Whether the texts are what may stand where the first sink failed, or else the second.
-fn are_cut(alloc: Global, is_first: bool, solution: &[u8], certificate: &[u8]) -> bool {
-    if is_first {
-        let begins = SOLUTION.starts_with(solution) && solution.len() < SOLUTION.len();
-        return begins && certificate.is_empty();
-    }
-    let begins = HEAD.starts_with(certificate) || certificate.starts_with(HEAD);
-    solution == SOLUTION && begins && bound_of(alloc, certificate).is_none()
-}
-
 /// Whether these sinks hold both texts in the end, or else what may stand where the first failed, or else the
 /// second; none where they hold neither.
 fn ends_whole<R: Runtime + AllocGlobal + Threads + Wait + Sync>(
@@ -108,15 +69,23 @@ fn ends_whole<R: Runtime + AllocGlobal + Threads + Wait + Sync>(
     mut first: Tight,
     mut second: Tight,
 ) -> Option<bool> {
-    let settings = Settings::default();
-    let answer = solve_text(rt, text, &settings, &mut first, &mut second);
-    let (solution, certificate) = (first.as_slice(), second.as_slice());
+    let (alloc, settings) = (rt.alloc(), Settings::default());
+    let answer = solve(rt, alloc, text, &settings, &NoGate, &mut first, &mut second);
+    let (solution, certificate) = (first.inner.as_slice(), second.inner.as_slice());
+    let is_certificate = bound_of(alloc, certificate).is_some();
     let (is_right, is_whole) = match answer {
         Ok(_) => {
             let begin = solution == SOLUTION && certificate.starts_with(HEAD);
-            (begin && bound_of(rt.alloc(), certificate).is_some(), true)
+            (begin && is_certificate, true)
         }
-        Err(SolveFault::Device) => (are_cut(rt.alloc(), is_first, solution, certificate), false),
+        Err(SolveFault::Device) if is_first => {
+            let begins = SOLUTION.starts_with(solution) && solution.len() < SOLUTION.len();
+            (begins && certificate.is_empty(), false)
+        }
+        Err(SolveFault::Device) => {
+            let begins = HEAD.starts_with(certificate) || certificate.starts_with(HEAD);
+            (solution == SOLUTION && begins && !is_certificate, false)
+        }
         Err(_) => (false, false),
     };
     if is_right { Some(is_whole) } else { None }
@@ -131,7 +100,7 @@ fn fails_well<R: Runtime + AllocGlobal + Threads + Wait + Sync>(
 ) -> bool {
     for left in 0..MANY_WRITES {
         let failing = Tight::new(rt.alloc(), left, false);
-        let open = Tight::open(rt.alloc());
+        let open = Tight::new(rt.alloc(), usize::MAX, false);
         let (first, second) = if is_first {
             (failing, open)
         } else {

@@ -1,14 +1,20 @@
 //! What the worked rows start from: instance texts in the usual layout, each line of its own, ended by a line
-//! feed; plans, prices and books.
+//! feed; plans, prices and books; the texts of scripts, and the look of gates.
 #![tactic(auto)]
 
 mod starts;
 
 pub use crate::starts::{book_of, children_at, plan_at, priced_at};
 use std::alloc::{AllocError, Global};
+use std::sync::atomic::{AtomicBool, Ordering};
+use std::thread;
+use std::time::{Clock, Duration};
 
 /// The depot at (0,0), open from 0 to 1000.
 pub const DEPOT: &str = "0 0 0 0 0 1000 0\n";
+
+/// Two customers on a line from the depot.
+pub const IN_LINE: &str = "1 3 4 1 0 1000 0\n2 6 8 1 0 1000 0\n";
 
 /// The text of an instance named `T`. No clause: the rows show the text, by what becomes of it.
 pub fn instance_text(
@@ -23,37 +29,39 @@ pub fn instance_text(
     )
 }
 
-/// One customer at (3,4), with one vehicle of capacity 1.
-/// No clause: the rows show the text.
-pub fn one_customer(alloc: Global) -> Result<String, AllocError> {
-    instance_text(alloc, 1, 1, DEPOT, "1 3 4 1 0 1000 0\n")
-}
-
-/// Two customers on a line from the depot, with two vehicles of capacity 1.
-/// No clause: the rows show the text.
-pub fn two_in_line(alloc: Global) -> Result<String, AllocError> {
-    instance_text(alloc, 2, 1, DEPOT, "1 3 4 1 0 1000 0\n2 6 8 1 0 1000 0\n")
-}
-
-/// Three customers close to each other, with two vehicles of capacity 2.
-/// No clause: the rows show the text.
-pub fn three_apart(alloc: Global) -> Result<String, AllocError> {
-    instance_text(
-        alloc,
-        2,
-        2,
-        "0 0 1 0 0 1000 0\n",
-        "1 100 1 1 0 1000 0\n2 100 2 1 0 1000 0\n3 100 0 1 0 1000 0\n",
-    )
-}
-
-/// Customers 1 to `count`, all at (3,4).
-/// No clause: the rows show the text.
-pub fn many_customers(alloc: Global, count: u32) -> Result<String, AllocError> {
-    let mut customers = String::new(alloc);
-    for number in 1..=count {
-        let line = format!(in alloc; "{number} 3 4 1 0 1000 0\n")?;
-        customers.push_str(line.as_str())?;
+/// What stands behind so many words of a line.
+pub fn behind(line: &str, count: u8) -> &str {
+    let mut rest = line;
+    for _ in 0..count {
+        rest = rest.split_once(' ').map_or("", |parts| parts.1);
     }
-    Ok(customers)
+    rest
+}
+
+/// The bytes that a script's text stands for: a bar is a line feed, and a tilde this byte.
+/// No clause: the rows show the bytes, by what becomes of them.
+pub fn bytes_meant(alloc: Global, shown: &str, tilde: u8) -> Result<Vec<u8>, AllocError> {
+    let mut bytes = Vec::new(alloc);
+    for byte in shown.as_bytes() {
+        bytes.push(match *byte {
+            b'|' => b'\n',
+            b'~' => tilde,
+            other => other,
+        })?;
+    }
+    Ok(bytes)
+}
+
+/// How often a gate looks, a millisecond apart.
+const LOOKS: u32 = 10_000;
+
+/// Whether a flag that another thread sets is seen at one of the looks.
+pub fn is_seen<R: Clock>(rt: &R, flag: &AtomicBool) -> bool {
+    for _ in 0..LOOKS {
+        if flag.load(Ordering::SeqCst) {
+            return true;
+        }
+        thread::sleep(rt, Duration::from_millis(1));
+    }
+    false
 }

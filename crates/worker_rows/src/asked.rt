@@ -12,7 +12,13 @@ pub const ONWARD: Arc = Arc { from: 1, to: 2 };
 /// The arc from the second customer to the first.
 pub const BACK: Arc = Arc { from: 2, to: 1 };
 
-pub fn in_line(alloc: Global) -> Result<Instance, Fail> {
-    let text = instance_text(alloc, 2, 2, DEPOT, "1 3 4 1 0 1000 0\n2 6 8 1 0 1000 0\n")?;
+/// The instance of these customers round the usual depot.
+pub fn instance_of(
+    alloc: Global,
+    fleet: u32,
+    capacity: u32,
+    customers: &str,
+) -> Result<Instance, Fail> {
+    let text = instance_text(alloc, fleet, capacity, DEPOT, customers)?;
     Ok(read(alloc, text.as_bytes())?)
 }

@@ -4,17 +4,18 @@ ghost use Rattle.std.specs.List.{All};
 ghost use Rattle.node_pool.specs.Deques.{FitsAt};
 ghost use Rattle.node_pool.specs.Ends.{deque_at};
 
-use crate::asked::in_line;
+use crate::asked::instance_of;
 use crate::fake::{Counts, Fake};
 use branching::Region;
 use ceiling::Ceiling;
 use incumbent_book::BookFault;
 use node_pool::{Hand, Pass, Pool, Thief};
 use prices::Priced;
-use row_texts::{DEPOT, instance_text, priced_at};
-use search_workers::{GatePoint, Nodes, Settings, Worker, bound_worker};
-use solomon_reader::{Instance, read};
+use row_texts::{IN_LINE, priced_at};
+use search_workers::{Nodes, Settings, Worker, bound_worker};
+use solomon_reader::Instance;
 use std::alloc::Global;
+use std::sync::atomic::Ordering;
 use std::test::Fail;
 
 /// The nodes of the worker at the second of two deques, of which its own or the other has the root.
@@ -61,7 +62,7 @@ fn turns_over<'i>(
     let (hands, deques, passes) = Pool::new(alloc, 2, room)?;
     let deques = deques.as_slice();
     let nodes = second_nodes(alloc, instance, hands, deques, passes, is_stolen)?;
-    let gate = Counts::new();
+    let gate = Counts::default();
     let settings = Settings {
         turns,
         labels,
@@ -84,9 +85,9 @@ fn turns_over<'i>(
     Ok((
         made,
         worker.hub.reprices.saturating_add(worker.hub.splits),
-        gate.of(GatePoint::Looked),
-        gate.of(GatePoint::Stolen),
-        gate.of(GatePoint::End),
+        gate.looked.load(Ordering::SeqCst),
+        gate.stolen.load(Ordering::SeqCst),
+        gate.ended.load(Ordering::SeqCst),
     ))
 }
 
@@ -97,7 +98,7 @@ fn turns_made(
     is_stolen: bool,
     is_bare: bool,
 ) -> Result<Done, Fail> {
-    let instance = in_line(alloc)?;
+    let instance = instance_of(alloc, 2, 2, IN_LINE)?;
     let mut hub = Fake::new(Priced::root(alloc, &instance, 8, None)?);
     hub.is_bare = is_bare;
     turns_over(alloc, &instance, hub, 10, is_stolen, (2, work.0, work.1))
@@ -113,8 +114,7 @@ fn turns_splitting(
     refusal: Option<BookFault>,
 ) -> Result<Done, Fail> {
     let rows = "1 3 4 1 0 20 10\n2 3 4 1 0 20 10\n3 3 4 1 0 20 10\n";
-    let text = instance_text(alloc, 3, 3, DEPOT, rows)?;
-    let instance = read(alloc, text.as_bytes())?;
+    let instance = instance_of(alloc, 3, 3, rows)?;
     let root = priced_at(
         alloc,
         &instance,
@@ -130,63 +130,62 @@ fn turns_splitting(
 
 #[test]
 fn turns_go_as_far_as_there_is_work(rt: HostRuntime) -> Result<(), Fail> {
-    let rows = [
+    for (name, work, is_stolen, is_bare, expected) in [
         (
             "the first turn raises or splits the root",
-            1,
+            (1, 100),
             false,
             false,
             (1, 1, 1, 0, 1),
         ),
-        ("an idle worker steals", 1, true, false, (1, 1, 1, 1, 1)),
+        (
+            "an idle worker steals",
+            (1, 100),
+            true,
+            false,
+            (1, 1, 1, 1, 1),
+        ),
         (
             "numbers without a leaf are laid aside",
-            3,
+            (3, 100),
             false,
             true,
             (3, 0, 0, 0, 3),
         ),
-    ];
-    for (name, turns, is_stolen, is_bare, expected) in rows {
-        let made = turns_made(rt.alloc(), (turns, 100), is_stolen, is_bare)?;
+        (
+            "a pricing that meets its limit ends no work",
+            (3, 1),
+            false,
+            false,
+            (3, 1, 1, 0, 3),
+        ),
+    ] {
+        let made = turns_made(rt.alloc(), work, is_stolen, is_bare)?;
         assert!(rt; made == expected, "{name}");
     }
     Ok(())
 }
 
 #[test]
-fn a_pricing_that_meets_its_limit_ends_no_work(rt: HostRuntime) -> Result<(), Fail> {
-    let (made, _, looked, _, ended) = turns_made(rt.alloc(), (3, 1), false, false)?;
-    assert!(rt; (made, looked, ended) == (3, 1, 3));
-    Ok(())
-}
-
-#[test]
-fn a_full_deque_ends_the_work(rt: HostRuntime) -> Result<(), Fail> {
-    let going = turns_splitting(rt.alloc(), 2, 100, None)?;
-    let full = turns_splitting(rt.alloc(), 2, 1, None)?;
-    assert!(rt; (going, full) == ((3, 21, 21, 0, 3), (1, 1, 1, 0, 1)));
-    Ok(())
-}
-
-#[test]
-fn the_first_worker_alone_splits_the_root(rt: HostRuntime) -> Result<(), Fail> {
-    let second = turns_splitting(rt.alloc(), 3, 100, None)?;
-    assert!(rt; second == (3, 0, 21, 0, 3));
-    Ok(())
-}
-
-#[test]
-fn refusals_for_want_of_room_end_the_work(rt: HostRuntime) -> Result<(), Fail> {
-    for refusal in [
-        BookFault::Memory,
-        BookFault::JournalFull,
-        BookFault::LeavesFull,
+fn splits_go_as_far_as_there_is_room(rt: HostRuntime) -> Result<(), Fail> {
+    let ended = (1, 1, 1, 0, 1);
+    for (name, number, room, refusal, expected) in [
+        ("the first worker splits", 2, 100, None, (3, 21, 21, 0, 3)),
+        ("no other one does", 3, 100, None, (3, 0, 21, 0, 3)),
+        ("a full deque ends the work", 2, 1, None, ended),
+        ("so does memory", 2, 10, Some(BookFault::Memory), ended),
+        ("a full history", 2, 10, Some(BookFault::JournalFull), ended),
+        ("a full tree", 2, 10, Some(BookFault::LeavesFull), ended),
+        (
+            "a deep leaf doesn't",
+            2,
+            10,
+            Some(BookFault::TooDeep),
+            (3, 1, 1, 0, 3),
+        ),
     ] {
-        let made = turns_splitting(rt.alloc(), 2, 10, Some(refusal))?;
-        assert!(rt; made == (1, 1, 1, 0, 1));
+        let made = turns_splitting(rt.alloc(), number, room, refusal)?;
+        assert!(rt; made == expected, "{name}");
     }
-    let made = turns_splitting(rt.alloc(), 2, 10, Some(BookFault::TooDeep))?;
-    assert!(rt; made == (3, 1, 1, 0, 3));
     Ok(())
 }

@@ -36,13 +36,6 @@ fn ends(alloc: Global) -> Result<(Hand, Thief, Pass, Pass), Fail>
     Ok((hand, thief, first, second))
 }
 
-fn pop_one(mut hand: Hand) -> (Hand, Option<u32>)
-    ensures { deque_of result.0 ≡ deque_of hand }
-{
-    let popped = hand.pop();
-    (hand, popped)
-}
-
 /// Tries until a number is stolen, or too often.
 fn steal_one(thief: &Thief, mut pass: Pass) -> (Pass, Option<u32>)
     requires { FitsAt (deque_at thief.now) pass }
@@ -103,7 +96,11 @@ fn take_three<R: Threads + Wait + Sync>(
         rt,
         move ||
             ensures { deque_of result.0 ≡ deque_of hand }
-        { pop_one(hand) },
+        {
+            let mut hand = hand;
+            let popped = hand.pop();
+            (hand, popped)
+        },
         move ||
             requires first { FitsAt (deque_at thief.now) first }
             requires second { FitsAt (deque_at thief.now) second }
@@ -127,19 +124,12 @@ fn stands_with(alloc: Global, hand: Hand, first: Pass, second: Pass) -> Result<V
     }
 }
 
-/// Whether a number is refused, since the deque had as many as it takes.
-fn is_full(hand: &mut Hand, number: u32) -> bool
-    ensures { deque_of hand.new ≡ deque_of hand.old }
-{
-    hand.push(number) == Err((number, PoolFault::Full))
-}
-
 /// Pushes 7, 8 and 9, and is refused 10.
 fn is_filled(hand: &mut Hand) -> bool
     ensures { deque_of hand.new ≡ deque_of hand.old }
 {
     let pushed = [hand.push(7), hand.push(8), hand.push(9)];
-    pushed == [Ok(()), Ok(()), Ok(())] && is_full(hand, 10)
+    pushed == [Ok(()), Ok(()), Ok(())] && hand.push(10) == Err((10, PoolFault::Full))
 }
 
 /// Whether all numbers are gone, for the hand, the thief and the audit, and none can be pushed.
@@ -155,7 +145,7 @@ fn is_done(
     requires second { FitsAt (deque_at thief.now) second }
 {
     let is_empty = hand.pop().is_none() && thief.steal(&mut first) == Stolen::Empty;
-    let is_full = is_full(&mut hand, 11);
+    let is_full = hand.push(11) == Err((11, PoolFault::Full));
     let stands = stands_with(alloc, hand, first, second)?;
     Ok(is_empty && is_full && stands.is_empty())
 }

@@ -86,53 +86,24 @@ impl<'i> Hub<'i> for Fake<'i> {
     }
 }
 
-/// How often each point was passed, in the order of a gate's points.
-#[derive(Drop)]
+/// How often points were passed.
+#[derive(Default, Drop)]
 pub struct Counts {
-    passed: [AtomicUsize; 7],
-}
-
-/// The place of a point among the counts.
-fn place_of(point: GatePoint) -> usize {
-    match point {
-        GatePoint::Start => 0,
-        GatePoint::Offered => 1,
-        GatePoint::Looked => 2,
-        GatePoint::Priced => 3,
-        GatePoint::Split => 4,
-        GatePoint::Stolen => 5,
-        GatePoint::End => 6,
-    }
-}
-
-impl Counts {
-    pub fn new() -> Counts {
-        Counts {
-            passed: [
-                AtomicUsize::new(0),
-                AtomicUsize::new(0),
-                AtomicUsize::new(0),
-                AtomicUsize::new(0),
-                AtomicUsize::new(0),
-                AtomicUsize::new(0),
-                AtomicUsize::new(0),
-            ],
-        }
-    }
-
-    /// How often a point was passed.
-    pub fn of(&self, point: GatePoint) -> usize {
-        match self.passed.get(place_of(point)) {
-            Some(count) => count.load(Ordering::SeqCst),
-            None => 0,
-        }
-    }
+    pub offered: AtomicUsize,
+    pub looked: AtomicUsize,
+    pub stolen: AtomicUsize,
+    pub ended: AtomicUsize,
 }
 
 impl Gate for Counts {
     fn pass(&self, _worker: u16, point: GatePoint) {
-        if let Some(count) = self.passed.get(place_of(point)) {
-            count.fetch_add(1, Ordering::SeqCst);
-        }
+        let count = match point {
+            GatePoint::Offered => &self.offered,
+            GatePoint::Looked => &self.looked,
+            GatePoint::Stolen => &self.stolen,
+            GatePoint::End => &self.ended,
+            _ => return,
+        };
+        count.fetch_add(1, Ordering::SeqCst);
     }
 }

@@ -11,8 +11,6 @@ mod deques;
 #[cfg(test)]
 mod fake;
 #[cfg(test)]
-mod limits;
-#[cfg(test)]
 mod meeting;
 #[cfg(test)]
 mod offers;
@@ -22,5 +20,7 @@ mod plans;
 mod seats;
 #[cfg(test)]
 mod shares;
+#[cfg(test)]
+mod steps;
 #[cfg(test)]
 mod words;

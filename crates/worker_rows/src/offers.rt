@@ -1,7 +1,7 @@
 //! Offers, new prices and splits at a desk.
 
 use crate::asked::{BACK, ONWARD};
-use branching::{Arc, Region, TreeNode};
+use branching::{Arc, Region};
 use desk::{Desk, LookFault, Naming, Share};
 use incumbent_book::{BookFault, Offered, Outcome};
 use row_texts::{children_at, plan_at, priced_at};
@@ -62,9 +62,10 @@ fn reprice<'i, R: Wait + AllocGlobal, J: Naming>(
     instance: &'i Instance,
     place: &mut Place<'_, 'i, J>,
     leaf: u32,
-    region: Region,
+    region: &Region,
     prices: [i64; 2],
 ) -> Result<Result<(), BookFault>, Fail> {
+    let region = region.try_clone()?;
     let priced = priced_at(rt.alloc(), instance, region, 1, &prices, None);
     let priced = priced.ok_or("prices were refused")?;
     Ok(
@@ -119,42 +120,28 @@ fn split_root<'i, R: Abort + Wait + AllocGlobal, J: Naming>(
     Ok(())
 }
 
-/// Gives the child without the arc a higher value, and is refused an equal and a lower one.
-fn raise_unused<'i, R: Abort + Wait + AllocGlobal, J: Naming>(
+/// Gives the child without the arc a higher value, and is refused an equal one. For the other child it is
+/// refused prices of another region, and as high ones.
+fn reprice_children<'i, R: Abort + Wait + AllocGlobal, J: Naming>(
     rt: &R,
     instance: &'i Instance,
     place: &mut Place<'_, 'i, J>,
-    unused: &Region,
+    [root, used, unused]: [&Region; 3],
 ) -> Result<(), Fail> {
-    let prices = [100_000, 100_000];
-    let raised = reprice(rt, instance, place, 2, unused.try_clone()?, prices)?;
-    let again = reprice(rt, instance, place, 2, unused.try_clone()?, prices)?;
+    for (leaf, region, prices, expected) in [
+        (2, unused, [100_000, 100_000], Ok(())),
+        (2, unused, [100_000, 100_000], Err(BookFault::NotHigher)),
+        (1, root, [200_000, 0], Err(BookFault::WrongRegion)),
+        (1, used, [200_000, 0], Err(BookFault::NotHigher)),
+    ] {
+        let told = reprice(rt, instance, place, leaf, region, prices)?;
+        assert_eq!(rt; told, expected);
+    }
     let values = (value(rt, place, 2), value(rt, place, 0));
     let lower = split(rt, instance, place, 2, (unused, BACK), [0, 0])?;
     assert_eq!(rt;
-        (raised, again, values, lower),
-        (
-            Ok(()),
-            Err(BookFault::NotHigher),
-            (Ok(200), Err(LookFault::NotALeaf)),
-            Err(BookFault::Lower)
-        )
-    );
-    Ok(())
-}
-
-/// Is refused prices of another region, and as high ones, for the child with the arc.
-fn reprice_used<'i, R: Abort + Wait + AllocGlobal, J: Naming>(
-    rt: &R,
-    instance: &'i Instance,
-    place: &mut Place<'_, 'i, J>,
-    root: &Region,
-) -> Result<(), Fail> {
-    let elsewhere = reprice(rt, instance, place, 1, root.try_clone()?, [200_000, 0])?;
-    let as_high = reprice(rt, instance, place, 1, root.used(ONWARD)?, [200_000, 0])?;
-    assert_eq!(rt;
-        (elsewhere, as_high),
-        (Err(BookFault::WrongRegion), Err(BookFault::NotHigher))
+        (values, lower),
+        ((Ok(200), Err(LookFault::NotALeaf)), Err(BookFault::Lower))
     );
     Ok(())
 }
@@ -167,17 +154,8 @@ pub fn branch<'i, R: Abort + Wait + AllocGlobal, J: Naming>(
 ) -> Result<(), Fail> {
     let root = Region::root(rt.alloc(), 2);
     split_root(rt, instance, place, &root)?;
-    let unused = root.forbidden(ONWARD)?;
-    raise_unused(rt, instance, place, &unused)?;
-    reprice_used(rt, instance, place, &root)
-}
-
-/// The prices of the leaf at an index of the nodes, if a leaf stands there.
-fn prices_at(nodes: &[TreeNode], index: usize) -> Option<&[i64]> {
-    match nodes.get(index) {
-        Some(TreeNode::Leaf(prices)) => Some(prices.as_slice()),
-        _ => None,
-    }
+    let (used, unused) = (root.used(ONWARD)?, root.forbidden(ONWARD)?);
+    reprice_children(rt, instance, place, [&root, &used, &unused])
 }
 
 /// Asserts the outcome's bound in tenths, its neighbours, how many events it has, whether it has a plan, the
@@ -191,10 +169,10 @@ pub fn assert_outcome<R: Abort + AllocGlobal>(rt: &R, outcome: &Outcome<'_>) -> 
         (200, 1, 6, true, 2)
     );
     let nodes = outcome.nodes(rt.alloc())?;
-    let nodes = nodes.as_slice();
-    let is_split = matches!(nodes.first(), Some(TreeNode::Split(arc)) if *arc == ONWARD);
-    let leaves = (prices_at(nodes, 1), prices_at(nodes, 2));
-    let expected = (Some([0, 0].as_slice()), Some([100_000, 100_000].as_slice()));
-    assert_eq!(rt; (nodes.len(), is_split, leaves), (3, true, expected));
+    let tree = format!(in rt.alloc(); "{nodes:?}")?;
+    assert_eq!(rt;
+        tree.as_str(),
+        "[Split(Arc { from: 1, to: 2 }), Leaf([0, 0]), Leaf([100000, 100000])]"
+    );
     Ok(())
 }

@@ -1,13 +1,14 @@
 //! A search worker over a fake.
 
+use crate::asked::instance_of;
 use crate::fake::{Counts, Fake};
 use ceiling::Ceiling;
 use incumbent_book::BookFault;
 use prices::Priced;
-use row_texts::two_in_line;
-use search_workers::{GatePoint, Worker, generator, search_worker};
-use solomon_reader::read;
+use row_texts::IN_LINE;
+use search_workers::{Worker, generator, search_worker};
 use std::alloc::Global;
+use std::sync::atomic::Ordering;
 use std::test::Fail;
 
 /// Five turns without a first plan, at a hub that refuses so from this offer on: the turns made, the
@@ -18,11 +19,10 @@ fn five_turns(
     fault: BookFault,
     words: (u64, u64),
 ) -> Result<(u32, u32, usize, usize), Fail> {
-    let text = two_in_line(alloc)?;
-    let instance = read(alloc, text.as_bytes())?;
+    let instance = instance_of(alloc, 2, 1, IN_LINE)?;
     let mut hub = Fake::new(Priced::root(alloc, &instance, 8, None)?);
     hub.refusal = (first, fault);
-    let gate = Counts::new();
+    let gate = Counts::default();
     let (ceiling, mut seats) = Ceiling::new(alloc, 1, words.0, words.1)?;
     let Some(seat) = seats.pop() else {
         return Err(Fail::from("no seat"));
@@ -40,8 +40,8 @@ fn five_turns(
     Ok((
         made,
         worker.hub.offers,
-        gate.of(GatePoint::Offered),
-        gate.of(GatePoint::End),
+        gate.offered.load(Ordering::SeqCst),
+        gate.ended.load(Ordering::SeqCst),
     ))
 }
 

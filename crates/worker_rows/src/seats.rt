@@ -19,14 +19,6 @@ fn opened(alloc: Global) -> Result<(Ceiling, CeilingSeat, CeilingSeat), Fail>
     Ok((ceiling, first, second))
 }
 
-/// What an offer is answered, and the seat.
-fn offer(ceiling: &Ceiling, mut seat: CeilingSeat, cost: u64) -> (u64, CeilingSeat)
-    requires { IsSeatOf ceiling.now seat }
-    ensures { IsSeatOf ceiling.now result.1 }
-{
-    (ceiling.offer(&mut seat, cost), seat)
-}
-
 /// One seat offers 500 while the other offers 450: what each is answered, and the seats.
 fn offer_both<R: Threads + Sync>(
     rt: &R,
@@ -44,11 +36,17 @@ fn offer_both<R: Threads + Sync>(
         || -> (u64, CeilingSeat)
             requires { IsSeatOf ceiling.now first }
             ensures { IsSeatOf ceiling.entry.now result.1 }
-        { offer(ceiling, first, 500) },
+        {
+            let mut seat = first;
+            (ceiling.offer(&mut seat, 500), seat)
+        },
         || -> (u64, CeilingSeat)
             requires { IsSeatOf ceiling.now second }
             ensures { IsSeatOf ceiling.entry.now result.1 }
-        { offer(ceiling, second, 450) },
+        {
+            let mut seat = second;
+            (ceiling.offer(&mut seat, 450), seat)
+        },
     )
 }
 
@@ -75,36 +73,18 @@ fn closed(
 }
 
 #[test]
-fn both_seats_are_told_the_least_cost(rt: HostRuntime) -> Result<(), Fail> {
+fn both_seats_are_told_cost_and_bound(rt: HostRuntime) -> Result<(), Fail> {
     let (ceiling, first, second) = opened(rt.alloc())?;
     let ((one, mut first), (other, mut second)) = offer_both(&rt, &ceiling, first, second);
-    let later = (ceiling.offer(&mut second, 440), ceiling.cost(&mut first));
+    let costs = (ceiling.offer(&mut second, 440), ceiling.cost(&mut first));
+    let bounds = [
+        ceiling.floor(&mut second),
+        ceiling.raise(&mut first, 30),
+        ceiling.raise(&mut first, 20),
+        ceiling.floor(&mut second),
+    ];
     let closed = closed(rt.alloc(), ceiling, first, second)?;
     assert!(rt; (one == 500 || one == 450) && other == 450);
-    assert!(rt; later == (440, 440) && closed == (440, 0));
-    Ok(())
-}
-
-/// What both seats are told of the bound while one puts 30 and 20.
-fn raised(ceiling: &Ceiling, first: &mut CeilingSeat, second: &mut CeilingSeat) -> [u64; 4]
-    requires first { IsSeatOf ceiling.now first.old }
-    requires second { IsSeatOf ceiling.now second.old }
-    ensures first { IsSeatOf ceiling.now first.new }
-    ensures second { IsSeatOf ceiling.now second.new }
-{
-    [
-        ceiling.floor(second),
-        ceiling.raise(first, 30),
-        ceiling.raise(first, 20),
-        ceiling.floor(second),
-    ]
-}
-
-#[test]
-fn both_seats_are_told_the_greatest_bound(rt: HostRuntime) -> Result<(), Fail> {
-    let (ceiling, mut first, mut second) = opened(rt.alloc())?;
-    let told = raised(&ceiling, &mut first, &mut second);
-    let closed = closed(rt.alloc(), ceiling, first, second)?;
-    assert!(rt; told == [0, 30, 30, 30] && closed == (1001, 30));
+    assert!(rt; costs == (440, 440) && bounds == [0, 30, 30, 30] && closed == (440, 30));
     Ok(())
 }

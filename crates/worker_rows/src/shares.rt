@@ -5,11 +5,11 @@ ghost use Rattle.desk.specs.Opening.{HasPlanIf};
 ghost use Rattle.desk.specs.Tally.{each};
 ghost use Rattle.desk.specs.Blanks.{names_of, parts_of};
 
-use crate::asked::in_line;
+use crate::asked::instance_of;
 use crate::offers::{Place, assert_outcome, branch, offer_plans};
-use desk::{Blanks, Desk, DeskFault, Naming, Share};
+use desk::{Blanks, Desk, Naming, Share};
 use incumbent_book::{Book, Gap, Limits, Outcome};
-use row_texts::book_of;
+use row_texts::{IN_LINE, book_of};
 use solomon_reader::Instance;
 use std::io::Eprint;
 use std::marker::Brand;
@@ -51,11 +51,6 @@ fn work_apart<'i, J: Naming, R: Abort + Wait + Eprint + AllocGlobal>(
     }
 }
 
-/// The gap that a share is told.
-fn ask<'i, J: Naming, R: Wait>(rt: &R, desk: &Desk<'i, J>, mut share: Share<J>) -> (Gap, Share<J>) {
-    (desk.gap(rt, &mut share), share)
-}
-
 /// The first share's calls in a thread, and then the second's question in another.
 fn both<'i, J: Naming + Send, R: Abort + Threads + Wait + Eprint + Sync + AllocGlobal>(
     rt: &R,
@@ -71,7 +66,10 @@ fn both<'i, J: Naming + Send, R: Abort + Threads + Wait + Eprint + Sync + AllocG
         let Some(first) = worker.join(rt) else {
             return Err(Fail::from("the first share's calls failed"));
         };
-        let Ok(worker) = scope.spawn(move || ask(rt, desk, second)) else {
+        let Ok(worker) = scope.spawn(move || {
+            let mut share = second;
+            (desk.gap(rt, &mut share), share)
+        }) else {
             return Err(Fail::from("no thread"));
         };
         let (gap, second) = worker.join(rt);
@@ -79,27 +77,7 @@ fn both<'i, J: Naming + Send, R: Abort + Threads + Wait + Eprint + Sync + AllocG
     })
 }
 
-/// What closing leaves, which needs both shares.
-fn close_with_both<'i, J: Naming, R: Abort>(
-    rt: &R,
-    desk: Desk<'i, J>,
-    mut shares: Vec<Share<J>>,
-    first: Share<J>,
-    second: Share<J>,
-) -> Result<Outcome<'i>, Fail> {
-    shares.push(first)?;
-    let Err((desk, mut shares, fault)) = desk.close(shares) else {
-        return Err(Fail::from("closed with one share"));
-    };
-    assert_eq!(rt; (fault, shares.len()), (DeskFault::MissingShare, 1));
-    shares.push(second)?;
-    match desk.close(shares) {
-        Ok(outcome) => Ok(outcome),
-        Err(_) => Err(Fail::from("not closed with both shares")),
-    }
-}
-
-/// The gap told at a desk of two shares, and what closing leaves, which needs both.
+/// The gap told at a desk of two shares, and what closing leaves.
 fn run<'i, J: Naming + Send, R: Abort + Threads + Wait + Eprint + Sync + AllocGlobal>(
     rt: &R,
     instance: &'i Instance,
@@ -120,13 +98,17 @@ fn run<'i, J: Naming + Send, R: Abort + Threads + Wait + Eprint + Sync + AllocGl
     let first = shares.pop().expect(rt, "two shares");
     assert!(rt; first.worker() == 0 && second.worker() == 1);
     let (gap, first, second) = both(rt, &desk, first, second, instance)?;
-    let outcome = close_with_both(rt, desk, shares, first, second)?;
-    Ok((gap, outcome))
+    shares.push(first)?;
+    shares.push(second)?;
+    match desk.close(shares) {
+        Ok(outcome) => Ok((gap, outcome)),
+        Err(_) => Err(Fail::from("not closed with both shares")),
+    }
 }
 
 #[test]
 fn a_second_share_is_told_what_the_first_did(rt: HostRuntime) -> Result<(), Fail> {
-    let instance = in_line(rt.alloc())?;
+    let instance = instance_of(rt.alloc(), 2, 2, IN_LINE)?;
     let book = book_of(rt.alloc(), &instance, 1, Limits::MOST).ok_or("no book")?;
     let (gap, outcome) = run::<Brand, _>(&rt, &instance, book, Blanks::new(2))?;
     let of_plan = Tenths::from(200);
