@@ -1,5 +1,5 @@
 -- The change of cost where two chains of two routes change places, by the arcs round them.
-use Rattle.std.proofs.Common.{◌≡◌, refl, ℕ, ◌+◌, ◌-◌, ◌<◌, ◌≤◌, true, List, [], ◌∷◌, ◌++◌, length, take, drop, sym, ap, ◌∙◌, arith, append_assoc, append-nil}
+use Rattle.std.proofs.Common.{◌≡◌, refl, ℕ, ◌+◌, ◌-◌, ◌<◌, ◌≤◌, true, List, [], ◌∷◌, ◌++◌, length, take, drop, get_or, sym, ap, ◌∙◌, arith, append_assoc, append-nil}
 use Rattle.std.specs.Prelude.{ℤ, pos, ◌+ℤ◌, ◌-ℤ◌}
 use Rattle.std.proofs.lemmas.Int.{ints}
 use Rattle.std.proofs.lemmas.List.{take-append-drop, drop-drop, get_or_past}
@@ -14,6 +14,7 @@ use Rattle.segments.specs.Segments.{first_of, last_of, last_from}
 use Rattle.gains.specs.declared.cuts.Cut.{Cut}
 use Rattle.moves.specs.Changes.{rebuilt, swapped, swapped_within}
 use Rattle.gains.specs.Cuts.{IsCut, joint, joint_of, change_apart, change_within}
+use Rattle.gains.proofs.CutStops.{before_position, last_position, some_position}
 use Rattle.moves.proofs.Rebuilding.{rebuilt_cost}
 use Rattle.moves.proofs.Swaps.{swap_rebuilds, swap_within_rebuilds}
 
@@ -158,3 +159,80 @@ module _ (p : Problem) (routes : List (List ℕ)) (a i l j m : ℕ) (c d : Cut) 
           → ra ≡ head + (o1 + o2 + in_s) + (in_t + o3 + tail) → x ≡ head + (n1 + n2 + in_t) + (in_s + n3 + tail) → pos new ≡ pos old +ℤ v
           → v ≡ pos (n1 + n2 + n3) -ℤ pos (o1 + o2 + o3)
       sums new old ra rb rc x head o1 o2 o3 n1 n2 n3 in_s in_t tail v e f g h k = omega (arith, ints)
+
+-- three lists that have stops, and the rest
+three_chains : (p : Problem) (front s u t rest : List ℕ) → has_stop s ≡ true → has_stop u ≡ true → has_stop t ≡ true → route_cost p (front ++ (s ++ (u ++ (t ++ rest))))
+    ≡ inner_from p 0 front + (distance p (last_from 0 front) (first_of s) + distance p (last_of s) (first_of u) + inner_cost p s)
+    + (inner_cost p u + distance p (last_of u) (first_of t)) + (inner_cost p t + distance p (last_of t) (first_of rest) + tail_back p rest)
+three_chains p front s u t rest hs hu ht =
+    omega (
+      arith,
+      cost-back p 0 (front ++ (s ++ (u ++ (t ++ rest)))),
+      back-append p 0 front (s ++ (u ++ (t ++ rest))),
+      through p (last_from 0 front) s (u ++ (t ++ rest)),
+      joint_some p (last_from 0 front) s (first_of (u ++ (t ++ rest))) hs,
+      ap (distance p (last_of s)) (first-append u (t ++ rest) hu),
+      tail-append p u (t ++ rest) hu,
+      ap (distance p (last_of u)) (first-append t rest ht),
+      tail-append p t rest ht,
+    )
+
+-- what stands behind a place: a part, and the rest
+split_off : (r : List ℕ) (n k : ℕ) → drop n r ≡ part r n k ++ drop (n + k) r
+split_off r n k = sym (ap (λ q. part r n k ++ q) (sym (drop-drop k n r)) ∙ take-append-drop k (drop n r))
+
+-- what stands between two chains
+middle : List ℕ → ℕ → ℕ → ℕ → List ℕ
+middle r i l j = part r (i + l) (j - (i + l))
+
+module _ (p : Problem) (routes : List (List ℕ)) (a i l j m : ℕ) (c d : Cut) (hc : IsCut (route routes a) i l c) (hd : IsCut (route routes a) j m d) (behind : i + l < j) (second : j + m ≤ length (route routes a)) where
+  to_second : (i + l) + (j - (i + l)) ≡ j
+  to_second = omega (arith, behind)
+
+  past_first : drop (i + l) (route routes a) ≡ (middle (route routes a) i l j) ++ (part (route routes a) j m ++ drop (j + m) (route routes a))
+  unfolding middle
+  past_first =
+      split_off (route routes a) (i + l) (j - (i + l)) ∙ ap (λ n. part (route routes a) (i + l) (j - (i + l)) ++ drop n (route routes a)) to_second
+      ∙ ap (λ q. part (route routes a) (i + l) (j - (i + l)) ++ q) (split_off (route routes a) j m)
+
+  some_between : has_stop (middle (route routes a) i l j) ≡ true
+  unfolding middle
+  some_between = some_position (route routes a) (i + l) (j - (i + l)) (omega (arith, behind)) (omega (arith, to_second, second))
+
+  old_parts : route routes a ≡ take i (route routes a) ++ (part (route routes a) i l ++ ((middle (route routes a) i l j) ++ (part (route routes a) j m ++ drop (j + m) (route routes a))))
+  old_parts =
+      sym (itself (route routes a) i l) ∙ append_assoc (take i (route routes a)) (part (route routes a) i l) (drop (i + l) (route routes a))
+      ∙ ap (λ q. take i (route routes a) ++ (part (route routes a) i l ++ q)) past_first
+
+  new_parts : swapped_within (route routes a) i l j m ≡ take i (route routes a) ++ (part (route routes a) j m ++ ((middle (route routes a) i l j) ++ (part (route routes a) i l ++ drop (j + m) (route routes a))))
+  unfolding middle
+  new_parts = simp append_assoc refl
+
+  first_behind : c.behind ≡ first_of (middle (route routes a) i l j)
+  first_behind = hc.behind ∙ ap first_of past_first ∙ first-append (middle (route routes a) i l j) (part (route routes a) j m ++ drop (j + m) (route routes a)) some_between
+
+  second_before : d.before ≡ last_of (middle (route routes a) i l j)
+  unfolding middle
+  second_before =
+      hd.before ∙ before_position (route routes a) j 0 (omega (arith, behind)) (omega (arith, second))
+      ∙ sym (last_position (route routes a) (i + l) (j - (i + l)) (omega (arith, behind)) (omega (arith, to_second, second)) ∙ ap (λ n. get_or (route routes a) (n - 1) 0) to_second)
+
+  -- the change of cost of a plan in whose route a the chains change places, between which stops stand
+  pub exact_between : (new : List (List ℕ)) (v : ℤ) → a < length routes → c.some ≡ true → d.some ≡ true
+      → new ≡ rebuilt routes a (swapped_within (route routes a) i l j m) (length routes) []
+      → pos (plan_cost p new) ≡ pos (plan_cost p routes) +ℤ v → v ≡ change_apart p c d
+  exact_between new v known some_c some_d is exact =
+      let w = swap_within_rebuilds routes a i l j m known (omega (arith, behind)) second in
+      let unopened : route_cost p (route routes (length routes)) ≡ route_cost p [] = ap (route_cost p) (get_or_past routes (length routes) [] (omega arith)) in
+      let one = sym hc.some ∙ some_c in
+      let other = sym hd.some ∙ some_d in
+      let old = ap (route_cost p) old_parts ∙ three_chains p (take i (route routes a)) (part (route routes a) i l) (middle (route routes a) i l j) (part (route routes a) j m) (drop (j + m) (route routes a)) one some_between other in
+      let changed = ap (route_cost p) new_parts ∙ three_chains p (take i (route routes a)) (part (route routes a) j m) (middle (route routes a) i l j) (part (route routes a) i l) (drop (j + m) (route routes a)) other some_between one in
+      rw (some_c, some_d, first_behind, second_before, hc.before, hc.first, hc.last, hd.first, hd.last, hd.behind)
+      (sums _ _ _ _ _ _ _ _ _ _ _ _ _ _ _ _ _ _ _ v
+      (rebuilt_cost p routes a (swapped_within (route routes a) i l j m) (length routes) [] w) unopened old changed (rw is at exact))
+    where
+      sums : (new old ra rb rc x head o1 o2 o3 o4 n1 n2 n3 n4 in_s in_u in_t tail : ℕ) (v : ℤ) → (new + ra) + rb ≡ (old + x) + rc → rb ≡ rc
+          → ra ≡ head + (o1 + o2 + in_s) + (in_u + o3) + (in_t + o4 + tail) → x ≡ head + (n1 + n2 + in_t) + (in_u + n3) + (in_s + n4 + tail) → pos new ≡ pos old +ℤ v
+          → v ≡ pos ((n1 + n2) + (n3 + n4)) -ℤ pos ((o1 + o2) + (o3 + o4))
+      sums new old ra rb rc x head o1 o2 o3 o4 n1 n2 n3 n4 in_s in_u in_t tail v e f g h k = omega (arith, ints)

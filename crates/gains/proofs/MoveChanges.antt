@@ -4,7 +4,7 @@ use Rattle.std.specs.Prelude.{ℤ, pos, ◌+ℤ◌, ◌-ℤ◌}
 use Rattle.std.proofs.lemmas.Int.{ints}
 use Rattle.std.proofs.lemmas.Bool.{cases_lt}
 use Rattle.solomon_reader.specs.Problem.{Problem}
-use Rattle.solomon_reader.specs.Moves.{route, IsOrOpt, after_or_opt}
+use Rattle.solomon_reader.specs.Moves.{route, IsOrOpt, after_or_opt, IsExchange, after_exchange}
 use Rattle.solomon_reader.specs.Plan.{plan_cost}
 use Rattle.moves.specs.declared.candidate.Chain.{Chain}
 use Rattle.moves.specs.declared.candidate.Move.{Move}
@@ -16,9 +16,9 @@ use Rattle.moves.specs.Order.{kind_of}
 use Rattle.moves.specs.Search.{numbers}
 use Rattle.moves.specs.Changes.{IsChainOf, rebuilt, swapped_within}
 use Rattle.gains.specs.Cuts.{IsCut, joint_of, change_apart, change_within}
-use Rattle.gains.specs.Gains.{first_taken, second_taken, taken_chain, first_chain_of, second_chain_of, IsShift, IsShiftKind, AreShifts, Starts}
-use Rattle.moves.proofs.Swaps.{cross_is, two_opt_star_is, exchange_apart_is, or_opt_later_is, or_opt_earlier_is, or_opt_back_is, or_opt_forward_is, position_apart_from}
-use Rattle.gains.proofs.ExactChanges.{exact_apart, exact_within}
+use Rattle.gains.specs.Gains.{first_taken, second_taken, taken_chain, first_chain_of, second_chain_of, IsShift, IsShiftKind, IsExchangeKind, AreShifts, Starts}
+use Rattle.moves.proofs.Swaps.{cross_is, two_opt_star_is, exchange_apart_is, exchange_within_is, or_opt_later_is, or_opt_earlier_is, or_opt_back_is, or_opt_forward_is, position_apart_from}
+use Rattle.gains.proofs.ExactChanges.{exact_apart, exact_within, exact_between}
 
 one_number : (xs ys : List ℕ) (i : ℕ) → xs ≡ ys → get_or xs i 0 ≡ get_or ys i 0
 one_number xs ys i e = ap (λ zs. get_or zs i 0) e
@@ -173,15 +173,47 @@ shifts_forward p routes k f s shifts same before n u e is h =
     record {
       same = refl;
       known = o.0.known;
-      behind = refl;
+      behind = omega arith;
       is = o.1 ∙ forward_is routes f.route f.position _ s.route s.position same (omega arith) o.0;
     }
 
--- the value of such a move
-pub value_within : (p : Problem) (routes : List (List ℕ)) (n : Move) (v : ℤ) (front rear : Chain) (c d : Cut) → IsShift routes n front rear → HasValue p routes n v
-    → IsChainOf routes rear → IsCut (route routes front.route) front.position front.length c → IsCut (route routes rear.route) rear.position rear.length d
-    → c.some ≡ true → d.some ≡ true → v ≡ change_within p c d
-value_within p routes n v front rear c d w h stands hc hd some_c some_d =
-    exact_within p routes front.route front.position front.length rear.position rear.length c d hc
-    (subst (λ a. IsCut (route routes a) rear.position rear.length d) (sym w.same) hd) w.behind _ v w.known
-    (subst (λ a. rear.position + rear.length ≤ length (route routes a)) (sym w.same) stands) some_c some_d w.is h.exact
+-- two stops change places
+exchange_of : (routes : List (List ℕ)) (n : Move) → IsExchangeKind (kind_of n) → IsWellFormed routes n
+    → let s = first_chain_of routes n in let t = second_chain_of routes n in s.route ≡ t.route → IsShift routes n s t
+exchange_of routes (Relocate f t) k w same = absurd k
+exchange_of routes (OrOpt c t) k w same = absurd k
+exchange_of routes (TwoOptStar f t) k w same = absurd k
+exchange_of routes (Cross f t) k w same = absurd k
+exchange_of routes (Exchange f t) k w same = elim w.order [
+  | inl less ↦ absurd (omega (arith, less, same))
+  | inr within ↦ record {
+    same = same;
+    known = subst (λ b. b < length routes) (sym same) w.known;
+    behind = omega (arith, within.1);
+    is = subst (λ b. IsExchange routes f.route f.position b t.position → after_exchange routes f.route f.position b t.position ≡ rebuilt routes f.route (swapped_within (route routes f.route) f.position 1 t.position 1) (length routes) [])
+        same (λ w. exchange_within_is routes f.route f.position t.position w within.1) w;
+  }
+]
+
+pub exchanges : (p : Problem) (routes : List (List ℕ)) (k : Kind) (f s : Chain) → IsExchangeKind k → f.route ≡ s.route
+    → AreShifts p routes k f s (taken_chain routes (first_taken k) f) (taken_chain routes (second_taken k) s)
+exchanges p routes k f s exchange same n u e is h =
+    rw (sym (first_chain routes k n f s e is), sym (second_chain routes k n f s e is))
+    (exchange_of routes n (subst IsExchangeKind (sym e) exchange) h.well_formed (rw (first_chain routes k n f s e is, second_chain routes k n f s e is) same))
+
+module _ (p : Problem) (routes : List (List ℕ)) (n : Move) (v : ℤ) (front rear : Chain) (c d : Cut) (w : IsShift routes n front rear) (h : HasValue p routes n v)
+    (stands : IsChainOf routes rear) (hc : IsCut (route routes front.route) front.position front.length c) (hd : IsCut (route routes rear.route) rear.position rear.length d)
+    (some_c : c.some ≡ true) (some_d : d.some ≡ true) where
+  here : IsCut (route routes front.route) rear.position rear.length d
+  here = subst (λ a. IsCut (route routes a) rear.position rear.length d) (sym w.same) hd
+
+  fits : rear.position + rear.length ≤ length (route routes front.route)
+  fits = subst (λ a. rear.position + rear.length ≤ length (route routes a)) (sym w.same) stands
+
+  -- the value of such a move, where the second chain stands right behind the first
+  pub value_within : front.position + front.length ≡ rear.position → v ≡ change_within p c d
+  value_within behind = exact_within p routes front.route front.position front.length rear.position rear.length c d hc here behind _ v w.known fits some_c some_d w.is h.exact
+
+  -- and where stops stand between them
+  pub value_between : front.position + front.length < rear.position → v ≡ change_apart p c d
+  value_between behind = exact_between p routes front.route front.position front.length rear.position rear.length c d hc here behind fits _ v w.known some_c some_d w.is h.exact

@@ -47,7 +47,7 @@ module _ (p : Problem) (routes : List (List ℕ)) (k : Kind) (f : Chain) (c : Cu
             let moved = cut_at r q m in
             let value : u ≡ change_within p moved c
             = value_within p routes n u (record { route = f.route; position = q; length = m }) (taken_chain routes (first_taken k) f) moved c (shifts_back p routes k f second shifts refl earlier n u e is h) h stands
-            (cut_is_at r q m) first (some_position r q m more (omega (arith, fits))) some_c in
+            (cut_is_at r q m) first (some_position r q m more (omega (arith, fits))) some_c (sym sum) in
             let gap = goes_back p r q m l c more some fits (subst (λ z. IsCut r z l c) sum first) in
             subst (λ v. x ≤ℤ v) (sym (value ∙ gap)) (back q (omega arith) earlier (omega (arith, there)))
         | inr past ↦ elim (cases_lt i q) [
@@ -58,7 +58,7 @@ module _ (p : Problem) (routes : List (List ℕ)) (k : Kind) (f : Chain) (c : Cu
               let passed = cut_at r (i + l) m in
               let value : u ≡ change_within p c passed
               = value_within p routes n u (taken_chain routes (first_taken k) f) (record { route = f.route; position = i + l; length = m }) c passed (shifts_forward p routes k f second shifts refl later n u e is h) h fits
-              first (cut_is_at r (i + l) m) some_c (some_position r (i + l) m more fits) in
+              first (cut_is_at r (i + l) m) some_c (some_position r (i + l) m more fits) refl in
               subst (λ v. x ≤ℤ v) (sym (value ∙ goes_on p r i l m c some more fits first)) (on (i + l + m) (omega (arith, more)) (omega (arith, fits)) fits)
           | inr no_later ↦
               let same : q ≡ i = omega (arith, past, no_later) in

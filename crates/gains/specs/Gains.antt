@@ -1,5 +1,5 @@
 -- Moves that make a plan cheaper, and the best of them.
-use Rattle.std.specs.Prelude.{◌≡◌, ℕ, ◌+◌, ◌<◌, List, ◌∷◌, [], length, ◌-◌, ℤ, pos, ◌<ℤ◌, ◌≤ℤ◌, ◌⊎◌, Option, Some, None, MatchOption}
+use Rattle.std.specs.Prelude.{◌≡◌, ℕ, ◌+◌, ◌<◌, ◌≤◌, List, ◌∷◌, [], length, ◌-◌, ℤ, pos, ◌<ℤ◌, ◌≤ℤ◌, ◌⊎◌, Option, Some, None, MatchOption}
 use Rattle.solomon_reader.specs.Problem.{Problem}
 use Rattle.solomon_reader.specs.Moves.{route}
 use Rattle.moves.specs.declared.candidate.Chain.{Chain}
@@ -101,6 +101,14 @@ IsShiftKind kind.OrOpt = Unit {0}
 IsShiftKind kind.TwoOptStar = ⊥
 IsShiftKind kind.Cross = ⊥
 
+-- a move of the kind lets two stops change places
+abbrev pub IsExchangeKind : Kind → Type 0
+IsExchangeKind kind.Relocate = ⊥
+IsExchangeKind kind.Exchange = Unit {0}
+IsExchangeKind kind.OrOpt = ⊥
+IsExchangeKind kind.TwoOptStar = ⊥
+IsExchangeKind kind.Cross = ⊥
+
 -- a move of the kind lets two ends change places
 abbrev pub IsEndsKind : Kind → Type 0
 IsEndsKind kind.Relocate = ⊥
@@ -109,11 +117,11 @@ IsEndsKind kind.OrOpt = ⊥
 IsEndsKind kind.TwoOptStar = Unit {0}
 IsEndsKind kind.Cross = ⊥
 
--- the move lets two chains of a route change places, the second of which stands right behind the first
+-- the move lets two chains of a route change places, the second of which stands behind the first
 pub record IsShift (routes : List (List ℕ)) (n : Move) (front rear : Chain) : Type 0 where
   pub same : front.route ≡ rear.route
   pub known : front.route < length routes
-  pub behind : front.position + front.length ≡ rear.position
+  pub behind : front.position + front.length ≤ rear.position
   pub is : after routes n ≡ rebuilt routes front.route (swapped_within (route routes front.route) front.position front.length rear.position rear.length) (length routes) []
 
 -- the moves of the kind with these numbers do so

@@ -91,10 +91,6 @@ pub record IsForgotten (r : ℕ) (old new : PairGains) : Type 0 where
   pub into : (a : ℕ) → entry_of new a r ≡ unknown
   pub from : (b : ℕ) → entry_of new r b ≡ unknown
 
--- what is kept of route r goes, and the routes behind it are numbered anew
-abbrev pub IsTakenOut : ℕ → PairGains → PairGains → Type 0
-IsTakenOut r old new = (a b : ℕ) → entry_of new a b ≡ entry_of old (skip r a) (skip r b)
-
 abbrev pub HasSameEntries : PairGains → PairGains → Type 0
 HasSameEntries old new = (a b : ℕ) → entry_of new a b ≡ entry_of old a b
 

@@ -86,7 +86,9 @@ impl Neighbourhood<'_, '_> {
         if !may_be_better(change_apart(self.trees.instance(), cut, &other), before) {
             return before;
         }
-        self.better_gain(first, second, before)
+        // of a copy, so that the search's own numbers can stay in registers
+        let (search, one, two) = (*self, *first, *second);
+        search.better_gain(&one, &two, before)
     }
 
     /// The better of what was found and a move, which lets two chains of a route change places and
@@ -115,7 +117,13 @@ impl Neighbourhood<'_, '_> {
             return self.better_gain(first, second, before);
         };
         if one.some && other.some {
-            if !may_be_better(change_within(self.trees.instance(), &one, &other), before) {
+            let instance = self.trees.instance();
+            let end = usize::from(front.position) + usize::from(front.length);
+            if end == usize::from(rear.position) {
+                if !may_be_better(change_within(instance, &one, &other), before) {
+                    return before;
+                }
+            } else if !may_be_better(change_apart(instance, &one, &other), before) {
                 return before;
             }
         }
@@ -152,6 +160,10 @@ impl Neighbourhood<'_, '_> {
             };
             return self.better_shift(first, second, chain, passed, before);
         }
+        if let Kind::Exchange = self.kind {
+            let other = self.second_chain(*second);
+            return self.better_shift(first, second, chain, other, before);
+        }
         self.better_gain(first, second, before)
     }
 
@@ -166,7 +178,9 @@ impl Neighbourhood<'_, '_> {
         ensures { SearchesAt self.now first.now second.now before result }
     {
         if self.first == self.second {
-            return self.better_within(first, second, before);
+            // of a copy, as above
+            let (search, one, two) = (*self, *first, *second);
+            return search.better_within(&one, &two, before);
         }
         self.better_apart(first, cut, second, before)
     }

@@ -103,45 +103,31 @@ pub fn better(before: Found, later: Found) -> Found
     }
 }
 
-/// The place at the same position of another route.
-fn place_in(place: Place, route: u16) -> Place
-    ensures { result ≡ record { route = route; position = place.position } }
-{
-    Place { route, ..place }
-}
-
-/// The chain at the same position of another route.
-fn chain_in(chain: Chain, route: u16) -> Chain
-    ensures { result ≡ record { route = route; position = chain.position; length = chain.length } }
-{
-    Chain { route, ..chain }
-}
-
-/// The same between two other routes.
+/// What was found, between two other routes.
 pub fn found_between(found: Found, a: u16, b: u16) -> Found
     ensures { result ≡ found_between found a b }
 {
     let (candidate, change) = found?;
     let candidate = match candidate {
         Move::Relocate { from, to } => Move::Relocate {
-            from: place_in(from, a),
-            to: place_in(to, b),
+            from: Place { route: a, ..from },
+            to: Place { route: b, ..to },
         },
         Move::Exchange { first, second } => Move::Exchange {
-            first: place_in(first, a),
-            second: place_in(second, b),
+            first: Place { route: a, ..first },
+            second: Place { route: b, ..second },
         },
         Move::OrOpt { chain, to } => Move::OrOpt {
-            chain: chain_in(chain, a),
-            to: place_in(to, b),
+            chain: Chain { route: a, ..chain },
+            to: Place { route: b, ..to },
         },
         Move::TwoOptStar { first, second } => Move::TwoOptStar {
-            first: place_in(first, a),
-            second: place_in(second, b),
+            first: Place { route: a, ..first },
+            second: Place { route: b, ..second },
         },
         Move::Cross { first, second } => Move::Cross {
-            first: chain_in(first, a),
-            second: chain_in(second, b),
+            first: Chain { route: a, ..first },
+            second: Chain { route: b, ..second },
         },
     };
     Some((candidate, change))

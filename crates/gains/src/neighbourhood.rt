@@ -6,7 +6,7 @@ use segments::PlanTrees;
 
 /// The moves of a kind from a route of a plan into a route, which may be the new one, with the stops of
 /// both routes and the gaps of the second.
-#[derive(Drop)]
+#[derive(Clone, Copy)]
 pub struct Neighbourhood<'a, 'i> {
     pub trees: &'a PlanTrees<'i>,
     pub kind: Kind,

@@ -1,7 +1,7 @@
 //! The best gains between two routes, which are kept while a plan changes.
 
 ghost use Rattle.std.specs.Prelude.{◌≡◌, ◌≢◌, ℕ, [], IfOk, slice_index_or, slice_set};
-ghost use Rattle.gains.specs.Kept.{unknown, rows_of, entry_of, skip, skip_if, Follows, IsForgotten, IsTakenOut, HasSameEntries};
+ghost use Rattle.gains.specs.Kept.{unknown, rows_of, entry_of, skip, skip_if, Follows, IsForgotten, HasSameEntries};
 
 use crate::entry::{Entry, UNKNOWN};
 use crate::replaced::Replaced;
@@ -131,14 +131,6 @@ impl PairGains {
         }
     }
 
-    /// Takes the entries of a route out; the routes behind it are numbered anew.
-    fn take_out(&mut self, route: usize)
-        ensures { IsTakenOut route self.old self.new }
-    {
-        self.take_row(route);
-        self.take_column(route);
-    }
-
     /// Makes rows for this many routes, unless memory is refused.
     fn make_rows(&mut self, count: usize)
         ensures { HasSameEntries self.old self.new }
@@ -163,12 +155,13 @@ impl PairGains {
         }
     }
 
-    /// Takes the entries of a route out, if it goes.
+    /// Takes the entries of a route out, if it goes; the routes behind it are numbered anew.
     fn take_out_if(&mut self, goes: bool, route: usize)
         ensures { (a b : ℕ) → entry_of self.new a b ≡ entry_of self.old (skip_if goes route a) (skip_if goes route b) }
     {
         if goes {
-            self.take_out(route);
+            self.take_row(route);
+            self.take_column(route);
         }
     }
 

@@ -37,18 +37,7 @@ fn draw_change<R: Rng>(plan: &WorkingPlan<'_>, random: &mut R) -> Option<Move> {
     None
 }
 
-/// Makes a random move of any kind that changes the cost, if one is found.
-fn make_any<R: Rng>(plan: &mut WorkingPlan<'_>, random: &mut R) -> Result<(), SearchFault>
-    ensures problem { plan.new.problem ≡ plan.old.problem }
-    ensures moves { Moves plan.old.problem plan.old.routes plan.new.routes }
-{
-    if let Some(candidate) = draw_change(plan, random) {
-        make(plan, &candidate)?;
-    }
-    Ok(())
-}
-
-/// Makes random moves of any kind.
+/// Makes random moves of any kind that change the cost, as far as such are found.
 #[tactic(auto, using(crate::proofs::Steps::moved_none, crate::proofs::Steps::moved_further))]
 fn shake_anywhere<R: Rng>(plan: &mut WorkingPlan<'_>, random: &mut R) -> Result<(), SearchFault>
     ensures problem { plan.new.problem ≡ plan.old.problem }
@@ -56,7 +45,9 @@ fn shake_anywhere<R: Rng>(plan: &mut WorkingPlan<'_>, random: &mut R) -> Result<
 {
     let count = LEAST_MOVES + below(random, MORE_MOVES);
     for _ in 0..count {
-        make_any(plan, random)?;
+        if let Some(candidate) = draw_change(plan, random) {
+            make(plan, &candidate)?;
+        }
     }
     Ok(())
 }

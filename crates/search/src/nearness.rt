@@ -45,15 +45,10 @@ pub fn number_of(count: usize) -> u16 {
     count.min(usize::from(u16::MAX)) as u16
 }
 
-/// The position of a customer in a route, if it stands there.
-fn position_in(route: &[u16], customer: u16) -> Option<usize> {
-    route.iter().position(|c| *c == customer)
-}
-
 /// Where a customer stands, if it stands in one of these routes. No contract.
 pub fn place_of(routes: &[Vec<u16>], customer: u16) -> Option<Place> {
     for (number, route) in routes.iter().enumerate() {
-        if let Some(position) = position_in(route.as_slice(), customer) {
+        if let Some(position) = route.iter().position(|c| *c == customer) {
             return Some(Place {
                 route: number_of(number),
                 position: number_of(position),

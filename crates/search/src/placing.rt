@@ -41,30 +41,8 @@ fn detour_to(instance: &Instance, route: &[u16], to: Place, customer: u16) -> De
     }
 }
 
-/// The better of the best place so far and this one, where the customer may go there. Now and then a
+/// The better of the best place so far and those of a route where the customer may go. Now and then a
 /// better place is passed over.
-fn better_place<R: Rng>(
-    plan: &WorkingPlan<'_>,
-    random: &mut R,
-    from: Place,
-    detour: Detour,
-    best: Option<Detour>,
-) -> Option<Detour> {
-    if best.is_some_and(|b| b.length <= detour.length) || below(random, PASSED_OVER) == 0 {
-        return best;
-    }
-    let candidate = Move::Relocate {
-        from,
-        to: detour.to,
-    };
-    if detour.is_timely && plan.value(&candidate).is_some() {
-        Some(detour)
-    } else {
-        best
-    }
-}
-
-/// The better of the best place so far and those of a route.
 fn best_in_route<R: Rng>(
     plan: &WorkingPlan<'_>,
     random: &mut R,
@@ -83,7 +61,12 @@ fn best_in_route<R: Rng>(
             position: number_of(position),
         };
         let detour = detour_to(plan.instance(), route.as_slice(), to, customer);
-        best = better_place(plan, random, from, detour, best);
+        if best.is_some_and(|b| b.length <= detour.length) || below(random, PASSED_OVER) == 0 {
+            continue;
+        }
+        if detour.is_timely && plan.value(&Move::Relocate { from, to }).is_some() {
+            best = Some(detour);
+        }
     }
     best
 }

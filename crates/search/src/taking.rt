@@ -27,14 +27,6 @@ fn chain_at<R: Rng>(random: &mut R, at: Place, stops: u16) -> Chain {
     }
 }
 
-/// Remembers the customers of a route.
-fn remember(taken: &mut Vec<u16>, routes: &[Vec<u16>], route: usize) -> Result<(), SearchFault> {
-    if let Some(stops) = routes.get(route) {
-        taken.extend_from_slice(stops.as_slice())?;
-    }
-    Ok(())
-}
-
 /// Takes a chain that holds a customer to a new route, unless it is all of its route, and remembers its
 /// customers; answers whether it did. A customer that was taken before, or stands in a new route, is
 /// passed over.
@@ -57,20 +49,20 @@ fn take_chain<R: Rng>(
     }
     let stops = number_of(stop_count(plan.routes(), at.route));
     let chain = chain_at(random, at, stops);
-    if chain.length == stops {
-        remember(taken, plan.routes(), usize::from(at.route))?;
-        return Ok(true);
-    }
-    let new = plan.routes().len();
+    let new = number_of(plan.routes().len());
     let to = Place {
-        route: number_of(new),
+        route: new,
         position: 0,
     };
-    let is_made = make(plan, &Move::OrOpt { chain, to })?;
-    if is_made {
-        remember(taken, plan.routes(), new)?;
+    let is_whole = chain.length == stops;
+    if !is_whole && !make(plan, &Move::OrOpt { chain, to })? {
+        return Ok(false);
     }
-    Ok(is_made)
+    let route = if is_whole { at.route } else { new };
+    if let Some(stops) = plan.routes().get(usize::from(route)) {
+        taken.extend_from_slice(stops.as_slice())?;
+    }
+    Ok(true)
 }
 
 /// Takes one to sixteen chains near a random customer to new routes, and remembers their customers.
