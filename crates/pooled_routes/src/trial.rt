@@ -76,7 +76,11 @@ impl Trial {
     }
 
     /// The prices of an instance's customers, cut to their range.
-    pub fn prices_in_range(&self, alloc: Global, instance: &Instance) -> Result<Vec<i64>, AllocError>
+    pub fn prices_in_range(
+        &self,
+        alloc: Global,
+        instance: &Instance,
+    ) -> Result<Vec<i64>, AllocError>
         ensures count { IfOk result (λ v. length v.items ≡ customer_count instance.now) }
         ensures in_range { IfOk result (λ v. AllByRecursion IsPrice v.items) }
     {

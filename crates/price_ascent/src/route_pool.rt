@@ -84,7 +84,12 @@ impl<'i> RoutePool<'i> {
     /// the same is kept once, and the empty one isn't kept. Where the pool is full, the route that was
     /// of least use makes room. No contract: any prices are sound, whatever stands in a pool.
     pub fn add(&mut self, instance: &Instance, stops: &[u16]) -> Result<(), AllocError> {
-        if stops.is_empty() || self.routes.iter().any(|route| route.stops.as_slice() == stops) {
+        if stops.is_empty()
+            || self
+                .routes
+                .iter()
+                .any(|route| route.stops.as_slice() == stops)
+        {
             return Ok(());
         }
         let route = PooledRoute::new(self.alloc, instance, stops, self.met, self.pricings)?;
