@@ -18,7 +18,9 @@ impl Neighbourhood<'_, '_> {
         requires length { IsFirstLength self.now.kind first.now.length }
         requires cut { IsFirstCut (plan_of self.now) self.now.kind first.now cut.now }
         requires first { first.now.route ≡ self.now.first }
-        ensures { SearchesFrom self.now (first.now.route ∷ first.now.position ∷ first.now.length ∷ self.now.second ∷ position ∷ []) before result }
+        ensures { SearchesFrom self.now
+            (first.now.route ∷ first.now.position ∷ first.now.length ∷ self.now.second ∷ position ∷
+            []) before result }
     {
         let route = self.second;
         let lengths = second_lengths(self.trees, self.kind, first, route, position);
@@ -41,7 +43,8 @@ impl Neighbourhood<'_, '_> {
         requires plan { IsOfPlan self.now }
         requires length { IsFirstLength self.now.kind first.now.length }
         requires first { first.now.route ≡ self.now.first }
-        ensures { SearchesFrom self.now (first.now.route ∷ first.now.position ∷ first.now.length ∷ []) before result }
+        ensures { SearchesFrom self.now
+            (first.now.route ∷ first.now.position ∷ first.now.length ∷ []) before result }
     {
         if self.no_single && first.length == 1 && !may_be_better(0, before) {
             return before;

@@ -107,7 +107,8 @@ impl Neighbourhood<'_, '_> {
         requires second { second.now.route ≡ self.now.second }
         requires front { front.route ≡ self.now.first }
         requires rear { rear.route ≡ self.now.first }
-        requires shifts { AreShifts (instance_of self.now) (plan_of self.now) self.now.kind first.now second.now front rear }
+        requires shifts { AreShifts (instance_of self.now)
+            (plan_of self.now) self.now.kind first.now second.now front rear }
         ensures { SearchesAt self.now first.now second.now before result }
     {
         let Some(one) = cut_of(self.stops, front) else {

@@ -157,7 +157,8 @@ pub fn lesser(one: i64, other: i64) -> i64
 #[inline(always)]
 fn change_of_ends(instance: &Instance, one: (u16, u16), other: (u16, u16)) -> i64
     requires one { (one.0 ≤ customer_count instance.now) × (one.1 ≤ customer_count instance.now) }
-    requires other { (other.0 ≤ customer_count instance.now) × (other.1 ≤ customer_count instance.now) }
+    requires other { (other.0 ≤ customer_count instance.now) ×
+        (other.1 ≤ customer_count instance.now) }
     ensures value { result ≡ ends_change instance.now one.0 one.1 other.0 other.1 }
     ensures low { pos 0 ≤ℤ (result +ℤ pos (2 * MOST_DISTANCE)) }
     ensures high { result ≤ℤ pos (2 * MOST_DISTANCE) }
@@ -271,8 +272,10 @@ pub fn arc(instance: &Instance, from: u16, to: u16) -> i64
 /// The cost of two arcs, in tenths.
 fn two_arcs(instance: &Instance, one: (u16, u16), other: (u16, u16)) -> i64
     requires one { (one.0 ≤ customer_count instance.now) × (one.1 ≤ customer_count instance.now) }
-    requires other { (other.0 ≤ customer_count instance.now) × (other.1 ≤ customer_count instance.now) }
-    ensures value { result ≡ pos (distance instance.now one.0 one.1 + distance instance.now other.0 other.1) }
+    requires other { (other.0 ≤ customer_count instance.now) ×
+        (other.1 ≤ customer_count instance.now) }
+    ensures value { result ≡ pos (distance instance.now one.0 one.1 + distance instance.now other.0
+        other.1) }
     ensures bound { result ≤ℤ pos (2 * MOST_DISTANCE) }
 {
     arc(instance, one.0, one.1) + arc(instance, other.0, other.1)

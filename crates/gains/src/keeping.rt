@@ -52,7 +52,8 @@ fn gain_between(
     requires first { first < length (visits_of trees.now) }
     requires second { second ≤ length (visits_of trees.now) }
     ensures kept { AreKept (problem_of trees.now) (visits_of trees.now) kept.new }
-    ensures best { IsBestAmong (problem_of trees.now) (visits_of trees.now) (IsBetween kind first second) result }
+    ensures best { IsBestAmong (problem_of trees.now) (visits_of trees.now)
+        (IsBetween kind first second) result }
 {
     let (from, into) = (usize::from(first), usize::from(second));
     if let Some(found) = kept.at(from, into).known(kind) {
@@ -91,9 +92,11 @@ fn gain_from(
     requires gaps { AreGapsOf (problem_of trees.now) (visits_of trees.now) gaps.now }
     requires kept { AreKept (problem_of trees.now) (visits_of trees.now) kept.old }
     requires first { first < length (visits_of trees.now) }
-    requires found { IsFoundAmong (problem_of trees.now) (visits_of trees.now) (λ n. kind_of n ≡ kind) before }
+    requires found { IsFoundAmong (problem_of trees.now) (visits_of trees.now)
+        (λ n. kind_of n ≡ kind) before }
     ensures kept { AreKept (problem_of trees.now) (visits_of trees.now) kept.new }
-    ensures search { Searches (problem_of trees.now) (visits_of trees.now) (λ n. kind_of n ≡ kind) (λ n. first_route n ≡ first) before result }
+    ensures search { Searches (problem_of trees.now) (visits_of trees.now) (λ n. kind_of n ≡ kind)
+        (λ n. first_route n ≡ first) before result }
 {
     let seconds = seconds_of(trees, kind, first);
     let mut best = before;

@@ -18,7 +18,8 @@ pub struct PairGains {
 /// Takes an item out, if it is there.
 #[tactic(auto, using(crate::proofs::KeptRows::without_row, crate::proofs::KeptRows::nothing_behind))]
 fn take_out_of(row: &mut Vec<Entry>, number: usize)
-    ensures { (i : ℕ) → slice_index_or row.new.items i unknown ≡ slice_index_or row.old.items (skip number i) unknown }
+    ensures { (i : ℕ) → slice_index_or row.new.items i unknown ≡ slice_index_or row.old.items
+        (skip number i) unknown }
 {
     if number < row.len() {
         row.remove(number);
@@ -27,7 +28,8 @@ fn take_out_of(row: &mut Vec<Entry>, number: usize)
 
 /// Makes a row at least this long, unless memory is refused.
 fn lengthen(row: &mut Vec<Entry>, count: usize)
-    ensures { (i : ℕ) → slice_index_or row.new.items i unknown ≡ slice_index_or row.old.items i unknown }
+    ensures { (i : ℕ) → slice_index_or row.new.items i unknown ≡ slice_index_or row.old.items i
+        unknown }
 {
     for _ in row.len()..count {
         if row.push(UNKNOWN).is_err() {
@@ -76,7 +78,8 @@ impl PairGains {
 
     /// Puts an entry in its place, if there is one for it.
     pub fn put(&mut self, first: usize, second: usize, entry: Entry)
-        ensures { rows_of self.new ≡ slice_set (rows_of self.old) first (slice_set (slice_index_or (rows_of self.old) first []) second entry) }
+        ensures { rows_of self.new ≡ slice_set (rows_of self.old) first
+            (slice_set (slice_index_or (rows_of self.old) first []) second entry) }
     {
         if first < self.rows.len() && second < self.rows[first].len() {
             self.rows[first][second] = entry;
@@ -157,7 +160,8 @@ impl PairGains {
 
     /// Takes the entries of a route out, if it goes; the routes behind it are numbered anew.
     fn take_out_if(&mut self, goes: bool, route: usize)
-        ensures { (a b : ℕ) → entry_of self.new a b ≡ entry_of self.old (skip_if goes route a) (skip_if goes route b) }
+        ensures { (a b : ℕ) → entry_of self.new a b ≡ entry_of self.old (skip_if goes route a)
+            (skip_if goes route b) }
     {
         if goes {
             self.take_row(route);

@@ -25,7 +25,8 @@ impl Neighbourhood<'_, '_> {
         requires cut { IsFirstCut (plan_of self.now) self.now.kind first.now cut.now }
         requires first { first.now.route ≡ self.now.first }
         requires within { self.now.first ≡ self.now.second }
-        ensures { IsTrue result → NoneIsBetter self.now (first.now.route ∷ first.now.position ∷ first.now.length ∷ []) before }
+        ensures { IsTrue result → NoneIsBetter self.now
+            (first.now.route ∷ first.now.position ∷ first.now.length ∷ []) before }
     {
         if !is_shift(self.kind) {
             return false;
@@ -48,7 +49,8 @@ impl Neighbourhood<'_, '_> {
         requires plan { IsOfPlan self.now }
         requires chain { IsKnownCut (instance_of self.now) chain.now }
         requires few { length self.now.gaps.now ≤ length self.now.others.now + 1 }
-        ensures { IsLeastDetour (instance_of self.now) self.now.others.now self.now.gaps.now chain.now result }
+        ensures { IsLeastDetour (instance_of self.now) self.now.others.now self.now.gaps.now
+            chain.now result }
     {
         let instance = self.trees.instance();
         let (due, left) = window_of(instance, chain);
@@ -78,7 +80,8 @@ impl Neighbourhood<'_, '_> {
         requires cut { IsFirstCut (plan_of self.now) self.now.kind first.now cut.now }
         requires first { first.now.route ≡ self.now.first }
         requires apart { self.now.first ≢ self.now.second }
-        ensures { IfSome result (λ x. NoneIsLess self.now (first.now.route ∷ first.now.position ∷ first.now.length ∷ []) x) }
+        ensures { IfSome result (λ x. NoneIsLess self.now
+            (first.now.route ∷ first.now.position ∷ first.now.length ∷ []) x) }
     {
         laws_of_segments();
         self.trees.law_of_limits();
@@ -101,7 +104,8 @@ impl Neighbourhood<'_, '_> {
         requires plan { IsOfPlan self.now }
         requires cut { IsFirstCut (plan_of self.now) self.now.kind first.now cut.now }
         requires first { first.now.route ≡ self.now.first }
-        ensures { IsTrue result → NoneIsBetter self.now (first.now.route ∷ first.now.position ∷ first.now.length ∷ []) before }
+        ensures { IsTrue result → NoneIsBetter self.now
+            (first.now.route ∷ first.now.position ∷ first.now.length ∷ []) before }
     {
         if self.first == self.second {
             return self.is_no_better_within(first, cut, before);

@@ -44,7 +44,8 @@ impl Gap {
 pub fn window_of(instance: &Instance, chain: &Cut) -> (i64, i64)
     requires { IsKnownCut instance.now chain.now }
     ensures due { result.0 ≡ pos (due instance.now chain.now.first) }
-    ensures left { result.1 ≡ pos (ready instance.now chain.now.last + service instance.now chain.now.last) }
+    ensures left { result.1 ≡ pos (ready instance.now chain.now.last + service instance.now
+        chain.now.last) }
 {
     let _count = instance.customer_count();
     let due = instance.due(chain.first) as i64;

@@ -29,7 +29,8 @@ pub fn candidate_of(kind: Kind, first: &Chain, second: &Chain) -> Move
     requires first { IsFirstLength kind first.now.length }
     requires second { IsSecondLength kind second.now.length }
     ensures kind { kind_of result ≡ kind }
-    ensures numbers { numbers result ≡ first.now.route ∷ first.now.position ∷ first.now.length ∷ second.now.route ∷ second.now.position ∷ second.now.length ∷ [] }
+    ensures numbers { numbers result ≡ first.now.route ∷ first.now.position ∷ first.now.length ∷
+        second.now.route ∷ second.now.position ∷ second.now.length ∷ [] }
 {
     let (from, to) = (place_of(first), place_of(second));
     match kind {
@@ -83,7 +84,9 @@ fn best_at_position(
 ) -> Option<(Move, i64)>
     requires plan { AreOfPlan trees.now }
     requires length { IsFirstLength kind first.now.length }
-    ensures { IsBestInRange (problem_of trees.now) (visits_of trees.now) kind (first.now.route ∷ first.now.position ∷ first.now.length ∷ route ∷ []) position (position + 1) result }
+    ensures { IsBestInRange (problem_of trees.now) (visits_of trees.now) kind
+        (first.now.route ∷ first.now.position ∷ first.now.length ∷ route ∷ []) position
+        (position + 1) result }
 {
     let lengths = second_lengths(trees, kind, first, route, position);
     let mut best = None;
@@ -108,7 +111,8 @@ fn best_into_route(
 ) -> Option<(Move, i64)>
     requires plan { AreOfPlan trees.now }
     requires length { IsFirstLength kind first.now.length }
-    ensures { IsBestInRange (problem_of trees.now) (visits_of trees.now) kind (first.now.route ∷ first.now.position ∷ first.now.length ∷ []) route (route + 1) result }
+    ensures { IsBestInRange (problem_of trees.now) (visits_of trees.now) kind
+        (first.now.route ∷ first.now.position ∷ first.now.length ∷ []) route (route + 1) result }
 {
     let positions = second_positions(trees, kind, first, route);
     let mut best = None;
@@ -122,7 +126,8 @@ fn best_into_route(
 fn best_of_chain(trees: &PlanTrees<'_>, kind: Kind, first: &Chain) -> Option<(Move, i64)>
     requires plan { AreOfPlan trees.now }
     requires length { IsFirstLength kind first.now.length }
-    ensures { IsBestInRange (problem_of trees.now) (visits_of trees.now) kind (first.now.route ∷ first.now.position ∷ []) first.now.length (first.now.length + 1) result }
+    ensures { IsBestInRange (problem_of trees.now) (visits_of trees.now) kind
+        (first.now.route ∷ first.now.position ∷ []) first.now.length (first.now.length + 1) result }
 {
     let routes = second_routes(trees, kind, first);
     let mut best = None;
@@ -140,7 +145,8 @@ fn best_from_position(
     position: u16,
 ) -> Option<(Move, i64)>
     requires { AreOfPlan trees.now }
-    ensures { IsBestInRange (problem_of trees.now) (visits_of trees.now) kind (route ∷ []) position (position + 1) result }
+    ensures { IsBestInRange (problem_of trees.now) (visits_of trees.now) kind (route ∷ []) position
+        (position + 1) result }
 {
     let lengths = first_lengths(trees, kind, route, position);
     let mut best = None;
@@ -158,7 +164,8 @@ fn best_from_position(
 /// The best of the moves with this first route.
 pub(crate) fn best_from_route(trees: &PlanTrees<'_>, kind: Kind, route: u16) -> Option<(Move, i64)>
     requires { AreOfPlan trees.now }
-    ensures { IsBestInRange (problem_of trees.now) (visits_of trees.now) kind [] route (route + 1) result }
+    ensures { IsBestInRange (problem_of trees.now) (visits_of trees.now) kind [] route
+        (route + 1) result }
 {
     let positions = first_positions(trees, kind, route);
     let mut best = None;

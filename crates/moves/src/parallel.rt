@@ -25,7 +25,9 @@ fn best_of_routes<R: Threads + Sync>(
     kind: Kind,
 ) -> Result<Vec<Option<(Move, i64)>>, AllocError>
     requires { AreOfPlan trees.now }
-    ensures { IfOk result (λ v. AllZip (λ a best. IsBestInRange (problem_of trees.now) (visits_of trees.now) kind [] a (a + 1) best) (range_with_len 0 (length (visits_of trees.now))) v.items) }
+    ensures { IfOk result (λ v. AllZip
+        (λ a best. IsBestInRange (problem_of trees.now) (visits_of trees.now) kind [] a
+        (a + 1) best) (range_with_len 0 (length (visits_of trees.now))) v.items) }
 {
     // the moves of one route are work enough for a thread
     (0..route_count(trees))
@@ -34,7 +36,8 @@ fn best_of_routes<R: Threads + Sync>(
         .map(
             |route: u16| -> Option<(Move, i64)>
                 requires { AreOfPlan trees.now }
-                ensures { IsBestInRange (problem_of trees.entry.now) (visits_of trees.entry.now) kind [] route (route + 1) result }
+                ensures { IsBestInRange (problem_of trees.entry.now)
+                    (visits_of trees.entry.now) kind [] route (route + 1) result }
             { best_from_route(trees, kind, route) },
         )
         .collect(rt, alloc)

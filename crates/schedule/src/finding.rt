@@ -30,8 +30,10 @@ fn has_empty(routes: &[Vec<u16>]) -> bool
 
 /// Whether a route visits a number that is no customer's.
 fn has_unknown(instance: &Instance, routes: &[Vec<u16>]) -> bool
-    ensures found { IsTrue result → Any (λ r. Any (λ i. ¬ IsCustomer instance.now i) r.items) routes.now }
-    ensures none { IsFalse result → All (λ r. All (λ i. IsCustomer instance.now i) r.items) routes.now }
+    ensures found { IsTrue result → Any
+        (λ r. Any (λ i. ¬ IsCustomer instance.now i) r.items) routes.now }
+    ensures none { IsFalse result → All
+        (λ r. All (λ i. IsCustomer instance.now i) r.items) routes.now }
     ensures small { IsFalse result → All (λ r. All (λ i. i ≤ MOST_CUSTOMERS) r.items) routes.now }
 {
     for route in routes {
@@ -77,8 +79,10 @@ fn is_overloaded(instance: &Instance, route: &[u16]) -> bool
 /// Whether the demands of some route are more than a vehicle holds.
 fn has_overload(instance: &Instance, routes: &[Vec<u16>]) -> bool
     requires { All (λ r. All (λ i. IsCustomer instance.now i) r.items) routes.now }
-    ensures found { IsTrue result → Any (λ r. instance.now.capacity < load_of instance.now r.items) routes.now }
-    ensures none { IsFalse result → All (λ r. load_of instance.now r.items ≤ instance.now.capacity) routes.now }
+    ensures found { IsTrue result → Any
+        (λ r. instance.now.capacity < load_of instance.now r.items) routes.now }
+    ensures none { IsFalse result → All
+        (λ r. load_of instance.now r.items ≤ instance.now.capacity) routes.now }
 {
     for route in routes {
         if is_overloaded(instance, route.as_slice()) {

@@ -34,8 +34,10 @@ impl Marks {
     /// Marks a customer, and answers whether it wasn't marked before.
     fn insert(&mut self, customer: u16) -> bool
         requires { customer ≤ MOST_CUSTOMERS }
-        ensures again { (list : List ℕ) → AreMarks list self.old → IsFalse result → count_of customer list ≡ 1 }
-        ensures once { (list : List ℕ) → AreMarks list self.old → IsTrue result → AreMarks (list ++ customer ∷ []) self.new }
+        ensures again { (list : List ℕ) → AreMarks list self.old → IsFalse result
+            → count_of customer list ≡ 1 }
+        ensures once { (list : List ℕ) → AreMarks list self.old → IsTrue result → AreMarks
+            (list ++ customer ∷ []) self.new }
     {
         let index = usize::from(customer);
         if self.marked[index] {
@@ -57,8 +59,10 @@ impl Marks {
 /// Marks the stops of a route, and answers whether none of them was marked before.
 fn mark_route(marks: &mut Marks, route: &[u16]) -> bool
     requires { All (λ i. i ≤ MOST_CUSTOMERS) route.now }
-    ensures again { (list : List ℕ) → AreMarks list marks.old → IsFalse result → (i : ℕ) × (2 ≤ count_of i (list ++ route.now)) }
-    ensures once { (list : List ℕ) → AreMarks list marks.old → IsTrue result → AreMarks (list ++ route.now) marks.new }
+    ensures again { (list : List ℕ) → AreMarks list marks.old → IsFalse result → (i : ℕ) ×
+        (2 ≤ count_of i (list ++ route.now)) }
+    ensures once { (list : List ℕ) → AreMarks list marks.old → IsTrue result → AreMarks
+        (list ++ route.now) marks.new }
 {
     for stop in route {
         if !marks.insert(*stop) {

@@ -43,10 +43,13 @@ fn advance(instance: &Instance, vehicle: Progress, stop: u16) -> Option<Progress
     ensures time { let start = start_of instance.now vehicle.at vehicle.time stop in
         IfSome result (λ v. v.time ≡ start + service instance.now stop) }
     ensures bound { IfSome result (λ v. v.time ≤ 20 * MOST_TIME) }
-    ensures cost { IfSome result (λ v. v.cost ≡ vehicle.cost + distance instance.now vehicle.at stop) }
+    ensures cost { IfSome result (λ v. v.cost ≡ vehicle.cost + distance instance.now vehicle.at
+        stop) }
     ensures load { IfSome result (λ v. v.load ≡ vehicle.load + demand instance.now stop) }
-    ensures served { IfSome result (λ _. CanServe instance.now vehicle.at vehicle.time vehicle.load stop) }
-    ensures none { IfNone result (¬ CanServe instance.now vehicle.at vehicle.time vehicle.load stop) }
+    ensures served { IfSome result (λ _. CanServe instance.now vehicle.at vehicle.time vehicle.load
+        stop) }
+    ensures none { IfNone result (¬ CanServe instance.now vehicle.at vehicle.time vehicle.load
+        stop) }
 {
     let capacity = u32::from(instance.capacity());
     let load = vehicle.load + u32::from(instance.demand(stop));

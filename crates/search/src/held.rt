@@ -66,7 +66,8 @@ impl<'i> HeldPlan<'i> {
     /// it is the one held.
     pub fn hold(&mut self, found: WorkingPlan<'i>) -> Result<(), AllocError>
         requires { found.problem ≡ self.old.problem }
-        ensures held { OnOk result (((found.entry.cost < self.old.cost) × (self.new ≡ found.entry)) ⊎ ((self.old.cost ≤ found.entry.cost) × (self.new ≡ self.old))) }
+        ensures held { OnOk result (((found.entry.cost < self.old.cost) × (self.new ≡ found.entry))
+            ⊎ ((self.old.cost ≤ found.entry.cost) × (self.new ≡ self.old))) }
         ensures fault { OnErr result (self.new ≡ self.old) }
     {
         if found.cost().get() < self.plan.cost().get() {

@@ -60,7 +60,8 @@ fn hold<'i>(
     next: WorkingPlan<'i>,
     threshold: u64,
 ) -> Result<WorkingPlan<'i>, AllocError>
-    ensures current { OnOk result ((held.new.current ≡ next.entry) ⊎ (held.new.current ≡ held.old.current)) }
+    ensures current { OnOk result ((held.new.current ≡ next.entry) ⊎
+        (held.new.current ≡ held.old.current)) }
     ensures best { OnOk result (IsCheaper held.old.best next.entry held.new.best) }
     ensures spare { IfOk result (λ w. (w ≡ next.entry) ⊎ (w ≡ held.old.current)) }
 {
@@ -78,7 +79,8 @@ fn hold<'i>(
 fn begin<'i>(start: WorkingPlan<'i>) -> Result<Held<'i>, SearchFault>
     ensures same { IfOk result (λ h. h.best ≡ h.current) }
     ensures problem { IfOk result (λ h. h.current.problem ≡ start.entry.problem) }
-    ensures descends { IfOk result (λ h. Descends start.entry.problem start.entry.routes h.current.routes) }
+    ensures descends { IfOk result (λ h. Descends start.entry.problem start.entry.routes
+        h.current.routes) }
     ensures optimum { IfOk result (λ h. IsLocalOptimum start.entry.problem h.current.routes) }
 {
     let mut current = start;
@@ -95,7 +97,9 @@ pub fn find_by_rounds<'i, R: Rng>(
     random: &mut R,
 ) -> Result<WorkingPlan<'i>, SearchFault>
     ensures problem { IfOk result (λ f. f.problem ≡ start.entry.problem) }
-    ensures found { IfOk result (λ f. (plans : List (List (List ℕ))) × AreRounds start.entry.problem ROUNDS start.entry.routes plans × IsCheapest start.entry.problem plans f.routes) }
+    ensures found { IfOk result (λ f. (plans : List (List (List ℕ)))
+        × AreRounds start.entry.problem ROUNDS start.entry.routes plans
+        × IsCheapest start.entry.problem plans f.routes) }
 {
     let mut held = begin(start)?;
     let mut spare = held.current.try_clone()?;

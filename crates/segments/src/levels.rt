@@ -35,7 +35,8 @@ pub(crate) fn join_both<L: Linked>(context: &L::Context, a: Option<L>, b: Option
 /// The join at i one level up.
 fn join_pair<L: Linked>(context: &L::Context, below: &[Option<L>], i: usize) -> Option<L>
     requires { 2 * i < length below.now }
-    ensures { take (i + 1) (pairs (L.op context.now) below.now) ≡ take i (pairs (L.op context.now) below.now) ++ (result ∷ []) }
+    ensures { take (i + 1) (pairs (L.op context.now) below.now) ≡ take i
+        (pairs (L.op context.now) below.now) ++ (result ∷ []) }
 {
     let count = below.len();
     let first = below[2 * i];

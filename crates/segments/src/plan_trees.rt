@@ -47,7 +47,8 @@ fn trees_of(
     routes: &[Vec<u16>],
 ) -> Result<Vec<RouteTree<Segment>>, TreeFault>
     requires { All (λ r. All (λ i. IsCustomer instance.now i) r.items) routes.now }
-    ensures routes { IfOk result (λ v. map items_of v.items ≡ map (map (stop instance.now)) (lists routes.now)) }
+    ensures routes { IfOk result (λ v. map items_of v.items ≡ map (map (stop instance.now))
+        (lists routes.now)) }
     ensures trees { IfOk result (λ v. AllByRecursion (IsTree (join instance.now)) v.items) }
 {
     let mut trees = Vec::new(alloc);
@@ -63,7 +64,8 @@ impl<'i> PlanTrees<'i> {
     /// The trees of a plan.
     pub fn new(alloc: Global, plan: &Feasible<'i>) -> Result<PlanTrees<'i>, TreeFault>
         ensures problem { IfOk result (λ t. problem_of t ≡ plan.now.problem) }
-        ensures routes { IfOk result (λ t. routes_of t ≡ map (map (stop plan.now.problem)) plan.now.routes) }
+        ensures routes { IfOk result (λ t. routes_of t ≡ map
+            (map (stop plan.now.problem)) plan.now.routes) }
         ensures trees { IfOk result (λ t. AreTrees t) }
         ensures plan { IfOk result (λ t. IsPlan (problem_of t) plan.now.routes) }
     {
@@ -117,9 +119,11 @@ impl<'i> PlanTrees<'i> {
     #[tactic(auto, using(crate::proofs::RouteChanges::routes_pushed, crate::proofs::RouteChanges::trees_pushed))]
     pub fn push_route(&mut self, tree: RouteTree<Segment>) -> Result<(), AllocError>
         ensures problem { problem_of self.new ≡ problem_of self.old }
-        ensures routes { OnOk result (routes_of self.new ≡ routes_of self.old ++ (items_of tree ∷ [])) }
+        ensures routes { OnOk result (routes_of self.new ≡ routes_of self.old ++
+            (items_of tree ∷ [])) }
         ensures unchanged { OnErr result (routes_of self.new ≡ routes_of self.old) }
-        ensures trees { AreTrees self.old → IsTree (join (problem_of self.old)) tree → AreTrees self.new }
+        ensures trees { AreTrees self.old → IsTree (join (problem_of self.old)) tree
+            → AreTrees self.new }
     {
         self.routes.push(tree)?;
         Ok(())

@@ -173,7 +173,8 @@ impl Segment {
     /// The latest feasible arrival with the next segment.
     fn latest_with(&self, next: &Segment, arc: u64) -> i64
         requires { arc ≤ MOST_DISTANCE }
-        ensures { result ≡ int_min self.now.latest ((next.now.latest -ℤ self.now.duration) -ℤ pos arc) }
+        ensures { result ≡ int_min self.now.latest
+            ((next.now.latest -ℤ self.now.duration) -ℤ pos arc) }
     {
         let latest = next.latest - self.duration - arc as i64;
         if latest < self.latest {
@@ -194,7 +195,8 @@ impl Segment {
     /// The earliest leaving with the next segment.
     fn earliest_with(&self, next: &Segment, arc: u64) -> i64
         requires { arc ≤ MOST_DISTANCE }
-        ensures { result ≡ int_max (self.now.earliest +ℤ pos arc +ℤ next.now.duration) next.now.earliest }
+        ensures { result ≡ int_max (self.now.earliest +ℤ pos arc +ℤ next.now.duration)
+            next.now.earliest }
     {
         let earliest = self.earliest + arc as i64 + next.duration;
         if earliest < next.earliest {

@@ -46,7 +46,8 @@ impl<L: Linked> Stretch<L> {
     fn first_out(self, context: &L::Context, level: &[Option<L>]) -> Stretch<L>
         requires in_order { self.a ≤ self.b }
         requires within { self.b ≤ length level.now }
-        ensures worth { worth (L.op context.now) result level.now ≡ worth (L.op context.now) self level.now }
+        ensures worth { worth (L.op context.now) result level.now ≡ worth
+            (L.op context.now) self level.now }
         ensures even { result.a < result.b → result.a % 2 ≡ 0 }
         ensures in_order { result.a ≤ result.b }
         ensures end { result.b ≡ self.b }
@@ -67,7 +68,8 @@ impl<L: Linked> Stretch<L> {
         requires in_order { self.a ≤ self.b }
         requires within { self.b ≤ length level.now }
         requires even { self.a < self.b → self.a % 2 ≡ 0 }
-        ensures worth { worth (L.op context.now) result level.now ≡ worth (L.op context.now) self level.now }
+        ensures worth { worth (L.op context.now) result level.now ≡ worth
+            (L.op context.now) self level.now }
         ensures first { result.a < result.b → result.a % 2 ≡ 0 }
         ensures last { result.a < result.b → result.b % 2 ≡ 0 }
         ensures in_order { result.a ≤ result.b }
@@ -88,7 +90,8 @@ impl<L: Linked> Stretch<L> {
     pub(crate) fn up(self, context: &L::Context, level: &[Option<L>]) -> Stretch<L>
         requires in_order { self.a ≤ self.b }
         requires within { self.b ≤ length level.now }
-        ensures worth { worth (L.op context.now) result (pairs (L.op context.now) level.now) ≡ worth (L.op context.now) self level.now }
+        ensures worth { worth (L.op context.now) result
+            (pairs (L.op context.now) level.now) ≡ worth (L.op context.now) self level.now }
         ensures in_order { result.a ≤ result.b }
         ensures end { 2 * result.b ≤ self.b }
     {

@@ -203,7 +203,8 @@ impl<L: Linked> RouteTree<L> {
         requires tree { IsTree (L.op context.now) self.old }
         requires in_order { a ≤ b }
         requires within { b ≤ length (items_of self.old) }
-        ensures items { OnOk result (items_of self.new ≡ take a (items_of self.old) ++ list.now ++ drop b (items_of self.old)) }
+        ensures items { OnOk result (items_of self.new ≡ take a
+            (items_of self.old) ++ list.now ++ drop b (items_of self.old)) }
         ensures unchanged { OnErr result (items_of self.new ≡ items_of self.old) }
         ensures tree { IsTree (L.op context.now) self.new }
     {

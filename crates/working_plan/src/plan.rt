@@ -178,9 +178,12 @@ impl<'i> WorkingPlan<'i> {
     pub fn apply(&mut self, candidate: &Move) -> Result<(), MoveFault>
         ensures problem { self.new.problem ≡ self.old.problem }
         ensures routes { OnOk result (self.new.routes ≡ after self.old.routes candidate.now) }
-        ensures value { OnOk result (HasValue self.old.problem self.old.routes candidate.now (pos self.new.cost -ℤ pos self.old.cost)) }
+        ensures value { OnOk result (HasValue self.old.problem self.old.routes candidate.now
+            (pos self.new.cost -ℤ pos self.old.cost)) }
         ensures unchanged { OnErr result (self.new ≡ self.old) }
-        ensures refused { IfErr result (λ e. e ≡ NotFeasible → (v : ℤ) → ¬ HasValue self.old.problem self.old.routes candidate.now v) }
+        ensures refused { IfErr result
+            (λ e. e ≡ NotFeasible → (v : ℤ)
+            → ¬ HasValue self.old.problem self.old.routes candidate.now v) }
     {
         let Some(by) = value(&self.trees, candidate) else {
             return Err(MoveFault::NotFeasible);

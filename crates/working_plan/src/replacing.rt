@@ -63,7 +63,8 @@ fn put_route(routes: &mut Vec<Vec<u16>>, trees: &mut PlanTrees<'_>, number: usiz
     requires items { items_of made.tree ≡ map (stop (problem_of trees.old)) made.visits.items }
     requires tree { IsTree (join (problem_of trees.old)) made.tree }
     ensures problem { problem_of trees.new ≡ problem_of trees.old }
-    ensures routes { lists routes.new.items ≡ slice_set (lists routes.old.items) number made.visits.items }
+    ensures routes { lists routes.new.items ≡ slice_set
+        (lists routes.old.items) number made.visits.items }
     ensures trees { AreTreesOf (lists routes.new.items) trees.new }
 {
     put_tree(trees, number, made.tree);
@@ -95,7 +96,8 @@ fn put_or_remove(
     requires items { items_of made.tree ≡ map (stop (problem_of trees.old)) made.visits.items }
     requires tree { IsTree (join (problem_of trees.old)) made.tree }
     ensures problem { problem_of trees.new ≡ problem_of trees.old }
-    ensures routes { lists routes.new.items ≡ kept (with_route (lists routes.old.items) number made.visits.items) }
+    ensures routes { lists routes.new.items ≡ kept
+        (with_route (lists routes.old.items) number made.visits.items) }
     ensures trees { AreTreesOf (lists routes.new.items) trees.new }
 {
     if made.visits.is_empty() {
@@ -115,7 +117,8 @@ fn push_route(
     requires items { items_of made.tree ≡ map (stop (problem_of trees.old)) made.visits.items }
     requires tree { IsTree (join (problem_of trees.old)) made.tree }
     ensures problem { problem_of trees.new ≡ problem_of trees.old }
-    ensures routes { OnOk result (lists routes.new.items ≡ lists routes.old.items ++ (made.visits.items ∷ [])) }
+    ensures routes { OnOk result (lists routes.new.items ≡ lists routes.old.items ++
+        (made.visits.items ∷ [])) }
     ensures unchanged { OnErr result (lists routes.new.items ≡ lists routes.old.items) }
     ensures trees { AreTreesOf (lists routes.new.items) trees.new }
 {
@@ -140,7 +143,8 @@ fn put_or_push(
     requires items { items_of made.tree ≡ map (stop (problem_of trees.old)) made.visits.items }
     requires tree { IsTree (join (problem_of trees.old)) made.tree }
     ensures problem { problem_of trees.new ≡ problem_of trees.old }
-    ensures routes { OnOk result (lists routes.new.items ≡ kept (with_route (lists routes.old.items ++ ([] ∷ [])) number made.visits.items)) }
+    ensures routes { OnOk result (lists routes.new.items ≡ kept
+        (with_route (lists routes.old.items ++ ([] ∷ [])) number made.visits.items)) }
     ensures unchanged { OnErr result (lists routes.new.items ≡ lists routes.old.items) }
     ensures trees { AreTreesOf (lists routes.new.items) trees.new }
 {
@@ -155,11 +159,14 @@ fn put_or_push(
 /// The two routes that a change of a plan replaces.
 pub fn replaced_by(trees: &PlanTrees<'_>, change: &Change) -> Replaced
     requires plan { AreOfPlan trees.now }
-    requires first { AllByRecursion (IsChainOf (visits_of trees.now)) change.now.first.chains.items }
-    requires second { AllByRecursion (IsChainOf (visits_of trees.now)) change.now.second.chains.items }
+    requires first { AllByRecursion (IsChainOf (visits_of trees.now))
+        change.now.first.chains.items }
+    requires second { AllByRecursion
+        (IsChainOf (visits_of trees.now)) change.now.second.chains.items }
     requires order { change.now.first.route < change.now.second.route }
     requires known { change.now.second.route ≤ length (visits_of trees.now) }
-    ensures { IsReplaced (visits_of trees.now) (kept (changed (visits_of trees.now) change.now)) result }
+    ensures { IsReplaced (visits_of trees.now)
+        (kept (changed (visits_of trees.now) change.now)) result }
 {
     Replaced {
         first: change.first.route,
@@ -177,15 +184,20 @@ pub fn replace(
     change: &Change,
 ) -> Result<(), AllocError>
     requires trees { AreTreesOf (lists routes.old.items) trees.old }
-    requires first { AllByRecursion (IsChainOf (lists routes.old.items)) change.now.first.chains.items }
-    requires second { AllByRecursion (IsChainOf (lists routes.old.items)) change.now.second.chains.items }
+    requires first { AllByRecursion (IsChainOf (lists routes.old.items))
+        change.now.first.chains.items }
+    requires second { AllByRecursion
+        (IsChainOf (lists routes.old.items)) change.now.second.chains.items }
     requires order { change.now.first.route < change.now.second.route }
     requires known { change.now.second.route ≤ length (lists routes.old.items) }
     requires old { IsPlan (problem_of trees.old) (lists routes.old.items) }
-    requires first_known { All (λ i. IsCustomer (problem_of trees.old) i) (joined (lists routes.old.items) change.now.first.chains.items) }
-    requires second_known { All (λ i. IsCustomer (problem_of trees.old) i) (joined (lists routes.old.items) change.now.second.chains.items) }
+    requires first_known { All (λ i. IsCustomer (problem_of trees.old) i)
+        (joined (lists routes.old.items) change.now.first.chains.items) }
+    requires second_known { All (λ i. IsCustomer (problem_of trees.old) i)
+        (joined (lists routes.old.items) change.now.second.chains.items) }
     ensures problem { problem_of trees.new ≡ problem_of trees.old }
-    ensures routes { OnOk result (lists routes.new.items ≡ kept (changed (lists routes.old.items) change.now)) }
+    ensures routes { OnOk result (lists routes.new.items ≡ kept
+        (changed (lists routes.old.items) change.now)) }
     ensures unchanged { OnErr result (lists routes.new.items ≡ lists routes.old.items) }
     ensures trees { AreTreesOf (lists routes.new.items) trees.new }
 {
@@ -217,7 +229,8 @@ fn put_copy(
     requires trees { AreTreesOf (lists routes.old.items) trees.old }
     requires customers { All (λ i. IsCustomer (problem_of trees.old) i) source.now }
     ensures problem { problem_of trees.new ≡ problem_of trees.old }
-    ensures routes { OnOk result (lists routes.new.items ≡ put_at (lists routes.old.items) number source.now) }
+    ensures routes { OnOk result (lists routes.new.items ≡ put_at
+        (lists routes.old.items) number source.now) }
     ensures trees { AreTreesOf (lists routes.new.items) trees.new }
 {
     if number < routes.len() && routes[number].as_slice() == source {
@@ -254,7 +267,8 @@ pub fn copy_over(
     source: &[Vec<u16>],
 ) -> Result<(), AllocError>
     requires trees { AreTreesOf (lists routes.old.items) trees.old }
-    requires customers { All (λ r. All (λ i. IsCustomer (problem_of trees.old) i) r.items) source.now }
+    requires customers { All (λ r. All (λ i. IsCustomer (problem_of trees.old) i) r.items)
+        source.now }
     ensures problem { problem_of trees.new ≡ problem_of trees.old }
     ensures routes { OnOk result (lists routes.new.items ≡ lists source.now) }
     ensures trees { AreTreesOf (lists routes.new.items) trees.new }
