@@ -42,12 +42,12 @@ text_is c =
 
 -- ---- the text in the parts in which it is written
 
--- the lines before the nodes are the first one, those before the bound, the bound's and the tree's
-pub head_parts : (x : Content) → flat_map line (head_lines x) ≡ ((first_line x.version ++ flat_map line (name_lines x)) ++ line (codes "BOUND" ++ spaced (tenths_text x.bound))) ++ codes "TREE\n"
+-- the lines before the nodes are those before the bound, the bound's and the tree's
+pub head_parts : (x : Content) → flat_map line (head_lines x) ≡ ((first_line x.version ++ flat_map line (name_lines x)) ++ line (codes "BOUND " ++ tenths_text x.bound)) ++ codes "TREE\n"
 head_parts x =
     let first = first_line x.version in
     let names = flat_map line (name_lines x) in
-    let bound = line (codes "BOUND" ++ spaced (tenths_text x.bound)) in
+    let bound = line (codes "BOUND " ++ tenths_text x.bound) in
     ap (λ (w : List ℕ). first ++ w) (flat_map-append line (name_lines x) ((codes "BOUND" ++ spaced (tenths_text x.bound)) ∷ codes "TREE" ∷ []))
     ∙ four first names bound (codes "TREE\n")
   where

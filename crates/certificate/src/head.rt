@@ -3,13 +3,12 @@
 ghost use Rattle.std.specs.Prelude.{◌≡◌, ◌≤◌, IfOk};
 ghost use Rattle.std.specs.List.{list_all};
 ghost use Rattle.tenths.specs.Parts.{parts};
-ghost use Rattle.certificate.specs.Reading.{Gives, fixed_at, version_in, version_at, second, field_at, is_name, name_at, within_at, bound_at, sizes_at, title_at, head_at};
+ghost use Rattle.certificate.specs.Reading.{Gives, fixed_at, version_at, second, field_at, is_name, name_at, within_at, bound_at, head_at};
 ghost use Rattle.solomon_reader.specs.Words.{is_letter};
 ghost use Rattle.certificate.specs.Text.{version_of};
 
 use crate::fault::CertFault;
 use crate::version::Version;
-use crate::words::next_line;
 use solomon_reader::{MOST_CUSTOMERS, MOST_NAME, MOST_NEIGHBOURS};
 use std::alloc::Global;
 use tenths::{Lines, Parts, Tenths, number, read_tenths};
@@ -30,25 +29,33 @@ pub fn fixed(lines: &mut Lines<'_>, text: &[u8]) -> Result<(), CertFault>
     ensures { Gives (λ _. lines.new) result (fixed_at text.now lines.old) }
 {
     let number = lines.number();
-    let line = next_line(lines)?;
+    let Some(line) = lines.next() else {
+        return Err(CertFault::Truncated);
+    };
     if line != text {
         return Err(CertFault::BadLine { line: number });
     }
     Ok(())
 }
 
-/// The second of two words, of which the first is this one.
-fn second_word<'a>(number: u64, text: &[u8], line: &'a [u8]) -> Result<&'a [u8], CertFault>
-    ensures { Gives (λ w. w.now) result (second number text.now (parts 32 line.now)) }
+/// The second of the next line's two words, of which the first is this one.
+#[tactic(auto, unfolding(crate::specs::Reading::field_at))]
+fn field<'a>(lines: &mut Lines<'a>, text: &[u8]) -> Result<&'a [u8], CertFault>
+    ensures { Gives (λ w. (w.now, lines.new)) result (field_at text.now lines.old) }
 {
+    let number = lines.number();
+    let Some(line) = lines.next() else {
+        return Err(CertFault::Truncated);
+    };
+    let bad = CertFault::BadLine { line: number };
     let mut words = Parts::new(line, b' ');
     match words.next() {
-        None => Err(CertFault::BadLine { line: number }),
+        None => Err(bad),
         Some(first) => match words.next() {
-            None => Err(CertFault::BadLine { line: number }),
+            None => Err(bad),
             Some(word) => {
                 if words.next().is_some() || first != text {
-                    return Err(CertFault::BadLine { line: number });
+                    return Err(bad);
                 }
                 Ok(word)
             }
@@ -56,26 +63,10 @@ fn second_word<'a>(number: u64, text: &[u8], line: &'a [u8]) -> Result<&'a [u8],
     }
 }
 
-/// The second word of the next line.
-#[tactic(auto, unfolding(crate::specs::Reading::field_at))]
-fn field<'a>(lines: &mut Lines<'a>, text: &[u8]) -> Result<&'a [u8], CertFault>
-    ensures { Gives (λ w. (w.now, lines.new)) result (field_at text.now lines.old) }
-{
-    let number = lines.number();
-    let line = next_line(lines)?;
-    second_word(number, text, line)
-}
-
-fn is_graphic(b: u8) -> bool
-    ensures { result ≡ is_letter b }
-{
-    33 <= b && b <= 126
-}
-
 fn are_graphic(word: &[u8]) -> bool
     ensures { result ≡ list_all is_letter word.now }
 {
-    word.iter().all(|b| is_graphic(*b))
+    word.iter().all(|b| 33 <= *b && *b <= 126)
 }
 
 pub fn is_name_word(word: &[u8]) -> bool
@@ -121,56 +112,33 @@ fn bound(lines: &mut Lines<'_>) -> Result<Tenths, CertFault>
     read_tenths(word).ok_or(CertFault::BadLine { line })
 }
 
-/// The numbers of customers and of neighbours.
-#[tactic(auto, unfolding(crate::specs::Reading::sizes_at))]
-fn sizes(lines: &mut Lines<'_>) -> Result<(u16, u32), CertFault>
-    ensures { Gives (λ s. (s, lines.new)) result (sizes_at lines.old) }
-{
-    let size = within(lines, b"CUSTOMERS", 1, u64::from(MOST_CUSTOMERS))?;
-    let neighbours = within(lines, b"NEIGHBOURS", 0, u64::from(MOST_NEIGHBOURS))?;
-    Ok((size as u16, neighbours as u32))
-}
-
-/// The version that a line names.
-fn version_named(line: u64, text: &[u8]) -> Result<Version, CertFault>
-    ensures { Gives version_of result (version_in line text.now) }
-{
-    if text == b"VRPTW-CERT 1".as_slice() {
-        return Ok(Version::One);
-    }
-    if text == b"VRPTW-CERT 2".as_slice() {
-        return Ok(Version::Two);
-    }
-    Err(CertFault::BadLine { line })
-}
-
 /// The first line.
 #[tactic(auto, unfolding(crate::specs::Reading::version_at))]
 fn version(lines: &mut Lines<'_>) -> Result<Version, CertFault>
     ensures { Gives (λ v. (version_of v, lines.new)) result (version_at lines.old) }
 {
     let number = lines.number();
-    let line = next_line(lines)?;
-    version_named(number, line)
-}
-
-/// The first two lines.
-#[tactic(auto, unfolding(crate::specs::Reading::title_at))]
-fn title(alloc: Global, lines: &mut Lines<'_>) -> Result<(Version, Vec<u8>), CertFault>
-    ensures { Gives (λ t. ((version_of t.0, t.1.items), lines.new)) result (title_at lines.old) }
-{
-    let version = version(lines)?;
-    let name = name(alloc, lines)?;
-    Ok((version, name))
+    let Some(line) = lines.next() else {
+        return Err(CertFault::Truncated);
+    };
+    if line == b"VRPTW-CERT 1".as_slice() {
+        return Ok(Version::One);
+    }
+    if line == b"VRPTW-CERT 2".as_slice() {
+        return Ok(Version::Two);
+    }
+    Err(CertFault::BadLine { line: number })
 }
 
 /// The lines before the tree.
-#[tactic(auto, unfolding(crate::specs::Reading::head_at))]
+#[tactic(auto, unfolding(crate::specs::Reading::head_at, crate::specs::Reading::title_at, crate::specs::Reading::sizes_at))]
 pub fn head_lines(alloc: Global, lines: &mut Lines<'_>) -> Result<Head, CertFault>
     ensures { Gives (λ h. (record { version = version_of h.version; name = h.name.items; size = h.size; neighbours = h.neighbours; bound = h.bound }, lines.new)) result (head_at lines.old) }
 {
-    let (version, name) = title(alloc, lines)?;
-    let (size, neighbours) = sizes(lines)?;
+    let version = version(lines)?;
+    let name = name(alloc, lines)?;
+    let size = within(lines, b"CUSTOMERS", 1, u64::from(MOST_CUSTOMERS))? as u16;
+    let neighbours = within(lines, b"NEIGHBOURS", 0, u64::from(MOST_NEIGHBOURS))? as u32;
     let bound = bound(lines)?;
     Ok(Head {
         version,

@@ -2,7 +2,7 @@
 
 ghost use Rattle.std.specs.Prelude.{◌≡◌};
 ghost use Rattle.std.specs.List.{list_all};
-ghost use Rattle.certificate.specs.Reading.{Gives, next_at, signed_at, prices_at, pair_at, arc_at, is_arc, is_price, is_decided, arc_eq, node_in, node_at};
+ghost use Rattle.certificate.specs.Reading.{Gives, signed_at, prices_at, pair_at, arc_at, is_arc, is_price, is_decided, arc_eq, node_in, node_at};
 ghost use Rattle.tenths.specs.Reading.{value_or};
 ghost use Rattle.certificate.specs.declared.fault.CertFault.TheVariants.{BadLine};
 ghost use Rattle.certificate.specs.Tree.{node_of};
@@ -16,45 +16,22 @@ use solomon_reader::MOST_PRICE;
 use std::alloc::Global;
 use tenths::{Lines, Parts, number, signed};
 
-/// The next line.
-pub fn next_line<'a>(lines: &mut Lines<'a>) -> Result<&'a [u8], CertFault>
-    ensures { Gives (λ l. (l.now, lines.new)) result (next_at lines.old) }
-{
-    match lines.next() {
-        None => Err(CertFault::Truncated),
-        Some(line) => Ok(line),
-    }
-}
-
-/// A canonical signed number, within the cap.
-fn signed_word(line: u64, word: &[u8]) -> Result<i64, CertFault>
-    ensures { Gives (λ z. z) result (value_or (BadLine line) (option_map clamped (signed_of word.now))) }
-{
-    signed(word).ok_or(CertFault::BadLine { line })
-}
-
 /// The canonical signed numbers that the rest of a line has.
 fn signed_words(alloc: Global, line: u64, words: &mut Parts<'_>) -> Result<Vec<i64>, CertFault>
     ensures { Gives (λ v. v.items) result (signed_at line words.old) }
 {
     let mut list = Vec::new(alloc);
     while let Some(word) = words.next() {
-        let price = signed_word(line, word)?;
+        let price = signed(word).ok_or(CertFault::BadLine { line })?;
         list.push(price)?;
     }
     Ok(list)
 }
 
-fn is_in_range(price: i64) -> bool
-    ensures { result ≡ is_price price }
-{
-    price.unsigned_abs() <= MOST_PRICE
-}
-
 pub fn are_in_range(prices: &[i64]) -> bool
     ensures { result ≡ list_all is_price prices.now }
 {
-    prices.iter().all(|z| is_in_range(*z))
+    prices.iter().all(|z| z.unsigned_abs() <= MOST_PRICE)
 }
 
 /// The prices of a leaf.
@@ -72,13 +49,6 @@ fn prices(alloc: Global, size: u16, line: u64, words: &mut Parts<'_>) -> Result<
     Ok(list)
 }
 
-/// A canonical number, up to the cap.
-fn whole_word(line: u64, word: &[u8]) -> Result<u64, CertFault>
-    ensures { Gives (λ m. m) result (value_or (BadLine line) (option_map capped (number_of word.now))) }
-{
-    number(word).ok_or(CertFault::BadLine { line })
-}
-
 /// Two canonical numbers and no more, each up to the cap.
 #[tactic(auto, unfolding(crate::specs::Reading::pair_at))]
 fn pair(line: u64, words: &mut Parts<'_>) -> Result<(u64, u64), CertFault>
@@ -90,22 +60,20 @@ fn pair(line: u64, words: &mut Parts<'_>) -> Result<(u64, u64), CertFault>
             None => Err(CertFault::BadLine { line }),
             Some(to) => match words.next() {
                 Some(_) => Err(CertFault::BadLine { line }),
-                None => Ok((whole_word(line, from)?, whole_word(line, to)?)),
+                None => {
+                    let from = number(from).ok_or(CertFault::BadLine { line })?;
+                    let to = number(to).ok_or(CertFault::BadLine { line })?;
+                    Ok((from, to))
+                }
             },
         },
     }
 }
 
-fn is_same(a: (u16, u16), b: (u16, u16)) -> bool
-    ensures { result ≡ arc_eq a b }
-{
-    a.0 == b.0 && a.1 == b.1
-}
-
 pub fn is_on(arc: (u16, u16), path: &[(u16, u16)]) -> bool
     ensures { result ≡ is_decided arc path.now }
 {
-    path.iter().any(|b| is_same(*b, arc))
+    path.iter().any(|b| b.0 == arc.0 && b.1 == arc.1)
 }
 
 pub fn is_in_size(size: u16, pair: (u64, u64)) -> bool
@@ -135,34 +103,8 @@ fn arc(
     Ok(arc)
 }
 
-/// The node that a line is.
-#[tactic(auto, unfolding(crate::specs::Reading::node_in))]
-fn node_of(
-    alloc: Global,
-    size: u16,
-    line: u64,
-    path: &[(u16, u16)],
-    text: &[u8],
-) -> Result<CertNode, CertFault>
-    ensures { Gives (λ x. node_of x) result (node_in size line path.now (parts 32 text.now)) }
-{
-    let mut words = Parts::new(text, b' ');
-    match words.next() {
-        None => Err(CertFault::BadLine { line }),
-        Some(word) => {
-            if word == b"P".as_slice() {
-                return Ok(CertNode::Leaf(prices(alloc, size, line, &mut words)?));
-            }
-            if word == b"S".as_slice() {
-                let (from, to) = arc(size, line, path, &mut words)?;
-                return Ok(CertNode::Split { from, to });
-            }
-            Err(CertFault::BadLine { line })
-        }
-    }
-}
-
 /// The next node.
+#[tactic(auto, unfolding(crate::specs::Reading::node_in))]
 pub fn node(
     alloc: Global,
     size: u16,
@@ -171,7 +113,19 @@ pub fn node(
 ) -> Result<CertNode, CertFault>
     ensures { Gives (λ x. (node_of x, lines.new)) result (node_at size path.now lines.old) }
 {
-    let number = lines.number();
-    let line = next_line(lines)?;
-    node_of(alloc, size, number, path, line)
+    let line = lines.number();
+    let Some(text) = lines.next() else {
+        return Err(CertFault::Truncated);
+    };
+    let mut words = Parts::new(text, b' ');
+    match words.next() {
+        Some(word) if word == b"P".as_slice() => {
+            Ok(CertNode::Leaf(prices(alloc, size, line, &mut words)?))
+        }
+        Some(word) if word == b"S".as_slice() => {
+            let (from, to) = arc(size, line, path, &mut words)?;
+            Ok(CertNode::Split { from, to })
+        }
+        _ => Err(CertFault::BadLine { line }),
+    }
 }

@@ -1,13 +1,13 @@
 -- Reading words and lines one after the other, as the loops do.
-use Rattle.std.proofs.Common.{◌≡◌, ℕ, suc, ◌+◌, ◌<◌, Bool, true, false, List, [], ◌∷◌, ◌++◌, length, take, drop, Result, Ok, Err, refl, sym, ap, ◌∙◌, append_assoc, arith, Vec, nat_eq, ◌&&◌}
+use Rattle.std.proofs.Common.{◌≡◌, ℕ, suc, ◌+◌, ◌<◌, Bool, true, false, List, [], ◌∷◌, ◌++◌, length, take, drop, Some, None, Result, Ok, Err, refl, sym, ap, ◌∙◌, append_assoc, arith, Vec, nat_eq, ◌&&◌}
 use Rattle.std.specs.declared.alloc.Global.{Global}
 use Rattle.std.specs.Str.{bytes_eq}
 use Rattle.std.proofs.lemmas.List.{append-nil}
-use Rattle.tenths.specs.Lines.{Left, is_end}
+use Rattle.tenths.specs.Lines.{Left, line_at, is_end}
 use Rattle.sol_writer.specs.declared.fault.SolFault.{SolFault}
-use Rattle.sol_writer.specs.declared.fault.SolFault.TheVariants.{Extra}
+use Rattle.sol_writer.specs.declared.fault.SolFault.TheVariants.{Truncated, Extra}
 use Rattle.tenths.specs.Reading.{◌>>=◌}
-use Rattle.sol_writer.specs.Reading.{customer_at, customers_at, route_at, cost_at, is_cost, next_at, sol_at}
+use Rattle.sol_writer.specs.Reading.{customer_at, customers_at, route_at, cost_at, is_cost, sol_at}
 use Rattle.solomon_reader.specs.Lists.{lists}
 
 -- ---- a label
@@ -65,7 +65,7 @@ pub record IsStep (k : ℕ) (ps : List (List ℕ)) (l : List ℕ) (new : Left) :
   pub old_is : ps ≡ l ∷ more ∷ others
   pub new_is : new ≡ (k + 1, more ∷ others)
 
-pub step_of : (k : ℕ) (ps : List (List ℕ)) (l : List ℕ) (new : Left) → next_at (k, ps) ≡ Ok (l, new) → IsStep k ps l new
+pub step_of : (k : ℕ) (ps : List (List ℕ)) (l : List ℕ) (new : Left) → line_at (k, ps) ≡ Some (l, new) → IsStep k ps l new
 step_of k [] l new h = absurd cc
 step_of k (p ∷ []) l new h = absurd cc
 step_of k (p ∷ m ∷ ps) l new h = let e : (p, (k + 1, m ∷ ps)) ≡ (l, new) = cc in
@@ -73,14 +73,14 @@ step_of k (p ∷ m ∷ ps) l new h = let e : (p, (k + 1, m ∷ ps)) ≡ (l, new)
     record { more = m; others = ps; old_is = ap (λ (x : List ℕ). x ∷ m ∷ ps) f; new_is = sym (ap (λ (x : List ℕ × Left). x.1) e) }
 
 -- no line is ended
-pub no_line : (k : ℕ) (ps : List (List ℕ)) (front : List (List ℕ)) (e : SolFault) (total : Result (List (List ℕ) × ℕ) SolFault) → next_at (k, ps) ≡ Err e → with_routes front (sol_at k ps) ≡ total → total ≡ Err e
+pub no_line : (k : ℕ) (ps : List (List ℕ)) (front : List (List ℕ)) (total : Result (List (List ℕ) × ℕ) SolFault) → line_at (k, ps) ≡ None → with_routes front (sol_at k ps) ≡ total → total ≡ Err Truncated
 unfolding sol_at
-no_line k [] front e total h so_far = sym so_far ∙ cc
-no_line k (p ∷ []) front e total h so_far = sym so_far ∙ cc
-no_line k (p ∷ m ∷ ps) front e total h so_far = absurd cc
+no_line k [] front total h so_far = sym so_far
+no_line k (p ∷ []) front total h so_far = sym so_far
+no_line k (p ∷ m ∷ ps) front total h so_far = absurd cc
 
 -- the line that was read, with its number as the code has it
-module _ (k n : ℕ) (ps : List (List ℕ)) (l : List ℕ) (new : Left) (front : List (List ℕ)) (total : Result (List (List ℕ) × ℕ) SolFault) (same : n ≡ k) (step : next_at (k, ps) ≡ Ok (l, new)) (so_far : with_routes front (sol_at k ps) ≡ total) where
+module _ (k n : ℕ) (ps : List (List ℕ)) (l : List ℕ) (new : Left) (front : List (List ℕ)) (total : Result (List (List ℕ) × ℕ) SolFault) (same : n ≡ k) (step : line_at (k, ps) ≡ Some (l, new)) (so_far : with_routes front (sol_at k ps) ≡ total) where
   pub route_more : (r : List ℕ) → is_cost n l ≡ false → route_at n l ≡ Ok r → with_routes (front ++ (r ∷ [])) (sol_at new.0 new.1) ≡ total
   unfolding sol_at
   route_more r not_cost h =
@@ -124,7 +124,7 @@ module _ (k n : ℕ) (ps : List (List ℕ)) (l : List ℕ) (new : Left) (front :
       let e : is_end (s.more ∷ s.others) ≡ true = ap (λ (n : Left). is_end n.1) (sym s.new_is) ∙ done in
       sym so_far ∙ rw (s.old_is, x, y, e) (ap (λ (x : List (List ℕ)). Ok (x, t)) (append-nil front))
 
-pub shorter : (k : ℕ) (ps : List (List ℕ)) (l : List ℕ) (new : Left) → next_at (k, ps) ≡ Ok (l, new) → length new.1 < length ps
+pub shorter : (k : ℕ) (ps : List (List ℕ)) (l : List ℕ) (new : Left) → line_at (k, ps) ≡ Some (l, new) → length new.1 < length ps
 shorter k ps l new step =
     let s = step_of k ps l new step in
     let a : length new.1 ≡ length (s.more ∷ s.others) = ap (λ (n : Left). length n.1) s.new_is in

@@ -3,7 +3,7 @@ use Rattle.std.specs.Prelude.{ℕ, ◌+◌, Bool, false, List, [], ◌∷◌, co
 use Rattle.std.specs.Str.{bytes_eq}
 use Rattle.tenths.specs.Reading.{◌>>=◌, check, value_or, GivesUnless}
 use Rattle.tenths.specs.Parts.{parts}
-use Rattle.tenths.specs.Lines.{Left, line_at, is_end}
+use Rattle.tenths.specs.Lines.{is_end}
 use Rattle.tenths.specs.Numbers.{number_of, tenths_of}
 use Rattle.sol_writer.specs.declared.fault.SolFault.{SolFault}
 use Rattle.sol_writer.specs.declared.fault.SolFault.TheVariants.{Memory, BadLine, Truncated, Extra}
@@ -66,10 +66,6 @@ is_cost k l = nat_lt 1 k && begins (codes "Cost") (parts 32 l)
 -- nothing is behind the cost line
 abbrev pub end_at : {A : Type 0} → A → List (List ℕ) → Result A SolFault
 end_at x ps = check (is_end ps) Extra x
-
--- the next line
-abbrev pub next_at : Left → Result (List ℕ × Left) SolFault
-next_at left = value_or Truncated (line_at left)
 
 -- the lines from line k on
 unfoldable pub sol_at : ℕ → List (List ℕ) → Result (List (List ℕ) × ℕ) SolFault

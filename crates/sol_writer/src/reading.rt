@@ -5,23 +5,13 @@ ghost use Rattle.std.specs.Str.{bytes_eq};
 ghost use Rattle.solomon_reader.specs.Lists.{lists};
 ghost use Rattle.solomon_reader.specs.SolutionText.{IsSolution, IsSolutionText, solution_text};
 ghost use Rattle.sol_writer.specs.Text.{label, view};
-ghost use Rattle.sol_writer.specs.Reading.{Gives, customer_at, customers_at, fixed_at, route_at, cost_at, is_cost, reading, next_at};
+ghost use Rattle.sol_writer.specs.Reading.{Gives, customer_at, customers_at, fixed_at, route_at, cost_at, is_cost, reading};
 
 use crate::fault::SolFault;
 use crate::sol::Sol;
 use itoa::Buffer;
 use std::alloc::Global;
 use tenths::{Lines, Parts, Tenths, number, read_tenths};
-
-/// The next line.
-fn line<'a>(lines: &mut Lines<'a>) -> Result<&'a [u8], SolFault>
-    ensures { Gives (λ l. (l.now, lines.new)) result (next_at lines.old) }
-{
-    match lines.next() {
-        None => Err(SolFault::Truncated),
-        Some(line) => Ok(line),
-    }
-}
 
 /// One of a line's fixed words.
 fn fixed(line: u64, words: &mut Parts<'_>, text: &[u8]) -> Result<(), SolFault>
@@ -78,16 +68,6 @@ fn is_colon_after(digits: &[u8], text: &[u8]) -> bool
     front == digits && back == b":".as_slice()
 }
 
-/// The word behind `Route`.
-fn route_label(line: u64, words: &mut Parts<'_>) -> Result<(), SolFault>
-    ensures { Gives (λ _. words.new) result (fixed_at line (label line) words.old) }
-{
-    match words.next() {
-        Some(word) if is_label(line, word) => Ok(()),
-        _ => Err(SolFault::BadLine { line }),
-    }
-}
-
 /// The route of route line `line`.
 #[tactic(auto, unfolding(crate::specs::Reading::route_at))]
 fn route(alloc: Global, line: u64, text: &[u8]) -> Result<Vec<u16>, SolFault>
@@ -95,7 +75,10 @@ fn route(alloc: Global, line: u64, text: &[u8]) -> Result<Vec<u16>, SolFault>
 {
     let mut words = Parts::new(text, b' ');
     fixed(line, &mut words, b"Route")?;
-    route_label(line, &mut words)?;
+    match words.next() {
+        Some(word) if is_label(line, word) => {}
+        _ => return Err(SolFault::BadLine { line }),
+    }
     let route = customers(alloc, line, &mut words)?;
     if route.is_empty() {
         return Err(SolFault::BadLine { line });
@@ -140,7 +123,9 @@ fn solution(alloc: Global, text: &[u8]) -> Result<Sol, SolFault>
     let mut routes = Vec::new(alloc);
     loop {
         let number = lines.number();
-        let line = line(&mut lines)?;
+        let Some(line) = lines.next() else {
+            return Err(SolFault::Truncated);
+        };
         if is_cost_line(number, line) {
             let cost = cost(number, line)?;
             if !lines.is_done() {

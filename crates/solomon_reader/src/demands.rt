@@ -8,24 +8,16 @@ ghost use Rattle.solomon_reader.specs.Bound.{fewest_routes};
 use crate::instance::Instance;
 use crate::limits::{MOST_CUSTOMERS, MOST_DEMAND};
 
-/// The sum of the demands.
-fn total_demand(instance: &Instance) -> u32
-    ensures value { result ≡ sum_by (demand instance.now) (customers instance.now) }
-    ensures bound { result ≤ MOST_CUSTOMERS * MOST_DEMAND }
-{
-    let mut total: u32 = 0;
-    for i in 1..instance.customer_count() + 1 {
-        total += u32::from(instance.demand(i));
-    }
-    total
-}
-
 impl Instance {
     /// How many vehicles carry all demands, rounded up: no plan has fewer routes.
     pub fn fewest_routes(&self) -> u32
         ensures value { result ≡ fewest_routes self.now }
         ensures bound { result ≤ MOST_CUSTOMERS * MOST_DEMAND }
     {
-        total_demand(self).div_ceil(u32::from(self.capacity()))
+        let mut total: u32 = 0;
+        for i in 1..self.customer_count() + 1 {
+            total += u32::from(self.demand(i));
+        }
+        total.div_ceil(u32::from(self.capacity()))
     }
 }

@@ -146,3 +146,12 @@ number_told w None e = λ n lt same. let a = number_again n lt in let b = rw (�
 number_told w (Some v) e = λ lt. let s = capped_some (number_of w) v e in
     let same : s.0 ≡ v = omega (arith, s.2) in
     number_takes w s.0 s.1 (omega arith) ∙ ap decimal same
+
+-- what is told of a word that is no number, and of one that is
+pub refused_is : (w : List ℕ) → is_canonical w ≡ false → None ≡ option_map capped (number_of w)
+unfolding number_of
+refused_is w e = rw e refl
+
+pub value_is : (w : List ℕ) (v : ℕ) → is_canonical w ≡ true → v ≡ capped (digits_value 10 w) → Some v ≡ option_map capped (number_of w)
+unfolding number_of
+value_is w v e same = rw (e, same) refl

@@ -24,4 +24,6 @@ pub use sink::{Sink, SinkFault};
 pub use sinks::{MemorySink, StdSink};
 pub use table::{Table, TableFault};
 pub use value::{MOST_TENTHS, Tenths};
-pub use writing::{Device, write_number_line, write_pieces, write_tenths, write_text};
+pub use writing::{
+    Device, write_number_line, write_pieces, write_tenths, write_tenths_line, write_text,
+};

@@ -16,23 +16,17 @@ use crate::value::Tenths;
 /// From here on the numbers of a text aren't told exactly.
 pub const NUMBER_CAP: u64 = 1_000_000_000_000_000_000;
 
-fn is_decimal(b: u8) -> bool
-    ensures { result ≡ is_digit b }
-{
-    48 <= b && b <= 57
-}
-
-fn are_decimals(word: &[u8]) -> bool
+fn are_digits(word: &[u8]) -> bool
     ensures { result ≡ list_all is_digit word.now }
 {
-    word.iter().all(|b| is_decimal(*b))
+    word.iter().all(|b| 48 <= *b && *b <= 57)
 }
 
 /// Whether a word is a canonical number.
 fn is_number(word: &[u8]) -> bool
     ensures { result ≡ is_canonical word.now }
 {
-    0 < word.len() && are_decimals(word) && (48 < word[0] || word.len() == 1)
+    0 < word.len() && are_digits(word) && (48 < word[0] || word.len() == 1)
 }
 
 /// The number that digits write, or the cap from there on.
@@ -47,25 +41,18 @@ fn capped_value(word: &[u8]) -> u64
     value
 }
 
-/// The canonical number that a word is, or the cap from there on.
-#[tactic(auto, unfolding(crate::specs::Numbers::number_of))]
-fn canonical(word: &[u8]) -> Option<u64>
-    ensures { result ≡ option_map capped (number_of word.now) }
-{
-    if !is_number(word) {
-        return None;
-    }
-    Some(capped_value(word))
-}
-
 /// The number that a word is, or `NUMBER_CAP` from there on; `None` where the word isn't a canonical
 /// number (`0`, or digits without a leading zero).
+#[tactic(auto, unfolding(crate::specs::Numbers::number_of))]
 pub fn number(word: &[u8]) -> Option<u64>
     ensures exact { result ≡ option_map capped (number_of word.now) }
     // A word that is refused is no number's text, and below the cap the word is the text of the number.
     ensures told { MatchOption result ((n : ℕ) → n < 2 ^ 64 → word.now ≢ decimal n) (λ v. v < NUMBER_CAP → word.now ≡ decimal v) }
 {
-    canonical(word)
+    if !is_number(word) {
+        return None;
+    }
+    Some(capped_value(word))
 }
 
 /// The canonical signed number that a word is, within the cap.

@@ -25,13 +25,7 @@ impl<'a> Model for Parts<'a> {
 pub fn part_len(text: &[u8], separator: u8) -> usize
     ensures { result ≡ length (take_while (is_other separator) text.now) }
 {
-    text.iter().take_while(|b| is_not(**b, separator)).count()
-}
-
-fn is_not(b: u8, separator: u8) -> bool
-    ensures { result ≡ is_other separator b }
-{
-    b != separator
+    text.iter().take_while(|b| **b != separator).count()
 }
 
 /// What stands behind the first byte, if there is one.

@@ -43,9 +43,7 @@ impl MemorySink {
 }
 
 impl Sink for MemorySink {
-    ghost taken = { λ s. Some s.0 };
-
-    ghost failures = { λ s. s.1 };
+    ghost held = { λ s. record { taken = Some s.0; failures = s.1 } };
 
     /// Refused where memory is.
     fn write(&mut self, bytes: &[u8]) -> Result<usize, SinkFault> {
@@ -85,9 +83,7 @@ impl<W: Write> StdSink<W> {
 }
 
 impl<W: Write> Sink for StdSink<W> {
-    ghost taken = { λ s. W.contents s.0 };
-
-    ghost failures = { λ s. s.1 };
+    ghost held = { λ s. record { taken = W.contents s.0; failures = s.1 } };
 
     fn write(&mut self, bytes: &[u8]) -> Result<usize, SinkFault> {
         match self.inner.write(bytes) {

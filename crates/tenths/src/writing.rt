@@ -2,7 +2,7 @@
 
 ghost use Rattle.std.specs.Prelude.{◌++◌};
 ghost use Rattle.std.specs.List.{flat_map};
-ghost use Rattle.tenths.specs.Sink.{WritesText, FailsOnErr};
+ghost use Rattle.tenths.specs.Sink.{Writes};
 ghost use Rattle.tenths.specs.Text.{line, spaced, tenths_text};
 
 use crate::sink::Sink;
@@ -17,8 +17,7 @@ pub struct Device;
 
 /// Writes all of a text. `Device` where the sink failed: then it took a beginning of the text.
 pub fn write_text<W: Sink>(text: &[u8], sink: &mut W) -> Result<(), Device>
-    ensures bytes { WritesText (W.taken sink.old) (W.taken sink.new) result text.now }
-    ensures failures { FailsOnErr (W.failures sink.old) (W.failures sink.new) result }
+    ensures { Writes (W.held sink.old) (W.held sink.new) result text.now }
 {
     let mut rest = text;
     while !rest.is_empty() {
@@ -32,8 +31,7 @@ pub fn write_text<W: Sink>(text: &[u8], sink: &mut W) -> Result<(), Device>
 
 /// Writes the pieces of a text, one after another. `Device` as for `write_text`.
 pub fn write_pieces<W: Sink>(pieces: &[&[u8]], sink: &mut W) -> Result<(), Device>
-    ensures bytes { WritesText (W.taken sink.old) (W.taken sink.new) result (flat_map (λ piece. piece.now) pieces.now) }
-    ensures failures { FailsOnErr (W.failures sink.old) (W.failures sink.new) result }
+    ensures { Writes (W.held sink.old) (W.held sink.new) result (flat_map (λ piece. piece.now) pieces.now) }
 {
     for piece in pieces {
         write_text(piece, sink)?;
@@ -41,22 +39,13 @@ pub fn write_pieces<W: Sink>(pieces: &[&[u8]], sink: &mut W) -> Result<(), Devic
     Ok(())
 }
 
-/// Writes a number after a space. `Device` as for `write_text`.
-fn write_spaced<N: Integer, W: Sink>(number: N, sink: &mut W) -> Result<(), Device>
-    ensures bytes { WritesText (W.taken sink.old) (W.taken sink.new) result (spaced (N.text number)) }
-    ensures failures { FailsOnErr (W.failures sink.old) (W.failures sink.new) result }
-{
-    let mut buffer = Buffer::new();
-    write_pieces(&[b" ", buffer.format(number).as_bytes()], sink)
-}
-
 /// Writes each number after a space. `Device` as for `write_text`.
 fn write_numbers<N: Integer, W: Sink>(numbers: &[N], sink: &mut W) -> Result<(), Device>
-    ensures bytes { WritesText (W.taken sink.old) (W.taken sink.new) result (flat_map (λ n. spaced (N.text n)) numbers.now) }
-    ensures failures { FailsOnErr (W.failures sink.old) (W.failures sink.new) result }
+    ensures { Writes (W.held sink.old) (W.held sink.new) result (flat_map (λ n. spaced (N.text n)) numbers.now) }
 {
     for number in numbers {
-        write_spaced(*number, sink)?;
+        let mut buffer = Buffer::new();
+        write_pieces(&[b" ", buffer.format(*number).as_bytes()], sink)?;
     }
     Ok(())
 }
@@ -68,9 +57,8 @@ pub fn write_number_line<N: Integer, W: Sink>(
     numbers: &[N],
     sink: &mut W,
 ) -> Result<(), Device>
-    ensures bytes { WritesText (W.taken sink.old) (W.taken sink.new) result
+    ensures { Writes (W.held sink.old) (W.held sink.new) result
         (line (flat_map (λ piece. piece.now) front.now ++ flat_map (λ n. spaced (N.text n)) numbers.now)) }
-    ensures failures { FailsOnErr (W.failures sink.old) (W.failures sink.new) result }
 {
     write_pieces(front, sink)?;
     write_numbers(numbers, sink)?;
@@ -79,8 +67,7 @@ pub fn write_number_line<N: Integer, W: Sink>(
 
 /// Writes a number of tenths as its whole part, a point and one digit. `Device` as for `write_text`.
 pub fn write_tenths<W: Sink>(tenths: Tenths, sink: &mut W) -> Result<(), Device>
-    ensures bytes { WritesText (W.taken sink.old) (W.taken sink.new) result (tenths_text tenths) }
-    ensures failures { FailsOnErr (W.failures sink.old) (W.failures sink.new) result }
+    ensures { Writes (W.held sink.old) (W.held sink.new) result (tenths_text tenths) }
 {
     let count = tenths.get();
     let mut whole = Buffer::new();
@@ -93,4 +80,13 @@ pub fn write_tenths<W: Sink>(tenths: Tenths, sink: &mut W) -> Result<(), Device>
         ],
         sink,
     )
+}
+
+/// Writes a line: its front, and then a number of tenths. `Device` as for `write_text`.
+pub fn write_tenths_line<W: Sink>(front: &[u8], tenths: Tenths, sink: &mut W) -> Result<(), Device>
+    ensures { Writes (W.held sink.old) (W.held sink.new) result (line (front.now ++ tenths_text tenths)) }
+{
+    write_text(front, sink)?;
+    write_tenths(tenths, sink)?;
+    write_text(b"\n", sink)
 }

@@ -1,10 +1,11 @@
-use Rattle.std.proofs.Common.{◌≡◌, ℕ, List, [], ◌∷◌, ◌++◌, codes, decimal, sym, ap, ◌∙◌, append_assoc, subst}
+use Rattle.std.proofs.Common.{rules, ◌≡◌, ℕ, List, [], ◌∷◌, ◌++◌, codes, decimal, sym, ap, ◌∙◌, append_assoc, subst}
 use Rattle.std.specs.List.{flat_map}
-use Rattle.tenths.specs.Sink.{WritesText}
+use Rattle.tenths.specs.Sink.{Writes}
 use Rattle.tenths.specs.Text.{line}
-use Rattle.solomon_reader.specs.CertificateText.{Content}
-use Rattle.certificate.specs.Text.{content_of, name_lines}
+use Rattle.solomon_reader.specs.CertificateText.{Content, first_line}
+use Rattle.certificate.specs.Text.{version_of, content_of, name_lines}
 use Rattle.certificate.proofs.writing.write_names.Goals as goal
+use Rattle.certificate.proofs.writing.write_names.Goals.{in-One, in-Two}
 
 -- the pieces that are written, one after another
 pieces : List ℕ → List ℕ → List ℕ → List ℕ
@@ -25,10 +26,16 @@ lines-pieces name size neighbours =
 pieces-are-lines : (x : Content) (name size neighbours : List ℕ) → name ≡ x.name → size ≡ decimal x.size → neighbours ≡ decimal x.neighbours → pieces name size neighbours ≡ flat_map line (name_lines x)
 pieces-are-lines x name size neighbours a b c = rw (a, b, c) (sym (lines-pieces x.name (decimal x.size) (decimal x.neighbours)))
 
-pub returns-clause-bytes : goal.returns-clause-bytes
+pub returns : goal.returns
 unfolding pieces
-returns-clause-bytes g c =
-    subst (λ (w : List ℕ). WritesText (g.W.Sink.taken c.args.sink.now) (g.W.Sink.taken c.write_pieces.new.sink) c.write_pieces.result w)
+returns g c =
+    let first : c.match-parts.first.now ≡ first_line (version_of c.args.parts.now.version) = elim c.match-parts.branch [
+      | in-One w ↦ search rules
+      | in-Two w ↦ search rules
+    ] in
+    subst (λ (w : List ℕ). Writes (g.W.Sink.held c.args.sink.now) (g.W.Sink.held c.write_pieces.new.sink) c.write_pieces.result w)
+    (ap (λ (w : List ℕ). w ++ pieces c.as_slice.result.now c.as_bytes.result.now c.as_bytes-2.result.now) first
+    ∙ ap (λ (w : List ℕ). first_line (version_of c.args.parts.now.version) ++ w)
     (pieces-are-lines (content_of c.args.parts.now) c.as_slice.result.now c.as_bytes.result.now c.as_bytes-2.result.now
-    c.as_slice.ensures.value (c.as_bytes.ensures.value ∙ c.format.ensures.text) (c.as_bytes-2.ensures.value ∙ c.format-2.ensures.text))
-    c.write_pieces.ensures.bytes
+    c.as_slice.ensures.value (c.as_bytes.ensures.value ∙ c.format.ensures.text) (c.as_bytes-2.ensures.value ∙ c.format-2.ensures.text)))
+    c.write_pieces.ensures

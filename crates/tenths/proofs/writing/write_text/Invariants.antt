@@ -1,9 +1,9 @@
-use Rattle.std.proofs.Common.{◌≡◌, length, List, ℕ, ◌++◌}
-use Rattle.std.specs.Io.KnownBytes.{Appends}
+use Rattle.std.proofs.Common.{length}
+use Rattle.tenths.proofs.Writes.{IsLeft}
 use Rattle.tenths.proofs.writing.write_text.Given as goal
 
 abbrev pub invariant-loop-rest : goal.invariant-loop-rest
-invariant-loop-rest g l = ((front : List ℕ) × (l.text ≡ front ++ l.rest) × Appends (g.W.Sink.taken l.fn.sink) (g.W.Sink.taken l.sink) front) × (g.W.Sink.failures l.sink ≡ g.W.Sink.failures l.fn.sink)
+invariant-loop-rest g l = IsLeft (g.W.Sink.held l.fn.sink) (g.W.Sink.held l.sink) l.text l.rest
 
 abbrev pub decreases-loop-rest : goal.decreases-loop-rest
 decreases-loop-rest g l = length l.rest

@@ -2,7 +2,7 @@ use Rattle.std.proofs.Common.{◌≡◌, ℕ, zero, suc, ◌+◌, ◌-◌, ◌�
 use Rattle.std.specs.List.{sum_by, range_with_len}
 use Rattle.std.proofs.lemmas.List.Sums.{sum_by-cons}
 use Rattle.solomon_reader.specs.Problem.{demand}
-use Rattle.solomon_reader.proofs.demands.total_demand.Goals as goal
+use Rattle.solomon_reader.proofs.instance.Instance.fewest_routes.Goals as goal
 
 sum_from : (f : ℕ → ℕ) (n a : ℕ) → sum_by f (range_with_len a (suc n)) ≡ sum_by f (range_with_len a n) + f (a + n)
 sum_from f zero a = let e : a + 0 ≡ a = omega arith in rw e (omega arith)
@@ -19,6 +19,6 @@ sum_more f i total positive so_far =
 
 pub loop-i-preserved : goal.loop-i-preserved
 loop-i-preserved c = record {
-  value = ap (λ n. c.loop-i.total + n) (c.from-total.ensures ∙ c.demand.ensures.value) ∙ sum_more (demand c.args.instance.now) c.loop-i.i c.loop-i.total c.loop-i.auto.i c.loop-i.invariant.value;
+  value = ap (λ n. c.loop-i.total + n) (c.from-total.ensures ∙ c.demand.ensures.value) ∙ sum_more (demand c.args.self.now) c.loop-i.i c.loop-i.total c.loop-i.auto.i c.loop-i.invariant.value;
   bound = omega (arith, c.loop-i.invariant.bound, c.from-total.ensures, c.demand.ensures.bound, c.loop-i.auto.i);
 }
