@@ -1,4 +1,5 @@
 """The built program, run in a folder of its own."""
+import fcntl
 import os
 import select
 import signal
@@ -16,10 +17,17 @@ def demand(holds, words):
         raise Disagreement(words)
 
 
+def catcher(name):
+    """A file in memory that is appended to: else two threads that write at once may write at the same place."""
+    stream = os.memfd_create(name)
+    fcntl.fcntl(stream, fcntl.F_SETFL, os.O_APPEND)
+    return stream
+
+
 def run(words, variables=None, streams=(), longest=LONGEST):
     """Standard output, standard error and the status, a signal's number below 0. The streams are further actions of
     the start, after standard input is empty and both outputs are caught."""
-    caught = [os.memfd_create("out"), os.memfd_create("errors")]
+    caught = [catcher("out"), catcher("errors")]
     try:
         actions = [(os.POSIX_SPAWN_OPEN, 0, "/dev/null", os.O_RDONLY, 0), (os.POSIX_SPAWN_DUP2, caught[0], 1),
                    (os.POSIX_SPAWN_DUP2, caught[1], 2)] + list(streams)

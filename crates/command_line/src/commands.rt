@@ -35,27 +35,20 @@ fn path_option<'a>(alloc: Global, id: &'a str, help: &'a str) -> Arg<'a>
     Arg::new(alloc, id).long(id).help(help)
 }
 
-/// What takes the numbers from `least` to `most`.
-fn number_between<'a>(least: u32, most: u32) -> ValueParser<'a>
-    ensures { result ≡ between least most }
-{
-    ValueParser::signed(i64::from(least), i64::from(most))
-}
-
-/// An option with a number, named after two dashes.
+/// An option with a number of a range, whose ends are given, named after two dashes.
 fn number_option<'a>(
     alloc: Global,
     id: &'a str,
-    parser: ValueParser<'a>,
+    range: (u32, u32),
     default: &'a str,
     help: &'a str,
 ) -> Arg<'a>
-    ensures rule { rule_of result ≡ number_option_rule id.entry.now parser.entry default.entry.now }
+    ensures rule { rule_of result ≡ number_option_rule id.entry.now (between range.0 range.1) default.entry.now }
     ensures own { result.global ≡ false }
 {
     Arg::new(alloc, id)
         .long(id)
-        .value_parser(parser)
+        .value_parser(ValueParser::signed(i64::from(range.0), i64::from(range.1)))
         .default_value(default)
         .help(help)
 }
@@ -79,14 +72,14 @@ fn with_thread_options<'a>(alloc: Global, command: Command<'a>) -> Result<Comman
         .arg(number_option(
             alloc,
             "searchers",
-            number_between(1, MOST_SEARCHERS),
+            (1, MOST_SEARCHERS),
             "2",
             "How many threads look for a plan, 1 to 32",
         ))?
         .arg(number_option(
             alloc,
             "bounders",
-            number_between(1, MOST_BOUNDERS),
+            (1, MOST_BOUNDERS),
             "2",
             "How many threads raise the bound, 1 to 32",
         ))
@@ -100,14 +93,14 @@ fn with_search_options<'a>(alloc: Global, command: Command<'a>) -> Result<Comman
         .arg(number_option(
             alloc,
             "turns",
-            number_between(1, MOST_TURNS),
+            (1, MOST_TURNS),
             "200",
             "How many turns each worker makes, 1 to 1000000",
         ))?
         .arg(number_option(
             alloc,
             "seed",
-            number_between(0, u32::MAX),
+            (0, u32::MAX),
             "1",
             "Where the random numbers start, 0 to 4294967295",
         ))
@@ -121,14 +114,14 @@ fn with_pricing_options<'a>(alloc: Global, command: Command<'a>) -> Result<Comma
         .arg(number_option(
             alloc,
             "neighbours",
-            number_between(0, MOST_NEIGHBOURS),
+            (0, MOST_NEIGHBOURS),
             "8",
             "How many nearest customers the relaxed routes of a customer remember, 0 to 15",
         ))?
         .arg(number_option(
             alloc,
             "labels",
-            number_between(1, MOST_LABELS),
+            (1, MOST_LABELS),
             "1000000",
             "How many labels may be active at once in a pricing, 1 to 100000000",
         ))
@@ -147,7 +140,7 @@ fn with_closing_options<'a>(alloc: Global, command: Command<'a>) -> Result<Comma
         .arg(number_option(
             alloc,
             "leaves",
-            number_between(1, MOST_LEAVES),
+            (1, MOST_LEAVES),
             "100000",
             "The most leaves of the tree that closes an instance, 1 to 100000",
         ))
@@ -194,7 +187,7 @@ fn check_command<'a>(alloc: Global) -> Result<Command<'a>, AllocError>
         .arg(number_option(
             alloc,
             "states",
-            number_between(1, MOST_STATES),
+            (1, MOST_STATES),
             "5000000",
             "The most pairs of time and cost that the check of one leaf keeps, 1 to 50000000",
         ))
@@ -311,11 +304,12 @@ fn check_job<'a>(found: &ArgMatches<'a>) -> Option<Job<'a>>
     })
 }
 
-/// The job that the arguments of a command give.
-fn job_named<'a>(name: &str, found: &ArgMatches<'a>) -> Option<Job<'a>>
-    ensures { let says = Says name.now (rows_of (found_of found.now)) in
+/// The job that the matches of a parse give.
+fn job_found<'a>(matches: &ArgMatches<'a>) -> Option<Job<'a>>
+    ensures { let says = SaysAny (subcommand_rows_of matches.now) in
         MatchOption result ((other : _) → says other → ⊥) says }
 {
+    let (name, found) = matches.subcommand()?;
     if name == "solve" {
         return solve_job(found);
     }
@@ -323,15 +317,6 @@ fn job_named<'a>(name: &str, found: &ArgMatches<'a>) -> Option<Job<'a>>
         return check_job(found);
     }
     None
-}
-
-/// The job that the matches of a parse give.
-fn job_found<'a>(matches: &ArgMatches<'a>) -> Option<Job<'a>>
-    ensures { let says = SaysAny (subcommand_rows_of matches.now) in
-        MatchOption result ((other : _) → says other → ⊥) says }
-{
-    let (name, found) = matches.subcommand()?;
-    job_named(name, found)
 }
 
 /// What is said where a parse names no command of the program.

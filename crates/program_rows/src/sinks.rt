@@ -32,9 +32,7 @@ impl Tight {
 }
 
 impl Sink for Tight {
-    ghost taken = { λ s. Some s.inner.0 };
-
-    ghost failures = { λ s. s.inner.1 + s.failed.count };
+    ghost held = { λ s. record { taken = Some s.inner.0; failures = s.inner.1 + s.failed.count } };
 
     fn write(&mut self, bytes: &[u8]) -> Result<usize, SinkFault> {
         if self.left == 0 {

@@ -1,44 +1,49 @@
--- From what becomes of both texts to what the solver says.
-use Rattle.std.proofs.Common.{◌≡◌, List, Result, Ok, Err, ℕ, subst, refl}
+-- From what becomes of what was found to what the solver says.
+use Rattle.std.proofs.Common.{◌≡◌, List, Option, Some, None, MatchOption, Result, Ok, Err, ℕ, ◌+◌, ◌≤◌, ◌⊎◌, inl, inr, refl, arith}
 use Rattle.solomon_reader.specs.Problem.{Problem}
 use Rattle.solomon_reader.specs.Layout.{IsInstance}
-use Rattle.vrptw.specs.declared.answer.Answer.{Answer}
-use Rattle.vrptw.specs.declared.answer.SolveFault.{SolveFault}
+use Rattle.solomon_reader.specs.Bound.{version_2}
+use Rattle.solomon_reader.specs.DualityLaws.{tree_bound_holds, ceiling_holds}
+use Rattle.tenths.specs.Sink.{Held}
+use Rattle.schedule.specs.Solution.{Solution}
+use Rattle.insertion.specs.Building.{IsServedAlone}
+use Rattle.closing.specs.Closing.{IsClosed, known_or_above, costs}
+use Rattle.closing.specs.declared.closed.Closed.{Closed}
+use Rattle.search_workers.specs.Running.{RefusesSettings}
 use Rattle.search_workers.specs.declared.fault.RunFault.{RunFault}
 use Rattle.search_workers.specs.declared.fault.RunFault.TheVariants as run
 use Rattle.worker_turns.specs.declared.settings.Settings.{Settings}
 use Rattle.worker_turns.specs.Settings.{IsWithin}
-use Rattle.search_workers.specs.Running.{RefusesSettings}
-use Rattle.vrptw.specs.declared.answer.SolveFault.TheVariants.{Memory, Instance, BadSettings, LabelLimit, NoThread, LeafLimit, TooLarge, Device}
-use Rattle.vrptw.specs.Answers.{Held, IsFaultOfRun, Solves, WritesBoth, WritesOutcome}
+use Rattle.vrptw.specs.declared.answer.Answer.{Answer}
+use Rattle.vrptw.specs.declared.answer.Answer.TheVariants.{Best, Gap, NoPlan, Open}
+use Rattle.vrptw.specs.declared.answer.SolveFault.{SolveFault}
+use Rattle.vrptw.specs.Answers.{Answers, Breaks, IsFaultOfRun, Solves}
+use Rattle.vrptw.specs.Found.{IsOf, WritesFound}
+use Rattle.vrptw.specs.Closing.{AreWithin, HasNoPlan, ClosesWith, Closes}
 
--- what is written of both texts is written of an outcome
-pub written : (p : Problem) (k : ℕ) (s s' c c' : Held) (r : Result Answer SolveFault) → WritesBoth p k s s' c c' r → WritesOutcome p k s s' c c' r
-written p k s s' c c' (Ok answer) both = both
-written p k s s' c c' (Err Memory) both = absurd (let e : Memory ≡ Device = both.0 in cc)
-written p k s s' c c' (Err (Instance f)) both = absurd (let e : Instance f ≡ Device = both.0 in cc)
-written p k s s' c c' (Err BadSettings) both = absurd (let e : BadSettings ≡ Device = both.0 in cc)
-written p k s s' c c' (Err LabelLimit) both = absurd (let e : LabelLimit ≡ Device = both.0 in cc)
-written p k s s' c c' (Err NoThread) both = absurd (let e : NoThread ≡ Device = both.0 in cc)
-written p k s s' c c' (Err LeafLimit) both = absurd (let e : LeafLimit ≡ Device = both.0 in cc)
-written p k s s' c c' (Err TooLarge) both = absurd (let e : TooLarge ≡ Device = both.0 in cc)
-written p k s s' c c' (Err Device) both = both.1
+-- ---- why no plan was found
 
-module _ (text : List ℕ) (settings : Settings) (p : Problem) (s s' c c' : Held) (is : IsInstance text p) (within : IsWithin settings) where
-  answered : (r : Result Answer SolveFault) → WritesOutcome p settings.neighbours s s' c c' r → Solves text settings s s' c c' r
-  answered (Ok answer) outcome = (p, is, within, outcome)
-  answered (Err Memory) outcome = outcome
-  answered (Err (Instance f)) outcome = absurd outcome
-  answered (Err BadSettings) outcome = absurd outcome
-  answered (Err LabelLimit) outcome = absurd outcome
-  answered (Err NoThread) outcome = absurd outcome
-  answered (Err LeafLimit) outcome = absurd outcome
-  answered (Err TooLarge) outcome = absurd outcome
-  answered (Err Device) outcome = (p, is, within, outcome)
+module _ (p : Problem) (k : ℕ) (A B : Type 0) (s s' c c' : Held) (why : A → B) where
+  answers_why : (answer : Answer) → Answers p k A s s' c c' answer → Answers p k B s s' c c' answer
+  answers_why (Best cost) a = a
+  answers_why (Gap cost bound) a = a
+  answers_why NoPlan a = a
+  answers_why (Open bound) (kept, took, most, a) = (kept, took, most, why a)
 
-  pub solved : (q : Problem) (k : ℕ) (r : Result Answer SolveFault) → q ≡ p → k ≡ settings.neighbours → WritesOutcome q k s s' c c' r → Solves text settings s s' c c' r
-  solved q k r same_problem same_neighbours outcome =
-      answered r (subst (λ o. WritesOutcome o settings.neighbours s s' c c' r) same_problem (subst (λ n. WritesOutcome q n s s' c c' r) same_neighbours outcome))
+  breaks_why : Breaks p k A s s' c c' → Breaks p k B s s' c c'
+  breaks_why (inl first) = inl first
+  breaks_why (inr (inl took, broke)) = inr (inl took, broke)
+  breaks_why (inr (inr (kept, a), broke)) = inr (inr (kept, why a), broke)
+
+-- ---- a run
+
+pub solved : (text : List ℕ) (settings : Settings) (p : Problem) (plan : Option Solution) (bound : ℕ) (s s' c c' : Held) → IsInstance text p → IsWithin settings → (plan ≡ None → ¬ IsServedAlone p)
+    → (r : Result Answer SolveFault) → WritesFound p settings.neighbours plan bound s s' c c' r → Solves text settings s s' c c' r
+solved text settings p plan bound s s' c c' is within why (Ok answer) (answers, of) =
+    (p, is, within, answers_why p settings.neighbours (plan ≡ None) (¬ IsServedAlone p) s s' c c' why answer answers)
+solved text settings p plan bound s s' c c' is within why (Err e) (inl (same, first, second)) = rw same (first, second)
+solved text settings p plan bound s s' c c' is within why (Err e) (inr (same, breaks)) =
+    rw same (p, is, within, breaks_why p settings.neighbours (plan ≡ None) (¬ IsServedAlone p) s s' c c' why breaks)
 
 -- a run's fault comes before the first write
 pub refused : (text : List ℕ) (settings : Settings) (p : Problem) (s c : Held) → IsInstance text p → (fault : RunFault) (told : SolveFault) → RefusesSettings settings fault → IsFaultOfRun fault told
@@ -47,3 +52,30 @@ refused text settings p s c is run.Memory told within same = rw same (refl, refl
 refused text settings p s c is run.BadSettings told outside same = rw same ((p, is), outside, refl, refl)
 refused text settings p s c is run.LabelLimit told within same = rw same ((p, is), within, refl, refl)
 refused text settings p s c is run.NoThread told within same = rw same ((p, is), within, refl, refl)
+
+-- ---- a closing
+
+most_at : (p : Problem) (plan : Option Solution) (bound cost : ℕ) → bound ≡ known_or_above p (costs plan) → MatchOption plan ⊥ (λ f. cost ≤ f.cost) → cost ≤ bound
+most_at p None bound cost meets most = absurd most
+most_at p (Some f) bound cost meets most = omega (arith, meets, most)
+
+module _ (p : Problem) (k limit : ℕ) (closed : Closed) (is : IsClosed p k limit closed) where
+  none_closed : closed.plan ≡ None → HasNoPlan p
+  none_closed e routes plan =
+      let above = rw e at is.meets in
+      absurd (omega (arith, above, tree_bound_holds version_2 p k is.tree.tree closed.bound routes is.tree.is_bound plan, ceiling_holds p routes plan))
+
+  closes_with : (s s' c c' : Held) (answer : Answer) → Answers p k (closed.plan ≡ None) s s' c c' answer → IsOf closed.plan closed.bound answer → ClosesWith p k s s' c c' answer
+  closes_with s s' c c' (Best cost) answers of = answers
+  closes_with s s' c c' NoPlan answers of = answers
+  closes_with s s' c c' (Open bound) answers of = let above = rw of.1 at is.meets in absurd (omega (arith, above, of.0, answers.2))
+  closes_with s s' c c' (Gap cost bound) answers of =
+      let plan = answers.0.is in
+      absurd (answers.2 (omega (arith, most_at p closed.plan closed.bound cost is.meets of.1, of.0, answers.1.is.holds plan.routes plan.plan, plan.exact)))
+
+  pub closed_text : (text : List ℕ) (settings : Settings) (s s' c c' : Held) → IsInstance text p → AreWithin settings limit → k ≡ settings.neighbours
+      → (r : Result Answer SolveFault) → WritesFound p k closed.plan closed.bound s s' c c' r → Closes text settings limit s s' c c' r
+  closed_text text settings s s' c c' read within same (Ok answer) (answers, of) = (p, read, within, is.small, rw (← same) (closes_with s s' c c' answer answers of))
+  closed_text text settings s s' c c' read within same (Err e) (inl (told, first, second)) = rw told (first, second)
+  closed_text text settings s s' c c' read within same (Err e) (inr (told, breaks)) =
+      rw told (p, read, within, is.small, rw (← same) (breaks_why p k (closed.plan ≡ None) (HasNoPlan p) s s' c c' none_closed breaks))

@@ -6,7 +6,8 @@ use Rattle.solomon_reader.specs.Bound.{version_2, ceiling_of, IsTreeBound}
 use Rattle.solomon_reader.specs.CertificateText.{Content, certificate_text}
 use Rattle.solomon_reader.specs.DualityLaws.{tree_bound_holds, ceiling_holds}
 use Rattle.vrptw.specs.Certified.{IsCertified}
-use Rattle.vrptw.specs.Answers.{Held, Took, IsBoundText}
+use Rattle.tenths.specs.Sink.{Held}
+use Rattle.vrptw.specs.Answers.{Took, IsBoundText}
 
 module _ (p : Problem) (k : ℕ) (x : Content) (certified : IsCertified p k x) where
   -- the bound of its tree, by the rule of its version
@@ -39,11 +40,3 @@ module _ (p : Problem) (k : ℕ) (x : Content) (certified : IsCertified p k x) w
         subst (λ b. Took old new (IsBoundText p k b)) e took,
         λ routes plan. absurd (omega (arith, above, took.is.holds routes plan, ceiling_holds p routes plan)),
       )
-
-  -- where the bound is the ceiling plus one there is no plan
-  pub none_above : x.bound ≡ ceiling_of p + 1 → (routes : List (List ℕ)) → ¬ IsPlan p routes
-  none_above e routes plan = absurd (omega (arith, e, bound_text.holds routes plan, ceiling_holds p routes plan))
-
-  pub took_above : (old new : Held) → x.bound ≡ ceiling_of p + 1 → Took old new (IsBoundText p k x.bound)
-      → Took old new (IsBoundText p k (ceiling_of p + 1)) × ((routes : List (List ℕ)) → ¬ IsPlan p routes)
-  took_above old new e took = (subst (λ b. Took old new (IsBoundText p k b)) e took, none_above e)

@@ -2,4 +2,3 @@ pub mod Answering
 pub mod BoundTexts
 pub mod OutcomeTrees
 pub mod TreeTexts
-pub mod Closings

@@ -1,7 +1,6 @@
 -- What the solver answers, and what both sinks hold then.
 use Rattle.std.specs.Prelude.{◌≡◌, ◌≢◌, ℕ, ◌+◌, ◌<◌, ◌≤◌, List, Option, Result, Ok, Err, ◌⊎◌}
-use Rattle.std.specs.Io.KnownBytes.{Appends}
-use Rattle.tenths.specs.Sink.{AppendsBeginning}
+use Rattle.tenths.specs.Sink.{Held, Takes, Fails}
 use Rattle.solomon_reader.specs.Words.{words}
 use Rattle.solomon_reader.specs.Problem.{Problem}
 use Rattle.solomon_reader.specs.Layout.{IsInstance}
@@ -38,64 +37,40 @@ pub record IsBoundText (p : Problem) (k bound : ℕ) (text : List ℕ) : Type 0 
   pub printed : accepted.certificate.bound ≡ bound
   pub holds : (routes : List (List ℕ)) → IsPlan p routes → bound ≤ plan_cost p routes
 
--- a sink as contracts see it: the bytes taken, where it tells them, and the number of failures
-pub record Held : Type 0 where
-  pub taken : Option (List ℕ)
-  pub failures : ℕ
-
 -- the sink took a text of this kind, and nothing failed
 pub record Took (old new : Held) (Is : List ℕ → Type 0) : Type 0 where
   pub text : List ℕ
   pub is : Is text
-  pub bytes : Appends old.taken new.taken text
-  pub fine : new.failures ≡ old.failures
+  pub takes : Takes old new text
 
 -- the sink failed, and took a beginning of a text of this kind
 pub record Broke (old new : Held) (Is : List ℕ → Type 0) : Type 0 where
   pub text : List ℕ
   pub is : Is text
-  pub bytes : AppendsBeginning old.taken new.taken text
-  pub failed : old.failures < new.failures
+  pub fails : Fails old new text
 
 -- what becomes of a text of this kind that is written to a sink
-abbrev pub Writes : (List ℕ → Type 0) → Held → Held → Result (Unit {0}) SolveFault → Type 0
-Writes Is old new (Ok u) = Took old new Is
-Writes Is old new (Err e) = (e ≡ fault.Device) × Broke old new Is
+abbrev pub WritesOne : (List ℕ → Type 0) → Held → Held → Result (Unit {0}) SolveFault → Type 0
+WritesOne Is old new (Ok u) = Took old new Is
+WritesOne Is old new (Err e) = (e ≡ fault.Device) × Broke old new Is
 
--- The answer, with the first sink's plan and the second sink's bound.
-abbrev pub Answers : Problem → ℕ → Held → Held → Held → Held → Answer → Type 0
-Answers p k s s' c c' (Best cost) = Took s s' (IsPlanText p cost) × Took c c' (IsBoundText p k cost)
-Answers p k s s' c c' (Gap cost bound) = Took s s' (IsPlanText p cost) × Took c c' (IsBoundText p k bound) × (cost ≢ bound)
-Answers p k s s' c c' NoPlan = (s' ≡ s) × Took c c' (IsBoundText p k (ceiling_of p + 1)) × ((routes : List (List ℕ)) → ¬ IsPlan p routes)
-Answers p k s s' c c' (Open bound) = (s' ≡ s) × Took c c' (IsBoundText p k bound) × (bound ≤ ceiling_of p) × (¬ IsServedAlone p)
+-- The answer, with the first sink's plan and the second sink's bound; where no plan was found, why.
+abbrev pub Answers : Problem → ℕ → Type 0 → Held → Held → Held → Held → Answer → Type 0
+Answers p k Why s s' c c' (Best cost) = Took s s' (IsPlanText p cost) × Took c c' (IsBoundText p k cost)
+Answers p k Why s s' c c' (Gap cost bound) = Took s s' (IsPlanText p cost) × Took c c' (IsBoundText p k bound) × (cost ≢ bound)
+Answers p k Why s s' c c' NoPlan = (s' ≡ s) × Took c c' (IsBoundText p k (ceiling_of p + 1)) × ((routes : List (List ℕ)) → ¬ IsPlan p routes)
+Answers p k Why s s' c c' (Open bound) = (s' ≡ s) × Took c c' (IsBoundText p k bound) × (bound ≤ ceiling_of p) × Why
 
 -- The first sink failed while it was given a plan, and the second took nothing.
 abbrev pub BreaksFirst : Problem → Held → Held → Held → Held → Type 0
 BreaksFirst p s s' c c' = (cost : ℕ) × Broke s s' (IsPlanText p cost) × (c' ≡ c)
 
 -- The second sink failed, after the first took all of a plan, or where no plan was found and nothing was for the first.
-abbrev pub BreaksSecond : Problem → ℕ → Held → Held → Held → Held → Type 0
-BreaksSecond p k s s' c c' = (((cost : ℕ) × Took s s' (IsPlanText p cost)) ⊎ ((s' ≡ s) × (¬ IsServedAlone p))) × ((bound : ℕ) × Broke c c' (IsBoundText p k bound))
+abbrev pub BreaksSecond : Problem → ℕ → Type 0 → Held → Held → Held → Held → Type 0
+BreaksSecond p k Why s s' c c' = (((cost : ℕ) × Took s s' (IsPlanText p cost)) ⊎ ((s' ≡ s) × Why)) × ((bound : ℕ) × Broke c c' (IsBoundText p k bound))
 
-abbrev pub Breaks : Problem → ℕ → Held → Held → Held → Held → Type 0
-Breaks p k s s' c c' = BreaksFirst p s s' c c' ⊎ BreaksSecond p k s s' c c'
-
--- what becomes of the two texts of an outcome
-abbrev pub WritesBoth : Problem → ℕ → Held → Held → Held → Held → Result Answer SolveFault → Type 0
-WritesBoth p k s s' c c' (Ok answer) = Answers p k s s' c c' answer
-WritesBoth p k s s' c c' (Err e) = (e ≡ fault.Device) × Breaks p k s s' c c'
-
--- what becomes of an outcome: both texts are written, or memory was refused before the first write
-abbrev pub WritesOutcome : Problem → ℕ → Held → Held → Held → Held → Result Answer SolveFault → Type 0
-WritesOutcome p k s s' c c' (Ok answer) = Answers p k s s' c c' answer
-WritesOutcome p k s s' c c' (Err fault.Memory) = (s' ≡ s) × (c' ≡ c)
-WritesOutcome p k s s' c c' (Err (fault.Instance f)) = ⊥
-WritesOutcome p k s s' c c' (Err fault.BadSettings) = ⊥
-WritesOutcome p k s s' c c' (Err fault.LabelLimit) = ⊥
-WritesOutcome p k s s' c c' (Err fault.NoThread) = ⊥
-WritesOutcome p k s s' c c' (Err fault.LeafLimit) = ⊥
-WritesOutcome p k s s' c c' (Err fault.TooLarge) = ⊥
-WritesOutcome p k s s' c c' (Err fault.Device) = Breaks p k s s' c c'
+abbrev pub Breaks : Problem → ℕ → Type 0 → Held → Held → Held → Held → Type 0
+Breaks p k Why s s' c c' = BreaksFirst p s s' c c' ⊎ BreaksSecond p k Why s s' c c'
 
 -- why a text gives no instance: it has this fault, or memory was refused
 abbrev pub RefusesText : List ℕ → SolveFault → Type 0
@@ -117,7 +92,7 @@ IsFaultOfRun run.NoThread told = told ≡ fault.NoThread
 
 -- What the solver does with the text of an instance, within the settings: each refusal is the first that holds, and all but the last come before the first write.
 abbrev pub Solves : List ℕ → Settings → Held → Held → Held → Held → Result Answer SolveFault → Type 0
-Solves text settings s s' c c' (Ok answer) = (p : Problem) × IsInstance text p × IsWithin settings × Answers p settings.neighbours s s' c c' answer
+Solves text settings s s' c c' (Ok answer) = (p : Problem) × IsInstance text p × IsWithin settings × Answers p settings.neighbours (¬ IsServedAlone p) s s' c c' answer
 Solves text settings s s' c c' (Err fault.Memory) = (s' ≡ s) × (c' ≡ c)
 Solves text settings s s' c c' (Err (fault.Instance f)) = (reading (words text) ≡ Err f) × (f ≢ read.Memory) × (s' ≡ s) × (c' ≡ c)
 Solves text settings s s' c c' (Err fault.BadSettings) = ((p : Problem) × IsInstance text p) × (¬ IsWithin settings) × (s' ≡ s) × (c' ≡ c)
@@ -125,4 +100,4 @@ Solves text settings s s' c c' (Err fault.LabelLimit) = ((p : Problem) × IsInst
 Solves text settings s s' c c' (Err fault.NoThread) = ((p : Problem) × IsInstance text p) × IsWithin settings × (s' ≡ s) × (c' ≡ c)
 Solves text settings s s' c c' (Err fault.LeafLimit) = ⊥
 Solves text settings s s' c c' (Err fault.TooLarge) = ⊥
-Solves text settings s s' c c' (Err fault.Device) = (p : Problem) × IsInstance text p × IsWithin settings × Breaks p settings.neighbours s s' c c'
+Solves text settings s s' c c' (Err fault.Device) = (p : Problem) × IsInstance text p × IsWithin settings × Breaks p settings.neighbours (¬ IsServedAlone p) s s' c c'

@@ -1,3 +1,4 @@
 pub mod Certified
 pub mod Answers
+pub mod Found
 pub mod Closing

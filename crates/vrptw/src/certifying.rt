@@ -12,23 +12,9 @@ ghost use Rattle.vrptw.specs.declared.answer.SolveFault.TheVariants.{Memory};
 use crate::answer::SolveFault;
 use branching::TreeNode;
 use certificate::{Cert, CertNode, CertParts, ShapeFault, Version};
-use incumbent_book::Outcome;
 use solomon_reader::Instance;
 use std::alloc::{AllocError, Global};
 use tenths::Tenths;
-
-/// A node as a certificate has it.
-fn certificate_node(node: TreeNode) -> CertNode
-    ensures { certificate.node_of result ≡ tree.node_of node }
-{
-    match node {
-        TreeNode::Split(arc) => CertNode::Split {
-            from: arc.from,
-            to: arc.to,
-        },
-        TreeNode::Leaf(prices) => CertNode::Leaf(prices),
-    }
-}
 
 /// Nodes as a certificate has them.
 fn certificate_nodes(alloc: Global, nodes: Vec<TreeNode>) -> Result<Vec<CertNode>, AllocError>
@@ -36,7 +22,13 @@ fn certificate_nodes(alloc: Global, nodes: Vec<TreeNode>) -> Result<Vec<CertNode
 {
     let mut listed = Vec::new(alloc);
     for node in nodes {
-        listed.push(certificate_node(node))?;
+        listed.push(match node {
+            TreeNode::Split(arc) => CertNode::Split {
+                from: arc.from,
+                to: arc.to,
+            },
+            TreeNode::Leaf(prices) => CertNode::Leaf(prices),
+        })?;
     }
     Ok(listed)
 }
@@ -73,20 +65,4 @@ pub(crate) fn certify(
             ShapeFault::NotACertificate => unreachable!(),
         },
     }
-}
-
-/// The certificate of an outcome's bound, with its tree. `Memory`.
-pub(crate) fn certify_outcome(alloc: Global, outcome: &Outcome<'_>) -> Result<Cert, SolveFault>
-    ensures certified { IfOk result (IsCertified outcome.now.problem outcome.now.neighbours) }
-    ensures memory { IfErr result (λ e. e ≡ Memory) }
-{
-    let bound = outcome.bound();
-    let nodes = outcome.nodes(alloc)?;
-    certify(
-        alloc,
-        outcome.instance(),
-        outcome.neighbours(),
-        bound,
-        nodes,
-    )
 }

@@ -5,6 +5,7 @@
 mod answer;
 mod certifying;
 mod closing_text;
+mod found;
 mod lines;
 mod program;
 mod progress;

@@ -13,10 +13,10 @@ use checker::check;
 use command_line::{Job, job};
 use search_workers::{NoGate, Settings};
 use std::alloc::Global;
+use std::fs;
 use std::rt::Files;
 use std::sync::Wait;
 use std::thread::Threads;
-use std::{fs, io};
 use tenths::{Sink, StdSink};
 
 /// How an instance is solved: within the settings, and where a number of leaves is given, by closing it
@@ -86,14 +86,6 @@ fn solve_files<R: Eprint + Files + AllocGlobal + Threads + Wait + Sync, X: Sink,
     }
 }
 
-/// What a file holds, if it is named.
-fn read_if<R: Files + AllocGlobal>(rt: &R, path: Option<&str>) -> io::Result<Option<Vec<u8>>> {
-    let Some(path) = path else {
-        return Ok(None);
-    };
-    Ok(Some(fs::read(rt, path)?))
-}
-
 /// Checks the certificate of a file, and the plan of another one if it is named, against the
 /// instance of a file.
 fn check_files<R: Files + AllocGlobal, X: Sink, Y: Sink>(
@@ -112,9 +104,12 @@ fn check_files<R: Files + AllocGlobal, X: Sink, Y: Sink>(
         Ok(text) => text,
         Err(error) => return open_fault(&error, errors),
     };
-    let solution = match read_if(rt, solution) {
-        Ok(text) => text,
-        Err(error) => return open_fault(&error, errors),
+    let solution = match solution {
+        Some(path) => match fs::read(rt, path) {
+            Ok(text) => Some(text),
+            Err(error) => return open_fault(&error, errors),
+        },
+        None => None,
     };
     let solution = match &solution {
         Some(text) => Some(text.as_slice()),

@@ -1,26 +1,47 @@
-//! The texts of a plan and of a certificate, written one after the other.
+//! A plan and the certificate of a bound, written one after the other.
 
-ghost use Rattle.std.specs.Prelude.{◌≡◌, ◌+◌, MatchOption};
-ghost use Rattle.solomon_reader.specs.Bound.{ceiling_of};
+ghost use Rattle.std.specs.Prelude.{◌≡◌, IfOk, IfErr, IfSome};
 ghost use Rattle.solomon_reader.specs.Moves.{IsLocalOptimum};
-ghost use Rattle.insertion.specs.Building.{IsServedAlone};
 ghost use Rattle.vrptw.specs.Certified.{IsCertified};
-ghost use Rattle.vrptw.specs.Answers.{Writes, WritesBoth, IsPlanText, IsBoundText};
-ghost use Rattle.vrptw.specs.Closing.{WritesClosed};
+ghost use Rattle.vrptw.specs.Answers.{WritesOne, IsPlanText, IsBoundText};
+ghost use Rattle.vrptw.specs.Found.{IsDescended, IsFound, WritesFound};
+ghost use Rattle.vrptw.specs.declared.answer.SolveFault.TheVariants.{Memory};
 
 use crate::answer::{Answer, SolveFault};
+use crate::certifying::certify;
+use crate::found::Found;
 use certificate::Cert;
-use incumbent_book::Outcome;
 use schedule::Feasible;
+use search::Searcher;
+use search_workers::generator;
 use solomon_reader::Instance;
+use std::alloc::Global;
 use tenths::Sink;
+
+/// The plan that a descent leads to, if there is one.
+fn descend<'i>(
+    alloc: Global,
+    plan: Option<Feasible<'i>>,
+) -> Result<Option<Feasible<'i>>, SolveFault>
+    ensures plan { IfOk result (IsDescended plan.entry) }
+    ensures memory { IfErr result (λ e. e ≡ Memory) }
+{
+    let Some(plan) = plan else {
+        return Ok(None);
+    };
+    // A descent draws no random words.
+    let mut searcher = Searcher::new(alloc, plan, generator(0, 0));
+    searcher.descend()?;
+    let lower = searcher.into_plan();
+    let _cost = lower.cost();
+    Ok(Some(lower))
+}
 
 /// Writes the text of a plan.
 fn write_plan<X: Sink>(plan: &Feasible<'_>, solution: &mut X) -> Result<(), SolveFault>
     requires { IsLocalOptimum plan.now.problem plan.now.routes }
-    ensures { Writes (IsPlanText plan.now.problem plan.now.cost)
-        (record { taken = X.taken solution.old; failures = X.failures solution.old })
-        (record { taken = X.taken solution.new; failures = X.failures solution.new }) result }
+    ensures { WritesOne (IsPlanText plan.now.problem plan.now.cost)
+        (X.held solution.old) (X.held solution.new) result }
 {
     match sol_writer::write(plan.routes(), plan.cost(), solution) {
         Ok(()) => Ok(()),
@@ -36,9 +57,8 @@ fn write_bound<Y: Sink>(
     certificate: &mut Y,
 ) -> Result<(), SolveFault>
     requires { IsCertified instance.now neighbours cert.now }
-    ensures { Writes (IsBoundText instance.now neighbours cert.now.bound)
-        (record { taken = Y.taken certificate.old; failures = Y.failures certificate.old })
-        (record { taken = Y.taken certificate.new; failures = Y.failures certificate.new }) result }
+    ensures { WritesOne (IsBoundText instance.now neighbours cert.now.bound)
+        (Y.held certificate.old) (Y.held certificate.new) result }
 {
     match certificate::write(cert, certificate) {
         Ok(()) => Ok(()),
@@ -46,25 +66,22 @@ fn write_bound<Y: Sink>(
     }
 }
 
-/// Writes the plan, if there is one, and then the certificate of the outcome.
-pub(crate) fn write_both<X: Sink, Y: Sink>(
-    plan: Option<&Feasible<'_>>,
-    outcome: &Outcome<'_>,
+/// Writes a plan, if there is one, and then a certificate.
+fn write_both<X: Sink, Y: Sink>(
+    plan: Option<Feasible<'_>>,
+    instance: &Instance,
+    neighbours: u32,
     cert: &Cert,
     solution: &mut X,
     certificate: &mut Y,
 ) -> Result<Answer, SolveFault>
-    requires plan { MatchOption plan (¬ IsServedAlone outcome.now.problem) (λ f. (f.now.problem ≡ outcome.now.problem) × IsLocalOptimum f.now.problem f.now.routes) }
-    requires certified { IsCertified outcome.now.problem outcome.now.neighbours cert.now }
-    ensures { WritesBoth outcome.now.problem outcome.now.neighbours
-        (record { taken = X.taken solution.old; failures = X.failures solution.old })
-        (record { taken = X.taken solution.new; failures = X.failures solution.new })
-        (record { taken = Y.taken certificate.old; failures = Y.failures certificate.old })
-        (record { taken = Y.taken certificate.new; failures = Y.failures certificate.new }) result }
+    requires plan { IfSome plan (λ f. (f.problem ≡ instance.now) × IsLocalOptimum f.problem f.routes) }
+    requires certified { IsCertified instance.now neighbours cert.now }
+    ensures { WritesFound instance.now neighbours plan.entry cert.now.bound
+        (X.held solution.old) (X.held solution.new)
+        (Y.held certificate.old) (Y.held certificate.new) result }
 {
     let bound = cert.parts().bound;
-    let instance = outcome.instance();
-    let neighbours = outcome.neighbours();
     let Some(plan) = plan else {
         write_bound(instance, neighbours, cert, certificate)?;
         if bound.get() > instance.ceiling().get() {
@@ -72,7 +89,7 @@ pub(crate) fn write_both<X: Sink, Y: Sink>(
         }
         return Ok(Answer::Open { bound });
     };
-    write_plan(plan, solution)?;
+    write_plan(&plan, solution)?;
     write_bound(instance, neighbours, cert, certificate)?;
     let cost = plan.cost();
     if cost == bound {
@@ -81,29 +98,23 @@ pub(crate) fn write_both<X: Sink, Y: Sink>(
     Ok(Answer::Gap { cost, bound })
 }
 
-/// Writes the plan of a closed instance, if there is one, and then the certificate.
-pub(crate) fn write_closed<X: Sink, Y: Sink>(
-    plan: Option<Feasible<'_>>,
+/// Writes what was found: its plan, if there is one, descended once more, and then the certificate of its
+/// bound for so many neighbours.
+pub(crate) fn write_found<X: Sink, Y: Sink>(
+    alloc: Global,
     instance: &Instance,
     neighbours: u32,
-    cert: &Cert,
+    found: Found<'_>,
     solution: &mut X,
     certificate: &mut Y,
 ) -> Result<Answer, SolveFault>
-    requires plan { MatchOption plan (cert.now.bound ≡ ceiling_of instance.now + 1)
-        (λ f. (f.problem ≡ instance.now) × IsLocalOptimum f.problem f.routes × (f.cost ≡ cert.now.bound)) }
-    requires certified { IsCertified instance.now neighbours cert.now }
-    ensures { WritesClosed instance.now neighbours
-        (record { taken = X.taken solution.old; failures = X.failures solution.old })
-        (record { taken = X.taken solution.new; failures = X.failures solution.new })
-        (record { taken = Y.taken certificate.old; failures = Y.failures certificate.old })
-        (record { taken = Y.taken certificate.new; failures = Y.failures certificate.new }) result }
+    requires { IsFound instance.now neighbours found }
+    ensures { WritesFound instance.now neighbours found.entry.plan found.entry.bound
+        (X.held solution.old) (X.held solution.new)
+        (Y.held certificate.old) (Y.held certificate.new) result }
 {
-    let Some(plan) = plan else {
-        write_bound(instance, neighbours, cert, certificate)?;
-        return Ok(Answer::NoPlan);
-    };
-    write_plan(&plan, solution)?;
-    write_bound(instance, neighbours, cert, certificate)?;
-    Ok(Answer::Best { cost: plan.cost() })
+    let Found { plan, bound, nodes } = found;
+    let plan = descend(alloc, plan)?;
+    let cert = certify(alloc, instance, neighbours, bound, nodes)?;
+    write_both(plan, instance, neighbours, &cert, solution, certificate)
 }

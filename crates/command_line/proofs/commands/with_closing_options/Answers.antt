@@ -6,4 +6,4 @@ pub returns : goal.returns
 returns c =
     IfOk-weaker c.arg-2.result _ _ (λ made step. adds_two _ _ made _ _ _ _
     c.in_ok-arg.ensures c.flag.ensures.rule c.flag.ensures.own
-    step (rw c.number_between.ensures at c.number_option.ensures.rule) c.number_option.ensures.own) c.arg-2.ensures
+    step c.number_option.ensures.rule c.number_option.ensures.own) c.arg-2.ensures

@@ -5,5 +5,5 @@ use Rattle.command_line.proofs.commands.with_thread_options.Goals as goal
 pub returns : goal.returns
 returns c =
     IfOk-weaker c.arg-2.result _ _ (λ made step. adds_two _ _ made _ _ _ _
-    c.in_ok-arg.ensures (rw c.number_between.ensures at c.number_option.ensures.rule) c.number_option.ensures.own
-    step (rw c.number_between-2.ensures at c.number_option-2.ensures.rule) c.number_option-2.ensures.own) c.arg-2.ensures
+    c.in_ok-arg.ensures c.number_option.ensures.rule c.number_option.ensures.own
+    step c.number_option-2.ensures.rule c.number_option-2.ensures.own) c.arg-2.ensures

@@ -9,5 +9,5 @@ returns-in_err-outcome g c =
 
 pub returns : goal.returns
 returns g c =
-    solved c.args.text.now c.args.settings.now c.in_ok-instance.instance _ _ _ _ c.in_ok-instance.ensures.found c.in_ok-outcome.ensures.within c.in_ok-outcome.outcome.problem c.in_ok-outcome.outcome.neighbours
-    c.write_outcome.result c.in_ok-outcome.ensures.problem c.in_ok-outcome.ensures.neighbours c.write_outcome.ensures
+    solved c.args.text.now c.args.settings.now c.in_ok-instance.instance c.in_ok-found.found.plan c.in_ok-found.found.bound _ _ _ _ c.in_ok-instance.ensures.found c.in_ok-outcome.ensures.within
+    (λ e served. c.in_ok-outcome.ensures.served served (c.in_ok-found.ensures.plan e)) c.write_found.result c.write_found.ensures

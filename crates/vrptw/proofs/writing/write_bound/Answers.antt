@@ -7,8 +7,7 @@ pub returns-in-Ok : goal.returns-in-Ok
 returns-in-Ok g c = record {
   text = certificate_text c.requires.certificate;
   is = bound_text c.args.instance.now c.args.neighbours c.args.cert.now c.requires;
-  bytes = c.in-Ok.ensures.bytes c.requires.certificate c.requires.is;
-  fine = c.in-Ok.ensures.failures;
+  takes = c.in-Ok.ensures.text c.requires.certificate c.requires.is;
 }
 
 pub returns-in-Err : goal.returns-in-Err
@@ -17,7 +16,6 @@ returns-in-Err g c = (
   record {
     text = certificate_text c.requires.certificate;
     is = bound_text c.args.instance.now c.args.neighbours c.args.cert.now c.requires;
-    bytes = c.in-Err.ensures.bytes c.requires.certificate c.requires.is;
-    failed = c.in-Err.ensures.failures;
+    fails = c.in-Err.ensures.text c.requires.certificate c.requires.is;
   },
 )

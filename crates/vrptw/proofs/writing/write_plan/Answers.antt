@@ -15,7 +15,6 @@ returns-in-Err g c = (
       exact = sym c.cost.ensures.solution.exact;
       spelled = rw (c.routes.ensures, c.cost.ensures.is) refl;
     };
-    bytes = c.in-Err.ensures.bytes;
-    failed = c.in-Err.ensures.failures;
+    fails = c.in-Err.ensures;
   },
 )
