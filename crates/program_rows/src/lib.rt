@@ -11,6 +11,7 @@
 //! - `bound NAME` prints a certificate's bound and leaves, of which `bound NAME MOST` says only that they
 //!   are so many at most;
 //! - `library NAME OPTION NUMBER` calls the library with one setting, or with the most `leaves` to close;
+//! - `job WORDS` prints what the words ask for;
 //! - `unheard KIND` prints what is said where the words can't be had;
 //! - `sinks WHICH NAME` tries sinks that fail or take little;
 //! - `held NAME` solves an instance while each of four workers is held at each of seven points of its turns,
@@ -20,6 +21,7 @@
 mod answers;
 mod bounds;
 mod held;
+mod jobs;
 mod library;
 mod runs;
 mod sinks;
@@ -28,6 +30,7 @@ mod texts;
 use crate::answers::tell_solving;
 use crate::bounds::tell_bound;
 use crate::held::tell_held;
+use crate::jobs::tell_job;
 use crate::library::tell_library;
 use crate::runs::{run, tell_printed, tell_streams, tell_unheard};
 use crate::sinks::tell_sinks;
@@ -49,6 +52,7 @@ fn obey<R: Runtime + AllocGlobal + Threads + Wait + Sync>(
         ["text", path, ..] => write_text(rt, line, path),
         ["show", path] => tell_file(rt, path),
         ["bound", rest @ ..] => tell_bound(rt, rest),
+        ["job", rest @ ..] => tell_job(rt, rest),
         ["unheard", kind] => tell_unheard(rt, kind),
         ["run", rest @ ..] => tell_printed(rt, &run(rt, rest)),
         ["streams", rest @ ..] => tell_streams(rt, &run(rt, rest)),

@@ -1,0 +1,36 @@
+//! What words ask for.
+
+use std::io;
+use std::rt::Runtime;
+use vrptw::{Job, job};
+
+/// Prints what the words ask for.
+pub fn tell_job<R: Runtime + AllocGlobal>(rt: &R, words: &[&str]) -> io::Result<bool> {
+    match job(rt.alloc(), words) {
+        Ok(
+            Job::Solve {
+                instance,
+                solution,
+                certificate,
+                settings,
+                close,
+                leaves,
+                progress,
+            },
+        ) => {
+            println!(rt; "  solve {instance} {solution} {certificate}")?;
+            println!(rt; "  {settings:?}")?;
+            println!(rt; "  close {close} leaves {leaves} progress {progress}")?;
+        }
+        Ok(
+            Job::Check {
+                instance,
+                certificate,
+                solution,
+                states,
+            },
+        ) => println!(rt; "  check {instance} {certificate} {solution:?} states {states}")?,
+        Err(_) => println!(rt; "  refused")?,
+    }
+    Ok(true)
+}
