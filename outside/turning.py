@@ -126,9 +126,19 @@ def place_of(routes, customer):
     return next((a, route.index(customer)) for a, route in enumerate(routes) if customer in route)
 
 
-def chains_taken(instance, words, routes):
+def drawn_customer(instance, words):
+    return below(words, instance.count) + 1
+
+
+def drawn_near(instance, words, center):
+    """The nearest to a customer of those that are drawn, one for each 50, and of several the first."""
+    drawn = [drawn_customer(instance, words) for _ in range(max(1, instance.count // 50))]
+    return min(drawn, key=lambda u: instance.arc[center][u])
+
+
+def chains_taken(instance, words, routes, turns_center):
     """The routes with 1 to 16 chains near a customer moved to new routes, and the customers of the chains."""
-    known, center = len(routes), below(words, instance.count) + 1
+    known, center = len(routes), drawn_near(instance, words, turns_center)
     left, taken = below(words, 16) + 1, []
     for customer in sorted(range(1, instance.count + 1), key=lambda u: (instance.arc[center][u], u)):
         a, at = place_of(routes, customer)
@@ -168,12 +178,12 @@ def put_back(instance, words, routes, customer, known):
     return (routes if is_alone or not is_plan(instance, after) else after), known
 
 
-def shaken(instance, words, routes):
+def shaken(instance, words, routes, center):
     """The routes after a shake near a customer, or anywhere where few vehicles are left."""
     left, known = instance.fleet - len(routes), len(routes)
     if left == 0 or (left < 4 and below(words, 2) == 0):
         return shaken_anywhere(instance, words, routes)
-    routes, taken = chains_taken(instance, words, routes)
+    routes, taken = chains_taken(instance, words, routes, center)
     for i in range(len(taken)):
         other = i + below(words, len(taken) - i)
         taken[i], taken[other] = taken[other], taken[i]
@@ -184,12 +194,13 @@ def shaken(instance, words, routes):
 
 def turn(instance, words, routes):
     """The routes after a turn: the cheapest of those that its rounds come to, where they are cheaper."""
+    center = drawn_customer(instance, words)
     current = descend(instance, routes)
     best = current
     for number in range(ROUNDS):
         least = plan_cost(instance, best)
-        first = 120 * least // (100 * instance.count)
-        after = descend(instance, shaken(instance, words, current))
+        first = 120 * least // (instance.count * max(100, instance.count))
+        after = descend(instance, shaken(instance, words, current, center))
         threshold = first * (ROUNDS - number) // ROUNDS
         if plan_cost(instance, after) < plan_cost(instance, best):
             best = after

@@ -1,6 +1,6 @@
 //! Looks for faults in a list of routes.
 
-ghost use Rattle.std.specs.Prelude.{◌≡◌, ℕ, ◌*◌, ◌<◌, ◌≤◌, List, length, IsTrue, IsFalse, IfSome, IfNone};
+ghost use Rattle.std.specs.Prelude.{◌≡◌, ℕ, ◌*◌, ◌<◌, ◌≤◌, List, length, IsTrue, IsFalse, IfSome, IfNone, IfOk, IfErr};
 ghost use Rattle.std.specs.List.{Any, All};
 ghost use Rattle.solomon_reader.specs.declared.limits.TheConstants.{MOST_CUSTOMERS, MOST_FLEET, MOST_TIME};
 ghost use Rattle.solomon_reader.specs.Problem.{IsCustomer};
@@ -92,62 +92,72 @@ fn has_overload(instance: &Instance, routes: &[Vec<u16>]) -> bool
     false
 }
 
-/// Whether a route that is right in all else comes too late.
-fn is_late(instance: &Instance, route: &[u16]) -> bool
+/// The cost in tenths of a route that is right in all else, or `None` where it comes too late.
+fn cost_in_time(instance: &Instance, route: &[u16]) -> Option<u64>
     requires some { 0 < length route.now }
     requires known { All (λ i. IsCustomer instance.now i) route.now }
     requires light { load_of instance.now route.now ≤ instance.now.capacity }
-    ensures found { IsTrue result → ¬ HasWalk instance.now route.now }
-    ensures none { IsFalse result → IsFitting instance.now route.now }
+    ensures late { IfNone result (¬ HasWalk instance.now route.now) }
+    ensures fits { IfSome result (λ _. IsFitting instance.now route.now) }
+    ensures cost { IfSome result (λ c. c ≡ route_cost instance.now route.now) }
+    ensures small { IfSome result (λ c. c ≤ 10 * MOST_TIME) }
 {
-    walk(instance, route).is_none()
+    match walk(instance, route) {
+        Some(walked) => Some(walked.cost.get()),
+        None => None,
+    }
 }
 
-/// Whether some of the routes, right in all else, comes too late.
-fn has_late(instance: &Instance, routes: &[Vec<u16>]) -> bool
+/// The cost in tenths of routes that are right in all else, or `None` where one of them comes too late.
+fn cost_of_all(instance: &Instance, routes: &[Vec<u16>]) -> Option<u128>
     requires some { All (λ r. 0 < length r.items) routes.now }
     requires known { All (λ r. All (λ i. IsCustomer instance.now i) r.items) routes.now }
     requires light { All (λ r. load_of instance.now r.items ≤ instance.now.capacity) routes.now }
-    ensures found { IsTrue result → Any (λ r. ¬ HasWalk instance.now r.items) routes.now }
-    ensures none { IsFalse result → All (λ r. IsFitting instance.now r.items) routes.now }
+    ensures late { IfNone result (Any (λ r. ¬ HasWalk instance.now r.items) routes.now) }
+    ensures fitting { IfSome result (λ _. All (λ r. IsFitting instance.now r.items) routes.now) }
+    ensures cost { IfSome result (λ c. c ≡ plan_cost instance.now (lists routes.now)) }
+    ensures small { IfSome result (λ c. c ≤ 10 * MOST_TIME * length routes.now) }
 {
+    // however many routes there are, the sum fits
+    let mut cost = 0u128;
     for route in routes {
-        if is_late(instance, route.as_slice()) {
-            return true;
-        }
+        let Some(more) = cost_in_time(instance, route.as_slice()) else {
+            return None;
+        };
+        cost += u128::from(more);
     }
-    false
+    Some(cost)
 }
 
-/// The first fault that the routes have in the order of `PlanFault`, or `None` at a plan.
-pub fn fault_of(instance: &Instance, routes: &[Vec<u16>]) -> Option<PlanFault>
-    ensures plan { IfNone result (IsPlan instance.now (lists routes.now)) }
-    ensures fault { IfSome result (λ f. IsLowestFault instance.now (lists routes.now) f) }
-    ensures few { IfNone result (length routes.now ≤ MOST_FLEET) }
-    ensures fitting { IfNone result (All (λ r. IsFitting instance.now r.items) routes.now) }
+/// The cost of a plan's routes, each of which is walked once, or the first fault that the routes have in the
+/// order of `PlanFault`.
+pub fn cost_or_fault(instance: &Instance, routes: &[Vec<u16>]) -> Result<Tenths, PlanFault>
+    ensures plan { IfOk result (λ _. IsPlan instance.now (lists routes.now)) }
+    ensures cost { IfOk result (λ c. c ≡ plan_cost instance.now (lists routes.now)) }
+    ensures fault { IfErr result (λ f. IsLowestFault instance.now (lists routes.now) f) }
 {
     if has_empty(routes) {
-        return Some(PlanFault::EmptyRoute);
+        return Err(PlanFault::EmptyRoute);
     }
     if has_unknown(instance, routes) {
-        return Some(PlanFault::UnknownCustomer);
+        return Err(PlanFault::UnknownCustomer);
     }
     let Some(marks) = marks_of(routes) else {
-        return Some(PlanFault::Twice);
+        return Err(PlanFault::Twice);
     };
     if has_missing(instance, &marks) {
-        return Some(PlanFault::Missing);
+        return Err(PlanFault::Missing);
     }
     if has_overload(instance, routes) {
-        return Some(PlanFault::OverCapacity);
+        return Err(PlanFault::OverCapacity);
     }
-    if has_late(instance, routes) {
-        return Some(PlanFault::Late);
-    }
+    let Some(cost) = cost_of_all(instance, routes) else {
+        return Err(PlanFault::Late);
+    };
     if routes.len() > usize::from(instance.fleet()) {
-        return Some(PlanFault::FleetExceeded);
+        return Err(PlanFault::FleetExceeded);
     }
-    None
+    Ok(Tenths::new(cost as u64).unwrap())
 }
 
 /// The cost of a fitting route, in tenths.

@@ -7,7 +7,7 @@ ghost use Rattle.schedule.specs.Faults.{IsLowestFault};
 ghost use Rattle.schedule.specs.Solution.{IsSolution};
 
 use crate::fault::PlanFault;
-use crate::finding::{fault_of, total_cost};
+use crate::finding::{cost_or_fault, total_cost};
 use solomon_reader::Instance;
 use std::alloc::AllocError;
 use std::marker::Model;
@@ -39,7 +39,7 @@ impl<'i> Model for Feasible<'i> {
 
 impl<'i> Feasible<'i> {
     /// The plan of these routes, or the routes again and the first fault that they have in the
-    /// order of `PlanFault`.
+    /// order of `PlanFault`. Each route is walked once.
     pub fn check(
         instance: &'i Instance,
         routes: Vec<Vec<u16>>,
@@ -51,15 +51,14 @@ impl<'i> Feasible<'i> {
         ensures back { IfErr result (λ e. e.0 ≡ routes) }
         ensures fault { IfErr result (λ e. IsLowestFault instance.now (lists routes.items) e.1) }
     {
-        if let Some(fault) = fault_of(instance, routes.as_slice()) {
-            return Err((routes, fault));
+        match cost_or_fault(instance, routes.as_slice()) {
+            Ok(cost) => Ok(Feasible {
+                instance,
+                routes,
+                cost,
+            }),
+            Err(fault) => Err((routes, fault)),
         }
-        let cost = total_cost(instance, routes.as_slice());
-        Ok(Feasible {
-            instance,
-            routes,
-            cost,
-        })
     }
 
     /// The plan of routes that are known as one. Each route is walked once, for its cost.

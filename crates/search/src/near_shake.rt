@@ -6,7 +6,7 @@ ghost use Rattle.search.specs.Searching.{Moves};
 use crate::drawing::{below, draw};
 use crate::fault::SearchFault;
 use crate::making::make;
-use crate::nearness::number_of;
+use crate::nearness::{draw_near, number_of};
 use crate::placing::put_all_back;
 use crate::taking::take_chains;
 use moves::Move;
@@ -52,14 +52,15 @@ fn shake_anywhere<R: Rng>(plan: &mut WorkingPlan<'_>, random: &mut R) -> Result<
     Ok(())
 }
 
-/// Takes chains near a random customer out of their routes, and puts each of their customers at its
-/// cheapest other place, all by moves. Where no vehicle is left for that, and now and then where few
+/// Takes chains near a random customer, which is near the given one, out of their routes, and puts each of
+/// their customers at its cheapest other place, all by moves. Where no vehicle is left for that, and now and then where few
 /// are, it makes moves of any kind anywhere. `Memory`, and the plan that it has come to stays then.
 #[tactic(auto, using(crate::proofs::Steps::moved_none, crate::proofs::Steps::moved_further))]
 pub fn shake_near<R: Rng>(
     alloc: Global,
     plan: &mut WorkingPlan<'_>,
     random: &mut R,
+    center: u16,
 ) -> Result<(), SearchFault>
     ensures problem { plan.new.problem ≡ plan.old.problem }
     ensures moves { Moves plan.old.problem plan.old.routes plan.new.routes }
@@ -70,6 +71,7 @@ pub fn shake_near<R: Rng>(
         return shake_anywhere(plan, random);
     }
     let mut taken = Vec::new(alloc);
-    take_chains(plan, random, &mut taken)?;
+    let near = draw_near(random, plan.instance(), center);
+    take_chains(plan, random, near, &mut taken)?;
     put_all_back(plan, random, taken.as_mut_slice(), number_of(routes))
 }

@@ -1,7 +1,12 @@
 //! How near customers are, and where they stand in a plan.
 
+use crate::drawing::below;
 use moves::Place;
+use rand_core::Rng;
 use solomon_reader::Instance;
+
+/// One customer is drawn for each so many of them, and the nearest of those that were drawn is taken.
+const CUSTOMERS_A_DRAW: u16 = 50;
 
 /// The distance between two places in tenths, of which 0 is the depot; an unknown one is far from all.
 /// No contract, here and below: shakes go by it, and only moves that leave a plan are made.
@@ -22,6 +27,23 @@ pub fn may_follow(instance: &Instance, from: u16, to: u16) -> bool {
     }
     let left = instance.ready(from) + if from == 0 { 0 } else { instance.service(from) };
     left + instance.distance(from, to).get() <= instance.due(to)
+}
+
+/// A random customer. No contract.
+pub fn draw_customer<R: Rng>(random: &mut R, instance: &Instance) -> u16 {
+    below(random, usize::from(instance.customer_count())) + 1
+}
+
+/// Of random customers the nearest to this one; how near it is doesn't grow with the customers. No contract.
+pub fn draw_near<R: Rng>(random: &mut R, instance: &Instance, center: u16) -> u16 {
+    let mut nearest = draw_customer(random, instance);
+    for _ in 1..instance.customer_count() / CUSTOMERS_A_DRAW {
+        let other = draw_customer(random, instance);
+        if arc(instance, center, other) < arc(instance, center, nearest) {
+            nearest = other;
+        }
+    }
+    nearest
 }
 
 /// How far a customer is from a place in tenths, and the customer.

@@ -65,12 +65,13 @@ fn take_chain<R: Rng>(
     Ok(true)
 }
 
-/// Takes one to sixteen chains near a random customer to new routes, and remembers their customers.
+/// Takes one to sixteen chains near a customer to new routes, and remembers their customers.
 /// A chain that is all of its route stays there.
 #[tactic(auto, using(crate::proofs::Steps::moved_none, crate::proofs::Steps::moved_further))]
 pub fn take_chains<R: Rng>(
     plan: &mut WorkingPlan<'_>,
     random: &mut R,
+    center: u16,
     taken: &mut Vec<u16>,
 ) -> Result<(), SearchFault>
     ensures problem { plan.new.problem ≡ plan.old.problem }
@@ -78,7 +79,6 @@ pub fn take_chains<R: Rng>(
 {
     let instance = plan.instance();
     let known = plan.routes().len();
-    let center = below(random, usize::from(instance.customer_count())) + 1;
     let mut left = below(random, MOST_TAKEN) + 1;
     let mut last: Option<Nearness> = None;
     for _ in 0..instance.customer_count() {

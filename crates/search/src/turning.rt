@@ -8,6 +8,7 @@ ghost use Rattle.search.specs.Turning.{IsRound, IsCheaper, AreRounds, IsCheapest
 use crate::descent::descend;
 use crate::fault::SearchFault;
 use crate::near_shake::shake_near;
+use crate::nearness::draw_customer;
 use rand_core::Rng;
 use std::alloc::{AllocError, Global};
 use std::mem;
@@ -20,6 +21,10 @@ pub const ROUNDS: u32 = 12;
 /// of the cost of a customer on the average; the threshold falls to 0 with the rounds.
 const HUNDREDTHS: u64 = 120;
 
+/// With more customers the threshold is lower by as many times as they are more: a round changes the plan
+/// near one customer, however many there are.
+const MANY_CUSTOMERS: u64 = 100;
+
 /// The plan that the rounds go on from, and the cheapest that they came to.
 #[derive(Drop)]
 struct Held<'i> {
@@ -31,23 +36,25 @@ struct Held<'i> {
 /// that.
 fn threshold_of(plan: &WorkingPlan<'_>, round: u32) -> u64 {
     let customers = u64::from(plan.instance().customer_count());
-    let first = HUNDREDTHS.saturating_mul(plan.cost().get()) / (100 * customers);
+    let first = HUNDREDTHS.saturating_mul(plan.cost().get())
+        / (customers * customers.max(MANY_CUSTOMERS));
     first.saturating_mul(u64::from(ROUNDS.saturating_sub(round))) / u64::from(ROUNDS)
 }
 
-/// Shakes a copy of the plan, which is made of a spare one, and descends from there.
+/// Shakes a copy of the plan, which is made of a spare one, near a customer, and descends from there.
 fn make_round<'i, R: Rng>(
     alloc: Global,
     current: &WorkingPlan<'i>,
     spare: WorkingPlan<'i>,
     random: &mut R,
+    center: u16,
 ) -> Result<WorkingPlan<'i>, SearchFault>
     requires { spare.problem ≡ current.now.problem }
     ensures problem { IfOk result (λ w. w.problem ≡ current.now.problem) }
     ensures round { IfOk result (λ w. IsRound current.now.problem current.now.routes w.routes) }
 {
     let mut next = current.copy_over(spare)?;
-    shake_near(alloc, &mut next, random)?;
+    shake_near(alloc, &mut next, random, center)?;
     descend(&mut next)?;
     Ok(next)
 }
@@ -90,7 +97,8 @@ fn begin<'i>(start: WorkingPlan<'i>) -> Result<Held<'i>, SearchFault>
 }
 
 /// The cheapest plan that a descent and rounds of shakes and descents lead to, each from a plan that
-/// was come to before: the last one, or where that was too dear the one before it.
+/// was come to before: the last one, or where that was too dear the one before it. The shakes of a turn are
+/// near one random customer, so that a round may mend what the one before it broke.
 pub fn find_by_rounds<'i, R: Rng>(
     alloc: Global,
     start: WorkingPlan<'i>,
@@ -101,11 +109,12 @@ pub fn find_by_rounds<'i, R: Rng>(
         × AreRounds start.entry.problem ROUNDS start.entry.routes plans
         × IsCheapest start.entry.problem plans f.routes) }
 {
+    let center = draw_customer(random, start.instance());
     let mut held = begin(start)?;
     let mut spare = held.current.try_clone()?;
     for round in 0..ROUNDS {
         let threshold = threshold_of(&held.best, round);
-        let next = make_round(alloc, &held.current, spare, random)?;
+        let next = make_round(alloc, &held.current, spare, random, center)?;
         spare = hold(&mut held, next, threshold)?;
     }
     Ok(held.best)

@@ -9,7 +9,7 @@ use Rattle.solomon_reader.specs.Plan.{HasWalk, load_of, count_of}
 use Rattle.solomon_reader.specs.PlanDefects.{stops}
 use Rattle.schedule.proofs.Marking.{once_by_marks}
 use Rattle.solomon_reader.proofs.Planning.{Any-map, after_empty, after_unknown, after_twice, after_missing, after_overload, after_late, is_plan}
-use Rattle.schedule.proofs.finding.fault_of.Goals as goal
+use Rattle.schedule.proofs.finding.cost_or_fault.Goals as goal
 
 pub returns-then-has_unknown-clause-fault : goal.returns-then-has_unknown-clause-fault
 returns-then-has_unknown-clause-fault c = record {
@@ -43,14 +43,14 @@ returns-then-has_overload-clause-fault c =
       lowest = after_missing _ _ (c.if-has_empty.ensures.none refl) (c.if-has_unknown.ensures.none refl) once there;
     }
 
-pub returns-then-has_late-clause-fault : goal.returns-then-has_late-clause-fault
-returns-then-has_late-clause-fault c =
+pub returns-in_default-cost_of_all-clause-fault : goal.returns-in_default-cost_of_all-clause-fault
+returns-in_default-cost_of_all-clause-fault c =
     let once : (i : ℕ) → IsCustomer c.args.instance.now i → count_of i (stops (lists c.args.routes.now)) ≤ 1 =
     λ i _. once_by_marks c.args.routes.now _ (c.if-has_unknown.ensures.small refl) c.in-Some.ensures.marks i in
     let there : (i : ℕ) → IsCustomer c.args.instance.now i → 1 ≤ count_of i (stops (lists c.args.routes.now)) =
     λ i h. omega (arith, c.if-has_missing.ensures.none _ c.in-Some.ensures.marks refl i h) in
     record {
-      holds = Any-map (λ r. ¬ HasWalk c.args.instance.now r) (λ (v : Vec ℕ Global). v.items) c.args.routes.now (c.if-has_late.ensures.found refl);
+      holds = Any-map (λ r. ¬ HasWalk c.args.instance.now r) (λ (v : Vec ℕ Global). v.items) c.args.routes.now c.in_default-cost_of_all.ensures.late;
       lowest = after_overload _ _ (c.if-has_empty.ensures.none refl) (c.if-has_unknown.ensures.none refl) once there (c.if-has_overload.ensures.none refl);
     }
 
@@ -62,7 +62,7 @@ returns-then-routes-from-clause-fault c =
     λ i h. omega (arith, c.if-has_missing.ensures.none _ c.in-Some.ensures.marks refl i h) in
     record {
       holds = omega (arith, length-map c.args.routes.now (λ v. v.items));
-      lowest = after_late _ _ (c.if-has_empty.ensures.none refl) (c.if-has_unknown.ensures.none refl) once there (c.if-has_overload.ensures.none refl) (c.if-has_late.ensures.none refl);
+      lowest = after_late _ _ (c.if-has_empty.ensures.none refl) (c.if-has_unknown.ensures.none refl) once there (c.if-has_overload.ensures.none refl) c.in-Some-cost_of_all.ensures.fitting;
     }
 
 pub returns-clause-plan : goal.returns-clause-plan
@@ -71,7 +71,4 @@ returns-clause-plan c =
     λ i _. once_by_marks c.args.routes.now _ (c.if-has_unknown.ensures.small refl) c.in-Some.ensures.marks i in
     let there : (i : ℕ) → IsCustomer c.args.instance.now i → 1 ≤ count_of i (stops (lists c.args.routes.now)) =
     λ i h. omega (arith, c.if-has_missing.ensures.none _ c.in-Some.ensures.marks refl i h) in
-    is_plan _ _ (c.if-has_unknown.ensures.none refl) (c.if-has_late.ensures.none refl) once there (omega arith)
-
-pub returns-clause-fitting : goal.returns-clause-fitting
-returns-clause-fitting c = c.if-has_late.ensures.none refl
+    is_plan _ _ (c.if-has_unknown.ensures.none refl) c.in-Some-cost_of_all.ensures.fitting once there (omega arith)
