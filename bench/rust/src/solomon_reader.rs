@@ -1,0 +1,67 @@
+//! An instance, read without a look at its faults.
+
+use crate::tenths::Tenths;
+
+pub const MOST_DISTANCE: u32 = 282_842;
+pub const MOST_TIME: u64 = 10_000_000;
+pub const MOST_CUSTOMERS: u16 = 400;
+pub const MOST_FLEET: u16 = 1_000;
+
+#[derive(Debug)]
+pub struct Instance {
+    fleet: u16,
+    capacity: u16,
+    /// x, y, demand; ready, due and service in tenths
+    rows: Vec<[i64; 6]>,
+    distances: Vec<u32>,
+}
+
+fn tenths_between(a: &[i64; 6], b: &[i64; 6]) -> u32 {
+    (100 * ((a[0] - b[0]).pow(2) + (a[1] - b[1]).pow(2))).isqrt() as u32
+}
+
+impl Instance {
+    pub fn read(path: &str) -> Instance {
+        let text = std::fs::read_to_string(path).unwrap();
+        let numbers = |line: &str| line.split_whitespace().map(|word| word.parse().ok()).collect();
+        let lines: Vec<Vec<i64>> = text.lines().filter_map(numbers).filter(|line: &Vec<i64>| line.len() > 1).collect();
+        let rows: Vec<[i64; 6]> =
+            lines[1..].iter().map(|l| [l[1], l[2], l[3], 10 * l[4], 10 * l[5], 10 * l[6]]).collect();
+        let distances = rows.iter().flat_map(|a| rows.iter().map(move |b| tenths_between(a, b))).collect();
+        Instance { fleet: lines[0][0] as u16, capacity: lines[0][1] as u16, rows, distances }
+    }
+
+    pub fn customer_count(&self) -> u16 {
+        (self.rows.len() - 1) as u16
+    }
+
+    pub fn fleet(&self) -> u16 {
+        self.fleet
+    }
+
+    pub fn capacity(&self) -> u16 {
+        self.capacity
+    }
+
+    pub fn demand(&self, i: u16) -> u16 {
+        self.rows[usize::from(i)][2] as u16
+    }
+
+    pub fn ready(&self, i: u16) -> u64 {
+        self.rows[usize::from(i)][3] as u64
+    }
+
+    pub fn due(&self, i: u16) -> u64 {
+        self.rows[usize::from(i)][4] as u64
+    }
+
+    pub fn service(&self, i: u16) -> u64 {
+        self.rows[usize::from(i)][5] as u64
+    }
+
+    pub fn distance(&self, i: u16, j: u16) -> Tenths {
+        Tenths::from(self.distances[usize::from(i) * self.rows.len() + usize::from(j)])
+    }
+
+    pub fn law_of_limits(&self) {}
+}
