@@ -92,22 +92,6 @@ fn has_overload(instance: &Instance, routes: &[Vec<u16>]) -> bool
     false
 }
 
-/// The cost in tenths of a route that is right in all else, or `None` where it comes too late.
-fn cost_in_time(instance: &Instance, route: &[u16]) -> Option<u64>
-    requires some { 0 < length route.now }
-    requires known { All (λ i. IsCustomer instance.now i) route.now }
-    requires light { load_of instance.now route.now ≤ instance.now.capacity }
-    ensures late { IfNone result (¬ HasWalk instance.now route.now) }
-    ensures fits { IfSome result (λ _. IsFitting instance.now route.now) }
-    ensures cost { IfSome result (λ c. c ≡ route_cost instance.now route.now) }
-    ensures small { IfSome result (λ c. c ≤ 10 * MOST_TIME) }
-{
-    match walk(instance, route) {
-        Some(walked) => Some(walked.cost.get()),
-        None => None,
-    }
-}
-
 /// The cost in tenths of routes that are right in all else, or `None` where one of them comes too late.
 fn cost_of_all(instance: &Instance, routes: &[Vec<u16>]) -> Option<u128>
     requires some { All (λ r. 0 < length r.items) routes.now }
@@ -121,10 +105,10 @@ fn cost_of_all(instance: &Instance, routes: &[Vec<u16>]) -> Option<u128>
     // however many routes there are, the sum fits
     let mut cost = 0u128;
     for route in routes {
-        let Some(more) = cost_in_time(instance, route.as_slice()) else {
+        let Some(walked) = walk(instance, route.as_slice()) else {
             return None;
         };
-        cost += u128::from(more);
+        cost += u128::from(walked.cost.get());
     }
     Some(cost)
 }

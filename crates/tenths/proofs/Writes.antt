@@ -6,25 +6,11 @@ use Rattle.std.specs.Io.KnownBytes.{Appends, Keeps}
 use Rattle.std.proofs.lemmas.List.{take-append-drop, append-nil}
 use Rattle.tenths.specs.Sink.{Held, Takes, Fails, Writes}
 
-Appends-none : (s : Option (List ℕ)) → Appends s s []
-Appends-none None = tt
-Appends-none (Some xs) = sym (append-nil xs)
-
 Appends-then : (r s t : Option (List ℕ)) (a b : List ℕ) → Appends r s a → Appends s t b → Appends r t (a ++ b)
 Appends-then None s t a b p q = tt
 Appends-then (Some xs) None t a b p q = absurd p
 Appends-then (Some xs) (Some ys) None a b p q = absurd q
 Appends-then (Some xs) (Some ys) (Some zs) a b p q = q ∙ ap (λ (w : List ℕ). w ++ b) p ∙ append_assoc xs a b
-
-Appends-kept : (r s t : Option (List ℕ)) (a : List ℕ) → Appends r s a → Keeps s t → Appends r t a
-Appends-kept None s t a p k = tt
-Appends-kept (Some xs) None t a p k = absurd p
-Appends-kept (Some xs) (Some ys) None a p k = absurd k
-Appends-kept (Some xs) (Some ys) (Some zs) a p k = k ∙ p
-
--- nothing was written yet
-pub takes_none : (s : Held) → Takes s s []
-takes_none s = record { bytes = Appends-none s.taken; fine = refl }
 
 -- a part was taken, and then the next part
 pub takes_then : (r s t : Held) (a b : List ℕ) → Takes r s a → Takes s t b → Takes r t (a ++ b)
@@ -63,10 +49,6 @@ IsLeft r s text rest = (front : List ℕ) × (text ≡ front ++ rest) × Takes r
 pub goes_on : (r s t : Held) (text rest : List ℕ) (n : ℕ) → IsLeft r s text rest → Takes s t (take n rest) → IsLeft r t text (drop n rest)
 goes_on r s t text rest n (front, parts, p) q =
     (front ++ take n rest, parts ∙ ap (λ (w : List ℕ). front ++ w) (sym (take-append-drop n rest)) ∙ sym (append_assoc front (take n rest) (drop n rest)), takes_then r s t front (take n rest) p q)
-
-pub ends_early : (r s t : Held) (text rest : List ℕ) → IsLeft r s text rest → Keeps s.taken t.taken → s.failures < t.failures → Fails r t text
-ends_early r s t text rest (front, parts, p) k f =
-    record { bytes = (front, rest, parts, Appends-kept r.taken s.taken t.taken front p.bytes k); failed = rw p.fine at f }
 
 -- the texts of a list's items, cut at one of them
 pub flat_map-cut : {X : Type 0} (f : X → List ℕ) (xs : List X) (i : ℕ) (d : X) → i < length xs
