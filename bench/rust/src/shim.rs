@@ -40,6 +40,27 @@ impl<T> Vec<T> {
         Ok(())
     }
 
+    pub fn pop(&mut self) -> Option<T> {
+        self.0.pop()
+    }
+
+    pub fn truncate(&mut self, count: usize) {
+        self.0.truncate(count);
+    }
+
+    pub fn retain<F: FnMut(&T) -> bool>(&mut self, keeps: F) {
+        self.0.retain(keeps);
+    }
+
+    pub fn sort_by_key<K: Ord, F: FnMut(&T) -> K>(&mut self, key: F) -> Result<(), AllocError> {
+        self.0.sort_by_key(key);
+        Ok(())
+    }
+
+    pub fn swap_remove(&mut self, i: usize) -> T {
+        self.0.swap_remove(i)
+    }
+
     pub fn remove(&mut self, i: usize) -> T {
         self.0.remove(i)
     }
@@ -63,6 +84,14 @@ impl<T> Vec<T> {
 }
 
 impl<T: Clone> Vec<T> {
+    pub fn filled(_: Global, item: T, count: usize) -> Result<Self, AllocError> {
+        Ok(Vec(vec![item; count]))
+    }
+
+    pub fn from_slice(_: Global, items: &[T]) -> Result<Self, AllocError> {
+        Ok(Vec(items.to_vec()))
+    }
+
     pub fn extend_from_slice(&mut self, items: &[T]) -> Result<(), AllocError> {
         self.0.extend_from_slice(items);
         Ok(())
@@ -107,6 +136,15 @@ impl<'a, T> IntoIterator for &'a Vec<T> {
 
     fn into_iter(self) -> Self::IntoIter {
         self.0.iter()
+    }
+}
+
+impl<'a, T> IntoIterator for &'a mut Vec<T> {
+    type Item = &'a mut T;
+    type IntoIter = std::slice::IterMut<'a, T>;
+
+    fn into_iter(self) -> Self::IntoIter {
+        self.0.iter_mut()
     }
 }
 

@@ -6,8 +6,10 @@ pub const MOST_DISTANCE: u32 = 282_842;
 pub const MOST_TIME: u64 = 10_000_000;
 pub const MOST_CUSTOMERS: u16 = 400;
 pub const MOST_FLEET: u16 = 1_000;
+pub const MOST_CAPACITY: u16 = 10_000;
+pub const MOST_PRICE: u64 = 1_000_000_000_000;
 
-#[derive(Debug)]
+#[derive(Debug, PartialEq, Eq)]
 pub struct Instance {
     fleet: u16,
     capacity: u16,
@@ -61,6 +63,15 @@ impl Instance {
 
     pub fn distance(&self, i: u16, j: u16) -> Tenths {
         Tenths::from(self.distances[usize::from(i) * self.rows.len() + usize::from(j)])
+    }
+
+    pub fn fewest_routes(&self) -> u32 {
+        let total: u32 = (1..=self.customer_count()).map(|i| u32::from(self.demand(i))).sum();
+        total.div_ceil(u32::from(self.capacity()))
+    }
+
+    pub fn ceiling(&self) -> Tenths {
+        Tenths::from(2 * u32::from(self.customer_count()) * self.distances.iter().max().copied().unwrap_or(0))
     }
 
     pub fn law_of_limits(&self) {}

@@ -53,8 +53,9 @@ fn shake_anywhere<R: Rng>(plan: &mut WorkingPlan<'_>, random: &mut R) -> Result<
 }
 
 /// Takes chains near a random customer, which is near the given one, out of their routes, and puts each of
-/// their customers at its cheapest other place, all by moves. Where no vehicle is left for that, and now and then where few
-/// are, it makes moves of any kind anywhere. `Memory`, and the plan that it has come to stays then.
+/// their customers at its cheapest other place, all by moves. Where no vehicle is left for that, and now
+/// and then where few are, it makes moves of any kind anywhere. `Memory`, and the plan that it has come to
+/// stays then.
 #[tactic(auto, using(crate::proofs::Steps::moved_none, crate::proofs::Steps::moved_further))]
 pub fn shake_near<R: Rng>(
     alloc: Global,

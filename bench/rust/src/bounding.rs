@@ -1,0 +1,130 @@
+//! The tree of one bound worker, as `worker_turns` grows it by itself.
+
+use crate::insertion::{Weights, build_whole};
+use crate::price_ascent::{
+    ChildStart, Goal, IDLE_PRICINGS, RoutePool, branch, counted_routes, raise, rise_at, start_from,
+};
+use crate::prices::Priced;
+use crate::shim::Global;
+use crate::solomon_reader::Instance;
+use crate::tenths::Tenths;
+use std::time::Instant;
+
+/// As in `worker_turns`.
+const ROOT_PRICINGS: u32 = 20;
+const LEAF_PRICINGS: u32 = 8;
+const CUSTOMER_LOOKS: u64 = 10_000;
+const LEAST_CUSTOMERS: u64 = 80;
+const CUSTOMERS_OF_PATIENCE: u16 = 150;
+const PRICING_PART: u64 = 20;
+const LEAST_PRICING_TURNS: u64 = 5;
+
+/// The defaults of the program.
+const NEIGHBOURS: u32 = 8;
+const MOST_LABELS: u64 = 1_000_000;
+
+/// A leaf with its prices, and where its ascent starts, if that is known.
+struct Open<'i> {
+    leaf: Priced<'i>,
+    start: Option<ChildStart>,
+}
+
+struct Tree<'i> {
+    instance: &'i Instance,
+    pool: RoutePool<'i>,
+    open: Vec<Open<'i>>,
+    leaves: usize,
+    cost: u64,
+    routes: u16,
+    labels: usize,
+    /// How many turns in a row raised nothing at the root.
+    idle: u16,
+    is_again: bool,
+}
+
+impl<'i> Tree<'i> {
+    fn new(instance: &'i Instance, turns: u32, cost: u64) -> Tree<'i> {
+        let plan = build_whole(Global, instance, &Weights::plain()).unwrap().expect("a built plan");
+        let looks = worth_of(instance) * (u64::from(turns) / PRICING_PART).max(LEAST_PRICING_TURNS);
+        let labels = (looks / u64::from(instance.customer_count())).min(MOST_LABELS) as usize;
+        let Ok(root) = Priced::root(Global, instance, NEIGHBOURS, None) else { panic!("labels") };
+        let leaf = start_from(Global, root, plan.routes(), Some(labels));
+        Tree {
+            instance,
+            pool: RoutePool::of_routes(Global, instance, plan.routes()).unwrap(),
+            open: vec![Open { leaf, start: None }],
+            leaves: 1,
+            cost,
+            routes: counted_routes(instance, Some(plan.routes())),
+            labels,
+            idle: 0,
+            is_again: false,
+        }
+    }
+
+    fn bound(&self) -> i128 {
+        let least = self.open.iter().map(|open| open.leaf.value()).min();
+        least.unwrap_or(i128::from(self.cost)).min(i128::from(self.cost))
+    }
+
+    fn goal(&self, leaf: &Priced<'i>) -> Goal {
+        let first = rise_at(leaf, Tenths::new(self.cost));
+        Goal {
+            rise: if self.is_again { self.pool.rise() } else { first },
+            pricings: if leaf.region().is_root() { ROOT_PRICINGS } else { LEAF_PRICINGS },
+            idle_pricings: IDLE_PRICINGS,
+            value: i128::from(self.cost),
+            routes: self.routes,
+            labels: Some(self.labels),
+        }
+    }
+
+    /// Whether the work goes on at the root.
+    fn stays(&mut self, is_raised: bool) -> bool {
+        self.idle = if is_raised { 0 } else { self.idle + 1 };
+        self.idle <= self.instance.customer_count() / CUSTOMERS_OF_PATIENCE
+    }
+
+    /// Raises the leaf of the least value, and splits it, unless its value reaches the cost or it is the root that
+    /// still rises.
+    fn work(&mut self) {
+        let Some(place) = (0..self.open.len()).min_by_key(|place| self.open[*place].leaf.value()) else { return };
+        let Open { leaf, start } = self.open.swap_remove(place);
+        let (goal, before) = (self.goal(&leaf), leaf.value());
+        let leaf = raise(Global, &mut self.pool, leaf, start, &goal);
+        let is_done = leaf.value() >= i128::from(self.cost);
+        self.is_again = !is_done && leaf.region().is_root() && self.stays(leaf.value() > before);
+        if self.is_again || is_done {
+            self.open.push(Open { leaf, start: None });
+            return;
+        }
+        match branch(Global, &leaf, &mut self.pool, Some(self.labels)) {
+            Ok(Some(children)) => {
+                self.leaves += 1;
+                self.open.push(Open { leaf: children.used, start: children.used_start });
+                self.open.push(Open { leaf: children.unused, start: children.unused_start });
+            }
+            _ => panic!("a leaf that isn't split"),
+        }
+    }
+}
+
+/// What a turn is worth, in looks.
+fn worth_of(instance: &Instance) -> u64 {
+    CUSTOMER_LOOKS * u64::from(instance.customer_count()).max(LEAST_CUSTOMERS)
+}
+
+/// Prints leaves and bound after each tenth of the turns, and the seconds.
+pub fn tell(instance: &Instance, turns: u32, cost: u64) {
+    let mut tree = Tree::new(instance, turns, cost);
+    let begin = Instant::now();
+    for turn in 1..=turns {
+        while tree.bound() < i128::from(cost) && tree.pool.looks() <= worth_of(instance) * u64::from(turn) {
+            tree.work();
+        }
+        if turn % turns.div_ceil(10) == 0 || turn == turns {
+            let bound = tree.bound();
+            println!("{turn} {} {}.{} {:.1}", tree.leaves, bound / 10, bound % 10, begin.elapsed().as_secs_f64());
+        }
+    }
+}
