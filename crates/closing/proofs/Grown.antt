@@ -31,19 +31,6 @@ leaf_grows f old new node is own task item e low least leaves = record {
   leaves = omega (arith, leaves);
 }
 
--- what grows after a plan was offered has grown from before
-pub same_grows : (k : ℕ) (g : Region) (old middle new : Growth) → IsSameTree old middle → Grows k g middle new → Grows k g old new
-same_grows k g old middle new same grows = record {
-  task = record { instance = grows.task.instance ∙ same.task.instance; limit = grows.task.limit ∙ same.task.limit };
-  tree = grows.tree;
-  nodes = grows.nodes ∙ ap (λ ns. map node_of ns ++ reverse (preorder grows.tree)) same.nodes;
-  value = grows.value;
-  bound = subst (λ (p : Problem). HasBound version_2 p k g grows.tree grows.value) same.task.instance grows.bound;
-  shaped = grows.shaped;
-  least = omega (arith, grows.least, same.bound);
-  leaves = omega (arith, grows.leaves, same.leaves);
-}
-
 -- children at raised prices are children of the leaf
 same_children : (f raised : Pricing) (c : Children) → raised.problem ≡ f.problem → raised.region ≡ f.region → raised.neighbours ≡ f.neighbours → AreChildren raised c → AreChildren f c
 same_children f raised c problem region neighbours are = record {

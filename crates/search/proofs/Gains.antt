@@ -10,9 +10,8 @@ use Rattle.moves.specs.declared.candidate.Move.{Move}
 use Rattle.moves.specs.declared.candidate.Move.TheVariants.{Relocate, Exchange, OrOpt, TwoOptStar, Cross}
 use Rattle.moves.specs.declared.candidate.Kind.{Kind}
 use Rattle.moves.specs.declared.candidate.Kind.TheVariants as kind
-use Rattle.moves.specs.Values.{IsWellFormed, after, HasValue}
+use Rattle.moves.specs.Values.{IsWellFormed, after}
 use Rattle.moves.specs.Order.{kind_of}
-use Rattle.gains.specs.Gains.{IsGain}
 use Rattle.working_plan.specs.Gains.{HasNoGain, IsBestGain}
 use Rattle.search.specs.Searching.{rank_of, IsFirstGain}
 
@@ -39,12 +38,6 @@ local_optimum p routes none = record {
   two_opt_star = λ a i b j formed. no_cheaper p routes (TwoOptStar (record { route = a; position = i }) (record { route = b; position = j })) (none kind.TwoOptStar) formed;
   cross = λ a i l b j m formed. no_cheaper p routes (Cross (record { route = a; position = i; length = l }) (record { route = b; position = j; length = m })) (none kind.Cross) formed;
 }
-
-lower : (new old : ℕ) (n o : ℕ) (v : ℤ) → pos n ≡ pos o +ℤ v → pos n ≡ pos o +ℤ (pos new -ℤ pos old) → v <ℤ pos 0 → new < old
-lower new old n o v e d h = omega (arith, ints)
-
-pub gain_lowers : (p : Problem) (routes : List (List ℕ)) (m : Move) (new old : ℕ) → IsGain p routes m → HasValue p routes m (pos new -ℤ pos old) → new < old
-gain_lowers p routes m new old gain value = lower new old _ _ gain.0 gain.1.exact value.exact gain.2
 
 -- the kinds in the order in which they are tried
 abbrev pub kinds : List Kind
