@@ -164,6 +164,9 @@ def judge_tree(instance, path, solution, certificate, folder, random):
     right = [shown(min(value, instance.ceiling() + 1)) for value in values]
     demand(sorted(told) == sorted(right), "leaves: %r, and %r is right" % (told, right))
     demand(sum(title.startswith("Split ") for title in titles) == 2 * (len(values) - 1), "splits")
+    told = "NO PLAN" if bound == instance.ceiling() + 1 else "BOUND " + shown(bound)
+    demand(tool("recheck", path, certificate) == ((told + "\n").encode(), "", 0), "recheck")
     put(certificate, text_of(lines[:4] + ["BOUND " + shown(bound + 1)] + lines[5:]))
-    demand_refusal("draw", certificate, 5, tool("draw", path, solution, "--tree", certificate))
+    for words in (["draw", path, solution, "--tree", certificate], ["recheck", path, certificate]):
+        demand_refusal(words[0], certificate, 5, tool(*words))
     return "drawn"

@@ -23,6 +23,7 @@ FILES = {
     "twice.txt": "Route #1: 1\nRoute #2: 2 1\nCost 30.0\n",
     "form.txt": "Route #1: 1 2\nCost 20\n",
     "k.txt": "VRPTW-CERT 1\nINSTANCE T\nCUSTOMERS 2\nNEIGHBOURS 8\nBOUND 0.0\nTREE\nP 0 0\nEND\n",
+    "high.txt": "VRPTW-CERT 1\nINSTANCE T\nCUSTOMERS 2\nNEIGHBOURS 8\nBOUND 0.1\nTREE\nP 0 0\nEND\n",
     "worse.txt": "VRPTW-CERT 1\nINSTANCE T\nCUSTOMERS 2\nNEIGHBOURS 8\nBOUND 0.0\nTREE\nP 0 0 0\nEND\n",
     "t.csv": "x,y,demand,ready,due,service\n0,0,0,0,1000,0\n3,4,1,0,1000,0\n",
     "half.csv": "x,y,demand,ready,due,service\n0,0,0,0,1000,0\n3.5,4,1,0,1000,0\n",
@@ -74,6 +75,12 @@ draw small.txt p.txt|p.txt|1|met a route with a load of 2, and a vehicle holds 1
 draw other.txt p.txt --tree k.txt|k.txt|2|another instance
 draw i.txt p.txt --tree worse.txt|worse.txt|7|BadLine
 draw i.txt p.txt --tree nowhere|nowhere|0|No such file or directory
+recheck other.txt k.txt|k.txt|2|another instance
+recheck i.txt high.txt|high.txt|5|met a bound of 0.1, wanted that of the tree, 0.0
+recheck i.txt worse.txt p.txt|worse.txt|7|BadLine
+recheck i.txt k.txt cost.txt|cost.txt|2|20.1
+recheck few.txt k.txt two.txt|two.txt|2|met one route more than the 1 vehicles,
+recheck i.txt nowhere|nowhere|0|No such file or directory
 """
 # Wrong words, with a part of the one line that tells them; the status is 2.
 WORDS = """
@@ -89,10 +96,12 @@ convert i.txt o.vrp --to xml|invalid choice
 respell i.txt|required: SOLUTION
 timetable i.txt p.txt --cvs|unrecognized
 draw i.txt p.txt --times --tree k.txt|not allowed
+recheck i.txt|required: CERTIFICATE
 """
-TOOLS = ("convert", "respell", "timetable", "draw", "manual")
+TOOLS = ("convert", "respell", "timetable", "draw", "recheck", "manual")
 # With standard output on a full device or closed.
-PRINTING = ("respell i.txt p.txt", "timetable i.txt p.txt", "draw i.txt p.txt")
+PRINTING = ("respell i.txt p.txt", "timetable i.txt p.txt", "draw i.txt p.txt",
+            "recheck i.txt k.txt")
 
 
 def rows(table):
