@@ -13,11 +13,11 @@ use std::time::Instant;
 /// As in `worker_turns`.
 const ROOT_PRICINGS: u32 = 20;
 const LEAF_PRICINGS: u32 = 8;
-const CUSTOMER_LOOKS: u64 = 10_000;
+const CUSTOMER_LOOKS: u64 = 14_000;
 const LEAST_CUSTOMERS: u64 = 80;
 const CUSTOMERS_OF_PATIENCE: u16 = 150;
-const PRICING_PART: u64 = 20;
-const LEAST_PRICING_TURNS: u64 = 5;
+const PRICING_PART: u64 = 28;
+const LEAST_PRICING_TURNS: u64 = 4;
 
 /// The defaults of the program.
 const NEIGHBOURS: u32 = 8;
@@ -37,6 +37,8 @@ struct Tree<'i> {
     cost: u64,
     routes: u16,
     labels: usize,
+    /// What all turns are worth, in looks.
+    looks: u64,
     /// How many turns in a row raised nothing at the root.
     idle: u16,
     is_again: bool,
@@ -57,6 +59,7 @@ impl<'i> Tree<'i> {
             cost,
             routes: counted_routes(instance, Some(plan.routes())),
             labels,
+            looks: worth_of(instance) * u64::from(turns),
             idle: 0,
             is_again: false,
         }
@@ -76,6 +79,7 @@ impl<'i> Tree<'i> {
             value: i128::from(self.cost),
             routes: self.routes,
             labels: Some(self.labels),
+            looks: self.looks,
         }
     }
 

@@ -37,6 +37,7 @@ fn goal_of(leaf: &Priced<'_>, growth: &Growth<'_>) -> Goal {
         value: i128::from(growth.target()),
         routes: counted_routes(growth.instance, routes),
         labels: None,
+        looks: u64::MAX,
     }
 }
 

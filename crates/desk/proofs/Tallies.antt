@@ -88,21 +88,6 @@ swapped a b c i = record {
 none_one : (b : ℕ) → 0 + b ≡ b
 none_one b = omega arith
 
-pub none_plus : (b : Tally) → plus (each 0) b ≡ b
-unfolding plus each
-none_plus b i = record {
-  accepted = none_one b.accepted i;
-  better = none_one b.better i;
-  repriced = none_one b.repriced i;
-  split = none_one b.split i;
-  workers = none_one b.workers i;
-  costs = none_one b.costs i;
-  values = none_one b.values i;
-  repriced_leaves = none_one b.repriced_leaves i;
-  split_leaves = none_one b.split_leaves i;
-  made = none_one b.made i;
-}
-
 pub tally_by-none : {X : Type 0} (f : X → Tally) → tally_by f [] ≡ each 0
 unfolding tally_by each
 tally_by-none f = refl

@@ -7,7 +7,7 @@ use Rattle.std.specs.Ordering.{nat_cmp}
 use Rattle.std.specs.Cmp.{nat_cmp_total, unsigned_tied}
 use Rattle.std.specs.FinSet.{contains, empty, insert, remove, intersection, contains-empty, contains-insert, contains-remove, contains-intersection}
 use Rattle.std.proofs.lemmas.Bool.{cases_eq, or_left, and_parts, and_from, leb-true, eqb-true, eq-eqb, ne_eqb}
-use Rattle.std.proofs.lemmas.List.{get_or-set_same, get_or-set_other, get_or_default, get_or_read}
+use Rattle.std.proofs.lemmas.List.{get_or-set_same, get_or-set_other, get_or_default}
 use Rattle.solomon_reader.specs.Plan.{Arc as Pair}
 use Rattle.solomon_reader.specs.Region.{Region, IsAllowed}
 use Rattle.branching.specs.declared.arc.Arc.{Arc}
@@ -141,12 +141,6 @@ pub taken_out : (P : Pair → Type 0) (Q : Pair → Type 0) (a : Arc) (start xs 
     → ((b : Pair) → (P b × (pair a ≢ b) → Q b) × (Q b → P b × (pair a ≢ b))) → IsNarrowed P start xs → IsNarrowed Q start (set xs a.from s)
 taken_out P Q a start xs d s within is both so_far =
     rw (is, get_or_default xs a.from d empty within) (narrowed_more P (λ b. pair a ≢ b) Q start xs (set xs a.from (remove (get_or xs a.from empty) a.to)) both so_far (narrowed_set a xs within))
-
-pub spared_more : (a : Arc) (n : ℕ) (xs ys : List Rows) (r s : Rows) → n < length xs → r ≡ get_or ys n r → IsNarrowedBelow (λ b. ¬ Excludes (pair a) b) n xs ys → Spares a n r s
-    → IsNarrowedBelow (λ b. ¬ Excludes (pair a) b) (n + 1) xs (set ys n s)
-spared_more a n xs ys r s within is so_far spares =
-    let e : r ≡ get_or ys n empty = get_or_read ys n r (omega (arith, so_far.count, within)) is empty in
-    below_more (λ b. ¬ Excludes (pair a) b) n xs ys s within so_far (rw e at spares)
 
 -- what holds of the first n arcs
 abbrev pub Firsts : (Arc → Type 0) → List Arc → ℕ → Type 0

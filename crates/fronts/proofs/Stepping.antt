@@ -1,10 +1,9 @@
 -- The customers as seen from a row, in the order of when it has to be left for them.
-use Rattle.std.proofs.Common.{◌≡◌, ℕ, suc, ◌+◌, ◌*◌, ◌-◌, ◌<◌, ◌≤◌, cond, List, [], ◌∷◌, ◌++◌, length, arith, sym, inl, inr, ◌⊎◌}
+use Rattle.std.proofs.Common.{◌≡◌, ℕ, suc, ◌+◌, ◌*◌, ◌-◌, ◌<◌, ◌≤◌, cond, List, [], ◌∷◌, length, arith, sym, inl, inr, ◌⊎◌}
 use Rattle.std.specs.Prelude.{◌==◌}
 use Rattle.std.specs.List.{All}
 use Rattle.std.specs.List.Sorted.{IsPermutation, IsNonDecreasingBy}
-use Rattle.std.proofs.lemmas.List.Elements.{All-append}
-use Rattle.std.proofs.lemmas.List.Sums.{sum_by-cons, sum_by-append}
+use Rattle.std.proofs.lemmas.List.Sums.{sum_by-cons}
 use Rattle.std.proofs.lemmas.List.Sorted.{sum_by-IsPermutation, All-permutation}
 use Rattle.std.proofs.lemmas.Bool.{cases_lt, cases_eq}
 use Rattle.std.proofs.lemmas.Bool.Decides.{nat_tests}
@@ -33,15 +32,6 @@ place_of j (s ∷ steps) h =
 pub record HaveBelow (p : Problem) (v n : ℕ) (steps : List Step) : Type 0 where
   pub each : All (IsStepFrom p v) steps
   pub all : (j : ℕ) → IsCustomer p j → j < n → 1 ≤ steps_to j steps
-
-pub have_more : (p : Problem) (v n : ℕ) (steps : List Step) (s : Step) → s.customer ≡ n → IsStepFrom p v s → HaveBelow p v n steps → HaveBelow p v (n + 1) (steps ++ (s ∷ []))
-have_more p v n steps s is from h = record {
-  each = All-append (IsStepFrom p v) steps (s ∷ []) h.each (λ i d w. let first : i ≡ 0 = omega (arith, w) in rw first from);
-  all = λ j customer below. (let sum = sum_by-append (λ s. cond (s.customer == j) 1 0) steps (s ∷ []) in let one = sum_by-cons (λ s. cond (s.customer == j) 1 0) s [] in elim (cases_lt j n) [
-    | inl less ↦ omega (arith, sum, h.all j customer less)
-    | inr more ↦ omega (arith, sum, one, to_it j s (omega (arith, is, below, more)))
-  ]);
-}
 
 pub steps_sorted : (p : Problem) (v n : ℕ) (steps sorted : List Step) → ((j : ℕ) → IsCustomer p j → j < n) → HaveBelow p v n steps → IsPermutation steps sorted → IsNonDecreasingBy (λ s. 20 * MOST_TIME - s.latest) sorted → AreStepsFrom p v sorted
 steps_sorted p v n steps sorted within h moved falling = record {

@@ -1,7 +1,7 @@
 //! Bounds on what may follow from a row.
 
 /// Bounds on what may follow from a row at a time or later, whatever was visited before.
-#[derive(Clone, Copy, Debug)]
+#[derive(Clone, Copy)]
 pub struct Bound {
     /// The most that may still be loaded.
     pub room: u32,
@@ -14,7 +14,7 @@ pub struct Bound {
 }
 
 /// Bounds on what may follow from a row.
-#[derive(Clone, Copy, Debug)]
+#[derive(Clone, Copy)]
 pub struct RowBound {
     /// The row.
     pub row: u16,

@@ -7,7 +7,7 @@ use std::alloc::{AllocError, Global};
 use std::marker::Model;
 
 /// A set of rows of an instance: customers by their numbers, and 0 for the depot.
-#[derive(Debug, Drop)]
+#[derive(Drop)]
 pub struct CustomerSet {
     /// Whether the set has each row.
     flags: Vec<bool>,

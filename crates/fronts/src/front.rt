@@ -11,7 +11,7 @@ ghost use Rattle.fronts.specs.Fronts.{bare_state, end_cost, IsBounded, CanServe,
 use solomon_reader::Instance;
 
 /// Where a vehicle stands, and what it has loaded and cost so far.
-#[derive(Clone, Copy, Debug)]
+#[derive(Clone, Copy)]
 pub struct Front {
     /// The last stop: 0 is the depot.
     pub last: u16,

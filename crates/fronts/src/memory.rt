@@ -5,7 +5,7 @@ ghost use Rattle.solomon_reader.specs.Memories.{has_bit};
 
 /// The customers that a route may not visit next, as places in the neighbour list of its last stop:
 /// bit i stands for place i.
-#[derive(Clone, Copy, Debug)]
+#[derive(Clone, Copy)]
 pub struct Memory {
     /// The places, as bits.
     pub bits: u16,

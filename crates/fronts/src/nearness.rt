@@ -16,7 +16,7 @@ use std::alloc::{AllocError, Global};
 
 /// The neighbour list of each row, the places of all rows in it, the customers in the order in which they may
 /// be left for, and the slots of time: they serve every pricing of the instance with so many neighbours.
-#[derive(Debug, Drop)]
+#[derive(Drop)]
 pub struct Nearness<'i> {
     pub instance: &'i Instance,
     pub neighbours: u32,

@@ -12,7 +12,7 @@ const MOST_SLOTS: u64 = 160;
 const FEWEST_SLOTS: u64 = 80;
 
 /// When a route may leave a row, and where the row's bounds stand.
-#[derive(Clone, Copy, Debug)]
+#[derive(Clone, Copy)]
 struct RowSlots {
     /// The earliest time, in tenths.
     earliest: u64,
@@ -25,7 +25,7 @@ struct RowSlots {
 }
 
 /// Slots of one length, from time 0 on. Each row has a bound for each slot in which a route may leave it.
-#[derive(Debug, Drop)]
+#[derive(Drop)]
 pub(crate) struct Slots {
     /// How long a slot is, in tenths.
     width: u64,

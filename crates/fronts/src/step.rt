@@ -8,7 +8,7 @@ use solomon_reader::{Instance, MOST_TIME};
 use std::alloc::{AllocError, Global};
 
 /// A customer, and the latest time at which a vehicle may leave for it, in tenths.
-#[derive(Clone, Copy, Debug)]
+#[derive(Clone, Copy)]
 pub struct Step {
     pub customer: u16,
     pub latest: u64,

@@ -1,6 +1,6 @@
 -- A search for the best gain between two routes, through the moves by their numbers.
 use Rattle.std.proofs.Common.{◌≡◌, refl, ℕ, ◌+◌, ◌<◌, ◌≤◌, List, [], ◌∷◌, ◌++◌, length, get_or, sym, subst, ◌∙◌, arith, ◌⊎◌, inl, inr}
-use Rattle.std.specs.Prelude.{ℤ, pos, Some}
+use Rattle.std.specs.Prelude.{ℤ, Some}
 use Rattle.std.proofs.lemmas.Bool.{cases_lt}
 use Rattle.moves.specs.declared.candidate.Chain.{Chain}
 use Rattle.moves.specs.declared.candidate.Move.{Move}
@@ -10,10 +10,10 @@ use Rattle.moves.specs.Order.{kind_of}
 use Rattle.moves.specs.Search.{numbers, IsNextWithin, IsInRange, TakesIn}
 use Rattle.moves.proofs.Searching.{same_move, six}
 use Rattle.gains.specs.declared.neighbourhood.Neighbourhood.{Neighbourhood}
-use Rattle.gains.specs.Gains.{Found, IsNoBetter, IsBetter, MayBeBetter, Starts}
+use Rattle.gains.specs.Gains.{Found, IsNoBetter, IsBetter, Starts}
 use Rattle.gains.specs.Kept.{IsBetween, first_route, second_route}
-use Rattle.gains.specs.Searches.{instance_of, plan_of, moves_of, SearchesFrom, SearchesAt, SearchesRange, NoneIsBetter, NoSingle}
-use Rattle.gains.proofs.Founds.{one_value, lower_of, itself_no_better, better_is_low, low_if_found, no_better_by}
+use Rattle.gains.specs.Searches.{instance_of, plan_of, moves_of, SearchesFrom, SearchesAt, SearchesRange, NoneIsBetter}
+use Rattle.gains.proofs.Founds.{one_value, lower_of, itself_no_better, better_is_low, low_if_found}
 
 -- as many numbers that start with these are these
 pub starts_same : (xs ns : List ℕ) → length ns ≡ length xs → Starts xs ns → ns ≡ xs
@@ -97,11 +97,6 @@ third_is a i l [] s = absurd s
 third_is a i l (x ∷ []) s = absurd s.1
 third_is a i l (x ∷ y ∷ []) s = absurd s.1.1
 third_is a i l (x ∷ y ∷ z ∷ ns) s = s.1.1.0
-
--- a chain of one stop is passed over where none has a gain
-pub passes_single : (m : Neighbourhood) (a i l : ℕ) (before : Found) → NoSingle m → l ≡ 1 → ¬ MayBeBetter before (pos 0) → SearchesFrom m (a ∷ i ∷ l ∷ []) before before
-passes_single m a i l before none one high = passes m (a ∷ i ∷ l ∷ []) before
-    (λ n u of s h. no_better_by before n (pos 0) u high (none n u of (third_is a i l (numbers n) s ∙ one) h))
 
 -- the first numbers of a move, with its second route behind them
 pub with_second : (n : Move) (a i l b : ℕ) → second_route n ≡ b → Starts (a ∷ i ∷ l ∷ []) (numbers n) → Starts (a ∷ i ∷ l ∷ b ∷ []) (numbers n)

@@ -76,10 +76,6 @@ one_found p routes k a b found old new known_a known_b kept best is c d known_c 
           (with_known p routes k a b found (entry_of old a b) (kept a b known_a known_b) (subst (IsBestAmong p routes (IsBetween k a b)) (sym (same_found p routes k a b found best.found)) best))))
     ]
 
--- nothing is claimed where nothing is known
-pub nothing_kept : (p : Problem) (routes : List (List ℕ)) (t : PairGains) → ((a b : ℕ) → entry_of t a b ≡ unknown) → AreKept p routes t
-nothing_kept p routes t none a b _ _ = subst (IsKept p routes a b) (sym (none a b)) (none_known p routes a b)
-
 -- a copy keeps the same
 pub same_kept : (p : Problem) (routes : List (List ℕ)) (old new : PairGains) → rows_of new ≡ rows_of old → AreKept p routes old → AreKept p routes new
 same_kept p routes old new same kept a b known_a known_b = subst (IsKept p routes a b) (sym (ap (λ r. get_or (get_or r a []) b unknown) same)) (kept a b known_a known_b)

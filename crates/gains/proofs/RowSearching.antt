@@ -28,10 +28,6 @@ first_known routes (OrOpt c t) h = h.known
 first_known routes (TwoOptStar f t) h = let known = h.known in let order = h.order in omega arith
 first_known routes (Cross f t) h = let known = h.known in let order = h.order in omega arith
 
--- the moves of a kind
-abbrev pub IsOfKind : Kind → Move → Type 0
-IsOfKind k n = kind_of n ≡ k
-
 -- a search through the moves from route a into the routes before b
 abbrev pub SearchesRow : Problem → List (List ℕ) → Kind → ℕ → ℕ → Found → Found → Type 0
 SearchesRow p routes k a b before result = Searches p routes (λ n. kind_of n ≡ k) (λ n. (first_route n ≡ a) × (second_route n < b)) before result

@@ -1,20 +1,17 @@
 -- The least of what swaps of a chain with stops of a route change of the cost.
-use Rattle.std.proofs.Common.{◌≡◌, sym, subst, ℕ, ◌+◌, ◌≤◌, List, length, arith, inl, inr}
+use Rattle.std.proofs.Common.{◌≡◌, subst, ℕ, ◌+◌, List, arith, inl, inr}
 use Rattle.std.specs.Prelude.{ℤ, ◌≤ℤ◌}
 use Rattle.std.proofs.lemmas.Int.{ints}
 use Rattle.std.proofs.lemmas.Bool.{cases_lt}
 use Rattle.solomon_reader.specs.Problem.{Problem}
 use Rattle.gains.specs.declared.cuts.Cut.{Cut}
-use Rattle.gains.specs.Cuts.{IsCut, IsKnownCut, cut_at, change_apart, AreKnownCuts, IsLeastShift}
+use Rattle.gains.specs.Cuts.{IsCut, cut_at, change_apart, IsLeastShift}
 
 pub low_enough : (v u x : ℤ) → v ≤ℤ u → u ≤ℤ x → v ≤ℤ x
 low_enough v u x h k = omega (arith, ints)
 
 pub cut_is : (r : List ℕ) (i l : ℕ) (c : Cut) → IsCut r i l c → c ≡ cut_at r i l
 cut_is r i l c h = λ k. record { before = h.before k; some = h.some k; first = h.first k; last = h.last k; behind = h.behind k }
-
-pub is_known : (p : Problem) (r : List ℕ) (i l : ℕ) (c : Cut) → AreKnownCuts p r → i + l ≤ length r → IsCut r i l c → IsKnownCut p c
-is_known p r i l c known fits h = subst (IsKnownCut p) (sym (cut_is r i l c h)) (known i l fits)
 
 -- one gap more of a route
 pub gap_next : (p : Problem) (r : List ℕ) (c d : Cut) (from n : ℕ) (x y : ℤ) → IsLeastShift p r c from n x → IsCut r n 0 d → y ≤ℤ x → y ≤ℤ change_apart p c d → IsLeastShift p r c from (n + 1) y

@@ -2,7 +2,7 @@
 
 /// The two routes that a move replaced, by their numbers before it, counted from 0, of which the first
 /// stands earlier and the second may have been new; and whether they have gone, for want of a stop.
-#[derive(Clone, Copy, Debug, PartialEq, Eq)]
+#[derive(Clone, Copy, PartialEq, Eq)]
 pub struct Replaced {
     pub first: u16,
     pub first_goes: bool,

@@ -10,7 +10,7 @@ use Rattle.std.proofs.lemmas.List.Edits.{length-remove, get_or-remove_below, get
 use Rattle.std.proofs.lemmas.Bool.{cases_lt}
 use Rattle.std.proofs.lemmas.List.FromFn.{get_or-range_with_len, length-range_with_len}
 use Rattle.std.proofs.lemmas.List.Elements.{All-from_recursion}
-use Rattle.std.proofs.lemmas.List.Sorted.{IsPermutation-refl, IsPermutation-trans, IsPermutation-remove, IsPermutation-insert, IsPermutation-middle, IsPermutation-append_left, IsPermutation-append_right, All-permutation, length_permutation}
+use Rattle.std.proofs.lemmas.List.Sorted.{IsPermutation-trans, IsPermutation-remove, IsPermutation-insert, IsPermutation-middle, IsPermutation-append_left, IsPermutation-append_right, All-permutation, length_permutation}
 use Rattle.solomon_reader.specs.Problem.{Problem, customers, customer_count, IsCustomer}
 use Rattle.solomon_reader.specs.Plan.{IsFitting, IsPlan}
 use Rattle.solomon_reader.specs.Lists.{lists}
@@ -46,10 +46,6 @@ All-left P before taken after moved all = back taken after (All-permutation P be
 All-without : (P : ℕ → Type 0) (xs : List ℕ) (i x : ℕ) → i < length xs → x ≡ get_or xs i x → All P xs → All P (remove xs i)
 All-without P xs i x h e all = All-left P xs (x ∷ []) (remove xs i) (IsPermutation-remove xs i x h e) all
 
-pub has_depot : (p : Problem) (r : List ℕ) → IsFitting p r → 0 < length p.rows
-has_depot p [] fits = absurd (omega (arith, fits.some))
-has_depot p (u ∷ r) fits = omega (arith, fits.known.0.0, fits.known.0.1)
-
 -- the x at i goes into the route at j
 pub moved_more : (before route left : List ℕ) (i j x : ℕ) → i < length left → x ≡ get_or left i x → IsPermutation before (route ++ left) → IsPermutation before (insert route j x ++ remove left i)
 moved_more before route left i j x h e moved =
@@ -67,15 +63,6 @@ pub record Fills (p : Problem) (visits before : List ℕ) (q : Problem) (route l
   pub known : All (IsCustomer p) left
   pub moved : IsPermutation (visits ++ before) (route ++ left)
   pub rising : IsStrictlyIncreasing before → IsStrictlyIncreasing left
-
-pub fills_none : (p : Problem) (visits before : List ℕ) → IsFitting p visits → All (IsCustomer p) before → Fills p visits before p visits before
-fills_none p visits before fits known = record {
-  same = refl;
-  fits = fits;
-  known = known;
-  moved = IsPermutation-refl (visits ++ before);
-  rising = λ up. up;
-}
 
 -- the x at i goes into the route at j
 pub fills_more : (p : Problem) (visits before : List ℕ) (q : Problem) (route left : List ℕ) (i j x : ℕ) (r : Problem) (longer rest : List ℕ) → Fills p visits before q route left → i < length left → x ≡ get_or left i x → r ≡ q → IsFitting q longer
@@ -154,13 +141,6 @@ pub record IsOpening (p : Problem) (before : List ℕ) (routes : List (Vec ℕ G
   pub opened : length (lists routes) ≡ count
   pub fitting : AllByRecursion (IsFitting p) (lists routes)
   pub taken : Takes before (flat_map (λ r. r) (lists routes)) after
-
-pub opening_none : (p : Problem) (before : List ℕ) → IsOpening p before [] before 0
-opening_none p before = record {
-  opened = refl;
-  fitting = tt;
-  taken = record { moved = IsPermutation-refl before; rising = λ up. up };
-}
 
 fitting_more : (p : Problem) (routes : List (List ℕ)) (r : List ℕ) → AllByRecursion (IsFitting p) routes → IsFitting p r → AllByRecursion (IsFitting p) (routes ++ r ∷ [])
 fitting_more p [] r all fits = (fits, tt)

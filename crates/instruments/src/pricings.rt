@@ -6,7 +6,7 @@ use branching::{Arc, Region, TreeNode};
 use certificate::CertNode;
 use closing::close_counted;
 use labelling::least;
-use price_ascent::{Goal, RoutePool, first_prices, first_rise, raise};
+use price_ascent::{Goal, RoutePool, counted_routes, first_prices, first_rise, raise};
 use prices::Priced;
 use row_texts::priced_at;
 use schedule::Feasible;
@@ -103,11 +103,6 @@ pub(crate) fn tell_labels<R: Host>(
 /// The numbers of pricings.
 const COUNTS: [u32; 5] = [10, 25, 50, 100, 200];
 
-/// How many routes more than a plan's count, and how many more than the fewest where there is none.
-const MORE_THAN_PLAN: u64 = 2;
-
-const MORE_THAN_FEWEST: u64 = 3;
-
 /// The plan to start from, if there is one.
 type Start<'s, 'p> = Option<&'s Feasible<'p>>;
 
@@ -131,21 +126,18 @@ fn start_of<'i>(
 
 /// The goal of so many pricings.
 fn goal_of(instance: &Instance, start: Start<'_, '_>, pricings: u32) -> Goal {
-    let (cost, few, more) = match start {
-        Some(plan) => (
-            Some(plan.cost()),
-            plan.routes().len() as u64,
-            MORE_THAN_PLAN,
-        ),
-        None => (None, u64::from(instance.fewest_routes()), MORE_THAN_FEWEST),
+    let (cost, routes) = match start {
+        Some(plan) => (Some(plan.cost()), Some(plan.routes())),
+        None => (None, None),
     };
     Goal {
         rise: first_rise(instance, cost),
         pricings,
         idle_pricings: pricings,
         value: i128::MAX,
-        routes: few.saturating_add(more).min(u64::from(u16::MAX)) as u16,
+        routes: counted_routes(instance, routes),
         labels: LIMIT,
+        looks: u64::MAX,
     }
 }
 

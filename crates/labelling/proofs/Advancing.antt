@@ -443,22 +443,6 @@ back_written n r back whole is count h =
     let t : take n back ≡ back = take_all n back (omega (arith, count, length-reverse r, ap length is)) in
     rw (e, append-nil, t, is) h
 
--- the sweep
-pub pending_none : (xs : List Label) → NonePending xs 0
-pending_none xs = record { each = λ m low within. absurd (omega (arith, low)) }
-
-pub pending_more : (xs ys : List Label) (index : ℕ) → index < length xs → NonePending xs index → IsOnward xs ys index → NonePending ys (index + 1)
-pending_more xs ys index within swept onward = record { each = each }
-  where
-    each : (m : ℕ) → m < index + 1 → m < length ys → ¬ IsPending (label_in ys m)
-    each m low w h =
-        let old : m < length xs = omega (arith, low, within) in
-        let t = onward.still m old h in
-        swept.each m (omega (arith, low, t.1)) old t.0
-
-pub pending_all : (xs : List Label) (index : ℕ) → length xs ≤ index → NonePending xs index → NonePending xs (length xs)
-pending_all xs index past swept = record { each = λ m low within. swept.each m (omega (arith, low, past)) within }
-
 module _ (q : Pricing) where
   pub complete_first : (xs : List Label) (f : Best) → IsFirst q.problem xs → f.value ≡ None → IsComplete q xs f
   complete_first xs f h value =

@@ -8,8 +8,11 @@ use crate::label::Label;
 use fronts::{Completions, Memory};
 use std::alloc::{AllocError, Global};
 
+/// So many labels of a group, which stand side by side, count as one look.
+const LABELS_OF_LOOK: u64 = 4;
+
 /// A label, by what it dominates others of its customer with.
-#[derive(Clone, Copy, Debug)]
+#[derive(Clone, Copy)]
 pub(crate) struct Entry {
     memory: Memory,
     time: u64,
@@ -73,20 +76,21 @@ impl MemoryGroup {
             & (self.least_cost <= newer.cost)
     }
 
-    /// The index of a label that dominates a newer one, as far as the group tells.
-    fn find_dominating(&self, newer: &Entry) -> Option<usize> {
+    /// The index of a label that dominates a newer one, as far as the group tells, and how many of its labels
+    /// were looked at.
+    fn find_dominating(&self, newer: &Entry) -> (Option<usize>, usize) {
         if !self.may_dominate(newer) {
-            return None;
+            return (None, 0);
         }
-        for entry in &self.entries {
+        for (place, entry) in self.entries.iter().enumerate() {
             if entry.time > newer.time {
-                return None;
+                return (None, place);
             }
             if entry.may_dominate(newer) {
-                return Some(entry.index);
+                return (Some(entry.index), place);
             }
         }
-        None
+        (None, self.entries.len())
     }
 
     /// Whether a newer label may dominate one of its labels.
@@ -193,7 +197,7 @@ fn drop_each(
 #[derive(Drop)]
 pub(crate) struct CustomerLabels {
     groups: Vec<MemoryGroup>,
-    /// How often a newer label looked at a group.
+    /// How often newer labels looked at groups, and at labels of them.
     looks: u64,
 }
 
@@ -206,7 +210,7 @@ impl CustomerLabels {
         }
     }
 
-    /// How often a newer label looked at a group.
+    /// How often newer labels looked at groups, and at labels of them.
     pub(crate) fn looks(&self) -> u64 {
         self.looks
     }
@@ -222,15 +226,16 @@ impl CustomerLabels {
         ensures { IsTrue result → IsDominatedIn completions.now labels.now label.now }
     {
         for place in 0..self.groups.len() {
-            if let Some(index) = self.groups[place].find_dominating(newer)
+            let (found, labels_met) = self.groups[place].find_dominating(newer);
+            let looks = 1 + labels_met as u64 / LABELS_OF_LOOK;
+            self.looks = self.looks.saturating_add(looks);
+            if let Some(index) = found
                 && dominates_at(completions, labels, index, label)
             {
-                self.looks = self.looks.saturating_add(place as u64);
                 self.groups.as_mut_slice().swap(0, place);
                 return true;
             }
         }
-        self.looks = self.looks.saturating_add(self.groups.len() as u64);
         false
     }
 

@@ -5,7 +5,7 @@ use std::alloc::Global;
 
 /// What a search for the least reduced cost goes by, and what it tells beside its answer. No contract
 /// speaks of it: it decides only how fast the answer is found, and who takes a route from it has to check it.
-#[derive(Debug, Drop)]
+#[derive(Drop)]
 pub struct Hints<'i> {
     /// The customers, in order, of a route that may be a relaxed one of low reduced cost; empty where none
     /// is known.

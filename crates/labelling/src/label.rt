@@ -10,7 +10,7 @@ ghost use Rattle.labelling.specs.Cover.{IsAhead, Carries};
 use fronts::{Completions, Front, Memory, Task};
 
 /// The first stops of a relaxed route. It stands in a list that only grows.
-#[derive(Clone, Copy, Debug)]
+#[derive(Clone, Copy)]
 pub struct Label {
     /// Where the vehicle stands.
     pub front: Front,

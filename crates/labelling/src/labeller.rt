@@ -403,7 +403,7 @@ impl<'t, 'i> Labeller<'t, 'i> {
     }
 
     /// How much work the search was: the steps taken, twice each, the customers that bounds looked at, and how
-    /// often a label looked at the labels that remember the same customers.
+    /// often a newer label looked at others.
     fn looks(&self) -> u64 {
         let steps = self.taken.saturating_mul(LOOKS_OF_STEP);
         let looks = steps.saturating_add(self.completions.looks());

@@ -51,7 +51,7 @@ impl Lookup {
         self.buckets.take(slot)
     }
 
-    /// How often a label looked at those of its customer that remember the same.
+    /// How often a newer label looked at labels of its customer, and at those together that remember the same.
     pub(crate) fn looks(&self) -> u64 {
         let mut looks: u64 = 0;
         for labels in &self.customers {

@@ -9,7 +9,7 @@ const MOST_ROUTES: usize = 20;
 const MOST_OF_CUSTOMER: usize = 2;
 
 /// A label after which a route may end.
-#[derive(Clone, Copy, Debug)]
+#[derive(Clone, Copy)]
 pub(crate) struct RouteEnd {
     /// The reduced cost of the route, in grains.
     pub(crate) value: i64,

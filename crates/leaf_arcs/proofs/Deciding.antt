@@ -1,9 +1,8 @@
 -- Which arcs the decisions on a path leave.
-use Rattle.std.proofs.Common.{◌≡◌, ◌≢◌, refl, ℕ, zero, suc, ◌<◌, ◌≤◌, Bool, true, false, not, ◌&&◌, ◌||◌, ◌==◌, List, [], ◌∷◌, length, arith, ap, sym, ◌∙◌, ◌⊎◌, inl, inr, ◌+◌, replicate}
+use Rattle.std.proofs.Common.{◌≡◌, ◌≢◌, refl, ℕ, zero, suc, ◌<◌, ◌≤◌, Bool, true, false, not, ◌&&◌, ◌||◌, ◌==◌, List, [], ◌∷◌, length, arith, ap, sym, ◌∙◌, ◌⊎◌, inl, inr, ◌+◌}
 use Rattle.std.specs.Ordering.{eq_by_cmp}
 use Rattle.std.specs.FinSet.{insert, contains-insert}
 use Rattle.std.proofs.lemmas.Bool.{cases_Bool, cases_lt, cases_eq, eq-eqb, ne_eqb, eqb-true, or_cases, or_left, or_right, or_from, and_parts, and_from, false_from_ne_true, both_ways, not_from_false}
-use Rattle.std.proofs.lemmas.List.{get_or-replicate, length-replicate}
 use Rattle.solomon_reader.specs.Plan.{Arc}
 use Rattle.solomon_reader.specs.Region.{Region, Holds, ArcSet, arc_cmp, IsAllowed, IsArc, root_region, used_child, unused_child}
 use Rattle.solomon_reader.specs.ArcOrder.{arc_cmp_total, inserted, none_in_empty, test_itself}
@@ -161,16 +160,6 @@ pub record AllowedSoFar (n : ℕ) (ds : List Decision) (i m : ℕ) (xs : List Bo
   pub count : length xs ≡ n + 1
   pub there : (j : ℕ) → j ≤ n → is_marked xs j ≡ true → (i ≢ j) × ((k : ℕ) → k < m → admits (decision_in ds k) i j ≡ true)
   pub back : (j : ℕ) → j ≤ n → i ≢ j → ((k : ℕ) → k < m → admits (decision_in ds k) i j ≡ true) → is_marked xs j ≡ true
-
-pub allowed_begun : (n : ℕ) (ds : List Decision) (i : ℕ) (xs : List Bool) → IsNarrowed (λ m. not (i == m)) (replicate (n + 1) true) xs → AllowedSoFar n ds i 0 xs
-allowed_begun n ds i xs h = record {
-  count = h.count ∙ length-replicate (n + 1) true;
-  there = λ j le t. (let both : (is_marked (replicate (n + 1) true) j ≡ true) × (not (i == j) ≡ true) = and_parts _ _ (sym (at j le) ∙ t) in (λ e. both_ways _ (unnot _ both.1) (eq-eqb i j e), λ k w. absurd (omega arith)));
-  back = λ j le apart each. at j le ∙ and_from _ _ (get_or-replicate (n + 1) j true false (omega (arith, le))) (not_from_false _ (ne_eqb i j apart));
-}
-  where
-    at : (j : ℕ) → j ≤ n → is_marked xs j ≡ (is_marked (replicate (n + 1) true) j && not (i == j))
-    at j le = h.each j (omega (arith, le, length-replicate (n + 1) true))
 
 pub allowed_more : (n : ℕ) (ds : List Decision) (i m : ℕ) (xs ys : List Bool) → AllowedSoFar n ds i m xs → IsNarrowed (admits (decision_in ds m) i) xs ys → AllowedSoFar n ds i (m + 1) ys
 allowed_more n ds i m xs ys so_far h = record {

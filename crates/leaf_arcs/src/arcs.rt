@@ -1,7 +1,7 @@
 //! The arcs that a leaf allows.
 
 /// An arc to a customer, with what a step over it needs.
-#[derive(Clone, Copy, Debug)]
+#[derive(Clone, Copy)]
 pub struct AllowedArc {
     /// The customer.
     pub to: u16,

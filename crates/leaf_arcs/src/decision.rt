@@ -6,7 +6,7 @@ ghost use Rattle.leaf_arcs.specs.Decisions.{admits, IsNarrowed, AreAllowed};
 use std::alloc::{AllocError, Global};
 
 /// An arc that is required, or forbidden.
-#[derive(Clone, Copy, Debug)]
+#[derive(Clone, Copy)]
 pub struct Decision {
     /// The row that the arc leaves.
     pub from: u16,

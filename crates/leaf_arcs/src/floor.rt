@@ -21,7 +21,7 @@ const NOTHING: i64 = 4_000_000_000_000_000_000;
 
 /// What may follow from a row at a time or later and a load or more adds at least so much. Of what is
 /// remembered a floor sees only that a route doesn't come back to a customer at once.
-#[derive(Clone, Copy, Debug)]
+#[derive(Clone, Copy)]
 pub struct Floor {
     /// The row.
     pub row: u16,

@@ -14,7 +14,7 @@ use solomon_reader::Instance;
 use std::alloc::{AllocError, Global};
 
 /// A customer of a neighbour list.
-#[derive(Clone, Copy, Debug)]
+#[derive(Clone, Copy)]
 pub struct Neighbour {
     /// The customer.
     pub customer: u16,

@@ -25,7 +25,7 @@ pub(crate) const MOST_LOAD_SLOTS: u64 = 100_000;
 const NO_SHIFT: u32 = 63;
 
 /// What each step of a route adds to.
-#[derive(Clone, Copy, Debug)]
+#[derive(Clone, Copy)]
 pub(crate) enum Resource {
     /// The time at which a vehicle leaves a customer, in tenths.
     Time,
@@ -34,7 +34,7 @@ pub(crate) enum Resource {
 }
 
 /// From when on a floor holds.
-#[derive(Clone, Copy, Debug, PartialEq, Eq, PartialOrd, Ord)]
+#[derive(Clone, Copy, PartialEq, Eq, PartialOrd, Ord)]
 pub(crate) struct Start {
     /// What is loaded then at least.
     pub(crate) loaded: usize,
@@ -45,7 +45,7 @@ pub(crate) struct Start {
 }
 
 /// Where the floors of a row stand.
-#[derive(Clone, Copy, Debug)]
+#[derive(Clone, Copy)]
 struct RowSlots {
     /// The first slot.
     first: u64,

@@ -3,7 +3,6 @@ pub mod Searching
 pub mod RoutePieces
 pub mod Rebuilding
 pub mod Swaps
-pub mod Chains
 pub mod ChangedRoutes
 pub mod JoinedStops
 pub mod ExactValues

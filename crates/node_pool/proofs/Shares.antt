@@ -1,9 +1,7 @@
 -- What a pass knows after one of its shares has changed.
-use Rattle.std.proofs.Common.{◌≡◌, ◌≢◌, ◌<◌, ℕ, false, List, [], ◌+◌, zero, suc, ◌∷◌, ◌++◌, ◌⊎◌, ⊎_elim, inl, inr, take, length-append, append_assoc, length, set, get_or, slice_index_or, sym, refl, ap, ◌∙◌, subst, length-set, get_or-set_other, get_or-set_same, arith}
+use Rattle.std.proofs.Common.{◌≡◌, ◌≢◌, ◌<◌, ℕ, false, List, [], ◌+◌, zero, suc, ◌∷◌, ◌++◌, take, append_assoc, length, set, get_or, slice_index_or, sym, refl, ap, ◌∙◌, subst, length-set, get_or-set_other, get_or-set_same, arith}
 use Rattle.std.specs.Prelude.{map}
-use Rattle.std.proofs.Math.Seq.{get_or-append_seam}
-use Rattle.std.proofs.lemmas.Bool.{cases_lt}
-use Rattle.std.proofs.lemmas.List.{get_or-map, get_or_append_left, take_more}
+use Rattle.std.proofs.lemmas.List.{get_or-map, take_more}
 use Rattle.crossbeam_deque.specs.Handles.{view}
 use Rattle.solomon_reader.specs.DequeLaw.{all_taken}
 use Rattle.node_pool.specs.declared.law.Known.{Known}
@@ -57,16 +55,6 @@ all_fresh ds ps long numbered all k d low =
       (subst (λ n. n < length ps) (sym is) inside, λ o. subst (λ n. IsShareOf (slice_index_or ds k d) (slice_index_or ps n o)) (sym is) (all k d o inside).0),
       subst (λ n. known_in ps n ≡ known false 1 [] []) (sym is) (all_made view (known false 1 [] []) ps (λ j p low. (all j d p low).1) k (known false 0 [] []) inside),
     )
-
--- one more has its place as its number
-pub one_numbered : (ds : List Deque) (d : Deque) → AreNumbered ds → d.0 ≡ length ds → AreNumbered (ds ++ d ∷ [])
-one_numbered ds d numbered last k e low = ⊎_elim
-    (λ (below : k < length ds). subst (λ (y : Deque). y.0 ≡ k) (sym (get_or_append_left ds (d ∷ []) e k below)) (numbered k e below))
-    (λ (at : k ≡ length ds). subst (λ n. (get_or (ds ++ d ∷ []) n e).0 ≡ n) (sym at) (subst (λ (y : Deque). y.0 ≡ length ds) (sym (get_or-append_seam ds d [] e)) last))
-    (lt_or_eq k (length ds) (let l = length-append ds (d ∷ []) in omega arith))
-  where
-    lt_or_eq : (k n : ℕ) → k < n + 1 → (k < n) ⊎ (k ≡ n)
-    lt_or_eq k n low = elim (cases_lt k n) [ inl l ↦ inl l | inr h ↦ inr (omega arith) ]
 
 pub map_push : {A B : Type 0} (f : A → B) (xs : List A) (x : A) → map f (xs ++ x ∷ []) ≡ map f xs ++ f x ∷ []
 map_push f [] x = refl

@@ -1,5 +1,5 @@
 -- What weighs the same, and what stands first.
-use Rattle.std.proofs.Common.{◌≡◌, ◌≤◌, ◌+◌, ℕ, List, [], ◌∷◌, ◌++◌, length, drop, sym, refl, ap, ◌∙◌, append_assoc, length-append, arith}
+use Rattle.std.proofs.Common.{◌≡◌, ◌+◌, ℕ, List, [], ◌∷◌, ◌++◌, length, drop, sym, refl, ap, ◌∙◌, append_assoc, length-append, arith}
 use Rattle.std.proofs.lemmas.List.{append-nil}
 use Rattle.solomon_reader.specs.DequeLaw.{HaveSameNumbers, IsBalanced, all_taken, weigh}
 
@@ -32,18 +32,7 @@ left_standing pushed taken s rest now before after =
     (append_assoc before.left s rest ∙ sym before.order ∙ after.order)
     (let a = length-append before.left s in let b = length-append taken [] in let c = length-append (taken ++ s) [] in let d = length-append taken s in omega arith)
 
--- what is left that weighs as much as one taker's numbers weighs as much as those of all from whom it had them
-pub each_taker : (pushed mine : List ℕ) (others : List (List ℕ)) (stands : List ℕ) → IsBalanced pushed ((mine ++ all_taken others) ∷ []) stands → IsBalanced pushed (mine ∷ others) stands
-each_taker pushed mine others stands whole = record {
-  left = whole.left;
-  order = whole.order;
-  counts = λ h. let c = whole.counts h in omega (arith, weigh_append h (mine ++ all_taken others) []);
-}
-
 pub all_taken_push : (takers : List (List ℕ)) (taken : List ℕ) → all_taken (takers ++ taken ∷ []) ≡ all_taken takers ++ taken
 all_taken_push [] taken = append-nil taken
 all_taken_push (t ∷ ts) taken = ap (λ l. t ++ l) (all_taken_push ts taken) ∙ sym (append_assoc t (all_taken ts) taken)
 
--- no more stand than were pushed
-pub few_stand : (pushed : List ℕ) (takers : List (List ℕ)) (stands : List ℕ) → IsBalanced pushed takers stands → length stands ≤ length pushed
-few_stand pushed takers stands b = let long = ap length b.order in omega (arith, length-append b.left stands)

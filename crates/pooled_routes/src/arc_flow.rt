@@ -4,7 +4,7 @@ use branching::Arc;
 use std::alloc::AllocError;
 
 /// How much of the routes' multipliers an arc carries, in grains; the rise stands for one route.
-#[derive(Clone, Copy, Debug)]
+#[derive(Clone, Copy)]
 pub struct ArcFlow {
     /// The arc.
     pub arc: Arc,

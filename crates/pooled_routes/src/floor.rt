@@ -1,7 +1,7 @@
 //! The reduced cost that all routes are to have at least.
 
 /// A number that is to be at least 0, in grains, with the multiplier that holds it there.
-#[derive(Clone, Copy, Debug)]
+#[derive(Clone, Copy)]
 pub(crate) struct Part {
     pub(crate) value: i64,
     pub(crate) multiplier: i64,
@@ -43,7 +43,7 @@ pub fn scaled(multiplier: i64, old: i64, new: i64) -> i64 {
 
 /// The reduced cost that all routes are to have at least, in grains: what it is above 0, less what it
 /// is below. Both parts are at least 0. The second is left out where no plan needs the whole fleet.
-#[derive(Clone, Copy, Debug)]
+#[derive(Clone, Copy)]
 pub struct Floor {
     pub(crate) above: Part,
     pub(crate) below: Option<Part>,

@@ -5,7 +5,7 @@ use crate::trial::Trial;
 use branching::Arc;
 
 /// What a route says of prices: those of its stops and the floor sum to at most its cost.
-#[derive(Clone, Copy, Debug)]
+#[derive(Clone, Copy)]
 pub struct HalfSpace<'r> {
     /// The customers, in order.
     pub stops: &'r [u16],

@@ -4,7 +4,7 @@ use crate::floor::Floor;
 use solomon_reader::Instance;
 
 /// How often the least reduced cost counts.
-#[derive(Clone, Copy, Debug)]
+#[derive(Clone, Copy)]
 pub struct Merit {
     fewest_routes: u32,
     routes: u16,

@@ -12,7 +12,7 @@ use std::alloc::{AllocError, Global};
 pub const GRAINS_OF_TENTH: i64 = 1_000;
 
 /// How much of the rise the multiplier of a route is, which the pool met as the one of this number.
-#[derive(Clone, Copy, Debug)]
+#[derive(Clone, Copy)]
 pub struct RouteShare {
     pub number: u64,
     pub millionths: i64,
@@ -22,7 +22,7 @@ pub struct RouteShare {
 const WHOLE: i64 = 1_000_000;
 
 /// A relaxed route, which says of prices: those of its stops and the floor sum to at most its cost.
-#[derive(Debug, Drop)]
+#[derive(Drop)]
 pub struct PooledRoute {
     /// The how-manieth route it is that the pool met.
     number: u64,

@@ -10,7 +10,7 @@ const ENOUGH: u64 = 20;
 const SWEEPS_BETWEEN: u32 = 10;
 
 /// What routes say of prices, with the multipliers that a projection comes to.
-#[derive(Debug, Drop)]
+#[derive(Drop)]
 pub struct Projection<'r> {
     /// What the routes say.
     pub spaces: Vec<HalfSpace<'r>>,

@@ -4,7 +4,7 @@ use branching::Arc;
 use std::alloc::{AllocError, Global};
 
 /// Which child of a leaf by an arc.
-#[derive(Clone, Copy, Debug, PartialEq, Eq)]
+#[derive(Clone, Copy, PartialEq, Eq)]
 pub enum Side {
     /// The child in which the arc is required.
     Used,
@@ -13,7 +13,7 @@ pub enum Side {
 }
 
 /// The rises seen in the children by an arc, on one side, in grains.
-#[derive(Clone, Copy, Debug)]
+#[derive(Clone, Copy)]
 struct Rises {
     arc: Arc,
     side: Side,
@@ -23,7 +23,7 @@ struct Rises {
 
 /// For each arc and side the rises of merit that were seen in the children: what another child by the
 /// arc is likely to rise by, whatever its parent.
-#[derive(Debug, Drop)]
+#[derive(Drop)]
 pub struct Pseudocosts {
     rises: Vec<Rises>,
 }

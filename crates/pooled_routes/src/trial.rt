@@ -12,7 +12,7 @@ use std::alloc::{AllocError, Global};
 
 /// Prices in grains, that of customer i at i - 1, also outside their range, and the floor of the reduced
 /// costs.
-#[derive(Debug, Drop)]
+#[derive(Drop)]
 pub struct Trial {
     pub prices: Vec<i64>,
     pub floor: Floor,

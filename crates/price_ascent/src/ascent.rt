@@ -18,7 +18,7 @@ const LEAST_GAP: i128 = 1_000;
 
 /// A way of prices by serious and null steps (Lemaréchal 1975; Kiwiel 1990): a serious step makes the
 /// prices of a trial the centre of the next, and a null step only adds a route to the pool.
-#[derive(Debug, Drop)]
+#[derive(Drop)]
 pub(crate) struct Ascent {
     pub(crate) centre: Centre,
     merit: Merit,

@@ -5,7 +5,7 @@ use prices::Priced;
 use std::alloc::{AllocError, Global};
 
 /// The prices that a rise starts from, in grains, with their least reduced cost and their merit.
-#[derive(Debug, Drop)]
+#[derive(Drop)]
 pub(crate) struct Centre {
     pub(crate) prices: Vec<i64>,
     /// 0 where there is no relaxed route.

@@ -22,7 +22,7 @@ use solomon_reader::Instance;
 use std::alloc::{AllocError, Global};
 
 /// The children of a leaf by an arc, with their prices.
-#[derive(Debug, Drop)]
+#[derive(Drop)]
 pub struct Children<'i> {
     /// The arc that the leaf is branched on.
     pub arc: Arc,

@@ -6,7 +6,7 @@ use pooled_routes::{RouteShare, Side, Trial};
 /// What is known of a child when its leaf is split: the prices of its trial and the multipliers of the
 /// leaf's routes, from which its ascent starts, and from where its merit rises. Any child may go without
 /// one, since any prices are sound.
-#[derive(Debug, Drop)]
+#[derive(Drop)]
 pub struct ChildStart {
     pub(crate) arc: Arc,
     pub(crate) side: Side,

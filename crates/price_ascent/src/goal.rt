@@ -22,7 +22,7 @@ pub fn counted_routes(instance: &Instance, plan: Option<&[Vec<u16>]>) -> u16 {
 }
 
 /// How far prices are to be raised.
-#[derive(Clone, Copy, Debug)]
+#[derive(Clone, Copy)]
 pub struct Goal {
     /// The first rise of each price, in grains; it is cut to 1,000 to 100,000,000,000. `first_rise`
     /// serves well at the root, and `rise_at` at each leaf.
@@ -38,4 +38,6 @@ pub struct Goal {
     pub routes: u16,
     /// The most labels that may be active at once in a pricing.
     pub labels: Option<usize>,
+    /// Stops where the pool's work so far comes to so many looks.
+    pub looks: u64,
 }

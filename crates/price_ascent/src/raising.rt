@@ -96,7 +96,8 @@ fn climb<'i>(
     let mut idle: u32 = 0;
     for _ in 0..goal.pricings {
         let before = best.value();
-        if before >= goal.value || idle >= goal.idle_pricings {
+        let is_spent = idle >= goal.idle_pricings || pool.looks() >= goal.looks;
+        if before >= goal.value || is_spent {
             return best;
         }
         let Ok(trial) = ascent.trial(alloc, pool) else {

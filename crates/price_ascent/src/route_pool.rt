@@ -30,7 +30,7 @@ const LOOKS_AT_ROUTE: u64 = 4;
 
 /// The relaxed routes met so far at an instance's leaves, with what each says of prices. One pool
 /// serves all leaves, since a route doesn't depend on the region.
-#[derive(Debug, Drop)]
+#[derive(Drop)]
 pub struct RoutePool<'i> {
     alloc: Global,
     routes: Vec<PooledRoute>,

@@ -1,5 +1,5 @@
 -- The least reduced cost: how far it may be from 0, and the route that a step goes by.
-use Rattle.std.proofs.Common.{◌≡◌, refl, ℕ, zero, suc, ◌+◌, ◌-◌, ◌*◌, ◌≤◌, List, [], ◌∷◌, length, get_or, inl, inr, arith, subst, sym}
+use Rattle.std.proofs.Common.{refl, ℕ, zero, suc, ◌+◌, ◌-◌, ◌*◌, ◌≤◌, List, [], ◌∷◌, length, get_or, inl, inr, arith, subst}
 use Rattle.std.specs.Prelude.{ℤ, pos, negsuc, ◌+ℤ◌, ◌-ℤ◌, ◌≤ℤ◌, ◌<ℤ◌, nat_abs, Option, Some, None, MatchOption, slice_index_or}
 use Rattle.std.specs.List.{AllByRecursion, sum_by}
 use Rattle.std.proofs.lemmas.Int.{ints}
@@ -14,7 +14,6 @@ use Rattle.solomon_reader.specs.Relaxed.{IsRelaxed, IsLeast, IsLeastOrZero, redu
 use Rattle.solomon_reader.specs.SumLaws.{up, down}
 use Rattle.solomon_reader.specs.CertificateText.{IsPrice}
 use Rattle.prices.specs.Pricing.{or_zero}
-use Rattle.prices.specs.Steps.{IsGuide}
 use Rattle.prices.proofs.Ranges.{all_at}
 use Rattle.prices.proofs.Values.{abs_low, abs_high, abs_within}
 
@@ -110,16 +109,5 @@ least_or_zero p g k prices (Some m) is = inl is
 one_more : (z : ℤ) → z <ℤ pos 0 → (z +ℤ pos 1) ≤ℤ pos 0
 one_more z h = omega (arith, ints)
 
-pub guide_below : (p : Problem) (g : Region) (k : ℕ) (prices : List ℤ) (m : ℤ) (route : List ℕ) → IsLeast p g k prices m
-    → IsRelaxed p g k route × (reduced_cost p prices route ≡ m) → m <ℤ pos 0 → IsGuide p g k prices route
-guide_below p g k prices m route is has below =
-    inl (has.0, subst (λ (z : ℤ). IsLeast p g k prices z) (sym has.1) is, subst (λ (z : ℤ). (z +ℤ pos 1) ≤ℤ pos 0) (sym has.1) (one_more m below))
-
 at_least : (m c : ℤ) → pos 0 ≤ℤ m → m ≤ℤ c → pos 0 ≤ℤ c
 at_least m c h k = omega (arith, ints)
-
-pub guide_above : (p : Problem) (g : Region) (k : ℕ) (prices : List ℤ) (m : ℤ) → IsLeast p g k prices m → pos 0 ≤ℤ m → IsGuide p g k prices []
-guide_above p g k prices m is above = inr (refl, λ q h. at_least m (reduced_cost p prices q) above (is.least q h))
-
-pub guide_none : (p : Problem) (g : Region) (k : ℕ) (prices : List ℤ) → ((r : List ℕ) → ¬ IsRelaxed p g k r) → IsGuide p g k prices []
-guide_none p g k prices none = inr (refl, λ q h. absurd (none q h))

@@ -13,7 +13,7 @@ ghost use Rattle.prices.specs.Pricing.{or_zero, MOST_LEAST, MOST_VALUE};
 const GRAINS_OF_TENTH: u128 = 1_000;
 
 /// A number of grains as the difference of two numbers that aren't negative.
-#[derive(Clone, Copy, Debug)]
+#[derive(Clone, Copy)]
 pub struct Grains {
     pub above: u128,
     pub below: u128,

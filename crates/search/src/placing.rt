@@ -16,7 +16,7 @@ use working_plan::WorkingPlan;
 const PASSED_OVER: usize = 100;
 
 /// A place for a customer, and by how many tenths its route gets longer there.
-#[derive(Clone, Copy, Debug, PartialEq, Eq)]
+#[derive(Clone, Copy, PartialEq, Eq)]
 struct Detour {
     to: Place,
     length: i64,

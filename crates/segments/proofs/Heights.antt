@@ -61,9 +61,6 @@ height-met n c m h e below above =
       least = λ z. rw f (omega arith);
     }
 
-pub height-none : IsHeight 0 0
-height-none = record { none = λ z. refl; some = λ z. absurd (omega arith); room = λ z. absurd (omega arith); least = λ z. absurd (omega arith) }
-
 module _ {L : Type 0} (op : L → L → Option L) where
   pub some-level : (xs : List (Option L)) (k : ℕ) → 0 < length xs → 0 < length (level op xs k)
   some-level xs zero h = h

@@ -1,12 +1,12 @@
 -- A join by its parts.
-use Rattle.std.proofs.Common.{◌≡◌, refl, ℕ, ◌≤◌, true, false, ap, arith}
-use Rattle.std.specs.Prelude.{nat_le, ℤ, pos, ◌+ℤ◌, ◌≤ℤ◌, ◌<ℤ◌, Some, None}
+use Rattle.std.proofs.Common.{◌≡◌, refl, ℕ, ◌≤◌, true, ap, arith}
+use Rattle.std.specs.Prelude.{nat_le, ℤ, pos, ◌+ℤ◌, ◌≤ℤ◌, Some}
 use Rattle.std.proofs.lemmas.Int.{ints, clamps}
 use Rattle.std.proofs.lemmas.Bool.Decides.{nat_tests}
 use Rattle.solomon_reader.specs.Problem.{Problem, customer_count}
 use Rattle.solomon_reader.specs.Distance.{distance}
 use Rattle.segments.specs.Segments.{Summary, IsBounded, join, joined, follows}
-use Rattle.segments.specs.Joining.{yes_follows, no_follows, same_summary}
+use Rattle.segments.specs.Joining.{yes_follows, same_summary}
 
 -- a join by its parts
 pub made : (p : Problem) (a b : Summary) (load cost : ℕ) (latest duration earliest : ℤ) → a.last ≤ customer_count p → b.first ≤ customer_count p
@@ -18,10 +18,6 @@ made p a b load cost latest duration earliest l f h e1 e2 e3 e4 e5 =
     let y : nat_le b.first (customer_count p) ≡ true = grind (arith, nat_tests) in
     let z : follows p a b ≡ true = yes_follows p a b (record { known = rw (x, y) refl; timely = h }) in
     rw z (ap Some (same_summary _ _ _ _ a.first b.last _ _ _ _ _ _ e1 e2 e3 e4 e5))
-
-pub unmade_late : (p : Problem) (a b : Summary) → b.latest <ℤ (a.earliest +ℤ pos (distance p a.last b.first)) → None ≡ join p a b
-unmade_late p a b h =
-    let z : follows p a b ≡ false = no_follows p a b (λ f. let t = f.timely in omega (arith, ints)) in rw z refl
 
 pub made_bounded : (p : Problem) (a b : Summary) (s : Summary) → IsBounded a → IsBounded b → (a.earliest +ℤ pos (distance p a.last b.first)) ≤ℤ b.latest
     → s.load ≡ (joined p a b).load → s.cost ≡ (joined p a b).cost → s.latest ≡ (joined p a b).latest → s.duration ≡ (joined p a b).duration → s.earliest ≡ (joined p a b).earliest

@@ -51,19 +51,6 @@ pub record Walked (p : Problem) (visits : List ℕ) (n at time cost load : ℕ) 
   pub onward : (f : ℕ) → Returns p 0 (ready p 0) visits f → Returns p at time (drop n visits) f
   pub back : (f : ℕ) → Returns p at time (drop n visits) f → Returns p 0 (ready p 0) visits f
 
-pub walked_none : (p : Problem) (visits : List ℕ) → 0 < length p.rows → ready p 0 ≤ 10 * MOST_TIME → Walked p visits 0 0 (ready p 0) 0 0
-walked_none p visits some early = record {
-  within = omega arith;
-  at_row = some;
-  load_is = refl;
-  load_fits = omega arith;
-  cost_is = omega arith;
-  cost_le = omega arith;
-  time_le = omega arith;
-  onward = λ f w. w;
-  back = λ f w. w;
-}
-
 module _ (p : Problem) (visits : List ℕ) (n at time cost load stop : ℕ) (so_far : Walked p visits n at time cost load)
     (more : n < length visits) (is_stop : stop ≡ get_or visits n 0) where
   splits : drop n visits ≡ stop ∷ drop (n + 1) visits

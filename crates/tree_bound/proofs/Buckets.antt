@@ -5,7 +5,7 @@ use Rattle.std.proofs.lemmas.Int.{ints}
 use Rattle.std.proofs.lemmas.Bool.{cases_lt, cases_eq}
 use Rattle.std.proofs.lemmas.List.{get_or_append_left, get_or_push, get_or-set_same, get_or-set_other}
 use Rattle.tree_bound.specs.declared.label.Label.{Label}
-use Rattle.tree_bound.specs.Labels.{blank, label_in, Dominates, IsDominated, IsThinned, IsPut, IsKept, IsAdded, labels_at}
+use Rattle.tree_bound.specs.Labels.{blank, label_in, Dominates, IsDominated, IsThinned, IsPut, IsKept}
 
 pub dominates_itself : (x : Label) → Dominates x x
 dominates_itself x = record { customer = refl; memory = λ i t. t; time = omega arith; cost = omega (arith, ints) }
@@ -86,20 +86,3 @@ kept_of xs zs ys x active thinned put = record { new = new; old = old; others = 
 
 pub first_kept : (x : Label) → x.active ≡ true → IsKept [] (x ∷ []) x
 first_kept x active = kept_of [] [] (x ∷ []) x active (thinned_none [] x) (put_behind [] x)
-
-pub kept_dominated : (xs : List Label) (x : Label) → IsDominated xs x → IsKept xs xs x
-kept_dominated xs x dominated = record {
-  new = dominated;
-  old = λ m w active. record { index = m; within = w; active = active; good = dominates_itself (label_in xs m) };
-  others = λ m w active. inr (w, refl);
-}
-
-pub added_none : (bs : List (List Label)) (load : ℕ) (x : Label) → IsDominated (labels_at bs load) x → IsAdded bs bs load x
-added_none bs load x dominated = record { same = refl; others = λ q apart. refl; here = kept_dominated (labels_at bs load) x dominated }
-
-pub added_set : (bs : List (List Label)) (load : ℕ) (ys : List Label) (x : Label) → load < length bs → IsKept (labels_at bs load) ys x → IsAdded bs (set bs load ys) load x
-added_set bs load ys x within kept = record {
-  same = length-set bs load ys;
-  others = λ q apart. get_or-set_other bs load q ys [] apart;
-  here = rw (get_or-set_same bs load ys [] within) kept;
-}

@@ -50,7 +50,7 @@ fn put_at(labels: &mut [Label], index: usize, label: &Label) -> bool
 }
 
 /// A label, by what it is looked up.
-#[derive(Clone, Copy, Debug)]
+#[derive(Clone, Copy)]
 struct Entry {
     cost: i64,
     time: u64,

@@ -7,7 +7,7 @@ use leaf_arcs::is_subset;
 
 /// A pair of time and cost with a last customer and a memory. Its load is that of the bucket in which
 /// it stands.
-#[derive(Clone, Copy, Debug)]
+#[derive(Clone, Copy)]
 pub struct Label {
     /// The last stop.
     pub customer: u16,

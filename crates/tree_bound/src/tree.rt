@@ -20,7 +20,7 @@ use std::alloc::Global;
 use tenths::Tenths;
 
 /// The least of a number of tenths and a tree's bound, and the index after the tree's nodes.
-#[derive(Clone, Copy, Debug)]
+#[derive(Clone, Copy)]
 struct Subtree {
     bound: u32,
     next: usize,

@@ -20,7 +20,7 @@ use leaf_arcs::{Decision, Leaf, Task};
 use std::alloc::Global;
 
 /// A number of grains, as a difference.
-#[derive(Clone, Copy, Debug)]
+#[derive(Clone, Copy)]
 struct Difference {
     above: u64,
     below: u64,

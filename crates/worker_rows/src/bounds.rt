@@ -177,11 +177,11 @@ fn splits_go_as_far_as_there_is_room(rt: HostRuntime) -> Result<(), Fail> {
         ("a full history", 2, 10, Some(BookFault::JournalFull), ended),
         ("a full tree", 2, 10, Some(BookFault::LeavesFull), ended),
         (
-            "a deep leaf doesn't",
+            "a root that is refused is split again",
             2,
             10,
-            Some(BookFault::TooDeep),
-            (3, 1, 1, 0, 3),
+            Some(BookFault::Lower),
+            (3, 3, 3, 0, 3),
         ),
     ] {
         let made = turns_splitting(rt.alloc(), number, room, refusal)?;

@@ -5,7 +5,7 @@ ghost use Rattle.std.specs.Prelude.{◌≤◌};
 use crate::gate::{Gate, GatePoint};
 use crate::hub::Hub;
 use crate::nodes::{Nodes, OpenNode, Taken};
-use crate::pricing::{Means, goal_of, is_ahead, pricing_labels};
+use crate::pricing::{Means, goal_of, is_ahead};
 use crate::refusal::Refusal;
 use crate::settings::Settings;
 use crate::worker::Worker;
@@ -32,6 +32,7 @@ fn split<'i, H: Hub<'i>, G: Gate>(
     } = children;
     let (first_value, second_value) = (used.value(), unused.value());
     let (first, second) = worker.split(number, arc, used, unused)?;
+    nodes.current = None;
     let first = OpenNode {
         number: first,
         value: first_value,
@@ -68,7 +69,11 @@ fn bring<'i, H: Hub<'i>, G: Gate>(
         };
     }
     match branch(worker.alloc, &leaf, &mut nodes.pool, Some(means.labels)) {
-        Ok(Some(children)) => split(worker, number, children, nodes),
+        Ok(Some(children)) => {
+            // Where another worker raised the root meanwhile, the book refuses its split, and the next turn tries again.
+            nodes.current = leaf.region().is_root().then_some(number);
+            split(worker, number, children, nodes)
+        }
         Ok(None) | Err(PriceFault::LabelLimit | PriceFault::PriceRange) => {
             worker.reprice(number, leaf)
         }
@@ -185,10 +190,8 @@ pub fn bound_worker<'i, H: Hub<'i>, G: Gate>(
 ) -> u32
     ensures { result ≤ settings.now.turns }
 {
-    let means = Means {
-        labels: pricing_labels(settings, nodes.customers),
-        place: u32::from(worker.number).saturating_sub(settings.searchers),
-    };
+    let place = u32::from(worker.number).saturating_sub(settings.searchers);
+    let means = Means::at(place, settings, nodes.customers);
     for made in 0..settings.turns {
         worker.pass(GatePoint::Start);
         let done = turn(worker, means, made, &mut nodes);

@@ -15,7 +15,7 @@ use std::thread::yield_now;
 
 /// A leaf that waits for its turn, with its value in tenths when it was made, and where its ascent starts,
 /// if it is known.
-#[derive(Debug, Drop)]
+#[derive(Drop)]
 pub(crate) struct OpenNode {
     pub(crate) number: u32,
     pub(crate) value: i128,
@@ -59,7 +59,7 @@ pub struct Nodes<'p, 'i> {
 }
 
 /// A node that a worker took.
-#[derive(Debug, Drop)]
+#[derive(Drop)]
 pub(crate) struct Taken {
     pub(crate) number: u32,
     pub(crate) start: Option<ChildStart>,

@@ -14,15 +14,15 @@ const LEAF_PRICINGS: u32 = 8;
 
 /// How many looks a turn is worth for each customer, and for how many customers at least. A look takes about
 /// as long on every instance, so that turns do, too.
-const CUSTOMER_LOOKS: u64 = 10_000;
+const CUSTOMER_LOOKS: u64 = 14_000;
 
 const LEAST_CUSTOMERS: u64 = 80;
 
 /// Of what all turns are worth a single pricing may take this part, and at any number of turns what so
 /// many are worth.
-const PRICING_PART: u64 = 20;
+const PRICING_PART: u64 = 28;
 
-const LEAST_PRICING_TURNS: u64 = 5;
+const LEAST_PRICING_TURNS: u64 = 4;
 
 /// How much work a turn is worth, in looks: steps, bounds on what may follow and the projections of prices
 /// count alike, so that turns take about as long at narrow windows as at wide ones.
@@ -31,12 +31,25 @@ fn turn_looks(customers: u16) -> u64 {
 }
 
 /// What a bound worker goes by.
-#[derive(Clone, Copy, Debug)]
+#[derive(Clone, Copy)]
 pub(crate) struct Means {
     /// How many labels may be active at once in one of its pricings.
     pub(crate) labels: usize,
     /// Its place among the bound workers.
     pub(crate) place: u32,
+    /// How much work all its turns are worth, in looks.
+    pub(crate) looks: u64,
+}
+
+impl Means {
+    /// What the bound worker of a place goes by.
+    pub(crate) fn at(place: u32, settings: &Settings, customers: u16) -> Means {
+        Means {
+            labels: pricing_labels(settings, customers),
+            place,
+            looks: turn_looks(customers).saturating_mul(u64::from(settings.turns)),
+        }
+    }
 }
 
 /// How many labels may be active at once in a bound worker's pricing on so many customers: what the settings
@@ -87,5 +100,6 @@ pub(crate) fn goal_of(
         value: i128::from(target),
         routes: nodes.routes,
         labels: Some(means.labels),
+        looks: means.looks,
     }
 }

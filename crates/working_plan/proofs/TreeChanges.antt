@@ -49,6 +49,3 @@ one_pushed old new routes x h same e trees = record {
   trees = trees;
 }
 
-pub none_changed : (old new : PlanTrees) (routes : List (List ℕ)) → AreTreesOf routes old → problem_of new ≡ problem_of old
-    → routes_of new ≡ routes_of old → AreTrees new → AreTreesOf routes new
-none_changed old new routes h same e trees = record { stops = rw same (e ∙ h.stops); trees = trees }
