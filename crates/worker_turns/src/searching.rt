@@ -13,14 +13,17 @@ use search::Searcher;
 use solomon_reader::Instance;
 use std::alloc::Global;
 
-/// After this many turns that found nothing cheaper a worker begins anew.
+/// So many turns of a searcher take about as long at 100 customers as a bound worker's turn.
+const SEARCHER_TURNS: u32 = 2;
+
+/// After this many turns of its searcher that found nothing cheaper a worker begins anew.
 const IDLE_TURNS: u32 = 40;
 
 /// With more customers a plan that is built anew takes too many turns to be as cheap as the one before.
 const MOST_CUSTOMERS_ANEW: u16 = 100;
 
-/// What a search worker has: a plan to change, and how many turns in a row found nothing cheaper; or no
-/// more than its random words.
+/// What a search worker has: a plan to change, and how many turns of its searcher in a row found nothing
+/// cheaper; or no more than its random words.
 #[derive(Drop)]
 enum Quest<'i, R> {
     At {
@@ -76,7 +79,7 @@ fn begin_anew<'i, R: Rng + Drop>(
     Ok(())
 }
 
-/// Makes a turn, after it began anew where too many turns found nothing cheaper; answers how many turns
+/// Makes a turn of the searcher, after it began anew where too many found nothing cheaper; answers how many
 /// in a row have found nothing cheaper now.
 fn go_on<'i, R: Rng + Drop>(
     alloc: Global,
@@ -103,8 +106,13 @@ fn seek<'i, R: Rng + Drop>(
     quest: Quest<'i, R>,
 ) -> Result<Quest<'i, R>, Refusal> {
     match quest {
-        Quest::At { mut searcher, idle } => {
-            let idle = go_on(alloc, instance, &mut searcher, idle)?;
+        Quest::At {
+            mut searcher,
+            mut idle,
+        } => {
+            for _ in 0..SEARCHER_TURNS {
+                idle = go_on(alloc, instance, &mut searcher, idle)?;
+            }
             Ok(Quest::At { searcher, idle })
         }
         Quest::Nowhere(random) => begin(alloc, instance, random),
@@ -149,10 +157,10 @@ fn turn<'i, H: Hub<'i>, G: Gate, R: Rng + Drop>(
 /// Makes this many turns, or fewer where a refusal of memory or a full history ends the work, and
 /// answers how many.
 ///
-/// In each turn the worker changes its plan by a turn of a searcher, or builds one with drawn weights
-/// where it has none, and offers the plan that it has then. After 40 turns that found nothing cheaper it
-/// goes on from another plan, which is built with drawn weights or, with more than 100 customers, its own
-/// after random moves. A refusal of the hub ends the turn, and the worker keeps its plan. Where the words for
+/// In each turn the worker changes its plan by two turns of a searcher, or builds one with drawn weights
+/// where it has none, and offers the plan that it has then. After 40 turns of the searcher that found nothing
+/// cheaper it goes on from another plan, which is built with drawn weights or, with more than 100 customers,
+/// its own after random moves. A refusal of the hub ends the turn, and the worker keeps its plan. Where the words for
 /// cost and bound have met, a turn does nothing.
 pub fn search_worker<'i, H: Hub<'i>, G: Gate, R: Rng + Drop>(
     worker: &mut Worker<'_, 'i, H, G>,
