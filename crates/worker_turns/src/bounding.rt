@@ -5,7 +5,7 @@ ghost use Rattle.std.specs.Prelude.{◌≤◌};
 use crate::gate::{Gate, GatePoint};
 use crate::hub::Hub;
 use crate::nodes::{Nodes, OpenNode, Taken};
-use crate::pricing::{Means, goal_of, is_ahead};
+use crate::pricing::{Means, goal_of, is_ahead, pricing_labels, turn_looks};
 use crate::refusal::Refusal;
 use crate::settings::Settings;
 use crate::worker::Worker;
@@ -190,8 +190,11 @@ pub fn bound_worker<'i, H: Hub<'i>, G: Gate>(
 ) -> u32
     ensures { result ≤ settings.now.turns }
 {
-    let place = u32::from(worker.number).saturating_sub(settings.searchers);
-    let means = Means::at(place, settings, nodes.customers);
+    let means = Means {
+        labels: pricing_labels(settings, nodes.customers),
+        place: u32::from(worker.number).saturating_sub(settings.searchers),
+        looks: turn_looks(nodes.customers).saturating_mul(u64::from(settings.turns)),
+    };
     for made in 0..settings.turns {
         worker.pass(GatePoint::Start);
         let done = turn(worker, means, made, &mut nodes);

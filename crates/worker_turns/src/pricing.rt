@@ -26,7 +26,7 @@ const LEAST_PRICING_TURNS: u64 = 4;
 
 /// How much work a turn is worth, in looks: steps, bounds on what may follow and the projections of prices
 /// count alike, so that turns take about as long at narrow windows as at wide ones.
-fn turn_looks(customers: u16) -> u64 {
+pub(crate) fn turn_looks(customers: u16) -> u64 {
     CUSTOMER_LOOKS.saturating_mul(u64::from(customers).max(LEAST_CUSTOMERS))
 }
 
@@ -39,17 +39,6 @@ pub(crate) struct Means {
     pub(crate) place: u32,
     /// How much work all its turns are worth, in looks.
     pub(crate) looks: u64,
-}
-
-impl Means {
-    /// What the bound worker of a place goes by.
-    pub(crate) fn at(place: u32, settings: &Settings, customers: u16) -> Means {
-        Means {
-            labels: pricing_labels(settings, customers),
-            place,
-            looks: turn_looks(customers).saturating_mul(u64::from(settings.turns)),
-        }
-    }
 }
 
 /// How many labels may be active at once in a bound worker's pricing on so many customers: what the settings
