@@ -35,4 +35,3 @@ left_standing pushed taken s rest now before after =
 pub all_taken_push : (takers : List (List ℕ)) (taken : List ℕ) → all_taken (takers ++ taken ∷ []) ≡ all_taken takers ++ taken
 all_taken_push [] taken = append-nil taken
 all_taken_push (t ∷ ts) taken = ap (λ l. t ++ l) (all_taken_push ts taken) ∙ sym (append_assoc t (all_taken ts) taken)
-

@@ -48,4 +48,3 @@ one_pushed old new routes x h same e trees = record {
   stops = rw same (e ∙ ap (λ q. q ++ (map (stop (problem_of old)) x ∷ [])) h.stops ∙ sym (map-append (map (stop (problem_of old))) routes (x ∷ [])));
   trees = trees;
 }
-
