@@ -16,10 +16,12 @@ use schedule::Feasible;
 /// The most leaves of a turn.
 const MOST_LEAVES: u32 = 10;
 
-/// Splits a leaf, and keeps both children, which wait for their turn.
+/// Splits a leaf, and keeps both children, which wait for their turn. Where another worker raised the root
+/// meanwhile, the book refuses its split, and the next turn tries again.
 fn split<'i, H: Hub<'i>, G: Gate>(
     worker: &mut Worker<'_, 'i, H, G>,
     number: u32,
+    is_root: bool,
     children: Children<'i>,
     nodes: &mut Nodes<'_, 'i>,
 ) -> Result<(), Refusal> {
@@ -31,6 +33,7 @@ fn split<'i, H: Hub<'i>, G: Gate>(
         unused_start,
     } = children;
     let (first_value, second_value) = (used.value(), unused.value());
+    nodes.current = is_root.then_some(number);
     let (first, second) = worker.split(number, arc, used, unused)?;
     nodes.current = None;
     let first = OpenNode {
@@ -69,11 +72,7 @@ fn bring<'i, H: Hub<'i>, G: Gate>(
         };
     }
     match branch(worker.alloc, &leaf, &mut nodes.pool, Some(means.labels)) {
-        Ok(Some(children)) => {
-            // Where another worker raised the root meanwhile, the book refuses its split, and the next turn tries again.
-            nodes.current = leaf.region().is_root().then_some(number);
-            split(worker, number, children, nodes)
-        }
+        Ok(Some(children)) => split(worker, number, leaf.region().is_root(), children, nodes),
         Ok(None) | Err(PriceFault::LabelLimit | PriceFault::PriceRange) => {
             worker.reprice(number, leaf)
         }
