@@ -1,5 +1,5 @@
 -- Swaps of chains as two exchanges of ends.
-use Rattle.std.proofs.Common.{◌≡◌, sym, ap, subst, ◌∙◌, ℕ, ◌+◌, ◌*◌, ◌<◌, ◌≤◌, true, List, length, take, drop, arith, inl, inr}
+use Rattle.std.proofs.Common.{◌≡◌, sym, subst, ◌∙◌, ℕ, ◌+◌, ◌*◌, ◌<◌, ◌≤◌, true, List, length, take, drop, arith, inl, inr}
 use Rattle.std.specs.Prelude.{ℤ, pos, ◌+ℤ◌, ◌-ℤ◌, ◌≤ℤ◌}
 use Rattle.std.proofs.lemmas.Int.{ints}
 use Rattle.std.proofs.lemmas.Bool.{cases_lt}
@@ -9,6 +9,7 @@ use Rattle.solomon_reader.specs.declared.limits.TheConstants.{MOST_DISTANCE}
 use Rattle.segments.specs.Segments.{first_of, last_from}
 use Rattle.gains.specs.declared.cuts.Cut.{Cut}
 use Rattle.gains.specs.Cuts.{cut_at, change_apart, front_change, rear_change}
+use Rattle.gains.specs.Gaps.{MayFollow, MayPrecede}
 use Rattle.gains.proofs.CutStops.{first_dropped, before_position, first_position, last_position, some_position}
 use Rattle.gains.proofs.ShiftBounds.{joint_some}
 use Rattle.gains.proofs.SwapBounds.{low_enough}
@@ -36,44 +37,61 @@ pub record LeastSoFar (p : Problem) (r : List ℕ) (c : Cut) (most n : ℕ) (x o
   pub two_high : two ≤ℤ pos (2 * MOST_DISTANCE)
   pub three_low : pos 0 ≤ℤ (three +ℤ pos (2 * MOST_DISTANCE))
   pub three_high : three ≤ℤ pos (2 * MOST_DISTANCE)
-  pub at_one : (k : ℕ) → k + 1 ≡ n → one ≤ℤ front_change p r c k
-  pub at_two : (k : ℕ) → k + 2 ≡ n → two ≤ℤ front_change p r c k
-  pub at_three : (k : ℕ) → k + 3 ≡ n → three ≤ℤ front_change p r c k
-  pub swaps : (j m : ℕ) → 1 ≤ m → m ≤ most → j + m < n → j + m ≤ length r → x ≤ℤ change_apart p c (cut_at r j m)
+  pub at_one : (k : ℕ) → k + 1 ≡ n → MayFollow p r k c → one ≤ℤ front_change p r c k
+  pub at_two : (k : ℕ) → k + 2 ≡ n → MayFollow p r k c → two ≤ℤ front_change p r c k
+  pub at_three : (k : ℕ) → k + 3 ≡ n → MayFollow p r k c → three ≤ℤ front_change p r c k
+  pub swaps : (j m : ℕ) → 1 ≤ m → m ≤ most → j + m < n → j + m ≤ length r → MayFollow p r j c → MayPrecede p r (j + m) c → x ≤ℤ change_apart p c (cut_at r j m)
 
-ends_below : (y best b f q : ℤ) → y ≤ℤ (best +ℤ b) → best ≤ℤ f → b ≡ q → y ≤ℤ (f +ℤ q)
-ends_below y best b f q h k e = omega (arith, ints)
+-- y is at most the least of the swaps that end at a gap whose change behind the chain is b
+pub record IsLow (most : ℕ) (y one two three b : ℤ) : Type 0 where
+  pub with_one : y ≤ℤ (one +ℤ b)
+  pub with_two : 2 ≤ most → y ≤ℤ (two +ℤ b)
+  pub with_three : 2 ≤ most → y ≤ℤ (three +ℤ b)
+
+-- by the least of these sums
+pub low_sum : (most : ℕ) (y one two three b best : ℤ) → y ≤ℤ (best +ℤ b) → best ≤ℤ one → (2 ≤ most → best ≤ℤ two) → (2 ≤ most → best ≤ℤ three) → IsLow most y one two three b
+low_sum most y one two three b best h k two_low three_low = record {
+  with_one = omega (arith, ints, h, k);
+  with_two = λ more. let low = two_low more in omega (arith, ints, h, low);
+  with_three = λ more. let low = three_low more in omega (arith, ints, h, low);
+}
+
+ends_below : (y one b f : ℤ) → y ≤ℤ (one +ℤ b) → one ≤ℤ f → y ≤ℤ (f +ℤ b)
+ends_below y one b f h k = omega (arith, ints)
 
 -- one gap more
-pub so_far_next : (p : Problem) (r : List ℕ) (c : Cut) (most n : ℕ) (x one two three y best f b : ℤ) → c.some ≡ true → most ≤ 3
-    → f ≡ front_change p r c n → b ≡ rear_change p r c n → pos 0 ≤ℤ (f +ℤ pos (2 * MOST_DISTANCE)) → f ≤ℤ pos (2 * MOST_DISTANCE)
-    → best ≤ℤ one → (2 ≤ most → best ≤ℤ two) → (2 ≤ most → best ≤ℤ three) → y ≤ℤ x → y ≤ℤ (best +ℤ b)
+pub so_far_next : (p : Problem) (r : List ℕ) (c : Cut) (most n : ℕ) (x one two three y f : ℤ) → c.some ≡ true → most ≤ 3
+    → (MayFollow p r n c → f ≡ front_change p r c n) → pos 0 ≤ℤ (f +ℤ pos (2 * MOST_DISTANCE)) → f ≤ℤ pos (2 * MOST_DISTANCE)
+    → y ≤ℤ x → (MayPrecede p r n c → IsLow most y one two three (rear_change p r c n))
     → LeastSoFar p r c most n x one two three → LeastSoFar p r c most (n + 1) y f one two
-so_far_next p r c most n x one two three y best f b some few front rear low high best_one best_two best_three less here h = record {
+so_far_next p r c most n x one two three y f some few front low high less here h = record {
   one_low = low;
   one_high = high;
   two_low = h.one_low;
   two_high = h.one_high;
   three_low = h.two_low;
   three_high = h.two_high;
-  at_one = λ k e. let same : k ≡ n = omega (arith, e) in subst (λ z. f ≤ℤ front_change p r c z) (sym same) (subst (λ z. f ≤ℤ z) front (omega (arith, ints)));
+  at_one = λ k e follow.
+      let same : n ≡ k = omega (arith, e) in
+      let is : f ≡ front_change p r c n = front (subst (λ i. MayFollow p r i c) (sym same) follow) in
+      subst (λ z. f ≤ℤ front_change p r c z) same (subst (λ z. f ≤ℤ z) is (omega (arith, ints)));
   at_two = λ k e. h.at_one k (omega (arith, e));
   at_three = λ k e. h.at_two k (omega (arith, e));
-  swaps = λ j m from to below fits. elim (cases_lt (j + m) n) [
-    | inl earlier ↦ low_enough y x (change_apart p c (cut_at r j m)) less (h.swaps j m from to earlier fits)
+  swaps = λ j m from to below fits follow precede. elim (cases_lt (j + m) n) [
+    | inl earlier ↦ low_enough y x (change_apart p c (cut_at r j m)) less (h.swaps j m from to earlier fits follow precede)
     | inr past ↦
         let e : n ≡ j + m = omega (arith, below, past) in
-        let rear_at : b ≡ rear_change p r c (j + m) = rear ∙ ap (rear_change p r c) e in
-        let front_at : best ≤ℤ front_change p r c j = fronts j m e from to in
-        subst (λ v. y ≤ℤ v) (sym (two_ends p r c some j m (omega (arith, from)) fits)) (ends_below y best b (front_change p r c j) (rear_change p r c (j + m)) here front_at rear_at)
+        let ends = subst (λ k. IsLow most y one two three (rear_change p r c k)) e (here (subst (λ k. MayPrecede p r k c) (sym e) precede)) in
+        subst (λ v. y ≤ℤ v) (sym (two_ends p r c some j m (omega (arith, from)) fits)) (fronts j m e from to follow ends)
   ];
 }
   where
-    fronts : (j m : ℕ) → n ≡ j + m → 1 ≤ m → m ≤ most → best ≤ℤ front_change p r c j
-    fronts j m e from to = elim (cases_lt m 2) [
-      | inl first ↦ low_enough best one (front_change p r c j) best_one (h.at_one j (omega (arith, e, from, first)))
+    fronts : (j m : ℕ) → n ≡ j + m → 1 ≤ m → m ≤ most → MayFollow p r j c → IsLow most y one two three (rear_change p r c (j + m))
+        → y ≤ℤ (front_change p r c j +ℤ rear_change p r c (j + m))
+    fronts j m e from to follow ends = elim (cases_lt m 2) [
+      | inl first ↦ ends_below y one (rear_change p r c (j + m)) (front_change p r c j) ends.with_one (h.at_one j (omega (arith, e, from, first)) follow)
       | inr more ↦ elim (cases_lt m 3) [
-        | inl second ↦ low_enough best two (front_change p r c j) (best_two (omega (arith, more, to))) (h.at_two j (omega (arith, e, more, second)))
-        | inr third ↦ low_enough best three (front_change p r c j) (best_three (omega (arith, more, to))) (h.at_three j (omega (arith, e, third, to, few)))
+        | inl second ↦ ends_below y two (rear_change p r c (j + m)) (front_change p r c j) (ends.with_two (omega (arith, more, to))) (h.at_two j (omega (arith, e, more, second)) follow)
+        | inr third ↦ ends_below y three (rear_change p r c (j + m)) (front_change p r c j) (ends.with_three (omega (arith, more, to))) (h.at_three j (omega (arith, e, third, to, few)) follow)
       ]
     ]

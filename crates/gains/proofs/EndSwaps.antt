@@ -7,7 +7,10 @@ use Rattle.std.proofs.lemmas.List.{get_or_past}
 use Rattle.solomon_reader.specs.Problem.{Problem}
 use Rattle.solomon_reader.specs.Distance.{distance}
 use Rattle.solomon_reader.specs.Moves.{route, part}
+use Rattle.solomon_reader.specs.Layout.{IsWithinLimits}
+use Rattle.solomon_reader.specs.Plan.{IsPlan}
 use Rattle.segments.specs.Segments.{first_of, last_from}
+use Rattle.segments.specs.Statements.{SegmentLaws}
 use Rattle.moves.specs.declared.candidate.Chain.{Chain}
 use Rattle.moves.specs.declared.candidate.Move.{Move}
 use Rattle.moves.specs.declared.candidate.Kind.{Kind}
@@ -15,12 +18,15 @@ use Rattle.moves.specs.declared.candidate.Kind.TheVariants as kind
 use Rattle.moves.specs.Order.{kind_of}
 use Rattle.moves.specs.Search.{numbers}
 use Rattle.moves.specs.Values.{HasValue}
+use Rattle.moves.proofs.Swaps.{ends}
 use Rattle.gains.specs.declared.cuts.Cut.{Cut}
-use Rattle.gains.specs.Cuts.{IsCut, cut_at, joint_of, change_apart, ends_change, front_change, IsLeastEndSwap}
+use Rattle.gains.specs.Cuts.{IsCut, cut_at, joint_of, change_apart, ends_change, front_change}
+use Rattle.gains.specs.Gaps.{IsLeastEndSwap}
 use Rattle.gains.specs.Gains.{Starts, IsFirstCut, IsEndsKind, first_taken, second_taken}
 use Rattle.gains.proofs.CutStops.{first_dropped, first_position, some_position, nothing_first}
 use Rattle.gains.proofs.MoveChanges.{start_stands, second_stands, value_apart}
-use Rattle.gains.proofs.PassedRoutes.{all_numbers}
+use Rattle.gains.proofs.PassedRoutes.{all_numbers, numbers_fit}
+use Rattle.gains.proofs.Timeliness.{meets_gap}
 
 joint_some : (p : Problem) (x : ℕ) (c : Cut) (y : ℕ) → c.some ≡ true → joint_of p x c y ≡ distance p x c.first + distance p c.last y
 joint_some p x c y h = rw h refl
@@ -90,25 +96,30 @@ taken_second kind.OrOpt l left h = absurd h
 taken_second kind.TwoOptStar l left h = refl
 taken_second kind.Cross l left h = absurd h
 
-pub no_end_is_better : (p : Problem) (routes : List (List ℕ)) (k : Kind) (f : Chain) (b : ℕ) (c : Cut) (x : ℤ) → IsEndsKind k → f.route ≢ b → IsFirstCut routes k f c
-    → IsLeastEndSwap p (route routes b) c x
-    → (n : Move) (u : ℤ) → kind_of n ≡ k → Starts (f.route ∷ f.position ∷ f.length ∷ []) (numbers n) → Starts (f.route ∷ f.position ∷ f.length ∷ b ∷ []) (numbers n) → HasValue p routes n u → x ≤ℤ u
-no_end_is_better p routes k f b c x ends apart first swaps n u e t s h =
-    let second : Chain = record { route = b; position = get_or (numbers n) 4 0; length = get_or (numbers n) 5 0 } in
-    let is = all_numbers n f.route f.position f.length b s in
-    let q = route routes b in
-    let r = route routes f.route in
-    let j = get_or (numbers n) 4 0 in
-    let taken : second_taken k second.length (length q - j) ≡ length q - j = taken_second k second.length (length q - j) ends in
-    let own : first_taken k f.length (length r - f.position) ≡ length r - f.position = taken_first k f.length (length r - f.position) ends in
-    let d = cut_at q j (second_taken k second.length (length q - j)) in
-    let hd : IsCut q j (second_taken k second.length (length q - j)) d = record { before = refl; some = refl; first = refl; last = refl; behind = refl } in
-    let value : u ≡ change_apart p c d = value_apart p routes k n f second u e is apart h c d first hd in
-    let stands : j + (length q - j) ≤ length q = rw taken at (second_stands p routes k n f second u e is apart h) in
-    let there : f.position + (length r - f.position) ≤ length r = rw own at (start_stands p routes k n f u e t h) in
-    let hc : IsCut r f.position (length r - f.position) c = rw own at first in
-    let he : IsCut q j (length q - j) d = subst (λ l. IsCut q j l d) taken hd in
-    let exact = ends_exact p c d (end_behind r f.position c there hc) (end_behind q j d stands he) (end_first r f.position c there hc) (end_first q j d stands he) in
-    let gap : ends_change p c.before c.first d.before d.first ≡ front_change p q c j
-    = ap (λ z. ends_change p c.before c.first (last_from 0 (take j q)) z) (ap (λ l. first_of (part q j l)) taken ∙ first_end q j (omega (arith, stands))) in
-    subst (λ v. x ≤ℤ v) (sym (value ∙ exact ∙ gap)) (swaps j (omega (arith, stands)))
+module _ (p : Problem) (laws : SegmentLaws) (limits : IsWithinLimits p) (routes : List (List ℕ)) (k : Kind) (f : Chain) (b : ℕ) (c : Cut) (x : ℤ) (plan : IsPlan p routes) (kind : IsEndsKind k) (ne : f.route ≢ b)
+    (first : IsFirstCut routes k f c) (least : IsLeastEndSwap p (route routes f.route) f.position c (route routes b) x) where
+  -- no exchange of ends from a chain on changes the cost by less than the least
+  pub no_end_is_better : (n : Move) (u : ℤ) → kind_of n ≡ k → Starts (f.route ∷ f.position ∷ f.length ∷ []) (numbers n) → Starts (f.route ∷ f.position ∷ f.length ∷ b ∷ []) (numbers n) → HasValue p routes n u → x ≤ℤ u
+  no_end_is_better n u e t s h =
+      let j = get_or (numbers n) 4 0 in
+      let second : Chain = record { route = b; position = j; length = get_or (numbers n) 5 0 } in
+      let is = all_numbers n f.route f.position f.length b s in
+      let q = route routes b in
+      let r = route routes f.route in
+      let taken : second_taken k second.length (length q - j) ≡ length q - j = taken_second k second.length (length q - j) kind in
+      let own : first_taken k f.length (length r - f.position) ≡ length r - f.position = taken_first k f.length (length r - f.position) kind in
+      let d = cut_at q j (second_taken k second.length (length q - j)) in
+      let hd : IsCut q j (second_taken k second.length (length q - j)) d = record { before = refl; some = refl; first = refl; last = refl; behind = refl } in
+      let value : u ≡ change_apart p c d = value_apart p routes k n f second u e is ne h c d first hd in
+      let stands : j + (length q - j) ≤ length q = rw taken at (second_stands p routes k n f second u e is ne h) in
+      let there : f.position + (length r - f.position) ≤ length r = rw own at (start_stands p routes k n f u e t h) in
+      let hc : IsCut r f.position (length r - f.position) c = rw own at first in
+      let he : IsCut q j (length q - j) d = subst (λ l. IsCut q j l d) taken hd in
+      let exact = ends_exact p c d (end_behind r f.position c there hc) (end_behind q j d stands he) (end_first r f.position c there hc) (end_first q j d stands he) in
+      let gap : ends_change p c.before c.first d.before d.first ≡ front_change p q c j
+      = ap (λ z. ends_change p c.before c.first (last_from 0 (take j q)) z) (ap (λ l. first_of (part q j l)) taken ∙ first_end q j (omega (arith, stands))) in
+      let in_r : f.position ≤ length r = omega (arith, there) in
+      let in_q : j ≤ length q = omega (arith, stands) in
+      let fits = rw (own, taken, ends r q f.position j in_r, ends q r j f.position in_q) at (numbers_fit p routes k n f second u plan e is ne h) in
+      subst (λ v. x ≤ℤ v) (sym (value ∙ exact ∙ gap))
+      (least j in_q (λ g w one other. meets_gap p laws limits r f.position q j g w in_r one other fits.0) (λ g w one other. meets_gap p laws limits q j r f.position g w in_q one other fits.1))

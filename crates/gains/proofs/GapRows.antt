@@ -18,7 +18,7 @@ use Rattle.moves.proofs.JoinedStops.{piece_is}
 use Rattle.gains.specs.declared.cuts.Cut.{Cut}
 use Rattle.gains.specs.declared.route_gaps.Gap.{Gap}
 use Rattle.gains.specs.Cuts.{cut_at, change_apart}
-use Rattle.gains.specs.Gaps.{IsGap, AreGaps, MayStand}
+use Rattle.gains.specs.Gaps.{IsGap, AreGaps, MayFollow, MayPrecede, IsLeastSwap}
 use Rattle.gains.proofs.SwapBounds.{low_enough, cut_is}
 
 -- one gap more
@@ -59,7 +59,14 @@ rows_next p routes rows v n long are is a =
 
 -- what a search through the gaps has found before gap k
 abbrev pub LeastBefore : Problem → List ℕ → Cut → ℕ → ℤ → Type 0
-LeastBefore p r c k x = (i : ℕ) → i < k → MayStand p r i c → x ≤ℤ change_apart p c (cut_at r i 0)
+LeastBefore p r c k x = (i : ℕ) → i < k → MayFollow p r i c → MayPrecede p r i c → x ≤ℤ change_apart p c (cut_at r i 0)
+
+-- all gaps were looked at
+pub all_gaps : (p : Problem) (r : List ℕ) (c : Cut) (n : ℕ) (x : ℤ) → n ≡ length r + 1 → LeastBefore p r c n x → IsLeastSwap p r c 0 0 x
+all_gaps p r c n x count least i l low high fits follow precede =
+    let none : 0 ≡ l = omega (arith, high) in
+    let here : i + l ≡ i = omega (arith, high) in
+    subst (λ m. x ≤ℤ change_apart p c (cut_at r i m)) none (least i (omega (arith, count, fits)) follow (subst (λ k. MayPrecede p r k c) here precede))
 
 -- what stands round no stop in a gap
 abbrev pub gap_cut : Gap → Cut
@@ -73,8 +80,8 @@ module _ (p : Problem) (r : List ℕ) (c : Cut) (k : ℕ) (g : Gap) (gap : IsGap
 
   -- a gap is taken
   pub gap_taken : (x y : ℤ) → LeastBefore p r c k x → y ≤ℤ x → y ≤ℤ change_apart p c (gap_cut g) → LeastBefore p r c (k + 1) y
-  gap_taken x y h less here i below stands = elim (cases_lt i k) [
-    | inl earlier ↦ low_enough y x (change_apart p c (cut_at r i 0)) less (h i earlier stands)
+  gap_taken x y h less here i below follow precede = elim (cases_lt i k) [
+    | inl earlier ↦ low_enough y x (change_apart p c (cut_at r i 0)) less (h i earlier follow precede)
     | inr past ↦
         let e : k ≡ i = omega (arith, below, past) in
         subst (λ m. y ≤ℤ change_apart p c (cut_at r m 0)) e (subst (λ q. y ≤ℤ change_apart p c q) gap_is here)
@@ -82,11 +89,12 @@ module _ (p : Problem) (r : List ℕ) (c : Cut) (k : ℕ) (g : Gap) (gap : IsGap
 
   -- a gap is passed over where the chain may not stand
   pub gap_passed : (x : ℤ) → LeastBefore p r c k x → ((g.leaves ≤ℤ pos (due p c.first)) → (pos (ready p c.last + service p c.last) ≤ℤ g.latest) → ⊥) → LeastBefore p r c (k + 1) x
-  gap_passed x h closed i below stands = elim (cases_lt i k) [
-    | inl earlier ↦ h i earlier stands
+  gap_passed x h closed i below follow precede = elim (cases_lt i k) [
+    | inl earlier ↦ h i earlier follow precede
     | inr past ↦
         let e : k ≡ i = omega (arith, below, past) in
-        let t = stands g (subst (λ m. IsGap p r m g) e gap) in absurd (closed t.0 t.1)
+        let here = subst (λ m. IsGap p r m g) e gap in
+        absurd (closed (follow g here) (precede g here))
   ]
 
 -- the stops of a plan's route before a position, and from there on, by the spans of its tree

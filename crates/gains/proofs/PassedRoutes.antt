@@ -12,21 +12,19 @@ use Rattle.moves.specs.declared.candidate.Chain.{Chain}
 use Rattle.moves.specs.declared.candidate.Move.{Move}
 use Rattle.moves.specs.declared.candidate.Move.TheVariants.{Relocate, Exchange, OrOpt, TwoOptStar, Cross}
 use Rattle.moves.specs.declared.candidate.Kind.{Kind}
-use Rattle.moves.specs.declared.candidate.Kind.TheVariants as kind
 use Rattle.moves.specs.Order.{kind_of}
 use Rattle.moves.specs.Search.{numbers}
-use Rattle.moves.specs.Values.{HasValue, IsWellFormed, after}
-use Rattle.moves.specs.Changes.{IsEmptyOrFitting, swapped}
+use Rattle.moves.specs.Values.{HasValue, IsWellFormed}
+use Rattle.moves.specs.Changes.{IsEmptyOrFitting, swapped, rebuilt}
 use Rattle.moves.proofs.Rebuilding.{rebuilt_parts}
-use Rattle.moves.proofs.Swaps.{swap_rebuilds, or_opt_later_is, or_opt_earlier_is, position_apart_from}
+use Rattle.moves.proofs.Swaps.{swap_rebuilds, or_opt_later_is, or_opt_earlier_is, position_apart_from, exchange_apart_is, two_opt_star_is, cross_is}
 use Rattle.gains.specs.declared.cuts.Cut.{Cut}
-use Rattle.gains.specs.declared.route_gaps.Gap.{Gap}
-use Rattle.gains.specs.Cuts.{IsCut, cut_at, change_apart, AreKnownCuts, IsLeastSwap}
-use Rattle.gains.specs.Gaps.{IsLeastDetour}
-use Rattle.gains.specs.Gains.{Starts, IsFirstCut, IsShiftKind, TakesBetween, first_taken, second_taken, taken_chain}
+use Rattle.gains.specs.Cuts.{cut_at, change_apart, AreKnownCuts}
+use Rattle.gains.specs.Gaps.{IsLeastSwap}
+use Rattle.gains.specs.Gains.{Starts, IsFirstCut, TakesBetween, first_taken, second_taken, taken_chain, first_chain_of, second_chain_of}
 use Rattle.gains.proofs.CutStops.{known_cut}
-use Rattle.gains.proofs.MoveChanges.{first_chain, second_chain, second_stands, value_apart, or_opt_of}
-use Rattle.gains.proofs.Timeliness.{timely}
+use Rattle.gains.proofs.MoveChanges.{first_chain, second_chain, start_stands, second_stands, value_apart}
+use Rattle.gains.proofs.Timeliness.{follows_gap, precedes_gap}
 
 pub known_cuts : (p : Problem) (routes : List (List ℕ)) (b : ℕ) → IsPlan p routes → AreKnownCuts p (route routes b)
 known_cuts p routes b plan i l fits = known_cut p routes b i l (cut_at (route routes b) i l) plan (record { before = refl; some = refl; first = refl; last = refl; behind = refl })
@@ -48,70 +46,92 @@ count_within routes (TwoOptStar f t) low high left h w = absurd h
 count_within routes (Cross f t) low high left h w =
     let e : low ≡ 1 = h.0 in let g : high ≡ 3 = h.1 in let some = w.second_some in let few = w.second_few in (omega arith, omega arith)
 
-pub none_is_better : (p : Problem) (routes : List (List ℕ)) (k : Kind) (f : Chain) (b : ℕ) (c : Cut) (low high : ℕ) (x : ℤ) → f.route ≢ b → TakesBetween k low high → IsFirstCut routes k f c
-    → IsLeastSwap p (route routes b) c low high x
-    → (n : Move) (u : ℤ) → kind_of n ≡ k → Starts (f.route ∷ f.position ∷ f.length ∷ b ∷ []) (numbers n) → HasValue p routes n u → x ≤ℤ u
-none_is_better p routes k f b c low high x apart takes first swaps n u e s h =
-    let second : Chain = record { route = b; position = get_or (numbers n) 4 0; length = get_or (numbers n) 5 0 } in
-    let is = all_numbers n f.route f.position f.length b s in
-    let left = length (route routes b) - get_or (numbers n) 4 0 in
-    let count = second_taken k (get_or (numbers n) 5 0) left in
-    let within = subst (λ q. (low ≤ second_taken q (get_or (numbers n) 5 0) left) × (second_taken q (get_or (numbers n) 5 0) left ≤ high)) e
-    (count_within routes n low high left (subst (λ q. TakesBetween q low high) (sym e) takes) h.well_formed) in
-    let stands = second_stands p routes k n f second u e is apart h in
-    let d = cut_at (route routes b) (get_or (numbers n) 4 0) count in
-    let value : u ≡ change_apart p c d = value_apart p routes k n f second u e is apart h c d first (record { before = refl; some = refl; first = refl; last = refl; behind = refl }) in
-    subst (λ v. x ≤ℤ v) (sym value) (swaps (get_or (numbers n) 4 0) count within.0 within.1 stands)
+-- the chain that such a move takes first has a stop
+some_first : (routes : List (List ℕ)) (n : Move) (low high : ℕ) → TakesBetween (kind_of n) low high → IsWellFormed routes n → 0 < (first_chain_of routes n).length
+some_first routes (Relocate f t) low high h w = omega arith
+some_first routes (Exchange f t) low high h w = omega arith
+some_first routes (OrOpt c t) low high h w = omega (arith, w.some)
+some_first routes (TwoOptStar f t) low high h w = absurd h
+some_first routes (Cross f t) low high h w = omega (arith, w.first_some)
 
-shift_counts : (k : Kind) (l left : ℕ) → IsShiftKind k → second_taken k l left ≡ 0
-shift_counts kind.Relocate l left h = refl
-shift_counts kind.Exchange l left h = absurd h
-shift_counts kind.OrOpt l left h = refl
-shift_counts kind.TwoOptStar l left h = absurd h
-shift_counts kind.Cross l left h = absurd h
+-- the two routes of a swap are empty or fit
+abbrev AreFitting : Problem → List (List ℕ) → ℕ → ℕ → ℕ → ℕ → ℕ → ℕ → Type 0
+AreFitting p routes a i l b j m = IsEmptyOrFitting p (swapped (route routes a) i l (route routes b) j m) × IsEmptyOrFitting p (swapped (route routes b) j m (route routes a) i l)
 
--- a route that a chain goes into fits, where a plan is left
-fits_into : (p : Problem) (routes : List (List ℕ)) (a i l b j : ℕ) → a ≢ b → IsPlan p routes → IsOrOpt routes a i l b j → IsPlan p (after_or_opt routes a i l b j)
-    → IsEmptyOrFitting p (swapped (route routes b) j 0 (route routes a) i l)
-fits_into p routes a i l b j ne plan w new =
+later_fits : (p : Problem) (routes : List (List ℕ)) (a i l b j m : ℕ) (new : List (List ℕ)) → IsPlan p routes → a < b → b ≤ length routes
+    → i + l ≤ length (route routes a) → j + m ≤ length (route routes b)
+    → new ≡ rebuilt routes a (swapped (route routes a) i l (route routes b) j m) b (swapped (route routes b) j m (route routes a) i l) → IsPlan p new → AreFitting p routes a i l b j m
+later_fits p routes a i l b j m new plan order known first second is h =
+    let parts = rebuilt_parts p routes a (swapped (route routes a) i l (route routes b) j m) b (swapped (route routes b) j m (route routes a) i l)
+    (swap_rebuilds routes a i l b j m order known first second) plan (subst (IsPlan p) is h) in
+    (parts.0, parts.1)
+
+or_opt_fits : (p : Problem) (routes : List (List ℕ)) (a i l b j : ℕ) → a ≢ b → IsPlan p routes → IsOrOpt routes a i l b j → IsPlan p (after_or_opt routes a i l b j) → AreFitting p routes a i l b j 0
+or_opt_fits p routes a i l b j ne plan w new =
     let h = position_apart_from routes a i l b j w.known w.to ne w.before in
     elim (cases_lt a b) [
-      | inl less ↦ (rebuilt_parts p routes a (swapped (route routes a) i l (route routes b) j 0) b (swapped (route routes b) j 0 (route routes a) i l)
-          (swap_rebuilds routes a i l b j 0 less w.to w.chain (omega arith)) plan (subst (IsPlan p) (or_opt_later_is routes a i l b j w less) new)).1
+      | inl less ↦ later_fits p routes a i l b j 0 (after_or_opt routes a i l b j) plan less w.to w.chain (omega arith) (or_opt_later_is routes a i l b j w less) new
       | inr more ↦
           let order : b < a = grind arith in
-          (rebuilt_parts p routes b (swapped (route routes b) j 0 (route routes a) i l) a (swapped (route routes a) i l (route routes b) j 0)
-          (swap_rebuilds routes b j 0 a i l order (omega (arith, w.known)) (omega arith) w.chain) plan (subst (IsPlan p) (or_opt_earlier_is routes a i l b j w order) new)).0
+          let both = later_fits p routes b j 0 a i l (after_or_opt routes a i l b j) plan order (omega (arith, w.known)) (omega arith) w.chain (or_opt_earlier_is routes a i l b j w order) new in
+          (both.1, both.0)
     ]
 
--- no move that puts the chain into another route is less than the least detour
-pub no_detour_is_less : (p : Problem) (laws : SegmentLaws) (limits : IsWithinLimits p) (routes : List (List ℕ)) (k : Kind) (f : Chain) (b : ℕ) (gaps : List Gap) (c : Cut) (x : ℤ) → IsPlan p routes
-    → f.route ≢ b → IsShiftKind k → IsFirstCut routes k f c → length gaps ≡ length (route routes b) + 1 → IsLeastDetour p (route routes b) gaps c x
-    → (n : Move) (u : ℤ) → kind_of n ≡ k → Starts (f.route ∷ f.position ∷ f.length ∷ b ∷ []) (numbers n) → HasValue p routes n u → x ≤ℤ u
-no_detour_is_less p laws limits routes k f b gaps c x plan apart shifts first count least n u e s h =
-    let j = get_or (numbers n) 4 0 in
-    let second : Chain = record { route = b; position = j; length = get_or (numbers n) 5 0 } in
-    let is = all_numbers n f.route f.position f.length b s in
-    let r = route routes b in
-    let left = length r - j in
-    let none : second_taken k second.length left ≡ 0 = shift_counts k second.length left shifts in
-    let own = taken_chain routes (first_taken k) f in
-    let w : IsOrOpt routes f.route f.position own.length b j × (after routes n ≡ after_or_opt routes f.route f.position own.length b j)
-    = rw (first_chain routes k n f second e is, second_chain routes k n f second e is) at (or_opt_of routes n (subst IsShiftKind (sym e) shifts) h.well_formed) in
-    let stands : j ≤ length r = position_apart_from routes f.route f.position own.length b j w.0.known w.0.to apart w.0.before in
-    let value : u ≡ change_apart p c (cut_at r j 0)
-    = value_apart p routes k n f second u e is apart h c (cut_at r j 0) first (subst (λ m. IsCut r j m (cut_at r j 0)) (sym none) (record { before = refl; some = refl; first = refl; last = refl; behind = refl })) in
-    let chain = part (route routes f.route) f.position own.length in
-    let long : length chain ≡ own.length = omega (arith, length-take own.length (drop f.position (route routes f.route)), length-drop f.position (route routes f.route), w.0.chain) in
-    let some : 0 < length chain = omega (arith, long, w.0.some) in
-    let fits = fitting chain some (fits_into p routes f.route f.position own.length b j apart plan w.0 (subst (IsPlan p) w.1 h.plan)) in
-    subst (λ v. x ≤ℤ v) (sym value)
-    (least j (omega (arith, count, stands)) (λ g gap. let t = timely p laws limits r j stands g gap chain some fits in rw (first.first, first.last) t))
-  where
-    fitting : (q : List ℕ) → 0 < length q → IsEmptyOrFitting p (take (get_or (numbers n) 4 0) (route routes b) ++ q ++ drop (get_or (numbers n) 4 0 + 0) (route routes b))
-        → IsFitting p (take (get_or (numbers n) 4 0) (route routes b) ++ q ++ drop (get_or (numbers n) 4 0 + 0) (route routes b))
-    fitting q some (inr f) = f
-    fitting q some (inl empty) =
-        let v = get_or (numbers n) 4 0 in
-        let r = route routes b in
-        absurd (omega (arith, empty, some, length-append (take v r ++ q) (drop (v + 0) r), length-append (take v r) q))
+-- where a move between two routes leaves a plan, both fit
+pub move_fits : (p : Problem) (routes : List (List ℕ)) (n : Move) (v : ℤ) → IsPlan p routes → (first_chain_of routes n).route ≢ (second_chain_of routes n).route → HasValue p routes n v
+    → let c = first_chain_of routes n in let d = second_chain_of routes n in AreFitting p routes c.route c.position c.length d.route d.position d.length
+move_fits p routes (Relocate f t) v plan ne h = or_opt_fits p routes f.route f.position 1 t.route t.position ne plan h.well_formed h.plan
+move_fits p routes (OrOpt c t) v plan ne h = or_opt_fits p routes c.route c.position c.length t.route t.position ne plan h.well_formed h.plan
+move_fits p routes (Exchange f t) v plan ne h =
+    let w = h.well_formed in
+    elim w.order [
+      | inl less ↦ later_fits p routes f.route f.position 1 t.route t.position 1 _ plan less (omega (arith, w.known)) (omega (arith, w.first)) (omega (arith, w.second))
+          (exchange_apart_is routes f.route f.position t.route t.position w less) h.plan
+      | inr same ↦ absurd (ne same.0)
+    ]
+move_fits p routes (TwoOptStar f t) v plan ne h =
+    let w = h.well_formed in
+    later_fits p routes f.route f.position (length (route routes f.route) - f.position) t.route t.position (length (route routes t.route) - t.position) _ plan w.order (omega (arith, w.known))
+    (omega (arith, w.first)) (omega (arith, w.second)) (two_opt_star_is routes f.route f.position t.route t.position w) h.plan
+move_fits p routes (Cross f t) v plan ne h =
+    let w = h.well_formed in
+    later_fits p routes f.route f.position f.length t.route t.position t.length _ plan w.order (omega (arith, w.known)) w.first w.second
+    (cross_is routes f.route f.position f.length t.route t.position t.length w) h.plan
+
+-- the same by the numbers of two chains
+pub numbers_fit : (p : Problem) (routes : List (List ℕ)) (k : Kind) (n : Move) (f s : Chain) (v : ℤ) → IsPlan p routes → kind_of n ≡ k
+    → numbers n ≡ f.route ∷ f.position ∷ f.length ∷ s.route ∷ s.position ∷ s.length ∷ [] → f.route ≢ s.route → HasValue p routes n v
+    → AreFitting p routes f.route f.position (taken_chain routes (first_taken k) f).length s.route s.position (taken_chain routes (second_taken k) s).length
+numbers_fit p routes k n f s v plan e is ne h =
+    let first = first_chain routes k n f s e is in
+    let second = second_chain routes k n f s e is in
+    rw (first, second) at (move_fits p routes n v plan (rw (first, second) ne) h)
+
+module _ (p : Problem) (laws : SegmentLaws) (limits : IsWithinLimits p) (routes : List (List ℕ)) (k : Kind) (f : Chain) (b : ℕ) (c : Cut) (low high : ℕ) (x : ℤ) (plan : IsPlan p routes) (ne : f.route ≢ b)
+    (takes : TakesBetween k low high) (first : IsFirstCut routes k f c) (least : IsLeastSwap p (route routes b) c low high x) where
+  -- no move with a chain changes the cost by less than the least swap
+  pub none_is_better : (n : Move) (u : ℤ) → kind_of n ≡ k → Starts (f.route ∷ f.position ∷ f.length ∷ []) (numbers n) → Starts (f.route ∷ f.position ∷ f.length ∷ b ∷ []) (numbers n) → HasValue p routes n u → x ≤ℤ u
+  none_is_better n u e t s h =
+      let j = get_or (numbers n) 4 0 in
+      let second : Chain = record { route = b; position = j; length = get_or (numbers n) 5 0 } in
+      let is = all_numbers n f.route f.position f.length b s in
+      let r = route routes b in
+      let own = taken_chain routes (first_taken k) f in
+      let m = second_taken k second.length (length r - j) in
+      let within = subst (λ q. (low ≤ second_taken q second.length (length r - j)) × (second_taken q second.length (length r - j) ≤ high)) e
+      (count_within routes n low high (length r - j) (subst (λ q. TakesBetween q low high) (sym e) takes) h.well_formed) in
+      let stands = second_stands p routes k n f second u e is ne h in
+      let value : u ≡ change_apart p c (cut_at r j m) = value_apart p routes k n f second u e is ne h c (cut_at r j m) first (record { before = refl; some = refl; first = refl; last = refl; behind = refl }) in
+      let there : f.position + own.length ≤ length (route routes f.route) = start_stands p routes k n f u e t h in
+      let chain = part (route routes f.route) f.position own.length in
+      let stops : 0 < own.length = subst (λ (q : Chain). 0 < q.length) (first_chain routes k n f second e is) (some_first routes n low high (subst (λ q. TakesBetween q low high) (sym e) takes) h.well_formed) in
+      let some : 0 < length chain = omega (arith, stops, there, length-take own.length (drop f.position (route routes f.route)), length-drop f.position (route routes f.route)) in
+      let fits = fitting (take j r) chain (drop (j + m) r) some (numbers_fit p routes k n f second u plan e is ne h).1 in
+      subst (λ v. x ≤ℤ v) (sym value)
+      (least j m within.0 within.1 stands
+      (λ g gap. rw first.first (follows_gap p laws limits r j (omega (arith, stands)) g gap chain (drop (j + m) r) some fits))
+      (λ g gap. rw first.last (precedes_gap p laws limits r (j + m) stands g gap (take j r) chain some fits)))
+    where
+      fitting : (front q rear : List ℕ) → 0 < length q → IsEmptyOrFitting p (front ++ q ++ rear) → IsFitting p (front ++ q ++ rear)
+      fitting front q rear some (inr fits) = fits
+      fitting front q rear some (inl empty) = absurd (omega (arith, empty, some, length-append (front ++ q) rear, length-append front q))

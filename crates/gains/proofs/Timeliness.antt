@@ -1,9 +1,10 @@
 -- Where a chain may stand in time.
-use Rattle.std.proofs.Common.{◌≡◌, refl, sym, ap, subst, ◌∙◌, ℕ, ◌+◌, ◌*◌, ◌<◌, ◌≤◌, List, [], ◌∷◌, ◌++◌, length, map, take, drop, arith, inl, inr, append_assoc, length-append, length-drop}
-use Rattle.std.specs.Prelude.{ℤ, pos, ◌+ℤ◌, ◌≤ℤ◌, Option, Some, None, option_and_then}
+use Rattle.std.proofs.Common.{◌≡◌, refl, sym, ap, subst, ◌∙◌, ℕ, ◌+◌, ◌*◌, ◌<◌, ◌≤◌, List, [], ◌∷◌, ◌++◌, length, map, take, drop, arith, inl, inr, append_assoc, append-nil, length-append, length-drop}
+use Rattle.std.specs.Prelude.{ℤ, pos, ◌+ℤ◌, ◌≤ℤ◌, int_le, nat_le, Option, Some, None, option_and_then}
+use Rattle.std.specs.Int.{int_max}
 use Rattle.std.proofs.lemmas.Int.{ints, clamps}
 use Rattle.std.proofs.lemmas.Bool.{cases_lt}
-use Rattle.std.proofs.lemmas.List.{map-append, length-take}
+use Rattle.std.proofs.lemmas.List.{map-append, length-take, drop_all}
 use Rattle.std.proofs.Math.ListN.{length-map}
 use Rattle.solomon_reader.specs.Problem.{Problem, ready, due, service}
 use Rattle.solomon_reader.specs.Distance.{distance}
@@ -18,6 +19,7 @@ use Rattle.segments.specs.Joining.{join_assoc, by_le, follows_yes}
 use Rattle.segments.specs.Closing.{closed, IsCostOf}
 use Rattle.segments.specs.Statements.{SegmentLaws}
 use Rattle.moves.specs.Costs.{segment_of}
+use Rattle.moves.specs.Changes.{IsEmptyOrFitting}
 use Rattle.gains.specs.declared.route_gaps.Gap.{Gap}
 use Rattle.gains.specs.Gaps.{IsGap}
 
@@ -96,35 +98,89 @@ module _ (p : Problem) where
         both_of (Some a) (Some b) k e = let one = last_earliest i q b k in let two = (meets a b s e).earliest in omega (arith, ints, one, two)
 
     module _ (r : List ℕ) (j : ℕ) (within : j ≤ length r) (g : Gap) (gap : IsGap p r j g) where
-      not_late : (i : ℕ) (q : List ℕ) → IsFitting p (take j r ++ (i ∷ q) ++ drop (j + 0) r) → g.leaves ≤ℤ pos (due p i)
-      not_late i q fits = elim (cases_lt 0 j) [
-        | inl some ↦
-            let split : take j r ++ (i ∷ q) ++ drop (j + 0) r ≡ take j r ++ (i ∷ (q ++ drop (j + 0) r)) = append_assoc (take j r) (i ∷ q) (drop (j + 0) r) in
-            let w = parts (take j r) (i ∷ (q ++ drop (j + 0) r)) (omega (arith, length-take j r, some, within)) (omega arith) (subst (IsFitting p) split fits) in
+      -- a chain fits behind the stops before a gap
+      pub follows_gap : (c q : List ℕ) → 0 < length c → IsFitting p (take j r ++ c ++ q) → g.leaves ≤ℤ pos (due p (first_of c))
+      follows_gap [] q some fits = absurd (omega arith)
+      follows_gap (i ∷ c) q some fits = elim (cases_lt 0 j) [
+        | inl more ↦
+            let split : take j r ++ (i ∷ c) ++ q ≡ take j r ++ (i ∷ (c ++ q)) = append_assoc (take j r) (i ∷ c) q in
+            let w = parts (take j r) (i ∷ (c ++ q)) (omega (arith, length-take j r, more, within)) (omega arith) (subst (IsFitting p) split fits) in
             let one = gap.leaves.front w.one w.one_is in
-            let two = first_latest i (q ++ drop (j + 0) r) w.other w.other_is in
+            let two = first_latest i (c ++ q) w.other w.other_is in
             omega (arith, ints, one, two, w.timely)
         | inr none ↦ let low = gap.leaves.start (omega (arith, none)) in omega (arith, ints, low)
       ]
 
-      not_early : (i : ℕ) (q : List ℕ) → IsFitting p (take j r ++ (i ∷ q) ++ drop (j + 0) r) → pos (ready p (last_from i q) + service p (last_from i q)) ≤ℤ g.latest
-      not_early i q fits = elim (cases_lt j (length r)) [
-        | inl some ↦
-            let same : j + 0 ≡ j = omega arith in
-            let there = subst (λ k. IsFitting p (take j r ++ (i ∷ q) ++ drop k r)) same fits in
-            let w = parts (take j r ++ (i ∷ q)) (drop j r) (omega (arith, length-append (take j r) (i ∷ q))) (omega (arith, length-drop j r, some)) there in
-            let one = ends_late (take j r) i q w.one w.one_is in
+      -- a chain fits before those behind it
+      pub precedes_gap : (a c : List ℕ) → 0 < length c → IsFitting p (a ++ c ++ drop j r) → pos (ready p (last_of c) + service p (last_of c)) ≤ℤ g.latest
+      precedes_gap a [] some fits = absurd (omega arith)
+      precedes_gap a (i ∷ c) some fits = elim (cases_lt j (length r)) [
+        | inl more ↦
+            let w = parts (a ++ (i ∷ c)) (drop j r) (omega (arith, length-append a (i ∷ c))) (omega (arith, length-drop j r, more)) fits in
+            let one = ends_late a i c w.one w.one_is in
             let two = gap.latest.back w.other w.other_is in
             omega (arith, ints, one, two, w.timely)
         | inr past ↦
             let high = gap.latest.end (omega (arith, past)) in
-            let b = row_bounded p (last_from i q) limits in
-            let few : ready p (last_from i q) + service p (last_from i q) ≤ 20 * MOST_TIME = omega (arith, b.0.ready, b.0.service) in
+            let b = row_bounded p (last_from i c) limits in
+            let few : ready p (last_from i c) + service p (last_from i c) ≤ 20 * MOST_TIME = omega (arith, b.0.ready, b.0.service) in
             omega (arith, ints, high, few)
       ]
 
-      -- a chain that fits into a gap may stand there
-      pub timely : (c : List ℕ) → 0 < length c → IsFitting p (take j r ++ c ++ drop (j + 0) r)
-          → (g.leaves ≤ℤ pos (due p (first_of c))) × (pos (ready p (last_of c) + service p (last_of c)) ≤ℤ g.latest)
-      timely [] some fits = absurd (omega arith)
-      timely (i ∷ q) some fits = (not_late i q fits, not_early i q fits)
+    -- a fitting list is reached after the start, and left before the end
+    record Enclosed (r : List ℕ) : Type 0 where
+      whole : Summary
+      whole_is : segment_of p r ≡ Some whole
+      starts : pos 0 ≤ℤ whole.latest
+      ends : whole.earliest ≤ℤ pos (due p 0)
+
+    enclosed : (r : List ℕ) → IsFitting p r → Enclosed r
+    enclosed r fits = found (segment_of p r) refl (laws.route p r limits fits.some fits.known)
+      where
+        found : (o : Option Summary) → segment_of p r ≡ o → IsCostOf p r (option_and_then (closed p) o) → Enclosed r
+        found None e w = absurd (w fits)
+        found (Some s) e w =
+            by_le (int_le (pos (ready p 0 + distance p 0 s.first)) s.latest)
+            (λ reached. by_le (nat_le s.load p.capacity)
+            (λ small. by_le (int_le (int_max (pos (ready p 0 + distance p 0 s.first) +ℤ s.duration) s.earliest +ℤ pos (distance p s.last 0)) (pos (due p 0)))
+            (λ left. record { whole = s; whole_is = e; starts = omega (arith, ints, clamps, reached); ends = omega (arith, ints, clamps, left) })
+            (λ no. absurd ((rw (reached, small, no) at w) fits)))
+            (λ no. absurd ((rw (reached, no) at w) fits)))
+            (λ no. absurd ((rw no at w) fits))
+
+    -- the stops before a gap of a route and those behind a gap of another are in time together
+    pub meets_gap : (r : List ℕ) (i : ℕ) (q : List ℕ) (j : ℕ) (g h : Gap) → i ≤ length r → IsGap p r i g → IsGap p q j h → IsEmptyOrFitting p (take i r ++ drop j q) → g.leaves ≤ℤ h.latest
+    meets_gap r i q j g h within own other new = elim (cases_lt 0 i) [
+      | inl some ↦
+          let front : 0 < length (take i r) = omega (arith, length-take i r, some, within) in
+          let fits = fitting (omega (arith, length-append (take i r) (drop j q), front)) new in
+          elim (cases_lt j (length q)) [
+            | inl more ↦
+                let w = parts (take i r) (drop j q) front (omega (arith, length-drop j q, more)) fits in
+                let one = own.leaves.front w.one w.one_is in
+                let two = other.latest.back w.other w.other_is in
+                omega (arith, ints, one, two, w.timely)
+            | inr past ↦
+                let alone : take i r ++ drop j q ≡ take i r = ap (λ l. take i r ++ l) (drop_all j q (omega (arith, past))) ∙ append-nil (take i r) in
+                let w = enclosed (take i r) (subst (IsFitting p) alone fits) in
+                let one = own.leaves.front w.whole w.whole_is in
+                let high = other.latest.end (omega (arith, past)) in
+                let b = row_bounded p 0 limits in
+                omega (arith, ints, one, high, w.ends, b.0.due)
+          ]
+      | inr none ↦
+          let low = own.leaves.start (omega (arith, none)) in
+          elim (cases_lt j (length q)) [
+            | inl more ↦
+                let e : i ≡ 0 = omega (arith, none) in
+                let fits = subst (λ k. IsFitting p (take k r ++ drop j q)) e (fitting (omega (arith, length-append (take i r) (drop j q), length-drop j q, more)) new) in
+                let w = enclosed (drop j q) fits in
+                let two = other.latest.back w.whole w.whole_is in
+                omega (arith, ints, low, two, w.starts)
+            | inr past ↦ let high = other.latest.end (omega (arith, past)) in omega (arith, ints, low, high)
+          ]
+    ]
+      where
+        fitting : 0 < length (take i r ++ drop j q) → IsEmptyOrFitting p (take i r ++ drop j q) → IsFitting p (take i r ++ drop j q)
+        fitting some (inr f) = f
+        fitting some (inl empty) = absurd (omega (arith, empty, some))

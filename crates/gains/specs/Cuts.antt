@@ -60,14 +60,6 @@ change_within p c d =
 abbrev pub AreKnownCuts : Problem → List ℕ → Type 0
 AreKnownCuts p r = (i l : ℕ) → i + l ≤ length r → IsKnownCut p (cut_at r i l)
 
--- no swap of the chain c with low to high stops of a route changes the cost by less
-abbrev pub IsLeastSwap : Problem → List ℕ → Cut → ℕ → ℕ → ℤ → Type 0
-IsLeastSwap p r c low high x = (i l : ℕ) → low ≤ l → l ≤ high → i + l ≤ length r → x ≤ℤ change_apart p c (cut_at r i l)
-
 -- the chain c, put into any of some gaps of a route, changes the cost by no less
 abbrev pub IsLeastShift : Problem → List ℕ → Cut → ℕ → ℕ → ℤ → Type 0
 IsLeastShift p r c from to x = (i : ℕ) → from ≤ i → i < to → i ≤ length r → x ≤ℤ change_apart p c (cut_at r i 0)
-
--- no exchange of the ends from the chain c on and behind a gap of a route changes the cost by less
-abbrev pub IsLeastEndSwap : Problem → List ℕ → Cut → ℤ → Type 0
-IsLeastEndSwap p r c x = (j : ℕ) → j ≤ length r → x ≤ℤ front_change p r c j

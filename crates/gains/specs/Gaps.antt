@@ -9,7 +9,7 @@ use Rattle.moves.specs.Costs.{segment_of}
 use Rattle.gains.specs.declared.cuts.Cut.{Cut}
 use Rattle.gains.specs.declared.route_gaps.Gap.{Gap}
 use Rattle.gains.specs.declared.route_gaps.RouteGaps.{RouteGaps}
-use Rattle.gains.specs.Cuts.{cut_at, change_apart}
+use Rattle.gains.specs.Cuts.{cut_at, change_apart, front_change}
 
 -- the first k stops of a route are left no earlier
 pub record LeavesAt (p : Problem) (r : List ℕ) (k : ℕ) (x : ℤ) : Type 0 where
@@ -40,10 +40,22 @@ gap_rows t = map (λ (v : Vec Gap Global). v.items) t.rows.items
 abbrev pub AreGapsOf : Problem → List (List ℕ) → RouteGaps → Type 0
 AreGapsOf p routes t = (a : ℕ) → AreGaps p (route routes a) (slice_index_or (gap_rows t) a [])
 
--- a chain may go into gap i of a route, by the windows of its first stop and its last
-abbrev pub MayStand : Problem → List ℕ → ℕ → Cut → Type 0
-MayStand p r i c = (g : Gap) → IsGap p r i g → (g.leaves ≤ℤ pos (due p c.first)) × (pos (ready p c.last + service p c.last) ≤ℤ g.latest)
+-- a chain may stand behind the stops before gap k of a route, by the window of its first stop
+abbrev pub MayFollow : Problem → List ℕ → ℕ → Cut → Type 0
+MayFollow p r k c = (g : Gap) → IsGap p r k g → g.leaves ≤ℤ pos (due p c.first)
 
--- the chain c, put into a gap where it may stand, changes the cost by no less
-abbrev pub IsLeastDetour : Problem → List ℕ → List Gap → Cut → ℤ → Type 0
-IsLeastDetour p r gaps c x = (i : ℕ) → i < length gaps → MayStand p r i c → x ≤ℤ change_apart p c (cut_at r i 0)
+-- and before those behind it, by the window of its last stop
+abbrev pub MayPrecede : Problem → List ℕ → ℕ → Cut → Type 0
+MayPrecede p r k c = (g : Gap) → IsGap p r k g → pos (ready p c.last + service p c.last) ≤ℤ g.latest
+
+-- the stops before gap i of a route may stand before those behind gap j of another
+abbrev pub MayMeet : Problem → List ℕ → ℕ → List ℕ → ℕ → Type 0
+MayMeet p r i q j = (g h : Gap) → IsGap p r i g → IsGap p q j h → g.leaves ≤ℤ h.latest
+
+-- no swap of the chain c with low to high stops of a route, between whose neighbours it may stand, changes the cost by less
+abbrev pub IsLeastSwap : Problem → List ℕ → Cut → ℕ → ℕ → ℤ → Type 0
+IsLeastSwap p r c low high x = (i l : ℕ) → low ≤ l → l ≤ high → i + l ≤ length r → MayFollow p r i c → MayPrecede p r (i + l) c → x ≤ℤ change_apart p c (cut_at r i l)
+
+-- no exchange of the ends from the chain c on, at gap i of a route, and behind a gap of another, where both may be in time, changes the cost by less
+abbrev pub IsLeastEndSwap : Problem → List ℕ → ℕ → Cut → List ℕ → ℤ → Type 0
+IsLeastEndSwap p r i c q x = (j : ℕ) → j ≤ length q → MayMeet p r i q j → MayMeet p q j r i → x ≤ℤ front_change p q c j

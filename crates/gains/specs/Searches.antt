@@ -41,6 +41,7 @@ pub record IsOfPlan (m : Neighbourhood) : Type 0 where
   pub stops : m.stops.now ≡ route (plan_of m) m.first
   pub others : m.others.now ≡ route (plan_of m) m.second
   pub gaps : AreGaps (instance_of m) m.others.now m.gaps.now
+  pub own : AreGaps (instance_of m) m.stops.now m.own_gaps.now
 
 -- the lengths of the two chains are as a move of the kind has them, 0 where it lacks them
 abbrev pub AreLengths : Neighbourhood → Chain → Chain → Type 0

@@ -1,18 +1,18 @@
 //! What stands round a chain of a route, and what a swap of two chains changes of the cost.
 
-ghost use Rattle.std.specs.Prelude.{◌≡◌, ◌+◌, ◌*◌, ◌≤◌, ◌⊎◌, length, take, drop, slice_index_or, pos, ◌+ℤ◌, ◌≤ℤ◌, true, MatchOption};
+ghost use Rattle.std.specs.Prelude.{◌≡◌, ◌+◌, ◌*◌, ◌≤◌, ◌⊎◌, length, take, slice_index_or, pos, ◌+ℤ◌, ◌≤ℤ◌, MatchOption};
 ghost use Rattle.solomon_reader.specs.Problem.{customer_count};
 ghost use Rattle.solomon_reader.specs.Distance.{distance};
 ghost use Rattle.solomon_reader.specs.declared.limits.TheConstants.{MOST_DISTANCE};
-ghost use Rattle.segments.specs.Segments.{first_of, last_from};
-ghost use Rattle.gains.specs.Cuts.{IsCut, IsKnownCut, joint_of, change_apart, change_within, ends_change, AreKnownCuts, IsLeastSwap, IsLeastShift, IsLeastEndSwap};
+ghost use Rattle.segments.specs.Segments.{last_from};
+ghost use Rattle.gains.specs.Cuts.{IsCut, IsKnownCut, joint_of, change_apart, change_within, ends_change, AreKnownCuts, IsLeastShift};
 
 use moves::Chain;
 use solomon_reader::{Instance, MOST_DISTANCE};
 use std::ops::Range;
 
 /// What stands for a change at a gap that isn't there: no sum with it is below 0.
-const NO_FRONT: i64 = 2 * MOST_DISTANCE as i64;
+pub const NO_FRONT: i64 = 2 * MOST_DISTANCE as i64;
 
 /// The stops before, in and behind a chain of a route. The depot, 0, stands before the first stop
 /// and behind the last.
@@ -155,7 +155,7 @@ pub fn lesser(one: i64, other: i64) -> i64
 /// What the exchange of the ends behind two gaps changes of the cost, in tenths. A gap is given by the
 /// stops before and behind it.
 #[inline(always)]
-fn change_of_ends(instance: &Instance, one: (u16, u16), other: (u16, u16)) -> i64
+pub fn change_of_ends(instance: &Instance, one: (u16, u16), other: (u16, u16)) -> i64
     requires one { (one.0 ≤ customer_count instance.now) × (one.1 ≤ customer_count instance.now) }
     requires other { (other.0 ≤ customer_count instance.now) ×
         (other.1 ≤ customer_count instance.now) }
@@ -167,19 +167,9 @@ fn change_of_ends(instance: &Instance, one: (u16, u16), other: (u16, u16)) -> i6
     new - two_arcs(instance, one, other)
 }
 
-/// The stops before and behind a gap of a route, before which so many stops stand.
-#[inline(always)]
-fn gap_at(stops: &[u16], position: usize) -> (u16, u16)
-    requires { position ≤ length stops.now }
-    ensures before { result.0 ≡ last_from 0 (take position stops.now) }
-    ensures behind { result.1 ≡ first_of (drop position stops.now) }
-{
-    (stop_before(stops, position), stop_at(stops, position))
-}
-
 /// The least of the changes at the last gaps, of which as many count as stops may be swapped.
 #[inline(always)]
-fn least_front(last: (i64, i64, i64), most: usize) -> i64
+pub fn least_front(last: (i64, i64, i64), most: usize) -> i64
     ensures one { result ≤ℤ last.0 }
     ensures two { 2 ≤ most → result ≤ℤ last.1 }
     ensures three { 2 ≤ most → result ≤ℤ last.2 }
@@ -189,48 +179,6 @@ fn least_front(last: (i64, i64, i64), most: usize) -> i64
         return last.0;
     }
     lesser(lesser(last.0, last.1), last.2)
-}
-
-/// The least of what swaps of a chain with one to so many stops of a route change of the cost, in tenths,
-/// or 0, if that is less. A swap changes the cost as two exchanges of ends do, one at the front of the
-/// chain and one behind it, so that each gap of the route is looked at once.
-#[inline(always)]
-pub fn least_of_ends(instance: &Instance, stops: &[u16], chain: &Cut, most: usize) -> i64
-    requires chain { IsKnownCut instance.now chain.now }
-    requires some { chain.now.some ≡ true }
-    requires stops { AreKnownCuts instance.now stops.now }
-    requires few { most ≤ 3 }
-    ensures { IsLeastSwap instance.now stops.now chain.now 1 most result }
-{
-    let (front, rear) = ((chain.before, chain.first), (chain.last, chain.behind));
-    let mut last = (NO_FRONT, NO_FRONT, NO_FRONT);
-    let mut least = 0;
-    for position in 0..stops.len() + 1 {
-        let gap = gap_at(stops, position);
-        let behind = change_of_ends(instance, rear, gap);
-        least = lesser(least, least_front(last, most) + behind);
-        last = (change_of_ends(instance, front, gap), last.0, last.1);
-    }
-    least
-}
-
-/// A number of tenths, at most 0: no exchange of the ends from a chain on and behind a gap of a route
-/// changes the cost by less.
-#[inline(always)]
-pub fn least_end_swap(instance: &Instance, stops: &[u16], chain: &Cut) -> i64
-    requires chain { IsKnownCut instance.now chain.now }
-    requires stops { AreKnownCuts instance.now stops.now }
-    ensures { IsLeastEndSwap instance.now stops.now chain.now result }
-{
-    let front = (chain.before, chain.first);
-    let mut least = 0;
-    for position in 0..stops.len() + 1 {
-        least = lesser(
-            least,
-            change_of_ends(instance, front, gap_at(stops, position)),
-        );
-    }
-    least
 }
 
 /// The least of what a chain changes of the cost that goes into one of some gaps of a route, counted by

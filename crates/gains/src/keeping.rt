@@ -56,6 +56,10 @@ fn gain_between(
         (IsBetween kind first second) result }
 {
     let (from, into) = (usize::from(first), usize::from(second));
+    // by far the most pairs, which are left fastest so
+    if let Some(None) = kept.at(from, into).known(kind) {
+        return None;
+    }
     if let Some(found) = kept.at(from, into).known(kind) {
         return found_between(found, first, second);
     }
@@ -69,6 +73,7 @@ fn gain_between(
         stops: stops_of(routes, from),
         others: stops_of(routes, into),
         gaps: gaps.of(into),
+        own_gaps: gaps.of(from),
     };
     let found = neighbourhood.best_gain();
     entry.keep(kind, found);

@@ -4,8 +4,8 @@ use crate::route_gaps::Gap;
 use moves::Kind;
 use segments::PlanTrees;
 
-/// The moves of a kind from a route of a plan into a route, which may be the new one, with the stops of
-/// both routes and the gaps of the second.
+/// The moves of a kind from a route of a plan into a route, which may be the new one, with the stops and
+/// the gaps of both routes.
 #[derive(Clone, Copy)]
 pub struct Neighbourhood<'a, 'i> {
     pub trees: &'a PlanTrees<'i>,
@@ -18,4 +18,6 @@ pub struct Neighbourhood<'a, 'i> {
     pub others: &'a [u16],
     /// The gaps of the second route, or none where they aren't known.
     pub gaps: &'a [Gap],
+    /// The gaps of the first, likewise.
+    pub own_gaps: &'a [Gap],
 }

@@ -1,20 +1,43 @@
 //! Chains that are passed over, since no move with them is better than what was found.
 
-ghost use Rattle.std.specs.Prelude.{◌≡◌, ◌≢◌, ◌+◌, ◌≤◌, [], ◌∷◌, length, IsTrue, IfSome};
-ghost use Rattle.gains.specs.Cuts.{IsKnownCut};
+ghost use Rattle.std.specs.Prelude.{◌≡◌, ◌≢◌, ◌+◌, ◌*◌, ◌≤◌, [], ◌∷◌, length, true, pos, ◌+ℤ◌, ◌≤ℤ◌, IsTrue, IfSome};
+ghost use Rattle.solomon_reader.specs.Problem.{customer_count};
+ghost use Rattle.solomon_reader.specs.declared.limits.TheConstants.{MOST_DISTANCE};
+ghost use Rattle.gains.specs.Cuts.{IsKnownCut, ends_change};
 ghost use Rattle.gains.specs.Gains.{IsFirstCut};
-ghost use Rattle.gains.specs.Gaps.{IsLeastDetour};
+ghost use Rattle.gains.specs.Gaps.{IsLeastSwap, IsLeastEndSwap};
 ghost use Rattle.gains.specs.Searches.{instance_of, plan_of, IsOfPlan, NoneIsBetter, NoneIsLess};
 
 use crate::comparing::is_shift;
 use crate::cuts::{
-    Cut, arc, change_from, joint, least_end_swap, least_of_ends, least_shift, lesser,
+    Cut, NO_FRONT, arc, change_from, change_of_ends, joint, least_front, least_shift, lesser,
 };
 use crate::found::{Found, may_be_better};
 use crate::neighbourhood::Neighbourhood;
-use crate::route_gaps::window_of;
+use crate::route_gaps::{Gap, window_of};
 use moves::{Chain, Kind};
 use segments::laws_of_segments;
+use solomon_reader::Instance;
+
+/// What the exchange of the ends behind two gaps changes of the cost, in tenths, the first of which is
+/// given by the stops before and behind it; more than any exchange does where the stops before the second
+/// are left later than a time.
+#[inline(always)]
+fn front_change(instance: &Instance, front: (u16, u16), gap: &Gap, due: i64) -> i64
+    requires front { (front.0 ≤ customer_count instance.now) ×
+        (front.1 ≤ customer_count instance.now) }
+    requires gap { (gap.now.before ≤ customer_count instance.now) ×
+        (gap.now.behind ≤ customer_count instance.now) }
+    ensures value { gap.now.leaves ≤ℤ due → result ≡ ends_change instance.now front.0 front.1
+        gap.now.before gap.now.behind }
+    ensures low { pos 0 ≤ℤ (result +ℤ pos (2 * MOST_DISTANCE)) }
+    ensures high { result ≤ℤ pos (2 * MOST_DISTANCE) }
+{
+    if gap.leaves > due {
+        return NO_FRONT;
+    }
+    change_of_ends(instance, front, (gap.before, gap.behind))
+}
 
 impl Neighbourhood<'_, '_> {
     /// Whether the changes of cost tell that no move that puts this first chain elsewhere in its route is
@@ -48,9 +71,8 @@ impl Neighbourhood<'_, '_> {
     fn least_detour(&self, chain: &Cut) -> i64
         requires plan { IsOfPlan self.now }
         requires chain { IsKnownCut (instance_of self.now) chain.now }
-        requires few { length self.now.gaps.now ≤ length self.now.others.now + 1 }
-        ensures { IsLeastDetour (instance_of self.now) self.now.others.now self.now.gaps.now
-            chain.now result }
+        requires all { length self.now.gaps.now ≡ length self.now.others.now + 1 }
+        ensures { IsLeastSwap (instance_of self.now) self.now.others.now chain.now 0 0 result }
     {
         let instance = self.trees.instance();
         let (due, left) = window_of(instance, chain);
@@ -72,6 +94,60 @@ impl Neighbourhood<'_, '_> {
         least
     }
 
+    /// The least of what swaps of a chain with one to so many stops of the second route change of the cost,
+    /// where it may be in time, in tenths, or 0, if that is less. A swap changes the cost as two exchanges of
+    /// ends do, one at the front of the chain and one behind it, so that each gap is looked at once.
+    #[inline(always)]
+    fn least_swap(&self, chain: &Cut, most: usize) -> i64
+        requires plan { IsOfPlan self.now }
+        requires chain { IsKnownCut (instance_of self.now) chain.now }
+        requires some { chain.now.some ≡ true }
+        requires all { length self.now.gaps.now ≡ length self.now.others.now + 1 }
+        requires few { most ≤ 3 }
+        ensures { IsLeastSwap (instance_of self.now) self.now.others.now chain.now 1 most result }
+    {
+        let instance = self.trees.instance();
+        let (due, left) = window_of(instance, chain);
+        let (front, rear) = ((chain.before, chain.first), (chain.last, chain.behind));
+        let mut last = (NO_FRONT, NO_FRONT, NO_FRONT);
+        let mut least = 0;
+        for gap in self.gaps {
+            if left <= gap.latest {
+                let behind = change_of_ends(instance, rear, (gap.before, gap.behind));
+                least = lesser(least, least_front(last, most) + behind);
+            }
+            last = (front_change(instance, front, gap, due), last.0, last.1);
+        }
+        least
+    }
+
+    /// A number of tenths, at most 0: no exchange of the ends from a chain on and behind a gap of the second
+    /// route that leaves both in time changes the cost by less. `None` where the first route's gaps aren't known.
+    #[inline(always)]
+    fn least_end_swap(&self, first: &Chain, cut: &Cut) -> Option<i64>
+        requires plan { IsOfPlan self.now }
+        requires cut { IsKnownCut (instance_of self.now) cut.now }
+        requires all { length self.now.gaps.now ≡ length self.now.others.now + 1 }
+        ensures { IfSome result (λ x. IsLeastEndSwap (instance_of self.now) self.now.stops.now
+            first.now.position cut.now self.now.others.now x) }
+    {
+        let Some(own) = self.own_gaps.get(usize::from(first.position)) else {
+            return None;
+        };
+        let instance = self.trees.instance();
+        let front = (cut.before, cut.first);
+        let mut least = 0;
+        for gap in self.gaps {
+            if gap.meets(own) {
+                least = lesser(
+                    least,
+                    change_of_ends(instance, front, (gap.before, gap.behind)),
+                );
+            }
+        }
+        Some(least)
+    }
+
     /// A number of tenths, at most 0: no move with this first chain between two routes changes the cost by
     /// less. `None` where that isn't told.
     #[inline(always)]
@@ -85,16 +161,15 @@ impl Neighbourhood<'_, '_> {
     {
         laws_of_segments();
         self.trees.law_of_limits();
-        let (instance, stops) = (self.trees.instance(), self.others);
+        if self.gaps.len() != self.others.len() + 1 {
+            return None;
+        }
         match self.kind {
-            Kind::Relocate | Kind::OrOpt if self.gaps.len() == stops.len() + 1 => {
-                Some(self.least_detour(cut))
-            }
-            Kind::Relocate | Kind::OrOpt => None,
-            Kind::Exchange if cut.some => Some(least_of_ends(instance, stops, cut, 1)),
-            Kind::Cross if cut.some => Some(least_of_ends(instance, stops, cut, 3)),
+            Kind::Relocate | Kind::OrOpt => Some(self.least_detour(cut)),
+            Kind::Exchange if cut.some => Some(self.least_swap(cut, 1)),
+            Kind::Cross if cut.some => Some(self.least_swap(cut, 3)),
             Kind::Exchange | Kind::Cross => None,
-            Kind::TwoOptStar => Some(least_end_swap(instance, stops, cut)),
+            Kind::TwoOptStar => self.least_end_swap(first, cut),
         }
     }
 

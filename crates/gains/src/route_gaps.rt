@@ -36,6 +36,15 @@ impl Gap {
     {
         self.leaves <= due && left <= self.latest
     }
+
+    /// Whether the stops before either of two gaps may stand before those behind the other.
+    #[inline(always)]
+    pub fn meets(&self, other: &Gap) -> bool
+        ensures { IsTrue result ↔ ((self.now.leaves ≤ℤ other.now.latest) × (other.now.leaves
+            ≤ℤ self.now.latest)) }
+    {
+        self.leaves <= other.latest && other.leaves <= self.latest
+    }
 }
 
 /// When service at the first stop of a chain has to begin at the latest, and when its last stop is left at

@@ -1,41 +1,27 @@
-use Rattle.std.proofs.Common.{◌≡◌, ◌≢◌, ◌+◌, length, refl, sym, subst, inl, inr, ◌∙◌, arith, to_z, of_z, w64}
+use Rattle.std.proofs.Common.{◌≡◌, ◌≢◌, refl, sym, subst, inl, inr, ◌∙◌, arith, to_z, of_z, w64}
+use Rattle.std.specs.Prelude.{Option, Some, None, ℤ, IfSome, ◌∷◌, []}
 use Rattle.std.proofs.lemmas.Int.{ints}
 use Rattle.solomon_reader.specs.Moves.{route}
-use Rattle.gains.specs.Cuts.{IsLeastSwap, IsLeastEndSwap}
-use Rattle.gains.specs.Gains.{IsShiftKind, IsEndsKind, TakesBetween}
-use Rattle.gains.specs.Searches.{instance_of, plan_of}
+use Rattle.gains.specs.Gaps.{IsLeastSwap, IsLeastEndSwap}
+use Rattle.gains.specs.Gains.{IsEndsKind, TakesBetween}
+use Rattle.gains.specs.Searches.{instance_of, plan_of, NoneIsLess}
 use Rattle.gains.proofs.CutStops.{known_cut}
 use Rattle.gains.proofs.EndSwaps.{no_end_is_better}
 use Rattle.gains.proofs.GainSearching.{with_second}
-use Rattle.gains.proofs.PassedRoutes.{known_cuts, none_is_better, no_detour_is_less}
+use Rattle.gains.proofs.PassedRoutes.{none_is_better}
 use Rattle.gains.proofs.neighbourhood.Neighbourhood.least_apart.Goals as goal
 
 pub least_detour-requires-clause-chain : goal.least_detour-requires-clause-chain
 least_detour-requires-clause-chain c = known_cut (instance_of c.args.self.now) (plan_of c.args.self.now) _ _ _ c.args.cut.now c.requires.plan.trees.plan c.requires.cut
 
-pub least_of_ends-requires-clause-chain : goal.least_of_ends-requires-clause-chain
-least_of_ends-requires-clause-chain c = rw c.instance-instance.ensures (known_cut (instance_of c.args.self.now) (plan_of c.args.self.now) _ _ _ c.args.cut.now c.requires.plan.trees.plan c.requires.cut)
+pub least_swap-requires-clause-chain : goal.least_swap-requires-clause-chain
+least_swap-requires-clause-chain c = known_cut (instance_of c.args.self.now) (plan_of c.args.self.now) _ _ _ c.args.cut.now c.requires.plan.trees.plan c.requires.cut
 
-pub least_of_ends-requires-clause-stops : goal.least_of_ends-requires-clause-stops
-least_of_ends-requires-clause-stops c =
-    let m = c.args.self.now in
-    rw (c.instance-instance.ensures, c.requires.plan.others) (known_cuts (instance_of m) (plan_of m) m.second c.requires.plan.trees.plan)
+pub least_swap-requires-in-Cross-clause-chain : goal.least_swap-requires-in-Cross-clause-chain
+least_swap-requires-in-Cross-clause-chain c = known_cut (instance_of c.args.self.now) (plan_of c.args.self.now) _ _ _ c.args.cut.now c.requires.plan.trees.plan c.requires.cut
 
-pub least_of_ends-requires-in-Cross-clause-chain : goal.least_of_ends-requires-in-Cross-clause-chain
-least_of_ends-requires-in-Cross-clause-chain c = rw c.instance-instance.ensures (known_cut (instance_of c.args.self.now) (plan_of c.args.self.now) _ _ _ c.args.cut.now c.requires.plan.trees.plan c.requires.cut)
-
-pub least_of_ends-requires-in-Cross-clause-stops : goal.least_of_ends-requires-in-Cross-clause-stops
-least_of_ends-requires-in-Cross-clause-stops c =
-    let m = c.args.self.now in
-    rw (c.instance-instance.ensures, c.requires.plan.others) (known_cuts (instance_of m) (plan_of m) m.second c.requires.plan.trees.plan)
-
-pub least_end_swap-requires-clause-chain : goal.least_end_swap-requires-clause-chain
-least_end_swap-requires-clause-chain c = rw c.instance-instance.ensures (known_cut (instance_of c.args.self.now) (plan_of c.args.self.now) _ _ _ c.args.cut.now c.requires.plan.trees.plan c.requires.cut)
-
-pub least_end_swap-requires-clause-stops : goal.least_end_swap-requires-clause-stops
-least_end_swap-requires-clause-stops c =
-    let m = c.args.self.now in
-    rw (c.instance-instance.ensures, c.requires.plan.others) (known_cuts (instance_of m) (plan_of m) m.second c.requires.plan.trees.plan)
+pub least_end_swap-requires-clause-cut : goal.least_end_swap-requires-clause-cut
+least_end_swap-requires-clause-cut c = known_cut (instance_of c.args.self.now) (plan_of c.args.self.now) _ _ _ c.args.cut.now c.requires.plan.trees.plan c.requires.cut
 
 pub returns-in-Relocate : goal.returns-in-Relocate
 returns-in-Relocate c = λ n u of s h.
@@ -44,37 +30,43 @@ returns-in-Relocate c = λ n u of s h.
     let least = c.least_detour.result in
     let same : to_z w64 (of_z w64 least) ≡ least = omega (arith, ints) in
     let apart : f.route ≢ m.second = λ e. c.requires.apart (sym c.requires.first ∙ e) in
-    let count : length m.gaps.now ≡ length m.others.now + 1 = omega (arith, c.if-self-stops.true) in
-    rw same (no_detour_is_less (instance_of m) c.laws_of_segments.ensures c.law_of_limits.ensures.limits (plan_of m) m.kind f m.second m.gaps.now c.args.cut.now least c.requires.plan.trees.plan apart
-    (elim c.in-Relocate.is [ inl e ↦ subst IsShiftKind (sym e) tt | inr e ↦ subst IsShiftKind (sym e) tt ]) c.requires.cut (rw c.requires.plan.others at count) (rw c.requires.plan.others at c.least_detour.ensures)
-    n u of.kind (with_second n f.route f.position f.length m.second of.second s) h)
+    let detours : IsLeastSwap (instance_of m) (route (plan_of m) m.second) c.args.cut.now 0 0 least = rw c.requires.plan.others at c.least_detour.ensures in
+    let takes : TakesBetween m.kind 0 0 = elim c.in-Relocate.is [ inl e ↦ subst (λ q. TakesBetween q 0 0) (sym e) (refl, refl) | inr e ↦ subst (λ q. TakesBetween q 0 0) (sym e) (refl, refl) ] in
+    rw same (none_is_better (instance_of m) c.laws_of_segments.ensures c.law_of_limits.ensures.limits (plan_of m) m.kind f m.second c.args.cut.now 0 0 least c.requires.plan.trees.plan apart takes c.requires.cut detours
+    n u of.kind s (with_second n f.route f.position f.length m.second of.second s) h)
 
 pub returns-in-Exchange : goal.returns-in-Exchange
 returns-in-Exchange c = λ n u of s h.
     let m = c.args.self.now in
     let f = c.args.first.now in
-    let least = c.least_of_ends.result in
-    let swaps : IsLeastSwap (instance_of m) (route (plan_of m) m.second) c.args.cut.now 1 1 least = rw (c.instance-instance.ensures, c.requires.plan.others) at c.least_of_ends.ensures in
-    let apart : f.route ≢ m.second = λ e. c.requires.apart (sym c.requires.first ∙ e) in
+    let least = c.least_swap.result in
     let same : to_z w64 (of_z w64 least) ≡ least = omega (arith, ints) in
-    rw same (none_is_better (instance_of m) (plan_of m) m.kind f m.second c.args.cut.now 1 1 least apart (subst (λ q. TakesBetween q 1 1) (sym c.in-Exchange.is) (refl, refl)) c.requires.cut swaps n u of.kind (with_second n f.route f.position f.length m.second of.second s) h)
+    let apart : f.route ≢ m.second = λ e. c.requires.apart (sym c.requires.first ∙ e) in
+    let swaps : IsLeastSwap (instance_of m) (route (plan_of m) m.second) c.args.cut.now 1 1 least = rw c.requires.plan.others at c.least_swap.ensures in
+    rw same (none_is_better (instance_of m) c.laws_of_segments.ensures c.law_of_limits.ensures.limits (plan_of m) m.kind f m.second c.args.cut.now 1 1 least c.requires.plan.trees.plan apart
+    (subst (λ q. TakesBetween q 1 1) (sym c.in-Exchange.is) (refl, refl)) c.requires.cut swaps n u of.kind s (with_second n f.route f.position f.length m.second of.second s) h)
 
 pub returns-in-Cross : goal.returns-in-Cross
 returns-in-Cross c = λ n u of s h.
     let m = c.args.self.now in
     let f = c.args.first.now in
-    let least = c.least_of_ends-in-Cross.result in
-    let swaps : IsLeastSwap (instance_of m) (route (plan_of m) m.second) c.args.cut.now 1 3 least = rw (c.instance-instance.ensures, c.requires.plan.others) at c.least_of_ends-in-Cross.ensures in
-    let apart : f.route ≢ m.second = λ e. c.requires.apart (sym c.requires.first ∙ e) in
+    let least = c.least_swap-in-Cross.result in
     let same : to_z w64 (of_z w64 least) ≡ least = omega (arith, ints) in
-    rw same (none_is_better (instance_of m) (plan_of m) m.kind f m.second c.args.cut.now 1 3 least apart (subst (λ q. TakesBetween q 1 3) (sym c.in-Cross.is) (refl, refl)) c.requires.cut swaps n u of.kind (with_second n f.route f.position f.length m.second of.second s) h)
+    let apart : f.route ≢ m.second = λ e. c.requires.apart (sym c.requires.first ∙ e) in
+    let swaps : IsLeastSwap (instance_of m) (route (plan_of m) m.second) c.args.cut.now 1 3 least = rw c.requires.plan.others at c.least_swap-in-Cross.ensures in
+    rw same (none_is_better (instance_of m) c.laws_of_segments.ensures c.law_of_limits.ensures.limits (plan_of m) m.kind f m.second c.args.cut.now 1 3 least c.requires.plan.trees.plan apart
+    (subst (λ q. TakesBetween q 1 3) (sym c.in-Cross.is) (refl, refl)) c.requires.cut swaps n u of.kind s (with_second n f.route f.position f.length m.second of.second s) h)
 
 pub returns-in-TwoOptStar : goal.returns-in-TwoOptStar
-returns-in-TwoOptStar c = λ n u of s h.
-    let m = c.args.self.now in
-    let f = c.args.first.now in
-    let least = c.least_end_swap.result in
-    let swaps : IsLeastEndSwap (instance_of m) (route (plan_of m) m.second) c.args.cut.now least = rw (c.instance-instance.ensures, c.requires.plan.others) at c.least_end_swap.ensures in
-    let apart : f.route ≢ m.second = λ e. c.requires.apart (sym c.requires.first ∙ e) in
-    let same : to_z w64 (of_z w64 least) ≡ least = omega (arith, ints) in
-    rw same (no_end_is_better (instance_of m) (plan_of m) m.kind f m.second c.args.cut.now least (subst IsEndsKind (sym c.in-TwoOptStar.is) tt) apart c.requires.cut swaps n u of.kind s (with_second n f.route f.position f.length m.second of.second s) h)
+returns-in-TwoOptStar c = told c.least_end_swap.result c.least_end_swap.ensures
+  where
+    told : (o : Option ℤ) → IfSome o (λ x. IsLeastEndSwap (instance_of c.args.self.now) c.args.self.now.stops.now c.args.first.now.position c.args.cut.now c.args.self.now.others.now x)
+        → IfSome o (λ x. NoneIsLess c.args.self.now (c.args.first.now.route ∷ c.args.first.now.position ∷ c.args.first.now.length ∷ []) x)
+    told None h = tt
+    told (Some x) h = λ n u of s v.
+        let m = c.args.self.now in
+        let f = c.args.first.now in
+        let apart : f.route ≢ m.second = λ e. c.requires.apart (sym c.requires.first ∙ e) in
+        let least : IsLeastEndSwap (instance_of m) (route (plan_of m) f.route) f.position c.args.cut.now (route (plan_of m) m.second) x = rw (c.requires.plan.stops, c.requires.plan.others, ← c.requires.first) at h in
+        no_end_is_better (instance_of m) c.laws_of_segments.ensures c.law_of_limits.ensures.limits (plan_of m) m.kind f m.second c.args.cut.now x c.requires.plan.trees.plan (subst IsEndsKind (sym c.in-TwoOptStar.is) tt) apart
+        c.requires.cut least n u of.kind s (with_second n f.route f.position f.length m.second of.second s) v

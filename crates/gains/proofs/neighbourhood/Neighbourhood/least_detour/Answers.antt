@@ -7,7 +7,7 @@ use Rattle.gains.specs.declared.route_gaps.Gap.{Gap}
 use Rattle.gains.specs.Searches.{instance_of, plan_of}
 use Rattle.gains.proofs.CutStops.{known_gap}
 use Rattle.gains.proofs.PassedRoutes.{known_cuts}
-use Rattle.gains.proofs.GapRows.{gap_cut, gap_taken, gap_passed}
+use Rattle.gains.proofs.GapRows.{gap_cut, gap_taken, gap_passed, all_gaps}
 use Rattle.gains.proofs.neighbourhood.Neighbourhood.least_detour.Goals.{then-is_open, else-is_open}
 use Rattle.gains.proofs.neighbourhood.Neighbourhood.least_detour.Goals as goal
 
@@ -16,7 +16,7 @@ change_from-requires-clause-other c =
     let m = c.args.self.now in
     let none : Gap = record { before = 0; behind = 0; leaves = pos 0; latest = pos 0 } in
     let gap = c.requires.plan.gaps c.loop-gap.gap-index none c.loop-gap-test.true in
-    let within : c.loop-gap.gap-index ≤ length m.others.now = omega (arith, c.loop-gap-test.true, c.requires.few) in
+    let within : c.loop-gap.gap-index ≤ length m.others.now = omega (arith, c.loop-gap-test.true, c.requires.all) in
     let known = known_gap (instance_of m) m.others.now c.loop-gap.gap-index (rw c.requires.plan.others (known_cuts (instance_of m) (plan_of m) m.second c.requires.plan.trees.plan)) within in
     rw c.instance-instance.ensures (record { before = rw gap.before known.0; first = omega arith; last = omega arith; behind = rw gap.behind known.1 })
 
@@ -41,3 +41,6 @@ loop-gap-preserved c =
           rw (w.least-is, same) (gap_taken p r chain k _ gap (to_z w64 c.loop-gap.least-bits) new c.loop-gap.invariant w.lesser-least.ensures.one here)
       | else-is_open w ↦ rw w.least-is (gap_passed p r chain k _ gap _ c.loop-gap.invariant (λ a b. let yes : false ≡ true = w.if-is_open.ensures.1 (omega (arith, ints, a, last), omega (arith, ints, b, left)) in grind (arith, yes)))
     ]
+
+pub returns : goal.returns
+returns c = all_gaps (instance_of c.args.self.now) c.args.self.now.others.now c.args.chain.now c.loop-gap.gap-index _ (omega (arith, c.requires.all, c.loop-gap-test.false)) c.loop-gap.invariant
