@@ -1,6 +1,6 @@
 -- Swaps of chains as two exchanges of ends.
 use Rattle.std.proofs.Common.{◌≡◌, sym, subst, ◌∙◌, ℕ, ◌+◌, ◌*◌, ◌<◌, ◌≤◌, true, List, length, take, drop, arith, inl, inr}
-use Rattle.std.specs.Prelude.{ℤ, pos, ◌+ℤ◌, ◌-ℤ◌, ◌≤ℤ◌}
+use Rattle.std.specs.Prelude.{ℤ, pos, ◌+ℤ◌, ◌-ℤ◌, ◌≤ℤ◌, ◌⊎◌}
 use Rattle.std.proofs.lemmas.Int.{ints}
 use Rattle.std.proofs.lemmas.Bool.{cases_lt}
 use Rattle.solomon_reader.specs.Problem.{Problem}
@@ -31,6 +31,7 @@ module _ (p : Problem) (r : List ℕ) (c : Cut) (some_c : c.some ≡ true) where
 
 -- the least of the swaps that end before gap n is at least x, and the changes at the fronts of the last three gaps at least these
 pub record LeastSoFar (p : Problem) (r : List ℕ) (c : Cut) (most n : ℕ) (x one two three : ℤ) : Type 0 where
+  pub low : x ≤ℤ pos 0
   pub one_low : pos 0 ≤ℤ (one +ℤ pos (2 * MOST_DISTANCE))
   pub one_high : one ≤ℤ pos (2 * MOST_DISTANCE)
   pub two_low : pos 0 ≤ℤ (two +ℤ pos (2 * MOST_DISTANCE))
@@ -47,6 +48,14 @@ pub record IsLow (most : ℕ) (y one two three b : ℤ) : Type 0 where
   pub with_one : y ≤ℤ (one +ℤ b)
   pub with_two : 2 ≤ most → y ≤ℤ (two +ℤ b)
   pub with_three : 2 ≤ most → y ≤ℤ (three +ℤ b)
+
+-- the least of three fronts is as high as each of them
+pub front_low : (best one two three : ℤ) → (best ≡ one) ⊎ ((best ≡ two) ⊎ (best ≡ three)) → pos 0 ≤ℤ (one +ℤ pos (2 * MOST_DISTANCE)) → pos 0 ≤ℤ (two +ℤ pos (2 * MOST_DISTANCE)) → pos 0 ≤ℤ (three +ℤ pos (2 * MOST_DISTANCE))
+    → pos 0 ≤ℤ (best +ℤ pos (2 * MOST_DISTANCE))
+front_low best one two three is h k l = elim is [
+  | inl e ↦ rw e h
+  | inr later ↦ elim later [ inl e ↦ rw e k | inr e ↦ rw e l ]
+]
 
 -- by the least of these sums
 pub low_sum : (most : ℕ) (y one two three b best : ℤ) → y ≤ℤ (best +ℤ b) → best ≤ℤ one → (2 ≤ most → best ≤ℤ two) → (2 ≤ most → best ≤ℤ three) → IsLow most y one two three b
@@ -65,6 +74,7 @@ pub so_far_next : (p : Problem) (r : List ℕ) (c : Cut) (most n : ℕ) (x one t
     → y ≤ℤ x → (MayPrecede p r n c → IsLow most y one two three (rear_change p r c n))
     → LeastSoFar p r c most n x one two three → LeastSoFar p r c most (n + 1) y f one two
 so_far_next p r c most n x one two three y f some few front low high less here h = record {
+  low = low_enough y x (pos 0) less h.low;
   one_low = low;
   one_high = high;
   two_low = h.one_low;

@@ -63,21 +63,19 @@ fn gain_between(
     if let Some(found) = kept.at(from, into).known(kind) {
         return found_between(found, first, second);
     }
-    let mut entry = *kept.at(from, into);
     let neighbourhood = Neighbourhood {
         trees,
         kind,
         first,
         second,
-        no_single: entry.has_no_single(kind),
+        no_single: kept.at(from, into).has_no_single(kind),
         stops: stops_of(routes, from),
         others: stops_of(routes, into),
         gaps: gaps.of(into),
         own_gaps: gaps.of(from),
     };
     let found = neighbourhood.best_gain();
-    entry.keep(kind, found);
-    kept.put(from, into, entry);
+    kept.keep(from, into, kind, found);
     found
 }
 

@@ -1,10 +1,12 @@
 //! The best gains between two routes, which are kept while a plan changes.
 
 ghost use Rattle.std.specs.Prelude.{◌≡◌, ◌≢◌, ℕ, [], IfOk, slice_index_or, slice_set};
-ghost use Rattle.gains.specs.Kept.{unknown, rows_of, entry_of, skip, skip_if, Follows, IsForgotten, HasSameEntries};
+ghost use Rattle.gains.specs.Kept.{unknown, rows_of, entry_of, with_found, skip, skip_if, Follows, IsForgotten, HasSameEntries};
 
 use crate::entry::{Entry, UNKNOWN};
+use crate::found::Found;
 use crate::replaced::Replaced;
+use moves::Kind;
 use std::alloc::{AllocError, Global};
 
 /// For moves from a route into a route the best of each kind that makes the plan cheaper, if one does. Of
@@ -77,12 +79,24 @@ impl PairGains {
     }
 
     /// Puts an entry in its place, if there is one for it.
-    pub fn put(&mut self, first: usize, second: usize, entry: Entry)
+    fn put(&mut self, first: usize, second: usize, entry: Entry)
         ensures { rows_of self.new ≡ slice_set (rows_of self.old) first
             (slice_set (slice_index_or (rows_of self.old) first []) second entry) }
     {
         if first < self.rows.len() && second < self.rows[first].len() {
             self.rows[first][second] = entry;
+        }
+    }
+
+    /// Keeps what was found of a kind in its place, if there is one for it.
+    #[inline(always)]
+    pub fn keep(&mut self, first: usize, second: usize, kind: Kind, found: Found)
+        ensures { rows_of self.new ≡ slice_set (rows_of self.old) first
+            (slice_set (slice_index_or (rows_of self.old) first []) second
+            (with_found kind found (entry_of self.old first second))) }
+    {
+        if first < self.rows.len() && second < self.rows[first].len() {
+            self.rows[first][second].keep(kind, found);
         }
     }
 

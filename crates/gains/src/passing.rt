@@ -39,6 +39,30 @@ fn front_change(instance: &Instance, front: (u16, u16), gap: &Gap, due: i64) -> 
     change_of_ends(instance, front, (gap.before, gap.behind))
 }
 
+/// The lesser of what was found, which is at most 0, and the change at the front of a chain with that of
+/// the exchange of the ends behind the chain and behind a gap, in tenths.
+#[inline(always)]
+fn lesser_swap(instance: &Instance, rear: (u16, u16), gap: &Gap, front: i64, least: i64) -> i64
+    requires rear { (rear.0 ≤ customer_count instance.now) × (rear.1 ≤ customer_count instance.now) }
+    requires gap { (gap.now.before ≤ customer_count instance.now) ×
+        (gap.now.behind ≤ customer_count instance.now) }
+    requires low { pos 0 ≤ℤ (front +ℤ pos (2 * MOST_DISTANCE)) }
+    requires high { front ≤ℤ pos (2 * MOST_DISTANCE) }
+    requires least { least ≤ℤ pos 0 }
+    ensures one { result ≤ℤ least }
+    ensures sum { result ≤ℤ (front +ℤ ends_change instance.now rear.0 rear.1 gap.now.before
+        gap.now.behind) }
+{
+    instance.law_of_limits();
+    if front >= NO_FRONT {
+        return least;
+    }
+    lesser(
+        least,
+        front + change_of_ends(instance, rear, (gap.before, gap.behind)),
+    )
+}
+
 impl Neighbourhood<'_, '_> {
     /// Whether the changes of cost tell that no move that puts this first chain elsewhere in its route is
     /// better than what was found; they don't tell that of other kinds of moves.
@@ -113,8 +137,7 @@ impl Neighbourhood<'_, '_> {
         let mut least = 0;
         for gap in self.gaps {
             if left <= gap.latest {
-                let behind = change_of_ends(instance, rear, (gap.before, gap.behind));
-                least = lesser(least, least_front(last, most) + behind);
+                least = lesser_swap(instance, rear, gap, least_front(last, most), least);
             }
             last = (front_change(instance, front, gap, due), last.0, last.1);
         }

@@ -13,7 +13,7 @@ use search::Searcher;
 use solomon_reader::Instance;
 use std::alloc::Global;
 
-/// So many turns of a searcher take about as long at 100 customers as a bound worker's turn.
+/// So many turns of a searcher take less time at 100 customers than a turn of a bound worker.
 const SEARCHER_TURNS: u32 = 2;
 
 /// After this many turns of its searcher that found nothing cheaper a worker begins anew.

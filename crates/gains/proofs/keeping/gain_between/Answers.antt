@@ -9,9 +9,9 @@ use Rattle.gains.proofs.keeping.gain_between.Goals as goal
 
 pub returns-clause-kept : goal.returns-clause-kept
 returns-clause-kept c =
-    one_found (problem_of c.args.trees.now) (visits_of c.args.trees.now) c.args.kind c.args.first c.args.second c.best_gain-found.result c.args.kept.now c.put.new.self
+    one_found (problem_of c.args.trees.now) (visits_of c.args.trees.now) c.args.kind c.args.first c.args.second c.best_gain-found.result c.args.kept.now c.keep.new.self
     (omega (arith, c.requires.first)) (omega (arith, c.requires.second))
-    c.requires.kept c.best_gain-found.ensures (rw (c.keep.ensures, c.at-3.ensures, c.from-from.ensures, c.from-into.ensures) at c.put.ensures)
+    c.requires.kept c.best_gain-found.ensures (rw (c.from-from.ensures, c.from-into.ensures) at c.keep.ensures)
 
 pub best_gain-found-requires : goal.best_gain-found-requires
 best_gain-found-requires c =
