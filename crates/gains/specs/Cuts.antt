@@ -56,6 +56,12 @@ change_within p c d =
     pos (distance p c.before d.first + distance p d.last c.first + distance p c.last d.behind)
     -ℤ pos (distance p c.before c.first + distance p c.last d.first + distance p d.last d.behind)
 
+-- by how much the cost changes where the chain c of l stops at position i of a route comes to stand at position q of it
+pub record IsShiftChange (p : Problem) (r : List ℕ) (c : Cut) (i l q : ℕ) (v : ℤ) : Type 0 where
+  pub stays : q ≡ i → v ≡ pos 0
+  pub back : q < i → v ≡ change_apart p c (cut_at r q 0)
+  pub on : i < q → v ≡ change_apart p c (cut_at r (q + l) 0)
+
 -- the stops of a route are rows of the instance
 abbrev pub AreKnownCuts : Problem → List ℕ → Type 0
 AreKnownCuts p r = (i l : ℕ) → i + l ≤ length r → IsKnownCut p (cut_at r i l)

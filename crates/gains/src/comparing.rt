@@ -1,10 +1,11 @@
 //! The better of what was found and a move.
 
-ghost use Rattle.std.specs.Prelude.{◌≡◌, ◌≢◌, ◌↔◌, IsTrue};
+ghost use Rattle.std.specs.Prelude.{◌≡◌, ◌≢◌, ◌<◌, ◌≤◌, ◌+◌, ◌↔◌, length, IsTrue, MatchOption};
+ghost use Rattle.gains.specs.Cuts.{IsKnownCut, IsShiftChange, change_apart, cut_at};
 ghost use Rattle.gains.specs.Gains.{first_taken, second_taken, taken_chain, IsFirstCut, IsShiftKind, AreShifts};
 ghost use Rattle.gains.specs.Searches.{instance_of, plan_of, IsOfPlan, AreLengths, SearchesAt};
 
-use crate::cuts::{Cut, change_apart, change_within, cut_of};
+use crate::cuts::{Cut, change_apart, change_within, cut_of, cut_of_stops};
 use crate::found::{Found, is_better, may_be_better};
 use crate::neighbourhood::Neighbourhood;
 use moves::{Chain, Kind, candidate_of, stop_count, value};
@@ -14,10 +15,7 @@ use moves::{Chain, Kind, candidate_of, stop_count, value};
 pub fn is_shift(kind: Kind) -> bool
     ensures { IsTrue result ↔ IsShiftKind kind }
 {
-    match kind {
-        Kind::Relocate | Kind::OrOpt => true,
-        _ => false,
-    }
+    matches!(kind, Kind::Relocate | Kind::OrOpt)
 }
 
 impl Neighbourhood<'_, '_> {
@@ -91,81 +89,85 @@ impl Neighbourhood<'_, '_> {
         search.better_gain(&one, &two, before)
     }
 
-    /// The better of what was found and a move, which lets two chains of a route change places and
-    /// is valued only where its change of cost is less.
-    fn better_shift(
-        &self,
-        first: &Chain,
-        second: &Chain,
-        front: Chain,
-        rear: Chain,
-        before: Found,
-    ) -> Found
+    /// By how much the cost changes where a chain comes to stand at a position of its own route, in tenths;
+    /// `None` where it can't stand there.
+    #[inline(always)]
+    fn change_of_shift(&self, first: &Chain, cut: &Cut, position: u16) -> Option<i64>
         requires plan { IsOfPlan self.now }
-        requires lengths { AreLengths self.now first.now second.now }
-        requires first { first.now.route ≡ self.now.first }
-        requires second { second.now.route ≡ self.now.second }
-        requires front { front.route ≡ self.now.first }
-        requires rear { rear.route ≡ self.now.first }
-        requires shifts { AreShifts (instance_of self.now)
-            (plan_of self.now) self.now.kind first.now second.now front rear }
-        ensures { SearchesAt self.now first.now second.now before result }
+        requires cut { IsKnownCut (instance_of self.now) cut.now }
+        ensures { let l = (taken_chain (plan_of self.now) (first_taken self.now.kind) first.now).length
+            in MatchOption result (length self.now.stops.now < position + l) (λ v. IsShiftChange
+            (instance_of self.now) self.now.stops.now cut.now first.now.position l position v) }
     {
-        let Some(one) = cut_of(self.stops, front) else {
-            return self.better_gain(first, second, before);
-        };
-        let Some(other) = cut_of(self.stops, rear) else {
-            return self.better_gain(first, second, before);
-        };
-        if one.some && other.some {
-            let instance = self.trees.instance();
-            let end = usize::from(front.position) + usize::from(front.length);
-            if end == usize::from(rear.position) {
-                if !may_be_better(change_within(instance, &one, &other), before) {
-                    return before;
-                }
-            } else if !may_be_better(change_apart(instance, &one, &other), before) {
-                return before;
-            }
+        let end = usize::from(position) + usize::from(self.first_chain(*first).length);
+        if end > self.stops.len() {
+            return None;
         }
-        self.better_gain(first, second, before)
+        if position == first.position {
+            return Some(0);
+        }
+        let gap = if position < first.position {
+            usize::from(position)
+        } else {
+            end
+        };
+        let gap = cut_of_stops(self.stops, gap, 0);
+        Some(change_apart(self.trees.instance(), cut, &gap))
     }
 
-    /// The better of what was found and a move within a route.
-    fn better_within(&self, first: &Chain, second: &Chain, before: Found) -> Found
+    /// The better of what was found and a move that puts a chain elsewhere in its route, which is valued only
+    /// where its change of cost is less.
+    #[inline(always)]
+    fn better_shift(&self, first: &Chain, cut: &Cut, second: &Chain, before: Found) -> Found
         requires plan { IsOfPlan self.now }
         requires lengths { AreLengths self.now first.now second.now }
         requires first { first.now.route ≡ self.now.first }
         requires second { second.now.route ≡ self.now.second }
         requires within { self.now.first ≡ self.now.second }
+        requires cut { IsFirstCut (plan_of self.now) self.now.kind first.now cut.now }
+        requires shift { IsShiftKind self.now.kind }
         ensures { SearchesAt self.now first.now second.now before result }
     {
-        let chain = self.first_chain(*first);
-        let shifts = is_shift(self.kind);
-        if shifts && second.position < chain.position {
-            let passed = Chain {
-                route: chain.route,
-                position: second.position,
-                length: chain.position - second.position,
-            };
-            return self.better_shift(first, second, passed, chain, before);
-        }
-        let Some(end) = chain.position.checked_add(chain.length) else {
-            return self.better_gain(first, second, before);
+        let Some(change) = self.change_of_shift(first, cut, second.position) else {
+            return before;
         };
-        if shifts && chain.position < second.position {
-            let passed = Chain {
-                route: chain.route,
-                position: end,
-                length: second.position - chain.position,
+        if !may_be_better(change, before) {
+            return before;
+        }
+        // of a copy, as above
+        let (search, one, two) = (*self, *first, *second);
+        search.better_gain(&one, &two, before)
+    }
+
+    /// The better of what was found and a move within a route that doesn't put a chain elsewhere; an exchange
+    /// is valued only where its change of cost is less.
+    #[inline(always)]
+    fn better_within(&self, first: &Chain, cut: &Cut, second: &Chain, before: Found) -> Found
+        requires plan { IsOfPlan self.now }
+        requires lengths { AreLengths self.now first.now second.now }
+        requires first { first.now.route ≡ self.now.first }
+        requires second { second.now.route ≡ self.now.second }
+        requires within { self.now.first ≡ self.now.second }
+        requires cut { IsFirstCut (plan_of self.now) self.now.kind first.now cut.now }
+        ensures { SearchesAt self.now first.now second.now before result }
+    {
+        // of a copy, as above
+        let (search, one, two) = (*self, *first, *second);
+        if let (Kind::Exchange, Some(other)) = (
+            self.kind,
+            cut_of(self.stops, self.second_chain(*second)),
+        ) {
+            let instance = self.trees.instance();
+            let change = if usize::from(first.position) + 1 == usize::from(second.position) {
+                change_within(instance, cut, &other)
+            } else {
+                change_apart(instance, cut, &other)
             };
-            return self.better_shift(first, second, chain, passed, before);
+            if !may_be_better(change, before) {
+                return before;
+            }
         }
-        if let Kind::Exchange = self.kind {
-            let other = self.second_chain(*second);
-            return self.better_shift(first, second, chain, other, before);
-        }
-        self.better_gain(first, second, before)
+        search.better_gain(&one, &two, before)
     }
 
     /// The better of what was found and a move, where that is a gain.
@@ -178,10 +180,11 @@ impl Neighbourhood<'_, '_> {
         requires cut { IsFirstCut (plan_of self.now) self.now.kind first.now cut.now }
         ensures { SearchesAt self.now first.now second.now before result }
     {
+        if self.first == self.second && is_shift(self.kind) {
+            return self.better_shift(first, cut, second, before);
+        }
         if self.first == self.second {
-            // of a copy, as above
-            let (search, one, two) = (*self, *first, *second);
-            return search.better_within(&one, &two, before);
+            return self.better_within(first, cut, second, before);
         }
         self.better_apart(first, cut, second, before)
     }

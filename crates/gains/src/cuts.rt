@@ -52,7 +52,7 @@ pub fn stop_before(stops: &[u16], position: usize) -> u16
 
 /// What stands round the stops from a position on.
 #[inline(always)]
-fn cut_of_stops(stops: &[u16], position: usize, count: usize) -> Cut
+pub fn cut_of_stops(stops: &[u16], position: usize, count: usize) -> Cut
     requires { position + count ≤ length stops.now }
     ensures { IsCut stops.now position count result }
 {
@@ -91,7 +91,7 @@ pub fn cut_of(stops: &[u16], chain: Chain) -> Option<Cut>
 
 /// What the arcs to and from a chain between two stops cost, in tenths.
 #[inline(always)]
-pub fn joint(instance: &Instance, before: u16, chain: &Cut, behind: u16) -> i64
+fn joint(instance: &Instance, before: u16, chain: &Cut, behind: u16) -> i64
     requires before { before ≤ customer_count instance.now }
     requires chain { IsKnownCut instance.now chain.now }
     requires behind { behind ≤ customer_count instance.now }
@@ -108,6 +108,7 @@ pub fn joint(instance: &Instance, before: u16, chain: &Cut, behind: u16) -> i64
 }
 
 /// By how much the cost changes where two chains of two routes change places, in tenths.
+#[inline(always)]
 pub fn change_apart(instance: &Instance, one: &Cut, other: &Cut) -> i64
     requires one { IsKnownCut instance.now one.now }
     requires other { IsKnownCut instance.now other.now }
@@ -117,28 +118,6 @@ pub fn change_apart(instance: &Instance, one: &Cut, other: &Cut) -> i64
         + joint(instance, other.before, one, other.behind);
     let old = joint(instance, one.before, one, one.behind)
         + joint(instance, other.before, other, other.behind);
-    new - old
-}
-
-/// By how much the cost changes where two chains of two routes change places, in tenths, from the arcs
-/// round the first and the arc past it.
-#[inline(always)]
-pub fn change_from(instance: &Instance, one: &Cut, other: &Cut, arcs: i64, past: i64) -> i64
-    requires one { IsKnownCut instance.now one.now }
-    requires other { IsKnownCut instance.now other.now }
-    requires arcs { arcs ≡ pos (joint_of instance.now one.now.before one.now one.now.behind) }
-    requires past { past ≡ pos (distance instance.now one.now.before one.now.behind) }
-    requires few_arcs { arcs ≤ℤ pos (2 * MOST_DISTANCE) }
-    requires few_past { past ≤ℤ pos (2 * MOST_DISTANCE) }
-    ensures { result ≡ change_apart instance.now one.now other.now }
-{
-    let first = if other.some {
-        joint(instance, one.before, other, one.behind)
-    } else {
-        past
-    };
-    let new = first + joint(instance, other.before, one, other.behind);
-    let old = arcs + joint(instance, other.before, other, other.behind);
     new - old
 }
 
@@ -163,8 +142,8 @@ pub fn change_of_ends(instance: &Instance, one: (u16, u16), other: (u16, u16)) -
     ensures low { pos 0 ≤ℤ (result +ℤ pos (2 * MOST_DISTANCE)) }
     ensures high { result ≤ℤ pos (2 * MOST_DISTANCE) }
 {
-    let new = two_arcs(instance, (one.0, other.1), (other.0, one.1));
-    new - two_arcs(instance, one, other)
+    let new = arc(instance, one.0, other.1) + arc(instance, other.0, one.1);
+    new - (arc(instance, one.0, one.1) + arc(instance, other.0, other.1))
 }
 
 /// The least of the changes at the last gaps, of which as many count as stops may be swapped.
@@ -196,18 +175,16 @@ pub fn least_shift(
     ensures lower { result ≤ℤ before }
     ensures least { IsLeastShift instance.now stops.now chain.now gaps.start gaps.end result }
 {
-    let arcs = joint(instance, chain.before, chain, chain.behind);
-    let past = arc(instance, chain.before, chain.behind);
     let mut least = before;
     for position in gaps.start..gaps.end {
         let gap = cut_of_stops(stops, position, 0);
-        least = lesser(least, change_from(instance, chain, &gap, arcs, past));
+        least = lesser(least, change_apart(instance, chain, &gap));
     }
     least
 }
 
 /// The cost of an arc, in tenths.
-pub fn arc(instance: &Instance, from: u16, to: u16) -> i64
+fn arc(instance: &Instance, from: u16, to: u16) -> i64
     requires from { from ≤ customer_count instance.now }
     requires to { to ≤ customer_count instance.now }
     ensures value { result ≡ pos (distance instance.now from to) }
@@ -217,18 +194,6 @@ pub fn arc(instance: &Instance, from: u16, to: u16) -> i64
     instance.distance(from, to).get() as i64
 }
 
-/// The cost of two arcs, in tenths.
-fn two_arcs(instance: &Instance, one: (u16, u16), other: (u16, u16)) -> i64
-    requires one { (one.0 ≤ customer_count instance.now) × (one.1 ≤ customer_count instance.now) }
-    requires other { (other.0 ≤ customer_count instance.now) ×
-        (other.1 ≤ customer_count instance.now) }
-    ensures value { result ≡ pos (distance instance.now one.0 one.1 + distance instance.now other.0
-        other.1) }
-    ensures bound { result ≤ℤ pos (2 * MOST_DISTANCE) }
-{
-    arc(instance, one.0, one.1) + arc(instance, other.0, other.1)
-}
-
 /// By how much the cost changes where two chains of a route change places, the second of which
 /// stands right behind the first, in tenths. Both have stops.
 pub fn change_within(instance: &Instance, one: &Cut, other: &Cut) -> i64
@@ -236,9 +201,11 @@ pub fn change_within(instance: &Instance, one: &Cut, other: &Cut) -> i64
     requires other { IsKnownCut instance.now other.now }
     ensures { result ≡ change_within instance.now one.now other.now }
 {
-    let new = two_arcs(instance, (one.before, other.first), (other.last, one.first))
+    let new = arc(instance, one.before, other.first)
+        + arc(instance, other.last, one.first)
         + arc(instance, one.last, other.behind);
-    let old = two_arcs(instance, (one.before, one.first), (one.last, other.first))
+    let old = arc(instance, one.before, one.first)
+        + arc(instance, one.last, other.first)
         + arc(instance, other.last, other.behind);
     new - old
 }

@@ -47,10 +47,7 @@ impl Entry {
     pub fn has_no_single(&self, kind: Kind) -> bool
         ensures { IsTrue result → (kind ≡ OrOpt) × (self.now.relocate ≡ Some None) }
     {
-        match (kind, self.relocate) {
-            (Kind::OrOpt, Some(None)) => true,
-            _ => false,
-        }
+        matches!((kind, self.relocate), (Kind::OrOpt, Some(None)))
     }
 
     /// Keeps what was found of a kind.

@@ -9,9 +9,7 @@ ghost use Rattle.gains.specs.Gaps.{IsLeastSwap, IsLeastEndSwap};
 ghost use Rattle.gains.specs.Searches.{instance_of, plan_of, IsOfPlan, NoneIsBetter, NoneIsLess};
 
 use crate::comparing::is_shift;
-use crate::cuts::{
-    Cut, NO_FRONT, arc, change_from, change_of_ends, joint, least_front, least_shift, lesser,
-};
+use crate::cuts::{Cut, NO_FRONT, change_apart, change_of_ends, least_front, least_shift, lesser};
 use crate::found::{Found, may_be_better};
 use crate::neighbourhood::Neighbourhood;
 use crate::route_gaps::{Gap, window_of};
@@ -100,8 +98,6 @@ impl Neighbourhood<'_, '_> {
     {
         let instance = self.trees.instance();
         let (due, left) = window_of(instance, chain);
-        let arcs = joint(instance, chain.before, chain, chain.behind);
-        let past = arc(instance, chain.before, chain.behind);
         let mut least = 0;
         for gap in self.gaps {
             if gap.is_open(due, left) {
@@ -112,7 +108,7 @@ impl Neighbourhood<'_, '_> {
                     last: 0,
                     behind: gap.behind,
                 };
-                least = lesser(least, change_from(instance, chain, &other, arcs, past));
+                least = lesser(least, change_apart(instance, chain, &other));
             }
         }
         least
@@ -154,9 +150,7 @@ impl Neighbourhood<'_, '_> {
         ensures { IfSome result (λ x. IsLeastEndSwap (instance_of self.now) self.now.stops.now
             first.now.position cut.now self.now.others.now x) }
     {
-        let Some(own) = self.own_gaps.get(usize::from(first.position)) else {
-            return None;
-        };
+        let own = self.own_gaps.get(usize::from(first.position))?;
         let instance = self.trees.instance();
         let front = (cut.before, cut.first);
         let mut least = 0;

@@ -58,5 +58,5 @@ returns c = λ yes n u of s h.
     let same_too : to_z w64 (of_z w64 least) ≡ least = omega (arith, ints) in
     let high : ¬ MayBeBetter c.args.before least = rw same_too at (c.may_be_better.ensures.no (search rules)) in
     no_better_by c.args.before n least u high
-    (no_shift_is_better (instance_of m) (plan_of m) m.kind f c.args.cut.now least (c.is_shift.ensures.0 (search rules)) c.requires.cut before behind (omega (arith, ints, less, low))
+    (no_shift_is_better (instance_of m) (plan_of m) m.kind f c.args.cut.now (c.is_shift.ensures.0 (search rules)) c.requires.cut least before behind (omega (arith, ints, less, low))
     n u of.kind (subst (λ b. Starts (f.route ∷ f.position ∷ f.length ∷ b ∷ []) (numbers n)) (sym second) (with_second n f.route f.position f.length m.second of.second s)) h)

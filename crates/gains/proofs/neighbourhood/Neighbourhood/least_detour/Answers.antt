@@ -11,8 +11,8 @@ use Rattle.gains.proofs.GapRows.{gap_cut, gap_taken, gap_passed, all_gaps}
 use Rattle.gains.proofs.neighbourhood.Neighbourhood.least_detour.Goals.{then-is_open, else-is_open}
 use Rattle.gains.proofs.neighbourhood.Neighbourhood.least_detour.Goals as goal
 
-pub change_from-requires-clause-other : goal.change_from-requires-clause-other
-change_from-requires-clause-other c =
+pub change_apart-requires-clause-other : goal.change_apart-requires-clause-other
+change_apart-requires-clause-other c =
     let m = c.args.self.now in
     let none : Gap = record { before = 0; behind = 0; leaves = pos 0; latest = pos 0 } in
     let gap = c.requires.plan.gaps c.loop-gap.gap-index none c.loop-gap-test.true in
@@ -35,9 +35,9 @@ loop-gap-preserved c =
       | then-is_open w ↦
           let new = w.lesser-least.result in
           let same : to_z w64 (of_z w64 new) ≡ new = omega (arith, ints) in
-          let change : to_z w64 (of_z w64 w.change_from.result) ≡ w.change_from.result = omega (arith, ints) in
-          let other : new ≤ℤ w.change_from.result = rw change at w.lesser-least.ensures.other in
-          let here : new ≤ℤ change_apart p chain (gap_cut (slice_index_or m.gaps.now k none)) = rw (w.change_from.ensures, c.instance-instance.ensures) at other in
+          let change : to_z w64 (of_z w64 w.change_apart.result) ≡ w.change_apart.result = omega (arith, ints) in
+          let other : new ≤ℤ w.change_apart.result = rw change at w.lesser-least.ensures.other in
+          let here : new ≤ℤ change_apart p chain (gap_cut (slice_index_or m.gaps.now k none)) = rw (w.change_apart.ensures, c.instance-instance.ensures) at other in
           rw (w.least-is, same) (gap_taken p r chain k _ gap (to_z w64 c.loop-gap.least-bits) new c.loop-gap.invariant w.lesser-least.ensures.one here)
       | else-is_open w ↦ rw w.least-is (gap_passed p r chain k _ gap _ c.loop-gap.invariant (λ a b. let yes : false ≡ true = w.if-is_open.ensures.1 (omega (arith, ints, a, last), omega (arith, ints, b, left)) in grind (arith, yes)))
     ]

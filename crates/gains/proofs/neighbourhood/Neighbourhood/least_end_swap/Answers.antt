@@ -28,8 +28,8 @@ loop-gap-preserved c = λ j below before behind.
     let k = c.loop-gap.gap-index in
     let none : Gap = record { before = 0; behind = 0; leaves = pos 0; latest = pos 0 } in
     let gap = c.requires.plan.gaps k none c.loop-gap-test.true in
-    let own : IsGap p m.stops.now c.args.first.now.position c.in-Some.own.now
-    = rw (c.in-Some.ensures.lookup.3.1 none, c.from.ensures) (c.requires.plan.own c.args.first.now.position none (rw c.from.ensures at c.in-Some.ensures.lookup.3.0)) in
+    let own : IsGap p m.stops.now c.args.first.now.position c.in_ok-own.own.now
+    = rw (c.in_ok-own.ensures.lookup.3.1 none, c.from.ensures) (c.requires.plan.own c.args.first.now.position none (rw c.from.ensures at c.in_ok-own.ensures.lookup.3.0)) in
     let x = to_z w64 c.loop-gap.least-bits in
     elim c.if-meets.branch [
       | then-meets w ↦
@@ -52,7 +52,7 @@ loop-gap-preserved c = λ j below before behind.
                 let e : k ≡ j = omega (arith, below, past) in
                 let other = slice_index_or m.gaps.now k none in
                 let here = subst (λ i. IsGap p r i other) e gap in
-                let yes : false ≡ true = w.if-meets.ensures.1 (behind other c.in-Some.own.now here own, before c.in-Some.own.now other own here) in
+                let yes : false ≡ true = w.if-meets.ensures.1 (behind other c.in_ok-own.own.now here own, before c.in_ok-own.own.now other own here) in
                 grind (arith, yes)
           ])
     ]
