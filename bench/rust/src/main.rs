@@ -1,5 +1,6 @@
 //! Turns of one worker: `turns` with an instance, a number of turns and a seed, `bound` with an instance, a number of
-//! turns and the cost of the plan to reach, in tenths.
+//! turns and the cost of the plan to reach, in tenths. Pricings of the root: `ascent` with an instance, `labels` with an
+//! instance and a certificate.
 #![allow(dead_code, unused)]
 
 mod arrayvec;
@@ -9,6 +10,7 @@ mod fronts;
 mod gains;
 mod insertion;
 mod labelling;
+mod measuring;
 mod moves;
 mod pooled_routes;
 mod price_ascent;
@@ -28,10 +30,11 @@ use solomon_reader::Instance;
 fn main() {
     let words: Vec<String> = std::env::args().collect();
     let instance = Instance::read(&words[2]);
-    let (turns, number): (u32, u64) = (words[3].parse().unwrap(), words[4].parse().unwrap());
-    if words[1] == "bound" {
-        bounding::tell(&instance, turns, number);
-    } else {
-        searching::tell(&instance, turns, number);
+    let number = |place: usize| -> u64 { words[place].parse().unwrap() };
+    match words[1].as_str() {
+        "ascent" => measuring::tell_ascent(&instance),
+        "labels" => measuring::tell_labels(&instance, &words[3]),
+        "bound" => bounding::tell(&instance, number(3) as u32, number(4)),
+        _ => searching::tell(&instance, number(3) as u32, number(4)),
     }
 }

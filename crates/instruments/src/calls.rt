@@ -3,9 +3,10 @@
 //! second is made with what a refusal of the first gave back.
 
 use crate::given::tell_given;
+use crate::measures::searcher_of;
 use crate::starts::{Host, WRONG, made};
-use crate::turns::searcher_of;
 use branching::Region;
+use certificate::Cert;
 use checker::check;
 use insertion::{Built, Weights, build};
 use labelling::least;
@@ -70,19 +71,15 @@ fn tell_plan<R: Host>(rt: &R, what: &str, plan: &Feasible<'_>) -> io::Result<()>
     println!(rt; "{what} {cost} {routes:?}")
 }
 
-/// Builds a plan twice, and prints what came of it.
+/// Builds a plan, and prints what came of it.
 fn tell_built<R: Host>(rt: &R, instance: &Instance) -> io::Result<()> {
-    println!(rt; "ready")?;
-    for _ in 0..CALLS {
-        match build(rt.alloc(), instance, &Weights::plain()) {
-            Ok(built) => match &built {
-                Built::Whole(plan) => tell_plan(rt, "Whole", plan)?,
-                Built::Part { .. } => println!(rt; "Part")?,
-            },
-            Err(fault) => println!(rt; "{fault}")?,
-        }
+    match build(rt.alloc(), instance, &Weights::plain()) {
+        Ok(built) => match &built {
+            Built::Whole(plan) => tell_plan(rt, "Whole", plan),
+            Built::Part { .. } => println!(rt; "Part"),
+        },
+        Err(fault) => println!(rt; "{fault}"),
     }
-    Ok(())
 }
 
 /// Makes the move twice, once more in the plan that came back, or else in another, and prints what came of it.
@@ -129,23 +126,16 @@ const PRICES: [i64; 2] = [0, 1_100_000];
 /// Steps of which each raises the value.
 const STEPS: [i64; 3] = [64_000, 32_000, 16_000];
 
-/// Finds a relaxed route of least reduced cost twice, and prints what came of it.
+/// Finds a relaxed route of least reduced cost, and prints what came of it.
 fn tell_least<R: Host>(rt: &R, instance: &Instance) -> io::Result<()> {
     if instance.customer_count() != 2 {
         return Err(io::Error::from(WRONG));
     }
     let region = Region::root(rt.alloc(), 2);
-    println!(rt; "ready")?;
-    for _ in 0..CALLS {
-        match least(rt.alloc(), instance, &region, &PRICES, 0, None) {
-            Ok(found) => {
-                let (value, route) = (found.value, found.route);
-                println!(rt; "Ok {value:?} {route:?}")?
-            }
-            Err(fault) => println!(rt; "{fault}")?,
-        }
+    match least(rt.alloc(), instance, &region, &PRICES, 0, None) {
+        Ok(found) => println!(rt; "Ok {:?} {:?}", found.value, found.route),
+        Err(fault) => println!(rt; "{fault}"),
     }
-    Ok(())
 }
 
 /// Improves the prices of two roots, and prints the best that were found.
@@ -178,19 +168,6 @@ fn tell_outcome<R: Host, T: Debug, E: Display>(rt: &R, outcome: &Result<T, E>) -
     }
 }
 
-/// Reads the certificate, or checks it with its solution and a text, twice, and prints what came of it.
-fn tell_read<R: Host>(rt: &R, text: Option<&[u8]>) -> io::Result<()> {
-    let (alloc, solution) = (rt.alloc(), Some(SOLUTION));
-    println!(rt; "ready")?;
-    for _ in 0..CALLS {
-        match text {
-            Some(text) => tell_outcome(rt, &check(alloc, text, CERTIFICATE, solution, STATES))?,
-            None => tell_outcome(rt, &certificate::read(alloc, CERTIFICATE))?,
-        }
-    }
-    Ok(())
-}
-
 /// Prints the texts of sinks in quotes, each behind a blank, and ends the line.
 fn tell_taken<R: Host>(rt: &R, sinks: &[&MemorySink]) -> io::Result<()> {
     for sink in sinks {
@@ -200,62 +177,70 @@ fn tell_taken<R: Host>(rt: &R, sinks: &[&MemorySink]) -> io::Result<()> {
     println!(rt; "")
 }
 
-/// Writes the certificate twice, and prints what came of it.
-fn tell_written<R: Host>(rt: &R) -> io::Result<()> {
-    let cert = made(certificate::read(rt.alloc(), CERTIFICATE).ok())?;
-    println!(rt; "ready")?;
-    for _ in 0..CALLS {
-        let mut sink = MemorySink::new(rt.alloc());
-        match certificate::write(&cert, &mut sink) {
-            Ok(()) => print!(rt; "Ok")?,
-            Err(fault) => print!(rt; "{fault}")?,
-        }
-        tell_taken(rt, &[&sink])?;
+/// Writes the certificate, and prints what came of it.
+fn tell_written<R: Host>(rt: &R, cert: &Cert) -> io::Result<()> {
+    let mut sink = MemorySink::new(rt.alloc());
+    match certificate::write(cert, &mut sink) {
+        Ok(()) => print!(rt; "Ok")?,
+        Err(fault) => print!(rt; "{fault}")?,
     }
-    Ok(())
+    tell_taken(rt, &[&sink])
 }
 
-/// Solves an instance twice, by few turns of one worker of each kind, and prints the answer and both texts.
+/// Solves an instance by few turns of one worker of each kind, and prints the answer and both texts.
 fn tell_solved<R: Host + Threads + Wait>(rt: &R, text: &[u8]) -> io::Result<()> {
     let (alloc, mut settings) = (rt.alloc(), Settings::default());
     (settings.searchers, settings.bounders, settings.turns) = (1, 1, 2);
-    println!(rt; "ready")?;
-    for _ in 0..CALLS {
-        let (mut plan, mut tree) = (MemorySink::new(alloc), MemorySink::new(alloc));
-        match solve(rt, alloc, text, &settings, &NoGate, &mut plan, &mut tree) {
-            Ok(answer) => print!(rt; "Ok {answer:?}")?,
-            Err(fault) => print!(rt; "{fault}")?,
-        }
-        tell_taken(rt, &[&plan, &tree])?;
+    let (mut plan, mut tree) = (MemorySink::new(alloc), MemorySink::new(alloc));
+    match solve(rt, alloc, text, &settings, &NoGate, &mut plan, &mut tree) {
+        Ok(answer) => print!(rt; "Ok {answer:?}")?,
+        Err(fault) => print!(rt; "{fault}")?,
     }
-    Ok(())
+    tell_taken(rt, &[&plan, &tree])
 }
 
-/// Makes the call of a name twice, on an instance where it needs one.
-fn tell<R: Host + Threads + Wait>(rt: &R, name: &str) -> io::Result<()> {
-    let text = made(text_of(rt.alloc(), name))?;
+/// Makes a call to which nothing is given back, and prints what came of it.
+fn tell_once<R: Host + Threads + Wait>(
+    rt: &R,
+    name: &str,
+    text: &[u8],
+    instance: &Instance,
+    cert: &Cert,
+) -> io::Result<()> {
+    let (alloc, solution) = (rt.alloc(), Some(SOLUTION));
     match name {
-        "read" => return tell_read(rt, None),
-        "write" => return tell_written(rt),
-        "check" => return tell_read(rt, Some(text.as_bytes())),
-        "solve_two" | "solve_three" => return tell_solved(rt, text.as_bytes()),
-        _ => {}
-    }
-    let instance = made(read(rt.alloc(), text.as_bytes()).ok())?;
-    match name {
-        "build" => tell_built(rt, &instance),
-        "apply" => tell_applied(rt, &instance),
-        "descend" => tell_descents(rt, &instance),
-        "least" => tell_least(rt, &instance),
-        "improve" => tell_improved(rt, &instance),
-        "offer" | "reprice" | "split" => tell_given(rt, &instance, name),
+        "build" => tell_built(rt, instance),
+        "least" => tell_least(rt, instance),
+        "read" => tell_outcome(rt, &certificate::read(alloc, CERTIFICATE)),
+        "write" => tell_written(rt, cert),
+        "check" => tell_outcome(rt, &check(alloc, text, CERTIFICATE, solution, STATES)),
+        "solve_two" | "solve_three" => tell_solved(rt, text),
         _ => Err(io::Error::from(WRONG)),
     }
 }
 
-pub(crate) fn tell_calls<R: Host + Threads + Wait>(rt: &R, names: &[String]) -> io::Result<()> {
+/// Makes the call of a name twice.
+fn tell<R: Host + Threads + Wait>(rt: &R, name: &str) -> io::Result<()> {
+    let text = made(text_of(rt.alloc(), name))?;
+    let instance = made(read(rt.alloc(), text.as_bytes()).ok())?;
+    match name {
+        "apply" => return tell_applied(rt, &instance),
+        "descend" => return tell_descents(rt, &instance),
+        "improve" => return tell_improved(rt, &instance),
+        "offer" | "reprice" | "split" => return tell_given(rt, &instance, name),
+        _ => {}
+    }
+    let cert = made(certificate::read(rt.alloc(), CERTIFICATE).ok())?;
+    println!(rt; "ready")?;
+    for _ in 0..CALLS {
+        tell_once(rt, name, text.as_bytes(), &instance, &cert)?;
+    }
+    Ok(())
+}
+
+pub(crate) fn tell_calls<R: Host + Threads + Wait>(rt: &R, names: &[&str]) -> io::Result<()> {
     for name in names {
-        tell(rt, name.as_str())?;
+        tell(rt, name)?;
     }
     Ok(())
 }

@@ -45,15 +45,10 @@ fn given_of<'i>(alloc: Global, instance: &'i Instance, name: &str) -> Option<Giv
     })
 }
 
-/// Splits the root of a book, if that is asked for, and offers a plan of a route for each customer until the
-/// book's room is full; says whether there was memory.
-fn fill<'i>(
-    alloc: Global,
-    instance: &'i Instance,
-    book: &mut Book<'i>,
-    is_split: bool,
-) -> Option<()> {
-    if is_split {
+/// A book whose room is full of offers of a route for each customer. The call `split` finds its root split.
+fn book_for<'i>(alloc: Global, instance: &'i Instance, name: &str) -> Option<Book<'i>> {
+    let mut book = book_of(alloc, instance, 1, Limits::MOST)?;
+    if name == "split" {
         let root = Region::root(alloc, 2);
         let (used, unused) = children_at(alloc, instance, &root, 1, ONWARD, &[0; 2])?;
         book.split(0, 0, ONWARD, used, unused).ok()?;
@@ -62,35 +57,7 @@ fn fill<'i>(
         let plan = plan_at(alloc, instance, &[&[1], &[2]])?;
         book.offer(0, plan).ok()?;
     }
-    Some(())
-}
-
-/// Prints how many events a book has, its best cost and its bound, behind what came of a call.
-fn tell_book<R: Host>(rt: &R, book: &Book<'_>) -> io::Result<()> {
-    let (events, gap) = (book.history().len(), book.gap());
-    let (cost, bound) = (gap.cost.map_or(0, |cost| cost.get()), gap.bound.get());
-    println!(rt; "events {events} cost {cost} bound {bound}")
-}
-
-/// Prints prices that came back, with their value.
-fn tell_prices<R: Host>(rt: &R, priced: &Priced<'_>) -> io::Result<()> {
-    let (value, prices) = (priced.value(), priced.prices());
-    print!(rt; "back {value} {prices:?} ")
-}
-
-/// Prints what came back.
-fn tell_back<R: Host>(rt: &R, given: &Given<'_>) -> io::Result<()> {
-    match given {
-        Given::Plan(plan) => {
-            let (cost, routes) = (plan.cost().get(), plan.routes());
-            print!(rt; "back {cost} {routes:?} ")
-        }
-        Given::Root(priced) => tell_prices(rt, priced),
-        Given::Children(used, unused) => {
-            tell_prices(rt, used)?;
-            tell_prices(rt, unused)
-        }
-    }
+    Some(book)
 }
 
 /// Prints the reply to an offer.
@@ -107,60 +74,56 @@ fn tell_reply<R: Host>(rt: &R, reply: &Offered<'_>) -> io::Result<()> {
     }
 }
 
-/// Gives a book what its call takes, prints the reply, and answers what the call gave back, where it was
-/// refused.
+/// Gives a book what its call takes, prints what came of it, and answers what the call gave back, where it
+/// was refused.
 fn give<'i, R: Host>(
     rt: &R,
     book: &mut Book<'i>,
     given: Given<'i>,
 ) -> io::Result<Option<Given<'i>>> {
-    let (back, fault) = match given {
+    match given {
         Given::Plan(plan) => match book.offer(0, plan) {
-            Ok(reply) => {
-                tell_reply(rt, &reply)?;
-                return Ok(None);
+            Ok(reply) => tell_reply(rt, &reply)?,
+            Err((plan, fault)) => {
+                print!(rt; "{fault} back {} {:?} ", plan.cost().get(), plan.routes())?;
+                return Ok(Some(Given::Plan(plan)));
             }
-            Err((plan, fault)) => (Given::Plan(plan), fault),
         },
         Given::Root(priced) => match book.reprice(0, 0, priced) {
-            Ok(()) => {
-                print!(rt; "Ok ")?;
-                return Ok(None);
+            Ok(()) => print!(rt; "Ok ")?,
+            Err((priced, fault)) => {
+                print!(rt; "{fault} back {} {:?} ", priced.value(), priced.prices())?;
+                return Ok(Some(Given::Root(priced)));
             }
-            Err((priced, fault)) => (Given::Root(priced), fault),
         },
         Given::Children(used, unused) => match book.split(0, APART, BACK, used, unused) {
-            Ok((used, unused)) => {
-                print!(rt; "Ok {used} {unused} ")?;
-                return Ok(None);
+            Ok((used, unused)) => print!(rt; "Ok {used} {unused} ")?,
+            Err((used, unused, fault)) => {
+                print!(rt; "{fault} back {} {:?} ", used.value(), used.prices())?;
+                print!(rt; "back {} {:?} ", unused.value(), unused.prices())?;
+                return Ok(Some(Given::Children(used, unused)));
             }
-            Err((used, unused, fault)) => (Given::Children(used, unused), fault),
         },
-    };
-    print!(rt; "{fault} ")?;
-    tell_back(rt, &back)?;
-    Ok(Some(back))
+    }
+    Ok(None)
 }
 
-/// Makes the call of a name twice: once more with what came back, or else with other such values.
-fn give_twice<'i, R: Host>(
-    rt: &R,
-    book: &mut Book<'i>,
-    instance: &'i Instance,
-    name: &str,
-) -> io::Result<()> {
+/// Prints how many events a book has, its best cost and its bound, behind what came of a call.
+fn tell_book<R: Host>(rt: &R, book: &Book<'_>) -> io::Result<()> {
+    let (events, gap) = (book.history().len(), book.gap());
+    let (cost, bound) = (gap.cost.map_or(0, |cost| cost.get()), gap.bound.get());
+    println!(rt; "events {events} cost {cost} bound {bound}")
+}
+
+/// Makes the call of a name twice on a book whose room is full: once more with what came back, or else with
+/// other such values.
+pub(crate) fn tell_given<R: Host>(rt: &R, instance: &Instance, name: &str) -> io::Result<()> {
+    let mut book = made(book_for(rt.alloc(), instance, name))?;
     let given = made(given_of(rt.alloc(), instance, name))?;
     let other = made(given_of(rt.alloc(), instance, name))?;
     println!(rt; "ready")?;
-    let back = give(rt, book, given)?;
-    tell_book(rt, book)?;
-    give(rt, book, back.unwrap_or(other))?;
-    tell_book(rt, book)
-}
-
-/// Makes the call of a name twice on a book whose room is full.
-pub(crate) fn tell_given<R: Host>(rt: &R, instance: &Instance, name: &str) -> io::Result<()> {
-    let mut book = made(book_of(rt.alloc(), instance, 1, Limits::MOST))?;
-    made(fill(rt.alloc(), instance, &mut book, name == "split"))?;
-    give_twice(rt, &mut book, instance, name)
+    let back = give(rt, &mut book, given)?;
+    tell_book(rt, &book)?;
+    give(rt, &mut book, back.unwrap_or(other))?;
+    tell_book(rt, &book)
 }

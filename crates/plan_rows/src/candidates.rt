@@ -51,9 +51,12 @@ fn value_in(alloc: Global, plan: &Feasible<'_>, candidate: &Move) -> Option<Opti
 }
 
 /// The value of a move, and by how much it changes the cost where it is made.
-pub(crate) fn told_move(alloc: Global, plan: Feasible<'_>, words: &[&str]) -> Option<String> {
-    let (from, to) = (words.get(2)?, words.get(3)?);
-    let candidate = move_of(words.get(1)?, chain_of(alloc, from)?, chain_of(alloc, to)?)?;
+pub(crate) fn told_move(
+    alloc: Global,
+    plan: Feasible<'_>,
+    [kind, from, to]: [&str; 3],
+) -> Option<String> {
+    let candidate = move_of(kind, chain_of(alloc, from)?, chain_of(alloc, to)?)?;
     let value = value_in(alloc, &plan, &candidate)?;
     let cost = plan.cost().get() as i64;
     let change = match apply(alloc, plan, &candidate) {

@@ -1,6 +1,6 @@
 //! Instances that are read, what they tell, and plans that insertion builds of them.
 
-use crate::words::{list_of, listed, number_at, told, told_routes};
+use crate::words::{list_of, listed, told, told_routes};
 use insertion::{Built, Weights, build};
 use row_texts::{DEPOT, behind, bytes_meant, instance_text};
 use schedule::walk;
@@ -13,12 +13,13 @@ pub(crate) fn told_instance(alloc: Global, instance: &Instance) -> Option<String
     let (fleet, capacity) = (instance.fleet(), instance.capacity());
     let customers = instance.customer_count();
     let row = instance.rows().last()?;
-    let last = format!(in alloc;
-        "last_x {} y {} demand {} ready {} due {} service {}",
-        row.x, row.y, row.demand, row.ready, row.due, row.service,
-    )
-    .ok()?;
-    format!(in alloc; "{name} fleet {fleet} capacity {capacity} customers {customers} {last}").ok()
+    let place = format!(in alloc; "x {} y {} demand {}", row.x, row.y, row.demand).ok()?;
+    let times = format!(in alloc;
+        "ready {} due {} service {}",
+        row.ready, row.due, row.service
+    );
+    let sizes = format!(in alloc; "fleet {fleet} capacity {capacity} customers {customers}").ok()?;
+    format!(in alloc; "{name} {sizes} last_{place} {}", times.ok()?).ok()
 }
 
 /// The rows of the depot and so many customers from (X,Y) on, each a step to the right of the one before.
@@ -42,32 +43,24 @@ pub(crate) const HIGH: u8 = 0x80;
 /// The text of an instance, by a command's fleet and capacity and its rows, before which a `line` has the
 /// customers of such a line.
 pub(crate) fn text_by(alloc: Global, line: &str, words: &[&str]) -> Option<String> {
-    let (fleet, capacity) = (number_at(words, 1)?, number_at(words, 2)?);
-    let (first, count) = match *words.first()? {
-        "line" => (rows_in(alloc, words.get(3)?)?, 4),
+    let (first, count) = match words {
+        ["line", _, _, customers, ..] => (rows_in(alloc, customers)?, 4),
         _ => (String::new(alloc), 3),
     };
     let rows = bytes_meant(alloc, behind(line, count), HIGH).ok()?;
     let rows = str::from_utf8(rows.as_slice()).ok()?;
-    instance_text(alloc, fleet, capacity, first.as_str(), rows).ok()
+    instance_text(alloc, words.get(1)?, words.get(2)?, first.as_str(), rows).ok()
 }
 
 /// Whether an instance is the one of the text of a command.
 pub(crate) fn told_same(alloc: Global, instance: &Instance, text: &str) -> Option<String> {
-    let other = read(alloc, text.as_bytes()).ok()?;
-    told(
-        alloc,
-        if *instance == other {
-            "the same"
-        } else {
-            "another"
-        },
-    )
+    let is_same = *instance == read(alloc, text.as_bytes()).ok()?;
+    told(alloc, if is_same { "the same" } else { "another" })
 }
 
 /// The walk of a route.
-pub(crate) fn told_walk(alloc: Global, instance: &Instance, words: &[&str]) -> Option<String> {
-    let route = list_of(alloc, words.get(1)?)?;
+pub(crate) fn told_walk(alloc: Global, instance: &Instance, route: &str) -> Option<String> {
+    let route = list_of(alloc, route)?;
     let Some(walk) = walk(instance, route.as_slice()) else {
         return told(alloc, "none");
     };
@@ -75,14 +68,14 @@ pub(crate) fn told_walk(alloc: Global, instance: &Instance, words: &[&str]) -> O
     format!(in alloc; "cost {cost} load {load} finish {finish}").ok()
 }
 
-/// What a build by the weights of a command ends with.
-pub(crate) fn told_build(alloc: Global, instance: &Instance, words: &[&str]) -> Option<String> {
-    let (mu, lambda, a1) = (
-        number_at(words, 1)?,
-        number_at(words, 2)?,
-        number_at(words, 3)?,
-    );
-    let Some(weights) = Weights::new(mu, lambda, a1) else {
+/// What a build by these weights ends with.
+pub(crate) fn told_build(
+    alloc: Global,
+    instance: &Instance,
+    [mu, lambda, a1]: [&str; 3],
+) -> Option<String> {
+    let weights = Weights::new(mu.parse().ok()?, lambda.parse().ok()?, a1.parse().ok()?);
+    let Some(weights) = weights else {
         return told(alloc, "weights out of range");
     };
     match build(alloc, instance, &weights).ok()? {

@@ -6,22 +6,6 @@ use segments::{Linked, RouteTree, Segment};
 use solomon_reader::Instance;
 use std::alloc::Global;
 
-/// The join of two stops by a tree into which the first was put later, and the last in that tree.
-fn joined_by_tree(
-    alloc: Global,
-    instance: &Instance,
-    first: &Segment,
-    second: &Segment,
-) -> Option<(Option<Segment>, Option<Segment>)> {
-    let items = vec![in alloc; *second].ok()?;
-    let mut tree = RouteTree::new(alloc, instance, items).ok()?;
-    tree.splice(instance, 0, 0, &[*first]).ok()?;
-    if tree.len() != 2 {
-        return None;
-    }
-    Some((tree.whole().copied(), tree.span(instance, 1, 2)))
-}
-
 /// The numbers of a join, if there is one.
 fn told_join(alloc: Global, join: Option<Segment>) -> Option<String> {
     let Some(join) = join else {
@@ -34,16 +18,24 @@ fn told_join(alloc: Global, join: Option<Segment>) -> Option<String> {
     ).ok()
 }
 
-/// The joins of customers 1 and 2, alone and by a tree, and who is last in that.
+/// The joins of customers 1 and 2, alone and by a tree into which the first was put later, and who is last in
+/// that.
 pub(crate) fn told_joins(alloc: Global, instance: &Instance) -> Option<String> {
     if instance.customer_count() != 2 {
         return None;
     }
     let (first, second) = (Segment::stop(instance, 1), Segment::stop(instance, 2));
-    let (whole, last) = joined_by_tree(alloc, instance, &first, &second)?;
-    let last = named(alloc, "last", &[last.map(|stop| i64::from(stop.first()))])?;
-    let whole = told_join(alloc, whole)?;
     let alone = told_join(alloc, Segment::join(instance, &first, &second))?;
+    let mut tree = RouteTree::new(alloc, instance, vec![in alloc; second].ok()?).ok()?;
+    tree.splice(instance, 0, 0, &[first]).ok()?;
+    if tree.len() != 2 {
+        return None;
+    }
+    let whole = told_join(alloc, tree.whole().copied())?;
+    let last = tree
+        .span(instance, 1, 2)
+        .map(|stop| i64::from(stop.first()));
+    let last = named(alloc, "last", &[last])?;
     format!(in alloc; "{alone}\n{whole}\n{last}").ok()
 }
 

@@ -1,6 +1,6 @@
 //! Prices at leaves: their values, steps, and the least reduced costs.
 
-use crate::words::{list_of, listed, named, number_at, pair_of};
+use crate::words::{list_of, listed, named, pair_of};
 use branching::{Arc, Region};
 use labelling::{Hints, least, least_by_hints};
 use prices::{Priced, improve};
@@ -23,21 +23,17 @@ fn region_of(alloc: Global, size: u16, word: &str) -> Option<Region> {
     }
 }
 
-/// The leaf of a command that names a region, the neighbours, the prices and perhaps a limit of labels, or
-/// why there is none and what came back; none where they do not fit the instance.
-pub(crate) fn leaf_by<'i>(
+/// The leaf of a region, neighbours and prices, perhaps with a limit of labels, or why there is none and what
+/// came back; none where they do not fit the instance.
+fn leaf_at<'i>(
     alloc: Global,
     instance: &'i Instance,
-    words: &[&str],
+    [region, neighbours, prices]: [&str; 3],
+    limit: Option<usize>,
 ) -> Option<Result<Priced<'i>, String>> {
     let count = instance.customer_count();
-    let neighbours = number_at::<u32>(words, 2)?;
-    let limit = match words.get(4) {
-        Some(word) => Some(word.parse::<usize>().ok()?),
-        None => None,
-    };
-    let prices = list_of(alloc, words.get(3)?)?;
-    let region = region_of(alloc, count, words.get(1)?)?;
+    let (neighbours, prices) = (neighbours.parse::<u32>().ok()?, list_of(alloc, prices)?);
+    let region = region_of(alloc, count, region)?;
     let fit = region.size() == count && prices.len() == usize::from(count);
     if !fit || neighbours > MOST_NEIGHBOURS {
         return None;
@@ -53,7 +49,7 @@ pub(crate) fn leaf_by<'i>(
 }
 
 /// The value of a leaf, its prices, and what else it was made of.
-pub(crate) fn told_value(alloc: Global, leaf: &Priced<'_>) -> Option<String> {
+fn told_value(alloc: Global, leaf: &Priced<'_>) -> Option<String> {
     let (value, customers) = (leaf.value(), leaf.instance().customer_count());
     let (neighbours, prices) = (leaf.neighbours(), listed(alloc, "prices", leaf.prices())?);
     format!(in alloc; "value {value} customers {customers} neighbours {neighbours} {prices}").ok()
@@ -64,22 +60,18 @@ fn told_cost(alloc: Global, cost: Option<i128>) -> Option<String> {
     named(alloc, "least", &[i64::try_from(cost?).ok()])
 }
 
-/// The least reduced cost at the prices of a command: as a leaf keeps it, or found with a limit.
-pub(crate) fn told_least(alloc: Global, instance: &Instance, words: &[&str]) -> Option<String> {
-    let leaf = leaf_by(alloc, instance, words.get(..4)?)?.ok()?;
-    let Some(limit) = number_at::<usize>(words, 4) else {
-        return told_cost(alloc, leaf.least().value);
-    };
+/// The least reduced cost at a leaf, found with a limit of labels.
+fn told_least(alloc: Global, leaf: &Priced<'_>, limit: usize) -> Option<String> {
     let _value = leaf.value();
-    let found = least(
+    let (instance, region, prices) = (leaf.instance(), leaf.region(), leaf.prices());
+    match least(
         alloc,
-        leaf.instance(),
-        leaf.region(),
-        leaf.prices(),
+        instance,
+        region,
+        prices,
         leaf.neighbours(),
         Some(limit),
-    );
-    match found {
+    ) {
         Ok(found) => told_cost(alloc, found.value),
         Err(fault) => fault.to_string(alloc).ok(),
     }
@@ -96,41 +88,56 @@ fn reduced_cost(instance: &Instance, prices: &[i64], stops: &[u16]) -> Option<i6
     Some(cost)
 }
 
-/// The least reduced cost at the prices of a command where a route is known, and the reduced costs of the
-/// further routes that were met.
-pub(crate) fn told_met(alloc: Global, instance: &Instance, words: &[&str]) -> Option<String> {
-    let leaf = leaf_by(alloc, instance, words.get(..4)?)?.ok()?;
+/// The least reduced cost at a leaf where a route is known, and the reduced costs of the further routes that
+/// were met.
+fn told_met(alloc: Global, leaf: &Priced<'_>, route: &str) -> Option<String> {
     let _value = leaf.value();
-    let mut hints = Hints::of(alloc, list_of(alloc, words.get(4)?)?, None);
-    let (region, prices) = (leaf.region(), leaf.prices());
+    let mut hints = Hints::of(alloc, list_of(alloc, route)?, None);
+    let (instance, region, prices) = (leaf.instance(), leaf.region(), leaf.prices());
     let neighbours = leaf.neighbours();
     let found = least_by_hints(
-        alloc,
-        leaf.instance(),
-        region,
-        prices,
-        neighbours,
-        None,
-        &mut hints,
+        alloc, instance, region, prices, neighbours, None, &mut hints,
     );
     let mut costs = Vec::new(alloc);
     for route in &hints.met {
-        let cost = reduced_cost(instance, prices, route.as_slice())?;
-        costs.push(cost).ok()?;
+        costs
+            .push(reduced_cost(instance, prices, route.as_slice())?)
+            .ok()?;
     }
     let met = listed(alloc, "met", costs.as_slice())?;
     let cost = told_cost(alloc, found.ok()?.value)?;
     format!(in alloc; "{cost} {met}").ok()
 }
 
-/// What steps make of the prices of a command: the leaf before them and behind them, and its least reduced
-/// cost.
-pub(crate) fn told_steps(alloc: Global, instance: &Instance, words: &[&str]) -> Option<String> {
-    let steps = list_of(alloc, words.get(4)?)?;
-    let leaf = leaf_by(alloc, instance, words.get(..4)?)?.ok()?;
+/// What steps make of the prices of a leaf: it before them and behind them, and its least reduced cost.
+fn told_steps(alloc: Global, leaf: Priced<'_>, steps: &str) -> Option<String> {
+    let steps = list_of(alloc, steps)?;
     let before = told_value(alloc, &leaf)?;
     let better = improve(alloc, leaf, steps.as_slice(), None);
     let value = told_value(alloc, &better)?;
     let cost = told_cost(alloc, better.least().value)?;
     format!(in alloc; "{before}\n{value}\n{cost}").ok()
+}
+
+/// What comes of a command for the leaf of its words, with a word behind them or without one.
+pub(crate) fn told_leaf(
+    alloc: Global,
+    instance: &Instance,
+    command: &str,
+    words: [&str; 3],
+    last: Option<&str>,
+) -> Option<String> {
+    let limit = last.and_then(|word| word.parse::<usize>().ok());
+    let most = if command == "leaf" { limit } else { None };
+    let leaf = match leaf_at(alloc, instance, words, most)? {
+        Ok(leaf) => leaf,
+        Err(back) => return Some(back),
+    };
+    match (command, limit) {
+        ("leaf", _) => told_value(alloc, &leaf),
+        ("least", Some(limit)) => told_least(alloc, &leaf, limit),
+        ("least", None) => told_cost(alloc, leaf.least().value),
+        ("met", _) => told_met(alloc, &leaf, last?),
+        _ => told_steps(alloc, leaf, last?),
+    }
 }

@@ -31,10 +31,10 @@ mod words;
 use crate::candidates::{told_bests, told_move};
 use crate::instances::{HIGH, text_by, told_build, told_instance, told_same, told_walk};
 use crate::joins::{told_joins, told_lists};
-use crate::leaves::{leaf_by, told_least, told_met, told_steps, told_value};
+use crate::leaves::told_leaf;
 use crate::numbers::told_distances;
 use crate::plans::{descend, routes_of, told_drawn, told_plan, told_trees};
-use crate::words::{number_at, told_routes};
+use crate::words::told_routes;
 use row_texts::{behind, bytes_meant};
 use schedule::Feasible;
 use solomon_reader::{Instance, read};
@@ -51,39 +51,20 @@ struct State {
     routes: Vec<Vec<u16>>,
 }
 
-/// What comes of a call that needs an instance.
-fn told_of(alloc: Global, instance: &Instance, line: &str, words: &[&str]) -> Option<String> {
-    match *words.first()? {
-        "same" => told_same(alloc, instance, text_by(alloc, line, words)?.as_str()),
-        "ceiling" => instance.ceiling().get().to_string(alloc).ok(),
-        "walk" => told_walk(alloc, instance, words),
-        "joins" => told_joins(alloc, instance),
-        "build" => told_build(alloc, instance, words),
-        "leaf" => match leaf_by(alloc, instance, words)? {
-            Ok(leaf) => told_value(alloc, &leaf),
-            Err(back) => Some(back),
-        },
-        "steps" => told_steps(alloc, instance, words),
-        "least" => told_least(alloc, instance, words),
-        "met" => told_met(alloc, instance, words),
-        _ => None,
-    }
-}
-
 /// What comes of a call that needs a plan.
 fn told_of_plan<R: AllocGlobal + Threads + Sync>(
     rt: &R,
-    instance: &Instance,
     plan: Feasible<'_>,
     words: &[&str],
 ) -> Option<String> {
-    match *words.first()? {
-        "routes" => told_routes(rt.alloc(), "routes", plan.routes()),
-        "trees" => told_trees(rt.alloc(), instance, &plan),
-        "move" => told_move(rt.alloc(), plan, words),
-        "bests" => told_bests(rt, &plan),
-        "shake" => told_drawn(rt.alloc(), plan, number_at(words, 1), words.get(2)?),
-        "turn" => told_drawn(rt.alloc(), plan, None, words.get(1)?),
+    let alloc = rt.alloc();
+    match words {
+        ["routes"] => told_routes(alloc, "routes", plan.routes()),
+        ["trees"] => told_trees(alloc, &plan),
+        ["move", kind, from, to] => told_move(alloc, plan, [kind, from, to]),
+        ["bests"] => told_bests(rt, &plan),
+        ["shake", count, draws] => told_drawn(alloc, plan, Some(count.parse().ok()?), draws),
+        ["turn", draws] => told_drawn(alloc, plan, None, draws),
         _ => None,
     }
 }
@@ -95,18 +76,32 @@ fn told_held<R: AllocGlobal + Threads + Sync>(
     line: &str,
     words: &[&str],
 ) -> Option<String> {
-    let instance = state.instance.as_ref()?;
+    let (alloc, instance) = (rt.alloc(), state.instance.as_ref()?);
     match words {
+        ["same", ..] => told_same(alloc, instance, text_by(alloc, line, words)?.as_str()),
+        ["ceiling"] => instance.ceiling().get().to_string(alloc).ok(),
+        ["walk", route] => told_walk(alloc, instance, route),
+        ["joins"] => told_joins(alloc, instance),
+        ["build", mu, lambda, a1] => told_build(alloc, instance, [mu, lambda, a1]),
+        [
+            command @ ("leaf" | "least" | "met" | "steps"),
+            region,
+            neighbours,
+            prices,
+            rest @ ..,
+        ] => {
+            let last = rest.first().copied();
+            told_leaf(alloc, instance, command, [region, neighbours, prices], last)
+        }
         ["plan", routes @ ..] => {
-            state.routes = routes_of(rt.alloc(), routes)?;
-            told_plan(rt.alloc(), instance, state.routes.clone().ok()?)
+            state.routes = routes_of(alloc, routes)?;
+            told_plan(alloc, instance, state.routes.clone().ok()?)
         }
         ["descend"] => descend(rt, instance, &mut state.routes),
-        ["routes" | "trees" | "move" | "bests" | "shake" | "turn", ..] => {
+        _ => {
             let plan = Feasible::check(instance, state.routes.clone().ok()?).ok()?;
-            told_of_plan(rt, instance, plan, words)
+            told_of_plan(rt, plan, words)
         }
-        _ => told_of(rt.alloc(), instance, line, words),
     }
 }
 
@@ -133,16 +128,17 @@ fn told_command<R: AllocGlobal + Threads + Sync>(
     words: &[&str],
 ) -> Option<String> {
     let alloc = rt.alloc();
-    match *words.first()? {
-        "instance" | "line" => read_held(alloc, state, text_by(alloc, line, words)?.as_bytes()),
-        "bytes" => read_held(
-            alloc,
-            state,
-            bytes_meant(alloc, behind(line, 1), HIGH).ok()?.as_slice(),
-        ),
-        "root" => root(number_at(words, 1)?).to_string(alloc).ok(),
-        "distances" => told_distances(alloc, words.get(1..)?),
-        "lists" => told_lists(alloc),
+    match words {
+        ["instance" | "line", ..] => {
+            read_held(alloc, state, text_by(alloc, line, words)?.as_bytes())
+        }
+        ["bytes", ..] => {
+            let text = bytes_meant(alloc, behind(line, 1), HIGH).ok()?;
+            read_held(alloc, state, text.as_slice())
+        }
+        ["root", number] => root(number.parse().ok()?).to_string(alloc).ok(),
+        ["distances", points @ ..] => told_distances(alloc, points),
+        ["lists"] => told_lists(alloc),
         _ => told_held(rt, state, line, words),
     }
 }

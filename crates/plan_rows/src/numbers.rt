@@ -1,10 +1,8 @@
 //! Distances.
 
-ghost use Rattle.std.specs.Prelude.{◌≡◌, ◌<◌, length};
-
 use crate::words::{listed, pair_of};
 use std::alloc::Global;
-use tenths::{Point, Table, distance};
+use tenths::{Point, distance};
 
 fn points_of(alloc: Global, words: &[&str]) -> Option<Vec<Point>> {
     let mut points = Vec::new(alloc);
@@ -15,18 +13,11 @@ fn points_of(alloc: Global, words: &[&str]) -> Option<Vec<Point>> {
     Some(points)
 }
 
-/// The distances from one of the points, if those of the table are the same.
-fn row_of(alloc: Global, table: &Table, points: &[Point], from: usize) -> Option<Vec<u64>>
-    requires table { table.now ≡ points.now }
-    requires from { from < length points.now }
-{
+/// The distances from a point.
+fn row_of(alloc: Global, from: Point, points: &[Point]) -> Option<Vec<u64>> {
     let mut row = Vec::new(alloc);
-    for (to, point) in points.iter().enumerate() {
-        let found = distance(points[from], *point);
-        if table.get(from, to) != found {
-            return None;
-        }
-        row.push(found.get()).ok()?;
+    for to in points {
+        row.push(distance(from, *to).get()).ok()?;
     }
     Some(row)
 }
@@ -34,10 +25,9 @@ fn row_of(alloc: Global, table: &Table, points: &[Point], from: usize) -> Option
 /// The table of the distances between points.
 pub(crate) fn told_distances(alloc: Global, words: &[&str]) -> Option<String> {
     let points = points_of(alloc, words)?;
-    let table = Table::new(alloc, points.as_slice()).ok()?;
     let mut text = String::new(alloc);
-    for from in 0..points.len() {
-        let row = row_of(alloc, &table, points.as_slice(), from)?;
+    for from in &points {
+        let row = row_of(alloc, *from, points.as_slice())?;
         let row = listed(alloc, "from", row.as_slice())?;
         text = format!(in alloc; "{text}{row}\n").ok()?;
     }

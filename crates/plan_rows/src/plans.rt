@@ -1,7 +1,7 @@
 //! Plans, their trees, and what a searcher makes of them.
 
 use crate::script::Script;
-use crate::words::{list_of, named, told_routes};
+use crate::words::{list_of, told_routes};
 use rand_core::SeedableRng;
 use rand_xoshiro::Xoshiro256PlusPlus;
 use schedule::Feasible;
@@ -27,24 +27,19 @@ pub(crate) fn told_plan(
     routes: Vec<Vec<u16>>,
 ) -> Option<String> {
     match Feasible::check(instance, routes) {
-        Ok(plan) => named(alloc, "cost", &[Some(plan.cost().get() as i64)]),
+        Ok(plan) => format!(in alloc; "cost {}", plan.cost().get()).ok(),
         Err((_routes, fault)) => fault.to_string(alloc).ok(),
     }
 }
 
-/// How many stops the first tree of a plan has, and its height, if the trees are of the instance.
-pub(crate) fn told_trees(
-    alloc: Global,
-    instance: &Instance,
-    plan: &Feasible<'_>,
-) -> Option<String> {
-    let mut trees = PlanTrees::new(alloc, plan).ok()?;
-    if trees.count() == 0 || *trees.instance() != *instance {
+/// How many stops the first tree of a plan has, and its height.
+pub(crate) fn told_trees(alloc: Global, plan: &Feasible<'_>) -> Option<String> {
+    let trees = PlanTrees::new(alloc, plan).ok()?;
+    if trees.count() == 0 {
         return None;
     }
-    let height = i64::from(trees.route(0).height());
-    let stops = i64::try_from(trees.route_mut(0).len()).ok();
-    named(alloc, "stops height", &[stops, Some(height)])
+    let tree = trees.route(0);
+    format!(in alloc; "stops {} height {}", tree.len(), tree.height()).ok()
 }
 
 /// Descends, holds the routes at the end of the descent in one thread, and tells the costs.
@@ -69,19 +64,14 @@ pub(crate) fn descend<R: AllocGlobal + Threads + Sync>(
 pub(crate) fn told_drawn(
     alloc: Global,
     plan: Feasible<'_>,
-    count: Option<u16>,
+    count: Option<u32>,
     draws: &str,
 ) -> Option<String> {
     let draws = list_of(alloc, draws)?;
-    let mut searcher = Searcher::new(
-        alloc,
-        plan,
-        Script {
-            words: draws.as_slice(),
-        },
-    );
+    let words = draws.as_slice();
+    let mut searcher = Searcher::new(alloc, plan, Script { words });
     match count {
-        Some(count) => searcher.shake(u32::from(count)).ok()?,
+        Some(count) => searcher.shake(count).ok()?,
         None => searcher.turn().ok()?,
     }
     told_routes(alloc, "routes", searcher.plan().routes())

@@ -4,14 +4,6 @@ use std::alloc::Global;
 use std::fmt::Display;
 use std::str::FromStr;
 
-/// The word at an index, as a number.
-pub(crate) fn number_at<T: FromStr>(words: &[&str], index: usize) -> Option<T>
-where
-    T::Err: Drop,
-{
-    words.get(index)?.parse::<T>().ok()
-}
-
 /// Two numbers with a comma between them.
 pub(crate) fn pair_of(word: &str) -> Option<(u16, u16)> {
     let (first, second) = word.split_once(',')?;

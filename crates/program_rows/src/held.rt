@@ -122,10 +122,10 @@ fn tell_worker<R: Runtime + AllocGlobal + Threads + Wait + Sync>(
 pub fn tell_held<R: Runtime + AllocGlobal + Threads + Wait + Sync>(
     rt: &R,
     path: &str,
-) -> io::Result<bool> {
+) -> io::Result<()> {
     let text = fs::read(rt, path)?;
     for worker in 0..WORKERS {
         tell_worker(rt, text.as_slice(), worker)?;
     }
-    Ok(true)
+    Ok(())
 }

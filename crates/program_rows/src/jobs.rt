@@ -5,7 +5,7 @@ use std::rt::Runtime;
 use vrptw::{Job, job};
 
 /// Prints what the words ask for.
-pub fn tell_job<R: Runtime + AllocGlobal>(rt: &R, words: &[&str]) -> io::Result<bool> {
+pub fn tell_job<R: Runtime + AllocGlobal>(rt: &R, words: &[&str]) -> io::Result<()> {
     match job(rt.alloc(), words) {
         Ok(
             Job::Solve {
@@ -20,7 +20,7 @@ pub fn tell_job<R: Runtime + AllocGlobal>(rt: &R, words: &[&str]) -> io::Result<
         ) => {
             println!(rt; "  solve {instance} {solution} {certificate}")?;
             println!(rt; "  {settings:?}")?;
-            println!(rt; "  close {close} leaves {leaves} progress {progress}")?;
+            println!(rt; "  close {close} leaves {leaves} progress {progress}")
         }
         Ok(
             Job::Check {
@@ -29,8 +29,7 @@ pub fn tell_job<R: Runtime + AllocGlobal>(rt: &R, words: &[&str]) -> io::Result<
                 solution,
                 states,
             },
-        ) => println!(rt; "  check {instance} {certificate} {solution:?} states {states}")?,
-        Err(_) => println!(rt; "  refused")?,
+        ) => println!(rt; "  check {instance} {certificate} {solution:?} states {states}"),
+        Err(_) => rt.println("  refused"),
     }
-    Ok(true)
 }

@@ -32,7 +32,7 @@ use crate::bounds::tell_bound;
 use crate::held::tell_held;
 use crate::jobs::tell_job;
 use crate::library::tell_library;
-use crate::runs::{run, tell_printed, tell_streams, tell_unheard};
+use crate::runs::{run, tell_printed, tell_unheard};
 use crate::sinks::tell_sinks;
 use crate::texts::{tell_file, write_file, write_text};
 use std::io;
@@ -40,41 +40,29 @@ use std::rt::Runtime;
 use std::sync::Wait;
 use std::thread::Threads;
 
-/// Does what a command asks for, and says whether it was understood.
+/// Does what a command asks for, if it is understood.
 fn obey<R: Runtime + AllocGlobal + Threads + Wait + Sync>(
     rt: &R,
     line: &str,
     words: &[&str],
-) -> io::Result<bool> {
+) -> io::Result<()> {
     match words {
-        [] | ["#", ..] => Ok(true),
+        [] | ["#", ..] => Ok(()),
         ["file", path, fleet, capacity, ..] => write_file(rt, line, [path, fleet, capacity]),
         ["text", path, ..] => write_text(rt, line, path),
         ["show", path] => tell_file(rt, path),
-        ["bound", rest @ ..] => tell_bound(rt, rest),
+        ["bound", path] => tell_bound(rt, path, 0),
+        ["bound", path, most] => tell_bound(rt, path, most.parse().unwrap_or(0)),
         ["job", rest @ ..] => tell_job(rt, rest),
         ["unheard", kind] => tell_unheard(rt, kind),
-        ["run", rest @ ..] => tell_printed(rt, &run(rt, rest)),
-        ["streams", rest @ ..] => tell_streams(rt, &run(rt, rest)),
-        ["solve", rest @ ..] => tell_solving(rt, rest),
+        ["run", rest @ ..] => tell_printed(rt, &run(rt, rest), true),
+        ["streams", rest @ ..] => tell_printed(rt, &run(rt, rest), false),
+        ["solve", path, options @ ..] => tell_solving(rt, path, options),
         ["library", path, option, number] => tell_library(rt, [path, option, number]),
         ["sinks", which, path] => tell_sinks(rt, which, path),
         ["held", path] => tell_held(rt, path),
-        _ => Ok(false),
+        _ => rt.println("  not understood"),
     }
-}
-
-/// Prints a line of the script, and what comes of it.
-fn tell_line<R: Runtime + AllocGlobal + Threads + Wait + Sync>(
-    rt: &R,
-    line: &str,
-) -> io::Result<()> {
-    rt.println(line)?;
-    let words: Vec<&str> = line.split_whitespace().collect(rt.alloc())?;
-    if obey(rt, line, words.as_slice())? {
-        return Ok(());
-    }
-    rt.println("  not understood")
 }
 
 /// Prints the lines of a script, and what comes of each command, or that it isn't understood. Files are
@@ -84,7 +72,9 @@ pub fn tell_rows<R: Runtime + AllocGlobal + Threads + Wait + Sync>(
     script: &str,
 ) -> io::Result<()> {
     for line in script.lines() {
-        tell_line(rt, line)?;
+        rt.println(line)?;
+        let words: Vec<&str> = line.split_whitespace().collect(rt.alloc())?;
+        obey(rt, line, words.as_slice())?;
     }
     Ok(())
 }

@@ -1,47 +1,26 @@
 //! Calls of the solver's library.
 
-use crate::bounds::{bound_of, tell_head};
+use crate::bounds::tell_head;
 use crate::texts::tell_text;
 use std::rt::Runtime;
 use std::sync::Wait;
 use std::thread::Threads;
 use std::{fs, io};
 use tenths::MemorySink;
-use vrptw::{Answer, NoGate, Settings, SolveFault, close, solve};
+use vrptw::{NoGate, Settings, close, solve};
 
-/// Prints how the certificate begins, or where there is no answer why, and both texts.
-fn tell_answer<R: Runtime + AllocGlobal>(
-    rt: &R,
-    answer: Result<Answer, SolveFault>,
-    solution: &[u8],
-    certificate: &[u8],
-) -> io::Result<bool> {
-    match answer {
-        Ok(_) if bound_of(rt.alloc(), certificate).is_some() => tell_head(rt, certificate)?,
-        Ok(_) => rt.println("  no certificate")?,
-        Err(fault) => {
-            println!(rt; "  refused {fault}")?;
-            tell_text(rt, "solution", solution)?;
-            tell_text(rt, "certificate", certificate)?;
-        }
-    }
-    Ok(true)
-}
-
-/// Calls the library for the instance of a file with the number of one option, and says whether the words
-/// were understood: `leaves` closes the instance, and another one is a setting of the solver.
+/// Calls the library for the instance of a file with the number of one option: `leaves` closes the instance,
+/// and another one is a setting of the solver. Prints how the certificate begins, or why there is none, and
+/// then both texts.
 pub fn tell_library<R: Runtime + AllocGlobal + Threads + Wait + Sync>(
     rt: &R,
     [path, option, number]: [&str; 3],
-) -> io::Result<bool> {
-    let (Ok(number), mut settings) = (number.parse::<u32>(), Settings::default()) else {
-        return Ok(false);
-    };
+) -> io::Result<()> {
+    let (number, mut settings) = (number.parse().unwrap_or(0), Settings::default());
     match option {
-        "leaves" => {}
         "neighbours" => settings.neighbours = number,
         "labels" => settings.labels = number,
-        _ => return Ok(false),
+        _ => {}
     }
     let (alloc, text) = (rt.alloc(), fs::read(rt, path)?);
     let (mut first, mut second) = (MemorySink::new(alloc), MemorySink::new(alloc));
@@ -50,5 +29,10 @@ pub fn tell_library<R: Runtime + AllocGlobal + Threads + Wait + Sync>(
         "leaves" => close(alloc, text, &settings, number, &mut first, &mut second),
         _ => solve(rt, alloc, text, &settings, &NoGate, &mut first, &mut second),
     };
-    tell_answer(rt, answer, first.as_slice(), second.as_slice())
+    let Err(fault) = answer else {
+        return tell_head(rt, second.as_slice());
+    };
+    println!(rt; "  refused {fault}")?;
+    tell_text(rt, "solution", first.as_slice())?;
+    tell_text(rt, "certificate", second.as_slice())
 }

@@ -28,37 +28,31 @@ pub fn run<R: Runtime + AllocGlobal + Threads + Wait + Sync>(rt: &R, words: &[&s
     }
 }
 
-/// Prints all that came of a run.
-pub fn tell_printed<R: Runtime + AllocGlobal>(rt: &R, printed: &Printed) -> io::Result<bool> {
-    println!(rt; "  status {}", printed.status)?;
-    tell_text(rt, "out", printed.out.as_slice())?;
-    tell_text(rt, "errors", printed.errors.as_slice())?;
-    Ok(true)
-}
-
-/// Prints the status of a run, and which of the streams stayed empty.
-pub fn tell_streams<R: Runtime>(rt: &R, printed: &Printed) -> io::Result<bool> {
+/// Prints the status of a run and both streams, or of these only whether they stayed empty.
+pub fn tell_printed<R: Runtime + AllocGlobal>(
+    rt: &R,
+    printed: &Printed,
+    is_whole: bool,
+) -> io::Result<()> {
     println!(rt; "  status {}", printed.status)?;
     for (name, sink) in [("out", &printed.out), ("errors", &printed.errors)] {
-        let is_empty = sink.as_slice().is_empty();
-        let kind = if is_empty { "empty" } else { "written" };
-        println!(rt; "  {name} {kind}")?;
+        let text = sink.as_slice();
+        let is_shown = is_whole || text.is_empty();
+        tell_text(rt, name, if is_shown { text } else { b"written" })?;
     }
-    Ok(true)
+    Ok(())
 }
 
 /// Prints the status where the words can't be had for a fault of this kind, and how what is said begins.
-pub fn tell_unheard<R: Runtime + AllocGlobal>(rt: &R, word: &str) -> io::Result<bool> {
+pub fn tell_unheard<R: Runtime + AllocGlobal>(rt: &R, word: &str) -> io::Result<()> {
     let kind = match word {
         "InvalidData" => io::ErrorKind::InvalidData,
         "OutOfMemory" => io::ErrorKind::OutOfMemory,
-        "Other" => io::ErrorKind::Other,
-        _ => return Ok(false),
+        _ => io::ErrorKind::Other,
     };
     let mut errors = MemorySink::new(rt.alloc());
     let status = words_fault(rt.alloc(), &io::Error::from(kind), &mut errors);
     println!(rt; "  status {status}")?;
     let mut lines = Lines::new(errors.as_slice());
-    tell_text(rt, "errors begin", lines.next().unwrap_or(b""))?;
-    Ok(true)
+    tell_text(rt, "errors begin", lines.next().unwrap_or(b""))
 }

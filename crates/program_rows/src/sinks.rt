@@ -2,7 +2,7 @@
 
 ghost use Rattle.std.specs.Prelude.{◌+◌, Some};
 
-use crate::bounds::bound_of;
+use certificate::read;
 use std::alloc::Global;
 use std::rt::Runtime;
 use std::sync::Wait;
@@ -58,19 +58,21 @@ const MANY_WRITES: usize = 200;
 
 const FEW_WRITES: usize = 3;
 
-/// Whether these sinks hold both texts in the end, or else what may stand where the first failed, or else the
-/// second; none where they hold neither.
+/// Whether sinks of so many writes hold both texts in the end, or else what may stand where the first failed, or
+/// else the second; none where they hold neither.
 fn ends_whole<R: Runtime + AllocGlobal + Threads + Wait + Sync>(
     rt: &R,
     text: &[u8],
     is_first: bool,
-    mut first: Tight,
-    mut second: Tight,
+    (first, second): (usize, usize),
+    drips: bool,
 ) -> Option<bool> {
     let (alloc, settings) = (rt.alloc(), Settings::default());
+    let mut first = Tight::new(alloc, first, drips);
+    let mut second = Tight::new(alloc, second, drips);
     let answer = solve(rt, alloc, text, &settings, &NoGate, &mut first, &mut second);
     let (solution, certificate) = (first.inner.as_slice(), second.inner.as_slice());
-    let is_certificate = bound_of(alloc, certificate).is_some();
+    let is_certificate = read(alloc, certificate).is_ok();
     let (is_right, is_whole) = match answer {
         Ok(_) => {
             let begin = solution == SOLUTION && certificate.starts_with(HEAD);
@@ -86,7 +88,7 @@ fn ends_whole<R: Runtime + AllocGlobal + Threads + Wait + Sync>(
         }
         Err(_) => (false, false),
     };
-    if is_right { Some(is_whole) } else { None }
+    is_right.then_some(is_whole)
 }
 
 /// Whether a sink that fails at any write leaves what may stand there, and one that takes many writes
@@ -97,14 +99,12 @@ fn fails_well<R: Runtime + AllocGlobal + Threads + Wait + Sync>(
     is_first: bool,
 ) -> bool {
     for left in 0..MANY_WRITES {
-        let failing = Tight::new(rt.alloc(), left, false);
-        let open = Tight::new(rt.alloc(), usize::MAX, false);
-        let (first, second) = if is_first {
-            (failing, open)
+        let writes = if is_first {
+            (left, usize::MAX)
         } else {
-            (open, failing)
+            (usize::MAX, left)
         };
-        match ends_whole(rt, text, is_first, first, second) {
+        match ends_whole(rt, text, is_first, writes, false) {
             Some(false) => {}
             Some(true) => return left > FEW_WRITES,
             None => return false,
@@ -113,29 +113,22 @@ fn fails_well<R: Runtime + AllocGlobal + Threads + Wait + Sync>(
     false
 }
 
-/// Prints whether the sinks that a word names do as they should, where the instance of a file is solved, and
-/// says whether the word was understood. Dripping ones take one byte at a time.
+/// Prints whether the first sink or the second, as a word says, or dripping ones, which take one byte at a time,
+/// do as they should, where the instance of a file is solved.
 pub fn tell_sinks<R: Runtime + AllocGlobal + Threads + Wait + Sync>(
     rt: &R,
     which: &str,
     path: &str,
-) -> io::Result<bool> {
+) -> io::Result<()> {
     let text = fs::read(rt, path)?;
     let text = text.as_slice();
     let is_right = match which {
-        "first" => fails_well(rt, text, true),
-        "second" => fails_well(rt, text, false),
-        "dripping" => {
-            let first = Tight::new(rt.alloc(), usize::MAX, true);
-            let second = Tight::new(rt.alloc(), usize::MAX, true);
-            ends_whole(rt, text, true, first, second) == Some(true)
-        }
-        _ => return Ok(false),
+        "dripping" => ends_whole(rt, text, true, (usize::MAX, usize::MAX), true) == Some(true),
+        _ => fails_well(rt, text, which == "first"),
     };
     rt.println(if is_right {
         "  holds"
     } else {
         "  doesn't hold"
-    })?;
-    Ok(true)
+    })
 }

@@ -25,33 +25,27 @@ pub fn tell_text<R: Runtime + AllocGlobal>(rt: &R, name: &str, text: &[u8]) -> i
 }
 
 /// Prints what a file holds.
-pub fn tell_file<R: Runtime + AllocGlobal>(rt: &R, path: &str) -> io::Result<bool> {
+pub fn tell_file<R: Runtime + AllocGlobal>(rt: &R, path: &str) -> io::Result<()> {
     match fs::read(rt, path) {
-        Ok(text) => tell_text(rt, "text", text.as_slice())?,
-        Err(_) => rt.println("  no file")?,
+        Ok(text) => tell_text(rt, "text", text.as_slice()),
+        Err(_) => rt.println("  no file"),
     }
-    Ok(true)
 }
 
-/// Writes an instance with the lines of a command, and says whether its words were understood.
+/// Writes an instance with the lines of a command.
 pub fn write_file<R: Runtime + AllocGlobal>(
     rt: &R,
     line: &str,
     [path, fleet, capacity]: [&str; 3],
-) -> io::Result<bool> {
-    let (Ok(fleet), Ok(capacity)) = (fleet.parse::<u32>(), capacity.parse::<u32>()) else {
-        return Ok(false);
-    };
+) -> io::Result<()> {
     let lines = bytes_meant(rt.alloc(), behind(line, 4), LOW)?;
     let lines = str::from_utf8(lines.as_slice()).unwrap_or("");
     let text = instance_text(rt.alloc(), fleet, capacity, lines, "")?;
-    fs::write(rt, path, text.as_str())?;
-    Ok(true)
+    fs::write(rt, path, text.as_str())
 }
 
 /// Writes the text of a command.
-pub fn write_text<R: Runtime + AllocGlobal>(rt: &R, line: &str, path: &str) -> io::Result<bool> {
+pub fn write_text<R: Runtime + AllocGlobal>(rt: &R, line: &str, path: &str) -> io::Result<()> {
     let text = bytes_meant(rt.alloc(), behind(line, 2), LOW)?;
-    fs::write(rt, path, text.as_slice())?;
-    Ok(true)
+    fs::write(rt, path, text.as_slice())
 }

@@ -6,6 +6,7 @@ mod starts;
 
 pub use crate::starts::{book_of, children_at, plan_at, priced_at};
 use std::alloc::{AllocError, Global};
+use std::fmt::Display;
 use std::sync::atomic::{AtomicBool, Ordering};
 use std::thread;
 use std::time::{Clock, Duration};
@@ -17,10 +18,10 @@ pub const DEPOT: &str = "0 0 0 0 0 1000 0\n";
 pub const IN_LINE: &str = "1 3 4 1 0 1000 0\n2 6 8 1 0 1000 0\n";
 
 /// The text of an instance named `T`. No clause: the rows show the text, by what becomes of it.
-pub fn instance_text(
+pub fn instance_text<N: Display + Copy>(
     alloc: Global,
-    fleet: u32,
-    capacity: u32,
+    fleet: N,
+    capacity: N,
     depot: &str,
     customers: &str,
 ) -> Result<String, AllocError> {

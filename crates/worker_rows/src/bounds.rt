@@ -84,108 +84,60 @@ fn turns_over<'i>(
     let made = bound_worker(&mut worker, &settings, nodes);
     Ok((
         made,
-        worker.hub.reprices.saturating_add(worker.hub.splits),
+        worker.hub.raises,
         gate.looked.load(Ordering::SeqCst),
         gate.stolen.load(Ordering::SeqCst),
         gate.ended.load(Ordering::SeqCst),
     ))
 }
 
-/// Turns over two customers in a line, at prices of zero.
-fn turns_made(
-    alloc: Global,
-    work: (u32, u32),
-    is_stolen: bool,
-    is_bare: bool,
-) -> Result<Done, Fail> {
-    let instance = instance_of(alloc, 2, 2, IN_LINE)?;
-    let mut hub = Fake::new(Priced::root(alloc, &instance, 8, None)?);
-    hub.is_bare = is_bare;
-    turns_over(alloc, &instance, hub, 10, is_stolen, (2, work.0, work.1))
-}
-
-/// Three turns over a root that has the best prices, so that the first worker splits it; each split is refused
-/// so, if it is. The deques take so many numbers, the root among them. Of the three customers, at one place, a
-/// route serves two in time: the best prices of the root say 15.0, and a plan costs 20.0.
-fn turns_splitting(
-    alloc: Global,
-    number: u16,
-    room: usize,
-    refusal: Option<BookFault>,
-) -> Result<Done, Fail> {
-    let rows = "1 3 4 1 0 20 10\n2 3 4 1 0 20 10\n3 3 4 1 0 20 10\n";
-    let instance = instance_of(alloc, 3, 3, rows)?;
-    let root = priced_at(
-        alloc,
-        &instance,
-        Region::root(alloc, 3),
-        1,
-        &[50_000; 3],
-        None,
-    );
-    let mut hub = Fake::new(root.ok_or("prices were refused")?);
-    hub.split_refusal = refusal;
-    turns_over(alloc, &instance, hub, room, false, (number, 3, 100))
-}
-
 #[test]
 fn turns_go_as_far_as_there_is_work(rt: HostRuntime) -> Result<(), Fail> {
-    for (name, work, is_stolen, is_bare, expected) in [
-        (
-            "the first turn raises or splits the root",
-            (1, 100),
-            false,
-            false,
-            (1, 1, 1, 0, 1),
-        ),
-        (
-            "an idle worker steals",
-            (1, 100),
-            true,
-            false,
-            (1, 1, 1, 1, 1),
-        ),
-        (
-            "numbers without a leaf are laid aside",
-            (3, 100),
-            false,
-            true,
-            (3, 0, 0, 0, 3),
-        ),
-        (
-            "a pricing that meets its limit ends no work",
-            (3, 1),
-            false,
-            false,
-            (3, 1, 1, 0, 3),
-        ),
+    let instance = instance_of(rt.alloc(), 2, 2, IN_LINE)?;
+    for (turns, labels, is_stolen, is_bare, expected) in [
+        // the first turn raises or splits the root
+        (1, 100, false, false, (1, 1, 1, 0, 1)),
+        // an idle worker steals
+        (1, 100, true, false, (1, 1, 1, 1, 1)),
+        // numbers without a leaf are laid aside
+        (3, 100, false, true, (3, 0, 0, 0, 3)),
+        // a pricing that meets its limit ends no work
+        (3, 1, false, false, (3, 1, 1, 0, 3)),
     ] {
-        let made = turns_made(rt.alloc(), work, is_stolen, is_bare)?;
-        assert!(rt; made == expected, "{name}");
+        let mut hub = Fake::new(Priced::root(rt.alloc(), &instance, 8, None)?);
+        hub.is_bare = is_bare;
+        let work = (2, turns, labels);
+        let made = turns_over(rt.alloc(), &instance, hub, 10, is_stolen, work)?;
+        assert_eq!(rt; made, expected);
     }
     Ok(())
 }
 
+/// Three customers at one place, of which a route serves two in time: the best prices of the root say 15.0, and
+/// a plan costs 20.0.
+const AT_ONE_PLACE: &str = "1 3 4 1 0 20 10\n2 3 4 1 0 20 10\n3 3 4 1 0 20 10\n";
+
 #[test]
 fn splits_go_as_far_as_there_is_room(rt: HostRuntime) -> Result<(), Fail> {
-    let ended = (1, 1, 1, 0, 1);
-    for (name, number, room, refusal, expected) in [
-        ("the first worker splits", 2, 100, None, (3, 21, 21, 0, 3)),
-        ("no other one does", 3, 100, None, (3, 0, 21, 0, 3)),
-        ("a full deque ends the work", 2, 1, None, ended),
-        ("so does memory", 2, 10, Some(BookFault::Memory), ended),
-        ("a full history", 2, 10, Some(BookFault::JournalFull), ended),
-        ("a full tree", 2, 10, Some(BookFault::LeavesFull), ended),
-        (
-            "a root that is refused is split again",
-            2,
-            10,
-            Some(BookFault::Lower),
-            (3, 3, 3, 0, 3),
-        ),
+    let instance = instance_of(rt.alloc(), 3, 3, AT_ONE_PLACE)?;
+    for (number, room, refusal, expected) in [
+        // the first worker splits, and no other one does
+        (2, 100, None, (3, 21, 21, 0, 3)),
+        (3, 100, None, (3, 0, 21, 0, 3)),
+        // a full deque ends the work, as memory, a full history and a full tree do
+        (2, 1, None, (1, 1, 1, 0, 1)),
+        (2, 10, Some(BookFault::Memory), (1, 1, 1, 0, 1)),
+        (2, 10, Some(BookFault::JournalFull), (1, 1, 1, 0, 1)),
+        (2, 10, Some(BookFault::LeavesFull), (1, 1, 1, 0, 1)),
+        // a root that is refused is split again
+        (2, 10, Some(BookFault::Lower), (3, 3, 3, 0, 3)),
     ] {
-        let made = turns_splitting(rt.alloc(), number, room, refusal)?;
-        assert!(rt; made == expected, "{name}");
+        let root = Region::root(rt.alloc(), 3);
+        let best = priced_at(rt.alloc(), &instance, root, 1, &[50_000; 3], None);
+        let mut hub = Fake::new(best.ok_or("prices were refused")?);
+        hub.split_refusal = refusal;
+        let made = turns_over(rt.alloc(), &instance, hub, room, false, (number, 3, 100))?;
+        assert_eq!(rt; made, expected);
     }
     Ok(())
 }

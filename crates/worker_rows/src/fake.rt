@@ -14,8 +14,8 @@ use tenths::Tenths;
 pub struct Fake<'i> {
     pub leaf: Priced<'i>,
     pub offers: u32,
-    pub reprices: u32,
-    pub splits: u32,
+    /// How often prices were given, to a leaf or to both its children.
+    pub raises: u32,
     /// From this offer on each is refused so.
     pub refusal: (u32, BookFault),
     /// How each split is refused, if it is.
@@ -29,8 +29,7 @@ impl<'i> Fake<'i> {
         Fake {
             leaf,
             offers: 0,
-            reprices: 0,
-            splits: 0,
+            raises: 0,
             refusal: (u32::MAX, BookFault::Memory),
             split_refusal: None,
             is_bare: false,
@@ -50,7 +49,7 @@ impl<'i> Hub<'i> for Fake<'i> {
     }
 
     fn reprice(&mut self, _leaf: u32, _priced: Priced<'i>) -> Result<(), (Priced<'i>, BookFault)> {
-        self.reprices = self.reprices.saturating_add(1);
+        self.raises = self.raises.saturating_add(1);
         Ok(())
     }
 
@@ -61,7 +60,7 @@ impl<'i> Hub<'i> for Fake<'i> {
         used: Priced<'i>,
         unused: Priced<'i>,
     ) -> Result<(u32, u32), (Priced<'i>, Priced<'i>, BookFault)> {
-        self.splits = self.splits.saturating_add(1);
+        self.raises = self.raises.saturating_add(1);
         match self.split_refusal {
             Some(fault) => Err((used, unused, fault)),
             None => Ok((1, 2)),
@@ -72,10 +71,7 @@ impl<'i> Hub<'i> for Fake<'i> {
         if self.is_bare {
             return Err(LookFault::NotALeaf);
         }
-        match self.leaf.try_clone() {
-            Ok(copy) => Ok(copy),
-            Err(_) => Err(LookFault::Memory),
-        }
+        self.leaf.try_clone().map_err(|_| LookFault::Memory)
     }
 
     fn gap(&mut self) -> Gap {

@@ -20,7 +20,3 @@ mod plans;
 mod seats;
 #[cfg(test)]
 mod shares;
-#[cfg(test)]
-mod steps;
-#[cfg(test)]
-mod words;

@@ -14,8 +14,16 @@ struct Meeting<'a, R: Clock> {
     rt: &'a R,
     has_started: AtomicBool,
     has_offered: AtomicBool,
-    start_was_seen: AtomicBool,
-    offer_was_seen: AtomicBool,
+    was_alone: AtomicBool,
+}
+
+impl<'a, R: Clock> Meeting<'a, R> {
+    /// Looks until the other worker has set its flag.
+    fn wait(&self, flag: &AtomicBool) {
+        if !is_seen(self.rt, flag) {
+            self.was_alone.store(true, Ordering::SeqCst);
+        }
+    }
 }
 
 impl<'a, R: Clock> Gate for Meeting<'a, R> {
@@ -23,14 +31,10 @@ impl<'a, R: Clock> Gate for Meeting<'a, R> {
         match (worker, point) {
             (0, GatePoint::Start) => {
                 self.has_started.store(true, Ordering::SeqCst);
-                let seen = is_seen(self.rt, &self.has_offered);
-                self.offer_was_seen.store(seen, Ordering::SeqCst);
+                self.wait(&self.has_offered);
             }
             (1, GatePoint::Offered) => self.has_offered.store(true, Ordering::SeqCst),
-            (1, GatePoint::End) => {
-                let seen = is_seen(self.rt, &self.has_started);
-                self.start_was_seen.store(seen, Ordering::SeqCst);
-            }
+            (1, GatePoint::End) => self.wait(&self.has_started),
             _ => {}
         }
     }
@@ -47,13 +51,13 @@ fn two_workers_run_at_once(rt: HostRuntime) -> Result<(), Fail> {
         rt: &rt,
         has_started: AtomicBool::new(false),
         has_offered: AtomicBool::new(false),
-        start_was_seen: AtomicBool::new(false),
-        offer_was_seen: AtomicBool::new(false),
+        was_alone: AtomicBool::new(false),
     };
     let outcome = run(&rt, rt.alloc(), &instance, &settings, &gate)?;
     let cost = outcome.plan().map(|plan| plan.cost().get());
-    assert!(rt; gate.offer_was_seen.load(Ordering::SeqCst));
-    assert!(rt; gate.start_was_seen.load(Ordering::SeqCst));
-    assert_eq!(rt; cost, Some(100));
+    assert_eq!(rt;
+        (cost, gate.was_alone.load(Ordering::SeqCst)),
+        (Some(100), false)
+    );
     Ok(())
 }

@@ -1,10 +1,12 @@
-//! A search worker over a fake.
+//! A search worker over a fake, and the random words of the workers.
 
 use crate::asked::instance_of;
 use crate::fake::{Counts, Fake};
 use ceiling::Ceiling;
 use incumbent_book::BookFault;
 use prices::Priced;
+use rand_core::SeedableRng;
+use rand_xoshiro::Xoshiro256PlusPlus;
 use row_texts::IN_LINE;
 use search_workers::{Worker, generator, search_worker};
 use std::alloc::Global;
@@ -47,46 +49,28 @@ fn five_turns(
 
 #[test]
 fn each_turn_offers_once_until_the_hub_has_no_room(rt: HostRuntime) -> Result<(), Fail> {
-    let rows = [
-        (
-            "each turn offers once",
-            6,
-            BookFault::Memory,
-            0,
-            (5, 5, 5, 5),
-        ),
-        (
-            "a full history ends the work",
-            3,
-            BookFault::JournalFull,
-            0,
-            (3, 3, 2, 3),
-        ),
-        (
-            "refused memory ends the work",
-            3,
-            BookFault::Memory,
-            0,
-            (3, 3, 2, 3),
-        ),
-        (
-            "other refusals end the turn",
-            3,
-            BookFault::ForeignInstance,
-            0,
-            (5, 5, 2, 5),
-        ),
-        (
-            "no work is left where cost and bound have met",
-            6,
-            BookFault::Memory,
-            1000,
-            (5, 0, 0, 5),
-        ),
-    ];
-    for (name, first, fault, bound, expected) in rows {
+    for (first, fault, bound, expected) in [
+        // each turn offers once
+        (6, BookFault::Memory, 0, (5, 5, 5, 5)),
+        // a full history ends the work, as refused memory does
+        (3, BookFault::JournalFull, 0, (3, 3, 2, 3)),
+        (3, BookFault::Memory, 0, (3, 3, 2, 3)),
+        // other refusals end the turn
+        (3, BookFault::ForeignInstance, 0, (5, 5, 2, 5)),
+        // no work is left where cost and bound have met
+        (6, BookFault::Memory, 1000, (5, 0, 0, 5)),
+    ] {
         let made = five_turns(rt.alloc(), first, fault, (1000, bound))?;
-        assert!(rt; made == expected, "{name}");
+        assert_eq!(rt; made, expected);
     }
     Ok(())
+}
+
+#[test]
+fn each_worker_is_a_jump_further(rt: HostRuntime) {
+    let mut random = Xoshiro256PlusPlus::seed_from_u64(7);
+    for worker in 0..3 {
+        assert!(rt; generator(7, worker) == random, "{worker}");
+        random.jump();
+    }
 }

@@ -5,15 +5,15 @@ ghost use Rattle.desk.specs.Opening.{HasPlanIf};
 ghost use Rattle.desk.specs.Tally.{each};
 ghost use Rattle.desk.specs.Blanks.{names_of, parts_of};
 
-use crate::asked::instance_of;
-use crate::offers::{Place, assert_outcome, branch, offer_plans};
+use crate::asked::{ONWARD, instance_of};
+use crate::offers::{Place, branch, offer_plans};
+use branching::Region;
 use desk::{Blanks, Desk, Naming, Share};
-use incumbent_book::{Book, Gap, Limits, Outcome};
-use row_texts::{IN_LINE, book_of};
+use incumbent_book::{Book, Gap, Limits, Outcome, Steps};
+use row_texts::{IN_LINE, book_of, children_at};
 use solomon_reader::Instance;
-use std::io::Eprint;
 use std::marker::Brand;
-use std::process::{Abort, Termination};
+use std::process::Abort;
 use std::sync::Wait;
 use std::test::Fail;
 use std::thread;
@@ -26,59 +26,41 @@ fn work<'i, J: Naming, R: Abort + Wait + AllocGlobal>(
     desk: &Desk<'i, J>,
     share: Share<J>,
     instance: &'i Instance,
-) -> Result<Share<J>, Fail> {
-    let mut place = Place { desk, share };
-    offer_plans(rt, instance, &mut place)?;
-    branch(rt, instance, &mut place)?;
-    let Place { desk: _, share } = place;
-    Ok(share)
-}
-
-/// The share after `work`, or none where that failed; a thread can't hand a failure on, so it is
-/// printed.
-fn work_apart<'i, J: Naming, R: Abort + Wait + Eprint + AllocGlobal>(
-    rt: &R,
-    desk: &Desk<'i, J>,
-    share: Share<J>,
-    instance: &'i Instance,
-) -> Option<Share<J>> {
-    match work(rt, desk, share, instance) {
-        Ok(share) => Some(share),
-        Err(fail) => {
-            Err::<(), Fail>(fail).report(rt);
-            None
-        }
-    }
+) -> Share<J> {
+    let mut place = Place {
+        rt,
+        instance,
+        desk,
+        share,
+    };
+    offer_plans(&mut place);
+    branch(&mut place);
+    let Place { share, .. } = place;
+    share
 }
 
 /// The first share's calls in a thread, and then the second's question in another.
-fn both<'i, J: Naming + Send, R: Abort + Threads + Wait + Eprint + Sync + AllocGlobal>(
+fn both<'i, J: Naming + Send, R: Abort + Threads + Wait + Sync + AllocGlobal>(
     rt: &R,
     desk: &Desk<'i, J>,
     first: Share<J>,
     second: Share<J>,
     instance: &'i Instance,
-) -> Result<(Gap, Share<J>, Share<J>), Fail> {
+) -> Option<(Gap, Share<J>, Share<J>)> {
     thread::scope(thread::scope_env(), rt, |scope| {
-        let Ok(worker) = scope.spawn(move || work_apart(rt, desk, first, instance)) else {
-            return Err(Fail::from("no thread"));
-        };
-        let Some(first) = worker.join(rt) else {
-            return Err(Fail::from("the first share's calls failed"));
-        };
-        let Ok(worker) = scope.spawn(move || {
+        let worker = scope.spawn(move || work(rt, desk, first, instance)).ok()?;
+        let first = worker.join(rt);
+        let worker = scope.spawn(move || {
             let mut share = second;
             (desk.gap(rt, &mut share), share)
-        }) else {
-            return Err(Fail::from("no thread"));
-        };
-        let (gap, second) = worker.join(rt);
-        Ok((gap, first, second))
+        });
+        let (gap, second) = worker.ok()?.join(rt);
+        Some((gap, first, second))
     })
 }
 
 /// The gap told at a desk of two shares, and what closing leaves.
-fn run<'i, J: Naming + Send, R: Abort + Threads + Wait + Eprint + Sync + AllocGlobal>(
+fn run<'i, J: Naming + Send, R: Abort + Threads + Wait + Sync + AllocGlobal>(
     rt: &R,
     instance: &'i Instance,
     book: Book<'i>,
@@ -96,8 +78,7 @@ fn run<'i, J: Naming + Send, R: Abort + Threads + Wait + Eprint + Sync + AllocGl
     };
     let second = shares.pop().expect(rt, "two shares");
     let first = shares.pop().expect(rt, "two shares");
-    assert!(rt; first.worker() == 0 && second.worker() == 1);
-    let (gap, first, second) = both(rt, &desk, first, second, instance)?;
+    let (gap, first, second) = both(rt, &desk, first, second, instance).ok_or("no thread")?;
     shares.push(first)?;
     shares.push(second)?;
     match desk.close(shares) {
@@ -112,6 +93,28 @@ fn a_second_share_is_told_what_the_first_did(rt: HostRuntime) -> Result<(), Fail
     let book = book_of(rt.alloc(), &instance, 1, Limits::MOST).ok_or("no book")?;
     let (gap, outcome) = run::<Brand, _>(&rt, &instance, book, Blanks::new(2))?;
     let of_plan = Tenths::from(200);
-    assert_eq!(rt; (gap.cost, gap.bound), (Some(of_plan), of_plan));
-    assert_outcome(&rt, &outcome)
+    let bounds = [gap.bound, outcome.bound()];
+    assert!(rt; gap.cost == Some(of_plan) && bounds == [of_plan; 2]);
+    assert_eq!(rt; outcome.history().len(), 6);
+    let nodes = outcome.nodes(rt.alloc())?;
+    let tree = format!(in rt.alloc(); "{nodes:?}")?;
+    assert_eq!(rt;
+        tree.as_str(),
+        "[Split(Arc { from: 1, to: 2 }), Leaf([0, 0]), Leaf([100000, 100000])]"
+    );
+    Ok(())
+}
+
+#[test]
+fn the_bound_is_found_at_once_however_many_leaves_stand(rt: HostRuntime) -> Result<(), Fail> {
+    let instance = instance_of(rt.alloc(), 2, 2, IN_LINE)?;
+    let mut book = book_of(rt.alloc(), &instance, 1, Limits::MOST).ok_or("no book")?;
+    let root = Region::root(rt.alloc(), 2);
+    let children = children_at(rt.alloc(), &instance, &root, 1, ONWARD, &[0, 0]);
+    let (used, unused) = children.ok_or("no prices")?;
+    let is_split = book.split(0, 0, ONWARD, used, unused).is_ok();
+    let mut steps = Steps::new();
+    let bound = book.gap_counted(&mut steps).bound.get();
+    assert_eq!(rt; (is_split, steps.get(), bound), (true, 1, 100));
+    Ok(())
 }

@@ -1,0 +1,139 @@
+//! Descents from the plan that insertion builds, in one thread and in several, turns, and closings: what they
+//! come to, and how long descents and turns take.
+
+use crate::starts::{Host, WRONG, made};
+use branching::TreeNode;
+use closing::close_counted;
+use insertion::{Built, Weights, build};
+use rand_core::SeedableRng;
+use rand_xoshiro::Xoshiro256PlusPlus;
+use schedule::Feasible;
+use search::{ROUNDS, Searcher};
+use solomon_reader::{Instance, MOST_LEAVES, MOST_NEIGHBOURS, read};
+use std::alloc::Global;
+use std::thread::Threads;
+use std::time::Instant;
+use std::{fs, io};
+
+/// How many descents are timed; the fastest counts.
+const RUNS: u32 = 5;
+
+pub(crate) type PlanSearcher<'i> = Searcher<'i, Xoshiro256PlusPlus>;
+
+/// A searcher that holds a plan, with the random words of seed 1.
+pub(crate) fn searcher_of<'i>(alloc: Global, plan: Feasible<'i>) -> PlanSearcher<'i> {
+    Searcher::new(alloc, plan, Xoshiro256PlusPlus::seed_from_u64(1))
+}
+
+/// Prints the cost of a searcher's plan, and the microseconds if times are to be printed.
+fn tell_cost<R: Host>(
+    rt: &R,
+    name: &str,
+    searcher: &PlanSearcher<'_>,
+    microseconds: u128,
+    times: bool,
+) -> io::Result<()> {
+    let cost = searcher.plan().cost().get();
+    if times {
+        return println!(rt; "{name} {cost} us {microseconds}");
+    }
+    println!(rt; "{name} {cost}")
+}
+
+/// Descends some times from a plan, in one thread or in several, and prints what that comes to.
+fn tell_descent<'i, R: Host + Threads>(
+    rt: &R,
+    searcher: &mut PlanSearcher<'i>,
+    plan: &Feasible<'i>,
+    name: &str,
+    times: bool,
+) -> io::Result<()> {
+    let mut least = u128::MAX;
+    for _ in 0..RUNS {
+        searcher.go_on_from(made(plan.try_clone().ok())?);
+        let begin = Instant::now(rt)?;
+        let descended = match name {
+            "parallel" => searcher.descend_parallel(rt),
+            _ => searcher.descend(),
+        };
+        made(descended.ok())?;
+        least = least.min(begin.elapsed(rt)?.as_micros());
+    }
+    tell_cost(rt, name, searcher, least, times)
+}
+
+/// Makes turns, and prints what they come to, and with the time how many rounds they had.
+fn tell_turned<R: Host>(
+    rt: &R,
+    searcher: &mut PlanSearcher<'_>,
+    turns: u32,
+    times: bool,
+) -> io::Result<()> {
+    let begin = Instant::now(rt)?;
+    for _ in 0..turns {
+        made(searcher.turn().ok())?;
+    }
+    let microseconds = begin.elapsed(rt)?.as_micros();
+    tell_cost(rt, "turns", searcher, microseconds, times)?;
+    if times {
+        println!(rt; "rounds {}", turns.saturating_mul(ROUNDS))?;
+    }
+    Ok(())
+}
+
+/// Prints what descents from the plan that insertion builds, in one thread and in several, and then turns come
+/// to, and the routes then.
+fn tell_turns<R: Host + Threads>(
+    rt: &R,
+    instance: &Instance,
+    turns: u32,
+    times: bool,
+) -> io::Result<()> {
+    let plan = match build(rt.alloc(), instance, &Weights::plain()) {
+        Ok(Built::Whole(plan)) => plan,
+        _ => return println!(rt; "no plan"),
+    };
+    let mut searcher = searcher_of(rt.alloc(), made(plan.try_clone().ok())?);
+    tell_descent(rt, &mut searcher, &plan, "descent", times)?;
+    tell_descent(rt, &mut searcher, &plan, "parallel", times)?;
+    tell_turned(rt, &mut searcher, turns, times)?;
+    for route in searcher.plan().routes() {
+        println!(rt; "route {route:?}")?;
+    }
+    Ok(())
+}
+
+/// Closes an instance, and prints the bound in tenths, the leaves of the tree and the pricings.
+fn tell_closing<R: Host>(rt: &R, instance: &Instance, neighbours: u32) -> io::Result<()> {
+    if neighbours > MOST_NEIGHBOURS {
+        return Err(io::Error::from(WRONG));
+    }
+    match close_counted(rt.alloc(), instance, neighbours, MOST_LEAVES) {
+        Ok((closed, pricings)) => {
+            let (bound, nodes) = (closed.bound.get(), closed.nodes.iter());
+            let leaves = nodes
+                .filter(|node| matches!(node, TreeNode::Leaf(_)))
+                .count();
+            println!(rt; "bound {bound} leaves {leaves} pricings {pricings}")
+        }
+        Err(fault) => println!(rt; "{fault}"),
+    }
+}
+
+/// Prints a measure of the instance of a file, with the number behind it.
+pub(crate) fn tell_measure<R: Host + Threads>(
+    rt: &R,
+    mode: &str,
+    path: &str,
+    number: &str,
+) -> io::Result<()> {
+    let text = fs::read(rt, path)?;
+    let instance = made(read(rt.alloc(), text.as_slice()).ok())?;
+    let number = made(number.parse::<u32>().ok())?;
+    match mode {
+        "turns" => tell_turns(rt, &instance, number, false),
+        "times" => tell_turns(rt, &instance, number, true),
+        "closing" => tell_closing(rt, &instance, number),
+        _ => Err(io::Error::from(WRONG)),
+    }
+}
