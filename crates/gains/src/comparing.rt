@@ -5,7 +5,7 @@ ghost use Rattle.gains.specs.Cuts.{IsKnownCut, IsShiftChange, change_apart, cut_
 ghost use Rattle.gains.specs.Gains.{first_taken, second_taken, taken_chain, IsFirstCut, IsShiftKind, AreShifts};
 ghost use Rattle.gains.specs.Searches.{instance_of, plan_of, IsOfPlan, AreLengths, SearchesAt};
 
-use crate::cuts::{Cut, change_apart, change_within, cut_of, cut_of_stops};
+use crate::cuts::{Cut, change_by_call, change_within, cut_of, cut_of_stops};
 use crate::found::{Found, is_better, may_be_better};
 use crate::neighbourhood::Neighbourhood;
 use moves::{Chain, Kind, candidate_of, stop_count, value};
@@ -81,7 +81,7 @@ impl Neighbourhood<'_, '_> {
         let Some(other) = cut_of(self.others, taken) else {
             return before;
         };
-        if !may_be_better(change_apart(self.trees.instance(), cut, &other), before) {
+        if !may_be_better(change_by_call(self.trees.instance(), cut, &other), before) {
             return before;
         }
         // of a copy, so that the search's own numbers can stay in registers
@@ -112,7 +112,7 @@ impl Neighbourhood<'_, '_> {
             end
         };
         let gap = cut_of_stops(self.stops, gap, 0);
-        Some(change_apart(self.trees.instance(), cut, &gap))
+        Some(change_by_call(self.trees.instance(), cut, &gap))
     }
 
     /// The better of what was found and a move that puts a chain elsewhere in its route, which is valued only
@@ -141,7 +141,6 @@ impl Neighbourhood<'_, '_> {
 
     /// The better of what was found and a move within a route that doesn't put a chain elsewhere; an exchange
     /// is valued only where its change of cost is less.
-    #[inline(always)]
     fn better_within(&self, first: &Chain, cut: &Cut, second: &Chain, before: Found) -> Found
         requires plan { IsOfPlan self.now }
         requires lengths { AreLengths self.now first.now second.now }
@@ -151,8 +150,6 @@ impl Neighbourhood<'_, '_> {
         requires cut { IsFirstCut (plan_of self.now) self.now.kind first.now cut.now }
         ensures { SearchesAt self.now first.now second.now before result }
     {
-        // of a copy, as above
-        let (search, one, two) = (*self, *first, *second);
         if let (Kind::Exchange, Some(other)) = (
             self.kind,
             cut_of(self.stops, self.second_chain(*second)),
@@ -161,13 +158,13 @@ impl Neighbourhood<'_, '_> {
             let change = if usize::from(first.position) + 1 == usize::from(second.position) {
                 change_within(instance, cut, &other)
             } else {
-                change_apart(instance, cut, &other)
+                change_by_call(instance, cut, &other)
             };
             if !may_be_better(change, before) {
                 return before;
             }
         }
-        search.better_gain(&one, &two, before)
+        self.better_gain(first, second, before)
     }
 
     /// The better of what was found and a move, where that is a gain.
@@ -184,7 +181,8 @@ impl Neighbourhood<'_, '_> {
             return self.better_shift(first, cut, second, before);
         }
         if self.first == self.second {
-            return self.better_within(first, cut, second, before);
+            let (search, one, own, two) = (*self, *first, *cut, *second);
+            return search.better_within(&one, &own, &two, before);
         }
         self.better_apart(first, cut, second, before)
     }

@@ -31,10 +31,7 @@ pub struct Cut {
 pub fn stop_at(stops: &[u16], position: usize) -> u16
     ensures { result ≡ slice_index_or stops.now position 0 }
 {
-    match stops.get(position) {
-        Some(stop) => *stop,
-        None => 0,
-    }
+    stops.get(position).copied().unwrap_or(0)
 }
 
 /// The stop before a position, and the depot before the first.
@@ -119,6 +116,15 @@ pub fn change_apart(instance: &Instance, one: &Cut, other: &Cut) -> i64
     let old = joint(instance, one.before, one, one.behind)
         + joint(instance, other.before, other, other.behind);
     new - old
+}
+
+/// The same, by a call: where it is rarely asked for, it would only make its caller large.
+pub fn change_by_call(instance: &Instance, one: &Cut, other: &Cut) -> i64
+    requires one { IsKnownCut instance.now one.now }
+    requires other { IsKnownCut instance.now other.now }
+    ensures { result ≡ change_apart instance.now one.now other.now }
+{
+    change_apart(instance, one, other)
 }
 
 /// The lesser of two numbers.

@@ -56,12 +56,10 @@ fn gain_between(
         (IsBetween kind first second) result }
 {
     let (from, into) = (usize::from(first), usize::from(second));
-    // by far the most pairs, which are left fastest so
-    if let Some(None) = kept.at(from, into).known(kind) {
-        return None;
-    }
-    if let Some(found) = kept.at(from, into).known(kind) {
-        return found_between(found, first, second);
+    match kept.at(from, into).known(kind) {
+        Some(None) => return None, // by far the most pairs, which are left fastest so
+        Some(found) => return found_between(found, first, second),
+        None => {}
     }
     let neighbourhood = Neighbourhood {
         trees,

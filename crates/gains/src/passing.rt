@@ -77,8 +77,7 @@ impl Neighbourhood<'_, '_> {
             return false;
         }
         let chain = self.first_chain(*first);
-        let stops = self.stops;
-        let ends = stops.len() + 1;
+        let (stops, ends) = (self.stops, self.stops.len() + 1);
         let from = usize::from(chain.position);
         let to = from + usize::from(chain.length) + 1;
         let instance = self.trees.instance();

@@ -22,7 +22,7 @@ best_gain-found-requires c =
     let own : AreGaps (problem_of c.args.trees.now) (route (visits_of c.args.trees.now) c.args.first) c.of-2.result.now = rw (c.of-2.ensures, c.from-from.ensures) (c.requires.gaps c.args.first) in
     record {
       single = λ h. no_single_kept (problem_of c.args.trees.now) (visits_of c.args.trees.now) c.args.first c.args.second c.args.kind (entry_of c.args.kept.now c.args.first c.args.second) known
-          (c.has_no_single.ensures h).0 (rw (c.at-3.ensures, c.from-from.ensures, c.from-into.ensures) at (c.has_no_single.ensures h).1);
+          (c.has_no_single.ensures h).0 (rw (c.at-2.ensures, c.from-from.ensures, c.from-into.ensures) at (c.has_no_single.ensures h).1);
       trees = c.requires.plan;
       stops = first;
       others = second;

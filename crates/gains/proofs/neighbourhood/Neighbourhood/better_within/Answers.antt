@@ -45,8 +45,8 @@ returns-then-not-may_be_better c =
           value ∙ sym (value_within p routes n u front rear cut found w h stands c.requires.cut other some_c some_d behind)
       | else-from v ↦
           let behind : front.position + front.length < rear.position = omega (arith, one_first, w.behind, v.if-from.false, c.from.ensures, c.from-in-Exchange-Some.ensures) in
-          let kept : to_z w64 (of_z w64 v.change_apart-change.result) ≡ v.change_apart-change.result = omega (arith, ints) in
-          let value : change ≡ change_apart p cut found = sym c.if-from.change-is ∙ v.change-is ∙ kept ∙ (rw c.instance-instance.ensures at v.change_apart-change.ensures) in
+          let kept : to_z w64 (of_z w64 v.change_by_call-change.result) ≡ v.change_by_call-change.result = omega (arith, ints) in
+          let value : change ≡ change_apart p cut found = sym c.if-from.change-is ∙ v.change-is ∙ kept ∙ (rw c.instance-instance.ensures at v.change_by_call-change.ensures) in
           value ∙ sym (value_between p routes n u front rear cut found w h stands c.requires.cut other some_c some_d behind)
     ])))
 
@@ -57,9 +57,9 @@ pub change_within-change-requires-clause-other : goal.change_within-change-requi
 change_within-change-requires-clause-other c =
     rw c.instance-instance.ensures (known_cut (instance_of c.args.self.now) (plan_of c.args.self.now) _ _ _ c.in-Exchange-Some.other c.requires.plan.trees.plan (rw c.requires.plan.stops at c.in-Exchange-Some.ensures.1))
 
-pub change_apart-change-requires-clause-one : goal.change_apart-change-requires-clause-one
-change_apart-change-requires-clause-one c = rw c.instance-instance.ensures (known_cut (instance_of c.args.self.now) (plan_of c.args.self.now) _ _ _ c.args.cut.now c.requires.plan.trees.plan c.requires.cut)
+pub change_by_call-change-requires-clause-one : goal.change_by_call-change-requires-clause-one
+change_by_call-change-requires-clause-one c = rw c.instance-instance.ensures (known_cut (instance_of c.args.self.now) (plan_of c.args.self.now) _ _ _ c.args.cut.now c.requires.plan.trees.plan c.requires.cut)
 
-pub change_apart-change-requires-clause-other : goal.change_apart-change-requires-clause-other
-change_apart-change-requires-clause-other c =
+pub change_by_call-change-requires-clause-other : goal.change_by_call-change-requires-clause-other
+change_by_call-change-requires-clause-other c =
     rw c.instance-instance.ensures (known_cut (instance_of c.args.self.now) (plan_of c.args.self.now) _ _ _ c.in-Exchange-Some.other c.requires.plan.trees.plan (rw c.requires.plan.stops at c.in-Exchange-Some.ensures.1))

@@ -9,8 +9,8 @@ use Rattle.gains.proofs.SwapBounds.{cut_is}
 use Rattle.gains.proofs.neighbourhood.Neighbourhood.change_of_shift.Goals.{then-position-first-2, else-position-first-2}
 use Rattle.gains.proofs.neighbourhood.Neighbourhood.change_of_shift.Goals as goal
 
-pub change_apart-requires-clause-other : goal.change_apart-requires-clause-other
-change_apart-requires-clause-other c =
+pub change_by_call-requires-clause-other : goal.change_by_call-requires-clause-other
+change_by_call-requires-clause-other c =
     rw c.instance.ensures (known_cut (instance_of c.args.self.now) (plan_of c.args.self.now) _ _ _ c.cut_of_stops-gap.result c.requires.plan.trees.plan (rw c.requires.plan.stops at c.cut_of_stops-gap.ensures))
 
 pub returns : goal.returns
@@ -20,9 +20,9 @@ returns c =
     let r = m.stops.now in
     let q = c.args.position in
     let gap = c.if-position-first-2.gap in
-    let change = c.change_apart.result in
+    let change = c.change_by_call.result in
     let same : to_z w64 (of_z w64 change) ≡ change = omega (arith, ints) in
-    let there : change ≡ change_apart p c.args.cut.now c.cut_of_stops-gap.result = rw c.instance.ensures at c.change_apart.ensures in
+    let there : change ≡ change_apart p c.args.cut.now c.cut_of_stops-gap.result = rw c.instance.ensures at c.change_by_call.ensures in
     let value : change ≡ change_apart p c.args.cut.now (cut_at r gap 0) = there ∙ ap (change_apart p c.args.cut.now) (cut_is r gap 0 c.cut_of_stops-gap.result c.cut_of_stops-gap.ensures) in
     let taken = taken_chain (plan_of m) (first_taken m.kind) c.args.first.now in
     let length_is : c.from-2.result ≡ taken.length = c.from-2.ensures ∙ ap (λ (t : Chain). t.length) c.first_chain.ensures in
