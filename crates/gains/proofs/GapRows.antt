@@ -1,9 +1,9 @@
 -- The gaps of routes, one after the other.
-use Rattle.std.proofs.Common.{◌≡◌, refl, sym, ap, subst, ◌∙◌, ℕ, ◌+◌, ◌-◌, ◌<◌, ◌≤◌, false, List, [], ◌∷◌, ◌++◌, length, map, get_or, take, drop, arith, inl, inr}
+use Rattle.std.proofs.Common.{◌≡◌, refl, sym, ap, subst, ◌∙◌, ℕ, zero, suc, ◌+◌, ◌-◌, ◌<◌, ◌≤◌, Bool, true, false, List, [], ◌∷◌, ◌++◌, length, map, get_or, take, drop, arith, inl, inr}
 use Rattle.std.specs.Prelude.{ℤ, pos, ◌≤ℤ◌, Option, Vec}
 use Rattle.std.specs.declared.alloc.Global.{Global}
 use Rattle.std.proofs.lemmas.Bool.{cases_lt}
-use Rattle.std.proofs.lemmas.List.{get_or_append_left, get_or_past, get_or_push, length_push, map-append, take_rest}
+use Rattle.std.proofs.lemmas.List.{get_or_append_left, get_or_past, get_or_push, get_or-take, length_push, length-take, map-append, take-map, take_rest}
 use Rattle.std.proofs.Math.ListN.{length-map}
 use Rattle.solomon_reader.specs.Problem.{Problem, due, ready, service}
 use Rattle.solomon_reader.specs.Moves.{route}
@@ -16,9 +16,11 @@ use Rattle.moves.specs.Costs.{segment_of}
 use Rattle.moves.specs.Trees.{visits_of, AreOfPlan}
 use Rattle.moves.proofs.JoinedStops.{piece_is}
 use Rattle.gains.specs.declared.cuts.Cut.{Cut}
+use Rattle.gains.specs.declared.replaced.Replaced.{Replaced}
 use Rattle.gains.specs.declared.route_gaps.Gap.{Gap}
 use Rattle.gains.specs.Cuts.{cut_at, change_apart}
 use Rattle.gains.specs.Gaps.{IsGap, AreGaps, MayFollow, MayPrecede, IsLeastSwap}
+use Rattle.gains.specs.Kept.{skip, skip_if, origin_of, IsReplaced}
 use Rattle.gains.proofs.SwapBounds.{low_enough, cut_is}
 
 -- one gap more
@@ -112,3 +114,28 @@ back_is t a j end p items o h same read long within is =
     let whole : take (end - j) (drop j r) ≡ drop j r = ap (λ n. take (n - j) (drop j r)) long ∙ take_rest r j in
     sym (ap (segment_of (problem_of t)) whole)
     ∙ piece_is t (record { route = a; position = j; length = end - j }) p items o h same read (is ∙ ap (λ n. chain (join p) (slice_range items j n)) sum)
+
+-- a route that stands before one that goes keeps its number
+skip_below : (r a : ℕ) → a < r → skip r a ≡ a
+skip_below zero a h = absurd (omega (arith, h))
+skip_below (suc r) zero h = refl
+skip_below (suc r) (suc a) h = ap suc (skip_below r a (omega (arith, h)))
+
+skip_if_below : (goes : Bool) (r a : ℕ) → a < r → skip_if goes r a ≡ a
+skip_if_below true r a h = skip_below r a h
+skip_if_below false r a h = refl
+
+-- the gaps of the routes before those that were replaced stay
+pub gaps_last : (p : Problem) (routes later : List (List ℕ)) (r : Replaced) (n : ℕ) (rows new : List (Vec Gap Global)) → n ≤ r.first → n ≤ r.second → new ≡ take n rows → IsReplaced routes later r
+    → ((a : ℕ) → AreGaps p (route routes a) (get_or (map (λ (v : Vec Gap Global). v.items) rows) a [])) → (a : ℕ) → AreGaps p (route later a) (get_or (map (λ (v : Vec Gap Global). v.items) new) a [])
+gaps_last p routes later r n rows new first second is replaced are a =
+    let items : Vec Gap Global → List Gap = λ v. v.items in
+    let kept : map items new ≡ take n (map items rows) = ap (map items) is ∙ sym (take-map items n rows) in
+    subst (λ known. AreGaps p (route later a) (get_or known a [])) (sym kept)
+    (elim (cases_lt a n) [
+      | inl below ↦
+          let own : origin_of r a ≡ a = ap (skip_if r.second_goes r.second) (skip_if_below r.first_goes r.first a (omega (arith, below, first))) ∙ skip_if_below r.second_goes r.second a (omega (arith, below, second)) in
+          let same : route later a ≡ route routes a = replaced.others a (λ e. absurd (omega (arith, e, own, below, first))) (λ e. absurd (omega (arith, e, own, below, second))) ∙ ap (route routes) own in
+          subst (AreGaps p (route later a)) (sym (get_or-take n (map items rows) a [] below)) (subst (λ q. AreGaps p q (get_or (map items rows) a [])) (sym same) (are a))
+      | inr past ↦ subst (AreGaps p (route later a)) (sym (get_or_past (take n (map items rows)) a [] (omega (arith, past, length-take n (map items rows))))) (no_gaps p (route later a))
+    ])

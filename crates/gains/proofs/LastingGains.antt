@@ -17,9 +17,9 @@ use Rattle.gains.specs.declared.entry.Entry.{Entry}
 use Rattle.gains.specs.declared.pair_gains.PairGains.{PairGains}
 use Rattle.gains.specs.declared.replaced.Replaced.{Replaced}
 use Rattle.gains.specs.Gains.{Found, IsNoBetter, IsFoundAmong, IsBestAmong}
-use Rattle.gains.specs.Kept.{second_route, IsBetween, with_routes, found_between, unknown, known_of, with_found, rows_of, entry_of, IsKept, AreKept, IsForgotten, HasSameEntries, skip, skip_if, origin_of, IsOther, Follows, IsReplaced}
+use Rattle.gains.specs.Kept.{second_route, IsBetween, with_routes, found_between, unknown, known_of, with_found, rows_of, entry_of, IsKept, AreKept, IsForgotten, HasSameEntries, skip, skip_if, origin_of, AreAsMany, IsNotNew, IsNewForgotten, IsOther, Follows, IsReplaced}
 use Rattle.gains.proofs.KeptRows.{put_entry}
-use Rattle.gains.proofs.Renumbering.{Stands, StandBoth, same_value, kind_with, first_with, second_with, with_twice, with_same, no_better_elsewhere}
+use Rattle.gains.proofs.Renumbering.{Stands, StandsOrIsNew, StandBoth, same_value, kind_with, first_with, second_with, with_twice, with_same, no_better_elsewhere}
 
 same_found : (p : Problem) (routes : List (List ℕ)) (k : Kind) (a b : ℕ) (o : Found) → IsFoundAmong p routes (IsBetween k a b) o → found_between o a b ≡ o
 same_found p routes k a b None h = refl
@@ -82,48 +82,46 @@ same_kept p routes old new same kept a b known_a known_b = subst (IsKept p route
 
 -- AFTER TWO ROUTES WERE REPLACED
 
-module _ (r : Replaced) (count : ℕ) (old b1 b2 b3 b4 b5 new : PairGains) (first : IsForgotten r.first old b1) (second : IsForgotten r.second b1 b2)
+module _ (r : Replaced) (before count : ℕ) (old b1 b2 b3 b4 b5 new : PairGains) (first : IsForgotten r.first old b1) (second : IsForgotten r.second b1 b2)
     (out : (c d : ℕ) → entry_of b3 c d ≡ entry_of b2 (skip_if r.second_goes r.second c) (skip_if r.second_goes r.second d))
     (out_too : (c d : ℕ) → entry_of b4 c d ≡ entry_of b3 (skip_if r.first_goes r.first c) (skip_if r.first_goes r.first d))
-    (last : IsForgotten count b4 b5) (same : HasSameEntries b5 new) where
+    (last : IsNewForgotten r before count b4 b5) (same : HasSameEntries b5 new) where
   abbrev C : ℕ → ℕ
   C c = origin_of r c
-
-  none_last : (c d : ℕ) → entry_of b5 c d ≡ unknown → entry_of new c d ≡ unknown
-  none_last c d h = same c d ∙ h
 
   from_b2 : (c d : ℕ) → entry_of b5 c d ≡ entry_of b4 c d → entry_of new c d ≡ entry_of b2 (C c) (C d)
   from_b2 c d h = same c d ∙ h ∙ out_too c d ∙ out (skip_if r.first_goes r.first c) (skip_if r.first_goes r.first d)
 
-  kept_last : (c d : ℕ) → c ≢ count → d ≢ count → entry_of new c d ≡ entry_of b2 (C c) (C d)
+  kept_last : (c d : ℕ) → IsNotNew r before count c → IsNotNew r before count d → entry_of new c d ≡ entry_of b2 (C c) (C d)
   kept_last c d x y = from_b2 c d (last.kept c d x y)
 
-  kept_second : (c d : ℕ) → c ≢ count → d ≢ count → C c ≢ r.second → C d ≢ r.second → entry_of new c d ≡ entry_of b1 (C c) (C d)
+  kept_second : (c d : ℕ) → IsNotNew r before count c → IsNotNew r before count d → C c ≢ r.second → C d ≢ r.second → entry_of new c d ≡ entry_of b1 (C c) (C d)
   kept_second c d x y z w = kept_last c d x y ∙ second.kept (C c) (C d) z w
 
-  kept_all : (c d : ℕ) → IsOther r count c → IsOther r count d → entry_of new c d ≡ entry_of old (C c) (C d)
+  kept_all : (c d : ℕ) → IsOther r before count c → IsOther r before count d → entry_of new c d ≡ entry_of old (C c) (C d)
   kept_all c d x y = kept_second c d x.known y.known x.second y.second ∙ first.kept (C c) (C d) x.first y.first
 
   abbrev Each : ℕ → ℕ → Type 0
-  Each c d = (entry_of new c d ≡ unknown) ⊎ (IsOther r count c × (IsOther r count d × (entry_of new c d ≡ entry_of old (origin_of r c) (origin_of r d))))
+  Each c d = (entry_of new c d ≡ unknown) ⊎ (IsOther r before count c × (IsOther r before count d × (entry_of new c d ≡ entry_of old (origin_of r c) (origin_of r d))))
 
-  each_of : (c d : ℕ) → ((c ≡ count) ⊎ (c ≢ count)) → ((d ≡ count) ⊎ (d ≢ count)) → ((C c ≡ r.second) ⊎ (C c ≢ r.second)) → ((C d ≡ r.second) ⊎ (C d ≢ r.second))
+  each_of : (c d : ℕ) → IsNotNew r before count c → IsNotNew r before count d → ((C c ≡ r.second) ⊎ (C c ≢ r.second)) → ((C d ≡ r.second) ⊎ (C d ≢ r.second))
       → ((C c ≡ r.first) ⊎ (C c ≢ r.first)) → ((C d ≡ r.first) ⊎ (C d ≢ r.first)) → Each c d
-  each_of c d (inl e) y z w u v = inl (none_last c d (subst (λ i. entry_of b5 i d ≡ unknown) (sym e) (last.from d)))
-  each_of c d x (inl e) z w u v = inl (none_last c d (subst (λ i. entry_of b5 c i ≡ unknown) (sym e) (last.into c)))
-  each_of c d (inr x) (inr y) (inl e) w u v = inl (kept_last c d x y ∙ subst (λ i. entry_of b2 i (C d) ≡ unknown) (sym e) (second.from (C d)))
-  each_of c d (inr x) (inr y) z (inl e) u v = inl (kept_last c d x y ∙ subst (λ i. entry_of b2 (C c) i ≡ unknown) (sym e) (second.into (C c)))
-  each_of c d (inr x) (inr y) (inr z) (inr w) (inl e) v = inl (kept_second c d x y z w ∙ subst (λ i. entry_of b1 i (C d) ≡ unknown) (sym e) (first.from (C d)))
-  each_of c d (inr x) (inr y) (inr z) (inr w) u (inl e) = inl (kept_second c d x y z w ∙ subst (λ i. entry_of b1 (C c) i ≡ unknown) (sym e) (first.into (C c)))
-  each_of c d (inr x) (inr y) (inr z) (inr w) (inr u) (inr v) =
-      let one : IsOther r count c = record { first = u; second = z; known = x } in
-      let other : IsOther r count d = record { first = v; second = w; known = y } in
+  each_of c d x y (inl e) w u v = inl (kept_last c d x y ∙ subst (λ i. entry_of b2 i (C d) ≡ unknown) (sym e) (second.from (C d)))
+  each_of c d x y z (inl e) u v = inl (kept_last c d x y ∙ subst (λ i. entry_of b2 (C c) i ≡ unknown) (sym e) (second.into (C c)))
+  each_of c d x y (inr z) (inr w) (inl e) v = inl (kept_second c d x y z w ∙ subst (λ i. entry_of b1 i (C d) ≡ unknown) (sym e) (first.from (C d)))
+  each_of c d x y (inr z) (inr w) u (inl e) = inl (kept_second c d x y z w ∙ subst (λ i. entry_of b1 (C c) i ≡ unknown) (sym e) (first.into (C c)))
+  each_of c d x y (inr z) (inr w) (inr u) (inr v) =
+      let one : IsOther r before count c = record { first = u; second = z; known = x } in
+      let other : IsOther r before count d = record { first = v; second = w; known = y } in
       inr (one, (other, kept_all c d one other))
 
-  pub followed : Follows r count old new
+  pub followed : Follows r before count old new
   followed = record {
     kept = kept_all;
-    each = λ c d. each_of c d (cases_eq c count) (cases_eq d count) (cases_eq (C c) r.second) (cases_eq (C d) r.second) (cases_eq (C c) r.first) (cases_eq (C d) r.first);
+    each = λ c d. elim (last.each c d) [
+      | inl none ↦ inl (same c d ∙ none)
+      | inr known ↦ each_of c d known.0 known.1 (cases_eq (C c) r.second) (cases_eq (C d) r.second) (cases_eq (C c) r.first) (cases_eq (C d) r.first)
+    ];
   }
 
 skip_order : (r c d : ℕ) → c < d → skip r c < skip r d
@@ -152,7 +150,14 @@ through (Some x) P Q f h = f x h
 turned : (S R : List (List ℕ)) (a b c d : ℕ) → StandBoth S R a b c d → StandBoth R S c d a b
 turned S R a b c d both = record {
   one = record { known = both.one.there; there = both.one.known; same = sym both.one.same };
-  other = record { known = both.other.there; there = both.other.known; same = sym both.other.same };
+  other = record {
+    known = both.other.there;
+    there = both.other.known;
+    same = sym both.other.same;
+    on = both.other.back;
+    back = both.other.on;
+    room = elim both.other.room [ inl k ↦ inl (both.other.back k) | inr e ↦ inr (sym e) ];
+  };
   up = λ less. elim (cases_lt a b) [ inl h ↦ h | inr past ↦ elim (cases_lt b a) [ inl h ↦ absurd (omega (arith, both.down h, less)) | inr other ↦ let e : a ≡ b = omega arith in absurd (omega (arith, both.equal e, less)) ] ];
   down = λ less. elim (cases_lt b a) [ inl h ↦ h | inr past ↦ elim (cases_lt a b) [ inl h ↦ absurd (omega (arith, both.up h, less)) | inr other ↦ let e : a ≡ b = omega arith in absurd (omega (arith, both.equal e, less)) ] ];
   equal = λ same. elim (cases_lt a b) [ inl h ↦ absurd (omega (arith, both.up h, same)) | inr past ↦ elim (cases_lt b a) [ inl h ↦ absurd (omega (arith, both.down h, same)) | inr other ↦ omega arith ] ];
@@ -181,9 +186,12 @@ module _ (p : Problem) (S R : List (List ℕ)) (k : Kind) (a b c d : ℕ) (plan_
           subst (λ m. IsNoBetter (found_between o c d) m u) (with_same n c d of.first of.second) (no_better_elsewhere o n u a b c d (h.best (with_routes n a b) u among there))
 
 module _ (p : Problem) (old new : List (List ℕ)) (r : Replaced) (before : IsPlan p old) (after : IsPlan p new) (replaced : IsReplaced old new r) where
-  stands : (c : ℕ) → c < length new → IsOther r (length new) c → Stands new old c (origin_of r c)
+  abbrev Other : ℕ → Type 0
+  Other c = IsOther r (length old) (length new) c
+
+  stands : (c : ℕ) → c < length new → Other c → Stands new old c (origin_of r c)
   stands c known other =
-      let same : route new c ≡ route old (origin_of r c) = replaced.others c known other.first other.second in
+      let same : route new c ≡ route old (origin_of r c) = replaced.others c other.first other.second in
       record {
         known = known;
         there = elim (cases_lt (origin_of r c) (length old)) [
@@ -193,31 +201,53 @@ module _ (p : Problem) (old new : List (List ℕ)) (r : Replaced) (before : IsPl
         same = same;
       }
 
-  stand_both : (c d : ℕ) → c < length new → d < length new → IsOther r (length new) c → IsOther r (length new) d → StandBoth new old c d (origin_of r c) (origin_of r d)
+  -- of as many routes, of which none has gone, each has its number
+  own_number : (c : ℕ) → AreAsMany r (length old) (length new) → origin_of r c ≡ c
+  own_number c many = rw (many.first, many.second) refl
+
+  stands_or_is_new : (d : ℕ) → d ≤ length new → Other d → StandsOrIsNew new old d (origin_of r d)
+  stands_or_is_new d within other = elim (cases_lt d (length new)) [
+    | inl known ↦
+        let s = stands d known other in
+        record { known = within; there = omega (arith, s.there); same = s.same; on = λ h. s.there; back = λ h. known; room = inl s.there }
+    | inr past ↦ elim other.known [
+      | inl earlier ↦ absurd (earlier (omega (arith, within, past)))
+      | inr many ↦ record {
+        known = within;
+        there = omega (arith, within, own_number d many, many.many);
+        same = replaced.others d other.first other.second;
+        on = λ h. absurd (omega (arith, h, past));
+        back = λ h. absurd (omega (arith, h, past, own_number d many, many.many));
+        room = inr many.many;
+      }
+    ]
+  ]
+
+  stand_both : (c d : ℕ) → c < length new → d ≤ length new → Other c → Other d → StandBoth new old c d (origin_of r c) (origin_of r d)
   stand_both c d known_c known_d one other = record {
     one = stands c known_c one;
-    other = stands d known_d other;
+    other = stands_or_is_new d known_d other;
     up = origins_in_order r c d;
     down = origins_in_order r d c;
     equal = ap (origin_of r);
   }
 
   -- what is kept of two other routes stays so
-  pub entries_last : (b c : PairGains) → AreKept p old b → Follows r (length new) b c → AreKept p new c
+  pub entries_last : (b c : PairGains) → AreKept p old b → Follows r (length old) (length new) b c → AreKept p new c
   entries_last b c kept follows i j known_i known_j = elim (follows.each i j) [
     | inl none ↦ subst (IsKept p new i j) (sym none) (none_known p new i j)
     | inr f ↦
-        let last : j ≢ length new = f.1.0.known in
-        let both = stand_both i j known_i (omega (arith, known_j, last)) f.0 f.1.0 in
+        let both = stand_both i j known_i known_j f.0 f.1.0 in
         let back = turned new old i j (origin_of r i) (origin_of r j) both in
         let e = entry_of b (origin_of r i) (origin_of r j) in
         subst (IsKept p new i j) (sym f.1.1)
         (λ k. through (known_of k e) (λ f. IsBestAmong p old (IsBetween k (origin_of r i) (origin_of r j)) (found_between f (origin_of r i) (origin_of r j))) (λ f. IsBestAmong p new (IsBetween k i j) (found_between f i j))
         (best_there p old new k (origin_of r i) (origin_of r j) i j before after back)
-        (kept (origin_of r i) (origin_of r j) both.one.there (omega (arith, both.other.there)) k))
+        (kept (origin_of r i) (origin_of r j) both.one.there both.other.there k))
   ]
 
 -- what is kept follows a change of two routes
-pub kept_through : (p : Problem) (old new : List (List ℕ)) (r : Replaced) (count : ℕ) (g h : PairGains) → IsPlan p old → IsPlan p new → IsReplaced old new r → count ≡ length new
-    → Follows r count g h → AreKept p old g → AreKept p new h
-kept_through p old new r count g h before after replaced is follows kept = entries_last p old new r before after replaced g h kept (subst (λ n. Follows r n g h) is follows)
+pub kept_through : (p : Problem) (old new : List (List ℕ)) (r : Replaced) (first count : ℕ) (g h : PairGains) → IsPlan p old → IsPlan p new → IsReplaced old new r → first ≡ length old → count ≡ length new
+    → Follows r first count g h → AreKept p old g → AreKept p new h
+kept_through p old new r first count g h before after replaced long is follows kept =
+    entries_last p old new r before after replaced g h kept (subst (λ n. Follows r n (length new) g h) long (subst (λ n. Follows r first n g h) is follows))

@@ -32,12 +32,12 @@ record Alike (S R T U : List (List ℕ)) : Type 0 where
   is_new : U ≡ rebuilt R c x d y
   same_first : route S a ≡ route R c
   same_second : route S b ≡ route R d
-  room : (y ≡ []) ⊎ (d < length R)
+  room : (y ≡ []) ⊎ ((d < length R) ⊎ (length R ≡ length S))
 
 carried : (p : Problem) (S R : List (List ℕ)) (n o : Move) (v : ℤ) → IsPlan p S → IsPlan p R → Alike S R (after S n) (after R o) → IsWellFormed R o → HasValue p S n v → HasValue p R o v
 carried p S R n o v plan_s plan_r w formed h =
     let plan : IsPlan p (rebuilt S w.a w.x w.b w.y) = subst (IsPlan p) w.is_old h.plan in
-    let both = two_routes p S R w.x w.y w.a w.b w.c w.d w.old w.new plan_s plan_r w.same_first w.same_second (elim w.room [ inl e ↦ inl e | inr k ↦ inr (inl k) ]) plan in
+    let both = two_routes p S R w.x w.y w.a w.b w.c w.d w.old w.new plan_s plan_r w.same_first w.same_second (elim w.room [ inl e ↦ inl e | inr some ↦ inr (elim some [ inl k ↦ inl k | inr same ↦ inr (inr (omega (arith, same))) ]) ]) plan in
     record {
       well_formed = formed;
       plan = subst (IsPlan p) (sym w.is_new) both.0;
@@ -45,24 +45,24 @@ carried p S R n o v plan_s plan_r w formed h =
     }
 
 module _ (S R T U : List (List ℕ)) where
-  swap_alike : (a i l b j m c d : ℕ) → a < b → b < length S → i + l ≤ length (route S a) → j + m ≤ length (route S b) → c < d → d < length R
+  swap_alike : (a i l b j m c d : ℕ) → a < b → b ≤ length S → i + l ≤ length (route S a) → j + m ≤ length (route S b) → c < d → d ≤ length R → (d < length R) ⊎ (length R ≡ length S)
       → route S a ≡ route R c → route S b ≡ route R d
       → T ≡ rebuilt S a (swapped (route S a) i l (route S b) j m) b (swapped (route S b) j m (route S a) i l)
       → U ≡ rebuilt R c (swapped (route R c) i l (route R d) j m) d (swapped (route R d) j m (route R c) i l) → Alike S R T U
-  swap_alike a i l b j m c d order known first second order_r known_r same_a same_b is_t is_u = record {
+  swap_alike a i l b j m c d order known first second order_r known_r room same_a same_b is_t is_u = record {
     a = a;
     x = swapped (route S a) i l (route S b) j m;
     b = b;
     y = swapped (route S b) j m (route S a) i l;
     c = c;
     d = d;
-    old = swap_rebuilds S a i l b j m order (omega arith) first second;
-    new = rw (same_a, same_b) (swap_rebuilds R c i l d j m order_r (omega arith) (omega (arith, ap length same_a)) (omega (arith, ap length same_b)));
+    old = swap_rebuilds S a i l b j m order known first second;
+    new = rw (same_a, same_b) (swap_rebuilds R c i l d j m order_r known_r (omega (arith, ap length same_a)) (omega (arith, ap length same_b)));
     is_old = is_t;
     is_new = rw (same_a, same_b) is_u;
     same_first = same_a;
     same_second = same_b;
-    room = inr known_r;
+    room = inr room;
   }
 
   within_alike : (a i l j m c : ℕ) → a < length S → i + l ≤ j → j + m ≤ length (route S a) → c < length R → route S a ≡ route R c
@@ -89,10 +89,19 @@ pub record Stands (S R : List (List ℕ)) (a c : ℕ) : Type 0 where
   pub there : c < length R
   pub same : route S a ≡ route R c
 
+-- route b of S is route d of R, or both are the new routes, of as many
+pub record StandsOrIsNew (S R : List (List ℕ)) (b d : ℕ) : Type 0 where
+  pub known : b ≤ length S
+  pub there : d ≤ length R
+  pub same : route S b ≡ route R d
+  pub on : b < length S → d < length R
+  pub back : d < length R → b < length S
+  pub room : (d < length R) ⊎ (length R ≡ length S)
+
 -- routes a and b of S are routes c and d of R, in the same order
 pub record StandBoth (S R : List (List ℕ)) (a b c d : ℕ) : Type 0 where
   pub one : Stands S R a c
-  pub other : Stands S R b d
+  pub other : StandsOrIsNew S R b d
   pub up : a < b → c < d
   pub down : b < a → d < c
   pub equal : a ≡ b → c ≡ d
@@ -102,7 +111,7 @@ module _ (S R : List (List ℕ)) (a b c d : ℕ) (both : StandBoth S R a b c d) 
   cross_alike i l j m w =
       let formed : IsCross R c i l d j m = record {
         order = both.up w.order;
-        known = both.other.there;
+        known = both.other.on w.known;
         first_some = w.first_some;
         first_few = w.first_few;
         first = omega (arith, w.first, ap length both.one.same);
@@ -111,19 +120,19 @@ module _ (S R : List (List ℕ)) (a b c d : ℕ) (both : StandBoth S R a b c d) 
         second = omega (arith, w.second, ap length both.other.same);
       } in (
         formed,
-        swap_alike S R _ _ a i l b j m c d w.order w.known w.first w.second formed.order both.other.there both.one.same both.other.same (cross_is S a i l b j m w) (cross_is R c i l d j m formed),
+        swap_alike S R _ _ a i l b j m c d w.order (omega (arith, w.known)) w.first w.second formed.order both.other.there both.other.room both.one.same both.other.same (cross_is S a i l b j m w) (cross_is R c i l d j m formed),
       )
 
   two_opt_star_alike : (i j : ℕ) → IsTwoOptStar S a i b j → IsTwoOptStar R c i d j × Alike S R (after_two_opt_star S a i b j) (after_two_opt_star R c i d j)
   two_opt_star_alike i j w =
       let formed : IsTwoOptStar R c i d j = record {
         order = both.up w.order;
-        known = both.other.there;
+        known = both.other.on w.known;
         first = omega (arith, w.first, ap length both.one.same);
         second = omega (arith, w.second, ap length both.other.same);
       } in (
         formed,
-        swap_alike S R _ _ a i (length (route S a) - i) b j (length (route S b) - j) c d w.order w.known (omega (arith, w.first)) (omega (arith, w.second)) formed.order both.other.there both.one.same both.other.same
+        swap_alike S R _ _ a i (length (route S a) - i) b j (length (route S b) - j) c d w.order (omega (arith, w.known)) (omega (arith, w.first)) (omega (arith, w.second)) formed.order both.other.there both.other.room both.one.same both.other.same
             (two_opt_star_is S a i b j w) (rw (both.one.same, both.other.same) (two_opt_star_is R c i d j formed)),
       )
 
@@ -139,12 +148,12 @@ module _ (S R : List (List ℕ)) (a b c d : ℕ) (both : StandBoth S R a b c d) 
           let order = both.up less in
           let formed : IsExchange R c i d j = record {
             order = inl order;
-            known = both.other.there;
+            known = both.other.on w.known;
             first = omega (arith, w.first, ap length both.one.same);
             second = omega (arith, w.second, ap length both.other.same);
           } in (
             formed,
-            swap_alike S R _ _ a i 1 b j 1 c d less w.known (omega (arith, w.first)) (omega (arith, w.second)) order both.other.there both.one.same both.other.same
+            swap_alike S R _ _ a i 1 b j 1 c d less (omega (arith, w.known)) (omega (arith, w.first)) (omega (arith, w.second)) order both.other.there both.other.room both.one.same both.other.same
                 (exchange_apart_is S a i b j w less) (exchange_apart_is R c i d j formed order),
           )
 
@@ -193,7 +202,7 @@ module _ (S R : List (List ℕ)) (a b c d : ℕ) (both : StandBoth S R a b c d) 
           let ne : a ≢ b = omega arith in
           let formed = apart ne (omega arith) in (
             formed,
-            swap_alike S R _ _ a i l b j 0 c d less both.other.known w.chain (stands_before ne) order both.other.there both.one.same both.other.same
+            swap_alike S R _ _ a i l b j 0 c d less both.other.known w.chain (stands_before ne) order both.other.there both.other.room both.one.same both.other.same
                 (or_opt_later_is S a i l b j w less) (or_opt_later_is R c i l d j formed order),
           )
 
@@ -203,7 +212,7 @@ module _ (S R : List (List ℕ)) (a b c d : ℕ) (both : StandBoth S R a b c d) 
           let ne : a ≢ b = omega arith in
           let formed = apart ne (omega arith) in (
             formed,
-            swap_alike S R _ _ b j 0 a i l d c less both.one.known (stands_before ne) w.chain order both.one.there both.other.same both.one.same
+            swap_alike S R _ _ b j 0 a i l d c less (omega (arith, both.one.known)) (stands_before ne) w.chain order (omega (arith, both.one.there)) (inl both.one.there) both.other.same both.one.same
                 (or_opt_earlier_is S a i l b j w less) (or_opt_earlier_is R c i l d j formed order),
           )
 

@@ -29,7 +29,10 @@ two_routes p old new x y a b c d w v plan other same_a same_b room after =
       | inl empty ↦ omega (arith, first, at_most_one x, ap stands empty, other.fleet)
       | inr some ↦ elim some [
         | inl known ↦ omega (arith, first, stands_at p new other.fitting d known, at_most_one x, at_most_one y, other.fleet)
-        | inr left ↦ omega (arith, first, at_most_one x, at_most_one y)
+        | inr left ↦ elim left [
+          | inl vehicle ↦ omega (arith, first, at_most_one x, at_most_one y)
+          | inr few ↦ omega (arith, parts.2, ap stands same_a, ap stands same_b)
+        ]
       ]
     ] in (
       rebuilt_plan p new c x d y v other parts.0 parts.1 enough,

@@ -18,6 +18,10 @@ pub record IsCut (r : List ℕ) (i l : ℕ) (c : Cut) : Type 0 where
 abbrev pub cut_at : List ℕ → ℕ → ℕ → Cut
 cut_at r i l = record { before = last_from 0 (take i r); some = has_stop (part r i l); first = first_of (part r i l); last = last_of (part r i l); behind = first_of (drop (i + l) r) }
 
+-- the stops beside a gap, of which the depot is 0
+abbrev pub AreBeside : Problem → ℕ → ℕ → Type 0
+AreBeside p before behind = (before ≤ customer_count p) × (behind ≤ customer_count p)
+
 -- the stops of a cut are rows of the instance
 pub record IsKnownCut (p : Problem) (c : Cut) : Type 0 where
   pub before : c.before ≤ customer_count p

@@ -1,5 +1,5 @@
 -- The best gains between two routes that are kept while a plan changes.
-use Rattle.std.specs.Prelude.{◌≡◌, ℕ, ◌<◌, ◌≤◌, List, [], length, map, slice_index_or, ◌≢◌, ◌⊎◌, Bool, zero, suc, if◌then◌else◌, ◌+◌, Option, None, Some, IfSome, Vec}
+use Rattle.std.specs.Prelude.{◌≡◌, ℕ, ◌<◌, ◌≤◌, List, [], length, map, slice_index_or, ◌≢◌, ◌⊎◌, Bool, false, zero, suc, if◌then◌else◌, ◌+◌, Option, None, Some, IfSome, Vec}
 use Rattle.std.specs.declared.alloc.Global.{Global}
 use Rattle.solomon_reader.specs.Problem.{Problem}
 use Rattle.moves.specs.declared.candidate.Move.{Move}
@@ -98,20 +98,35 @@ HasSameEntries old new = (a b : ℕ) → entry_of new a b ≡ entry_of old a b
 abbrev pub origin_of : Replaced → ℕ → ℕ
 origin_of r c = skip_if r.second_goes r.second (skip_if r.first_goes r.first c)
 
--- not one of the two that were replaced, nor the new route behind the last
-pub record IsOther (r : Replaced) (count c : ℕ) : Type 0 where
+-- of as many routes as before none has gone
+pub record AreAsMany (r : Replaced) (before count : ℕ) : Type 0 where
+  pub first : r.first_goes ≡ false
+  pub second : r.second_goes ≡ false
+  pub many : before ≡ count
+
+-- not the new route behind the last, unless none has gone or come
+abbrev pub IsNotNew : Replaced → ℕ → ℕ → ℕ → Type 0
+IsNotNew r before count c = (c ≢ count) ⊎ AreAsMany r before count
+
+-- nothing is kept of the new route, unless none has gone or come, and the rest is as it was
+pub record IsNewForgotten (r : Replaced) (before count : ℕ) (old new : PairGains) : Type 0 where
+  pub kept : (a b : ℕ) → IsNotNew r before count a → IsNotNew r before count b → entry_of new a b ≡ entry_of old a b
+  pub each : (a b : ℕ) → (entry_of new a b ≡ unknown) ⊎ (IsNotNew r before count a × IsNotNew r before count b)
+
+-- not one of the two that were replaced, nor such a new route
+pub record IsOther (r : Replaced) (before count c : ℕ) : Type 0 where
   pub first : origin_of r c ≢ r.first
   pub second : origin_of r c ≢ r.second
-  pub known : c ≢ count
+  pub known : IsNotNew r before count c
 
 -- after two routes were replaced each entry is unknown or that of two other routes, and all of these are as they were
-pub record Follows (r : Replaced) (count : ℕ) (old new : PairGains) : Type 0 where
-  pub kept : (c d : ℕ) → IsOther r count c → IsOther r count d → entry_of new c d ≡ entry_of old (origin_of r c) (origin_of r d)
-  pub each : (c d : ℕ) → (entry_of new c d ≡ unknown) ⊎ (IsOther r count c × (IsOther r count d × (entry_of new c d ≡ entry_of old (origin_of r c) (origin_of r d))))
+pub record Follows (r : Replaced) (before count : ℕ) (old new : PairGains) : Type 0 where
+  pub kept : (c d : ℕ) → IsOther r before count c → IsOther r before count d → entry_of new c d ≡ entry_of old (origin_of r c) (origin_of r d)
+  pub each : (c d : ℕ) → (entry_of new c d ≡ unknown) ⊎ (IsOther r before count c × (IsOther r before count d × (entry_of new c d ≡ entry_of old (origin_of r c) (origin_of r d))))
 
 -- two routes of the old plan were replaced, and the new one has the others in their order
 pub record IsReplaced (old new : List (List ℕ)) (r : Replaced) : Type 0 where
-  pub others : (c : ℕ) → c < length new → origin_of r c ≢ r.first → origin_of r c ≢ r.second → route new c ≡ route old (origin_of r c)
+  pub others : (c : ℕ) → origin_of r c ≢ r.first → origin_of r c ≢ r.second → route new c ≡ route old (origin_of r c)
 
 -- the first route that a move of the kind from route a may go into, and the one behind the last
 abbrev pub lowest_second : Kind → ℕ → ℕ

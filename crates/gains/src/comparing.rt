@@ -2,7 +2,7 @@
 
 ghost use Rattle.std.specs.Prelude.{◌≡◌, ◌≢◌, ◌<◌, ◌≤◌, ◌+◌, ◌↔◌, length, IsTrue, MatchOption};
 ghost use Rattle.gains.specs.Cuts.{IsKnownCut, IsShiftChange, change_apart, cut_at};
-ghost use Rattle.gains.specs.Gains.{first_taken, second_taken, taken_chain, IsFirstCut, IsShiftKind, AreShifts};
+ghost use Rattle.gains.specs.Gains.{first_taken, second_taken, taken_chain, IsFirstCut, IsShiftKind};
 ghost use Rattle.gains.specs.Searches.{instance_of, plan_of, IsOfPlan, AreLengths, SearchesAt};
 
 use crate::cuts::{Cut, change_by_call, change_within, cut_of, cut_of_stops};
@@ -150,10 +150,8 @@ impl Neighbourhood<'_, '_> {
         requires cut { IsFirstCut (plan_of self.now) self.now.kind first.now cut.now }
         ensures { SearchesAt self.now first.now second.now before result }
     {
-        if let (Kind::Exchange, Some(other)) = (
-            self.kind,
-            cut_of(self.stops, self.second_chain(*second)),
-        ) {
+        let other = cut_of(self.stops, self.second_chain(*second));
+        if let (Kind::Exchange, Some(other)) = (self.kind, other) {
             let instance = self.trees.instance();
             let change = if usize::from(first.position) + 1 == usize::from(second.position) {
                 change_within(instance, cut, &other)

@@ -5,7 +5,7 @@ ghost use Rattle.solomon_reader.specs.Problem.{customer_count};
 ghost use Rattle.solomon_reader.specs.Distance.{distance};
 ghost use Rattle.solomon_reader.specs.declared.limits.TheConstants.{MOST_DISTANCE};
 ghost use Rattle.segments.specs.Segments.{last_from};
-ghost use Rattle.gains.specs.Cuts.{IsCut, IsKnownCut, joint_of, change_apart, change_within, ends_change, AreKnownCuts, IsLeastShift};
+ghost use Rattle.gains.specs.Cuts.{AreBeside, IsCut, IsKnownCut, joint_of, change_apart, change_within, ends_change, AreKnownCuts, IsLeastShift};
 
 use moves::Chain;
 use solomon_reader::{Instance, MOST_DISTANCE};
@@ -141,9 +141,8 @@ pub fn lesser(one: i64, other: i64) -> i64
 /// stops before and behind it.
 #[inline(always)]
 pub fn change_of_ends(instance: &Instance, one: (u16, u16), other: (u16, u16)) -> i64
-    requires one { (one.0 ≤ customer_count instance.now) × (one.1 ≤ customer_count instance.now) }
-    requires other { (other.0 ≤ customer_count instance.now) ×
-        (other.1 ≤ customer_count instance.now) }
+    requires one { AreBeside instance.now one.0 one.1 }
+    requires other { AreBeside instance.now other.0 other.1 }
     ensures value { result ≡ ends_change instance.now one.0 one.1 other.0 other.1 }
     ensures low { pos 0 ≤ℤ (result +ℤ pos (2 * MOST_DISTANCE)) }
     ensures high { result ≤ℤ pos (2 * MOST_DISTANCE) }

@@ -8,7 +8,6 @@ mod cuts;
 mod entry;
 mod found;
 mod keeping;
-mod laws;
 mod neighbourhood;
 mod pair_gains;
 mod passing;
@@ -16,7 +15,6 @@ mod replaced;
 mod route_gaps;
 
 pub use keeping::best_gain;
-pub use laws::law_of_two_routes;
 pub use pair_gains::PairGains;
-pub use replaced::Replaced;
+pub use replaced::{Replaced, law_of_two_routes};
 pub use route_gaps::RouteGaps;

@@ -1,7 +1,7 @@
 //! The best gains between two routes, which are kept while a plan changes.
 
 ghost use Rattle.std.specs.Prelude.{◌≡◌, ◌≢◌, ℕ, [], IfOk, slice_index_or, slice_set};
-ghost use Rattle.gains.specs.Kept.{unknown, rows_of, entry_of, with_found, skip, skip_if, Follows, IsForgotten, HasSameEntries};
+ghost use Rattle.gains.specs.Kept.{unknown, rows_of, entry_of, with_found, skip, skip_if, Follows, IsForgotten, IsNewForgotten, HasSameEntries};
 
 use crate::entry::{Entry, UNKNOWN};
 use crate::found::Found;
@@ -183,17 +183,27 @@ impl PairGains {
         }
     }
 
-    /// Forgets what is kept of two routes that were replaced and of the new route behind the last of this
-    /// many routes, and numbers the others anew.
-    pub fn follow(&mut self, replaced: &Replaced, count: usize)
-        ensures { Follows replaced.now count self.old self.new }
+    /// Forgets what is kept of the new route, unless there are as many routes as before and none has gone:
+    /// then it is the same.
+    fn forget_new(&mut self, replaced: &Replaced, before: usize, count: usize)
+        ensures { IsNewForgotten replaced.now before count self.old self.new }
+    {
+        if replaced.first_goes || replaced.second_goes || before != count {
+            self.forget(count);
+        }
+    }
+
+    /// Forgets what is kept of two routes that were replaced, of so many before and so many now, and numbers
+    /// the others anew.
+    pub fn follow(&mut self, replaced: &Replaced, before: usize, count: usize)
+        ensures { Follows replaced.now before count self.old self.new }
     {
         let (first, second) = (usize::from(replaced.first), usize::from(replaced.second));
         self.forget(first);
         self.forget(second);
         self.take_out_if(replaced.second_goes, second);
         self.take_out_if(replaced.first_goes, first);
-        self.forget(count);
+        self.forget_new(replaced, before, count);
         self.make_places(count.saturating_add(1));
     }
 }

@@ -1,9 +1,8 @@
 //! Chains that are passed over, since no move with them is better than what was found.
 
 ghost use Rattle.std.specs.Prelude.{◌≡◌, ◌≢◌, ◌+◌, ◌*◌, ◌≤◌, [], ◌∷◌, length, true, pos, ◌+ℤ◌, ◌≤ℤ◌, IsTrue, IfSome};
-ghost use Rattle.solomon_reader.specs.Problem.{customer_count};
 ghost use Rattle.solomon_reader.specs.declared.limits.TheConstants.{MOST_DISTANCE};
-ghost use Rattle.gains.specs.Cuts.{IsKnownCut, ends_change};
+ghost use Rattle.gains.specs.Cuts.{AreBeside, IsKnownCut, ends_change};
 ghost use Rattle.gains.specs.Gains.{IsFirstCut};
 ghost use Rattle.gains.specs.Gaps.{IsLeastSwap, IsLeastEndSwap};
 ghost use Rattle.gains.specs.Searches.{instance_of, plan_of, IsOfPlan, NoneIsBetter, NoneIsLess};
@@ -22,10 +21,8 @@ use solomon_reader::Instance;
 /// are left later than a time.
 #[inline(always)]
 fn front_change(instance: &Instance, front: (u16, u16), gap: &Gap, due: i64) -> i64
-    requires front { (front.0 ≤ customer_count instance.now) ×
-        (front.1 ≤ customer_count instance.now) }
-    requires gap { (gap.now.before ≤ customer_count instance.now) ×
-        (gap.now.behind ≤ customer_count instance.now) }
+    requires front { AreBeside instance.now front.0 front.1 }
+    requires gap { AreBeside instance.now gap.now.before gap.now.behind }
     ensures value { gap.now.leaves ≤ℤ due → result ≡ ends_change instance.now front.0 front.1
         gap.now.before gap.now.behind }
     ensures low { pos 0 ≤ℤ (result +ℤ pos (2 * MOST_DISTANCE)) }
@@ -41,9 +38,8 @@ fn front_change(instance: &Instance, front: (u16, u16), gap: &Gap, due: i64) -> 
 /// the exchange of the ends behind the chain and behind a gap, in tenths.
 #[inline(always)]
 fn lesser_swap(instance: &Instance, rear: (u16, u16), gap: &Gap, front: i64, least: i64) -> i64
-    requires rear { (rear.0 ≤ customer_count instance.now) × (rear.1 ≤ customer_count instance.now) }
-    requires gap { (gap.now.before ≤ customer_count instance.now) ×
-        (gap.now.behind ≤ customer_count instance.now) }
+    requires rear { AreBeside instance.now rear.0 rear.1 }
+    requires gap { AreBeside instance.now gap.now.before gap.now.behind }
     requires low { pos 0 ≤ℤ (front +ℤ pos (2 * MOST_DISTANCE)) }
     requires high { front ≤ℤ pos (2 * MOST_DISTANCE) }
     requires least { least ≤ℤ pos 0 }
@@ -55,10 +51,8 @@ fn lesser_swap(instance: &Instance, rear: (u16, u16), gap: &Gap, front: i64, lea
     if front >= NO_FRONT {
         return least;
     }
-    lesser(
-        least,
-        front + change_of_ends(instance, rear, (gap.before, gap.behind)),
-    )
+    let both = front + change_of_ends(instance, rear, (gap.before, gap.behind));
+    lesser(least, both)
 }
 
 impl Neighbourhood<'_, '_> {
@@ -155,10 +149,8 @@ impl Neighbourhood<'_, '_> {
         let mut least = 0;
         for gap in self.gaps {
             if gap.meets(own) {
-                least = lesser(
-                    least,
-                    change_of_ends(instance, front, (gap.before, gap.behind)),
-                );
+                let change = change_of_ends(instance, front, (gap.before, gap.behind));
+                least = lesser(least, change);
             }
         }
         Some(least)

@@ -8,8 +8,10 @@ ghost use Rattle.gains.specs.Cuts.{IsKnownCut};
 ghost use Rattle.segments.specs.PlanTrees.{problem_of};
 ghost use Rattle.moves.specs.Trees.{visits_of, AreOfPlan};
 ghost use Rattle.gains.specs.Gaps.{LeavesAt, LatestAt, AreGaps, AreGapsOf, gap_rows};
+ghost use Rattle.gains.specs.Kept.{IsReplaced};
 
 use crate::cuts::{Cut, stop_at, stop_before};
+use crate::replaced::Replaced;
 use segments::PlanTrees;
 use solomon_reader::{Instance, MOST_TIME};
 use std::alloc::{AllocError, Global};
@@ -149,11 +151,13 @@ impl RouteGaps {
         }
     }
 
-    /// Forgets all gaps.
-    pub fn forget(&mut self)
-        ensures { (p : Problem) (routes : List (List ℕ)) → AreGapsOf p routes self.new }
+    /// Forgets the gaps of two routes that were replaced, and of all behind the earlier of them.
+    pub fn follow(&mut self, replaced: &Replaced)
+        ensures { (p : Problem) (routes later : List (List ℕ)) → IsReplaced routes later replaced.now
+            → AreGapsOf p routes self.old → AreGapsOf p later self.new }
     {
-        self.rows.clear();
+        self.rows
+            .truncate(usize::from(replaced.first.min(replaced.second)));
     }
 
     /// The gaps of a route, none where they aren't known.

@@ -20,25 +20,13 @@ const PASSED_OVER: usize = 100;
 struct Detour {
     to: Place,
     length: i64,
-    /// Whether a vehicle may be in time there, as far as the stops beside the place tell.
-    is_timely: bool,
 }
 
-/// The detour of a customer to a place of a route, whose stops are given.
-fn detour_to(instance: &Instance, route: &[u16], to: Place, customer: u16) -> Detour {
-    let position = usize::from(to.position);
-    let before = match position.checked_sub(1) {
-        Some(last) => route.get(last).copied().unwrap_or(0),
-        None => 0,
-    };
-    let behind = route.get(position).copied().unwrap_or(0);
+/// By how many tenths a route gets longer where a customer stands between two of its stops, or the depot.
+fn detour_between(instance: &Instance, before: u16, customer: u16, behind: u16) -> i64 {
     let there = i64::from(arc(instance, before, customer));
     let on = i64::from(arc(instance, customer, behind));
-    Detour {
-        to,
-        length: there + on - i64::from(arc(instance, before, behind)),
-        is_timely: may_follow(instance, before, customer) && may_follow(instance, customer, behind),
-    }
+    there + on - i64::from(arc(instance, before, behind))
 }
 
 /// The better of the best place so far and those of a route where the customer may go. Now and then a
@@ -54,18 +42,23 @@ fn best_in_route<R: Rng>(
     let Some(route) = plan.routes().get(usize::from(number)) else {
         return before;
     };
-    let mut best = before;
+    let instance = plan.instance();
+    let (mut best, mut behind) = (before, 0);
     for position in 0..=route.len() {
+        let last = behind;
+        behind = route.get(position).copied().unwrap_or(0);
+        let length = detour_between(instance, last, customer, behind);
+        if best.is_some_and(|b| b.length <= length) || below(random, PASSED_OVER) == 0 {
+            continue;
+        }
         let to = Place {
             route: number,
             position: number_of(position),
         };
-        let detour = detour_to(plan.instance(), route.as_slice(), to, customer);
-        if best.is_some_and(|b| b.length <= detour.length) || below(random, PASSED_OVER) == 0 {
-            continue;
-        }
-        if detour.is_timely && plan.value(&Move::Relocate { from, to }).is_some() {
-            best = Some(detour);
+        let is_timely = may_follow(instance, last, customer)
+            && may_follow(instance, customer, behind);
+        if is_timely && plan.value(&Move::Relocate { from, to }).is_some() {
+            best = Some(Detour { to, length });
         }
     }
     best

@@ -25,6 +25,8 @@ use Rattle.moves.proofs.Rebuilding.{rebuilt_parts}
 use Rattle.moves.proofs.PlanStops.{visits_are, are_of_plan}
 use Rattle.gains.specs.declared.pair_gains.PairGains.{PairGains}
 use Rattle.gains.specs.declared.replaced.Replaced.{Replaced}
+use Rattle.gains.specs.declared.route_gaps.RouteGaps.{RouteGaps}
+use Rattle.gains.specs.Gaps.{AreGapsOf}
 use Rattle.gains.specs.Kept.{AreKept, Follows, IsReplaced}
 use Rattle.gains.proofs.LastingGains.{kept_through}
 use Rattle.working_plan.specs.Replacing.{AreTreesOf}
@@ -45,14 +47,15 @@ module _ (p : Problem) (routes : List (List ℕ)) (m : Move) (v : ℤ) (c : Chan
   second_known = rw to.is_second.stops (known_list p to.y (rebuilt_parts p routes to.a to.x to.b to.y to.rebuilds plan (rw to.is_result at value.plan)).1)
 
 -- the plan after a move, with what is kept of its routes
-pub applied : (old new : PlanTrees) (routes later : List (List ℕ)) (m : Move) (v : ℤ) (c : Change) (cost next : ℕ) (r : Replaced) (count : ℕ) (g h : PairGains)
-    → AreOfPlan old → visits_of old ≡ routes → cost ≡ plan_cost (problem_of old) routes → AreKept (problem_of old) (visits_of old) g
+pub applied : (old new : PlanTrees) (routes later : List (List ℕ)) (m : Move) (v : ℤ) (c : Change) (cost next : ℕ) (r : Replaced) (first count : ℕ) (g h : PairGains) (t : RouteGaps)
+    → AreOfPlan old → visits_of old ≡ routes → cost ≡ plan_cost (problem_of old) routes → AreKept (problem_of old) (visits_of old) g → AreGapsOf (problem_of old) (visits_of old) t
     → HasValue (problem_of old) routes m v → IsChangeTo routes (after routes m) c
     → problem_of new ≡ problem_of old → later ≡ kept (changed routes c) → AreTreesOf later new → pos next ≡ pos cost +ℤ v
-    → IsReplaced (visits_of old) (kept (changed (visits_of old) c)) r → count ≡ length later → Follows r count g h
+    → IsReplaced (visits_of old) (kept (changed (visits_of old) c)) r → first ≡ length routes → count ≡ length later → Follows r first count g h
     → AreOfPlan new × (visits_of new ≡ later) × (next ≡ plan_cost (problem_of new) later) × AreKept (problem_of new) (visits_of new) h
-applied old new routes later m v c cost next r count g h plan visits exact gains value to same made trees sum replaced long follows =
-    (of_plan, is, rw (same, e) (same_cost _ _ cost next v value.exact exact sum), kept_on)
+    × IsReplaced (visits_of old) (visits_of new) r × AreGapsOf (problem_of new) (visits_of old) t
+applied old new routes later m v c cost next r first count g h t plan visits exact gains gaps value to same made trees sum replaced short long follows =
+    (of_plan, is, rw (same, e) (same_cost _ _ cost next v value.exact exact sum), kept_on, replaced_there, subst (λ p. AreGapsOf p (visits_of old) t) (sym same) gaps)
   where
     e : later ≡ after routes m
     e = made ∙ changed_is routes (after routes m) c to
@@ -69,21 +72,25 @@ applied old new routes later m v c cost next r count g h plan visits exact gains
     changed_there : kept (changed (visits_of old) c) ≡ visits_of new
     changed_there = ap (λ (q : List (List ℕ)). kept (changed q c)) visits ∙ sym made ∙ sym is
 
+    replaced_there : IsReplaced (visits_of old) (visits_of new) r
+    replaced_there = subst (λ q. IsReplaced (visits_of old) q r) changed_there replaced
+
     kept_on : AreKept (problem_of new) (visits_of new) h
     kept_on =
-        kept_through (problem_of new) (visits_of old) (visits_of new) r count g h
-        (subst (λ p. IsPlan p (visits_of old)) (sym same) plan.plan) of_plan.plan (subst (λ q. IsReplaced (visits_of old) q r) changed_there replaced)
-        (long ∙ ap length (sym is)) follows (subst (λ p. AreKept p (visits_of old) g) (sym same) gains)
+        kept_through (problem_of new) (visits_of old) (visits_of new) r first count g h
+        (subst (λ p. IsPlan p (visits_of old)) (sym same) plan.plan) of_plan.plan replaced_there
+        (short ∙ ap length (sym visits)) (long ∙ ap length (sym is)) follows (subst (λ p. AreKept p (visits_of old) g) (sym same) gains)
 
 -- where none was made the plan is as it was
-pub none_applied : (old new : PlanTrees) (routes later : List (List ℕ)) (cost : ℕ) (g : PairGains) → AreOfPlan old → visits_of old ≡ routes → cost ≡ plan_cost (problem_of old) routes → AreKept (problem_of old) (visits_of old) g
+pub none_applied : (old new : PlanTrees) (routes later : List (List ℕ)) (cost : ℕ) (g : PairGains) (t : RouteGaps) → AreOfPlan old → visits_of old ≡ routes → cost ≡ plan_cost (problem_of old) routes → AreKept (problem_of old) (visits_of old) g → AreGapsOf (problem_of old) (visits_of old) t
     → problem_of new ≡ problem_of old → later ≡ routes → AreTreesOf later new
-    → AreOfPlan new × (visits_of new ≡ later) × (cost ≡ plan_cost (problem_of new) later) × AreKept (problem_of new) (visits_of new) g
-none_applied old new routes later cost g plan visits exact gains same e trees = (
+    → AreOfPlan new × (visits_of new ≡ later) × (cost ≡ plan_cost (problem_of new) later) × AreKept (problem_of new) (visits_of new) g × AreGapsOf (problem_of new) (visits_of new) t
+none_applied old new routes later cost g t plan visits exact gains gaps same e trees = (
   are_of_plan new (problem_of new) later refl trees.stops trees.trees (rw (same, e) (rw visits at plan.plan)),
   is,
   rw (same, e) exact,
   subst (λ q. AreKept (problem_of new) q g) (visits ∙ sym e ∙ sym is) (subst (λ p. AreKept p (visits_of old) g) (sym same) gains),
+  subst (λ q. AreGapsOf (problem_of new) q t) (visits ∙ sym e ∙ sym is) (subst (λ p. AreGapsOf p (visits_of old) t) (sym same) gaps),
 )
   where
     is : visits_of new ≡ later

@@ -80,9 +80,9 @@ pub is_replaced : (p : Problem) (routes : List (List ℕ)) (a : ℕ) (x : List �
     → r ≡ record { first = a; first_goes = not (has_stop x); second = b; second_goes = not (has_stop y) } → IsReplaced routes (kept (set (set (routes ++ ([] ∷ [])) a x) b y)) r
 is_replaced p routes a x b y r plan order known is = rw is (record { others = others })
   where
-    others : (c : ℕ) → c < length (kept (set (set (routes ++ ([] ∷ [])) a x) b y)) → skip_if (gone y) b (skip_if (gone x) a c) ≢ a → skip_if (gone y) b (skip_if (gone x) a c) ≢ b
+    others : (c : ℕ) → skip_if (gone y) b (skip_if (gone x) a c) ≢ a → skip_if (gone y) b (skip_if (gone x) a c) ≢ b
         → route (kept (set (set (routes ++ ([] ∷ [])) a x) b y)) c ≡ route routes (skip_if (gone y) b (skip_if (gone x) a c))
-    others c h na nb =
+    others c na nb =
         elim (cases_lt b (length routes)) [
           | inl less ↦
               ap (λ q. get_or q c []) (sym (rebuilt-known routes a x b y order less)) ∙ two routes a x b y (stands_but p routes b plan.fitting) order less c

@@ -194,10 +194,11 @@ impl<'i> WorkingPlan<'i> {
         let replaced = replaced_by(&self.trees, &change);
         self.trees.law_of_limits();
         let cost = cost_after(self.cost, by);
-        self.gaps.forget();
+        let before = self.routes.len();
         replace(self.alloc, &mut self.routes, &mut self.trees, &change)?;
         self.cost = cost;
-        self.gains.follow(&replaced, self.routes.len());
+        self.gains.follow(&replaced, before, self.routes.len());
+        self.gaps.follow(&replaced);
         Ok(())
     }
 

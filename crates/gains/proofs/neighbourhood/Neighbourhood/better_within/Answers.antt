@@ -25,8 +25,8 @@ returns-then-not-may_be_better c =
     let rear = taken_chain routes (second_taken m.kind) s in
     let within : f.route ≡ s.route = c.requires.first ∙ c.requires.within ∙ sym c.requires.second in
     let stops : m.stops.now ≡ route routes s.route = c.requires.plan.stops ∙ ap (route routes) (sym c.requires.first ∙ within) in
-    let other : IsCut (route routes rear.route) rear.position rear.length found = rw (stops, c.second_chain.ensures) at c.in-Exchange-Some.ensures.1 in
-    let stands : IsChainOf routes rear = rw (stops, c.second_chain.ensures) at c.in-Exchange-Some.ensures.0 in
+    let other : IsCut (route routes rear.route) rear.position rear.length found = rw (stops, c.second_chain.ensures) at (rw c.in-Exchange-Some.is-1 at c.cut_of-other.ensures).1 in
+    let stands : IsChainOf routes rear = rw (stops, c.second_chain.ensures) at (rw c.in-Exchange-Some.is-1 at c.cut_of-other.ensures).0 in
     let one_first : front.length ≡ 1 = subst (λ k. first_taken k f.length (length (route routes f.route) - f.position) ≡ 1) (sym c.in-Exchange-Some.is-0) refl in
     let one_second : rear.length ≡ 1 = subst (λ k. second_taken k s.length (length (route routes s.route) - s.position) ≡ 1) (sym c.in-Exchange-Some.is-0) refl in
     let change = c.if-from.change in
@@ -55,11 +55,11 @@ change_within-change-requires-clause-one c = rw c.instance-instance.ensures (kno
 
 pub change_within-change-requires-clause-other : goal.change_within-change-requires-clause-other
 change_within-change-requires-clause-other c =
-    rw c.instance-instance.ensures (known_cut (instance_of c.args.self.now) (plan_of c.args.self.now) _ _ _ c.in-Exchange-Some.other c.requires.plan.trees.plan (rw c.requires.plan.stops at c.in-Exchange-Some.ensures.1))
+    rw c.instance-instance.ensures (known_cut (instance_of c.args.self.now) (plan_of c.args.self.now) _ _ _ c.in-Exchange-Some.other c.requires.plan.trees.plan (rw c.requires.plan.stops at (rw c.in-Exchange-Some.is-1 at c.cut_of-other.ensures).1))
 
 pub change_by_call-change-requires-clause-one : goal.change_by_call-change-requires-clause-one
 change_by_call-change-requires-clause-one c = rw c.instance-instance.ensures (known_cut (instance_of c.args.self.now) (plan_of c.args.self.now) _ _ _ c.args.cut.now c.requires.plan.trees.plan c.requires.cut)
 
 pub change_by_call-change-requires-clause-other : goal.change_by_call-change-requires-clause-other
 change_by_call-change-requires-clause-other c =
-    rw c.instance-instance.ensures (known_cut (instance_of c.args.self.now) (plan_of c.args.self.now) _ _ _ c.in-Exchange-Some.other c.requires.plan.trees.plan (rw c.requires.plan.stops at c.in-Exchange-Some.ensures.1))
+    rw c.instance-instance.ensures (known_cut (instance_of c.args.self.now) (plan_of c.args.self.now) _ _ _ c.in-Exchange-Some.other c.requires.plan.trees.plan (rw c.requires.plan.stops at (rw c.in-Exchange-Some.is-1 at c.cut_of-other.ensures).1))

@@ -12,8 +12,8 @@ use Rattle.gains.proofs.PassedRoutes.{known_cuts}
 use Rattle.gains.proofs.neighbourhood.Neighbourhood.least_end_swap.Goals.{then-meets, else-meets}
 use Rattle.gains.proofs.neighbourhood.Neighbourhood.least_end_swap.Goals as goal
 
-pub change_of_ends-requires-clause-other : goal.change_of_ends-requires-clause-other
-change_of_ends-requires-clause-other c =
+pub change_of_ends-change-requires-clause-other : goal.change_of_ends-change-requires-clause-other
+change_of_ends-change-requires-clause-other c =
     let m = c.args.self.now in
     let none : Gap = record { before = 0; behind = 0; leaves = pos 0; latest = pos 0 } in
     let gap = c.requires.plan.gaps c.loop-gap.gap-index none c.loop-gap-test.true in
@@ -34,7 +34,7 @@ loop-gap-preserved c = λ j below before behind.
     elim c.if-meets.branch [
       | then-meets w ↦
           let y = w.lesser-least.result in
-          let change = w.change_of_ends in
+          let change = w.change_of_ends-change in
           let same : to_z w64 (of_z w64 y) ≡ y = omega (arith, ints) in
           let kept : to_z w64 (of_z w64 change.result) ≡ change.result = omega (arith, ints, change.ensures.low, change.ensures.high) in
           let is : change.result ≡ front_change p r c.args.cut.now k = rw (gap.before, gap.behind, c.instance-instance.ensures) at change.ensures.value in
