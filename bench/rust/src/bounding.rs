@@ -2,7 +2,7 @@
 
 use crate::insertion::{Weights, build_whole};
 use crate::price_ascent::{
-    ChildStart, Goal, IDLE_PRICINGS, RoutePool, branch, counted_routes, raise, rise_at, start_from,
+    ChildStart, Goal, IDLE_PRICINGS, RoutePool, branch, counted_routes, raise, rise_at, start_from, start_without_plan,
 };
 use crate::prices::Priced;
 use crate::shim::Global;
@@ -34,7 +34,10 @@ struct Tree<'i> {
     pool: RoutePool<'i>,
     open: Vec<Open<'i>>,
     leaves: usize,
-    cost: u64,
+    /// The cost to reach, or one more than any plan's.
+    target: u64,
+    /// The cost of the plan, if one is known.
+    cost: Option<Tenths>,
     routes: u16,
     labels: usize,
     /// What all turns are worth, in looks.
@@ -42,41 +45,50 @@ struct Tree<'i> {
     /// How many turns in a row raised nothing at the root.
     idle: u16,
     is_again: bool,
+    /// The least value of the leaves that no arc is left to split.
+    settled: i128,
 }
 
 impl<'i> Tree<'i> {
-    fn new(instance: &'i Instance, turns: u32, cost: u64) -> Tree<'i> {
-        let plan = build_whole(Global, instance, &Weights::plain()).unwrap().expect("a built plan");
+    /// The tree of the root: with the routes of a built plan, or without one where no cost is given.
+    fn new(instance: &'i Instance, turns: u32, cost: Option<Tenths>) -> Tree<'i> {
+        let plan = build_whole(Global, instance, &Weights::plain()).unwrap().filter(|_| cost.is_some());
+        let routes = plan.as_ref().map(|plan| plan.routes());
         let looks = worth_of(instance) * (u64::from(turns) / PRICING_PART).max(LEAST_PRICING_TURNS);
         let labels = (looks / u64::from(instance.customer_count())).min(MOST_LABELS) as usize;
         let Ok(root) = Priced::root(Global, instance, NEIGHBOURS, None) else { panic!("labels") };
-        let leaf = start_from(Global, root, plan.routes(), Some(labels));
+        let leaf = match routes {
+            Some(routes) => start_from(Global, root, routes, Some(labels)),
+            None => start_without_plan(Global, root, Some(labels)),
+        };
         Tree {
             instance,
-            pool: RoutePool::of_routes(Global, instance, plan.routes()).unwrap(),
+            pool: RoutePool::of_routes(Global, instance, routes.unwrap_or(&[])).unwrap(),
             open: vec![Open { leaf, start: None }],
             leaves: 1,
+            target: cost.map_or(instance.ceiling().get() + 1, |cost| cost.get()),
             cost,
-            routes: counted_routes(instance, Some(plan.routes())),
+            routes: counted_routes(instance, routes),
             labels,
             looks: worth_of(instance) * u64::from(turns),
             idle: 0,
             is_again: false,
+            settled: i128::MAX,
         }
     }
 
     fn bound(&self) -> i128 {
         let least = self.open.iter().map(|open| open.leaf.value()).min();
-        least.unwrap_or(i128::from(self.cost)).min(i128::from(self.cost))
+        least.unwrap_or(i128::from(self.target)).min(i128::from(self.target)).min(self.settled)
     }
 
     fn goal(&self, leaf: &Priced<'i>) -> Goal {
-        let first = rise_at(leaf, Tenths::new(self.cost));
+        let first = rise_at(leaf, self.cost);
         Goal {
             rise: if self.is_again { self.pool.rise() } else { first },
-            pricings: if leaf.region().is_root() { ROOT_PRICINGS } else { LEAF_PRICINGS },
+            pricings: if leaf.region().is_root() { ROOT_PRICINGS } else if self.cost.is_none() { std::env::var("LP").map_or(8, |w| w.parse().unwrap()) } else { LEAF_PRICINGS },
             idle_pricings: IDLE_PRICINGS,
-            value: i128::from(self.cost),
+            value: i128::from(self.target),
             routes: self.routes,
             labels: Some(self.labels),
             looks: self.looks,
@@ -96,7 +108,7 @@ impl<'i> Tree<'i> {
         let Open { leaf, start } = self.open.swap_remove(place);
         let (goal, before) = (self.goal(&leaf), leaf.value());
         let leaf = raise(Global, &mut self.pool, leaf, start, &goal);
-        let is_done = leaf.value() >= i128::from(self.cost);
+        let is_done = leaf.value() >= i128::from(self.target);
         self.is_again = !is_done && leaf.region().is_root() && self.stays(leaf.value() > before);
         if self.is_again || is_done {
             self.open.push(Open { leaf, start: None });
@@ -108,7 +120,10 @@ impl<'i> Tree<'i> {
                 self.open.push(Open { leaf: children.used, start: children.used_start });
                 self.open.push(Open { leaf: children.unused, start: children.unused_start });
             }
-            _ => panic!("a leaf that isn't split"),
+            _ => {
+                println!("a leaf that isn't split: {} of {}", leaf.value(), self.target);
+                self.settled = self.settled.min(leaf.value());
+            }
         }
     }
 }
@@ -118,12 +133,12 @@ fn worth_of(instance: &Instance) -> u64 {
     CUSTOMER_LOOKS * u64::from(instance.customer_count()).max(LEAST_CUSTOMERS)
 }
 
-/// Prints leaves and bound after each tenth of the turns, and the seconds.
+/// Prints leaves and bound after each tenth of the turns, and the seconds; without a plan where the cost is 0.
 pub fn tell(instance: &Instance, turns: u32, cost: u64) {
-    let mut tree = Tree::new(instance, turns, cost);
     let begin = Instant::now();
+    let mut tree = Tree::new(instance, turns, Tenths::new(cost).filter(|cost| cost.get() > 0));
     for turn in 1..=turns {
-        while tree.bound() < i128::from(cost) && tree.pool.looks() <= worth_of(instance) * u64::from(turn) {
+        while tree.bound() < i128::from(tree.target) && tree.pool.looks() <= worth_of(instance) * u64::from(turn) {
             tree.work();
         }
         if turn % turns.div_ceil(10) == 0 || turn == turns {

@@ -14,22 +14,23 @@ use prices::{PriceFault, Priced};
 use schedule::Feasible;
 use std::alloc::AllocError;
 
-/// The most pricings at the root, and at another leaf.
-const ROOT_PRICINGS: u32 = 100;
+/// The most pricings at the root and, where no plan is known, at each leaf: a value that can rise without
+/// end is to come to the ceiling. Else a leaf is split soon.
+const MOST_PRICINGS: u32 = 100;
 
 const LEAF_PRICINGS: u32 = 8;
 
-/// How far the prices of a leaf are raised: to the least cost known.
+/// How far the prices of a leaf are raised: to the least cost known, or above the ceiling.
 fn goal_of(leaf: &Priced<'_>, growth: &Growth<'_>) -> Goal {
     let (cost, routes) = match &growth.best {
         Some(plan) => (Some(plan.cost()), Some(plan.routes())),
         None => (None, None),
     };
-    let is_root = leaf.region().is_root();
+    let is_long = cost.is_none() || leaf.region().is_root();
     Goal {
         rise: rise_at(leaf, cost),
-        pricings: if is_root {
-            ROOT_PRICINGS
+        pricings: if is_long {
+            MOST_PRICINGS
         } else {
             LEAF_PRICINGS
         },

@@ -38,7 +38,7 @@ pub struct Children<'i> {
 
 /// A price in grains: with it for each customer a region without a relaxed route has a value above the
 /// cost of every plan.
-fn high_price(instance: &Instance) -> i64
+pub(crate) fn high_price(instance: &Instance) -> i64
     ensures { IsPrice result }
 {
     (instance.ceiling().get() as i64 + 1) * GRAINS_OF_TENTH

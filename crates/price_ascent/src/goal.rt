@@ -5,18 +5,15 @@ use solomon_reader::Instance;
 /// With this many pricings in a row that don't raise the value the best is rarely missed.
 pub const IDLE_PRICINGS: u32 = 15;
 
-/// How many routes more than a plan's count where prices are raised, and how many more than the
-/// fewest where there is no plan.
+/// How many routes more than a plan's count where prices are raised.
 const MORE_THAN_PLAN: u64 = 2;
 
-const MORE_THAN_FEWEST: u64 = 3;
-
-/// How many routes count where prices are raised: somewhat more than a plan has, or where there is
-/// none, somewhat more than carry the demands. No contract: any number serves.
+/// How many routes count where prices are raised: somewhat more than a plan has, or where none is known,
+/// the whole fleet, as in a leaf's value, since the fleet may be too small. No contract: any number serves.
 pub fn counted_routes(instance: &Instance, plan: Option<&[Vec<u16>]>) -> u16 {
     let routes = match plan {
         Some(routes) => (routes.len() as u64).saturating_add(MORE_THAN_PLAN),
-        None => u64::from(instance.fewest_routes()).saturating_add(MORE_THAN_FEWEST),
+        None => u64::from(instance.fleet()),
     };
     routes.min(u64::from(u16::MAX)) as u16
 }

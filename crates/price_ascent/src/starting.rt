@@ -106,6 +106,29 @@ pub fn first_prices(
     Ok(prices)
 }
 
+/// The root with these prices where their value is higher; else the root as it is, also where memory or
+/// labels don't suffice.
+pub(crate) fn higher_at<'i>(
+    alloc: Global,
+    root: Priced<'i>,
+    prices: Vec<i64>,
+    labels: Option<usize>,
+) -> Priced<'i>
+    requires region { root.region ≡ root_region (customer_count root.problem) }
+    requires count { length prices.items ≡ customer_count root.problem }
+    ensures problem { result.problem ≡ root.entry.problem }
+    ensures region { result.region ≡ root.entry.region }
+    ensures neighbours { result.neighbours ≡ root.entry.neighbours }
+    ensures not_lower { root.entry.value ≤ result.value }
+{
+    let instance = root.instance();
+    let region = Region::root(alloc, instance.customer_count());
+    match Priced::of(alloc, instance, region, root.neighbours(), prices, labels) {
+        Ok(other) => higher(root, other),
+        Err(_) => root,
+    }
+}
+
 /// The root with the prices that the routes of a plan say to start from, where their value is higher;
 /// else the root as it is, also where memory or labels don't suffice.
 pub fn start_from<'i>(
@@ -120,13 +143,8 @@ pub fn start_from<'i>(
     ensures neighbours { result.neighbours ≡ root.entry.neighbours }
     ensures not_lower { root.entry.value ≤ result.value }
 {
-    let instance = root.instance();
-    let Ok(prices) = first_prices(alloc, instance, routes) else {
-        return root;
-    };
-    let region = Region::root(alloc, instance.customer_count());
-    let Ok(first) = Priced::of(alloc, instance, region, root.neighbours(), prices, labels) else {
-        return root;
-    };
-    higher(root, first)
+    match first_prices(alloc, root.instance(), routes) {
+        Ok(prices) => higher_at(alloc, root, prices, labels),
+        Err(_) => root,
+    }
 }

@@ -14,7 +14,7 @@ use crate::fault::RunFault;
 use incumbent_book::{Book, BookFault, OpenFault};
 use insertion::{Weights, build_whole};
 use labelling::LabelFault;
-use price_ascent::start_from;
+use price_ascent::{start_from, start_without_plan};
 use prices::Priced;
 use schedule::Feasible;
 use search::Searcher;
@@ -125,7 +125,7 @@ fn offer_both<'i, R: Threads + Sync>(
 
 impl<'i> Opening<'i> {
     /// A book of the root that was offered the first plan and what a descent makes of it, if insertion
-    /// builds one.
+    /// builds one; else its prices begin where they may show that there is no plan.
     pub(crate) fn new<R: Threads + Sync>(
         rt: &R,
         alloc: Global,
@@ -140,12 +140,12 @@ impl<'i> Opening<'i> {
         ensures refused { IfErr result (λ e. (e ≡ Memory) ⊎ (e ≡ LabelLimit)) }
     {
         let root = price_root(alloc, instance, settings)?;
+        let labels = Some(pricing_labels(settings, instance.customer_count()));
         let Some(plan) = build_whole(alloc, instance, &Weights::plain())? else {
-            let book = open_book(alloc, root)?;
+            let book = open_book(alloc, start_without_plan(alloc, root, labels))?;
             return Ok(Opening { book, plan: None });
         };
-        let labels = pricing_labels(settings, instance.customer_count());
-        let root = start_from(alloc, root, plan.routes(), Some(labels));
+        let root = start_from(alloc, root, plan.routes(), labels);
         let mut book = open_book(alloc, root)?;
         let plan = offer_both(rt, alloc, &mut book, plan, settings.seed)?;
         Ok(Opening {

@@ -1,6 +1,8 @@
 //! A worker that raises the bound.
 
-ghost use Rattle.std.specs.Prelude.{◌≤◌};
+ghost use Rattle.std.specs.Prelude.{◌≡◌, ◌≤◌};
+ghost use Rattle.branching.specs.Choosing.{IsSettled};
+ghost use Rattle.ceiling.specs.Seats.{IsSeatOf};
 
 use crate::gate::{Gate, GatePoint};
 use crate::hub::Hub;
@@ -9,12 +11,26 @@ use crate::pricing::{Means, goal_of, is_ahead, pricing_labels, turn_looks};
 use crate::refusal::Refusal;
 use crate::settings::Settings;
 use crate::worker::Worker;
+use closing::settled_leaf;
 use price_ascent::{ChildStart, Children, branch, raise};
 use prices::{PriceFault, Priced};
 use schedule::Feasible;
 
 /// The most leaves of a turn.
 const MOST_LEAVES: u32 = 10;
+
+/// Offers a plan where it is cheaper than those known.
+fn offer_if_cheaper<'i, H: Hub<'i>, G: Gate>(
+    worker: &mut Worker<'_, 'i, H, G>,
+    plan: Feasible<'i>,
+) -> Result<(), Refusal>
+    ensures words { worker.new.ceiling ≡ worker.old.ceiling }
+{
+    if plan.cost().get() >= worker.target() {
+        return Ok(());
+    }
+    worker.offer(plan)
+}
 
 /// Splits a leaf, and keeps both children, which wait for their turn. Where another worker raised the root
 /// meanwhile, the book refuses its split, and the next turn tries again.
@@ -24,7 +40,9 @@ fn split<'i, H: Hub<'i>, G: Gate>(
     is_root: bool,
     children: Children<'i>,
     nodes: &mut Nodes<'_, 'i>,
-) -> Result<(), Refusal> {
+) -> Result<(), Refusal>
+    ensures words { worker.new.ceiling ≡ worker.old.ceiling }
+{
     let Children {
         arc,
         used,
@@ -49,6 +67,28 @@ fn split<'i, H: Hub<'i>, G: Gate>(
     nodes.push_children(first, second)
 }
 
+/// Gives a leaf whose region leaves no arc open the cost of the plans that obey it, or a value above the
+/// ceiling where there is none; and offers one of them where it is cheaper than those known.
+fn settle<'i, H: Hub<'i>, G: Gate>(
+    worker: &mut Worker<'_, 'i, H, G>,
+    number: u32,
+    leaf: &Priced<'i>,
+) -> Result<(), Refusal>
+    requires { IsSettled leaf.now.region }
+    ensures words { worker.new.ceiling ≡ worker.old.ceiling }
+{
+    let region = leaf.region().try_clone()?;
+    let neighbours = leaf.neighbours();
+    let (settled, plan) = settled_leaf(worker.alloc, leaf.instance(), region, neighbours)?;
+    if let Some(plan) = plan {
+        offer_if_cheaper(worker, plan)?;
+    }
+    if settled.value() > leaf.value() {
+        return worker.reprice(number, settled);
+    }
+    Ok(())
+}
+
 /// Gives the root its raised prices, to which the next turn returns as long as it rises, and another leaf
 /// where they end the work at it; splits it elsewhere, with the raised prices at both children.
 fn bring<'i, H: Hub<'i>, G: Gate>(
@@ -58,7 +98,9 @@ fn bring<'i, H: Hub<'i>, G: Gate>(
     is_raised: bool,
     means: Means,
     nodes: &mut Nodes<'_, 'i>,
-) -> Result<(), Refusal> {
+) -> Result<(), Refusal>
+    ensures words { worker.new.ceiling ≡ worker.old.ceiling }
+{
     if leaf.value() >= i128::from(worker.target()) {
         return worker.reprice(number, leaf);
     }
@@ -73,26 +115,24 @@ fn bring<'i, H: Hub<'i>, G: Gate>(
     }
     match branch(worker.alloc, &leaf, &mut nodes.pool, Some(means.labels)) {
         Ok(Some(children)) => split(worker, number, leaf.region().is_root(), children, nodes),
-        Ok(None) | Err(PriceFault::LabelLimit | PriceFault::PriceRange) => {
-            worker.reprice(number, leaf)
-        }
+        Ok(None) => settle(worker, number, &leaf),
+        Err(PriceFault::LabelLimit | PriceFault::PriceRange) => worker.reprice(number, leaf),
         Err(PriceFault::Memory) => Err(Refusal::EndsWork),
     }
 }
 
-/// Offers the routes that make up the prices raised last, where they are a plan that is cheaper than
-/// those known.
+/// Offers the routes that make up the prices raised last, where they are a plan that is cheaper than those
+/// known.
 fn offer_routes<'i, H: Hub<'i>, G: Gate>(
     worker: &mut Worker<'_, 'i, H, G>,
     nodes: &Nodes<'_, 'i>,
-) -> Result<(), Refusal> {
+) -> Result<(), Refusal>
+    ensures words { worker.new.ceiling ≡ worker.old.ceiling }
+{
     let Ok(plan) = Feasible::check(worker.instance, nodes.pool.main_routes()?) else {
         return Ok(());
     };
-    if plan.cost().get() >= worker.target() {
-        return Ok(());
-    }
-    worker.offer(plan)
+    offer_if_cheaper(worker, plan)
 }
 
 /// The leaf with prices of a higher value, if some are found.
@@ -103,7 +143,9 @@ fn raise_leaf<'i, H: Hub<'i>, G: Gate>(
     leaf: Priced<'i>,
     means: Means,
     nodes: &mut Nodes<'_, 'i>,
-) -> Priced<'i> {
+) -> Priced<'i>
+    ensures words { worker.new.ceiling ≡ worker.old.ceiling }
+{
     let cost = worker.gap().cost;
     let goal = goal_of(&leaf, nodes, cost, is_again, worker.target(), means);
     raise(worker.alloc, &mut nodes.pool, leaf, start, &goal)
@@ -116,7 +158,9 @@ fn work_at<'i, H: Hub<'i>, G: Gate>(
     leaf: Priced<'i>,
     means: Means,
     nodes: &mut Nodes<'_, 'i>,
-) -> Result<(), Refusal> {
+) -> Result<(), Refusal>
+    ensures words { worker.new.ceiling ≡ worker.old.ceiling }
+{
     let Taken {
         number,
         start,
@@ -138,7 +182,9 @@ fn work_on<'i, H: Hub<'i>, G: Gate>(
     means: Means,
     made: u32,
     nodes: &mut Nodes<'_, 'i>,
-) -> Result<bool, Refusal> {
+) -> Result<bool, Refusal>
+    ensures words { worker.new.ceiling ≡ worker.old.ceiling }
+{
     if worker.is_closed() || is_ahead(nodes, made) {
         return Ok(false);
     }
@@ -162,7 +208,9 @@ fn turn<'i, H: Hub<'i>, G: Gate>(
     means: Means,
     made: u32,
     nodes: &mut Nodes<'_, 'i>,
-) -> Result<(), Refusal> {
+) -> Result<(), Refusal>
+    ensures words { worker.new.ceiling ≡ worker.old.ceiling }
+{
     for _leaf in 0..MOST_LEAVES {
         if !work_on(worker, means, made, nodes)? {
             break;
@@ -187,7 +235,8 @@ pub fn bound_worker<'i, H: Hub<'i>, G: Gate>(
     settings: &Settings,
     mut nodes: Nodes<'_, 'i>,
 ) -> u32
-    ensures { result ≤ settings.now.turns }
+    ensures turns { result ≤ settings.now.turns }
+    ensures own { IsSeatOf worker.old.ceiling.now worker.new.seat }
 {
     let means = Means {
         labels: pricing_labels(settings, nodes.customers),

@@ -1,5 +1,7 @@
 //! How far the prices of a leaf are raised, and how much work a turn is worth.
 
+ghost use Rattle.std.specs.Prelude.{◌≤◌};
+
 use crate::nodes::Nodes;
 use crate::settings::Settings;
 use price_ascent::{Goal, IDLE_PRICINGS, rise_at};
@@ -11,6 +13,9 @@ const ROOT_PRICINGS: u32 = 20;
 
 /// The most pricings of a turn at another leaf, beside the one that its ascent starts from.
 const LEAF_PRICINGS: u32 = 8;
+
+/// The same where no plan is known: a value that can rise without end is to come to the ceiling.
+const PRICINGS_WITHOUT_PLAN: u32 = 100;
 
 /// How many looks a turn is worth for each customer, and for how many customers at least. A look takes about
 /// as long on every instance, so that turns do, too.
@@ -42,9 +47,10 @@ pub(crate) struct Means {
 }
 
 /// How many labels may be active at once in a bound worker's pricing on so many customers: what the settings
-/// allow, and no more than its turns can pay for, so that no pricing runs away. No contract: any limit is
-/// sound.
-pub fn pricing_labels(settings: &Settings, customers: u16) -> usize {
+/// allow, and no more than its turns can pay for, so that no pricing runs away.
+pub fn pricing_labels(settings: &Settings, customers: u16) -> usize
+    ensures { result ≤ settings.now.labels }
+{
     let worth = turn_looks(customers);
     let part = worth.saturating_mul(u64::from(settings.turns)) / PRICING_PART;
     let looks = part.max(worth.saturating_mul(LEAST_PRICING_TURNS));
@@ -74,6 +80,8 @@ pub(crate) fn goal_of(
 ) -> Goal {
     let (times, pricings) = if leaf.region().is_root() {
         (1 + i64::from(means.place % FIRST_RISES), ROOT_PRICINGS)
+    } else if cost.is_none() {
+        (1, PRICINGS_WITHOUT_PLAN)
     } else {
         (1, LEAF_PRICINGS)
     };

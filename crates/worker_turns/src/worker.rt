@@ -43,12 +43,16 @@ impl<'i, H: Hub<'i>, G: Gate> Worker<'_, 'i, H, G> {
     }
 
     /// The least cost known in tenths; where no plan is known one more than any costs.
-    pub(crate) fn target(&mut self) -> u64 {
+    pub(crate) fn target(&mut self) -> u64
+        ensures { self.new.ceiling ≡ self.old.ceiling }
+    {
         self.ceiling.cost(&mut self.seat)
     }
 
     /// What the words know of the least cost.
-    pub(crate) fn gap(&mut self) -> Gap {
+    pub(crate) fn gap(&mut self) -> Gap
+        ensures { self.new.ceiling ≡ self.old.ceiling }
+    {
         let most = self.instance.ceiling().get();
         let cost = Tenths::new(self.target()).filter(|cost| cost.get() <= most);
         let bound = Tenths::new(self.ceiling.floor(&mut self.seat));
@@ -59,19 +63,25 @@ impl<'i, H: Hub<'i>, G: Gate> Worker<'_, 'i, H, G> {
     }
 
     /// Whether cost and bound have met, so that no work is left.
-    pub(crate) fn is_closed(&mut self) -> bool {
+    pub(crate) fn is_closed(&mut self) -> bool
+        ensures { self.new.ceiling ≡ self.old.ceiling }
+    {
         self.target() <= self.ceiling.floor(&mut self.seat)
     }
 
     /// Ends a turn.
-    pub(crate) fn end_turn(&mut self) {
+    pub(crate) fn end_turn(&mut self)
+        ensures { self.new.ceiling ≡ self.old.ceiling }
+    {
         let gap = self.gap();
         self.gate.tell(&gap);
         self.pass(GatePoint::End);
     }
 
     /// Offers a plan.
-    pub(crate) fn offer(&mut self, plan: Feasible<'i>) -> Result<(), Refusal> {
+    pub(crate) fn offer(&mut self, plan: Feasible<'i>) -> Result<(), Refusal>
+        ensures { self.new.ceiling ≡ self.old.ceiling }
+    {
         let cost = plan.cost().get();
         match self.hub.offer(plan) {
             Ok(_) => {
@@ -83,13 +93,17 @@ impl<'i, H: Hub<'i>, G: Gate> Worker<'_, 'i, H, G> {
     }
 
     /// Raises the word for the bound to what the book has.
-    fn raise(&mut self) {
+    fn raise(&mut self)
+        ensures { self.new.ceiling ≡ self.old.ceiling }
+    {
         let bound = self.hub.gap().bound.get();
         let _ = self.ceiling.raise(&mut self.seat, bound);
     }
 
     /// Gives a leaf its higher prices.
-    pub(crate) fn reprice(&mut self, leaf: u32, priced: Priced<'i>) -> Result<(), Refusal> {
+    pub(crate) fn reprice(&mut self, leaf: u32, priced: Priced<'i>) -> Result<(), Refusal>
+        ensures { self.new.ceiling ≡ self.old.ceiling }
+    {
         match self.hub.reprice(leaf, priced) {
             Ok(()) => {
                 self.raise();
@@ -106,7 +120,9 @@ impl<'i, H: Hub<'i>, G: Gate> Worker<'_, 'i, H, G> {
         arc: Arc,
         used: Priced<'i>,
         unused: Priced<'i>,
-    ) -> Result<(u32, u32), Refusal> {
+    ) -> Result<(u32, u32), Refusal>
+        ensures { self.new.ceiling ≡ self.old.ceiling }
+    {
         match self.hub.split(leaf, arc, used, unused) {
             Ok(numbers) => {
                 self.raise();
