@@ -134,13 +134,14 @@ def spoilt_first(words_of, plan, bound):
 
 
 def same_paths(first, second, third):
-    """Paths that are the same words: nothing is read, made or emptied."""
+    """Paths that are the same but for `.` and empty parts: nothing is read, made or emptied."""
     def case(program, folder):
-        for name in {first, second, third} - {"instance"}:
+        names = {os.path.normpath(name) for name in (first, second, third)}
+        for name in names - {"instance"}:
             put(path_in(folder, name), OLD)
         came = tuple(run(solve_words(program, folder, first, second, third), None, (), LONGEST))
         demand(came == FAILED, "%r" % (came,))
-        for name in {first, second, third}:
+        for name in names:
             demand(got(path_in(folder, name)) == TEXTS.get(name, OLD), "the file %s was changed" % name)
     return case
 
@@ -319,6 +320,9 @@ OUTPUTS = [
     ("same paths, instance and solution", same_paths("instance", "instance", "bound")),
     ("same paths, instance and certificate", same_paths("instance", "plan", "instance")),
     ("same paths, solution and certificate", same_paths("instance", "plan", "plan")),
+    ("same paths, a dot before the solution", same_paths("instance", "./instance", "bound")),
+    ("same paths, dots and empty parts", same_paths("././/instance", "plan", ".//./instance")),
+    ("same paths, an empty part", same_paths("instance", "./plan", ".//plan")),
     ("same paths, solution and certificate that aren't there, no instance", plain(
         solve_words, FAILED, instance="none", solution="plan", certificate="plan")),
 ]

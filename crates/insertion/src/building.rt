@@ -131,7 +131,8 @@ pub fn build<'i>(
     Ok(answer(instance, routes, unrouted))
 }
 
-/// The plan that `build` makes with these weights, if it serves every customer.
+/// A plan that `build` makes with these weights, if what it makes is one. There is none only where the fleet
+/// has fewer vehicles than customers, or a customer can't be served alone.
 pub fn build_whole<'i>(
     alloc: Global,
     instance: &'i Instance,

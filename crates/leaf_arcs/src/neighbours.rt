@@ -1,6 +1,6 @@
 //! Neighbour lists, and what is remembered.
 
-ghost use Rattle.std.specs.Prelude.{◌≡◌, ℕ, ◌<◌, ◌≤◌, length, true, IfOk, IsTrue, Vec};
+ghost use Rattle.std.specs.Prelude.{◌≡◌, ◌↔◌, ℕ, ◌<◌, ◌≤◌, length, true, IfOk, IsTrue, Vec};
 ghost use Rattle.std.specs.declared.alloc.Global.{Global};
 ghost use Rattle.solomon_reader.specs.declared.limits.TheConstants.{MOST_NEIGHBOURS};
 ghost use Rattle.solomon_reader.specs.Remembering.{near, remember};
@@ -100,7 +100,8 @@ impl<'i> Neighbours<'i> {
 
     /// Whether a memory of a visit of v has u, where both are rows.
     pub fn recalls(&self, v: u16, memory: u16, u: u16) -> bool
-        ensures { IsTrue result → recalls self.now.instance.now self.now.k v memory u ≡ true }
+        ensures { IsTrue result ↔ ((v < length self.now.instance.now.rows) × (u < length self.now.instance.now.rows)
+            × (recalls self.now.instance.now self.now.k v memory u ≡ true)) }
     {
         let count = self.instance.customer_count();
         v <= count && u <= count && contains(memory, self.bit(v, u))

@@ -1,6 +1,6 @@
 //! What the work on a leaf stands on.
 
-ghost use Rattle.std.specs.Prelude.{◌≡◌, IfOk, IfSome};
+ghost use Rattle.std.specs.Prelude.{◌≡◌, None, IfOk, IfSome};
 ghost use Rattle.std.specs.List.{All};
 ghost use Rattle.leaf_arcs.specs.Arcs.{AreArcRows};
 ghost use Rattle.leaf_arcs.specs.Floors.{IsFloor, IsKnown};
@@ -32,7 +32,8 @@ pub struct Task<'a, 'i> {
 impl<'a, 'i> Task<'a, 'i> {
     /// The task of a leaf, with floors over time, and no limit.
     pub fn new(alloc: Global, leaf: Leaf<'a, 'i>) -> Result<Task<'a, 'i>, AllocError>
-        ensures { IfOk result (λ t. t.leaf ≡ leaf.entry) }
+        ensures leaf { IfOk result (λ t. t.leaf ≡ leaf.entry) }
+        ensures limit { IfOk result (λ t. t.limit ≡ None) }
     {
         let rows = arc_rows(alloc, &leaf)?;
         let network = leaf.network;

@@ -82,7 +82,7 @@ fn work_labels(
 }
 
 /// Takes the labels of a load out and works them. Each goes on counting as a settled one, or no longer
-/// where a settled one dominates it.
+/// where a settled one dominates it or it is dear now.
 fn work_load(
     task: &Task<'_, '_>,
     table: &mut Table,

@@ -7,6 +7,7 @@ mod certifying;
 mod closing_text;
 mod found;
 mod lines;
+mod paths;
 mod program;
 mod progress;
 mod solving;

@@ -7,6 +7,7 @@ use crate::closing_text::close;
 use crate::lines::{
     check_fault, file_fault, open_fault, solve_fault, tell, tell_verdict, usage_fault,
 };
+use crate::paths::is_same_path;
 use crate::progress::Progress;
 use crate::solving::solve;
 use checker::check;
@@ -49,7 +50,7 @@ fn solve_text<R: Eprint + Threads + Wait + Sync, X: Sink, Y: Sink>(
 }
 
 /// Solves the instance of the first file into the two others, which are made once the instance was read. No
-/// two paths may be the same words, since one file would overwrite another.
+/// two paths may be the same, since one file would overwrite another.
 fn solve_files<R: Eprint + Files + AllocGlobal + Threads + Wait + Sync, X: Sink, Y: Sink>(
     rt: &R,
     alloc: Global,
@@ -58,7 +59,8 @@ fn solve_files<R: Eprint + Files + AllocGlobal + Threads + Wait + Sync, X: Sink,
     out: &mut X,
     errors: &mut Y,
 ) -> u8 {
-    if instance == solution || instance == certificate || solution == certificate {
+    let is_twice = is_same_path(solution, certificate);
+    if is_twice || is_same_path(instance, solution) || is_same_path(instance, certificate) {
         return file_fault(errors);
     }
     let text = match fs::read(rt, instance) {
@@ -131,7 +133,7 @@ fn check_files<R: Files + AllocGlobal, X: Sink, Y: Sink>(
 /// to `out` in place of standard output and to `errors` in place of standard error, and answers
 /// the status: 0 for `BEST`, `NO PLAN` and help, 1 for `GAP`, `OPEN` and `BOUND`, 2 for wrong words,
 /// 3 for a refused instance, 4 where memory was refused, 5 for a refused certificate or solution, 6
-/// where a file or a stream failed or two paths of `solve` are the same words, 7 where the labels,
+/// where a file or a stream failed or two paths of `solve` are the same, 7 where the labels,
 /// the states or the leaves don't suffice, or an instance is too large to be closed. With `--progress` lines stand on
 /// standard error itself besides. What files hold no contract can say.
 pub fn run_words<R: Eprint + Files + AllocGlobal + Threads + Wait + Sync, X: Sink, Y: Sink>(

@@ -14,7 +14,7 @@ returns-then-most-eq0 c =
     let q = pricing p (region_of (customer_count p) c.args.path.now) c.args.setting.now.network.neighbours.k c.args.prices.now in
     let least = least_exists q (λ i j from to. decided _ c.args.path.now i j (omega (arith, from, c.law_of_limits.ensures.rows)) (omega (arith, to, c.law_of_limits.ensures.rows)))
     (is_pricing p c.args.prices.now c.law_of_limits.ensures.limits c.requires.count c.requires.priced).carried (omega (arith, c.law_of_limits.ensures.rows)) in
-    let known = found_cost q c.dive-known.result (rw c.in_ok-task.ensures at c.dive-known.ensures) in
+    let known = found_cost q c.dive-known.result (rw c.in_ok-task.ensures.leaf at c.dive-known.ensures) in
     lesser_none _ q least.0 least.1 c.args.most c.lowered-most.result c.dive-known.result c.requires.count known c.lowered-most.ensures c.if-most-eq0.true
 
 pub returns : goal.returns
@@ -23,7 +23,7 @@ returns c =
     let q = pricing p (region_of (customer_count p) c.args.path.now) c.args.setting.now.network.neighbours.k c.args.prices.now in
     let least = least_exists q (λ i j from to. decided _ c.args.path.now i j (omega (arith, from, c.law_of_limits.ensures.rows)) (omega (arith, to, c.law_of_limits.ensures.rows)))
     (is_pricing p c.args.prices.now c.law_of_limits.ensures.limits c.requires.count c.requires.priced).carried (omega (arith, c.law_of_limits.ensures.rows)) in
-    let known = found_cost q c.dive-known.result (rw c.in_ok-task.ensures at c.dive-known.ensures) in
+    let known = found_cost q c.dive-known.result (rw c.in_ok-task.ensures.leaf at c.dive-known.ensures) in
     rw (c.min.ensures, c.from.ensures)
     (lesser_found _ q least.0 least.1 c.args.most c.lowered-most.result c.dive-known.result c.requires.count known c.lowered-most.ensures c.limit_of-task.result
-    c.in_ok-found.found c.value_at.result (rw c.in_ok-task.ensures at c.in_ok-found.ensures) c.limit_of-task.ensures.worth c.limit_of-task.ensures.routeless c.value_at.ensures)
+    c.in_ok-found.found c.value_at.result (rw c.in_ok-task.ensures.leaf at c.in_ok-found.ensures) c.limit_of-task.ensures.worth c.limit_of-task.ensures.routeless c.value_at.ensures)
