@@ -23,7 +23,7 @@ from solving import judge_solve
 from spellings import SPELLINGS
 from texts import TextFault, read_certificate, read_solution, shown
 from tool_faults import judge_fault
-from turning import Words, turn
+from turning import judge_turns_told
 from tutorial import judge_manual, judge_tutorial
 
 
@@ -64,8 +64,7 @@ def judge_check(program, folder, random):
 
 
 def judge_turns(instruments, folder, random, count):
-    """Descents and turns from a built plan: what the program comes to against the turns of this folder, word by
-    word. Answers what came of it."""
+    """Descents and turns from a built plan. Answers what came of it."""
     text = laid_out(random, instance_words(random, count))
     instance, number = read(text), random.randint(0, 2)
     path = os.path.join(folder, "instance")
@@ -76,14 +75,7 @@ def judge_turns(instruments, folder, random, count):
     if left:
         demand(told == ["no plan"], "turns without a plan: %r" % told)
         return "no plan"
-    routes = descend(instance, routes)
-    first, words = plan_cost(instance, routes), Words(1)
-    for _ in range(number):
-        routes = turn(instance, words, routes)
-    last = plan_cost(instance, routes)
-    wanted = ["descent %d" % first, "parallel %d" % first, "turns %d" % last] + ["route %r" % route for route in routes]
-    demand(told == wanted, "turns: %r, and %r is right" % (told, wanted))
-    return "cheaper" if last < first else "as after the descent"
+    return judge_turns_told(instance, descend(instance, routes), number, told)
 
 
 def checked_texts(random, instance, lines, bound, routes):

@@ -16,6 +16,7 @@ mod pooled_routes;
 mod price_ascent;
 mod prices;
 mod rand_core;
+mod ruin;
 mod schedule;
 mod search;
 mod searching;

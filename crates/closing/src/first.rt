@@ -9,12 +9,12 @@ ghost use Rattle.search.specs.Searching.{plan_of};
 
 use insertion::{Weights, build_whole};
 use labelling::LabelFault;
-use price_ascent::start_from;
+use price_ascent::{start_from, start_without_plan};
 use prices::Priced;
 use rand_core::{Rng, SeedableRng};
 use rand_xoshiro::Xoshiro256PlusPlus;
 use schedule::Feasible;
-use search::Searcher;
+use search::{Pace, Searcher};
 use solomon_reader::Instance;
 use std::alloc::{AllocError, Global};
 
@@ -22,7 +22,7 @@ use std::alloc::{AllocError, Global};
 const SEED: u64 = 1;
 
 /// How many turns a search makes from the first plan.
-const TURNS: u32 = 20;
+const TURNS: u32 = 2;
 
 /// How many insertions with drawn weights are tried where the first leaves a customer out.
 const DRAWS: u32 = 50;
@@ -55,9 +55,11 @@ fn built_plan<'i, R: Rng>(
 }
 
 /// Makes a turn; where memory is refused the plan stays.
-fn take_turn<'i, R: Rng + Drop>(searcher: &mut Searcher<'i, R>)
+fn take_turn<'i, R: Rng + Drop>(searcher: &mut Searcher<'i, R>, made: u32)
     ensures { (plan_of searcher.new).problem ≡ (plan_of searcher.old).problem }
 {
+    let turns = TURNS;
+    searcher.keep_pace(Pace { made, turns });
     let _ = searcher.turn();
 }
 
@@ -67,8 +69,8 @@ fn search_from<'i, R: Rng + Drop>(alloc: Global, plan: Feasible<'i>, random: R) 
 {
     let mut searcher = Searcher::new(alloc, plan, random);
     let _ = searcher.descend();
-    for _ in 0..TURNS {
-        take_turn(&mut searcher);
+    for made in 0..TURNS {
+        take_turn(&mut searcher, made);
     }
     searcher.into_plan()
 }
@@ -88,7 +90,8 @@ pub(crate) fn first_plan<'i>(
     Ok(Some(search_from(alloc, plan, random)))
 }
 
-/// The root, with the prices that a plan says to start from, or with prices of zero.
+/// The root, with the prices that a plan says to start from, or without one those that may show that there
+/// is none; with prices of zero where these have no lower value.
 pub(crate) fn first_leaf<'i>(
     alloc: Global,
     instance: &'i Instance,
@@ -107,6 +110,6 @@ pub(crate) fn first_leaf<'i>(
     };
     match plan {
         Some(plan) => Ok(start_from(alloc, root, plan.routes(), None)),
-        None => Ok(root),
+        None => Ok(start_without_plan(alloc, root, None)),
     }
 }

@@ -8,7 +8,7 @@ use insertion::{Built, Weights, build};
 use rand_core::SeedableRng;
 use rand_xoshiro::Xoshiro256PlusPlus;
 use schedule::Feasible;
-use search::{ROUNDS, Searcher};
+use search::Searcher;
 use solomon_reader::{Instance, MOST_LEAVES, MOST_NEIGHBOURS, read};
 use std::alloc::Global;
 use std::thread::Threads;
@@ -62,7 +62,7 @@ fn tell_descent<'i, R: Host + Threads>(
     tell_cost(rt, name, searcher, least, times)
 }
 
-/// Makes turns, and prints what they come to, and with the time how many rounds they had.
+/// Makes turns, and prints what they come to.
 fn tell_turned<R: Host>(
     rt: &R,
     searcher: &mut PlanSearcher<'_>,
@@ -74,11 +74,7 @@ fn tell_turned<R: Host>(
         made(searcher.turn().ok())?;
     }
     let microseconds = begin.elapsed(rt)?.as_micros();
-    tell_cost(rt, "turns", searcher, microseconds, times)?;
-    if times {
-        println!(rt; "rounds {}", turns.saturating_mul(ROUNDS))?;
-    }
-    Ok(())
+    tell_cost(rt, "turns", searcher, microseconds, times)
 }
 
 /// Prints what descents from the plan that insertion builds, in one thread and in several, and then turns come

@@ -1,121 +1,128 @@
-//! Turns: rounds of shakes and descents.
+//! Turns: so much work of ruin and recreate, of which the cheapest plan is descended from.
 
-ghost use Rattle.std.specs.Prelude.{◌≡◌, ◌⊎◌, ℕ, List, IfOk, OnOk};
+ghost use Rattle.std.specs.Prelude.{◌≡◌, IfOk, IfSome};
 ghost use Rattle.solomon_reader.specs.Moves.{IsLocalOptimum};
-ghost use Rattle.search.specs.Searching.{Descends};
-ghost use Rattle.search.specs.Turning.{IsRound, IsCheaper, AreRounds, IsCheapest};
+ghost use Rattle.search.specs.Turning.{IsDescent, IsOptimumBelow};
 
 use crate::descent::descend;
 use crate::fault::SearchFault;
-use crate::near_shake::shake_near;
-use crate::nearness::draw_customer;
 use rand_core::Rng;
+use ruin::{Progress, RuinSearch, STEPS_OF_CUSTOMER};
+use schedule::Feasible;
+use solomon_reader::Instance;
 use std::alloc::{AllocError, Global};
-use std::mem;
 use working_plan::WorkingPlan;
 
-/// How many rounds a turn makes.
-pub const ROUNDS: u32 = 12;
-
-/// A first round goes on from a plan that is dearer than the cheapest by less than this many hundredths
-/// of the cost of a customer on the average; the threshold falls to 0 with the rounds.
-const HUNDREDTHS: u64 = 120;
-
-/// With more customers the threshold is lower by as many times as they are more: a round changes the plan
-/// near one customer, however many there are.
-const MANY_CUSTOMERS: u64 = 100;
-
-/// The plan that the rounds go on from, and the cheapest that they came to.
-#[derive(Drop)]
-struct Held<'i> {
-    current: WorkingPlan<'i>,
-    best: WorkingPlan<'i>,
+/// How far a run of turns is: how many were made before the next one, of how many.
+#[derive(Clone, Copy)]
+pub struct Pace {
+    /// The turns made.
+    pub made: u32,
+    /// All turns.
+    pub turns: u32,
 }
 
-/// A round goes on from a plan that is dearer than the cheapest, which is this one, by fewer tenths than
-/// that.
-fn threshold_of(plan: &WorkingPlan<'_>, round: u32) -> u64 {
-    let customers = u64::from(plan.instance().customer_count());
-    let first = HUNDREDTHS.saturating_mul(plan.cost().get())
-        / (customers * customers.max(MANY_CUSTOMERS));
-    first.saturating_mul(u64::from(ROUNDS.saturating_sub(round))) / u64::from(ROUNDS)
+impl Pace {
+    /// A run of one turn.
+    pub(crate) const fn alone() -> Pace {
+        Pace { made: 0, turns: 1 }
+    }
+
+    /// The progress after so many of the turns, each of so many steps.
+    fn after(self, made: u64, work: u64) -> Progress {
+        Progress {
+            done: made.saturating_mul(work),
+            whole: u64::from(self.turns).saturating_mul(work),
+        }
+    }
 }
 
-/// Shakes a copy of the plan, which is made of a spare one, near a customer, and descends from there.
-fn make_round<'i, R: Rng>(
+/// The plan that a descent from another comes to.
+pub(crate) fn descended<'i>(alloc: Global, plan: &Feasible<'i>) -> Result<Feasible<'i>, SearchFault>
+    ensures { IfOk result (IsDescent plan.now) }
+{
+    let mut working = WorkingPlan::new(alloc, plan)?;
+    descend(&mut working)?;
+    Ok(working.into_plan())
+}
+
+/// The plan that a descent from the cheapest routes of a search comes to, if these are a plan.
+pub(crate) fn whole_plan<'i>(
     alloc: Global,
-    current: &WorkingPlan<'i>,
-    spare: WorkingPlan<'i>,
+    instance: &'i Instance,
+    search: &RuinSearch<'_>,
+) -> Result<Option<Feasible<'i>>, SearchFault>
+    ensures problem { IfOk result (λ o. IfSome o (λ f. f.problem ≡ instance.now)) }
+    ensures optimum { IfOk result (λ o. IfSome o (λ f. IsLocalOptimum f.problem f.routes)) }
+{
+    let Some(routes) = search.least_routes(alloc)? else {
+        return Ok(None);
+    };
+    match Feasible::check(instance, routes) {
+        Ok(plan) => Ok(Some(descended(alloc, &plan)?)),
+        Err(_) => Ok(None),
+    }
+}
+
+/// Lets a search do the work of a turn. No contract: its routes are checked.
+pub(crate) fn work<R: Rng>(
+    search: &mut RuinSearch<'_>,
+    instance: &Instance,
     random: &mut R,
-    center: u16,
-) -> Result<WorkingPlan<'i>, SearchFault>
-    requires { spare.problem ≡ current.now.problem }
-    ensures problem { IfOk result (λ w. w.problem ≡ current.now.problem) }
-    ensures round { IfOk result (λ w. IsRound current.now.problem current.now.routes w.routes) }
-{
-    let mut next = current.copy_over(spare)?;
-    shake_near(alloc, &mut next, random, center)?;
-    descend(&mut next)?;
-    Ok(next)
+    pace: Pace,
+) {
+    let work = STEPS_OF_CUSTOMER.saturating_mul(u64::from(instance.customer_count()));
+    let made = u64::from(pace.made);
+    let from = pace.after(made, work);
+    let to = pace.after(made + 1, work);
+    search.search(random, work, from, to);
 }
 
-/// Holds the next plan as the cheapest where it is cheaper than that, and goes on from it where it is
-/// dearer than the cheapest before it by less than the threshold. Answers the plan that it doesn't go on
-/// from.
-fn hold<'i>(
-    held: &mut Held<'i>,
-    next: WorkingPlan<'i>,
-    threshold: u64,
-) -> Result<WorkingPlan<'i>, AllocError>
-    ensures current { OnOk result ((held.new.current ≡ next.entry) ⊎
-        (held.new.current ≡ held.old.current)) }
-    ensures best { OnOk result (IsCheaper held.old.best next.entry held.new.best) }
-    ensures spare { IfOk result (λ w. (w ≡ next.entry) ⊎ (w ≡ held.old.current)) }
-{
-    let most = held.best.cost().get().saturating_add(threshold);
-    if next.cost().get() < held.best.cost().get() {
-        held.best = next.try_clone()?;
-    }
-    if next.cost().get() < most {
-        return Ok(mem::replace(&mut held.current, next));
-    }
-    Ok(next)
+/// A search that begins with the routes of a plan.
+fn begun<'i>(alloc: Global, plan: &Feasible<'i>) -> Result<RuinSearch<'i>, AllocError> {
+    let mut search = RuinSearch::new(alloc, plan.instance())?;
+    search.begin_with(plan.routes());
+    Ok(search)
 }
 
-/// The plan that the rounds of a turn begin with: a descent from the plan held.
-fn begin<'i>(start: WorkingPlan<'i>) -> Result<Held<'i>, SearchFault>
-    ensures same { IfOk result (λ h. h.best ≡ h.current) }
-    ensures problem { IfOk result (λ h. h.current.problem ≡ start.entry.problem) }
-    ensures descends { IfOk result (λ h. Descends start.entry.problem start.entry.routes
-        h.current.routes) }
-    ensures optimum { IfOk result (λ h. IsLocalOptimum start.entry.problem h.current.routes) }
-{
-    let mut current = start;
-    descend(&mut current)?;
-    let best = current.try_clone()?;
-    Ok(Held { current, best })
-}
-
-/// The cheapest plan that a descent and rounds of shakes and descents lead to, each from a plan that
-/// was come to before: the last one, or where that was too dear the one before it. The shakes of a turn are
-/// near one random customer, so that a round may mend what the one before it broke.
-pub fn find_by_rounds<'i, R: Rng>(
+/// The cheaper of a plan and of the one that a search comes to; of equal ones the first.
+fn cheaper<'i>(
     alloc: Global,
-    start: WorkingPlan<'i>,
-    random: &mut R,
-) -> Result<WorkingPlan<'i>, SearchFault>
-    ensures problem { IfOk result (λ f. f.problem ≡ start.entry.problem) }
-    ensures found { IfOk result (λ f. (plans : List (List (List ℕ)))
-        × AreRounds start.entry.problem ROUNDS start.entry.routes plans
-        × IsCheapest start.entry.problem plans f.routes) }
+    search: &RuinSearch<'_>,
+    near: Feasible<'i>,
+) -> Result<Feasible<'i>, SearchFault>
+    requires { IsLocalOptimum near.problem near.routes }
+    ensures { IfOk result (IsOptimumBelow near.entry) }
 {
-    let center = draw_customer(random, start.instance());
-    let mut held = begin(start)?;
-    let mut spare = held.current.try_clone()?;
-    for round in 0..ROUNDS {
-        let threshold = threshold_of(&held.best, round);
-        let next = make_round(alloc, &held.current, spare, random, center)?;
-        spare = hold(&mut held, next, threshold)?;
+    let cost = near.cost().get();
+    if search.least_cost().is_none_or(|least| least >= cost) {
+        return Ok(near);
     }
-    Ok(held.best)
+    match whole_plan(alloc, near.instance(), search)? {
+        Some(found) if found.cost().get() < cost => Ok(found),
+        _ => Ok(near),
+    }
+}
+
+/// The plan that a turn comes to from a plan that no single move makes cheaper: that plan, or a cheaper one
+/// that the search meets, which begins with it where none has begun. Where memory is refused, the search is
+/// lost.
+pub(crate) fn search_from<'i, R: Rng>(
+    alloc: Global,
+    near: Feasible<'i>,
+    ruins: &mut Option<RuinSearch<'i>>,
+    random: &mut R,
+    pace: Pace,
+) -> Result<Feasible<'i>, SearchFault>
+    requires { IsLocalOptimum near.problem near.routes }
+    ensures { IfOk result (IsOptimumBelow near.entry) }
+{
+    let mut search = match ruins.take() {
+        Some(search) => search,
+        None => begun(alloc, &near)?,
+    };
+    work(&mut search, near.instance(), random, pace);
+    let found = cheaper(alloc, &search, near)?;
+    *ruins = Some(search);
+    Ok(found)
 }

@@ -1,6 +1,7 @@
 //! A worker that looks for plans.
 
-ghost use Rattle.std.specs.Prelude.{◌≤◌};
+ghost use Rattle.std.specs.Prelude.{◌≡◌, ◌≤◌};
+ghost use Rattle.ceiling.specs.Seats.{IsSeatOf};
 
 use crate::gate::{Gate, GatePoint};
 use crate::hub::Hub;
@@ -9,94 +10,77 @@ use crate::worker::Worker;
 use insertion::{Weights, build_whole};
 use rand_core::Rng;
 use schedule::Feasible;
-use search::Searcher;
+use search::{Pace, Searcher, Seeker};
 use solomon_reader::Instance;
 use std::alloc::Global;
 
-/// So many turns of a searcher take less time at 100 customers than a turn of a bound worker.
-const SEARCHER_TURNS: u32 = 2;
-
-/// After this many turns of its searcher that found nothing cheaper a worker begins anew.
-const IDLE_TURNS: u32 = 40;
-
-/// With more customers a plan that is built anew takes too many turns to be as cheap as the one before.
-const MOST_CUSTOMERS_ANEW: u16 = 100;
-
-/// What a search worker has: a plan to change, and how many turns of its searcher in a row found nothing
-/// cheaper; or no more than its random words.
+/// What a search worker has: a plan to change; or none, and a search for one; or at first no more than a plan
+/// to begin with, if there is one, and its random words.
 #[derive(Drop)]
 enum Quest<'i, R> {
-    At {
-        searcher: Searcher<'i, R>,
-        idle: u32,
-    },
-    Nowhere(R),
+    At(Searcher<'i, R>),
+    Seeking(Seeker<'i, R>),
+    Begins(Option<Feasible<'i>>, R),
 }
 
-/// A worker that changes this plan.
-fn quest_at<'i, R: Rng + Drop>(alloc: Global, plan: Feasible<'i>, random: R) -> Quest<'i, R> {
-    Quest::At {
-        searcher: Searcher::new(alloc, plan, random),
-        idle: 0,
+impl<'i, R: Rng + Drop> Quest<'i, R> {
+    /// The plan that the worker has.
+    fn plan(&self) -> Option<&Feasible<'i>> {
+        match self {
+            Quest::At(searcher) => Some(searcher.plan()),
+            Quest::Seeking(_) => None,
+            Quest::Begins(plan, _) => plan.as_ref(),
+        }
     }
 }
 
-/// Looks for a first plan by an insertion with drawn weights.
+/// Makes a turn of a searcher.
+fn go_on<'i, R: Rng + Drop>(
+    mut searcher: Searcher<'i, R>,
+    pace: Pace,
+) -> Result<Quest<'i, R>, Refusal> {
+    searcher.keep_pace(pace);
+    searcher.turn()?;
+    Ok(Quest::At(searcher))
+}
+
+/// Looks for a first plan by an insertion with drawn weights, and then by a turn of a search that leaves
+/// customers out.
+fn seek_first<'i, R: Rng + Drop>(
+    alloc: Global,
+    instance: &'i Instance,
+    mut seeker: Seeker<'i, R>,
+    pace: Pace,
+) -> Result<Quest<'i, R>, Refusal> {
+    let spared = seeker.next_word();
+    let from_depot = seeker.next_word();
+    let detour = seeker.next_word();
+    let weights = Weights::of_words(spared, from_depot, detour);
+    if let Some(plan) = build_whole(alloc, instance, &weights)? {
+        return Ok(Quest::At(seeker.into_searcher(plan)));
+    }
+    match seeker.turn(pace)? {
+        Some(plan) => Ok(Quest::At(seeker.into_searcher(plan))),
+        None => Ok(Quest::Seeking(seeker)),
+    }
+}
+
+/// Begins with a descent from the plan and a turn from there, or looks for a first plan.
 fn begin<'i, R: Rng + Drop>(
     alloc: Global,
     instance: &'i Instance,
-    mut random: R,
+    plan: Option<Feasible<'i>>,
+    random: R,
+    pace: Pace,
 ) -> Result<Quest<'i, R>, Refusal> {
-    let spared = random.next_u32();
-    let from_depot = random.next_u32();
-    let detour = random.next_u32();
-    let weights = Weights::of_words(spared, from_depot, detour);
-    match build_whole(alloc, instance, &weights)? {
-        Some(plan) => Ok(quest_at(alloc, plan, random)),
-        None => Ok(Quest::Nowhere(random)),
+    match plan {
+        Some(plan) => {
+            let mut searcher = Searcher::new(alloc, plan, random);
+            searcher.descend()?;
+            go_on(searcher, pace)
+        }
+        None => seek_first(alloc, instance, Seeker::new(alloc, instance, random)?, pace),
     }
-}
-
-/// Goes on from a plan that is built by an insertion with drawn weights, where that builds one; with many
-/// customers from the plan held after as many random moves, of which few leave a plan.
-fn begin_anew<'i, R: Rng + Drop>(
-    alloc: Global,
-    instance: &'i Instance,
-    searcher: &mut Searcher<'i, R>,
-) -> Result<(), Refusal> {
-    let customers = instance.customer_count();
-    if customers > MOST_CUSTOMERS_ANEW {
-        searcher.shake(u32::from(customers))?;
-        return Ok(());
-    }
-    let spared = searcher.next_word();
-    let from_depot = searcher.next_word();
-    let detour = searcher.next_word();
-    let weights = Weights::of_words(spared, from_depot, detour);
-    if let Some(plan) = build_whole(alloc, instance, &weights)? {
-        searcher.go_on_from(plan);
-    }
-    Ok(())
-}
-
-/// Makes a turn of the searcher, after it began anew where too many found nothing cheaper; answers how many
-/// in a row have found nothing cheaper now.
-fn go_on<'i, R: Rng + Drop>(
-    alloc: Global,
-    instance: &'i Instance,
-    searcher: &mut Searcher<'i, R>,
-    idle: u32,
-) -> Result<u32, Refusal> {
-    let is_anew = idle >= IDLE_TURNS;
-    if is_anew {
-        begin_anew(alloc, instance, searcher)?;
-    }
-    let before = searcher.plan().cost().get();
-    searcher.turn()?;
-    if is_anew || searcher.plan().cost().get() < before {
-        return Ok(0);
-    }
-    Ok(idle + 1)
 }
 
 /// Looks for a plan once, from the one that the worker has or from nothing.
@@ -104,26 +88,25 @@ fn seek<'i, R: Rng + Drop>(
     alloc: Global,
     instance: &'i Instance,
     quest: Quest<'i, R>,
+    pace: Pace,
 ) -> Result<Quest<'i, R>, Refusal> {
     match quest {
-        Quest::At {
-            mut searcher,
-            mut idle,
-        } => {
-            for _ in 0..SEARCHER_TURNS {
-                idle = go_on(alloc, instance, &mut searcher, idle)?;
-            }
-            Ok(Quest::At { searcher, idle })
-        }
-        Quest::Nowhere(random) => begin(alloc, instance, random),
+        Quest::At(searcher) => go_on(searcher, pace),
+        Quest::Seeking(seeker) => seek_first(alloc, instance, seeker, pace),
+        Quest::Begins(plan, random) => begin(alloc, instance, plan, random, pace),
     }
 }
 
-/// Offers a copy of the plan.
-fn offer<'i, H: Hub<'i>, G: Gate>(
+/// Offers a copy of the plan, if there is one.
+fn offer<'i, H: Hub<'i>, G: Gate, R: Rng + Drop>(
     worker: &mut Worker<'_, 'i, H, G>,
-    plan: &Feasible<'i>,
-) -> Result<(), Refusal> {
+    quest: &Quest<'i, R>,
+) -> Result<(), Refusal>
+    ensures words { worker.new.ceiling ≡ worker.old.ceiling }
+{
+    let Some(plan) = quest.plan() else {
+        return Ok(());
+    };
     worker.offer(plan.try_clone()?)?;
     worker.pass(GatePoint::Offered);
     Ok(())
@@ -134,21 +117,20 @@ fn offer<'i, H: Hub<'i>, G: Gate>(
 fn turn<'i, H: Hub<'i>, G: Gate, R: Rng + Drop>(
     worker: &mut Worker<'_, 'i, H, G>,
     quest: Quest<'i, R>,
-) -> Option<Quest<'i, R>> {
+    pace: Pace,
+) -> Option<Quest<'i, R>>
+    ensures words { worker.new.ceiling ≡ worker.old.ceiling }
+{
     if worker.is_closed() {
-        if let Quest::At { .. } = &quest {
+        if quest.plan().is_some() {
             worker.pass(GatePoint::Offered);
         }
         return Some(quest);
     }
-    let Ok(quest) = seek(worker.alloc, worker.instance, quest) else {
+    let Ok(quest) = seek(worker.alloc, worker.instance, quest, pace) else {
         return None;
     };
-    let offered = match &quest {
-        Quest::At { searcher, .. } => offer(worker, searcher.plan()),
-        Quest::Nowhere(_) => Ok(()),
-    };
-    match offered {
+    match offer(worker, &quest) {
         Ok(()) | Err(Refusal::EndsTurn) => Some(quest),
         Err(Refusal::EndsWork) => None,
     }
@@ -157,26 +139,23 @@ fn turn<'i, H: Hub<'i>, G: Gate, R: Rng + Drop>(
 /// Makes this many turns, or fewer where a refusal of memory or a full history ends the work, and
 /// answers how many.
 ///
-/// In each turn the worker changes its plan by two turns of a searcher, or builds one with drawn weights
-/// where it has none, and offers the plan that it has then. After 40 turns of the searcher that found nothing
-/// cheaper it goes on from another plan, which is built with drawn weights or, with more than 100 customers,
-/// its own after random moves. A refusal of the hub ends the turn, and the worker keeps its plan. Where the words for
-/// cost and bound have met, a turn does nothing.
+/// In each turn the worker makes a turn of a searcher, whose temperature falls over all of them, and offers
+/// the plan that it has then. Where it has none, it builds one with drawn weights; where that leaves customers
+/// out, it goes on with a search from which they are absent, until it meets a plan. A refusal of the hub ends
+/// the turn, and the worker keeps its plan. Where the words for cost and bound have met, a turn does nothing.
 pub fn search_worker<'i, H: Hub<'i>, G: Gate, R: Rng + Drop>(
     worker: &mut Worker<'_, 'i, H, G>,
     plan: Option<Feasible<'i>>,
     turns: u32,
     random: R,
 ) -> u32
-    ensures { result ≤ turns }
+    ensures turns { result ≤ turns }
+    ensures own { IsSeatOf worker.old.ceiling.now worker.new.seat }
 {
-    let mut quest = match plan {
-        Some(plan) => quest_at(worker.alloc, plan, random),
-        None => Quest::Nowhere(random),
-    };
+    let mut quest = Quest::Begins(plan, random);
     for made in 0..turns {
         worker.pass(GatePoint::Start);
-        let left = turn(worker, quest);
+        let left = turn(worker, quest, Pace { made, turns });
         worker.end_turn();
         let Some(next) = left else {
             return made + 1;

@@ -3,4 +3,3 @@ pub mod KeptRoutes
 pub mod AppliedMoves
 pub mod KeptNumbers
 pub mod PlanCosts
-pub mod Copies

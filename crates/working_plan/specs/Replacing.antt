@@ -1,5 +1,5 @@
 -- Routes of a plan that are made anew in place.
-use Rattle.std.specs.Prelude.{◌≡◌, ℕ, zero, suc, List, [], ◌∷◌, map, true}
+use Rattle.std.specs.Prelude.{◌≡◌, ℕ, List, map, true}
 use Rattle.std.specs.List.{AllByRecursion}
 use Rattle.solomon_reader.specs.Moves.{has_stop}
 use Rattle.segments.specs.Segments.{stop}
@@ -14,9 +14,3 @@ pub record AreTreesOf (routes : List (List ℕ)) (t : PlanTrees) : Type 0 where
 -- no route is empty
 abbrev pub HaveStops : List (List ℕ) → Type 0
 HaveStops routes = AllByRecursion (λ (r : List ℕ). has_stop r ≡ true) routes
-
--- the list with an item in the place of another, or behind the last
-abbrev pub put_at : List (List ℕ) → ℕ → List ℕ → List (List ℕ)
-put_at [] n x = x ∷ []
-put_at (y ∷ ys) zero x = x ∷ ys
-put_at (y ∷ ys) (suc n) x = y ∷ put_at ys n x

@@ -3,17 +3,15 @@
 ghost use Rattle.std.specs.Prelude.{◌≡◌, ℤ, pos, ◌+ℤ◌, ◌-ℤ◌, ◌≤ℤ◌, IfOk, IfErr, OnOk, OnErr, IfSome, IfNone};
 ghost use Rattle.tenths.specs.declared.value.TheConstants.{MOST_TENTHS};
 ghost use Rattle.solomon_reader.specs.Lists.{lists};
-ghost use Rattle.schedule.specs.Solution.{IsSolution};
-ghost use Rattle.moves.specs.Values.{after, HasValue, IsValue};
+ghost use Rattle.moves.specs.Values.{after, HasValue};
 ghost use Rattle.moves.specs.declared.fault.MoveFault.TheVariants.{NotFeasible};
 ghost use Rattle.working_plan.specs.Gains.{HasNoGain, IsBestGain};
 
-use crate::replacing::{copy_over, replace, replaced_by};
+use crate::replacing::{replace, replaced_by};
 use gains::{PairGains, RouteGaps, best_gain};
 use moves::{Kind, Move, MoveFault, change_of, trees_of, value};
 use schedule::Feasible;
 use segments::PlanTrees;
-use solomon_reader::Instance;
 use std::alloc::{AllocError, Global};
 use std::marker::Model;
 use tenths::Tenths;
@@ -89,54 +87,6 @@ impl<'i> WorkingPlan<'i> {
         })
     }
 
-    /// A copy, unless memory runs out.
-    pub fn try_clone(&self) -> Result<WorkingPlan<'i>, AllocError>
-        ensures { IfOk result (λ w. w ≡ self.now) }
-    {
-        let plan = self.to_plan()?;
-        let Ok(trees) = trees_of(self.alloc, &plan) else {
-            return Err(AllocError);
-        };
-        let gains = self.gains.try_clone()?;
-        let routes = copy_of(self.alloc, self.routes.as_slice())?;
-        Ok(WorkingPlan {
-            alloc: self.alloc,
-            routes,
-            trees,
-            cost: self.cost,
-            gains,
-            gaps: RouteGaps::new(self.alloc),
-        })
-    }
-
-    /// A copy, made of another working plan of the instance: its routes that are the same stay.
-    /// `Err` where memory runs out.
-    pub fn copy_over(&self, spare: WorkingPlan<'i>) -> Result<WorkingPlan<'i>, AllocError>
-        requires { spare.problem ≡ self.now.problem }
-        ensures { IfOk result (λ w. w ≡ self.now) }
-    {
-        let mut routes = spare.routes;
-        let mut trees = spare.trees;
-        copy_over(self.alloc, &mut routes, &mut trees, self.routes.as_slice())?;
-        let gains = self.gains.try_clone()?;
-        Ok(WorkingPlan {
-            alloc: self.alloc,
-            routes,
-            trees,
-            cost: self.cost,
-            gains,
-            gaps: RouteGaps::new(self.alloc),
-        })
-    }
-
-    /// The plan, unless memory runs out.
-    pub fn to_plan(&self) -> Result<Feasible<'i>, AllocError>
-        ensures { IfOk result (λ f. f ≡ self.now) }
-    {
-        let routes = copy_of(self.alloc, self.routes.as_slice())?;
-        Ok(Feasible::known(self.trees.instance(), routes))
-    }
-
     /// The plan. It takes no memory.
     pub fn into_plan(self) -> Feasible<'i>
         ensures { result ≡ self.entry }
@@ -144,34 +94,11 @@ impl<'i> WorkingPlan<'i> {
         Feasible::known(self.trees.instance(), self.routes)
     }
 
-    /// The instance whose plan this is.
-    pub fn instance(&self) -> &'i Instance
-        ensures { result.now ≡ self.now.problem }
-    {
-        self.trees.instance()
-    }
-
-    /// The sum of the routes' costs, in tenths.
-    pub fn cost(&self) -> Tenths
-        ensures is { result ≡ self.now.cost }
-        ensures solution { IsSolution self.now }
-    {
-        self.cost
-    }
-
     /// The routes, each the customers that one vehicle serves, in order.
     pub fn routes(&self) -> &[Vec<u16>]
         ensures { lists result.now ≡ self.now.routes }
     {
         self.routes.as_slice()
-    }
-
-    /// By how many tenths a move changes the cost, or `None` where it is not well formed or leaves no
-    /// plan. It takes no memory.
-    pub fn value(&self, candidate: &Move) -> Option<i64>
-        ensures { IsValue self.now.problem self.now.routes candidate.now result }
-    {
-        value(&self.trees, candidate)
     }
 
     /// Makes a move: `NotFeasible` exactly where it has no value, and `Memory`; the plan stays then.

@@ -12,7 +12,7 @@ ghost use Rattle.segments.specs.PlanTrees.{problem_of, routes_of, AreTrees};
 ghost use Rattle.moves.specs.Trees.{visits_of, AreOfPlan};
 ghost use Rattle.moves.specs.Changes.{IsChainOf, joined, changed};
 ghost use Rattle.gains.specs.Kept.{IsReplaced};
-ghost use Rattle.working_plan.specs.Replacing.{AreTreesOf, HaveStops, put_at};
+ghost use Rattle.working_plan.specs.Replacing.{AreTreesOf, HaveStops};
 
 use gains::Replaced;
 use moves::{Change, has_stop, visits_of_chains};
@@ -214,68 +214,5 @@ pub fn replace(
     // the later route first: its going leaves the number of the other
     put_or_push(routes, trees, usize::from(second.route), made_second)?;
     put_or_remove(routes, trees, usize::from(first.route), made_first);
-    Ok(())
-}
-
-/// Puts a copy of a route in the place of another, unless that is the same, or behind the last.
-fn put_copy(
-    alloc: Global,
-    routes: &mut Vec<Vec<u16>>,
-    trees: &mut PlanTrees<'_>,
-    number: usize,
-    source: &[u16],
-) -> Result<(), AllocError>
-    requires known { number ≤ length (lists routes.old.items) }
-    requires trees { AreTreesOf (lists routes.old.items) trees.old }
-    requires customers { All (λ i. IsCustomer (problem_of trees.old) i) source.now }
-    ensures problem { problem_of trees.new ≡ problem_of trees.old }
-    ensures routes { OnOk result (lists routes.new.items ≡ put_at
-        (lists routes.old.items) number source.now) }
-    ensures trees { AreTreesOf (lists routes.new.items) trees.new }
-{
-    if number < routes.len() && routes[number].as_slice() == source {
-        return Ok(());
-    }
-    let visits = source.to_vec(alloc)?;
-    let made = made(alloc, trees.instance(), visits)?;
-    if number < routes.len() {
-        put_route(routes, trees, number, made);
-    } else {
-        push_route(routes, trees, made)?;
-    }
-    Ok(())
-}
-
-/// Removes the routes behind the first ones.
-fn remove_behind(routes: &mut Vec<Vec<u16>>, trees: &mut PlanTrees<'_>, count: usize)
-    requires trees { AreTreesOf (lists routes.old.items) trees.old }
-    ensures problem { problem_of trees.new ≡ problem_of trees.old }
-    ensures few { length (lists routes.new.items) ≤ count }
-    ensures trees { AreTreesOf (lists routes.new.items) trees.new }
-{
-    while count < routes.len() {
-        let last = routes.len() - 1;
-        remove_route(routes, trees, last);
-    }
-}
-
-/// Makes routes copies of others. Those that are the same stay.
-pub fn copy_over(
-    alloc: Global,
-    routes: &mut Vec<Vec<u16>>,
-    trees: &mut PlanTrees<'_>,
-    source: &[Vec<u16>],
-) -> Result<(), AllocError>
-    requires trees { AreTreesOf (lists routes.old.items) trees.old }
-    requires customers { All (λ r. All (λ i. IsCustomer (problem_of trees.old) i) r.items)
-        source.now }
-    ensures problem { problem_of trees.new ≡ problem_of trees.old }
-    ensures routes { OnOk result (lists routes.new.items ≡ lists source.now) }
-    ensures trees { AreTreesOf (lists routes.new.items) trees.new }
-{
-    remove_behind(routes, trees, source.len());
-    for number in 0..source.len() {
-        put_copy(alloc, routes, trees, number, source[number].as_slice())?;
-    }
     Ok(())
 }

@@ -1,0 +1,10 @@
+//! Numbers that are drawn at random.
+
+use rand_core::Rng;
+
+/// A random number below a bound, and 0 where the bound is 0, by multiplication and shift (Lemire 2019).
+/// Bounds are far below 2^32, so that all numbers are about as likely.
+pub(crate) fn below<R: Rng>(random: &mut R, bound: usize) -> usize {
+    let product = u64::from(random.next_u32()).saturating_mul(bound as u64);
+    (product >> 32) as usize
+}

@@ -1,0 +1,212 @@
+//! Trials, which take customers out of routes and put them back.
+
+use crate::absence::Absence;
+use crate::drawing::below;
+use crate::order::{Order, Removed};
+use crate::plan::Plan;
+use crate::window::Window;
+use rand_core::Rng;
+use solomon_reader::Instance;
+use std::alloc::{AllocError, Global};
+
+/// A trial takes one to so many strings out, each of another route.
+const STRINGS: usize = 5;
+
+/// Once in so many trials the first string is a whole route.
+const WHOLE: usize = 100;
+
+/// Once in so many trials a route is begun with the first customer that is put back.
+const OPENED: usize = 100;
+
+/// Where customers are absent, so many trials of a hundred are near one of them.
+const NEAR_ABSENT: usize = 75;
+
+/// Where customers are absent, so many trials of a hundred first put back those that were left out most.
+const MISSED_FIRST: usize = 50;
+
+/// Of the trials that would break a whole plan, one in so many is kept: a loan.
+const LENT: usize = 1_000;
+
+/// How a trial is judged.
+#[derive(Clone, Copy)]
+pub(crate) struct Judgement {
+    /// The greatest cost at which it is kept, in tenths.
+    pub(crate) limit: i64,
+    /// The misses of the absent customers, 0 where a whole plan is held. It is kept where those that it
+    /// leaves out have less, whatever it costs, and isn't where they have more.
+    pub(crate) most_missed: i64,
+    /// Whether it may be a loan.
+    pub(crate) lends: bool,
+}
+
+/// Routes, and the customers that are absent from them, which trials change.
+#[derive(Drop)]
+pub(crate) struct Trials {
+    pub(crate) plan: Plan,
+    pub(crate) absence: Absence,
+    /// The customers that a trial has to put back.
+    out: Vec<Removed>,
+    pub(crate) customers: u16,
+}
+
+impl Trials {
+    /// Without routes.
+    pub(crate) fn new(alloc: Global, instance: &Instance) -> Result<Trials, AllocError> {
+        let customers = instance.customer_count();
+        let mut trials = Trials {
+            plan: Plan::new(alloc, instance)?,
+            absence: Absence::new(alloc, usize::from(customers))?,
+            out: Vec::with_capacity(alloc, usize::from(customers))?,
+            customers,
+        };
+        trials.note_absent();
+        Ok(trials)
+    }
+
+    /// Counts the customers as absent that stand in no route.
+    pub(crate) fn note_absent(&mut self) {
+        self.absence.absent.clear();
+        for customer in 1..=self.customers {
+            if self.plan.slot_of(customer).is_none() {
+                let _ = self.absence.absent.push(customer);
+            }
+        }
+    }
+
+    /// Begins a route with these customers, as far as they fit.
+    pub(crate) fn begin_route(&mut self, route: &[u16]) {
+        let mut held = None;
+        for customer in route {
+            let is_known = *customer > 0 && *customer <= self.customers;
+            if is_known && self.plan.slot_of(*customer).is_none() {
+                let slot = self.plan.append(*customer, held);
+                self.plan.note_slot(*customer, slot);
+                held = slot.or(held);
+            }
+        }
+    }
+
+    /// The customer that strings are taken near to: mostly an absent one where there are such.
+    fn draw_center<R: Rng>(&mut self, random: &mut R) -> u16 {
+        let absent = self.absence.absent.as_slice();
+        if !absent.is_empty() && below(random, 100) < NEAR_ABSENT {
+            let center = absent.get(below(random, absent.len()));
+            return center.copied().unwrap_or(1);
+        }
+        let customers = usize::from(self.customers);
+        below(random, customers).saturating_add(1).min(customers) as u16
+    }
+
+    /// Takes strings of customers out, nearest ones first; answers by how many tenths the routes are longer,
+    /// and nothing where one would be late.
+    fn ruin<R: Rng>(&mut self, random: &mut R) -> Option<i64> {
+        let mut strings = below(random, STRINGS).saturating_add(1);
+        let mean = (usize::from(self.customers) / self.plan.routes.max(1)).max(1);
+        let mut longest = (below(random, WHOLE) > 0).then_some(mean);
+        let center = usize::from(self.draw_center(random));
+        let mut change: i64 = 0;
+        for place in 0..usize::from(self.customers) {
+            let nearest = self.plan.tables.nearest.get(center)?;
+            let customer = nearest.get(place).copied()?;
+            let Some(number) = self.plan.slot_of(customer) else {
+                continue;
+            };
+            let slot = self.plan.slots.get(number)?;
+            if slot.is_turned {
+                continue;
+            }
+            let stops = slot.held.stops.as_slice();
+            let window = Window::around(random, stops, customer, longest);
+            window.take(stops, &mut self.out);
+            change = change.saturating_add(self.plan.cut(number, window)?);
+            longest = Some(mean);
+            strings = strings.saturating_sub(1);
+            if strings == 0 {
+                break;
+            }
+        }
+        Some(change)
+    }
+
+    /// Adds the absent customers to those that are put back.
+    fn add_absent(&mut self) {
+        for customer in &self.absence.absent {
+            let _ = self.out.push(Removed::new(*customer));
+        }
+    }
+
+    /// Puts the customers that are out in the order in which they are put back.
+    fn order<R: Rng>(&mut self, random: &mut R) {
+        let is_missed = !self.absence.absent.is_empty() && below(random, 100) < MISSED_FIRST;
+        let drawn = Order::draw(random);
+        let order = if is_missed { Order::Missed } else { drawn };
+        for removed in self.out.iter_mut() {
+            let misses = self.absence.misses_of(removed.customer);
+            let key = order.key(&self.plan.tables, removed.customer, misses);
+            removed.key = (key, random.next_u32());
+        }
+        self.out.sort_unstable_by_key(|removed| removed.key);
+    }
+
+    /// Puts those that are out back, each at its cheapest place, and leaves those out that fit nowhere; where
+    /// a whole plan is held that is a loan, or the trial's end. Answers the cost in tenths, where the trial is
+    /// kept.
+    fn recreate<R: Rng>(
+        &mut self,
+        random: &mut R,
+        change: i64,
+        judgement: Judgement,
+    ) -> Option<i64> {
+        self.add_absent();
+        self.order(random);
+        let mut opens = below(random, OPENED) == 0;
+        let mut most_missed = judgement.most_missed;
+        let mut missed: i64 = 0;
+        let mut cost = self.plan.cost.saturating_add(change);
+        for removed in self.out.iter_mut() {
+            let put = self.plan.put_back(random, removed.customer, opens);
+            opens = false;
+            if let Some((slot, detour)) = put {
+                removed.slot = Some(slot);
+                cost = cost.saturating_add(i64::from(detour));
+            } else {
+                if most_missed == 0 && judgement.lends && below(random, LENT) == 0 {
+                    most_missed = i64::MAX;
+                }
+                if most_missed == 0 {
+                    return None;
+                }
+                let misses = self.absence.leave_out(removed.customer);
+                missed = missed.saturating_add(i64::from(misses));
+            }
+            let is_dear = most_missed == 0 && cost > judgement.limit;
+            if is_dear || missed > most_missed {
+                return None;
+            }
+        }
+        (missed < most_missed || cost <= judgement.limit).then_some(cost)
+    }
+
+    /// Keeps a trial of this cost in tenths, or goes back to the routes before it.
+    fn end(&mut self, cost: Option<i64>) {
+        self.plan.end_trial(cost.is_some());
+        if let Some(cost) = cost {
+            for removed in &self.out {
+                self.plan.note_slot(removed.customer, removed.slot);
+            }
+            self.plan.cost = cost;
+            std::mem::swap(&mut self.absence.absent, &mut self.absence.left_out);
+        }
+        self.absence.left_out.clear();
+    }
+
+    /// Makes a trial.
+    pub(crate) fn attempt<R: Rng>(&mut self, random: &mut R, judgement: Judgement) {
+        self.out.clear();
+        let cost = match self.ruin(random) {
+            Some(change) => self.recreate(random, change, judgement),
+            None => None,
+        };
+        self.end(cost);
+    }
+}
