@@ -1,4 +1,4 @@
-"""What a document cites (links, paths, names, options, rows), and whether the repository has it."""
+"""What a document cites (links, paths, names, options, rows) or a wrong body replaces, and whether it stands there."""
 import glob
 import os
 import re
@@ -19,7 +19,7 @@ EXCEPTED = {
     r"/dev/.*": "the system's",
     r"(c|r|rc)[12](_\d+)?": "the files and classes of docs/measures.md, most of which aren't in the repository",
     r"(?=.*\d)[0-9a-f]{7}": "commits",
-    r"(instance|plan|certificate)\.txt": "a user's own files",
+    r"\./plan|(instance|plan|certificate)\.txt": "a user's own files",
 }
 
 # Where files stand that a document names without a folder: what it is about.
@@ -35,6 +35,8 @@ SUFFIXES = (".rt", ".antt", ".md", ".edit", ".py", ".txt", ".c", ".sh", ".svg")
 SOURCES = ("crates/*/src", "crates/*/specs", "crates/*/proofs", "bench", "outside", "wrong_bodies", "release/make",
            "release/*.sh", "vrptw", "check", "crates.txt")
 OWN = ("outside/citing.py", "outside/cited")
+# The wrong bodies; the second part of such a path is the crate.
+EDITS = ("wrong_bodies/*/*.edit", "crates/*/must-fail/*.edit")
 
 # What stands in a path for any name.
 ANY = re.compile(r"\b(CRATE|MODULE|FUNCTION|NAME)\b")
@@ -266,3 +268,32 @@ def documents(sources):
             document.judge()
             judged.append(document)
     return judged
+
+
+def replacements(text):
+    """The pairs of a wrong body: line of the old text, file, old and new text; what a pair lacks is empty."""
+    file, old, line = "", "", 0
+    for number, said in enumerate(text.split("\n"), 1):
+        if said.startswith("file: "):
+            file = said[len("file: "):].strip()
+        elif said.startswith("old: "):
+            old, line = said[len("old: "):], number
+        elif said.startswith("new:"):
+            yield line or number, file, old, said[len("new:"):].removeprefix(" ")
+            old, line = "", 0
+
+
+def misplaced(top):
+    """How many texts the wrong bodies replace, pair by pair in turn, and a line for each not once in its file then."""
+    count, lacks = 0, []
+    for path in sorted(path for pattern in EDITS for path in glob.glob(os.path.join(top, pattern))):
+        told, texts = os.path.relpath(path, top), {}
+        for line, file, old, new in replacements(read(path)):
+            place = "/".join(("crates", told.split(os.sep)[1], file))
+            here = os.path.join(top, place)
+            text = texts[place] if place in texts else read(here) if os.path.isfile(here) else ""
+            count, times = count + 1, text.count(old) if old else 0
+            texts[place] = text.replace(old, new) if old else text
+            if times != 1:
+                lacks.append("%s:%d: old text stands %d times in %s" % (told, line, times, place))
+    return count, lacks

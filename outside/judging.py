@@ -12,6 +12,7 @@ from cases import (LARGE, certificate_lines, certificate_of, instance_words, lai
 from closing import judge_close
 from devices import judge_device
 from instances import Fault, plan_cost, read
+from judging_fleets import judge_fleets, judge_tight
 from judging_layouts import judge_layout, judge_round_trip, judge_wrong_layout
 from judging_plans import judge_picture, judge_respelled, judge_timetable, judge_wrong_spelling
 from mutating import judge_bytes
@@ -175,6 +176,8 @@ JUDGES = {
     "medium": lambda programs, folder, random, seed: judge_solve(
         programs.program, folder, random, random.randint(9, 25), 3, False),
     "close": lambda programs, folder, random, seed: judge_close(programs.program, folder, random),
+    "fleets": lambda programs, folder, random, seed: judge_fleets(programs.program, folder, random),
+    "tight": lambda programs, folder, random, seed: judge_tight(programs.program, folder, random),
     "checks": lambda programs, folder, random, seed: judge_check(programs.program, folder, random),
     "turns": lambda programs, folder, random, seed: judge_turns(programs.instruments, folder, random,
                                                                 random.randint(1, 8)),

@@ -15,6 +15,11 @@ FILES = {
     "bad.txt": INSTANCE.replace("1 3 4 1", "1 3 4 x"),
     "few.txt": INSTANCE.replace("2 2\nC", "1 2\nC"),
     "small.txt": INSTANCE.replace("2 2\nC", "2 1\nC"),
+    "heavy.txt": INSTANCE.replace("3 4 1", "3 4 3").replace("6 8 1", "6 8 2"),
+    "shut.txt": INSTANCE.replace("0 1000 0\n1", "0 15 0\n1"),
+    "over.txt": INSTANCE.replace("3 4 1 0", "1 5 1 0").replace("6 8 1 0 1000", "2 10 1 0 10"),
+    "both.txt": INSTANCE.replace("2 2\nC", "1 2\nC").replace("0 0 0", "0 10 10").replace(
+        "3 4 1 0 1000", "13 14 1 0 5").replace("6 8 1 0 1000", "7 6 1 0 5"),
     "two.txt": "Route #1: 1\nRoute #2: 2\nCost 30.0\n",
     "p.txt": "Route #1: 1 2\nCost 20.0\n",
     "cost.txt": "Route #1: 1 2\nCost 20.1\n",
@@ -24,6 +29,7 @@ FILES = {
     "form.txt": "Route #1: 1 2\nCost 20\n",
     "k.txt": "VRPTW-CERT 1\nINSTANCE T\nCUSTOMERS 2\nNEIGHBOURS 8\nBOUND 0.0\nTREE\nP 0 0\nEND\n",
     "high.txt": "VRPTW-CERT 1\nINSTANCE T\nCUSTOMERS 2\nNEIGHBOURS 8\nBOUND 0.1\nTREE\nP 0 0\nEND\n",
+    "none.txt": "VRPTW-CERT 2\nINSTANCE T\nCUSTOMERS 2\nNEIGHBOURS 8\nBOUND 40.1\nTREE\nP 301000 301000\nEND\n",
     "worse.txt": "VRPTW-CERT 1\nINSTANCE T\nCUSTOMERS 2\nNEIGHBOURS 8\nBOUND 0.0\nTREE\nP 0 0 0\nEND\n",
     "t.csv": "x,y,demand,ready,due,service\n0,0,0,0,1000,0\n3,4,1,0,1000,0\n",
     "half.csv": "x,y,demand,ready,due,service\n0,0,0,0,1000,0\n3.5,4,1,0,1000,0\n",
@@ -81,6 +87,11 @@ recheck i.txt worse.txt p.txt|worse.txt|7|BadLine
 recheck i.txt k.txt cost.txt|cost.txt|2|20.1
 recheck few.txt k.txt two.txt|two.txt|2|met one route more than the 1 vehicles,
 recheck i.txt nowhere|nowhere|0|No such file or directory
+why nowhere.txt|nowhere.txt|0|No such file or directory
+why bad.txt|bad.txt|8|BadNumber
+why heavy.txt nowhere|nowhere|0|No such file or directory
+why other.txt k.txt|k.txt|2|another instance
+why late.txt high.txt|high.txt|5|met a bound of 0.1, wanted that of the tree, 0.0
 """
 # Wrong words, with a part of the one line that tells them; the status is 2.
 WORDS = """
@@ -97,11 +108,33 @@ respell i.txt|required: SOLUTION
 timetable i.txt p.txt --cvs|unrecognized
 draw i.txt p.txt --times --tree k.txt|not allowed
 recheck i.txt|required: CERTIFICATE
+why|required: INSTANCE
+why i.txt k.txt p.txt|unrecognized
 """
-TOOLS = ("convert", "respell", "timetable", "draw", "recheck", "manual")
+# What `why` prints, with its status. The customer of over.txt that is due at 10.0 is at 10.1 from the depot, and at 5.0
+# and 5.0 by the other one. In both.txt two customers are due at once, and there is one vehicle: a route of one of them
+# costs 10.0, so at prices of 30.1 the only leaf has the value 60.2 less 20.1, and the ceiling is 40.0.
+NONE = "no such reason; the certificate has the proof, if there is no plan"
+LATE = "customer 2 can't be served alone: met a service that begins at 10.0, wanted by %s; over other customers it " \
+       "can't either: met 10.0, wanted by %s"
+WHY = [
+    ("i.txt", 1, [NONE]),
+    ("small.txt", 1, [NONE]),
+    ("both.txt", 1, [NONE]),
+    ("both.txt none.txt", 0, ["the certificate proves it, by its only leaf"]),
+    ("i.txt k.txt", 1, ["no such reason, and the certificate proves none: met a bound of 0.0, wanted one above 40.0"]),
+    ("late.txt", 0, [LATE % ("1.0", "1.0")]),
+    ("late.txt k.txt", 0, [LATE % ("1.0", "1.0")]),
+    ("shut.txt", 0, [LATE % ("5.0", "5.0")]),
+    ("over.txt", 1, ["customer 2 can't be served alone: met a service that begins at 10.1, wanted by 10.0; over other "
+                     "customers it may be, so this proves nothing: met 10.0, wanted by 10.0", NONE]),
+    ("heavy.txt", 0, ["customer 1 can't be served: met a demand of 3, wanted at most 2, which a vehicle holds",
+                      "the fleet can't serve all: met a demand of 5, wanted at most 4, which 2 vehicles hold"]),
+]
+TOOLS = ("convert", "respell", "timetable", "draw", "recheck", "why", "manual")
 # With standard output on a full device or closed.
 PRINTING = ("respell i.txt p.txt", "timetable i.txt p.txt", "draw i.txt p.txt",
-            "recheck i.txt k.txt")
+            "recheck i.txt k.txt", "why late.txt")
 
 
 def rows(table):
@@ -109,7 +142,8 @@ def rows(table):
 
 
 FAULTS = ([("refused", *row) for row in rows(REFUSED)] + [("words", *row) for row in rows(WORDS)]
-          + [("help", tool) for tool in TOOLS] + [("full", words) for words in PRINTING]
+          + [("why", *row) for row in WHY] + [("help", tool) for tool in TOOLS]
+          + [("full", words) for words in PRINTING]
           + [("closed", words) for words in PRINTING])
 
 
@@ -151,6 +185,9 @@ def judge_fault(folder, seed):
     if kind == "words":
         out, errors, status = said(folder, words)
         demand((out, status, errors.count("\n")) == (b"", 2, 1) and told[0] in errors, "%s: %r" % (words, errors))
+    elif kind == "why":
+        came, right = said(folder, "why " + words), ("\n".join(told[1] + [""]).encode(), "", told[0])
+        demand(came == right, "why %s: %r, and %r is right" % (words, came, right))
     elif kind == "help":
         out, errors, status = said(folder, words + " --help")
         demand((errors, status) == ("", 0) and re.search(rb"\nExample: outside/%s " % words.encode(), out), "help")

@@ -5,6 +5,8 @@
 #[cfg(test)]
 mod asked;
 #[cfg(test)]
+mod books;
+#[cfg(test)]
 mod bounds;
 #[cfg(test)]
 mod deques;

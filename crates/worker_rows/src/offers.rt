@@ -10,6 +10,24 @@ use std::process::Abort;
 use std::sync::Wait;
 use tenths::Tenths;
 
+/// Plans that are offered in turn, of 300, 200, 300 and 200 tenths: the routes, whether the plan is better, and the
+/// best cost that is known before.
+pub const OFFERED: [(&[&[u16]], bool, Option<u32>); 4] = [
+    (&[&[1], &[2]], true, None),
+    (&[&[1, 2]], true, Some(300)),
+    (&[&[1], &[2]], false, Some(200)),
+    (&[&[1, 2]], false, Some(200)),
+];
+
+/// New prices that are given in turn once the root is split: the leaf, the node whose region they are for, the
+/// prices, and what comes of it.
+pub const REPRICED: [(u32, u32, [i64; 2], Result<(), BookFault>); 4] = [
+    (2, 2, [100_000, 100_000], Ok(())),
+    (2, 2, [100_000, 100_000], Err(BookFault::NotHigher)),
+    (1, 0, [200_000, 0], Err(BookFault::WrongRegion)),
+    (1, 1, [200_000, 0], Err(BookFault::NotHigher)),
+];
+
 /// A desk over a book of an instance, and the share of one worker.
 #[derive(Drop)]
 pub struct Place<'a, 'i, R, J: Naming> {
@@ -37,20 +55,14 @@ fn offer<R: Abort + Wait + AllocGlobal, J: Naming>(
 
 /// Offers plans of 300, 200, 300 and 200 tenths.
 pub fn offer_plans<R: Abort + Wait + AllocGlobal, J: Naming>(place: &mut Place<'_, '_, R, J>) {
-    let (apart, together): (&[&[u16]], &[&[u16]]) = (&[&[1], &[2]], &[&[1, 2]]);
-    for (routes, is_better, cost) in [
-        (apart, true, None),
-        (together, true, Some(300)),
-        (apart, false, Some(200)),
-        (together, false, Some(200)),
-    ] {
+    for (routes, is_better, cost) in OFFERED {
         let told = offer(place, routes);
         assert_eq!(place.rt; told, Ok((is_better, cost.map(|cost| Tenths::from(cost)))));
     }
 }
 
 /// The region of the root, or of one of its children: 1 uses the arc, and 2 doesn't.
-fn region_of<R: Abort + AllocGlobal>(rt: &R, node: u32) -> Region {
+pub fn region_of<R: Abort + AllocGlobal>(rt: &R, node: u32) -> Region {
     let root = Region::root(rt.alloc(), 2);
     let region = match node {
         0 => return root,
@@ -110,12 +122,7 @@ pub fn branch<R: Abort + Wait + AllocGlobal, J: Naming>(place: &mut Place<'_, '_
     assert_eq!(place.rt; made, (Ok((1, 2)), Err(BookFault::NotALeaf)));
     let values = (value(place, 1), value(place, 2));
     assert_eq!(place.rt; values, (Ok(200), Ok(100)));
-    for (leaf, node, prices, expected) in [
-        (2, 2, [100_000, 100_000], Ok(())),
-        (2, 2, [100_000, 100_000], Err(BookFault::NotHigher)),
-        (1, 0, [200_000, 0], Err(BookFault::WrongRegion)),
-        (1, 1, [200_000, 0], Err(BookFault::NotHigher)),
-    ] {
+    for (leaf, node, prices, expected) in REPRICED {
         let told = reprice(place, leaf, node, prices);
         assert_eq!(place.rt; told, expected);
     }

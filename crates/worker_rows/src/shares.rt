@@ -8,7 +8,7 @@ ghost use Rattle.desk.specs.Blanks.{names_of, parts_of};
 use crate::asked::{ONWARD, instance_of};
 use crate::offers::{Place, branch, offer_plans};
 use branching::Region;
-use desk::{Blanks, Desk, Naming, Share};
+use desk::{Blanks, Desk, DeskFault, Naming, Share};
 use incumbent_book::{Book, Gap, Limits, Outcome, Steps};
 use row_texts::{IN_LINE, book_of, children_at};
 use solomon_reader::Instance;
@@ -59,7 +59,7 @@ fn both<'i, J: Naming + Send, R: Abort + Threads + Wait + Sync + AllocGlobal>(
     })
 }
 
-/// The gap told at a desk of two shares, and what closing leaves.
+/// The gap told at a desk of two shares, and what closing leaves. With one share it isn't closed.
 fn run<'i, J: Naming + Send, R: Abort + Threads + Wait + Sync + AllocGlobal>(
     rt: &R,
     instance: &'i Instance,
@@ -80,6 +80,9 @@ fn run<'i, J: Naming + Send, R: Abort + Threads + Wait + Sync + AllocGlobal>(
     let first = shares.pop().expect(rt, "two shares");
     let (gap, first, second) = both(rt, &desk, first, second, instance).ok_or("no thread")?;
     shares.push(first)?;
+    let Err((desk, mut shares, DeskFault::MissingShare)) = desk.close(shares) else {
+        return Err(Fail::from("closed with a share left out"));
+    };
     shares.push(second)?;
     match desk.close(shares) {
         Ok(outcome) => Ok((gap, outcome)),
