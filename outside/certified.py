@@ -4,7 +4,7 @@ from concurrent.futures import ProcessPoolExecutor
 from plans import certificate_of
 from pricing import Pricing, leaves
 from texts import shown
-from tool import Refused
+from tool import Refused, told_path
 
 
 def certified(instance, path):
@@ -13,14 +13,14 @@ def certified(instance, path):
     certificate = certificate_of(path)
     if (certificate.name, certificate.count) != (instance.name, instance.count):
         raise Refused("%s: line 2: met a certificate of another instance, wanted %s with %d customers"
-                      % (path, instance.name.decode(), instance.count))
+                      % (told_path(path), instance.name.decode(), instance.count))
     pricing = Pricing(instance, certificate.neighbours, certificate.version)
     with ProcessPoolExecutor() as pool:
         values = list(pool.map(pricing.value, *zip(*leaves(instance.count, certificate.tree))))
     least = min([value for value in values if value is not None] + [instance.ceiling() + 1])
     if least < certificate.bound or least > certificate.bound and None not in values:
         raise Refused("%s: line 5: met a bound of %s, wanted that of the tree, %s"
-                      % (path, shown(certificate.bound), shown(least)))
+                      % (told_path(path), shown(certificate.bound), shown(least)))
     return certificate, values
 
 

@@ -1,68 +1,95 @@
-"""A plan's routes as a picture: an SVG text of customers, depot and a line for each route."""
+"""What the pictures of a plan have in common: the looks of routes, places for labels, and the sheet around them."""
 from html import escape
 
-from instances import route_cost, walk_times
 from texts import shown
 
-SIDE, EDGE, HEAD = 860, 30, 34
-# Turned by so many degrees the hues of routes that follow one another are far apart.
-TURN = 137.508
+EDGE, HEAD = 30, 34
+# Eight colours that stay apart for those who see few of them; from the ninth route on dashes tell routes apart too.
+COLOURS = ("#0072b2", "#d55e00", "#009e73", "#cc5fa0", "#332288", "#e09400", "#882255", "#4aa8dc")
+DASHES = ("", "9 4", "3 3", "12 3 3 3", "6 2", "16 5")
+# The side of the squares that labels are looked up by.
+CELL = 48
 
 
 def colour(route):
-    return "hsl(%d, %d%%, %d%%)" % (route * TURN % 360, 75, (36, 48, 42)[route % 3])
+    return COLOURS[route % len(COLOURS)]
 
 
-class Frame:
-    """Where a place stands in the picture; north is up, and both axes have one scale."""
+def dash(route):
+    """The dashes of a route's line, as an attribute or as nothing."""
+    told = DASHES[route // len(COLOURS) % len(DASHES)]
+    return ' stroke-dasharray="%s"' % told if told else ""
 
-    def __init__(self, instance):
-        self.left, self.low = (min(row[axis] for row in instance.rows) for axis in (0, 1))
-        self.high = max(row[1] for row in instance.rows)
-        spread = max(max(row[0] for row in instance.rows) - self.left, self.high - self.low, 1)
-        self.scale = (SIDE - 2 * EDGE) / spread
-        self.width = round(2 * EDGE + self.scale * max(max(row[0] for row in instance.rows) - self.left, spread / 2))
-        self.height = round(2 * EDGE + HEAD + self.scale * (self.high - self.low))
 
-    def place(self, row):
-        return EDGE + self.scale * (row[0] - self.left), HEAD + EDGE + self.scale * (self.high - row[1])
+def is_hollow(route):
+    """Whether a route's spots and badge are white within: those of each second eight."""
+    return route // len(COLOURS) % 2 == 1
 
 
 def title(words):
     return "<title>%s</title>" % escape(words)
 
 
-def line(frame, instance, stops, look):
-    points = " ".join("%.1f,%.1f" % frame.place(instance.rows[stop]) for stop in stops)
-    return '<polyline points="%s" %s/>' % (points, look)
+def plural(count, word):
+    return "%d %s%s" % (count, word, "" if count == 1 else "s")
 
 
-def route_lines(frame, instance, number, route):
-    """The line of a route from its first customer to its last one, and thinner the ways from and to the depot; the way
-    back is dashed."""
-    load = sum(instance.demand(i) for i in route)
-    told = "Route %d: %s; %d customers, load %d of %d, cost %s" % (
-        number + 1, " ".join(str(i) for i in route), len(route), load, instance.capacity,
-        shown(route_cost(instance, route)))
-    return ['<g stroke="%s" fill="none" stroke-linejoin="round">' % colour(number), title(told),
-            line(frame, instance, [0, route[0]], 'stroke-width="1.4" stroke-opacity="0.55"'),
-            line(frame, instance, route, 'stroke-width="2.6"'),
-            line(frame, instance, [route[-1], 0], 'stroke-width="1.4" stroke-opacity="0.55" stroke-dasharray="5 4"'),
-            "</g>"]
+def short(name, most=18):
+    return name if len(name) <= most else name[:most - 1] + "\u2026"
 
 
-def customer_spot(frame, instance, i, number, begin, radius):
-    """The spot of a customer; what is told where a pointer rests on it."""
-    told = "Customer %d, route %d: demand %d, window %s to %s, service %s, served at %s" % (
-        i, number + 1, instance.demand(i), *(shown(time) for time in (
-            instance.ready(i), instance.due(i), instance.service(i), begin)))
-    x, y = frame.place(instance.rows[i])
-    return ('<circle cx="%.1f" cy="%.1f" r="%.1f" fill="%s" stroke="white" stroke-width="1">%s</circle>'
-            % (x, y, radius, colour(number), title(told)))
+def customer_name(names, i):
+    """What is put behind a customer's number where there are names."""
+    return ", %s" % names[i] if names else ""
+
+
+def of_route(number, parts):
+    """Parts of a picture that belong to a route."""
+    return ['<g class="route" data-route="%d">' % number, *parts, "</g>"]
+
+
+def text(x, y, told, size, more=""):
+    return '<text x="%.1f" y="%.1f" font-size="%s"%s>%s</text>' % (x, y, size, more and " " + more, escape(told))
+
+
+class Places:
+    """The boxes that are taken in a picture; a box is left, top, right and bottom."""
+
+    def __init__(self, whole):
+        self.whole, self.cells = whole, {}
+
+    def cells_of(self, box):
+        left, top, right, bottom = (int(edge // CELL) for edge in box)
+        return [(x, y) for x in range(left, right + 1) for y in range(top, bottom + 1)]
+
+    def take(self, box):
+        for cell in self.cells_of(box):
+            self.cells.setdefault(cell, []).append(box)
+
+    def take_line(self, first, last, apart):
+        """Takes a line, as small boxes along it that are so far apart."""
+        (x, y), (to_x, to_y) = first, last
+        count = int(((to_x - x) ** 2 + (to_y - y) ** 2) ** 0.5 / apart) + 1
+        for part in range(1, count):
+            at_x, at_y = x + (to_x - x) * part / count, y + (to_y - y) * part / count
+            self.take((at_x - 2, at_y - 2, at_x + 2, at_y + 2))
+
+    def hidden(self, box):
+        """How much a box would hide, or lie outside of the picture."""
+        inside = overlap(box, self.whole)
+        outside = (box[2] - box[0]) * (box[3] - box[1]) - inside
+        others = {other for cell in self.cells_of(box) for other in self.cells.get(cell, ())}
+        return 9 * outside + sum(overlap(box, other) for other in others)
+
+    def best(self, boxes):
+        """Takes the box that hides least; the first of several."""
+        found = min(boxes, key=self.hidden)
+        self.take(found)
+        return found
 
 
 def overlap(a, b):
-    """The area that two boxes share; a box is left, top, right and bottom."""
+    """The area that two boxes share."""
     return max(0, min(a[2], b[2]) - max(a[0], b[0])) * max(0, min(a[3], b[3]) - max(a[1], b[1]))
 
 
@@ -75,55 +102,20 @@ def boxes_beside(x, y, wide, size, radius):
                 yield left, top, left + wide, top + size
 
 
-def numbers(frame, instance, size, radius):
-    """The customers' numbers beside their spots, where they hide least; those at one place stand together."""
-    together = {}
-    for i in range(1, instance.count + 1):
-        together.setdefault(instance.rows[i][:2], []).append(str(i))
-    spots = {place: frame.place(place) for place in list(together) + [instance.rows[0][:2]]}
-    taken = [(x - radius, y - radius, x + radius, y + radius) for x, y in spots.values()]
-    for place, found in together.items():
-        told, (x, y) = ", ".join(found), spots[place]
-        beside = list(boxes_beside(x, y, 0.58 * size * len(told), size, radius))
-        box = min(beside, key=lambda box: sum(overlap(box, other) for other in taken))
-        taken.append(box)
-        yield '<text x="%.1f" y="%.1f">%s</text>' % (box[0], box[3] - 0.14 * size, told)
-
-
-def depot_spot(frame, instance):
-    x, y = frame.place(instance.rows[0])
-    told = "Depot: open from %s to %s" % (shown(instance.ready(0)), shown(instance.due(0)))
-    return '<rect x="%.1f" y="%.1f" width="15" height="15" fill="black" stroke="white">%s</rect>' % (
-        x - 7.5, y - 7.5, title(told))
+def round_step(most, least_power=0):
+    """The greatest of 1, 2, 5, 10, 20 and so on that isn't above most."""
+    return max([step * 10.0 ** power for power in range(least_power, 9) for step in (1, 2, 5)
+                if step * 10.0 ** power <= most] or [10.0 ** least_power])
 
 
 def told_of(instance, routes, cost):
-    return "%s: %d customers, %d routes, cost %s" % (instance.name.decode(), instance.count, len(routes), shown(cost))
+    return "%s: %s, %s, cost %s" % (instance.name.decode(), plural(instance.count, "customer"),
+                                    plural(len(routes), "route"), shown(cost))
 
 
 def sheet(width, height, told, drawn):
-    """A white picture with what is told above it."""
+    """A white picture with what is told above it, and wide enough for that."""
+    width = max(width, round(2 * EDGE + 9.5 * len(told)))
     return ['<svg xmlns="http://www.w3.org/2000/svg" viewBox="0 0 %d %d" width="%d" height="%d" '
             'font-family="sans-serif">' % (2 * (width, height)), title(told),
-            '<rect width="100%" height="100%" fill="white"/>',
-            '<text x="%d" y="26" font-size="17">%s</text>' % (EDGE, escape(told)), *drawn, "</svg>"]
-
-
-def drawn_map(frame, instance, routes):
-    """Customers, depot and a line for each route."""
-    size, radius = (12, 5) if instance.count <= 30 else (10, 4.2) if instance.count <= 110 else (7, 3)
-    found = []
-    for number, route in enumerate(routes):
-        found += route_lines(frame, instance, number, route)
-    for number, route in enumerate(routes):
-        for i, begin in zip(route, walk_times(instance, route)[0]):
-            found.append(customer_spot(frame, instance, i, number, begin, radius))
-    look = ('<g font-size="%d" stroke="white" stroke-width="1.6" stroke-opacity="0.8" paint-order="stroke" '
-            'fill="black">' % size)
-    return found + [depot_spot(frame, instance), look, *numbers(frame, instance, size, radius), "</g>"]
-
-
-def picture(instance, routes, cost):
-    """The lines of the picture of a plan."""
-    frame = Frame(instance)
-    return sheet(frame.width, frame.height, told_of(instance, routes, cost), drawn_map(frame, instance, routes))
+            '<rect width="100%" height="100%" fill="white"/>', text(EDGE, 26, told, 17), *drawn, "</svg>"]

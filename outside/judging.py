@@ -12,9 +12,13 @@ from cases import (LARGE, certificate_lines, certificate_of, instance_words, lai
 from closing import judge_close
 from devices import judge_device
 from instances import Fault, plan_cost, read
+from judging_batches import judge_batch
 from judging_fleets import judge_fleets, judge_tight
 from judging_layouts import judge_layout, judge_round_trip, judge_wrong_layout
 from judging_plans import judge_picture, judge_respelled, judge_timetable, judge_wrong_spelling
+from judging_printouts import judge_printout, judge_wrong_printout
+from judging_reports import judge_report
+from judging_tables import judge_foreseen, judge_table, judge_wrong_names
 from mutating import judge_bytes
 from refusing import judge_memory
 from rows import ROWS, status_of
@@ -25,7 +29,7 @@ from spellings import SPELLINGS
 from texts import TextFault, read_certificate, read_solution, shown
 from tool_faults import judge_fault
 from turning import judge_turns_told
-from tutorial import judge_manual, judge_tutorial
+from tutorial import judge_instances, judge_manual, judge_tutorial
 
 
 def judge_refusal(program, folder, random):
@@ -187,13 +191,21 @@ JUDGES = {
         programs.program, folder, programs.library, random, seed),
     "round_trips": lambda programs, folder, random, seed: judge_round_trip(folder, random),
     "layouts": lambda programs, folder, random, seed: judge_layout(folder, random),
+    "tables": lambda programs, folder, random, seed: judge_table(folder, random),
+    "foreseen": lambda programs, folder, random, seed: judge_foreseen(folder, random),
+    "wrong_names": lambda programs, folder, random, seed: judge_wrong_names(folder, random),
     "wrong_layouts": lambda programs, folder, random, seed: judge_wrong_layout(folder, random),
     "respelled": lambda programs, folder, random, seed: judge_respelled(programs.program, folder, random),
     "wrong_spellings": lambda programs, folder, random, seed: judge_wrong_spelling(folder, random),
+    "printouts": lambda programs, folder, random, seed: judge_printout(folder, random),
+    "wrong_printouts": lambda programs, folder, random, seed: judge_wrong_printout(folder, random),
     "timetables": lambda programs, folder, random, seed: judge_timetable(folder, random),
     "pictures": lambda programs, folder, random, seed: judge_picture(folder, random),
+    "reports": lambda programs, folder, random, seed: judge_report(programs.program, folder, random),
+    "batches": lambda programs, folder, random, seed: judge_batch(programs.program, folder, random),
     "tool_faults": lambda programs, folder, random, seed: judge_fault(folder, seed),
     "tutorial": lambda programs, folder, random, seed: judge_tutorial(programs.program, folder),
+    "instances": lambda programs, folder, random, seed: judge_instances(),
     "manual": lambda programs, folder, random, seed: judge_manual(programs.program),
     "instance_bytes": lambda programs, folder, random, seed: judge_bytes(
         programs.program, folder, random, "instance"),

@@ -77,6 +77,14 @@ def drawn(random, layout, most, scale=1):
     return instance, WRITERS[layout](random, instance, scale)
 
 
+def without_windows(random, instance, lines, scale):
+    """Takes the windows out of VRPLIB's lines; answers the end of the day, by which all are open then."""
+    lines[:] = [line for line in lines if line.part != "TIME_WINDOW_SECTION"]
+    horizon = random.choice([1, 10 ** 5, random.randint(1, 10 ** 5)])
+    instance.rows = [row[:3] + (0, 10 * scale * horizon, row[5]) for row in instance.rows]
+    return horizon
+
+
 def judge_layout(folder, random):
     """A text as it is found, from each layout."""
     layout, scale = random.choice(LAYOUTS), random.choice([1, 1, 10])
@@ -84,6 +92,9 @@ def judge_layout(folder, random):
     source, target = os.path.join(folder, "source"), os.path.join(folder, "target")
     put(source, joined(random, with_blanks(random, lines)))
     options = ["--scale", str(scale)] + (options_of(instance) if layout == "csv" else [])
+    if layout == "vrplib" and random.randrange(4) == 0:
+        options += ["--horizon", str(without_windows(random, instance, lines, scale))]
+        put(source, joined(random, with_blanks(random, lines)))
     found = converted(source, target, (layout, "ours"), options)
     demand(is_same(found, instance), "%s: another instance" % layout)
     return "%s by %d" % (layout, scale)

@@ -8,11 +8,15 @@ import checking
 from cases import certificate_of, instance_words, laid_out, solution_of, tree_of
 from instances import plan_cost, read, route_cost, walk_times
 from judging_layouts import demand_notes, demand_refusal, tool
+from names import table_of
 from pricing import leaves
 from running import demand, got, put, run_check
 from spelled_cases import CHANGES, cost_told, partition, spelled
 from texts import read_certificate, shown
 from tool_texts import joined, number_of, with_blanks
+
+
+NAMES = ["Café", "a & b", "<School>", 'the "Mill"', "O'Neill", "", "x" * 60, "\u65e5\u672c", "\U0001f600", "]]>", "--"]
 
 
 def drawn(folder, random, most=12):
@@ -119,8 +123,18 @@ def judge_timetable(folder, random):
     return "late" if late else "in time"
 
 
+def demand_room(element, wide):
+    """A text's ends are within a picture so wide, as far as letters have their usual widths."""
+    if not element.tag.endswith("}text"):
+        return
+    long = 0.52 * float(element.get("font-size", 9)) * len(element.text)
+    left = float(element.get("x")) - {"middle": long / 2, "end": long}.get(element.get("text-anchor"), 0)
+    demand(-1 <= left and left + long <= wide + 1, "%r is cut: from %.0f to %.0f of %.0f" % (
+        element.text, left, left + long, wide))
+
+
 def pictured(folder, *words):
-    """The elements of a picture by their names, and its titles; all that has a place stands within it."""
+    """The texts of a picture, how often each stands there, and its titles; all that has a place stands within it."""
     out, errors, status = tool("draw", *words)
     demand((errors, status) == ("", 0), "draw: status %d, %r" % (status, errors))
     root = ElementTree.fromstring(out)
@@ -128,8 +142,9 @@ def pictured(folder, *words):
     for element in root.iter():
         for name, most in (("x", wide), ("cx", wide), ("y", high), ("cy", high)):
             demand(0 <= float(element.get(name, 0)) <= most, "out of the picture: %r" % element.attrib)
-    names = Counter(element.tag.split("}")[1] for element in root.iter())
-    return names, [element.text for element in root.iter() if element.tag.endswith("}title")]
+        demand_room(element, wide)
+    texts = Counter(element.text for element in root.iter() if element.tag.endswith("}text"))
+    return texts, [element.text for element in root.iter() if element.tag.endswith("}title")]
 
 
 def judge_picture(folder, random):
@@ -141,12 +156,19 @@ def judge_picture(folder, random):
         out, errors, status = tool("draw", path, solution)
         demand((out, status) == (b"", 1) and errors.count("\n") == 1, "draw of no plan: %r" % errors)
         return "refused"
-    for words in ([], ["--times"]):
-        names, titles = pictured(folder, path, solution, *words)
+    table = os.path.join(folder, "names")
+    put(table, table_of([random.choice(NAMES) for _ in range(instance.count + 1)]).encode())
+    for words in ([], ["--times"], ["--names", table], ["--times", "--names", table]):
+        texts, titles = pictured(folder, path, solution, *words)
+        legend = Counter(shown(route_cost(instance, route)) for route in routes)
+        demand(not legend - texts, "the legend: %r, and %r is right" % (texts, legend))
+        demand(all(texts[str(number)] for number in range(1, len(routes) + 1)), "numbers of routes: %r" % texts)
+        told = [title for title in titles if title.startswith("Route ")]
+        demand(len(told) == len(routes), "routes: %r" % told)
         for i in range(1, instance.count + 1):
             demand(sum(title.startswith("Customer %d, " % i) for title in titles) == 1, "customer %d isn't there" % i)
             times = sum(title.startswith(("Service of customer %d:" % i, "Customer %d: " % i)) for title in titles)
-            demand(times == (2 if words else 0), "times of customer %d: %d" % (i, times))
+            demand(times == (2 if "--times" in words else 0), "times of customer %d: %d" % (i, times))
     return judge_tree(instance, path, solution, certificate, folder, random)
 
 

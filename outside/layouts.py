@@ -7,8 +7,9 @@ import os
 import re
 from collections import namedtuple
 
+import unservable
 from instances import MOST_CUSTOMERS
-from tool import quoted
+from tool import Found, quoted
 
 # The limits of ours, and those of the numbers of places there and of the scale.
 MOST_NAME, MOST_FLEET, MOST_CAPACITY = 32, 1000, 10_000
@@ -17,19 +18,31 @@ MOST_NUMBER, MOST_SCALE = 10 ** 9, 10_000
 FLEET, CAPACITY = ("a number of vehicles", MOST_FLEET), ("a capacity", MOST_CAPACITY)
 HINT = " (--scale N multiplies coordinates and times)"
 
-Problem = namedtuple("Problem", "name fleet capacity rows")
-# What a layout says of an instance: the name may be None, and so may fleet and capacity; rows by their numbers there.
-Read = namedtuple("Read", "name fleet capacity nodes depot notes")
+# Names are by number, from the depot's on: where the text has none, the numbers there.
+Problem = namedtuple("Problem", "name fleet capacity rows names")
+# What a layout says of an instance: the name may be None, and so may fleet, capacity and the places' names; rows by
+# their numbers there.
+Read = namedtuple("Read", "name fleet capacity nodes depot notes names")
 
 
 class Quantities:
-    """The numbers of a text within the limits of ours, coordinates and times multiplied by the scale."""
+    """The numbers of a text within the limits of ours, coordinates and times multiplied by the scale. A horizon is the
+    end of the day of a text without windows."""
 
-    def __init__(self, text, scale):
-        self.text, self.scale = text, scale
+    def __init__(self, text, scale, horizon=None, keeps_names=False):
+        self.text, self.scale, self.horizon, self.keeps_names = text, scale, horizon, keeps_names
+
+    def refuse_horizon(self, line):
+        """A text with windows, which begin in this line, has no horizon by an option."""
+        if self.horizon is not None:
+            self.text.refuse(line, "windows, and --horizon", "one of both")
+
+    def end_of_day(self, column):
+        """What stands for a ready time or a due date that the text hasn't."""
+        return "%d" % self.horizon if column == "due" else "0"
 
     def coordinate(self, line, word, axis):
-        return self.text.whole(line, word, axis, 0, MOST_COORDINATE, self.scale, HINT)
+        return self.text.whole(line, word, axis, -MOST_COORDINATE, MOST_COORDINATE, self.scale, HINT)
 
     def time(self, line, word, what):
         return self.text.whole(line, word, what, 0, MOST_TIME, self.scale, HINT)
@@ -63,7 +76,7 @@ def add(text, nodes, number, row):
 
 
 def in_order(text, read):
-    """The depot's row and then the customers', in the order of their numbers; and what is noted of it."""
+    """The depot's row and then the customers', in the order of their numbers; their names; and what is noted of it."""
     others = sorted(number for number in read.nodes if number != read.depot)
     if not others:
         text.at_end("a customer")
@@ -72,10 +85,28 @@ def in_order(text, read):
         text.refuse(over, "customer %d" % (MOST_CUSTOMERS + 1), "at most %d customers" % MOST_CUSTOMERS)
     rows = [read.nodes[read.depot]] + [read.nodes[number] for number in others]
     judge_rows(text, rows)
+    names = read.names or [str(number) for number in [read.depot] + others]
     if others == list(range(read.depot + 1, read.depot + 1 + len(others))):
+        return rows, names, []
+    return rows, names, [
+        "the depot's number %d becomes 0, and the other numbers, from %d to %d, become 1 to %d in their order"
+        % (read.depot, others[0], others[-1], len(others))]
+
+
+def moved(text, rows):
+    """The rows with coordinates of 0 and more: where some are below 0, all are moved, and that is noted."""
+    shifts = [max(0, -min(row[axis] for row in rows)) for axis in (0, 1)]
+    if not any(shifts):
         return rows, []
-    return rows, ["the depot's number %d becomes 0, and the other numbers, from %d to %d, become 1 to %d in their order"
-                  % (read.depot, others[0], others[-1], len(others))]
+    found = []
+    for row in rows:
+        places = [Found(row[axis] + shifts[axis], row[axis].line) for axis in (0, 1)]
+        for axis, place in zip("xy", places):
+            if place > MOST_COORDINATE:
+                text.refuse(place.line, "%s of %d above the least one" % (axis, place), "at most %d" % MOST_COORDINATE)
+        found.append((*places, *row[2:]))
+    told = " and ".join("%s by %d" % pair for pair in zip("xy", shifts) if pair[1])
+    return found, ["some coordinates are below 0, so all are moved, %s: distances are the same" % told]
 
 
 def judge_rows(text, rows):
@@ -97,10 +128,10 @@ def name_of(path, given, there, notes):
     name = given or there
     if not name:
         name = os.path.splitext(os.path.basename(path))[0]
-        notes.append("the file has no name of the instance, so it is that of the file")
+        notes.append("no name of the instance stands there, so it is that of the file, %s" % quoted(name))
     fits = re.sub(r"[^\x21-\x7e]+", "_", name)[:MOST_NAME]
     if fits != name:
-        notes.append("the name %s is shortened to %s: ours has at most %d bytes of ASCII and no blank"
+        notes.append("the name %s becomes %s: ours has at most %d signs, all of ASCII, and no blank"
                      % (quoted(name), quoted(fits), MOST_NAME))
     return fits
 
@@ -117,10 +148,15 @@ def number_of(text, option, given, there, limit, notes):
     return there if given is None else given
 
 
-def problem_of(text, read, given):
+def problem_of(text, quantities, read, given):
     """The problem of what was read, and what is noted; given are the options."""
     notes = list(read.notes)
-    rows, renumbered = in_order(text, read)
+    if quantities.horizon is not None:
+        notes.append("there are no windows, so service may begin from 0 to %d, and the depot is open as long"
+                     % read.nodes[read.depot][4])
+    rows, names, renumbered = in_order(text, read)
+    rows, is_moved = moved(text, rows)
     fleet = number_of(text, "--vehicles", given.vehicles, read.fleet, FLEET, notes)
     capacity = number_of(text, "--capacity", given.capacity, read.capacity, CAPACITY, notes)
-    return Problem(name_of(text.path, given.name, read.name, notes), fleet, capacity, rows), renumbered + notes
+    found = Problem(name_of(text.path, given.name, read.name, notes), fleet, capacity, rows, names)
+    return found, renumbered + is_moved + notes + list(unservable.notes(found))

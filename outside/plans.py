@@ -1,9 +1,15 @@
 """Our texts as the tools read them: an instance, and a solution that serves each of its customers once."""
 from instances import Fault, plan_cost, read
-from respelling import Numbering, customers
+from naming import Numbering
+from respelling import customers
 from texts import TextFault, read_certificate, read_solution, shown
 from timing import stops
 from tool import Found, Text, quoted
+
+
+# What leaves a text empty.
+EMPTY = {"a solution": "a plan (solve leaves the file empty after NO PLAN, OPEN and each fault)",
+         "a certificate": "a certificate (solve leaves the file empty after each fault)"}
 
 
 def of_ours(text, reader, what):
@@ -14,7 +20,24 @@ def of_ours(text, reader, what):
         name, _, place = str(fault).partition(" ")
         kind, _, number = place.partition(" ")
         line = int(number) if kind == "line" else text.line_of(int(number)) if kind else text.last()
+        if not text.held and what in EMPTY:
+            text.refuse(1, "an empty file", EMPTY[what])
+        judge_ends(text, line, name, what)
         text.refuse(line, "%s (%s)" % (quoted(text.lines[line - 1]), name), "%s of docs/formats.md" % what)
+
+
+def judge_ends(text, line, name, what):
+    """Refuses a line that our reader doesn't take for its end alone: a carriage return, or no line feed."""
+    if what not in EMPTY or name not in ("BadLine", "Truncated"):
+        return
+    lines = text.held.split(b"\n")
+    held = lines[line - 1] if line <= len(lines) else lines[-1]
+    if b"\r" in held:
+        text.refuse(line, "%s with a carriage return behind it (%s)" % (quoted(text.lines[line - 1]), name),
+                    "lines that end in a line feed alone")
+    if name == "Truncated" and held:
+        text.refuse(line, "%s without a line feed behind it (Truncated)" % quoted(text.lines[line - 1]),
+                    "%s of docs/formats.md" % what)
 
 
 def instance_of(path):

@@ -1,99 +1,124 @@
-"""Solutions as other solvers spell them: routes in lines or as lists of lists, and a cost or none."""
+"""Solutions as other solvers spell them: routes in lines, lists, objects or tours, and a cost or none."""
 import re
 
+from listings import Reader, Routes
+from naming import ARROW, Naming, numbering_of_lkh
 from texts import shown
-from tool import Found, number, quoted
+from tool import listed, number, quoted
 
-ROUTE = re.compile(r"route\s*#?\s*[0-9]+\s*:(.*)\Z", re.I)
+ROUTE = re.compile(r"(?:route|vehicle|tour)\s*#?\s*[0-9]+\s*:(.*)\Z", re.I)
+# OR-Tools has the stops in the line below.
+HEAD = re.compile(r"route for vehicle\s+\S+\s*:(.*)\Z", re.I)
+BARE = re.compile(r"[0-9][0-9\s,]*\Z")
 COST = re.compile(r"(?:cost|objective)\b\s*:?\s*(.*)\Z", re.I)
-# What stands around the routes in files of best known solutions and in what PyVRP prints.
-AROUND = re.compile(r"(instance name|authors?|date|reference|solution|solution results|routes|distance|duration|"
-                    r"run-time|time|iterations)\s*(:.*)?\Z|[=-]+\Z|time\s+[0-9.]+\Z", re.I)
-IN_LISTS = re.compile(r"[\[\]]|[^\s\[\],]+")
-STOP = re.compile(r"[0-9]{1,9}\Z")
+UNIT = re.compile(r"(?<=[0-9.])\s*(?:m|km|miles|min|s|h)\Z")
+# What stands around the routes in files of best known solutions and in what PyVRP, OR-Tools and LKH print.
+AROUND = re.compile(
+    r"(instance name|authors?|date|reference|solution|solution results|routes|distance|duration|run-time|time|"
+    r"iterations|name|type|comment|dimension|eof|(time|distance|load|cost) of the route|"
+    r"total (time|distance|load) of all routes|maximum of the route distances|dropped nodes|solver status)"
+    r"\s*(:.*)?\Z|[=-]+\Z|time\s+[0-9.]+\Z", re.I)
+# LKH: the length of a tour, how many places it has, its beginning; the head and the lines of its solutions.
+LENGTH = re.compile(r"comment\s*:\s*length\s*=\s*(\S+)\Z", re.I)
+DIMENSION = re.compile(r"dimension\s*:\s*([0-9]{1,9})\Z", re.I)
+TOUR = re.compile(r"tour_section\Z", re.I)
+OF_LKH = re.compile(r".*, cost: (?:[0-9]+_)?(\S+)\Z", re.I)
+HEAD_OF_LKH = re.compile(r"the tours traveled by the [0-9]+ salesmen are:\Z", re.I)
+TOUR_OF_LKH = re.compile(r"([0-9][0-9\s]*?)\s*\(#?[0-9]+\)\s*(?:cost:\s*\S+)?\Z", re.I)
 
 
 class Spelled:
-    """The routes, whose numbers know their lines; the cost as its word, or None; the lines that were passed over."""
+    """The routes, whose numbers know their lines; their numbering; the cost as its word, or None; notes, and the lines
+    that were passed over."""
 
-    def __init__(self, text):
-        self.text, self.routes, self.cost, self.passed, self.open = text, [], None, [], []
-        for line, told in text.filled():
-            if self.open or told.startswith("["):
-                self.read_lists(line, told)
+    def __init__(self, text, numbering, count):
+        self.text, self.count, self.naming = text, count, Naming(text, numbering)
+        self.routes, self.cost, self.passed, self.notes = [], None, [], []
+        self.dimension, self.lines = None, text.filled()
+        for line, told in self.lines:
+            if told[0] in "[({":
+                self.read_listing(line, told)
+            elif TOUR.match(told):
+                self.read_tour()
+            elif HEAD.match(told) and not HEAD.match(told)[1].strip():
+                self.read_below(line)
             else:
                 self.read_line(line, told)
-        if self.open:
-            text.at_end("a bracket that closes")
         if not self.routes:
             text.at_end("a route")
 
+    @property
+    def numbering(self):
+        return self.naming.numbering
+
     def read_line(self, line, told):
-        route, cost = ROUTE.match(told), COST.match(told)
+        route, cost = ROUTE.match(told) or HEAD.match(told), COST.match(told)
+        length = LENGTH.match(told) or OF_LKH.match(told)
         if route:
-            self.routes.append([self.stop(line, word) for word in re.split(r"[\s,]+", route[1].strip()) if word])
+            self.routes.append(self.naming.stops(line, route[1]))
+        elif length:
+            self.read_cost(line, length[1])
+        elif AROUND.match(told):
+            self.dimension = DIMENSION.match(told) or self.dimension
+            self.passed.append(line)
         elif cost:
             self.read_cost(line, cost[1])
-        elif AROUND.match(told):
-            self.passed.append(line)
+        elif HEAD_OF_LKH.match(told):
+            self.naming.numbering = numbering_of_lkh(self.count, self.numbering.names)
+        elif TOUR_OF_LKH.match(told):
+            self.routes.append(self.naming.stops(line, TOUR_OF_LKH.match(told)[1]))
+        elif BARE.match(told) or ARROW.search(told):
+            self.routes.append(self.naming.stops(line, told))
         else:
             self.text.refuse(line, quoted(told), "a route, a list of routes or a cost")
 
-    def stop(self, line, word):
-        if not STOP.match(word):
-            self.text.refuse(line, quoted(word), "a customer's number")
-        return Found(int(word), line)
+    def read_below(self, line):
+        """The route that stands in the line below its head."""
+        line, told = next(self.lines, (line, ""))
+        if not told:
+            self.text.at_end("a route")
+        if not BARE.match(told) and not ARROW.search(told):
+            self.text.refuse(line, quoted(told), "the route of the vehicle above")
+        self.routes.append(self.naming.stops(line, told))
 
     def read_cost(self, line, word):
         if self.cost is not None:
             self.text.refuse(line, "a second cost", "one")
+        word = UNIT.sub("", word)
         if number(word) is None:
             self.text.refuse(line, quoted(word), "a cost, a number")
         self.cost = word
 
-    def read_lists(self, line, told):
-        """A line within a list of lists, or of a list of numbers, which is a route by itself."""
-        for word in IN_LISTS.findall(told):
-            if word == "[":
-                if len(self.open) == 2:
-                    self.text.refuse(line, "a third bracket that opens", "numbers or one that closes")
-                self.open.append([])
-            elif not self.open:
-                self.text.refuse(line, quoted(word), "a bracket that opens")
-            elif word == "]":
-                self.close(line)
+    def read_listing(self, line, told):
+        """Lists of routes or objects with routes, which may go on in the lines that follow."""
+        for value in Reader(self.text, self.lines).values(line, told):
+            found = Routes(self.text, value)
+            self.routes += [[self.naming.stop(*stop) for stop in route] for route in found.routes]
+            if found.cost is not None:
+                self.read_cost(found.cost.line, found.cost.word)
+            if found.is_object:
+                self.notes.append("of the object in line %d the routes and the cost are read, and nothing else"
+                                  % value.line)
+
+    def read_tour(self):
+        """A tour through all places, which the depot and its copies behind the last customer part into routes."""
+        self.naming.numbering = numbering_of_lkh(self.count, self.numbering.names)
+        last = int(self.dimension[1]) if self.dimension else 0
+        parts, begins_there = [[]], None
+        for line, word in ((line, word) for line, told in self.lines for word in told.split()):
+            if word in ("-1", "EOF"):
+                break
+            stop = self.naming.stop(line, word)
+            is_depot = stop == 1 or self.count + 1 < stop <= last
+            begins_there = is_depot if begins_there is None else begins_there
+            if is_depot:
+                parts.append([])
             else:
-                self.open[-1].append(self.stop(line, word))
-
-    def close(self, line):
-        """Ends a list: within another one it is a route of that; else it is a route, or its lists are routes."""
-        closed = self.open.pop()
-        lists = [part for part in closed if isinstance(part, list)]
-        if self.open:
-            self.open[-1].append(closed)
-        elif lists and len(lists) < len(closed):
-            self.text.refuse(line, "numbers beside lists", "lists alone, or numbers alone")
-        else:
-            self.routes += lists or [closed]
-
-
-class Numbering:
-    """The numbers of the first and the last customer, those of the depot at the ends of a route, and a hint."""
-
-    def __init__(self, first, last, depots=(), hint=""):
-        self.first, self.last, self.depots, self.hint = first, last, depots, hint
-
-    def told(self):
-        ends = " or ".join(str(depot) for depot in self.depots)
-        ends = ends and ", and at the ends the depot %s" % ends
-        return "each customer of %d to %d once%s%s" % (self.first, self.last, ends, self.hint)
-
-
-def numbering_of(count, from_zero):
-    """That of another solver: the depot may be 0, where no customer is, or stand behind the last customer."""
-    if from_zero:
-        return Numbering(0, count - 1, (count,))
-    return Numbering(1, count, (0, count + 1), " (counted from 0: --from-zero)")
+                parts[-1].append(stop)
+        if not begins_there and len(parts) > 1:
+            # A tour is closed: what stands before the first depot goes on behind the last one.
+            parts[0] = parts.pop() + parts[0]
+        self.routes += [part for part in parts if part]
 
 
 def customers(text, spelled, numbering):
@@ -105,7 +130,10 @@ def customers(text, spelled, numbering):
             if not numbering.first <= stop <= numbering.last:
                 text.refuse(stop.line, '"%d"' % stop, numbering.told())
             if stop in met:
-                text.refuse(stop.line, "customer %d again, after line %d" % (stop, met[stop]), numbering.told())
+                # A tour's routes don't stand in the order of its lines.
+                before, again = sorted((met[stop], stop.line))
+                text.refuse(again, "customer %s again, after line %d" % (numbering.called(stop), before),
+                            numbering.told())
             met[stop] = stop.line
         if route:
             routes.append([stop - numbering.first + 1 for stop in route])
@@ -113,7 +141,7 @@ def customers(text, spelled, numbering):
             empty.append(place)
     for stop in range(numbering.first, numbering.last + 1):
         if stop not in met:
-            text.at_end(numbering.told(), "no customer %d" % stop)
+            text.at_end(numbering.told(), "no customer %s" % numbering.called(stop).rstrip(","))
     return routes, ["empty routes are left out: %s" % listed(empty)] if empty else []
 
 
@@ -121,10 +149,6 @@ def without_depots(stops, depots):
     begin = 1 if stops and stops[0] in depots else 0
     end = len(stops) - 1 if len(stops) > begin and stops[-1] in depots else len(stops)
     return stops[begin:end]
-
-
-def listed(numbers):
-    return ", ".join(str(number) for number in numbers)
 
 
 def text_of(routes, cost):

@@ -17,12 +17,13 @@ def read(text, quantities):
     """An instance, whose depot has the number 0."""
     cells = cells_of_ours(text) or cells_of_lines(text)
     name, fleet, capacity, rows = cells[0], cells[1], cells[2], cells[3:]
+    quantities.refuse_horizon(rows[0][0][0])
     nodes = {}
     for row in rows:
         add(text, nodes, quantities.node(*row[0]), quantities.row(row[1:]))
     if 0 not in nodes:
         text.refuse(rows[0][0][0], "no row with the number 0", "the depot's row")
-    return Read(name[1], quantities.fleet(*fleet), quantities.capacity(*capacity), nodes, 0, [])
+    return Read(name[1], quantities.fleet(*fleet), quantities.capacity(*capacity), nodes, 0, [], None)
 
 
 def cells_of_ours(text):

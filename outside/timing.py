@@ -1,4 +1,6 @@
 """When the vehicles of a plan are where: the stops of each route with their times, as a table."""
+import csv
+import io
 from collections import namedtuple
 
 from instances import route_cost
@@ -40,29 +42,36 @@ def cells(stop):
     return [str(stop.stop), *(signed(time) for time in stop[1:5]), str(stop.load), signed(stop.slack)]
 
 
-def tables(instance, routes):
-    """The stops of all routes and then the sums, as rows of words below their headings."""
-    by_stop = [["route", *Stop._fields]]
+def tables(instance, routes, names=None):
+    """The stops of all routes and then the sums, as rows of words below their headings; names stand in the stops' last
+    column."""
+    by_stop = [["route", *Stop._fields] + (["name"] if names else [])]
     by_route = [["route", *Sums._fields]]
     found = [sums(instance, route) for route in routes]
     for place, route in enumerate(routes, 1):
-        by_stop += [[str(place), *cells(stop)] for stop in stops(instance, route)]
+        by_stop += [[str(place), *cells(stop)] + ([names[stop.stop]] if names else [])
+                    for stop in stops(instance, route)]
     for place, row in [*enumerate(found, 1), ("plan", total(found))]:
         by_route.append([str(place), *(signed(number) for number in row)])
     return by_stop, by_route
 
 
-def aligned(instance, routes):
-    by_stop, by_route = tables(instance, routes)
-    wide = max([WIDTH] + [len(word) + 1 for row in by_stop + by_route for word in row])
+def aligned(instance, routes, names=None):
+    by_stop, by_route = tables(instance, routes, names)
+    columns = 1 + len(Stop._fields)
+    wide = max([WIDTH] + [len(word) + 1 for row in by_stop + by_route for word in row[:columns]])
     lines = []
     for row in by_stop + by_route:
-        lines.append("".join(word.rjust(wide) for word in row))
+        lines.append("".join([word.rjust(wide) for word in row[:columns]] + ["  " + name for name in row[columns:]]))
         # An empty line stands behind each return.
         if row[1] == "0":
             lines.append("")
     return "\n".join(lines + [""])
 
 
-def separated(instance, routes):
-    return "\n".join("\n".join(",".join(row) for row in table) + "\n" for table in tables(instance, routes))
+def separated(instance, routes, names=None):
+    """Both tables separated by commas, an empty line between them."""
+    found = io.StringIO()
+    by_stop, by_route = tables(instance, routes, names)
+    csv.writer(found, lineterminator="\n").writerows([*by_stop, [], *by_route])
+    return found.getvalue()

@@ -8,6 +8,8 @@ from fractions import Fraction
 
 NUMBER = re.compile(r"[+-]?([0-9]{1,30}(\.[0-9]{0,30})?|\.[0-9]{1,30})([eE][+-]?[0-9]{1,2})?\Z")
 MOST_SHOWN = 40
+# The path of standard input and output, and what the former is called.
+STREAM, INPUT = "-", "standard input"
 
 
 class Refused(Exception):
@@ -23,10 +25,26 @@ class Found(int):
         return found
 
 
+class Cell(str):
+    """A word as it stands in a table, with the number that it spells there, or None."""
+
+    def __new__(cls, word, value):
+        found = super().__new__(cls, word)
+        found.value = value
+        return found
+
+
 def quoted(word):
-    """A word between quotes, all of it in ASCII; of a long one the beginning."""
+    """A word between quotes, as it stands where it can be printed; of a long one the beginning."""
     cut = word if len(word) <= MOST_SHOWN else word[:MOST_SHOWN] + "..."
-    return '"%s"' % cut.encode("unicode_escape").decode()
+    return '"%s"' % "".join(sign if sign.isprintable() and sign != "\\" else sign.encode("unicode_escape").decode()
+                            for sign in cut)
+
+
+def listed(numbers, most=12):
+    """Numbers or words side by side; of many the first ones, and how many more there are."""
+    told = ", ".join(str(number) for number in numbers[:most])
+    return told if len(numbers) <= most else "%s and %d more" % (told, len(numbers) - most)
 
 
 def number(word):
@@ -34,19 +52,26 @@ def number(word):
     return Fraction(word) if NUMBER.match(word) else None
 
 
+def told_path(path):
+    return INPUT if path == STREAM else path
+
+
 def content(path):
+    """What a file holds, or standard input, which can be read once."""
+    if path == STREAM and (sys.stdin is None or sys.stdin.closed):
+        raise Refused("%s: met a closed one, or it for a second file, wanted it open and once" % INPUT)
     try:
-        with open(path, "rb") as file:
+        with sys.stdin.buffer if path == STREAM else open(path, "rb") as file:
             return file.read()
     except (OSError, ValueError) as fault:
-        raise Refused("%s: %s" % (path, last_words(fault)))
+        raise Refused("%s: %s" % (told_path(path), last_words(fault)))
 
 
 class Text:
     """A file's lines, counted from 1. A byte order mark goes, and each kind of line end is one."""
 
     def __init__(self, path):
-        self.path, self.held = path, content(path)
+        self.path, self.held = told_path(path), content(path)
         begin = len(BOM_UTF8) if self.held.startswith(BOM_UTF8) else 0
         try:
             whole = self.held[begin:].decode()
@@ -77,7 +102,7 @@ class Text:
 
     def whole(self, line, word, what, low, high, scale=1, hint=""):
         """A whole number within limits once it is multiplied by the scale; the hint is what makes it whole."""
-        value = number(word)
+        value = word.value if isinstance(word, Cell) else number(word)
         if value is None:
             self.refuse(line, quoted(word), "%s, a number" % what)
         met = quoted(word) if scale == 1 else "%s times %d" % (quoted(word), scale)
@@ -96,16 +121,38 @@ def last_words(fault):
 def put(path, text):
     """Writes a file; where that fails, what stood there before may be lost."""
     try:
-        with open(path, "w", encoding="ascii", newline="") as file:
+        with open(path, "w", encoding="utf-8", newline="") as file:
             file.write(text)
     except (OSError, ValueError) as fault:
         raise Refused("%s: %s" % (path, last_words(fault)))
 
 
-def refuse_same(first, second):
-    """An output is no input."""
-    if os.path.exists(first) and os.path.exists(second) and os.path.samefile(first, second):
-        raise Refused("%s: met the file that is read, wanted another one to write" % second)
+def put_all(texts):
+    """Writes several files, or none where one of them can't be opened; texts by their paths. Answers what is for
+    standard output."""
+    texts, made = dict(texts), []
+    streamed = texts.pop(STREAM, "")
+    try:
+        for path in texts:
+            is_new = not os.path.lexists(path)
+            open(path, "ab").close()
+            made += [path] if is_new else []
+    except (OSError, ValueError) as fault:
+        for other in made:
+            os.remove(other)
+        raise Refused("%s: %s" % (path, last_words(fault)))
+    for path, text in texts.items():
+        put(path, text)
+    return streamed
+
+
+def refuse_same(first, second, met="the file that is read"):
+    """An output is no input, and no other output; an option's may be None. The streams are two."""
+    if None in (first, second) or first == STREAM and met == "the file that is read":
+        return
+    is_same = os.path.abspath(first) == os.path.abspath(second)
+    if is_same or os.path.exists(first) and os.path.exists(second) and os.path.samefile(first, second):
+        raise Refused("%s: met %s, wanted another one to write" % (second, met))
 
 
 class Words(argparse.ArgumentParser):
@@ -140,6 +187,7 @@ def printed(text):
         if text and sys.stdout is None:
             raise Refused("standard output: met a closed one, wanted an open one")
         if text:
+            sys.stdout.reconfigure(encoding="utf-8")
             sys.stdout.write(text)
             sys.stdout.flush()
     except OSError as fault:
@@ -149,13 +197,14 @@ def printed(text):
 
 
 def run(tool, work):
-    """Does the work, which answers the text for standard output and what is noted; a refusal is one line on standard
-    error and the status 1."""
+    """Does the work, which answers the text for standard output, what is noted, and perhaps a status; a refusal is one
+    line on standard error and the status 1."""
     try:
-        text, notes = work()
+        text, notes, *status = work()
         printed(text)
     except Refused as refused:
         told("outside/%s: %s" % (tool, " ".join(str(refused).split("\n"))))
         sys.exit(1)
     for note in notes:
         told("outside/%s: note: %s" % (tool, note))
+    sys.exit(status[0] if status else 0)

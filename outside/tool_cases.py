@@ -1,11 +1,13 @@
 """Instances in other layouts as they are found, whole and with one thing wrong in a known line."""
 from instances import read
-from tool_texts import Line, field_of, pick, without, worded
+import table_cases
+from table_cases import table_lines
+from tool_texts import Line, field_of, found_as, pick, without, worded
 
 NAMES = ["x", "a" * 32, "#1", "EOF", "NAME", "VEHICLE", "CUSTOMER", "a:b", ":", "-n", "--name=x", '"q"', "'", "a,b",
          ";", "$(x)", "~!@%", "0", "1.5", "[1]", "Route", "\\n", "&<>", "`x`", "C1-25", "Cost", "*"]
 # Words that are no whole number within any limit of a row.
-WRONG = ["x", "0.5", "-1", "1000001", "nan", "inf", "1e99", "0x1", "1_0", "1.2.3", "1/2", "\u0661", "--1", "7" * 40]
+WRONG = ["x", "0.5", "-10001", "1000001", "nan", "inf", "1e99", "0x1", "1_0", "1.2.3", "1/2", "\u0661", "--1", "7" * 40]
 WRONG_IDS = ["x", "-1", "1.5", "1e99"]
 WHATS = ("NODE_COORD_SECTION", "DEMAND_SECTION", "TIME_WINDOW_SECTION", "SERVICE_TIME_SECTION")
 PLACES = ((0, 2), (2, 3), (3, 5), (5, 6))
@@ -41,11 +43,6 @@ def is_same(first, second):
         second.name, second.fleet, second.capacity, second.rows)
 
 
-def found_as(random, value):
-    """A whole number as files have it."""
-    return random.choice(["%d", "%d", "%d.00", "%d.0", "+%d", "0%d", "%d.", "%de0"]) % value
-
-
 def words_of(random, row, scale):
     """The six words of a row; by a scale of 10 coordinates and times have a tenth of their values, with a decimal."""
     return [found_as(random, value) if scale == 1 or field == DEMAND else "%d.%d" % divmod(value, 10)
@@ -67,17 +64,7 @@ def solomon_lines(random, instance, scale):
 
 
 def csv_lines(random, instance, scale):
-    """Columns in any order, one more among them, separated in any way."""
-    names, separator = ["x", "y", "demand", "ready", "due", "service", "remark"], random.choice(",;\t")
-    order = random.sample(range(7), 7)
-    quote = (lambda word: '"%s"' % word) if random.randrange(2) else str
-
-    def laid(cells):
-        return separator.join(quote(cells[place]) for place in order)
-    rows = [Line("row", laid(words_of(random, row, scale) + ["a remark"]), i, separator, order)
-            for i, row in enumerate(values(instance))]
-    return [Line("heading", laid([random.choice([name, name.upper(), " %s " % name]) for name in names]), 0, separator,
-                 order)] + rows
+    return table_lines(random, values(instance), scale)
 
 
 def vrplib_lines(random, instance, scale):
@@ -85,9 +72,10 @@ def vrplib_lines(random, instance, scale):
     rows = values(instance)
     depot = random.choice([0, 1, 1, len(rows), random.randint(0, len(rows))])
     numbers = [depot] + sorted(number for number in range(len(rows) + 1) if number != depot)[:len(rows) - 1]
-    keys = [("NAME", instance.name.decode()), ("TYPE", random.choice(["VRPTW", "vrptw", "CVRPTW"])),
-            ("DIMENSION", len(rows)), ("VEHICLES", instance.fleet), ("CAPACITY", instance.capacity),
-            ("EDGE_WEIGHT_TYPE", "EUC_2D"), ("COMMENT", "a : b"), ("COMMENT", "#")]
+    keys = [("NAME", instance.name.decode()), ("TYPE", random.choice(["VRPTW", "vrptw", "CVRPTW", "CVRP"])),
+            ("DIMENSION", len(rows)), (random.choice(["VEHICLES", "VEHICLES", "SALESMEN"]), instance.fleet),
+            ("CAPACITY", instance.capacity), ("EDGE_WEIGHT_TYPE", random.choice(["EUC_2D", "EUC_2D", "EXACT_2D"])),
+            ("COMMENT", "a : b"), ("COMMENT", "#"), ("SCALE", "1000")]
     random.shuffle(keys)
     parts = []
     for what, (low, high) in zip(WHATS, PLACES):
@@ -99,6 +87,7 @@ def vrplib_lines(random, instance, scale):
         parts[-1].append(Line("end", "-1"))
     random.shuffle(parts)
     heads = [Line("key", random.choice(["%s : %s", "%s: %s", "%s:%s", "%s\t:\t%s"]) % key, 0, key[0]) for key in keys]
+    heads.insert(random.randrange(len(heads)), Line("comment", "COMMENT (a, b)"))
     return heads + [line for part in parts for line in part] + ([Line("eof", "EOF")] if random.randrange(2) else [])
 
 
@@ -205,34 +194,30 @@ def nothing(random, lines, layout):
     lines[:] = [Line("blank", "")]
 
 
-def wrong_columns(random, lines, layout):
-    line = pick(random, lines, "heading")
-    worded(line, field_of(line, random.randrange(6)), random.choice(["", "x y", "size"]))
+def fleet_key(lines):
+    return next(line.part for line in lines if line.part in ("VEHICLES", "SALESMEN"))
+
+
+def both_fleets(random, lines, layout):
+    """The vehicles by two keys: the later one is told."""
+    there = next(line for line in lines if line.part == fleet_key(lines))
+    line = Line("key", "%s : 5" % ("VEHICLES" if there.part == "SALESMEN" else "SALESMEN"))
+    lines.insert(lines.index(there) + 1, line)
     return line
 
 
-def column_again(random, lines, layout):
-    line = pick(random, lines, "heading")
-    worded(line, field_of(line, 6), random.choice(["x", "Y", "demand", "DUE"]))
-    return line
-
-
-def open_quote(random, lines, layout):
-    line = lines[-1]
-    words = line.words()
-    line.put(['"' + words[0].strip('"')] + words[1:])
-    return line
-
-
-def depot_alone(random, lines, layout):
-    """A depot and no customer: told at the end."""
-    del lines[2:]
+def no_windows(random, lines, layout):
+    """No windows and no horizon: told at the type CVRP, else at the end."""
+    without(lines, "section", WHATS[2])
+    without(lines, "row", WHATS[2])
+    line = next(line for line in lines if line.part == "TYPE")
+    return line if line.text.upper().endswith("CVRP") else None
 
 
 def wrong_key(random, lines, layout):
     key, words = random.choice([
-        ("TYPE", ["CVRP", "TSP", "VRPTW2"]), ("EDGE_WEIGHT_TYPE", ["EXPLICIT", "CEIL_2D", "GEO", "EUC_3D"]),
-        ("DIMENSION", ["1", "500", "x", "1.5"]), ("VEHICLES", ["0", "1001", "x", "1.5", "-1"]),
+        ("TYPE", ["ACVRP", "TSP", "VRPTW2"]), ("EDGE_WEIGHT_TYPE", ["EXPLICIT", "CEIL_2D", "GEO", "EUC_3D"]),
+        ("DIMENSION", ["1", "500", "x", "1.5"]), (fleet_key(lines), ["0", "1001", "x", "1.5", "-1"]),
         ("CAPACITY", ["0", "10001", "x", "1.5", ""])])
     line = next(line for line in lines if line.part == key)
     line.text = random.choice(["%s : %s", "%s: %s"]) % (key, random.choice(words))
@@ -247,11 +232,11 @@ def unknown_key(random, lines, layout):
 
 
 def no_key(random, lines, layout):
-    without(lines, "key", random.choice(["VEHICLES", "CAPACITY", "EDGE_WEIGHT_TYPE"]))
+    without(lines, "key", random.choice([fleet_key(lines), "CAPACITY", "EDGE_WEIGHT_TYPE"]))
 
 
 def no_section(random, lines, layout):
-    what = random.choice(WHATS[:3] + ("DEPOT_SECTION",))
+    what = random.choice(WHATS[:2] + ("DEPOT_SECTION",))
     without(lines, "section", what)
     without(lines, "row", what)
     if what == "DEPOT_SECTION":
@@ -298,7 +283,7 @@ def stray_line(random, lines, layout):
 ANY = [wrong_number, wrong_number, wrong_depot, no_demand, reversed_window, wrong_width, wrong_byte, nothing, too_many]
 CHANGES = {
     "solomon": ANY + [again, wrong_ids, no_depot_row, wrong_heading, wrong_numbers, cut_off],
-    "csv": ANY + [wrong_columns, column_again, open_quote, depot_alone, option_lacks],
+    "csv": ANY + table_cases.CHANGES + [option_lacks],
     "vrplib": ANY + [again, again, wrong_ids, wrong_key, wrong_key, unknown_key, no_key, no_section, row_lacks,
-                     row_too_many, wrong_depots, stray_line],
+                     row_too_many, wrong_depots, stray_line, both_fleets, no_windows],
 }

@@ -1,4 +1,5 @@
 """Texts as lines that know what they are, so that it is known which line is wrong, however many stand before it."""
+import re
 
 
 class Line:
@@ -8,10 +9,18 @@ class Line:
         self.role, self.text, self.row, self.part, self.order = role, text, row, part, order
 
     def words(self):
-        return self.text.split(self.part) if self.order else self.text.split()
+        if not self.order:
+            return self.text.split()
+        # A separator within quotes is part of a field.
+        return re.split(r'%s(?=(?:[^"]*"[^"]*")*[^"]*\Z)' % re.escape(self.part), self.text)
 
     def put(self, words):
         self.text = (self.part if self.order else " ").join(words)
+
+
+def found_as(random, value):
+    """A whole number as files have it."""
+    return random.choice(["%d", "%d", "%d.00", "%d.0", "+%d", "0%d", "%d.", "%de0"]) % value
 
 
 def worded(line, place, word):

@@ -60,6 +60,13 @@ def held(name):
         return file.read()
 
 
+def judge_instances():
+    """The files of bench/instances are what bench/make_instances makes."""
+    out, errors, status = run([os.path.join(TOP, "bench", "make_instances"), "--check"])
+    demand((out, errors, status) == (b"", b"", 0), "bench/make_instances: %s" % shown(out + errors))
+    return "as they are made"
+
+
 def judge_manual(program):
     """The manual page is what the program's help and the formats make of it."""
     demand(held("vrptw.1") == page(program, held("formats.md")), "docs/vrptw.1 isn't what outside/manual prints")

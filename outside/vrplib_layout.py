@@ -1,4 +1,4 @@
-"""VRPLIB's layout with time windows, as CVRPLIB, the package vrplib and PyVRP have it."""
+"""VRPLIB's layout with time windows, as CVRPLIB, the package vrplib, PyVRP and LKH have it."""
 import re
 
 from layouts import Read, add
@@ -6,11 +6,13 @@ from tool import quoted
 
 KEY = re.compile(r"([A-Za-z_]\w*)\s*(?::\s*(.*))?\Z", re.ASCII)
 # Keys that have to have one of these values, with the reason.
-VALUES = {"TYPE": (("VRPTW", "CVRPTW"), "VRPTW"),
-          "EDGE_WEIGHT_TYPE": (("EUC_2D",), "EUC_2D: ours has coordinates alone, and no other distances")}
+VALUES = {"TYPE": (("VRPTW", "CVRPTW", "CVRP"), "VRPTW, or CVRP with --horizon"),
+          "EDGE_WEIGHT_TYPE": (("EUC_2D", "EXACT_2D"), "EUC_2D: ours has coordinates alone, and no other distances")}
 # Keys that say nothing of the instance, or what is looked at alone.
-TOLD = ("NAME", "COMMENT", "TYPE", "DIMENSION", "CAPACITY", "VEHICLES", "SERVICE_TIME", "EDGE_WEIGHT_TYPE",
-        "EDGE_WEIGHT_FORMAT", "NODE_COORD_TYPE", "DISPLAY_DATA_TYPE")
+TOLD = ("NAME", "COMMENT", "TYPE", "DIMENSION", "CAPACITY", "VEHICLES", "SALESMEN", "SERVICE_TIME", "SCALE",
+        "EDGE_WEIGHT_TYPE", "EDGE_WEIGHT_FORMAT", "NODE_COORD_TYPE", "DISPLAY_DATA_TYPE")
+# How a comment is told without a colon.
+COMMENT = re.compile(r"COMMENT\s+(.*)\Z", re.I)
 # The sections with how many words a line has behind the number of its place.
 COORDINATES, DEMANDS, WINDOWS, SERVICES, DEPOTS = (
     "NODE_COORD_SECTION", "DEMAND_SECTION", "TIME_WINDOW_SECTION", "SERVICE_TIME_SECTION", "DEPOT_SECTION")
@@ -27,6 +29,8 @@ class Sections:
         below = None
         for line, told in text.filled():
             found = KEY.match(told)
+            if not found and COMMENT.match(told):
+                continue
             if found and found[1].upper() == "EOF":
                 return
             if found:
@@ -96,13 +100,36 @@ def services(found, numbers, depot, quantities, notes):
     return {number: [(line, "0" if number == depot else word)] for number in numbers}
 
 
+def windows(found, places, quantities):
+    """The windows by the number of their place; in their stead the horizon, where there is one."""
+    if WINDOWS in found.sections:
+        quantities.refuse_horizon(found.sections[WINDOWS][0])
+    elif quantities.horizon is not None:
+        return {number: [(number.line, quantities.end_of_day(column)) for column in ("ready", "due")]
+                for number in places}
+    elif found.keys.get("TYPE", (1, ""))[1].upper() == "CVRP":
+        found.text.refuse(found.keys["TYPE"][0], "TYPE : CVRP without %s" % WINDOWS,
+                          "windows, or the end of the day by --horizon N")
+    return found.section(WINDOWS, quantities)
+
+
+def fleet_of(found, quantities, notes):
+    """The number of vehicles by either key, or None; and the note on a scale."""
+    keys = [key for key in ("VEHICLES", "SALESMEN") if key in found.keys]
+    if len(keys) == 2:
+        found.text.refuse(max(found.keys[key][0] for key in keys), "VEHICLES and SALESMEN", "one of both")
+    if "SCALE" in found.keys:
+        notes.append("SCALE : %s is passed over: it says how finely costs are counted there" % found.keys["SCALE"][1])
+    return quantities.fleet(*found.keys[keys[0]]) if keys else None
+
+
 def read(text, quantities):
     found, notes = Sections(text), ["each arc is truncated to a tenth here, however EUC_2D is rounded elsewhere"]
     if "EDGE_WEIGHT_TYPE" not in found.keys:
         text.at_end("EDGE_WEIGHT_TYPE : EUC_2D")
     places = found.section(COORDINATES, quantities)
     depot = found.depot(places, quantities)
-    parts = [places, found.section(DEMANDS, quantities), found.section(WINDOWS, quantities),
+    parts = [places, found.section(DEMANDS, quantities), windows(found, places, quantities),
              services(found, places, depot, quantities, notes)]
     for key, part in zip((DEMANDS, WINDOWS, SERVICES), parts[1:]):
         judge_numbers(found, key, part, places)
@@ -111,9 +138,9 @@ def read(text, quantities):
         if text.whole(line, word, "a dimension", 0, 10 ** 9) != len(places):
             text.refuse(line, quoted(word), "the %d of %s" % (len(places), COORDINATES))
     nodes = {number: quantities.row([cell for part in parts for cell in part[number]]) for number in places}
-    fleet, capacity = (read_(*found.keys[key]) if key in found.keys else None for key, read_ in (
-        ("VEHICLES", quantities.fleet), ("CAPACITY", quantities.capacity)))
-    return Read(found.keys.get("NAME", (1, ""))[1], fleet, capacity, nodes, depot, notes)
+    fleet, capacity = fleet_of(found, quantities, notes), found.keys.get("CAPACITY")
+    return Read(found.keys.get("NAME", (1, ""))[1], fleet, capacity and quantities.capacity(*capacity), nodes, depot,
+                notes, None)
 
 
 def judge_numbers(found, key, part, places):

@@ -1,0 +1,99 @@
+"""What each report has in common: its frame, its looks on screen and paper, and what answers to the pointer."""
+
+STYLE = """
+:root { color-scheme: light; }
+body { font: 15px/1.5 system-ui, sans-serif; color: #1b1b1b; background: #fff; max-width: 1240px; margin: 0 auto;
+  padding: 1.2rem; }
+h1 { font-size: 1.5rem; margin: 0 0 .4rem; }
+h2 { font-size: 1.1rem; margin: 2rem 0 .6rem; border-bottom: 1px solid #ccc; }
+.answer { font-size: 1.15rem; }
+.note { color: #555; font-size: .87rem; max-width: 60rem; }
+table { border-collapse: collapse; font-variant-numeric: tabular-nums; }
+th, td { padding: .15rem .7rem; text-align: right; font-weight: normal; white-space: nowrap; }
+thead th { color: #555; border-bottom: 1px solid #ccc; }
+tbody th { text-align: left; font-weight: bold; padding-top: .8rem; }
+.times td:nth-child(2) { text-align: left; }
+.pairs td:first-child { text-align: left; color: #555; }
+.load { position: relative; width: 9rem; background: #eee; text-align: center; }
+.load i { position: absolute; left: 0; top: 0; bottom: 0; background: #b9d4e8; }
+.load b { position: relative; font-weight: normal; }
+.picture, section table { max-width: 100%; overflow-x: auto; }
+section table { display: block; }
+.picture svg { width: 100%; min-width: 620px; height: auto; }
+.map svg { min-width: 420px; }
+#in-figures, #vehicles { display: inline-block; vertical-align: top; margin-right: 3rem; max-width: 100%; }
+#vehicles .note { max-width: 36rem; }
+.figures th:nth-child(4) { text-align: center; }
+code { background: #f4f4f4; padding: 0 .2rem; font-size: .9em; }
+.tree svg { max-width: 860px; }
+pre { background: #f4f4f4; padding: .7rem; overflow-x: auto; }
+.route { transition: opacity .12s; }
+tr.route, tbody.route, g.route { cursor: pointer; }
+.one .route { opacity: .12; }
+.one .route.lit { opacity: 1; }
+tr.route.lit, tbody.route.lit { background: #fff6d6; }
+tr.route:focus { outline: 2px solid #0072b2; }
+@media print {
+  body { max-width: none; padding: 0; font-size: 10pt; }
+  section { break-inside: avoid; }
+  #timetable { break-inside: auto; }
+  #in-figures, #vehicles { display: block; }
+  tbody.route { break-inside: avoid; }
+  .route { opacity: 1 !important; }
+  .picture, section table { overflow: visible; }
+  .picture svg { min-width: 0; max-height: 24cm; }
+  * { print-color-adjust: exact; -webkit-print-color-adjust: exact; }
+}
+"""
+
+# A route is lit while a pointer rests on it or a key has come to it; a click or Enter keeps it lit.
+SCRIPT = """
+(function () {
+  var kept = null;
+  function light(route) {
+    document.body.classList.toggle('one', route !== null);
+    document.querySelectorAll('.route').forEach(function (part) {
+      part.classList.toggle('lit', part.getAttribute('data-route') === route);
+    });
+  }
+  function routeOf(event) {
+    var part = event.target.closest ? event.target.closest('.route') : null;
+    return part ? part.getAttribute('data-route') : null;
+  }
+  function keep(route) {
+    kept = route === kept ? null : route;
+    light(kept);
+  }
+  document.addEventListener('mouseover', function (event) {
+    if (kept === null) { light(routeOf(event)); }
+  });
+  document.addEventListener('focusin', function (event) {
+    if (kept === null) { light(routeOf(event)); }
+  });
+  document.addEventListener('click', function (event) { keep(routeOf(event)); });
+  document.addEventListener('keydown', function (event) {
+    if (event.key === 'Escape') { keep(null); }
+    if (event.key === 'Enter') { keep(routeOf(event)); }
+  });
+}());
+"""
+
+SHELL = """<!DOCTYPE html>
+<html lang="en" xmlns="http://www.w3.org/1999/xhtml">
+<head>
+<meta charset="utf-8"/>
+<meta name="viewport" content="width=device-width, initial-scale=1"/>
+<meta http-equiv="Content-Security-Policy"
+  content="default-src 'none'; style-src 'unsafe-inline'; script-src 'unsafe-inline'"/>
+<title>%(name)s</title>
+<style>%(style)s</style>
+</head>
+<body>
+<h1>%(name)s</h1>
+<p>%(asked)s</p>
+<p class="answer">%(answer)s</p>
+%(body)s
+<script>%(script)s</script>
+</body>
+</html>
+"""
