@@ -2,29 +2,12 @@
 import heapq
 
 from instances import Instance
+from reasons import earliest
 from texts import shown
 from tool import listed
 
 # How many customers of a kind are named.
 MOST_NAMED = 8
-
-
-def earliest(instance):
-    """When service can begin at each place at the earliest, by any way over others that are open then; None where the
-    place is never reached in time."""
-    found, rest, done = {0: instance.ready(0)}, [(instance.ready(0), 0)], set()
-    while rest:
-        time, at = heapq.heappop(rest)
-        if at in done:
-            continue
-        done.add(at)
-        for i in range(1, instance.count + 1):
-            begin = max(time + instance.service(at) + instance.arc[at][i], instance.ready(i))
-            if begin < found.get(i, begin + 1):
-                found[i] = begin
-                if begin <= instance.due(i):
-                    heapq.heappush(rest, (begin, i))
-    return found
 
 
 def ways_back(instance):
