@@ -22,4 +22,5 @@ pub use memory::Memory;
 pub use nearness::Nearness;
 pub use neighbours::LIST_SIZE;
 pub use step::Step;
+pub use tables::allowed_rows;
 pub use task::Task;

@@ -119,8 +119,8 @@ fn narrow(table: &mut [CustomerSet], region: &Region)
     require_each(table, count, region.required_arcs());
 }
 
-/// The rows to which a route of the region may go, from each row.
-pub(crate) fn allowed_rows(
+/// The rows to which a route of the region may go, from each row. Errs where memory is refused.
+pub fn allowed_rows(
     alloc: Global,
     instance: &Instance,
     region: &Region,

@@ -36,6 +36,9 @@ impl Part {
 /// A multiplier after the rise by which it is measured has changed.
 /// No contract: a rule of search; any prices are sound.
 pub fn scaled(multiplier: i64, old: i64, new: i64) -> i64 {
+    if multiplier == 0 {
+        return 0;
+    }
     let product = i128::from(multiplier).saturating_mul(i128::from(new));
     let quotient = product.checked_div(i128::from(old)).unwrap_or(0);
     quotient.clamp(0, i128::from(i64::MAX)) as i64
@@ -50,8 +53,9 @@ pub struct Floor {
 }
 
 impl Floor {
-    /// The floor of 0.
-    pub(crate) fn new(has_below: bool) -> Floor {
+    /// The floor of 0, which has a part below 0 or not.
+    /// No contract: a rule of search; any prices are sound.
+    pub fn new(has_below: bool) -> Floor {
         let zero = Part {
             value: 0,
             multiplier: 0,

@@ -1,7 +1,7 @@
 //! What a route says of prices.
 
+use crate::fours::Four;
 use crate::pseudocosts::Side;
-use crate::trial::Trial;
 use branching::Arc;
 
 /// What a route says of prices: those of its stops and the floor sum to at most its cost.
@@ -9,6 +9,8 @@ use branching::Arc;
 pub struct HalfSpace<'r> {
     /// The customers, in order.
     pub stops: &'r [u16],
+    /// The same, four by four, and behind them the depot.
+    pub fours: &'r [Four],
     /// In grains.
     pub cost: i64,
     /// The sum of the squares of how often each customer is visited.
@@ -22,23 +24,6 @@ pub struct HalfSpace<'r> {
 }
 
 impl HalfSpace<'_> {
-    /// Projects a trial onto the half-space, as far as the multiplier allows (Hildreth 1957), and
-    /// answers how far.
-    pub(crate) fn project(&mut self, trial: &mut Trial) -> u64 {
-        let slack = trial.slack(self);
-        if slack >= 0 && self.multiplier == 0 {
-            return 0;
-        }
-        let floors = if trial.floor.below.is_some() { 2 } else { 1 };
-        let weight = self.weight.saturating_add(floors).max(1);
-        let fall = self.multiplier.min(slack.div_euclid(weight));
-        if fall != 0 {
-            self.multiplier = self.multiplier.saturating_sub(fall);
-            trial.raise_along(self.stops, fall);
-        }
-        fall.unsigned_abs().saturating_mul(weight.unsigned_abs())
-    }
-
     /// Whether a child by an arc forbids the route: it goes along the arc where that is forbidden, or
     /// leaves or enters a customer of the arc by another one where that is required.
     /// No contract: a rule of search; any prices are sound.

@@ -4,19 +4,23 @@
 #![tactic(auto)]
 
 mod arc_flow;
+mod binding;
 mod floor;
+mod fours;
 mod half_space;
 mod merit;
 mod pooled_route;
 mod projection;
 mod pseudocosts;
+mod sweeps;
 mod trial;
 
 pub use arc_flow::{ArcFlow, merge};
 pub use floor::{Floor, scaled};
+pub use fours::Four;
 pub use half_space::HalfSpace;
 pub use merit::Merit;
-pub use pooled_route::{GRAINS_OF_TENTH, PooledRoute, RouteShare, arc_cost};
+pub use pooled_route::{GRAINS_OF_TENTH, PooledRoute, RouteShare, arc_cost, cost_of};
 pub use projection::Projection;
 pub use pseudocosts::{Pseudocosts, Side};
-pub use trial::{Trial, reduced_cost};
+pub use trial::Trial;

@@ -2,9 +2,10 @@
 
 use crate::arc_flow::ArcFlow;
 use crate::floor::scaled;
+use crate::fours::{Four, fours_of};
 use crate::half_space::HalfSpace;
-use branching::{Arc, Region};
-use prices::allows_route;
+use branching::Arc;
+use fronts::CustomerSet;
 use solomon_reader::Instance;
 use std::alloc::{AllocError, Global};
 
@@ -28,6 +29,8 @@ pub struct PooledRoute {
     number: u64,
     /// The customers, in order.
     pub stops: Vec<u16>,
+    /// The same, four by four, and behind them the depot.
+    pub fours: Vec<Four>,
     /// In grains.
     pub cost: i64,
     /// The sum of the squares of how often each customer is visited.
@@ -52,7 +55,8 @@ pub fn arc_cost(instance: &Instance, from: u16, to: u16) -> i64 {
 }
 
 /// The cost of a route in grains.
-fn cost_of(instance: &Instance, stops: &[u16]) -> i64 {
+/// No contract: a rule of search; any prices are sound.
+pub fn cost_of(instance: &Instance, stops: &[u16]) -> i64 {
     let mut cost: i64 = 0;
     let mut from = 0;
     for stop in stops {
@@ -72,6 +76,22 @@ fn weight_of(stops: &[u16]) -> i64 {
     weight
 }
 
+/// Whether each arc of a route is one of these, from each row to those that may follow on it.
+fn are_allowed(rows: &[CustomerSet], stops: &[u16]) -> bool {
+    let is_one = |from: u16, to: u16| match rows.get(usize::from(from)) {
+        Some(row) => row.contains(to),
+        None => false,
+    };
+    let mut from = 0;
+    for stop in stops {
+        if !is_one(from, *stop) {
+            return false;
+        }
+        from = *stop;
+    }
+    is_one(from, 0)
+}
+
 impl PooledRoute {
     /// A route that was met as the one of this number, at this pricing.
     /// No contract: a rule of search; any prices are sound.
@@ -85,6 +105,7 @@ impl PooledRoute {
         Ok(PooledRoute {
             number,
             stops: Vec::from_slice(alloc, stops)?,
+            fours: fours_of(alloc, stops)?,
             cost: cost_of(instance, stops),
             weight: weight_of(stops),
             multiplier: 0,
@@ -102,12 +123,14 @@ impl PooledRoute {
         }
     }
 
-    /// Takes the multiplier that the route has among these shares of the rise, or none.
+    /// Takes the multiplier that the route has among these shares of the rise, which stand by number, or
+    /// none.
     /// No contract: a rule of search; any prices are sound.
     pub fn take_share(&mut self, shares: &[RouteShare], rise: i64) {
-        self.multiplier = match shares.iter().find(|share| share.number == self.number) {
-            Some(share) => scaled(share.millionths, WHOLE, rise),
-            None => 0,
+        let place = shares.partition_point(|share| share.number < self.number);
+        self.multiplier = match shares.get(place) {
+            Some(share) if share.number == self.number => scaled(share.millionths, WHOLE, rise),
+            _ => 0,
         };
     }
 
@@ -119,10 +142,11 @@ impl PooledRoute {
             || self.multiplier == other.multiplier && self.last_use < other.last_use
     }
 
-    /// Lets the route count in a region only where each of its arcs is allowed.
+    /// Lets the route count only where each of its arcs is one of these, from each row to those that may
+    /// follow on it.
     /// No contract: a rule of search; any prices are sound.
-    pub fn enter(&mut self, region: &Region) {
-        self.is_allowed = allows_route(region, self.stops.as_slice());
+    pub fn enter(&mut self, rows: &[CustomerSet]) {
+        self.is_allowed = are_allowed(rows, self.stops.as_slice());
         if !self.is_allowed {
             self.multiplier = 0;
         }
@@ -133,6 +157,7 @@ impl PooledRoute {
     pub fn half_space(&self, place: usize) -> HalfSpace<'_> {
         HalfSpace {
             stops: self.stops.as_slice(),
+            fours: self.fours.as_slice(),
             cost: self.cost,
             weight: self.weight,
             multiplier: self.multiplier,

@@ -1,7 +1,9 @@
 //! The projection of prices onto what routes say.
 
 use crate::half_space::HalfSpace;
+use crate::sweeps::Sweeps;
 use crate::trial::Trial;
+use std::alloc::{AllocError, Global};
 
 /// A sweep that goes less far ends a projection, in grains; a route counts as violated from here on.
 const ENOUGH: u64 = 20;
@@ -20,70 +22,82 @@ pub struct Projection<'r> {
 
 impl<'r> Projection<'r> {
     /// Moves a trial by the multipliers; the routes that have one are the active ones.
-    fn begin(&mut self, trial: &mut Trial) {
-        for space in self.spaces.iter_mut() {
+    fn begin(&mut self, sweeps: &mut Sweeps<'r>, trial: &mut Trial) -> Result<(), AllocError> {
+        for (place, space) in self.spaces.iter_mut().enumerate() {
             space.is_active = space.multiplier > 0;
             if space.is_active {
-                trial.raise_along(space.stops, 0i64.saturating_sub(space.multiplier));
+                trial.raise_along(space.fours, 0i64.saturating_sub(space.multiplier));
+                sweeps.add(space, place)?;
             }
         }
+        Ok(())
     }
 
     /// Makes the violated routes active, and answers whether there were any.
-    fn activate(&mut self, trial: &mut Trial) -> bool {
+    fn activate(&mut self, sweeps: &mut Sweeps<'r>, trial: &mut Trial) -> Result<bool, AllocError> {
         self.looks = self.looks.saturating_add(self.spaces.len() as u64);
         let mut is_any = false;
-        for space in self.spaces.iter_mut() {
+        for (place, space) in self.spaces.iter_mut().enumerate() {
             if !space.is_active && trial.slack(space) <= -(ENOUGH as i64) {
                 space.is_active = true;
                 is_any = true;
-                space.project(trial);
+                sweeps.add(space, place)?;
+                sweeps.project_last(trial);
             }
         }
-        is_any
-    }
-
-    /// Projects a trial onto what each active route says, one after the other, and answers the
-    /// farthest.
-    fn sweep(&mut self, trial: &mut Trial) -> u64 {
-        let mut farthest = 0;
-        let mut looks: u64 = 0;
-        for space in self.spaces.iter_mut() {
-            if space.is_active {
-                farthest = space.project(trial).max(farthest);
-                looks = looks.saturating_add(1);
-            }
+        if is_any {
+            sweeps.sort()?;
         }
-        self.looks = self.looks.saturating_add(looks);
-        trial.floor.project().max(farthest)
+        Ok(is_any)
     }
 
     /// Sweeps until a sweep goes less far than enough, at most so many times, and answers how often,
     /// and whether the last one was enough.
-    fn sweep_on(&mut self, trial: &mut Trial, sweeps: u32) -> (u32, bool) {
-        for made in 0..sweeps {
-            if self.sweep(trial) < ENOUGH {
+    fn sweep_on(&mut self, sweeps: &mut Sweeps<'r>, trial: &mut Trial, most: u32) -> (u32, bool) {
+        for made in 0..most {
+            self.looks = self.looks.saturating_add(sweeps.count());
+            if sweeps.sweep(trial) < ENOUGH {
                 return (made + 1, true);
             }
         }
-        (sweeps, false)
+        (most, false)
     }
 
-    /// Projects a trial onto what all routes say, nearly, from where the multipliers lead, by at most so
-    /// many sweeps. Most routes don't bind, so sweeps go only over those that did or were violated.
-    /// No contract: a rule of search; any prices are sound.
-    pub fn project(&mut self, trial: &mut Trial, sweeps: u32) {
-        self.begin(trial);
-        let mut left = sweeps;
+    /// Activates and sweeps in turn until nothing is violated, by at most so many sweeps.
+    fn settle(
+        &mut self,
+        sweeps: &mut Sweeps<'r>,
+        trial: &mut Trial,
+        most: u32,
+    ) -> Result<(), AllocError> {
+        let mut left = most;
         let mut is_enough = false;
-        for _ in 0..sweeps {
-            let is_any = self.activate(trial);
+        for _ in 0..most {
+            let is_any = self.activate(sweeps, trial)?;
             if left == 0 || is_enough && !is_any {
-                return;
+                return Ok(());
             }
-            let (made, was_enough) = self.sweep_on(trial, left.min(SWEEPS_BETWEEN));
+            let (made, was_enough) = self.sweep_on(sweeps, trial, left.min(SWEEPS_BETWEEN));
             left = left.saturating_sub(made);
             is_enough = was_enough;
         }
+        Ok(())
+    }
+
+    /// Projects a trial onto what all routes say, nearly, from where the multipliers lead, by at most so
+    /// many sweeps. Most routes don't bind, so sweeps go only over those that did or were violated. Where
+    /// memory is refused, the multipliers stay as they were.
+    /// No contract: a rule of search; any prices are sound.
+    pub fn project(
+        &mut self,
+        alloc: Global,
+        trial: &mut Trial,
+        most: u32,
+    ) -> Result<(), AllocError> {
+        let mut sweeps = Sweeps::new(alloc, trial);
+        self.begin(&mut sweeps, trial)?;
+        self.settle(&mut sweeps, trial, most)?;
+        sweeps.give_back(self.spaces.as_mut_slice());
+        Ok(())
     }
 }

@@ -21,10 +21,16 @@ struct Rises {
     count: u32,
 }
 
+/// By what rises are ordered.
+fn key_of(arc: Arc, side: Side) -> (u16, u16, bool) {
+    (arc.from, arc.to, side == Side::Unused)
+}
+
 /// For each arc and side the rises of merit that were seen in the children: what another child by the
 /// arc is likely to rise by, whatever its parent.
 #[derive(Drop)]
 pub struct Pseudocosts {
+    /// In the order of their keys.
     rises: Vec<Rises>,
 }
 
@@ -37,30 +43,51 @@ impl Pseudocosts {
         }
     }
 
+    /// Where the rises of an arc on a side stand, or are to stand.
+    fn place(&self, arc: Arc, side: Side) -> usize {
+        let key = key_of(arc, side);
+        self.rises
+            .partition_point(|seen| key_of(seen.arc, seen.side) < key)
+    }
+
     /// The mean rise in grains, if one was seen.
     /// No contract: a rule of search; any prices are sound.
     pub fn mean(&self, arc: Arc, side: Side) -> Option<i128> {
-        let is_it = |seen: &&Rises| seen.arc == arc && seen.side == side;
-        let seen = self.rises.iter().find(is_it)?;
-        seen.sum.checked_div(i128::from(seen.count))
+        let seen = self.rises.get(self.place(arc, side))?;
+        if seen.arc == arc && seen.side == side {
+            seen.sum.checked_div(i128::from(seen.count))
+        } else {
+            None
+        }
+    }
+
+    /// Whether rises were seen in both children by an arc.
+    /// No contract: a rule of search; any prices are sound.
+    pub fn knows(&self, arc: Arc) -> bool {
+        self.mean(arc, Side::Used).is_some() && self.mean(arc, Side::Unused).is_some()
     }
 
     /// Takes in a rise in grains.
     /// No contract: a rule of search; any prices are sound.
     pub fn note(&mut self, arc: Arc, side: Side, rise: i128) -> Result<(), AllocError> {
-        for seen in self.rises.iter_mut() {
-            if seen.arc == arc && seen.side == side {
+        let place = self.place(arc, side);
+        match self.rises.get_mut(place) {
+            Some(seen) if seen.arc == arc && seen.side == side => {
                 seen.sum = seen.sum.saturating_add(rise);
                 seen.count = seen.count.saturating_add(1);
-                return Ok(());
+                Ok(())
+            }
+            _ => {
+                let seen = Rises {
+                    arc,
+                    side,
+                    sum: rise,
+                    count: 1,
+                };
+                let place = place.min(self.rises.len());
+                self.rises.insert(place, seen)?;
+                Ok(())
             }
         }
-        self.rises.push(Rises {
-            arc,
-            side,
-            sum: rise,
-            count: 1,
-        })?;
-        Ok(())
     }
 }

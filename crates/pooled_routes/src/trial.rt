@@ -6,36 +6,21 @@ ghost use Rattle.solomon_reader.specs.Problem.{customer_count};
 ghost use Rattle.solomon_reader.specs.CertificateText.{IsPrice};
 
 use crate::floor::Floor;
+use crate::fours::{Four, price, raise, reduced};
 use crate::half_space::HalfSpace;
 use solomon_reader::{Instance, MOST_PRICE};
 use std::alloc::{AllocError, Global};
 
-/// Prices in grains, that of customer i at i - 1, also outside their range, and the floor of the reduced
-/// costs.
+/// Prices in grains, that of row i at i and 0 for the depot, also outside their range, and the floor of the
+/// reduced costs.
 #[derive(Drop)]
 pub struct Trial {
     pub prices: Vec<i64>,
     pub floor: Floor,
 }
 
-/// The price of a customer among these, in grains; 0 where there is none.
-fn price_of(prices: &[i64], customer: u16) -> i64 {
-    let place = usize::from(customer).wrapping_sub(1);
-    prices.get(place).copied().unwrap_or(0)
-}
-
-/// The cost of a route less the prices of its stops, in grains; that of customer i stands at i - 1.
-/// No contract: a rule of search; any prices are sound.
-pub fn reduced_cost(prices: &[i64], stops: &[u16], cost: i64) -> i64 {
-    let mut reduced = cost;
-    for stop in stops {
-        reduced = reduced.saturating_sub(price_of(prices, *stop));
-    }
-    reduced
-}
-
 impl Trial {
-    /// These prices, each of them this much higher.
+    /// These prices, that of customer i at i - 1, each of them this much higher.
     /// No contract: a rule of search; any prices are sound.
     pub fn new(
         alloc: Global,
@@ -43,28 +28,35 @@ impl Trial {
         rise: i64,
         floor: Floor,
     ) -> Result<Trial, AllocError> {
-        let prices = prices
-            .iter()
-            .map(|price| price.saturating_add(rise))
-            .collect(alloc)?;
-        Ok(Trial { prices, floor })
+        let mut raised = Vec::with_capacity(alloc, prices.len().saturating_add(1))?;
+        raised.push(0)?;
+        for price in prices {
+            raised.push(price.saturating_add(rise))?;
+        }
+        Ok(Trial {
+            prices: raised,
+            floor,
+        })
+    }
+
+    /// The cost of a route less the prices of its stops, in grains.
+    /// No contract: a rule of search; any prices are sound.
+    #[inline(always)]
+    pub fn reduced_cost(&self, stops: &[Four], cost: i64) -> i64 {
+        reduced(self.prices.as_slice(), stops, cost)
     }
 
     /// How far the prices of a route's stops and the floor are from its cost, in grains; below 0 where
     /// they are beyond it.
     pub(crate) fn slack(&self, space: &HalfSpace<'_>) -> i64 {
-        let reduced = reduced_cost(self.prices.as_slice(), space.stops, space.cost);
+        let reduced = self.reduced_cost(space.fours, space.cost);
         reduced.saturating_sub(self.floor.value())
     }
 
     /// Raises the price of each stop, as often as it stands there, and the floor.
-    pub(crate) fn raise_along(&mut self, stops: &[u16], change: i64) {
+    pub(crate) fn raise_along(&mut self, stops: &[Four], change: i64) {
         self.floor = self.floor.raised(change);
-        for stop in stops {
-            if let Some(price) = self.prices.get_mut(usize::from(*stop).wrapping_sub(1)) {
-                *price = price.saturating_add(change);
-            }
-        }
+        raise(self.prices.as_mut_slice(), stops, change);
     }
 
     /// The price of a customer, cut to the range of prices.
@@ -72,7 +64,7 @@ impl Trial {
         ensures { IsPrice result }
     {
         let most = MOST_PRICE as i64;
-        price_of(self.prices.as_slice(), customer).clamp(-most, most)
+        price(self.prices.as_slice(), customer).clamp(-most, most)
     }
 
     /// The prices of an instance's customers, cut to their range.

@@ -49,7 +49,6 @@ impl Ascent {
         let merit = Merit::new(priced.instance(), goal.routes);
         let centre = Centre::new(alloc, priced, merit)?;
         let rise = rise_in_range(goal.rise);
-        pool.enter(priced.region());
         pool.scale(rise);
         pool.add(priced.instance(), priced.least().route.as_slice())?;
         Ok(Ascent {

@@ -2,7 +2,7 @@
 
 use crate::ascent::Ascent;
 use branching::Arc;
-use pooled_routes::{HalfSpace, Projection, Side, Trial, reduced_cost};
+use pooled_routes::{Floor, HalfSpace, Projection, Side, Trial};
 use std::alloc::{AllocError, Global};
 
 /// The most sweeps of a trial.
@@ -30,11 +30,11 @@ pub(crate) struct ChildTrial {
 
 /// Routes of lower rank serve better: those that make up the prices, and then those of the least
 /// reduced cost at these prices.
-fn rank(space: &HalfSpace<'_>, prices: &[i64]) -> i64 {
+fn rank(space: &HalfSpace<'_>, prices: &Trial) -> i64 {
     if space.multiplier > 0 {
         i64::MIN
     } else {
-        reduced_cost(prices, space.stops, space.cost)
+        prices.reduced_cost(space.fours, space.cost)
     }
 }
 
@@ -50,7 +50,8 @@ impl<'r> PoolTrial<'r> {
     ) -> Result<PoolTrial<'r>, AllocError> {
         if spaces.len() > most {
             let prices = ascent.centre.prices.as_slice();
-            spaces.sort_by_key(|space| rank(space, prices))?;
+            let prices = Trial::new(alloc, prices, 0, Floor::new(false))?;
+            spaces.sort_by_key(|space| rank(space, &prices))?;
             spaces.truncate(most);
         }
         Ok(PoolTrial {
@@ -61,18 +62,27 @@ impl<'r> PoolTrial<'r> {
         })
     }
 
+    /// What those of the pool's routes say that a child doesn't forbid.
+    fn spaces_of_child(&self, arc: Arc, side: Side) -> Result<Vec<HalfSpace<'r>>, AllocError> {
+        let mut spaces = Vec::with_capacity(self.alloc, self.spaces.len())?;
+        for space in &self.spaces {
+            if !space.is_forbidden_by(arc, side) {
+                spaces.push(*space)?;
+            }
+        }
+        Ok(spaces)
+    }
+
     /// The prices that a child's ascent would come to if it had only those of the pool's routes that the
     /// child doesn't forbid.
     pub(crate) fn of_child(&self, arc: Arc, side: Side) -> Result<ChildTrial, AllocError> {
-        let mut spaces = self.spaces.to_vec(self.alloc)?;
-        spaces.retain(|space| !space.is_forbidden_by(arc, side));
+        let spaces = self.spaces_of_child(arc, side)?;
         let mut projection = Projection { spaces, looks: 0 };
         let mut trial = self.ascent.start(self.alloc, self.rise)?;
-        projection.project(&mut trial, MOST_SWEEPS);
-        let prices = trial.prices.as_slice();
+        projection.project(self.alloc, &mut trial, MOST_SWEEPS)?;
         let spaces = projection.spaces.iter();
         let least = spaces
-            .map(|space| reduced_cost(prices, space.stops, space.cost))
+            .map(|space| trial.reduced_cost(space.fours, space.cost))
             .min();
         Ok(ChildTrial {
             rise: least.map(|least| self.ascent.rise_to(&trial, least)),

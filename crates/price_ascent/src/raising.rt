@@ -147,6 +147,9 @@ pub fn raise<'i>(
     if let Some(start) = &start {
         pool.begin(start);
     }
+    if pool.enter(&priced).is_err() {
+        return priced;
+    }
     let tried = price_start(alloc, pool, &priced, &start, goal.labels);
     let ascent = Ascent::new(alloc, pool, tried.as_ref().unwrap_or(&priced), goal);
     let higher = higher_if(priced, tried);

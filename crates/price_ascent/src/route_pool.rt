@@ -5,12 +5,13 @@ use crate::child_start::ChildStart;
 use crate::pool_trial::PoolTrial;
 use crate::starting::trial_rise;
 use branching::{Arc, Region};
+use fronts::allowed_rows;
 use labelling::{Hints, Nearness};
 use pooled_routes::{
-    ArcFlow, HalfSpace, PooledRoute, Projection, Pseudocosts, RouteShare, Side, Trial, merge,
-    reduced_cost, scaled,
+    ArcFlow, Floor, HalfSpace, PooledRoute, Projection, Pseudocosts, RouteShare, Side, Trial,
+    cost_of, merge, scaled,
 };
-use prices::allows_route;
+use prices::{Priced, allows_route};
 use solomon_reader::Instance;
 use std::alloc::{AllocError, Global};
 
@@ -84,12 +85,9 @@ impl<'i> RoutePool<'i> {
     /// the same is kept once, and the empty one isn't kept. Where the pool is full, the route that was
     /// of least use makes room. No contract: any prices are sound, whatever stands in a pool.
     pub fn add(&mut self, instance: &Instance, stops: &[u16]) -> Result<(), AllocError> {
-        if stops.is_empty()
-            || self
-                .routes
-                .iter()
-                .any(|route| route.stops.as_slice() == stops)
-        {
+        let cost = cost_of(instance, stops);
+        let is_it = |route: &PooledRoute| route.cost == cost && route.stops.as_slice() == stops;
+        if stops.is_empty() || self.routes.iter().any(is_it) {
             return Ok(());
         }
         let route = PooledRoute::new(self.alloc, instance, stops, self.met, self.pricings)?;
@@ -130,10 +128,11 @@ impl<'i> RoutePool<'i> {
     /// The customers of the route of least reduced cost at these prices among those that a region allows;
     /// none where it allows none.
     pub(crate) fn cheapest(&self, region: &Region, prices: &[i64]) -> Result<Vec<u16>, AllocError> {
+        let rows = Trial::new(self.alloc, prices, 0, Floor::new(false))?;
         let mut cheapest: Option<(&[u16], i64)> = None;
-        for route in &self.routes {
+        for route in self.routes.iter().filter(|route| route.is_allowed) {
             let stops = route.stops.as_slice();
-            let cost = reduced_cost(prices, stops, route.cost);
+            let cost = rows.reduced_cost(route.fours.as_slice(), route.cost);
             let is_cheaper = cheapest.is_none_or(|(_, least)| cost < least);
             if is_cheaper && allows_route(region, stops) {
                 cheapest = Some((stops, cost));
@@ -219,11 +218,13 @@ impl<'i> RoutePool<'i> {
         }
     }
 
-    /// Lets only the routes count that a region allows.
-    pub(crate) fn enter(&mut self, region: &Region) {
+    /// Lets only the routes count that a leaf allows.
+    pub(crate) fn enter(&mut self, leaf: &Priced<'_>) -> Result<(), AllocError> {
+        let rows = allowed_rows(self.alloc, leaf.instance(), leaf.region())?;
         for route in self.routes.iter_mut() {
-            route.enter(region);
+            route.enter(rows.as_slice());
         }
+        Ok(())
     }
 
     /// Measures the multipliers by another rise.
@@ -236,7 +237,7 @@ impl<'i> RoutePool<'i> {
 
     /// What the routes say of prices that the region entered last allows.
     fn half_spaces(&self) -> Result<Vec<HalfSpace<'_>>, AllocError> {
-        let mut spaces = Vec::new(self.alloc);
+        let mut spaces = Vec::with_capacity(self.alloc, self.routes.len())?;
         for (place, route) in self.routes.iter().enumerate() {
             if route.is_allowed {
                 spaces.push(route.half_space(place))?;
@@ -250,7 +251,7 @@ impl<'i> RoutePool<'i> {
     fn projected(&self, trial: &mut Trial) -> Result<(Vec<(usize, i64)>, u64), AllocError> {
         let spaces = self.half_spaces()?;
         let mut projection = Projection { spaces, looks: 0 };
-        projection.project(trial, MOST_SWEEPS);
+        projection.project(self.alloc, trial, MOST_SWEEPS)?;
         let spaces = projection.spaces.iter();
         let multipliers = spaces
             .map(|space| (space.place, space.multiplier))
@@ -285,12 +286,13 @@ impl<'i> RoutePool<'i> {
         PoolTrial::new(self.alloc, ascent, spaces, most, rise)
     }
 
-    /// The shares of the rise that the multipliers are.
+    /// The shares of the rise that the multipliers are, by the numbers of the routes.
     fn shares(&self) -> Result<Vec<RouteShare>, AllocError> {
         let mut shares = Vec::new(self.alloc);
         for route in self.routes.iter().filter(|route| route.multiplier > 0) {
             shares.push(route.share(self.rise))?;
         }
+        shares.sort_by_key(|share| share.number)?;
         Ok(shares)
     }
 

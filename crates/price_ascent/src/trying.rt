@@ -73,28 +73,46 @@ fn rise_of(tried: &ChildTrial, seen: Option<i128>, gap: i128) -> i128 {
     }
 }
 
-/// Tries both children by an arc, unless rises were seen in both.
+/// The most that a child may rise by as it counts, in grains, as far as rises were seen.
+fn most_rise(seen: Option<i128>, gap: i128) -> i128 {
+    seen.unwrap_or(gap).min(gap)
+}
+
+/// An arc with what it can be worth at most, whose children weren't both tried.
+fn untried(arc: Arc, score: i128, routes: u64) -> TriedArc {
+    TriedArc {
+        arc,
+        score,
+        used: None,
+        unused: None,
+        routes,
+    }
+}
+
+/// Tries both children by an arc, unless rises were seen in both, or it can't be worth more than the best
+/// one so far.
 fn try_arc(
     ascent: &Ascent,
     trials: &PoolTrial<'_>,
     seen: &Pseudocosts,
     arc: Arc,
+    best: i128,
 ) -> Result<TriedArc, AllocError> {
     let gap = ascent.gap();
     let (used_mean, unused_mean) = (seen.mean(arc, Side::Used), seen.mean(arc, Side::Unused));
-    if let (Some(used), Some(unused)) = (used_mean, unused_mean) {
-        return Ok(TriedArc {
-            arc,
-            score: score(used, unused, gap),
-            used: None,
-            unused: None,
-            routes: 0,
-        });
+    let used_most = most_rise(used_mean, gap);
+    let most = score(used_most, most_rise(unused_mean, gap), gap);
+    if most <= best || used_mean.is_some() && unused_mean.is_some() {
+        return Ok(untried(arc, most, 0));
+    }
+    let unused = trials.of_child(arc, Side::Unused)?;
+    let unused_rise = rise_of(&unused, unused_mean, gap);
+    let most = score(used_most, unused_rise, gap);
+    if most <= best {
+        return Ok(untried(arc, most, unused.routes));
     }
     let used = trials.of_child(arc, Side::Used)?;
-    let unused = trials.of_child(arc, Side::Unused)?;
     let used_rise = rise_of(&used, used_mean, gap);
-    let unused_rise = rise_of(&unused, unused_mean, gap);
     Ok(TriedArc {
         arc,
         score: score(used_rise, unused_rise, gap),
@@ -113,12 +131,15 @@ pub(crate) fn best_arc(
     let Some(ascent) = &pool.ascent else {
         return Ok(None);
     };
-    let arcs = candidates(leaf.region(), pool.flows()?, pool.rise())?;
+    let mut arcs = candidates(leaf.region(), pool.flows()?, pool.rise())?;
+    // Where rises are known, a worth takes no trial, and the best one spares the trials of other arcs.
+    arcs.sort_by_key(|flow| !pool.pseudocosts.knows(flow.arc))?;
     let trials = pool.trials(leaf.instance(), ascent)?;
     let mut best: Option<TriedArc> = None;
     let mut routes: u64 = 0;
     for flow in &arcs {
-        let tried = try_arc(ascent, &trials, &pool.pseudocosts, flow.arc)?;
+        let most = best.as_ref().map_or(0, |best| best.score);
+        let tried = try_arc(ascent, &trials, &pool.pseudocosts, flow.arc, most)?;
         routes = routes.saturating_add(tried.routes);
         if best.as_ref().is_none_or(|best| tried.score > best.score) {
             best = Some(tried);

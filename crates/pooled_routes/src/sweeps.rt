@@ -1,0 +1,76 @@
+//! Sweeps over the half-spaces of the routes that bind prices.
+
+use crate::binding::Binding;
+use crate::half_space::HalfSpace;
+use crate::trial::Trial;
+use std::alloc::{AllocError, Global};
+
+/// What the routes that bind prices say of them, side by side.
+#[derive(Drop)]
+pub(crate) struct Sweeps<'r> {
+    bindings: Vec<Binding<'r>>,
+    /// How many parts the floor has.
+    parts: u8,
+}
+
+impl<'r> Sweeps<'r> {
+    /// Sweeps over nothing, for a trial.
+    pub(crate) fn new(alloc: Global, trial: &Trial) -> Sweeps<'r> {
+        Sweeps {
+            bindings: Vec::new(alloc),
+            parts: if trial.floor.below.is_some() { 2 } else { 1 },
+        }
+    }
+
+    /// How many routes are swept over.
+    pub(crate) fn count(&self) -> u64 {
+        self.bindings.len() as u64
+    }
+
+    /// Sweeps over a half-space, too, that stands at this place.
+    pub(crate) fn add(&mut self, space: &HalfSpace<'r>, place: usize) -> Result<(), AllocError> {
+        let parts = u64::from(self.parts);
+        self.bindings.push(Binding::of(space, place, parts))?;
+        Ok(())
+    }
+
+    /// Projects a trial onto what was added last.
+    pub(crate) fn project_last(&mut self, trial: &mut Trial) {
+        let parts = i64::from(self.parts);
+        if let Some(binding) = self.bindings.last_mut() {
+            let mut floor = trial.floor.value();
+            let fall = binding.project(trial.prices.as_mut_slice(), &mut floor, parts);
+            trial.floor = trial.floor.raised(fall);
+        }
+    }
+
+    /// Sweeps in the order of places from now on.
+    pub(crate) fn sort(&mut self) -> Result<(), AllocError> {
+        self.bindings.sort_by_key(|binding| binding.place)
+    }
+
+    /// Projects a trial onto what each route says, one after the other, and answers the farthest.
+    pub(crate) fn sweep(&mut self, trial: &mut Trial) -> u64 {
+        let parts = i64::from(self.parts);
+        let prices = trial.prices.as_mut_slice();
+        let mut floor = trial.floor.value();
+        let mut risen: i64 = 0;
+        let mut farthest = 0;
+        for binding in self.bindings.iter_mut() {
+            let fall = binding.project(prices, &mut floor, parts);
+            risen = risen.wrapping_add(fall);
+            farthest = binding.distance(fall).max(farthest);
+        }
+        trial.floor = trial.floor.raised(risen);
+        trial.floor.project().max(farthest)
+    }
+
+    /// Gives the half-spaces the multipliers.
+    pub(crate) fn give_back(&self, spaces: &mut [HalfSpace<'_>]) {
+        for binding in &self.bindings {
+            if let Some(space) = spaces.get_mut(binding.place) {
+                space.multiplier = binding.multiplier;
+            }
+        }
+    }
+}

@@ -1,0 +1,165 @@
+//! The customers that are likely to follow on each row.
+
+use crate::width::Width;
+use fronts::Task;
+use solomon_reader::Instance;
+use std::alloc::{AllocError, Global};
+
+/// The grains of a tenth.
+pub(crate) const GRAINS_OF_TENTH: i64 = 1_000;
+
+/// A step from a row to a customer.
+#[derive(Clone, Copy)]
+pub(crate) struct LikelyStep {
+    /// The latest time at which a vehicle may leave for the customer, in tenths.
+    pub(crate) latest: u64,
+    /// How long the way is, in tenths.
+    way: u64,
+    /// When service may begin, and how long it is, in tenths.
+    ready: u64,
+    service: u64,
+    /// What the way and the wait take in the best case, in grains.
+    far: i64,
+    /// What the step adds to the reduced cost at the prices chosen last, in grains.
+    pub(crate) cost: i64,
+    pub(crate) customer: u16,
+    pub(crate) demand: u32,
+    /// The customer's place in the neighbour list of the row.
+    pub(crate) place: u8,
+}
+
+impl LikelyStep {
+    /// When the vehicle may leave the customer that left the row at a time, in tenths.
+    pub(crate) fn leaves(&self, time: u64) -> u64 {
+        let arrival = time.saturating_add(self.way);
+        arrival.max(self.ready).saturating_add(self.service)
+    }
+
+    /// How far the customer is where it has this price, in grains.
+    fn far_at(&self, prices: &[i64]) -> i64 {
+        self.far.saturating_sub(price_of(prices, self.customer))
+    }
+
+    /// The step at these prices.
+    fn at(self, prices: &[i64]) -> LikelyStep {
+        let way = (self.way as i64).saturating_mul(GRAINS_OF_TENTH);
+        LikelyStep {
+            cost: way.saturating_sub(price_of(prices, self.customer)),
+            ..self
+        }
+    }
+}
+
+/// The price of a customer among these, in grains; 0 where there is none.
+fn price_of(prices: &[i64], customer: u16) -> i64 {
+    let place = usize::from(customer).wrapping_sub(1);
+    prices.get(place).copied().unwrap_or(0)
+}
+
+/// The step from a row to a customer, if it can be reached in time; at prices of zero.
+fn step_to(task: &Task<'_>, v: u16, customer: u16) -> Option<LikelyStep>
+    requires v { v < length task.now.instance.now.rows }
+    requires customer { customer < length task.now.instance.now.rows }
+{
+    let instance = task.instance;
+    let way = instance.distance(v, customer).get();
+    let latest = instance.due(customer).checked_sub(way)?;
+    let arrival = instance.ready(0).saturating_add(instance.distance(0, v).get());
+    let earliest = arrival.max(instance.ready(v)).saturating_add(instance.service(v));
+    if v == customer || earliest > latest {
+        return None;
+    }
+    let last = instance.due(v).saturating_add(instance.service(v));
+    let wait = instance.ready(customer).saturating_sub(last.saturating_add(way));
+    let places = task.places.get(usize::from(v))?;
+    Some(LikelyStep {
+        latest,
+        way,
+        ready: instance.ready(customer),
+        service: instance.service(customer),
+        far: (way.saturating_add(wait) as i64).saturating_mul(GRAINS_OF_TENTH),
+        cost: (way as i64).saturating_mul(GRAINS_OF_TENTH),
+        customer,
+        demand: u32::from(instance.demand(customer)),
+        place: places.get(usize::from(customer)).copied()?,
+    })
+}
+
+/// The steps from a row, the nearest customers first.
+fn steps_from(task: &Task<'_>, v: u16) -> Result<Vec<LikelyStep>, AllocError>
+    requires { v < length task.now.instance.now.rows }
+{
+    let mut steps = Vec::new(task.alloc);
+    for customer in 1..task.instance.customer_count() + 1 {
+        if let Some(step) = step_to(task, v, customer) {
+            steps.push(step)?;
+        }
+    }
+    steps.sort_by_key(|step| step.far)?;
+    Ok(steps)
+}
+
+/// Of these steps, which stand by how far they are, those that are likely at these prices.
+fn choose_of(
+    alloc: Global,
+    all: &[LikelyStep],
+    prices: &[i64],
+    width: Width,
+) -> Result<Vec<LikelyStep>, AllocError> {
+    let nearest = width.nearest.min(width.steps);
+    let mut steps = Vec::from_slice(alloc, all)?;
+    if nearest < width.steps && width.steps < steps.len() {
+        let others = &mut steps.as_mut_slice()[nearest..];
+        let _ = others.select_nth_unstable_by_key(width.steps - nearest, |step| step.far_at(prices));
+    }
+    steps.truncate(width.steps);
+    Ok(steps)
+}
+
+/// The steps at these prices, those first that may be left for latest.
+fn at_prices(mut steps: Vec<LikelyStep>, prices: &[i64]) -> Result<Vec<LikelyStep>, AllocError> {
+    for step in steps.iter_mut() {
+        *step = step.at(prices);
+    }
+    steps.sort_by_key(|step| u64::MAX - step.latest)?;
+    Ok(steps)
+}
+
+/// The customers that are likely to follow on each row.
+#[derive(Drop)]
+pub struct Likely {
+    /// From each row all that can be reached in time, the nearest ones first.
+    all: Vec<Vec<LikelyStep>>,
+}
+
+impl Likely {
+    /// The customers of a task, whatever its prices.
+    /// No contract: a rule of search; any prices are sound.
+    pub fn new(task: &Task<'_>) -> Result<Likely, AllocError> {
+        let mut all = Vec::new(task.alloc);
+        for v in 0..task.instance.customer_count() + 1 {
+            all.push(steps_from(task, v)?)?;
+        }
+        Ok(Likely { all })
+    }
+
+    /// From each row the likely steps at these prices: from the depot all, from a customer the nearest ones,
+    /// and of the others those that the prices make near.
+    pub(crate) fn choose(
+        &self,
+        alloc: Global,
+        prices: &[i64],
+        width: Width,
+    ) -> Result<Vec<Vec<LikelyStep>>, AllocError> {
+        let mut chosen = Vec::new(alloc);
+        for (v, all) in self.all.iter().enumerate() {
+            let steps = if v == 0 {
+                Vec::from_slice(alloc, all.as_slice())?
+            } else {
+                choose_of(alloc, all.as_slice(), prices, width)?
+            };
+            chosen.push(at_prices(steps, prices)?)?;
+        }
+        Ok(chosen)
+    }
+}
