@@ -15,6 +15,7 @@ mod moves;
 mod pooled_routes;
 mod price_ascent;
 mod prices;
+mod quick_routes;
 mod rand_core;
 mod ruin;
 mod schedule;

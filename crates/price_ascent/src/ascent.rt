@@ -26,6 +26,8 @@ pub(crate) struct Ascent {
     rise: i64,
     /// The value in tenths at which to stop.
     pub(crate) target: i128,
+    /// Whether only quick searches know the centre's least reduced cost.
+    is_quick: bool,
 }
 
 /// Tenths in grains.
@@ -57,6 +59,7 @@ impl Ascent {
             floor: merit.floor(),
             rise,
             target: goal.value,
+            is_quick: false,
         })
     }
 
@@ -115,8 +118,24 @@ impl Ascent {
         self.scale(pool, rise_in_range(self.rise.saturating_mul(3) / 5));
     }
 
-    /// Takes in what the prices of a trial led to: a serious step where the merit has grown by more than a
-    /// tenth of what the trial promised.
+    /// Goes on from a trial with another centre: a serious step where the merit has grown by more than a tenth
+    /// of what the trial promised.
+    fn go_on(&mut self, pool: &mut RoutePool<'_>, trial: &Trial, next: Centre) -> bool {
+        self.floor = trial.floor;
+        let before = self.centre.merit;
+        let promised = self.merit.promised(next.prices.as_slice(), self.floor);
+        let growth = next.merit.saturating_sub(before);
+        let is_serious = growth.saturating_mul(10) > promised.saturating_sub(before);
+        if is_serious {
+            self.centre = next;
+            self.scale(pool, rise_in_range(self.rise.saturating_mul(3) / 2));
+        } else {
+            self.draw_back(pool);
+        }
+        is_serious
+    }
+
+    /// Takes in what the prices of a trial led to.
     pub(crate) fn take_in(
         &mut self,
         alloc: Global,
@@ -124,20 +143,52 @@ impl Ascent {
         trial: &Trial,
         priced: &Priced<'_>,
     ) -> Result<(), AllocError> {
-        self.floor = trial.floor;
         let next = Centre::new(alloc, priced, self.merit)?;
-        if next.least < i128::from(self.floor.value()) {
+        if next.least < i128::from(trial.floor.value()) {
             pool.add(priced.instance(), priced.least().route.as_slice())?;
         }
-        let before = self.centre.merit;
-        let promised = self.merit.promised(priced.prices(), self.floor);
-        let growth = next.merit.saturating_sub(before);
-        if growth.saturating_mul(10) > promised.saturating_sub(before) {
-            self.centre = next;
-            self.scale(pool, rise_in_range(self.rise.saturating_mul(3) / 2));
-        } else {
-            self.draw_back(pool);
+        self.go_on(pool, trial, next);
+        Ok(())
+    }
+
+    /// Takes in the least reduced cost that a quick search found at the prices of a trial.
+    pub(crate) fn take_in_quick(
+        &mut self,
+        pool: &mut RoutePool<'_>,
+        trial: &Trial,
+        prices: Vec<i64>,
+        least: i64,
+    ) {
+        let next = Centre::at(prices, i128::from(least), self.merit);
+        if self.go_on(pool, trial, next) {
+            self.is_quick = true;
+        }
+    }
+
+    /// Goes on with another rise from the same centre, whose least reduced cost is known anew, as far as
+    /// quick searches know it.
+    pub(crate) fn go_on_from(&mut self, pool: &mut RoutePool<'_>, least: i64, rise: i64) {
+        self.centre.least = i128::from(least);
+        self.centre.merit = self.merit.of(self.centre.prices.as_slice(), self.centre.least);
+        self.is_quick = true;
+        self.scale(pool, rise_in_range(rise));
+    }
+
+    /// Goes back to these prices as the centre, unless that was priced exactly.
+    pub(crate) fn go_back_to(
+        &mut self,
+        alloc: Global,
+        priced: &Priced<'_>,
+    ) -> Result<(), AllocError> {
+        if self.is_quick {
+            self.centre = Centre::new(alloc, priced, self.merit)?;
+            self.is_quick = false;
         }
         Ok(())
+    }
+
+    /// Whether the merit has come to the target.
+    pub(crate) fn is_at_target(&self) -> bool {
+        self.centre.merit >= grains(self.target)
     }
 }

@@ -14,6 +14,15 @@ pub(crate) struct Centre {
 }
 
 impl Centre {
+    /// The centre at prices with this least reduced cost.
+    pub(crate) fn at(prices: Vec<i64>, least: i128, merit: Merit) -> Centre {
+        Centre {
+            merit: merit.of(prices.as_slice(), least),
+            prices,
+            least,
+        }
+    }
+
     /// The centre at these prices.
     pub(crate) fn new(
         alloc: Global,
@@ -21,10 +30,7 @@ impl Centre {
         merit: Merit,
     ) -> Result<Centre, AllocError> {
         let least = priced.least().value.unwrap_or(0);
-        Ok(Centre {
-            prices: Vec::from_slice(alloc, priced.prices())?,
-            least,
-            merit: merit.of(priced.prices(), least),
-        })
+        let prices = Vec::from_slice(alloc, priced.prices())?;
+        Ok(Centre::at(prices, least, merit))
     }
 }

@@ -9,6 +9,8 @@ mod child_start;
 mod goal;
 mod pool_trial;
 mod pricing;
+mod quick_round;
+mod quick_way;
 mod raising;
 mod refuting;
 mod route_pool;

@@ -7,10 +7,11 @@ use crate::ascent::Ascent;
 use crate::child_start::ChildStart;
 use crate::goal::Goal;
 use crate::pricing::price;
+use crate::quick_round::{is_quick_next, quick_round};
 use crate::route_pool::RoutePool;
 use pooled_routes::Trial;
 use prices::{PriceFault, Priced};
-use std::alloc::Global;
+use std::alloc::{AllocError, Global};
 
 /// The prices of a trial with their value, at the leaf of other prices.
 fn price_trial<'i>(
@@ -79,6 +80,35 @@ fn higher_if<'i>(first: Priced<'i>, second: Option<Priced<'i>>) -> Priced<'i>
     }
 }
 
+/// The next prices of an ascent from the best so far, with their value; nothing where labels ran out.
+fn step<'i>(
+    alloc: Global,
+    pool: &mut RoutePool<'i>,
+    ascent: &mut Ascent,
+    best: &Priced<'i>,
+    goal: &Goal,
+) -> Result<Option<Priced<'i>>, AllocError>
+    ensures { IfOk result (λ found. IfSome found (IsPricedAt best.now.region best.now)) }
+{
+    if is_quick_next(alloc, pool, best, goal)? {
+        return quick_round(alloc, pool, ascent, best, goal);
+    }
+    ascent.go_back_to(alloc, best)?;
+    let trial = ascent.trial(alloc, pool)?;
+    match price_trial(alloc, pool, best, &trial, goal.labels) {
+        Ok(next) => {
+            // Where memory is refused, these prices still count, and the next step ends the ascent.
+            let _ = ascent.take_in(alloc, pool, &trial, &next);
+            Ok(Some(next))
+        }
+        Err(PriceFault::LabelLimit) => {
+            ascent.draw_back(pool);
+            Ok(None)
+        }
+        Err(_) => Err(AllocError),
+    }
+}
+
 /// The best of these prices and those that an ascent comes to at their leaf.
 fn climb<'i>(
     alloc: Global,
@@ -100,23 +130,10 @@ fn climb<'i>(
         if before >= goal.value || is_spent {
             return best;
         }
-        let Ok(trial) = ascent.trial(alloc, pool) else {
+        let Ok(next) = step(alloc, pool, ascent, &best, goal) else {
             return best;
         };
-        let next = match price_trial(alloc, pool, &best, &trial, goal.labels) {
-            Ok(next) => next,
-            Err(PriceFault::LabelLimit) => {
-                ascent.draw_back(pool);
-                idle = idle.saturating_add(1);
-                continue;
-            }
-            Err(_) => return best,
-        };
-        let taken_in = ascent.take_in(alloc, pool, &trial, &next);
-        best = higher(best, next);
-        if taken_in.is_err() {
-            return best;
-        }
+        best = higher_if(best, next);
         let gains = best.value() > before;
         idle = if gains { 0 } else { idle.saturating_add(1) };
     }
@@ -131,7 +148,8 @@ fn climb<'i>(
 /// (Hildreth 1957). The next pricing finds a route that isn't kept to, or prices that are the next
 /// centre. Where the leaf was tried as a child, the prices of the trial are the first centre. Where labels
 /// run out in a pricing, the next rise is a shorter one, nearer to prices that could be priced; where memory
-/// does, the best found so far is answered.
+/// does, the best found so far is answered. At the root, where a pricing is dear, quick searches for routes
+/// find the next prices.
 pub fn raise<'i>(
     alloc: Global,
     pool: &mut RoutePool<'i>,
@@ -157,6 +175,9 @@ pub fn raise<'i>(
         return higher;
     };
     let best = climb(alloc, pool, &mut ascent, higher, goal);
+    if ascent.go_back_to(alloc, &best).is_err() {
+        return best;
+    }
     if let Some(start) = &start {
         pool.learn(start, &ascent, best.value());
     }

@@ -3,6 +3,7 @@
 use crate::ascent::Ascent;
 use crate::child_start::ChildStart;
 use crate::pool_trial::PoolTrial;
+use crate::quick_way::{QuickWay, WHOLE};
 use crate::starting::trial_rise;
 use branching::{Arc, Region};
 use fronts::allowed_rows;
@@ -45,6 +46,10 @@ pub struct RoutePool<'i> {
     looks: u64,
     /// The tables that the pricings go by, from the first one on.
     pub(crate) nearness: Option<Nearness<'i>>,
+    /// How much work the last pricing was, in looks.
+    pub(crate) exact_looks: u64,
+    /// How an ascent by quick searches goes on, where one was made.
+    pub(crate) quick: Option<QuickWay>,
     /// The last raising of prices that has ended.
     pub(crate) ascent: Option<Ascent>,
     /// The rises of merit that were seen.
@@ -62,6 +67,8 @@ impl<'i> RoutePool<'i> {
             pricings: 0,
             looks: 0,
             nearness: None,
+            exact_looks: 0,
+            quick: None,
             ascent: None,
             pseudocosts: Pseudocosts::new(alloc),
         }
@@ -119,10 +126,14 @@ impl<'i> RoutePool<'i> {
         self.looks
     }
 
+    /// Counts looks.
+    pub(crate) fn count_looks(&mut self, looks: u64) {
+        self.looks = self.looks.saturating_add(looks);
+    }
+
     /// Counts the looks at routes of projections.
     pub(crate) fn count_routes(&mut self, routes: u64) {
-        let looks = routes.saturating_mul(LOOKS_AT_ROUTE);
-        self.looks = self.looks.saturating_add(looks);
+        self.count_looks(routes.saturating_mul(LOOKS_AT_ROUTE));
     }
 
     /// The customers of the route of least reduced cost at these prices among those that a region allows;
@@ -144,6 +155,30 @@ impl<'i> RoutePool<'i> {
         }
     }
 
+    /// The least reduced cost of the routes that count at these prices, in grains; the greatest number where
+    /// none does.
+    pub(crate) fn least(&self, prices: &[i64]) -> Result<i64, AllocError> {
+        let rows = Trial::new(self.alloc, prices, 0, Floor::new(false))?;
+        let counting = self.routes.iter().filter(|route| route.is_allowed);
+        let costs = counting.map(|route| rows.reduced_cost(route.fours.as_slice(), route.cost));
+        Ok(costs.min().unwrap_or(i64::MAX))
+    }
+
+    /// By how many millionths these prices are to be multiplied so that none of the routes that count pays
+    /// more than it costs (Farley 1990); the greatest number where none pays.
+    pub(crate) fn scale_at(&self, prices: &[i64]) -> Result<i64, AllocError> {
+        let rows = Trial::new(self.alloc, prices, 0, Floor::new(false))?;
+        let mut least = i64::MAX;
+        for route in self.routes.iter().filter(|route| route.is_allowed) {
+            let reduced = rows.reduced_cost(route.fours.as_slice(), route.cost);
+            let paid = route.cost.saturating_sub(reduced);
+            if paid > 0 {
+                least = least.min(scaled(WHOLE, paid, route.cost));
+            }
+        }
+        Ok(least)
+    }
+
     /// Takes in what a pricing told: counts it, keeps the tables that it went by, and adds the routes that it
     /// met.
     pub(crate) fn take_in(
@@ -158,7 +193,8 @@ impl<'i> RoutePool<'i> {
             ..
         } = hints;
         self.pricings = self.pricings.saturating_add(1);
-        self.looks = self.looks.saturating_add(looks);
+        self.count_looks(looks);
+        self.exact_looks = looks;
         self.nearness = nearness;
         for route in &met {
             self.add(instance, route.as_slice())?;

@@ -5,10 +5,10 @@
 
 mod likely;
 mod quick_label;
-mod search;
+mod quick_search;
 mod stairs;
 mod width;
 
 pub use likely::Likely;
-pub use search::{QuickRoute, QuickRoutes, quick_routes};
+pub use quick_search::{QuickRoute, QuickRoutes, quick_routes};
 pub use width::Width;

@@ -1,12 +1,19 @@
 //! The customers that are likely to follow on each row.
 
+ghost use Rattle.std.specs.Prelude.{◌<◌, length};
+
 use crate::width::Width;
 use fronts::Task;
 use solomon_reader::Instance;
 use std::alloc::{AllocError, Global};
 
 /// The grains of a tenth.
-pub(crate) const GRAINS_OF_TENTH: i64 = 1_000;
+const GRAINS_OF_TENTH: i64 = 1_000;
+
+/// Tenths in grains.
+pub(crate) fn grains(tenths: u64) -> i64 {
+    tenths.cast_signed().saturating_mul(GRAINS_OF_TENTH)
+}
 
 /// A step from a row to a customer.
 #[derive(Clone, Copy)]
@@ -42,7 +49,7 @@ impl LikelyStep {
 
     /// The step at these prices.
     fn at(self, prices: &[i64]) -> LikelyStep {
-        let way = (self.way as i64).saturating_mul(GRAINS_OF_TENTH);
+        let way = grains(self.way);
         LikelyStep {
             cost: way.saturating_sub(price_of(prices, self.customer)),
             ..self
@@ -77,8 +84,8 @@ fn step_to(task: &Task<'_>, v: u16, customer: u16) -> Option<LikelyStep>
         way,
         ready: instance.ready(customer),
         service: instance.service(customer),
-        far: (way.saturating_add(wait) as i64).saturating_mul(GRAINS_OF_TENTH),
-        cost: (way as i64).saturating_mul(GRAINS_OF_TENTH),
+        far: grains(way.saturating_add(wait)),
+        cost: grains(way),
         customer,
         demand: u32::from(instance.demand(customer)),
         place: places.get(usize::from(customer)).copied()?,

@@ -86,6 +86,7 @@ impl Stairs {
             memory: label.memory,
             index: labels.len(),
         };
+        let place = place.min(self.stairs.len());
         self.stairs.insert(place, stair)?;
         labels.push(*label)?;
         Ok((true, met))

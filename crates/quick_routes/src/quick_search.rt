@@ -1,8 +1,6 @@
 //! The search.
 
-ghost use Rattle.std.specs.Prelude.{◌<◌, length};
-
-use crate::likely::{GRAINS_OF_TENTH, Likely, LikelyStep};
+use crate::likely::{Likely, LikelyStep, grains};
 use crate::quick_label::QuickLabel;
 use crate::stairs::Stairs;
 use crate::width::Width;
@@ -67,7 +65,7 @@ struct QuickSearch<'t, 'i> {
 }
 
 /// So many empty lists.
-fn lists<T>(alloc: Global, count: usize) -> Result<Vec<Vec<T>>, AllocError> {
+fn lists<T: Drop>(alloc: Global, count: usize) -> Result<Vec<Vec<T>>, AllocError> {
     let mut lists = Vec::new(alloc);
     for _list in 0..count {
         lists.push(Vec::new(alloc))?;
@@ -172,8 +170,7 @@ impl<'t, 'i> QuickSearch<'t, 'i> {
         if label.time.saturating_add(way) > instance.due(0) {
             return Ok(());
         }
-        let grains = (way as i64).saturating_mul(GRAINS_OF_TENTH);
-        let value = label.cost.saturating_add(grains);
+        let value = label.cost.saturating_add(grains(way));
         if let Some(ends) = self.ends.get_mut(usize::from(label.last)) {
             let place = ends.partition_point(|end| end.value <= value);
             if place < MOST_OF_CUSTOMER {
@@ -278,6 +275,8 @@ pub fn quick_routes(
 ) -> Result<QuickRoutes, AllocError> {
     let mut search = QuickSearch::new(task, width)?;
     let likely = likely.choose(task.alloc, task.prices, width)?;
+    let customers = u64::from(task.instance.customer_count());
+    search.look(customers.saturating_mul(customers));
     search.extend_all(likely.as_slice())?;
     Ok(QuickRoutes {
         routes: search.routes()?,

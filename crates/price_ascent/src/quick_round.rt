@@ -1,0 +1,285 @@
+//! Rounds of quick searches, each with an exact pricing at its end.
+
+ghost use Rattle.std.specs.Prelude.{◌≡◌, ◌≢◌, length, IfOk, IfSome};
+ghost use Rattle.std.specs.List.{AllByRecursion};
+ghost use Rattle.solomon_reader.specs.Problem.{customer_count};
+ghost use Rattle.solomon_reader.specs.CertificateText.{IsPrice};
+ghost use Rattle.fronts.specs.Fronts.{IsTask};
+ghost use Rattle.price_ascent.specs.Branching.{IsPricedAt};
+
+use crate::ascent::Ascent;
+use crate::goal::Goal;
+use crate::pricing::price;
+use crate::quick_way::{QuickWay, WHOLE, widest};
+use crate::route_pool::RoutePool;
+use branching::Region;
+use fronts::{Nearness, Task};
+use pooled_routes::{Floor, Trial};
+use prices::{PriceFault, Priced};
+use quick_routes::{QuickRoutes, Width, quick_routes};
+use std::alloc::{AllocError, Global};
+
+/// The most steps of a round.
+const MOST_STEPS: u32 = 10_000;
+
+/// After so many steps that gain less than a thousandth the searches get wider.
+const STEPS_BETWEEN: u32 = 10;
+
+/// The most searches for the scale of prices.
+const SCALINGS: u32 = 3;
+
+/// A scale that falls by less than so many millionths is found.
+const LEAST_FALL: i64 = 1_000;
+
+/// The pricing that ends a round may take so many times the labels of another one.
+const LABELS_OF_ROUND: usize = 4;
+
+/// The routes that a quick search of this width finds, or of that which is the next one's.
+fn routes_at(
+    alloc: Global,
+    nearness: &Nearness<'_>,
+    quick: &mut Option<QuickWay>,
+    region: &Region,
+    prices: &[i64],
+    width: Option<Width>,
+) -> Result<QuickRoutes, AllocError>
+    requires { IsTask nearness.now.instance.now region.now prices.now }
+{
+    let task = Task::new(alloc, nearness, region, prices)?;
+    let mut way = match quick.take() {
+        Some(way) => way,
+        None => QuickWay::new(&task)?,
+    };
+    let found = quick_routes(&task, &way.likely, width.unwrap_or(way.width()));
+    if let (None, Ok(found)) = (width, &found) {
+        way.looks = found.looks;
+    }
+    *quick = Some(way);
+    found
+}
+
+/// Searches for routes at these prices, and adds those below a floor to the pool; answers the least reduced
+/// cost that was found, the greatest number where none was.
+fn search<'i>(
+    alloc: Global,
+    pool: &mut RoutePool<'i>,
+    leaf: &Priced<'i>,
+    prices: &[i64],
+    floor: i64,
+    width: Option<Width>,
+) -> Result<i64, AllocError>
+    requires count { length prices.now ≡ customer_count leaf.now.problem }
+    requires in_range { AllByRecursion IsPrice prices.now }
+{
+    let instance = leaf.instance();
+    let nearness = match pool.nearness.take() {
+        Some(nearness) if nearness.is_for(instance, leaf.neighbours()) => nearness,
+        _ => return Ok(i64::MAX),
+    };
+    instance.law_of_limits();
+    let found = routes_at(alloc, &nearness, &mut pool.quick, leaf.region(), prices, width);
+    pool.nearness = Some(nearness);
+    let found = found?;
+    pool.count_looks(found.looks);
+    for route in &found.routes {
+        if route.reduced_cost < floor {
+            pool.add(instance, route.stops.as_slice())?;
+        }
+    }
+    Ok(found.routes.first().map_or(i64::MAX, |route| route.reduced_cost))
+}
+
+/// Whether the next step of an ascent is a round of quick searches: at the root, where an exact pricing is
+/// dear. One search tells how much work it is.
+pub(crate) fn is_quick_next<'i>(
+    alloc: Global,
+    pool: &mut RoutePool<'i>,
+    leaf: &Priced<'i>,
+    goal: &Goal,
+) -> Result<bool, AllocError> {
+    let customers = u64::from(leaf.instance().customer_count());
+    let exact = pool.exact_looks;
+    if !leaf.region().is_root() || exact < customers.saturating_mul(customers).saturating_mul(8) {
+        return Ok(false);
+    }
+    if pool.quick.is_none() {
+        let _value = leaf.value();
+        search(alloc, pool, leaf, leaf.prices(), 0, None)?;
+    }
+    let are_few = exact.saturating_mul(customers / 5) > goal.looks;
+    Ok(match &mut pool.quick {
+        Some(way) => way.is_next(exact, are_few),
+        None => false,
+    })
+}
+
+/// A serious or a null step by a quick search alone; whether it found a route that the prices don't keep to.
+fn quick_step<'i>(
+    alloc: Global,
+    pool: &mut RoutePool<'i>,
+    ascent: &mut Ascent,
+    leaf: &Priced<'i>,
+) -> Result<bool, AllocError> {
+    let trial = ascent.trial(alloc, pool)?;
+    let prices = trial.prices_in_range(alloc, leaf.instance())?;
+    let known = pool.least(prices.as_slice())?;
+    let floor = trial.floor.value().min(known);
+    let found = search(alloc, pool, leaf, prices.as_slice(), floor, None)?;
+    ascent.take_in_quick(pool, &trial, prices, found.min(known));
+    Ok(found < floor)
+}
+
+/// Lets searches look more widely, unless they can't; whether they do. The centre is judged by a wider one,
+/// and the rise begins anew.
+fn widen<'i>(
+    alloc: Global,
+    pool: &mut RoutePool<'i>,
+    ascent: &mut Ascent,
+    leaf: &Priced<'i>,
+) -> Result<bool, AllocError> {
+    let is_wider = match &mut pool.quick {
+        Some(way) => way.widen(),
+        None => false,
+    };
+    if is_wider {
+        let prices = prices_at(alloc, ascent, leaf, WHOLE)?;
+        let known = pool.least(prices.as_slice())?;
+        let found = search(alloc, pool, leaf, prices.as_slice(), 0, None)?;
+        let rise = pool.rise().saturating_mul(3);
+        ascent.go_on_from(pool, found.min(known), rise);
+    }
+    Ok(is_wider)
+}
+
+/// Steps by quick searches alone, for so many looks, or until the widest of them lead no further.
+fn quick_steps<'i>(
+    alloc: Global,
+    pool: &mut RoutePool<'i>,
+    ascent: &mut Ascent,
+    leaf: &Priced<'i>,
+    looks: u64,
+) -> Result<(), AllocError> {
+    let end = pool.looks().saturating_add(looks);
+    let mut mark = ascent.centre.merit;
+    let mut made: u32 = 0;
+    for _ in 0..MOST_STEPS {
+        if pool.looks() >= end || ascent.is_at_target() {
+            return Ok(());
+        }
+        let is_found = quick_step(alloc, pool, ascent, leaf)?;
+        made = made.saturating_add(1);
+        let growth = ascent.centre.merit.saturating_sub(mark);
+        let is_slow = made >= STEPS_BETWEEN && growth < mark / 1_000;
+        if is_slow || !is_found && made > 3 {
+            if !widen(alloc, pool, ascent, leaf)? {
+                return Ok(());
+            }
+            made = STEPS_BETWEEN;
+        }
+        if made >= STEPS_BETWEEN {
+            mark = ascent.centre.merit;
+            made = 0;
+        }
+    }
+    Ok(())
+}
+
+/// The centre's prices, multiplied by so many millionths.
+fn prices_at<'i>(
+    alloc: Global,
+    ascent: &Ascent,
+    leaf: &Priced<'i>,
+    scale: i64,
+) -> Result<Vec<i64>, AllocError>
+    ensures count { IfOk result (λ v. length v.items ≡ customer_count leaf.now.problem) }
+    ensures in_range { IfOk result (λ v. AllByRecursion IsPrice v.items) }
+{
+    let mut prices = Vec::new(alloc);
+    for price in &ascent.centre.prices {
+        let product = i128::from(*price).saturating_mul(i128::from(scale.min(WHOLE)));
+        prices.push((product / i128::from(WHOLE)) as i64)?;
+    }
+    let trial = Trial::new(alloc, prices.as_slice(), 0, Floor::new(false))?;
+    trial.prices_in_range(alloc, leaf.instance())
+}
+
+/// By how many millionths the centre's prices are to be multiplied so that no route pays more than it costs,
+/// as far as the widest searches know.
+fn scale_of<'i>(
+    alloc: Global,
+    pool: &mut RoutePool<'i>,
+    ascent: &Ascent,
+    leaf: &Priced<'i>,
+) -> Result<i64, AllocError> {
+    let mut scale = pool.scale_at(ascent.centre.prices.as_slice())?;
+    for _ in 0..SCALINGS {
+        let prices = prices_at(alloc, ascent, leaf, scale)?;
+        search(alloc, pool, leaf, prices.as_slice(), 0, Some(widest()))?;
+        let next = pool.scale_at(ascent.centre.prices.as_slice())?;
+        let is_found = next.saturating_add(LEAST_FALL) >= scale;
+        scale = next;
+        if is_found {
+            return Ok(scale);
+        }
+    }
+    Ok(scale)
+}
+
+/// Learns from the pricing that ended a round, and goes on from the centre that wasn't scaled.
+fn end_round(
+    pool: &mut RoutePool<'_>,
+    ascent: &mut Ascent,
+    leaf: &Priced<'_>,
+    next: &Option<Priced<'_>>,
+    rise: i64,
+) -> Result<(), AllocError> {
+    let mut lack = 0;
+    let mut is_raised = false;
+    if let Some(next) = next {
+        pool.add(next.instance(), next.least().route.as_slice())?;
+        lack = WHOLE.saturating_sub(pool.scale_at(next.prices())?);
+        is_raised = next.value() > leaf.value();
+    }
+    if let Some(way) = &mut pool.quick {
+        way.learn(is_raised);
+        if next.is_some() {
+            way.hold_back(lack);
+        }
+    }
+    let known = pool.least(ascent.centre.prices.as_slice())?;
+    ascent.go_on_from(pool, known, rise);
+    Ok(())
+}
+
+/// Steps by quick searches alone; then an exact pricing of the prices to which they came, scaled so that the
+/// routes met pay at most what they cost. Nothing where labels ran out.
+pub(crate) fn quick_round<'i>(
+    alloc: Global,
+    pool: &mut RoutePool<'i>,
+    ascent: &mut Ascent,
+    leaf: &Priced<'i>,
+    goal: &Goal,
+) -> Result<Option<Priced<'i>>, AllocError>
+    ensures { IfOk result (λ found. IfSome found (IsPricedAt leaf.now.region leaf.now)) }
+{
+    let (has_begun, margin) = match &pool.quick {
+        Some(way) => (way.has_begun, way.margin),
+        None => return Ok(None),
+    };
+    let looks = if has_begun { pool.exact_looks } else { goal.looks / 10 * 3 };
+    quick_steps(alloc, pool, ascent, leaf, looks)?;
+    let scale = scale_of(alloc, pool, ascent, leaf)?;
+    let prices = prices_at(alloc, ascent, leaf, scale.min(WHOLE).saturating_sub(margin))?;
+    let region = leaf.region().try_clone()?;
+    let labels = match goal.labels {
+        Some(labels) => Some(labels.saturating_mul(LABELS_OF_ROUND)),
+        None => None,
+    };
+    let next = match price(alloc, pool, leaf, region, prices, labels) {
+        Ok(next) => Some(next),
+        Err(PriceFault::LabelLimit) => None,
+        Err(_) => return Err(AllocError),
+    };
+    end_round(pool, ascent, leaf, &next, goal.rise)?;
+    Ok(next)
+}
