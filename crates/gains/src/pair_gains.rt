@@ -1,13 +1,13 @@
 //! The best gains between two routes, which are kept while a plan changes.
 
-ghost use Rattle.std.specs.Prelude.{◌≡◌, ◌≢◌, ℕ, [], IfOk, slice_index_or, slice_set};
+ghost use Rattle.std.specs.Prelude.{◌≡◌, ◌≢◌, ℕ, [], slice_index_or, slice_set};
 ghost use Rattle.gains.specs.Kept.{unknown, rows_of, entry_of, with_found, skip, skip_if, Follows, IsForgotten, IsNewForgotten, HasSameEntries};
 
 use crate::entry::{Entry, UNKNOWN};
 use crate::found::Found;
 use crate::replaced::Replaced;
 use moves::Kind;
-use std::alloc::{AllocError, Global};
+use std::alloc::Global;
 
 /// For moves from a route into a route the best of each kind that makes the plan cheaper, if one does. Of
 /// pairs of routes without an entry nothing is known. Routes are counted from 0.
@@ -51,20 +51,6 @@ impl PairGains {
         };
         gains.make_places(count.saturating_add(1));
         gains
-    }
-
-    /// A copy, unless memory runs out.
-    pub fn try_clone(&self) -> Result<PairGains, AllocError>
-        ensures { IfOk result (λ b. rows_of b ≡ rows_of self.now) }
-    {
-        let mut rows = Vec::with_capacity(self.alloc, self.rows.len())?;
-        for row in self.rows.as_slice() {
-            rows.push(row.as_slice().to_vec(self.alloc)?)?;
-        }
-        Ok(PairGains {
-            alloc: self.alloc,
-            rows,
-        })
     }
 
     /// What is kept of the moves from a route into a route.

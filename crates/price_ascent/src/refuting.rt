@@ -28,12 +28,13 @@ fn obstacle_at(instance: &Instance, row: u16) -> Option<Obstacle> {
         let is_small = u32::from(instance.fleet()) < instance.fewest_routes();
         return is_small.then_some(Obstacle::Demands);
     }
-    let is_alone = walk(instance, &[row]).is_none();
-    is_alone.then_some(Obstacle::Customer(row))
+    let is_out_of_reach = walk(instance, &[row]).is_none();
+    is_out_of_reach.then_some(Obstacle::Customer(row))
 }
 
-/// A customer's price in grains, by which an obstacle lifts the value above every plan's cost: so much for
-/// each unit of demand, of which a vehicle misses one at least; or the whole for the one customer.
+/// A customer's price in grains, by which an obstacle lifts the value above every plan's cost. Where the fleet
+/// is too small for the demands, each unit of demand has a price, and one unit at least is never served; where
+/// a customer can't be served, it alone has a price.
 fn price_against(instance: &Instance, obstacle: Obstacle, customer: u16) -> i64
     requires { customer < length instance.now.rows }
     ensures { IsPrice result }
