@@ -1,7 +1,7 @@
 """Calls of the library in which each allocation is refused in turn, by the program `instruments`.
 
 It makes a call twice, and prints `ready` and what came of each. Where no allocation is refused, both answers are those
-that stand here, by hand or by this folder. Where one is, that call may say so, with the state that it leaves, and the
+that stand here, by hand or by the reference. Where one is, that call may say so, with the state that it leaves, and the
 call after it answers as if nothing had been refused. What `solve` answers is judged by its texts."""
 import functools
 from collections import Counter
@@ -79,7 +79,7 @@ def written(fault, text):
 
 
 def read_line():
-    """The certificate as it is shown, by this folder's reader."""
+    """The certificate as it is shown, by the reference's reader."""
     found = read_certificate(CERTIFICATE.encode())
 
     def nodes(tree):

@@ -3,8 +3,8 @@ import glob
 import os
 import re
 
-DOCUMENTS = ("README.md", "CHANGELOG.md", "CONTRIBUTING.md", "docs/*.md", "bench/README.md", "outside/README.md",
-             "release/README.md", "examples/README.md")
+DOCUMENTS = ("README.md", "CHANGELOG.md", "CONTRIBUTING.md", "docs/*.md", "bench/README.md", "bench/instances/README.md",
+             "outside/README.md", "outside/*/README.md", "release/README.md", "examples/README.md")
 
 # What a document cites and the sources don't have, with the reason.
 EXCEPTIONS = {
@@ -25,7 +25,9 @@ EXCEPTED = {
 # Where files stand that a document names without a folder: what it is about.
 HOMES = {
     "docs/definitions.md": ("crates/solomon_reader/specs", "crates/instruments/data"),
-    "docs/outside.md": ("outside",),
+    "docs/runs.md": ("outside",),
+    "outside/README.md": ("outside/reference", "outside/tools", "outside/cases", "outside/judges"),
+    "outside/judges/README.md": ("outside",),
     "CONTRIBUTING.md": ("crates/instruments/data",),
 }
 
@@ -34,7 +36,7 @@ SUFFIXES = (".rt", ".antt", ".md", ".edit", ".py", ".txt", ".c", ".sh", ".svg")
 # The sources, in whose words names are looked for: all but documents, and this program with its exceptions.
 SOURCES = ("crates/*/src", "crates/*/specs", "crates/*/proofs", "bench", "outside", "wrong_bodies", "release/make",
            "release/*.sh", "vrptw", "check", "crates.txt")
-OWN = ("outside/citing.py", "outside/cited")
+OWN = ("outside/judges/citing.py", "outside/cited")
 # The wrong bodies; the second part of such a path is the crate.
 EDITS = ("wrong_bodies/*/*.edit", "crates/*/must-fail/*.edit")
 

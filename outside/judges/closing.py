@@ -102,14 +102,14 @@ def judge_more(program, folder, text, most, neighbours):
 
 
 def by_this_folder(text, certificate, solution, told, count):
-    """The checker of this folder says the same; what is added to the answer's name where it would take too long."""
+    """The reference's checker says the same; what is added to the answer's name where it would take too long."""
     if count > FEW_LEAVES:
         return ", the leaves by the program alone"
     try:
         checked = checking.check(text, certificate, solution, least)
     except TooLong:
         return ", the leaves by the program alone"
-    demand(checked == told, "close: %r, this folder: %r" % (told, checked))
+    demand(checked == told, "close: %r, reference: %r" % (told, checked))
     return ""
 
 

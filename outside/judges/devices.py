@@ -77,7 +77,7 @@ def front(name, size, program, folder):
 
 
 def front_rule(size, program, folder):
-    """What the reader of this folder says of a front of the instance, against the places of its words alone."""
+    """What the reference's reader says of a front of the instance, against the places of its words alone."""
     text = INSTANCE[:size]
     depot = INSTANCE.index(b"1000 0\n") + len("1000 0")
     last = text.split()[-1] if text[-1:].strip() else b""

@@ -14,7 +14,7 @@ from reference.texts import TextFault, read_certificate, read_solution, shown
 
 
 def judge_refusal(program, folder, random):
-    """A text with something wrong: the program's reader against the one of this folder. Answers what came of it."""
+    """A text with something wrong: the program's reader against the reference's. Answers what came of it."""
     text = mutated(random, instance_words(random, random.randint(1, 5)))
     out, errors, status, solution, certificate = solve(program, folder, text)
     try:
@@ -29,7 +29,7 @@ def judge_refusal(program, folder, random):
 
 def judge_check(program, folder, random):
     """An instance, a certificate and often a solution, whole or with something wrong: the program's check against the
-    one of this folder. Answers what came of it."""
+    reference's. Answers what came of it."""
     small = random.randrange(4) > 0
     words = instance_words(random, random.randint(1, 4) if small else random.randint(5, 12))
     text = laid_out(random, words)
@@ -103,7 +103,7 @@ def echoed(instruments, folder, kind, text, said):
 
 
 def said_of(reader, text):
-    """The fault of this folder's reader, or none."""
+    """The fault of the reference's reader, or none."""
     try:
         reader(text)
     except TextFault as fault:
@@ -112,7 +112,7 @@ def said_of(reader, text):
 
 
 def judge_echo(instruments, folder, kind, text, reader):
-    """A text: read and written again, or the fault of this folder's reader."""
+    """A text: read and written again, or the fault of the reference's reader."""
     return echoed(instruments, folder, kind, text, said_of(reader, text))
 
 
@@ -132,10 +132,10 @@ def judge_text(programs, folder, random, kind):
 
 
 def judge_large(programs, folder, seed):
-    """A certificate at a limit: read and written again, or the fault that was found by hand, which this folder's reader
+    """A certificate at a limit: read and written again, or the fault that was found by hand, which the reference's reader
     tells, too."""
     name, lines, said = LARGE[seed]
     text = "".join(line + "\n" for line in lines()).encode()
     found = said_of(read_certificate, text)
-    demand(found == said, "%s: this folder: %s" % (name, found))
+    demand(found == said, "%s: reference: %s" % (name, found))
     return "%s: %s" % (name, echoed(programs.instruments, folder, "certificate", text, said))

@@ -1,4 +1,4 @@
-"""Texts with some bytes changed, through the program's check and through the one of `reference`."""
+"""Texts with some bytes changed, through the program's check and through the reference's."""
 from cases.mutating import base, changed
 from judges.running import demand, run_check, solve
 from reference import bounding, checking
@@ -9,7 +9,7 @@ PLACES = ("instance", "certificate", "solution")
 
 
 def judge_bytes(program, folder, random, name):
-    """One of three texts changed; the program's check against the one of this folder. Answers what came of it."""
+    """One of three texts changed; the program's check against the reference's. Answers what came of it."""
     texts = list(base(random.randrange(BASES)))
     at = PLACES.index(name)
     texts[at] = changed(random, texts[at])

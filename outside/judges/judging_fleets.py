@@ -97,5 +97,5 @@ def by_values(instance, found, solution, told):
     demand(bound == found.bound, "a bound of %d, and that of the tree is %d" % (found.bound, bound))
     right = checking.check_plan(instance, bound, *read_solution(solution)) if solution else ("NO PLAN\n", "", 0)
     demand(bound == instance.ceiling() + 1 or solution, "NO PLAN with the bound %d" % bound)
-    demand(right == told, "solve: %r, this folder: %r" % (told, right))
+    demand(right == told, "solve: %r, reference: %r" % (told, right))
     return ""

@@ -1,4 +1,4 @@
-"""One run of `respell`, `timetable` or `draw`: what they make of random plans, by this folder and the program."""
+"""One run of `respell`, `timetable` or `draw`: what they make of random plans, by the reference and the program."""
 import os
 from collections import Counter
 from xml.etree import ElementTree

@@ -160,5 +160,5 @@ def judge(programs, folder, seed, kind):
     except bounding.TooLong:
         return True, "left out, too many routes or labels"
     except Exception as found:
-        return False, "this folder failed: %s" % "".join(
+        return False, "the judge failed: %s" % "".join(
             traceback.format_exception(type(found), found, found.__traceback__)[-3:])

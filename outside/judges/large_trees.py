@@ -3,7 +3,7 @@
 What is right: the bound that the solver printed, which it found by another rule of labels than the check, is the least
 value of all leaves. Where a leaf changes, its values before and after are found here, by labels in Python, from the
 definitions. The least value of the others is the bound, unless only leaves that change have it: where no other one of
-ten does, the run is left out. What comes of a line that is away the reader of this folder says. A leaf with too many
+ten does, the run is left out. What comes of a line that is away the reference's reader says. A leaf with too many
 labels is left out, too."""
 import functools
 import os

@@ -45,7 +45,7 @@ def judge_answer(size, line):
         told = [WORDS[kind]] + [shown(int(count)) for count in re.findall(r"count: (\d+)", numbers or "")]
         text = instance_text(size)
         checked = checking.check(text, certificate, solution or None, least)[0]
-        demand(checked == " ".join(told) + "\n", "solve: %r, this folder: %r" % (line, checked))
+        demand(checked == " ".join(told) + "\n", "solve: %r, reference: %r" % (line, checked))
         judge_plan(read(text), solution)
     elif fault == "Device":
         judge_device(solution, certificate)

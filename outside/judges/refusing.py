@@ -142,7 +142,7 @@ def judge_want(came, usual, solves, alone, told):
 
 
 def judge_texts(program, folder, size, out, status, solution, certificate, told):
-    """Both texts say what the line says, by the program's check and by this folder's; each pair of texts once."""
+    """Both texts say what the line says, by the program's check and by the reference's; each pair of texts once."""
     key = (size, out, solution, certificate)
     if key in KEPT:
         return
@@ -157,5 +157,5 @@ def judge_texts(program, folder, size, out, status, solution, certificate, told)
         checked = checking.check(text, certificate, solution or None, least)
     except TooLong:
         checked = wanted
-    demand(checked == wanted, "%s: %r, this folder: %r" % (told, out, checked))
+    demand(checked == wanted, "%s: %r, reference: %r" % (told, out, checked))
     KEPT[key] = True

@@ -9,7 +9,7 @@ LONGEST = 600
 
 
 class Disagreement(Exception):
-    """The program and this folder don't agree."""
+    """The program and the reference don't agree."""
 
 
 def demand(holds, words):

@@ -106,12 +106,12 @@ def judge_progress(errors, out, settings):
 
 
 def judge_texts(text, certificate, solution, told, settings):
-    """Both texts by the checker of this folder, and what stands in the certificate's head."""
+    """Both texts by the reference's checker, and what stands in the certificate's head."""
     found = read_certificate(certificate)
     demand(found.version == 2, "the certificate's version")
     demand(found.neighbours == settings["neighbours"], "the certificate's neighbours")
     checked = checking.check(text, certificate, solution, least)
-    demand(checked == told, "solve: %r, this folder: %r" % (told, checked))
+    demand(checked == told, "solve: %r, reference: %r" % (told, checked))
 
 
 def judge_plan(instance, solution):
