@@ -1,4 +1,4 @@
-"""Certificates and solutions that were made by hand, and what the readers say of them: a fault, or the same text again."""
+"""Certificates and plans that were made by hand, and what the readers say of them: a fault, or the same text again."""
 
 HEAD = "VRPTW-CERT 1;INSTANCE T;CUSTOMERS 1;NEIGHBOURS 8;BOUND 10.0;TREE;"
 CERTIFICATE = HEAD + "P 100000;END;"
