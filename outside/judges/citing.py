@@ -3,8 +3,8 @@ import glob
 import os
 import re
 
-DOCUMENTS = ("README.md", "CHANGELOG.md", "CONTRIBUTING.md", "docs/*.md", "bench/README.md", "bench/instances/README.md",
-             "outside/README.md", "outside/*/README.md", "release/README.md", "examples/README.md")
+DOCUMENTS = ("*.md", "docs/*.md", "bench/README.md", "bench/instances/README.md", "outside/README.md",
+             "outside/*/README.md", "release/README.md", "examples/README.md")
 
 # What a document cites and the sources don't have, with the reason.
 EXCEPTIONS = {

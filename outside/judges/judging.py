@@ -132,8 +132,8 @@ def judge_text(programs, folder, random, kind):
 
 
 def judge_large(programs, folder, seed):
-    """A certificate at a limit: read and written again, or the fault that was found by hand, which the reference's reader
-    tells, too."""
+    """A certificate at a limit: read and written again, or the fault that was found by hand, which the reference's
+    reader tells, too."""
     name, lines, said = LARGE[seed]
     text = "".join(line + "\n" for line in lines()).encode()
     found = said_of(read_certificate, text)

@@ -1,8 +1,8 @@
 """Runs of the program in which allocations are refused, by the library that `refusing.c` is.
 
-Each run is one of `solve`, `check` or `solve --close` on one of three instances, and one way to refuse: the allocation of
-one number, that one and all after it, or one thread. Every other run of a case takes the next number in turn, from 1,
-and the others draw theirs."""
+Each run is one of `solve`, `check` or `solve --close` on one of three instances, and one way to refuse: the allocation
+of one number, that one and all after it, or one thread. Every other run of a case takes the next number in turn, from
+1, and the others draw theirs."""
 import functools
 import os
 import struct

@@ -69,9 +69,9 @@ class Pricing:
         return None if found == NEVER else found
 
     def floors(self, region, ways):
-        """For each stop and slot of time what it costs at least to come home from there, if service begins at the slot's
-        beginning or later: whatever the load and the stops before, but for one. With it the stop that comes next then,
-        and what it costs where another one does. A step takes a slot at least, so the last slot comes first."""
+        """For each stop and slot of time what it costs at least to come home from there, if service begins at the
+        slot's beginning or later: whatever the load and the stops before, but for one. With it the stop that comes next
+        then, and what it costs where another one does. A step takes a slot at least, so the last slot comes first."""
         slots = max(row[4] for row in self.instance.rows) // max(1, self.slot) + 1
         if self.slot == 0 or slots > MOST_SLOTS:
             return None
@@ -90,7 +90,7 @@ class Pricing:
         return floors
 
     def floor(self, floors, at, j, start):
-        """What it costs at least to come home from a customer that is served from then on and comes behind this stop."""
+        """What it costs at least to come home from a customer that is served from then on and comes behind this one."""
         if floors is None:
             return ALWAYS
         best, then, other = floors[j][start // self.slot]
