@@ -90,7 +90,7 @@ class Pricing:
         return floors
 
     def floor(self, floors, at, j, start):
-        """What it costs at least to come home from a customer that is served from then on and comes behind this one."""
+        """What it costs at least to come home from a customer that is served from then on, behind this stop."""
         if floors is None:
             return ALWAYS
         best, then, other = floors[j][start // self.slot]
