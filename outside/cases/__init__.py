@@ -1,0 +1,1 @@
+"""What the judges put in: random instances and texts, and rows that were made by hand."""

@@ -1,0 +1,236 @@
+"""The tools with files that fail, and with wrong words: rows that were made by hand, and what is said of each."""
+
+INSTANCE = ("T\nVEHICLE\nNUMBER CAPACITY\n2 2\nCUSTOMER\n"
+            "CUST NO. XCOORD. YCOORD. DEMAND READY TIME DUE DATE SERVICE TIME\n"
+            "0 0 0 0 0 1000 0\n1 3 4 1 0 1000 0\n2 6 8 1 0 1000 0\n")
+FILES = {
+    "i.txt": INSTANCE,
+    "other.txt": INSTANCE.replace("T\n", "U\n", 1),
+    "late.txt": INSTANCE.replace("2 6 8 1 0 1000 0", "2 6 8 1 0 1 0"),
+    "bad.txt": INSTANCE.replace("1 3 4 1", "1 3 4 x"),
+    "few.txt": INSTANCE.replace("2 2\nC", "1 2\nC"),
+    "small.txt": INSTANCE.replace("2 2\nC", "2 1\nC"),
+    "heavy.txt": INSTANCE.replace("3 4 1", "3 4 3").replace("6 8 1", "6 8 2"),
+    "shut.txt": INSTANCE.replace("0 1000 0\n1", "0 15 0\n1"),
+    "over.txt": INSTANCE.replace("3 4 1 0", "1 5 1 0").replace("6 8 1 0 1000", "2 10 1 0 10"),
+    "both.txt": INSTANCE.replace("2 2\nC", "1 2\nC").replace("0 0 0", "0 10 10").replace(
+        "3 4 1 0 1000", "13 14 1 0 5").replace("6 8 1 0 1000", "7 6 1 0 5"),
+    "two.txt": "Route #1: 1\nRoute #2: 2\nCost 30.0\n",
+    "p.txt": "Route #1: 1 2\nCost 20.0\n",
+    "cost.txt": "Route #1: 1 2\nCost 20.1\n",
+    "lacks.txt": "Route #1: 1\nCost 10.0\n",
+    "unknown.txt": "Route #1: 1\nRoute #2: 3\nCost 10.0\n",
+    "twice.txt": "Route #1: 1\nRoute #2: 2 1\nCost 30.0\n",
+    "form.txt": "Route #1: 1 2\nCost 20\n",
+    "k.txt": "VRPTW-CERT 1\nINSTANCE T\nCUSTOMERS 2\nNEIGHBOURS 8\nBOUND 0.0\nTREE\nP 0 0\nEND\n",
+    "high.txt": "VRPTW-CERT 1\nINSTANCE T\nCUSTOMERS 2\nNEIGHBOURS 8\nBOUND 0.1\nTREE\nP 0 0\nEND\n",
+    "none.txt": "VRPTW-CERT 2\nINSTANCE T\nCUSTOMERS 2\nNEIGHBOURS 8\nBOUND 40.1\nTREE\nP 301000 301000\nEND\n",
+    "worse.txt": "VRPTW-CERT 1\nINSTANCE T\nCUSTOMERS 2\nNEIGHBOURS 8\nBOUND 0.0\nTREE\nP 0 0 0\nEND\n",
+    "t.csv": "x,y,demand,ready,due,service\n0,0,0,0,1000,0\n3,4,1,0,1000,0\n",
+    "half.csv": "x,y,demand,ready,due,service\n0,0,0,0,1000,0\n3.5,4,1,0,1000,0\n",
+    "end.csv": "name,x,y,demand,ready,end,service\nd,0,0,0,0,1000,0\nc,3,4,1,0,1000,0\n",
+    "plain.csv": "x;y;demand;service\n0;0;0;0\n-3;4;1;0\n",
+    "sep.csv": "sep=;\nx;y;demand;ready;due;service\n0;0;0;6:00;18:00;0\n1,000;4;1;6:00;7:00;0\n",
+    "day.csv": "sep=;\nx;y;demand;ready;due;service\n0;0;0;6:00;18:00;0\n1,0;4;1;6:00;7:61;0\n",
+    "names.csv": "number,name\n0,depot\n1,a\n2,b\n",
+    "names2.csv": "number,name\n0,depot\n1,a\n",
+    "names3.csv": "number,name\n0,depot\n1,a\n3,b\n",
+    "cr.txt": "Route #1: 1 2\r\nCost 20.0\r\n",
+    "mac.txt": "Route #1: 1 2\rCost 20.0\r",
+    "cut.txt": "Route #1: 1 2\nCost 20.0",
+    "crk.txt": "VRPTW-CERT 1\nINSTANCE T\nCUSTOMERS 2\r\nNEIGHBOURS 8\nBOUND 0.0\nTREE\nP 0 0\nEND\n",
+    "same.csv": "number,name\n0,depot\n1,a\n2,a\n",
+    "other.csv": "number,name\n0,1\n1,2\n2,3\n",
+    "named.txt": "Route 1: depot -> a -> b -> depot\n",
+    "twins.txt": "Route 1: depot -> a -> depot\n",
+    "json.txt": '{"code":0,\n"summary":{"cost":20},\n"unassigned":[]}\n',
+    "pickup.txt": '{"routes":[{"steps":[{"type":"job","id":1},\n{"type":"pickup","id":2}]}]}\n',
+    "or.txt": "Route for vehicle 0:\nLoad of the route: 5\n",
+    "lkh.txt": "T, Cost: 0_20\nThe tours traveled by the 1 salesmen are:\n1 2 3 4 1 (#4)  Cost: 20\n",
+    "c.vrp": "NAME : c\nTYPE : CVRP\nDIMENSION : 2\nCAPACITY : 9\nEDGE_WEIGHT_TYPE : EUC_2D\nNODE_COORD_SECTION\n"
+             "1 0 0\n2 3 4\nDEMAND_SECTION\n1 0\n2 1\nDEPOT_SECTION\n1\n-1\nEOF\n",
+    "empty.csv": "", "empty.vrp": "", "empty.txt": "",
+}
+# The words, the file that is at fault, its line, and a part of what is said; without a line that part is all.
+REFUSED = """
+batch nowhere --into r|nowhere|0|No such file or directory
+batch bad.txt --into r|bad.txt|8|BadNumber
+batch i.txt folder/../i.txt --into r|folder/../i.txt|0|met the name i again, after i.txt, wanted each name once
+batch folder --into r|folder|0|met no instance, wanted files that vrptw reads
+batch i.txt --into p.txt|p.txt|0|File exists
+batch i.txt --into r --program nowhere|nowhere|0|met no program, wanted one that can be run
+batch i.txt --into r --engine parallel --sshloginfile nowhere|nowhere|0|No such file or directory
+convert nowhere.csv o.txt|nowhere.csv|0|No such file or directory
+convert folder o.txt --from csv|folder|0|Is a directory
+convert empty.csv o.txt|empty.csv|1|the end
+convert empty.vrp o.txt|empty.vrp|1|the end
+convert empty.txt o.txt|empty.txt|1|the end
+convert bad.txt o.vrp|bad.txt|8|"x"
+convert i.txt nowhere/o.vrp|nowhere/o.vrp|0|No such file or directory
+convert i.txt folder --to csv|folder|0|Is a directory
+convert i.txt i.txt|i.txt|0|met the file that is read, wanted another one to write
+convert i.txt link.txt|link.txt|0|met the file that is read, wanted another one to write
+convert i.txt /dev/full --to csv|/dev/full|0|No space left on device
+convert i.xml o.txt|i.xml|0|met the ending ".xml", wanted .txt, .vrp, .csv, or a layout by --from
+convert i.txt o|o|0|met the ending "", wanted .txt, .vrp, .csv, or a layout by --to
+convert t.csv o.txt --capacity 5|t.csv|3|--vehicles
+convert t.csv o.txt --vehicles 5|t.csv|3|--capacity
+convert half.csv o.txt --vehicles 5 --capacity 5|half.csv|3|--scale
+convert half.csv o.txt --vehicles 5 --capacity 5 --scale 3|half.csv|3|times 3
+convert i.txt o.vrp --scale 1001|i.txt|7|times 1001
+convert end.csv o.txt --vehicles 5 --capacity 5|end.csv|1|met no column "due", wanted
+convert plain.csv o.txt --vehicles 5 --capacity 5|plain.csv|1|met no column "ready", "due", wanted
+convert plain.csv o.txt --vehicles 5 --capacity 5 --horizon 10001 --scale 100|plain.csv|2|"10001" times 100
+convert t.csv o.txt --vehicles 5 --capacity 5 --horizon 5|t.csv|1|met windows, and --horizon, wanted one of both
+convert i.txt o.txt --horizon 5|i.txt|7|met windows, and --horizon, wanted one of both
+convert sep.csv o.txt --vehicles 5 --capacity 5|sep.csv|4|met "1,000", whose comma may part thousands or decimals,
+convert day.csv o.txt --vehicles 5 --capacity 5|day.csv|4|"7:61"
+convert t.csv o.txt --vehicles 5 --capacity 5 --names n.csv|t.csv|1|met no column "name" or "customer", wanted
+convert end.csv end.csv|end.csv|0|met the file that is read, wanted another one to write
+convert i.txt o.vrp --names i.txt|i.txt|0|met the file that is read, wanted another one to write
+convert i.txt o.vrp --names o.vrp|o.vrp|0|met the file of the instance, wanted another one to write
+convert i.txt o.vrp --names nowhere/n.csv|nowhere/n.csv|0|No such file or directory
+convert i.txt nowhere/o.vrp --names n.csv|nowhere/o.vrp|0|No such file or directory
+convert c.vrp o.txt --vehicles 5|c.vrp|2|met TYPE : CVRP without TIME_WINDOW_SECTION, wanted
+convert c.vrp o.txt --horizon 5|c.vrp|15|--vehicles
+timetable i.txt p.txt --names names2.csv|names2.csv|3|no name of number 2
+timetable i.txt p.txt --names names3.csv|names3.csv|4|"3"
+draw i.txt p.txt --names t.csv|t.csv|1|"x,y,demand
+draw i.txt p.txt --names nowhere|nowhere|0|No such file or directory
+respell nowhere.txt p.txt|nowhere.txt|0|No such file or directory
+respell i.txt nowhere.txt|nowhere.txt|0|No such file or directory
+respell bad.txt p.txt|bad.txt|8|BadNumber
+respell t.csv p.txt|t.csv|2|BadWord
+respell i.txt lacks.txt|lacks.txt|2|no customer 2
+respell i.txt unknown.txt|unknown.txt|3|no customer 2
+respell i.txt twice.txt|twice.txt|2|customer 1 again, after line 1
+respell i.txt twice.txt --from-zero|twice.txt|2|customer 1 again, after line 1
+respell i.txt p.txt --from-zero|p.txt|2|no customer 0
+respell i.txt empty.txt|empty.txt|1|a route
+respell i.txt named.txt|named.txt|1|met "depot", wanted a customer's number
+respell i.txt twins.txt --names same.csv|twins.txt|1|met "a", the name of 1, 2, wanted one of one customer
+respell i.txt named.txt --names other.csv|named.txt|1|met "depot", wanted a customer's number, a name of the table
+respell i.txt json.txt|json.txt|1|no list "routes"
+respell i.txt pickup.txt|pickup.txt|2|a step that is no job
+respell i.txt or.txt|or.txt|2|met "Load of the route: 5", wanted the route of the vehicle above
+respell i.txt lkh.txt|lkh.txt|3|met "4", wanted each customer of 2 to 3 once, and at the ends the depot 1
+respell i.txt p.txt --names names2.csv|names2.csv|3|no name of number 2
+respell i.txt p.txt --certificate i.txt|i.txt|0|met the file that is read, wanted another one to write
+respell i.txt p.txt --certificate p.txt|p.txt|0|met the file that is read, wanted another one to write
+respell i.txt p.txt --certificate nowhere/c|nowhere/c|0|No such file or directory
+timetable i.txt cost.txt|cost.txt|2|20.1
+timetable i.txt lacks.txt|lacks.txt|2|no customer 2
+timetable i.txt unknown.txt|unknown.txt|2|"3"
+timetable i.txt form.txt|form.txt|2|BadLine
+timetable i.txt twice.txt|twice.txt|2|customer 1 again
+timetable i.txt cr.txt|cr.txt|1|met "Route #1: 1 2" with a carriage return behind it (BadLine), wanted lines that
+timetable i.txt mac.txt|mac.txt|2|a carriage return
+timetable i.txt cut.txt|cut.txt|2|met "Cost 20.0" without a line feed behind it (Truncated)
+draw i.txt cr.txt|cr.txt|1|carriage return
+recheck i.txt crk.txt|crk.txt|3|carriage return
+recheck i.txt k.txt cr.txt|cr.txt|1|carriage return
+timetable i.txt empty.txt|empty.txt|1|met an empty file, wanted a plan (solve leaves the file empty after NO PLAN, OPEN
+draw i.txt empty.txt|empty.txt|1|an empty file
+recheck i.txt k.txt empty.txt|empty.txt|1|an empty file
+recheck i.txt empty.txt|empty.txt|1|wanted a certificate (solve leaves the file empty after each fault)
+timetable i.txt - < cost.txt|standard input|2|20.1
+timetable bad.txt -|bad.txt|8|BadNumber
+timetable - - < i.txt|standard input|0|met a closed one, or it for a second file, wanted it open and once
+timetable i.txt - <&-|standard input|0|met a closed one, or it for a second file, wanted it open and once
+draw small.txt - < p.txt|standard input|1|met a route with a load of 2
+recheck other.txt - < k.txt|standard input|2|another instance
+convert - o.txt --from csv --vehicles 5 --capacity 5 < half.csv|standard input|3|--scale
+convert - o.txt < i.txt|-|0|met the ending "", wanted .txt, .vrp, .csv, or a layout by --from
+convert i.txt - --to csv --names -|-|0|met the file of the instance, wanted another one to write
+respell i.txt - --certificate - < p.txt|-|0|met the stream of the plan, wanted another one to write
+timetable folder p.txt|folder|0|Is a directory
+draw i.txt cost.txt|cost.txt|2|20.1
+draw late.txt p.txt|p.txt|1|met a route that comes too late: to customer 2 at 10.0, which is due at 1.0,
+draw few.txt two.txt|two.txt|2|met one route more than the 1 vehicles,
+draw small.txt p.txt|p.txt|1|met a route with a load of 2, and a vehicle holds 1,
+draw other.txt p.txt --tree k.txt|k.txt|2|another instance
+draw i.txt p.txt --tree worse.txt|worse.txt|7|BadLine
+draw i.txt p.txt --tree nowhere|nowhere|0|No such file or directory
+report i.txt cost.txt -o r.html|cost.txt|2|20.1
+report small.txt p.txt -o r.html|p.txt|1|met a route with a load of 2, and a vehicle holds 1,
+report i.txt empty.txt -o r.html|empty.txt|1|an empty file
+report i.txt p.txt high.txt -o r.html|high.txt|5|met a bound of 0.1, wanted that of the tree, 0.0
+report i.txt empty.txt high.txt -o r.html|high.txt|5|met a bound of 0.1
+report other.txt p.txt k.txt -o r.html|k.txt|2|another instance
+report i.txt p.txt --names names2.csv -o r.html|names2.csv|3|no name of number 2
+report i.txt p.txt -o p.txt|p.txt|0|met the file that is read, wanted another one to write
+report i.txt p.txt -o nowhere/r.html|nowhere/r.html|0|No such file or directory
+recheck other.txt k.txt|k.txt|2|another instance
+recheck i.txt high.txt|high.txt|5|met a bound of 0.1, wanted that of the tree, 0.0
+recheck i.txt worse.txt p.txt|worse.txt|7|BadLine
+recheck i.txt k.txt cost.txt|cost.txt|2|20.1
+recheck few.txt k.txt two.txt|two.txt|2|met one route more than the 1 vehicles,
+recheck i.txt nowhere|nowhere|0|No such file or directory
+why nowhere.txt|nowhere.txt|0|No such file or directory
+why bad.txt|bad.txt|8|BadNumber
+why heavy.txt nowhere|nowhere|0|No such file or directory
+why other.txt k.txt|k.txt|2|another instance
+why late.txt high.txt|high.txt|5|met a bound of 0.1, wanted that of the tree, 0.0
+"""
+# Wrong words, with a part of the one line that tells them; the status is 2.
+WORDS = """
+convert|required: FROM, TO
+batch i.txt|required: --into
+batch i.txt --into r --options "--turns x"|met "x", wanted options of solve with numbers
+batch i.txt --into r --options "--turns 0"|0 is not in 1..=1000000
+batch i.txt --into r --options --veh|--veh
+batch i.txt --into r --engine parallel|go together
+batch i.txt --into r --wait|go with --engine slurm
+batch i.txt --into r --jobs 0|met "0"
+convert i.txt|required: TO
+convert i.txt o.vrp x|unrecognized
+convert i.txt o.vrp --veh 5|unrecognized
+convert i.txt o.vrp --vehicles 0|met "0", wanted a whole number of 1 to 1000
+convert i.txt o.vrp --vehicles 1001|met "1001"
+convert i.txt o.vrp --capacity x|met "x"
+convert i.txt o.vrp --scale 0.5|met "0.5"
+convert i.txt o.vrp --to xml|invalid choice
+convert i.txt o.vrp --horizon 0|met "0", wanted a whole number of 1 to 1000000
+respell i.txt|required: SOLUTION
+timetable i.txt p.txt --cvs|unrecognized
+draw i.txt p.txt --times --tree k.txt|not allowed
+recheck i.txt|required: CERTIFICATE
+report i.txt|required: SOLUTION
+why|required: INSTANCE
+why i.txt k.txt p.txt|unrecognized
+"""
+# What `why` prints, with its status. The customer of over.txt that is due at 10.0 is at 10.1 from the depot, and at 5.0
+# and 5.0 by the other one. In both.txt two customers are due at once, and there is one vehicle: a route of one of them
+# costs 10.0, so at prices of 30.1 the only leaf has the value 60.2 less 20.1, and the ceiling is 40.0.
+NONE = "no such reason; the certificate has the proof, if there is no plan"
+LATE = "customer 2 can't be served alone: met a service that begins at 10.0, wanted by %s; over other customers it " \
+       "can't either: met 10.0, wanted by %s"
+WHY = [
+    ("i.txt", 1, [NONE]),
+    ("small.txt", 1, [NONE]),
+    ("both.txt", 1, [NONE]),
+    ("both.txt none.txt", 0, ["the certificate proves it, by its only leaf"]),
+    ("i.txt k.txt", 1, ["no such reason, and the certificate proves none: met a bound of 0.0, wanted one above 40.0"]),
+    ("late.txt", 0, [LATE % ("1.0", "1.0")]),
+    ("late.txt k.txt", 0, [LATE % ("1.0", "1.0")]),
+    ("shut.txt", 0, [LATE % ("5.0", "5.0")]),
+    ("over.txt", 1, ["customer 2 can't be served alone: met a service that begins at 10.1, wanted by 10.0; over other "
+                     "customers it may be, so this proves nothing: met 10.0, wanted by 10.0", NONE]),
+    ("heavy.txt", 0, ["customer 1 can't be served: met a demand of 3, wanted at most 2, which a vehicle holds",
+                      "the fleet can't serve all: met a demand of 5, wanted at most 4, which 2 vehicles hold"]),
+]
+TOOLS = ("batch", "convert", "respell", "timetable", "draw", "report", "recheck", "why", "manual")
+# With standard output on a full device or closed.
+PRINTING = ("convert i.txt - --to csv", "convert - - --from csv --to ours --vehicles 2 --capacity 2 --name T < t.csv",
+            "respell i.txt p.txt", "timetable - p.txt < i.txt", "timetable i.txt p.txt", "draw i.txt p.txt",
+            "recheck i.txt k.txt", "report i.txt p.txt k.txt", "why late.txt")
+
+
+def rows(table):
+    return [line.split("|") for line in table.strip().split("\n")]
+
+
+FAULTS = ([("refused", *row) for row in rows(REFUSED)] + [("words", *row) for row in rows(WORDS)]
+          + [("why", *row) for row in WHY] + [("help", tool) for tool in TOOLS]
+          + [("full", words) for words in PRINTING]
+          + [("closed", words) for words in PRINTING])

@@ -1,0 +1,109 @@
+"""One run of `batch` on this machine: what it says of each instance is what the check says; what is done is kept."""
+import csv
+import os
+
+from cases.random_texts import instance_words, laid_out
+from judges.judging_layouts import tool
+from judges.running import demand, got, put, run_check
+
+# What may be changed between two calls: nothing; a step that isn't done; a text; the instance as it is given, or the
+# one in the folder of its step.
+KINDS = ("nothing", "broken", "plan", "certificate", "instance", "other")
+NAMES = ["a", "b 1", "c-2.5", "\u00e9", "_x", "d.txt", "-e", "0"]
+
+
+def table_of(into):
+    """The rows of the table, by the place of the instance among the names of the files."""
+    with open(os.path.join(into, "table.csv"), encoding="utf-8", newline="") as file:
+        return list(csv.DictReader(file))
+
+
+def done_in(into):
+    """When each step was done."""
+    return {name: os.stat(os.path.join(into, name, "done.txt")).st_mtime_ns for name in os.listdir(into)
+            if os.path.exists(os.path.join(into, name, "done.txt"))}
+
+
+def judge_row(program, folder, text, row, into):
+    """A row of the table tells what the check says of the texts that are there."""
+    own = os.path.join(into, row["instance"])
+    plan, certificate = got(os.path.join(own, "plan.txt")), got(os.path.join(own, "certificate.txt"))
+    line, errors, _ = run_check(program, folder, text, certificate, plan or None)
+    if not line:
+        demand(row["status"] == "wrong: " + errors.strip(), "%r, and the check says %r" % (row, errors))
+        return
+    kind, *numbers = line.split()
+    right = {"BEST": ["BEST", *numbers, *numbers], "GAP": ["GAP", *numbers], "BOUND": ["OPEN", "", *numbers],
+             "NO": ["NO PLAN", "", ""]}[kind]
+    demand([row["status"], row["cost"], row["bound"]] == right, "%r, and the check says %r" % (row, line))
+    demand(int(row["leaves"]) == certificate.count(b"\nP "), "leaves of %r" % row)
+
+
+def changed(random, into, files, names):
+    """Changes one thing between two runs; answers what, and the step that it is about."""
+    name = random.choice(sorted(done_in(into)))
+    own, kind = os.path.join(into, name), random.choice(KINDS)
+    if kind == "broken":
+        os.remove(os.path.join(own, "done.txt"))
+    elif kind in ("plan", "certificate"):
+        held = got(os.path.join(own, kind + ".txt"))
+        put(os.path.join(own, kind + ".txt"), held[:-2] + b"x\n" if held else b"x\n")
+    elif kind == "other":
+        # The instance in the folder of the step is another one, as a machine may have changed it.
+        put(os.path.join(own, "instance.txt"), b"x")
+    elif kind == "instance":
+        path = files[names.index(name)]
+        put(path, got(path) + b"\n ")
+    return kind, name
+
+
+def liar(program, folder):
+    """A program that spoils each certificate that it writes, and checks rightly."""
+    path = os.path.join(folder, "liar")
+    put(path, ("#!/bin/sh\n'%s' \"$@\"\nstatus=$?\n[ \"$1\" = check ] || [ ! -s \"$4\" ] || echo x >>\"$4\"\n"
+               "exit $status\n" % program).encode())
+    os.chmod(path, 0o755)
+    return path
+
+
+def judge_liar(program, folder, words):
+    """What a machine spoiled is told as wrong, and solved anew by a call with another program."""
+    out, errors, status = tool("batch", *[liar(program, folder) if word == program else word for word in words])
+    told = [row["status"] for row in table_of(words[2])]
+    demand(status == 1 and all(word.startswith("wrong: ") for word in told), "spoiled: status %d, %r" % (status, told))
+    out, errors, status = tool("batch", *words)
+    demand(status == 0 and errors.count("is solved anew: wrong: ") == len(told), "spoiled: %d, %r" % (status, errors))
+
+
+def judge_batch(program, folder, random):
+    """A batch, perhaps by a machine that lies first, and once more after a change."""
+    source, into, texts, files = os.path.join(folder, "in"), os.path.join(folder, "runs"), [], []
+    os.mkdir(source)
+    for name in sorted(random.sample(NAMES, random.randint(1, 4))):
+        files.append(os.path.join(source, name + ".txt"))
+        texts.append(laid_out(random, instance_words(random, random.randint(1, 6))))
+        put(files[-1], texts[-1])
+    put(os.path.join(source, "notes.txt"), b"no instance")
+    words = [source, "--into", into, "--program", program, "--jobs", str(random.randint(1, 3)),
+             "--options", "--turns 2 --searchers 1 --bounders 1"]
+    is_spoiled = random.randrange(4) == 0
+    if is_spoiled:
+        judge_liar(program, folder, words)
+    out, errors, status = tool("batch", *words)
+    rows = table_of(into)
+    demand((status, len(rows)) == (0, len(files)), "batch: status %d, %r, %r" % (status, out, errors))
+    demand("notes.txt is passed over" in errors, "what isn't an instance isn't noted: %r" % errors)
+    for row, text in zip(rows, texts):
+        judge_row(program, folder, text, row, into)
+    before, names = done_in(into), [row["instance"] for row in rows]
+    kind, name = changed(random, into, files, names)
+    out, errors, status = tool("batch", *words)
+    after, rows = done_in(into), table_of(into)
+    again = [other for other in names if after[other] != before[other]]
+    demand(again == ([] if kind == "nothing" else [name]), "%s: done again: %r" % (kind, again))
+    demand(("has another text" in errors) == (kind in ("instance", "other")), "%s: %r" % (kind, errors))
+    demand(("is solved anew: wrong" in errors) == (kind in ("plan", "certificate")), "%s: %r" % (kind, errors))
+    demand(status == 0, "%s: status %d, %r" % (kind, status, errors))
+    for row, file in zip(rows, files):
+        judge_row(program, folder, got(file), row, into)
+    return kind + (", spoiled before" if is_spoiled else "")

@@ -1,0 +1,138 @@
+"""Runs of `solve` with drawn options. Nothing is compared that a schedule of the threads may change."""
+import os
+import re
+
+from cases.random_texts import instance_words, laid_out
+from judges.running import Disagreement, demand, run_check, solve
+from reference import bounding, checking
+from reference.building import build
+from reference.instances import plan_cost, read
+from reference.moving import descend, first_gain
+from reference.optimum import least_cost
+from reference.texts import TextFault, read_certificate, read_solution
+
+# How many threads of a kind: mostly few, for the sake of the machine.
+WORKERS = [1] * 12 + [2] * 8 + [3, 4, 5, 6, 7, 8]
+# With more labels than these the first pricing of few customers is never refused.
+FEW_LABELS = 100
+# By default; an option that isn't drawn stands here.
+DEFAULTS = {"searchers": 2, "bounders": 2, "turns": 200, "seed": 1, "neighbours": 8, "labels": 1000000}
+# How many lists of stops are gone through for one leaf.
+FEW_ROUTES = 10_000
+# A line of `--progress`.
+TOLD = re.compile(r"vrptw: (\d+) % of the turns, (?:no plan|cost (\d+\.\d)), bound (\d+\.\d)(?:, gap (\d+\.\d) %)?")
+
+
+def drawn_options(random, most_turns):
+    """Values of the options; some but the turns are left to their defaults."""
+    drawn = {"searchers": random.choice(WORKERS), "bounders": random.choice(WORKERS),
+             "turns": random.randint(1, most_turns),
+             "seed": random.choice([0, 2 ** 32 - 1, random.randrange(2 ** 32), random.randrange(2 ** 32)]),
+             "neighbours": random.randint(0, 15),
+             "labels": random.choice([random.randint(1, 12), random.randint(10, 60), 1000, 10 ** 5, 10 ** 6, 10 ** 8])}
+    return {name: value for name, value in drawn.items() if name == "turns" or random.randrange(10)}
+
+
+def least(instance, region, prices, neighbours):
+    """The least reduced cost, by all relaxed routes where they are few, else by labels."""
+    stops = instance.capacity // min(instance.demand(i) for i in range(1, instance.count + 1))
+    if neighbours >= instance.count - 1:
+        stops = min(stops, instance.count)
+    by = bounding.least_by_routes if instance.count ** stops <= FEW_ROUTES else bounding.least_by_labels
+    return by(instance, region, prices, neighbours)
+
+
+def judge_solve(program, folder, random, count, most_turns, is_small):
+    """An instance and options. Answers the line's first word."""
+    text = laid_out(random, instance_words(random, count))
+    drawn = drawn_options(random, most_turns)
+    words = [word for name, value in drawn.items() for word in ("--" + name, str(value))]
+    words += ["--progress"] * random.choice([0, 0, 1])
+    with open(os.path.join(folder, "options"), "w") as file:
+        file.write(" ".join(words) + "\n")
+    try:
+        return judge_run(program, folder, text, words, {**DEFAULTS, **drawn}, is_small)
+    except (Disagreement, TextFault) as found:
+        raise Disagreement("%s\n  options: %s\n  instance: %s\n " % (
+            found, " ".join(words), " ".join(text.decode().split())))
+
+
+def judge_run(program, folder, text, words, settings, is_small):
+    out, errors, status, solution, certificate = solve(program, folder, text, words)
+    said = (out, errors, status)
+    if status == 7:
+        demand(said == ("", "vrptw: limit: LabelLimit\n", 7), "solve: %r" % (said,))
+        demand(settings["labels"] <= FEW_LABELS, "LabelLimit with %d labels" % settings["labels"])
+        demand((solution, certificate) == (b"", b""), "files after LabelLimit")
+        return "LabelLimit"
+    if "--progress" in words:
+        judge_progress(errors, out, settings)
+        errors = ""
+    demand(errors == "" and out.split()[:1] in (["BEST"], ["GAP"], ["NO"], ["OPEN"]), "solve: %r" % (said,))
+    demand((solution == b"") == (out.split()[0] in ("NO", "OPEN")), "a solution's text beside %r" % out)
+    told = (out.replace("OPEN", "BOUND"), errors, status)
+    checked = run_check(program, folder, text, certificate, solution or None)
+    demand(checked == told, "solve: %r, check: %r" % (said, checked))
+    judge_plan(read(text), solution)
+    if is_small:
+        judge_optimum(read(text), solution, read_certificate(certificate).bound, out)
+    judge_texts(text, certificate, solution or None, told, settings)
+    return out.split()[0]
+
+
+def tenths(number):
+    """The tenths that a number of units is."""
+    return int(number.replace(".", ""))
+
+
+def judge_progress(errors, out, settings):
+    """Each hundredth of the turns is told once at most; no cost is below the last one, no bound above the last."""
+    lines = [TOLD.fullmatch(line) for line in errors.splitlines()]
+    demand(all(lines), "progress: %r" % errors)
+    parts = [int(line[1]) for line in lines]
+    turns = settings["turns"] * (settings["searchers"] + settings["bounders"])
+    demand(len(set(parts)) == len(parts) <= turns and set(parts) <= set(range(1, 101)), "progress: %r" % errors)
+    for line in lines:
+        demand((line[2] is None) == (line[4] is None), "progress: %r" % errors)
+        if line[2] is not None:
+            cost, bound = tenths(line[2]), tenths(line[3])
+            gap = (2000 * (cost - bound) + cost) // (2 * cost)
+            demand(bound < cost and tenths(line[4]) == gap, "gap: %r" % line[0])
+    last = [tenths(number) for number in out.split() if "." in number]
+    if out.startswith(("BEST", "GAP")):
+        demand(all(line[2] is None or tenths(line[2]) >= last[0] for line in lines), "%r, and %r" % (errors, out))
+    if last:
+        demand(all(tenths(line[3]) <= last[-1] for line in lines), "%r, and %r" % (errors, out))
+
+
+def judge_texts(text, certificate, solution, told, settings):
+    """Both texts by the reference's checker, and what stands in the certificate's head."""
+    found = read_certificate(certificate)
+    demand(found.version == 2, "the certificate's version")
+    demand(found.neighbours == settings["neighbours"], "the certificate's neighbours")
+    checked = checking.check(text, certificate, solution, least)
+    demand(checked == told, "solve: %r, reference: %r" % (told, checked))
+
+
+def judge_plan(instance, solution):
+    """No move makes the plan cheaper, and it costs no more than what insertion and descent come to."""
+    built, left = build(instance)
+    if solution == b"":
+        demand(left, "no plan, though insertion finds one")
+        return
+    routes, cost = read_solution(solution)
+    demand(first_gain(instance, routes) is None, "a move makes the plan cheaper")
+    demand(left or cost <= plan_cost(instance, descend(instance, built)), "a plan above the first descent's")
+
+
+def judge_optimum(instance, solution, bound, out):
+    """The least cost over all plans lies between bound and cost."""
+    optimum = least_cost(instance)
+    if solution != b"":
+        cost = read_solution(solution)[1]
+        demand(optimum is not None and bound <= optimum <= cost, "optimum %s, and %r" % (optimum, out))
+        demand(not out.startswith("BEST") or bound == optimum == cost, "optimum %s, and %r" % (optimum, out))
+    elif out == "NO PLAN\n":
+        demand(optimum is None, "NO PLAN, and one of cost %s" % optimum)
+    else:
+        demand(optimum is None or bound <= optimum, "optimum %s, and %r" % (optimum, out))

@@ -1,0 +1,159 @@
+"""What the trials of the engines of batch have in common: twelve instances, a run that is broken off and goes on, and
+the processes that a trial starts."""
+import os
+import shutil
+import signal
+import socket
+import subprocess
+import sys
+import tempfile
+import time
+
+from tools.places import TOP
+
+# The files whose first customers are the instances, and how many customers each has.
+SOURCES, COUNTS = ("c1_25", "rc1_100"), (10, 14, 18, 20, 22, 24)
+# Where the header of an example ends, in lines: behind it stands the depot's row.
+HEADER = 6
+# So many turns of so few customers take a second or some.
+OPTIONS = "--turns 20000 --searchers 1 --bounders 1"
+LONGEST = 300
+
+
+def stop_with(words):
+    """Ends the trial, whose processes end with it."""
+    raise SystemExit("%s: %s" % (os.path.basename(sys.argv[0]), words))
+
+
+def needed(told, programs, packages):
+    """Installs what isn't there where --install is said, else says what is lacking; with --help says what is told."""
+    if sys.argv[1:] in (["-h"], ["--help"]):
+        print(told.strip())
+        sys.exit(0)
+    if sys.argv[1:] not in ([], ["--install"]):
+        stop_with("met %s, wanted --install or nothing" % " ".join(sys.argv[1:]))
+    paths = os.environ["PATH"] + ":/usr/sbin:/sbin"
+    os.environ["PATH"] = paths
+    lacks = [program for program in programs if shutil.which(program) is None]
+    if lacks and sys.argv[1:] != ["--install"]:
+        stop_with("%s isn't there; --install has apt-get install %s" % (", ".join(lacks), " ".join(packages)))
+    if lacks:
+        print("installs %s by apt-get" % " ".join(packages), flush=True)
+        # The packages' own services aren't started.
+        environment = {**os.environ, "DEBIAN_FRONTEND": "noninteractive", "RUNLEVEL": "1"}
+        subprocess.run(["apt-get", "install", "-y", "--no-install-recommends", *packages], check=True, env=environment,
+                       stdout=subprocess.DEVNULL)
+
+
+def instances(folder):
+    """Twelve instances: the first customers of two examples."""
+    os.makedirs(folder)
+    for name in SOURCES:
+        with open(os.path.join(TOP, "examples", name + ".txt"), encoding="ascii") as file:
+            lines = file.read().split("\n")
+        for count in COUNTS:
+            with open(os.path.join(folder, "%s_%d.txt" % (name, count)), "w", encoding="ascii") as file:
+                file.write("\n".join(lines[:HEADER + 1 + count]) + "\n")
+
+
+def free_port():
+    with socket.socket() as found:
+        found.bind(("127.0.0.1", 0))
+        return found.getsockname()[1]
+
+
+def wait_for(holds, what, seconds=30):
+    """Waits until something holds."""
+    ends = time.time() + seconds
+    while not holds():
+        if time.time() > ends:
+            stop_with("%s didn't come within %d s" % (what, seconds))
+        time.sleep(0.1)
+
+
+def answers_at(port):
+    """Whether something listens at a port of this machine."""
+    with socket.socket() as found:
+        return found.connect_ex(("127.0.0.1", port)) == 0
+
+
+class Services:
+    """Processes that a trial starts, and ends by their ids, in the other order."""
+
+    def __init__(self, folder):
+        self.folder, self.children = folder, []
+
+    def start(self, name, words, environment=None):
+        with open(os.path.join(self.folder, name + ".log"), "wb") as log:
+            child = subprocess.Popen(words, stdin=subprocess.DEVNULL, stdout=log, stderr=log,
+                                     env={**os.environ, **(environment or {})})
+        self.children.append((name, child))
+        print("started %s, process %d" % (name, child.pid), flush=True)
+
+    def demand_running(self):
+        """Ends the trial where one of the processes has ended, with what it said last."""
+        for name, child in self.children:
+            if child.poll() is not None:
+                with open(os.path.join(self.folder, name + ".log"), errors="replace") as log:
+                    stop_with("%s ended with status %d: %s" % (name, child.returncode, log.read()[-2000:]))
+
+    def stop(self):
+        for name, child in reversed(self.children):
+            if child.poll() is None:
+                os.kill(child.pid, signal.SIGTERM)
+                try:
+                    child.wait(20)
+                except subprocess.TimeoutExpired:
+                    os.kill(child.pid, signal.SIGKILL)
+                    child.wait()
+            print("ended %s, process %d" % (name, child.pid), flush=True)
+
+
+def done_in(into):
+    """When each step was done, by its name."""
+    found = {}
+    for name in os.listdir(into) if os.path.isdir(into) else []:
+        path = os.path.join(into, name, "done.txt")
+        if os.path.exists(path):
+            found[name] = os.stat(path).st_mtime_ns
+    return found
+
+
+def broken_off(words, into):
+    """Begins a batch, and ends it by its id as soon as some steps are done."""
+    child = subprocess.Popen(words, stdout=subprocess.DEVNULL)
+    wait_for(lambda: len(done_in(into)) >= 3 or child.poll() is not None, "three steps", LONGEST)
+    if child.poll() is not None:
+        log = os.path.join(into, "engine.txt")
+        said = open(log, errors="replace").read()[-2000:] if os.path.exists(log) else ""
+        stop_with("the batch ended before it was broken off, with status %d: %s" % (child.returncode, said))
+    os.kill(child.pid, signal.SIGTERM)
+    child.wait(60)
+
+
+def goes_on(words, into):
+    """The same words again: what was done stays, the rest is done, and the table has all."""
+    before = done_in(into)
+    print("broken off after %d of 12 steps" % len(before), flush=True)
+    came = subprocess.run(words, stdout=subprocess.PIPE, timeout=LONGEST)
+    print(came.stdout.decode(), end="", flush=True)
+    after = done_in(into)
+    again = [name for name in before if after.get(name) != before[name]]
+    if came.returncode or len(after) != 12 or again:
+        stop_with("status %d, %d of 12 done, done again: %s" % (came.returncode, len(after), again))
+    came = subprocess.run(words, stdout=subprocess.PIPE, timeout=LONGEST)
+    if came.returncode or done_in(into) != after:
+        stop_with("a third call did something")
+
+
+def trial(work, **given):
+    """Makes a trial in a folder of its own, whose processes end with it."""
+    folder = tempfile.mkdtemp(prefix="vrptw_trial_", **given)
+    services = Services(folder)
+    try:
+        instances(os.path.join(folder, "instances"))
+        work(folder, services)
+        print("twelve instances, broken off and gone on: right", flush=True)
+    finally:
+        services.stop()
+        shutil.rmtree(folder, ignore_errors=True)

@@ -1,0 +1,73 @@
+"""The tutorial's commands, run one after the other in a folder, and what it says that comes of them."""
+import os
+import re
+
+from judges.running import demand, put, run, shown
+from tools.manual import page
+from tools.places import TOP
+
+BLOCK = re.compile(r"^```console\n(.*?)^```$", re.M | re.S)
+ROW = re.compile(r"^\| [^|]*`(--[^`]*)` \|", re.M)
+
+
+def commands(text):
+    """Each command of a text with the lines that stand below it."""
+    for block in BLOCK.findall(text):
+        for part in re.split(r"^\$ ", block, flags=re.M)[1:]:
+            command, _, output = part.partition("\n")
+            yield command, output
+
+
+def fits(output, told):
+    """Whether an output is what is told, where three points stand for any end of it."""
+    return output.startswith(told[:-len("...\n")]) if told.endswith("...\n") else output == told
+
+
+def fitted_out(program, folder):
+    """Puts into the folder what the commands need from the top of the repository."""
+    for name in ("outside", "examples"):
+        os.symlink(os.path.join(TOP, name), os.path.join(folder, name))
+    os.symlink(os.path.abspath(program), os.path.join(folder, "vrptw"))
+
+
+def said(folder, command):
+    """What a command says on both streams, and its status."""
+    put(os.path.join(folder, "command"), ("cd '%s'\nexec 2>&1\n%s\n" % (folder, command)).encode())
+    out, _, status = run(["/bin/bash", os.path.join(folder, "command")])
+    return shown(out) if out.isascii() else out.decode(), status
+
+
+def judge_tutorial(program, folder):
+    """Each command ends as the page says, and each row of its table has options that the program takes."""
+    told_there = held("tutorial.md")
+    fitted_out(program, folder)
+    found = list(commands(told_there))
+    demand(len(found) >= 15, "the tutorial has %d commands" % len(found))
+    for command, told in found:
+        output, status = said(folder, command)
+        is_open = told.startswith("GAP") or ": met " in told
+        demand(fits(output, told) and status == is_open, "$ %s: status %d, %r" % (command, status, output))
+    rows = ROW.findall(told_there)
+    demand(len(rows) >= 10, "the tutorial has %d rows of options" % len(rows))
+    for options in rows:
+        output, status = said(folder, "./vrptw solve dozen.txt p.txt c.txt " + options)
+        demand((output, status) == ("BEST 173.2\n", 0), "%s: status %d, %r" % (options, status, output))
+    return "%d commands, %d rows of options" % (len(found), len(rows))
+
+
+def held(name):
+    with open(os.path.join(TOP, "docs", name), encoding="utf-8") as file:
+        return file.read()
+
+
+def judge_instances():
+    """The files of bench/instances are what bench/make_instances makes."""
+    out, errors, status = run([os.path.join(TOP, "bench", "make_instances"), "--check"])
+    demand((out, errors, status) == (b"", b"", 0), "bench/make_instances: %s" % shown(out + errors))
+    return "as they are made"
+
+
+def judge_manual(program):
+    """The manual page is what the program's help and the formats make of it."""
+    demand(held("vrptw.1") == page(program, held("formats.md")), "docs/vrptw.1 isn't what outside/manual prints")
+    return "as the help says"

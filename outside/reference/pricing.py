@@ -1,0 +1,127 @@
+"""The values of a tree's leaves by labels, faster than `bounding.py` finds them: sets are words of bits, and labels
+that can't lead to the least reduced cost stay where they are."""
+from heapq import heappop, heappush
+
+from reference.bounding import Region, neighbour_lists
+
+# How many labels a leaf may have.
+MOST_LABELS = 200_000
+
+# How many slots of time there may be; with more, none are made.
+MOST_SLOTS = 400
+
+NEVER, ALWAYS = float("inf"), -float("inf")
+
+
+class TooMany(Exception):
+    """A leaf has more labels than may be kept."""
+
+
+class Pricing:
+    """What all leaves of a tree have in common: neighbour lists as bits, and the tree's version."""
+
+    def __init__(self, instance, neighbours, version):
+        self.instance, self.version = instance, version
+        self.bits = [sum(1 << u for u in near) for near in neighbour_lists(instance, neighbours)]
+        self.slot = min((instance.service(i) + instance.arc[i][j] for i in range(1, instance.count + 1)
+                         for j in range(1, instance.count + 1) if i != j), default=instance.due(0) + 1)
+
+    def value(self, region, prices):
+        """A leaf's value in tenths, by the definition; None where it has too many labels."""
+        try:
+            found = self.least(region, prices)
+        except TooMany:
+            return None
+        found = 0 if found is None else found
+        grains = sum(prices) + self.instance.fleet * min(0, found)
+        if self.version == 2:
+            grains += self.instance.fewest_routes() * max(0, found)
+        return min(self.instance.ceiling() + 1, max(0, -(-grains // 1000)))
+
+    def least(self, region, prices):
+        """The least reduced cost over all relaxed routes, or None. The label that may lead to the least cost is taken
+        first, so that the search is over where none may lead below the route found."""
+        arc, ways, count = self.instance.arc, self.ways(region, prices), 0
+        floors = self.floors(region, ways)
+        held, found = [[] for _ in arc], NEVER
+        waiting = [(ALWAYS, 0, self.instance.ready(0), 0, 0, 0)]
+        while waiting:
+            least, load, begin, cost, memory, at = heappop(waiting)
+            if least >= found:
+                break
+            if at and (load, begin, cost, memory) not in held[at]:
+                continue
+            leave = begin + self.instance.service(at)
+            if at and region.allows(at, 0) and leave + arc[at][0] <= self.instance.due(0):
+                found = min(found, cost + 1000 * arc[at][0])
+            for j, length, spent in ways[at]:
+                start = max(leave + length, self.instance.ready(j))
+                more = load + self.instance.demand(j)
+                if memory >> j & 1 or more > self.instance.capacity or start > self.instance.due(j):
+                    continue
+                least = cost + spent + self.floor(floors, at, j, start)
+                label = (more, start, cost + spent, memory & self.bits[j] | 1 << j)
+                if least < found and self.keep(held[j], label):
+                    heappush(waiting, (least, *label, j))
+                    count += 1
+                    if count > MOST_LABELS:
+                        raise TooMany
+        return None if found == NEVER else found
+
+    def floors(self, region, ways):
+        """For each stop and slot of time what it costs at least to come home from there, if service begins at the
+        slot's beginning or later: whatever the load and the stops before, but for one. With it the stop that comes next
+        then, and what it costs where another one does. A step takes a slot at least, so the last slot comes first."""
+        slots = max(row[4] for row in self.instance.rows) // max(1, self.slot) + 1
+        if self.slot == 0 or slots > MOST_SLOTS:
+            return None
+        home, due = self.instance.arc, self.instance.due
+        floors = [[None] * slots for _ in ways]
+        for slot in reversed(range(slots)):
+            for i in range(1, len(ways)):
+                leave = max(slot * self.slot, self.instance.ready(i)) + self.instance.service(i)
+                found = [(1000 * home[i][0], 0)] if region.allows(i, 0) and leave + home[i][0] <= due(0) else []
+                for j, length, spent in ways[i]:
+                    start = max(leave + length, self.instance.ready(j))
+                    if start <= due(j):
+                        found.append((spent + self.floor(floors, i, j, start), j))
+                best, then = min(found, default=(NEVER, 0))
+                floors[i][slot] = (best, then, min((cost for cost, j in found if j != then), default=NEVER))
+        return floors
+
+    def floor(self, floors, at, j, start):
+        """What it costs at least to come home from a customer that is served from then on, behind this stop."""
+        if floors is None:
+            return ALWAYS
+        best, then, other = floors[j][start // self.slot]
+        return other if then == at != 0 and self.bits[j] >> at & 1 else best
+
+    def ways(self, region, prices):
+        """From each stop the customers that the region allows and that a vehicle may reach in time, with the length of
+        the arc and what it costs in grains, less the price."""
+        arc, count = self.instance.arc, self.instance.count
+        leave = [self.instance.ready(i) + self.instance.service(i) for i in range(count + 1)]
+        return [[(j, arc[i][j], 1000 * arc[i][j] - prices[j - 1]) for j in range(1, count + 1)
+                 if leave[i] + arc[i][j] <= self.instance.due(j) and region.allows(i, j)] for i in range(count + 1)]
+
+    def keep(self, held, label):
+        """Whether no label of the customer is as good as this one; those that are no better than it go."""
+        load, time, cost, memory = label
+        for other in held:
+            if other[0] <= load and other[1] <= time and other[2] <= cost and other[3] & ~memory == 0:
+                return False
+        held[:] = [other for other in held if not (load <= other[0] and time <= other[1] and cost <= other[2]
+                                                   and memory & ~other[3] == 0)]
+        held.append(label)
+        return True
+
+
+def leaves(count, tree):
+    """The region and the prices of each leaf, in preorder."""
+    rest = [(Region(count), tree)]
+    while rest:
+        region, tree = rest.pop()
+        if tree[0] == "P":
+            yield region, tree[1]
+        else:
+            rest += [(region.unused(tree[1]), tree[3]), (region.used(tree[1]), tree[2])]

@@ -1,0 +1,1 @@
+"""What stands behind the tools that convert, respell, draw, report, batch, and check a certificate again."""

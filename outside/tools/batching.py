@@ -1,0 +1,188 @@
+"""The steps of a batch: an instance, a folder, a command that can be run again; and what is known of each."""
+import hashlib
+import os
+import re
+import shutil
+import subprocess
+
+from reference.instances import read
+from reference.texts import TextFault, read_certificate, read_solution, shown
+from tools.places import OUTSIDE
+from tools.plans import of_ours
+from tools.tool import Refused, Text, last_words
+
+# What a step leaves, in the order in which it is brought back: the last one says that it is done.
+ANSWERS = ("plan.txt", "certificate.txt", "line.txt", "errors.txt", "done.txt")
+DONE = re.compile(r"([0-9]{1,3}) ([0-9]{1,12}) (\S{1,255})\n\Z")
+VERDICT = re.compile(r"(BEST|GAP|BOUND|NO PLAN)( [0-9.]+)?( [0-9.]+)?\n\Z")
+WORD = re.compile(r"--[a-z]+(=[0-9]{1,12})?\Z|[0-9]{1,12}\Z")
+
+
+def content(path):
+    """What a file holds; nothing where it isn't there."""
+    try:
+        with open(path, "rb") as file:
+            return file.read()
+    except FileNotFoundError:
+        return b""
+
+
+def put(path, held):
+    """Writes a file whole or not at all."""
+    try:
+        with open(path + ".new", "wb") as file:
+            file.write(held)
+        os.replace(path + ".new", path)
+    except OSError as fault:
+        raise Refused("%s: %s" % (path, last_words(fault)))
+
+
+class Outcome:
+    """What is known of a step that is done: status is a verdict, or why there is none."""
+
+    def __init__(self, status, cost=None, bound=None, leaves=None, seconds=None, machine=""):
+        self.status, self.cost, self.bound, self.leaves = status, cost, bound, leaves
+        self.seconds, self.machine = seconds, machine
+
+    def is_answer(self):
+        return self.bound is not None
+
+
+class Step:
+    """An instance of a batch, and its folder."""
+
+    def __init__(self, source, text, folder):
+        self.source, self.held, self.folder = source, text.held, folder
+        self.name, self.count = os.path.basename(folder), of_ours(text, read, "an instance").count
+        self.outcome = None
+
+    def path(self, name):
+        return os.path.join(self.folder, name)
+
+    def prepare(self):
+        """Puts the instance into its folder. Answers whether another text was solved there before; that goes."""
+        before = content(self.path("instance.txt"))
+        if before == self.held:
+            return False
+        self.clear()
+        os.makedirs(self.folder, exist_ok=True)
+        put(self.path("instance.txt"), self.held)
+        return bool(before)
+
+    def clear(self):
+        """Takes away what was done, what says so first."""
+        self.outcome = None
+        for name in ANSWERS[::-1] + ("checked.txt",):
+            if os.path.exists(self.path(name)):
+                os.remove(self.path(name))
+
+    def is_done(self):
+        return bool(DONE.match(content(self.path("done.txt")).decode(errors="replace")))
+
+    def judge(self, program):
+        """Finds out what came of the step. The texts are checked here, by the program here and the instance as it was
+        given; a check of the same texts isn't made again."""
+        status, milliseconds, machine = DONE.match(content(self.path("done.txt")).decode()).groups()
+        if int(status) > 1:
+            told = content(self.path("errors.txt")).decode(errors="replace").split("\n")[0]
+            self.outcome = Outcome("failed: %s" % (told or "status %s" % status))
+        else:
+            self.outcome = self.checked(program)
+        self.outcome.seconds, self.outcome.machine = int(milliseconds) / 1000, machine
+
+    def checked(self, program):
+        certificate, plan = content(self.path("certificate.txt")), content(self.path("plan.txt"))
+        try:
+            leaves = certificate.count(b"\nP ")
+            told = self.verdict(program, certificate, plan)
+        except TextFault as fault:
+            return Outcome("wrong: %s" % fault)
+        found = VERDICT.match(told)
+        if not found:
+            return Outcome("wrong: %s" % told.split("\n")[0])
+        bound = shown(read_certificate(certificate).bound)
+        cost = shown(read_solution(plan)[1]) if plan else None
+        return Outcome({"BOUND": "OPEN"}.get(found[1], found[1]), cost, bound, leaves)
+
+    def verdict(self, program, certificate, plan):
+        """What the check says of the texts, kept with their sums."""
+        sums = b" ".join(hashlib.sha256(text).hexdigest().encode() for text in (self.held, certificate, plan))
+        kept = content(self.path("checked.txt"))
+        if kept.startswith(sums + b"\n"):
+            return kept[len(sums) + 1:].decode()
+        put(self.path("instance.txt"), self.held)
+        words = [program, "check", self.path("instance.txt"), self.path("certificate.txt")]
+        came = subprocess.run(words + (["--solution", self.path("plan.txt")] if plan else []), capture_output=True)
+        told = (came.stdout or came.stderr).decode(errors="replace")
+        put(self.path("checked.txt"), sums + b"\n" + told.encode())
+        return told
+
+
+def sources_of(paths):
+    """The files of instances, and what is noted of those of a folder that are none."""
+    found, notes = [], []
+    for path in paths:
+        if not os.path.isdir(path):
+            found.append((path, Text(path)))
+            of_ours(found[-1][1], read, "an instance")
+            continue
+        for name in sorted(os.listdir(path)):
+            inner = os.path.join(path, name)
+            if not name.endswith(".txt") or not os.path.isfile(inner):
+                continue
+            text = Text(inner)
+            try:
+                of_ours(text, read, "an instance")
+                found.append((inner, text))
+            except Refused:
+                notes.append("%s is passed over: it holds no instance" % inner)
+    if not found:
+        raise Refused("%s: met no instance, wanted files that vrptw reads" % paths[0])
+    return found, notes
+
+
+def steps_of(paths, into):
+    """A step for each instance, named after its file, and notes."""
+    steps, taken = [], {}
+    found, notes = sources_of(paths)
+    for path, text in found:
+        name = re.sub(r"[^A-Za-z0-9_.-]", "_", os.path.splitext(os.path.basename(path))[0])
+        name = name if name[:1].isalnum() else "_" + name
+        if name in taken:
+            raise Refused("%s: met the name %s again, after %s, wanted each name once" % (path, name, taken[name]))
+        taken[name] = path
+        steps.append(Step(path, text, os.path.join(into, name)))
+    return steps, notes
+
+
+def prepared(steps, into, options, program):
+    """Lays out the folder of a batch; answers what is noted. One with other options is refused."""
+    try:
+        os.makedirs(into, exist_ok=True)
+    except OSError as fault:
+        raise Refused("%s: %s" % (into, last_words(fault)))
+    kept, told = os.path.join(into, "options"), " ".join(options) + "\n"
+    if os.path.exists(kept) and content(kept).decode(errors="replace") != told:
+        raise Refused("%s: line 1: met \"%s\", wanted \"%s\", or another folder by --into" % (
+            kept, content(kept).decode(errors="replace").split("\n")[0], told[:-1]))
+    put(kept, told.encode())
+    for name, source in (("program", program), ("step", os.path.join(OUTSIDE, "tools", "step"))):
+        put(os.path.join(into, name), content(source))
+        os.chmod(os.path.join(into, name), 0o755)
+    changed = [step.source for step in steps if step.prepare()]
+    return ["%s has another text than before, and is solved anew" % path for path in changed]
+
+
+def refuse_words(program, options):
+    """Why the program doesn't take these options, in one line, or None. With equal paths it does nothing else."""
+    wrong = [word for word in options if not WORD.match(word)]
+    if wrong:
+        return "met \"%s\", wanted options of solve with numbers" % wrong[0]
+    came = subprocess.run([program, "solve", "-", "-", "-", *options], capture_output=True)
+    return came.stderr.decode(errors="replace").split("\n")[0] if came.returncode == 2 else None
+
+
+def found_tool(name, package):
+    """Refuses where a program of others isn't there."""
+    if shutil.which(name) is None:
+        raise Refused("%s: met no such program, wanted it (Debian's package %s)" % (name, package))

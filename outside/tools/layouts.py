@@ -1,0 +1,162 @@
+"""Instances of other layouts as ours has them: what it can't hold is refused, with the line and the reason.
+
+A problem is a name, a fleet, a capacity and rows of whole numbers: x, y, demand, ready, due, service. Row 0 is the
+depot's. Each number of a row knows its line.
+"""
+import os
+import re
+from collections import namedtuple
+
+from reference.instances import MOST_CUSTOMERS
+from tools import unservable
+from tools.tool import Found, quoted
+
+# The limits of ours, and those of the numbers of places there and of the scale.
+MOST_NAME, MOST_FLEET, MOST_CAPACITY = 32, 1000, 10_000
+MOST_COORDINATE, MOST_DEMAND, MOST_TIME = 10_000, 10_000, 10 ** 6
+MOST_NUMBER, MOST_SCALE = 10 ** 9, 10_000
+FLEET, CAPACITY = ("a number of vehicles", MOST_FLEET), ("a capacity", MOST_CAPACITY)
+HINT = " (--scale N multiplies coordinates and times)"
+
+# Names are by number, from the depot's on: where the text has none, the numbers there.
+Problem = namedtuple("Problem", "name fleet capacity rows names")
+# What a layout says of an instance: the name may be None, and so may fleet, capacity and the places' names; rows by
+# their numbers there.
+Read = namedtuple("Read", "name fleet capacity nodes depot notes names")
+
+
+class Quantities:
+    """The numbers of a text within the limits of ours, coordinates and times multiplied by the scale. A horizon is the
+    end of the day of a text without windows."""
+
+    def __init__(self, text, scale, horizon=None, keeps_names=False):
+        self.text, self.scale, self.horizon, self.keeps_names = text, scale, horizon, keeps_names
+
+    def refuse_horizon(self, line):
+        """A text with windows, which begin in this line, has no horizon by an option."""
+        if self.horizon is not None:
+            self.text.refuse(line, "windows, and --horizon", "one of both")
+
+    def end_of_day(self, column):
+        """What stands for a ready time or a due date that the text hasn't."""
+        return "%d" % self.horizon if column == "due" else "0"
+
+    def coordinate(self, line, word, axis):
+        return self.text.whole(line, word, axis, -MOST_COORDINATE, MOST_COORDINATE, self.scale, HINT)
+
+    def time(self, line, word, what):
+        return self.text.whole(line, word, what, 0, MOST_TIME, self.scale, HINT)
+
+    def demand(self, line, word):
+        return self.text.whole(line, word, "a demand", 0, MOST_DEMAND)
+
+    def row(self, cells):
+        """A row of six words with their lines, in this order."""
+        (x, y, demand, *times) = cells
+        whats = ("a ready time", "a due date", "a service time")
+        return (self.coordinate(*x, "x"), self.coordinate(*y, "y"), self.demand(*demand),
+                *(self.time(*cell, what) for cell, what in zip(times, whats)))
+
+    def node(self, line, word):
+        return self.text.whole(line, word, "a number of a place", 0, MOST_NUMBER)
+
+    def fleet(self, line, word):
+        """The fleet, which an option may replace before its limit counts; and so the capacity."""
+        return self.text.whole(line, word, FLEET[0], 0, MOST_NUMBER)
+
+    def capacity(self, line, word):
+        return self.text.whole(line, word, CAPACITY[0], 0, MOST_NUMBER)
+
+
+def add(text, nodes, number, row):
+    """Puts a row to its number, which has none yet."""
+    if number in nodes:
+        text.refuse(number.line, "number %d again" % number, "each number once")
+    nodes[number] = row
+
+
+def in_order(text, read):
+    """The depot's row and then the customers', in the order of their numbers; their names; and what is noted of it."""
+    others = sorted(number for number in read.nodes if number != read.depot)
+    if not others:
+        text.at_end("a customer")
+    if len(others) > MOST_CUSTOMERS:
+        over = sorted(number.line for number in others)[MOST_CUSTOMERS]
+        text.refuse(over, "customer %d" % (MOST_CUSTOMERS + 1), "at most %d customers" % MOST_CUSTOMERS)
+    rows = [read.nodes[read.depot]] + [read.nodes[number] for number in others]
+    judge_rows(text, rows)
+    names = read.names or [str(number) for number in [read.depot] + others]
+    if others == list(range(read.depot + 1, read.depot + 1 + len(others))):
+        return rows, names, []
+    return rows, names, [
+        "the depot's number %d becomes 0, and the other numbers, from %d to %d, become 1 to %d in their order"
+        % (read.depot, others[0], others[-1], len(others))]
+
+
+def moved(text, rows):
+    """The rows with coordinates of 0 and more: where some are below 0, all are moved, and that is noted."""
+    shifts = [max(0, -min(row[axis] for row in rows)) for axis in (0, 1)]
+    if not any(shifts):
+        return rows, []
+    found = []
+    for row in rows:
+        places = [Found(row[axis] + shifts[axis], row[axis].line) for axis in (0, 1)]
+        for axis, place in zip("xy", places):
+            if place > MOST_COORDINATE:
+                text.refuse(place.line, "%s of %d above the least one" % (axis, place), "at most %d" % MOST_COORDINATE)
+        found.append((*places, *row[2:]))
+    told = " and ".join("%s by %d" % pair for pair in zip("xy", shifts) if pair[1])
+    return found, ["some coordinates are below 0, so all are moved, %s: distances are the same" % told]
+
+
+def judge_rows(text, rows):
+    """Refuses a depot with a demand or a service, a customer without a demand, and a window that is reversed."""
+    for place, (_, _, demand, ready, due, service) in enumerate(rows):
+        if place == 0 and demand:
+            text.refuse(demand.line, "a demand of %d at the depot" % demand, "0")
+        if place == 0 and service:
+            text.refuse(service.line, "a service of %d at the depot" % service, "0")
+        if place and not demand:
+            text.refuse(demand.line, "a customer with a demand of 0", "a demand of 1 to %d" % MOST_DEMAND)
+        if due < ready:
+            text.refuse(due.line, "a due date of %d after a ready time of %d" % (due, ready),
+                        "a due date that isn't before it")
+
+
+def name_of(path, given, there, notes):
+    """The name by the option, or that of the text, or that of the file; of at most 32 bytes and without blanks."""
+    name = given or there
+    if not name:
+        name = os.path.splitext(os.path.basename(path))[0]
+        notes.append("no name of the instance stands there, so it is that of the file, %s" % quoted(name))
+    fits = re.sub(r"[^\x21-\x7e]+", "_", name)[:MOST_NAME]
+    if fits != name:
+        notes.append("the name %s becomes %s: ours has at most %d signs, all of ASCII, and no blank"
+                     % (quoted(name), quoted(fits), MOST_NAME))
+    return fits
+
+
+def number_of(text, option, given, there, limit, notes):
+    """A number by its option or that of the text; where both say different ones, that is noted."""
+    what, most = limit
+    if given is None and there is None:
+        text.at_end("it there or by %s" % option, "the end without %s" % what)
+    if given is None and not 1 <= there <= most:
+        text.refuse(there.line, '"%d"' % there, "%s of 1 to %d" % (what, most))
+    if given is not None and there is not None and given != there:
+        notes.append("%s is %d by %s, and line %d has %d" % (what, given, option, there.line, there))
+    return there if given is None else given
+
+
+def problem_of(text, quantities, read, given):
+    """The problem of what was read, and what is noted; given are the options."""
+    notes = list(read.notes)
+    if quantities.horizon is not None:
+        notes.append("there are no windows, so service may begin from 0 to %d, and the depot is open as long"
+                     % read.nodes[read.depot][4])
+    rows, names, renumbered = in_order(text, read)
+    rows, is_moved = moved(text, rows)
+    fleet = number_of(text, "--vehicles", given.vehicles, read.fleet, FLEET, notes)
+    capacity = number_of(text, "--capacity", given.capacity, read.capacity, CAPACITY, notes)
+    found = Problem(name_of(text.path, given.name, read.name, notes), fleet, capacity, rows, names)
+    return found, renumbered + is_moved + notes + list(unservable.notes(found))

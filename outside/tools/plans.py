@@ -1,0 +1,78 @@
+"""Our texts as the tools read them: an instance, and a solution that serves each of its customers once."""
+from reference.instances import Fault, plan_cost, read
+from reference.texts import TextFault, read_certificate, read_solution, shown
+from tools.naming import Numbering
+from tools.respelling import customers
+from tools.timing import stops
+from tools.tool import Found, Text, quoted
+
+
+# What leaves a text empty.
+EMPTY = {"a solution": "a plan (solve leaves the file empty after NO PLAN, OPEN and each fault)",
+         "a certificate": "a certificate (solve leaves the file empty after each fault)"}
+
+
+def of_ours(text, reader, what):
+    """What our reader reads; its fault is told with its name, and with the line that has it."""
+    try:
+        return reader(text.held)
+    except (Fault, TextFault) as fault:
+        name, _, place = str(fault).partition(" ")
+        kind, _, number = place.partition(" ")
+        line = int(number) if kind == "line" else text.line_of(int(number)) if kind else text.last()
+        if not text.held and what in EMPTY:
+            text.refuse(1, "an empty file", EMPTY[what])
+        judge_ends(text, line, name, what)
+        text.refuse(line, "%s (%s)" % (quoted(text.lines[line - 1]), name), "%s of docs/formats.md" % what)
+
+
+def judge_ends(text, line, name, what):
+    """Refuses a line that our reader doesn't take for its end alone: a carriage return, or no line feed."""
+    if what not in EMPTY or name not in ("BadLine", "Truncated"):
+        return
+    lines = text.held.split(b"\n")
+    held = lines[line - 1] if line <= len(lines) else lines[-1]
+    if b"\r" in held:
+        text.refuse(line, "%s with a carriage return behind it (%s)" % (quoted(text.lines[line - 1]), name),
+                    "lines that end in a line feed alone")
+    if name == "Truncated" and held:
+        text.refuse(line, "%s without a line feed behind it (Truncated)" % quoted(text.lines[line - 1]),
+                    "%s of docs/formats.md" % what)
+
+
+def instance_of(path):
+    return of_ours(Text(path), read, "an instance")
+
+
+def certificate_of(path):
+    return of_ours(Text(path), read_certificate, "a certificate")
+
+
+def plan_of(instance, path):
+    """Routes and cost of a solution; it serves each customer once, at the cost that it tells."""
+    text = Text(path)
+    routes, cost = of_ours(text, read_solution, "a solution")
+    found = [[Found(i, line) for i in route] for line, route in enumerate(routes, 1)]
+    customers(text, found, Numbering(1, instance.count))
+    if plan_cost(instance, routes) != cost:
+        text.refuse(text.last(), "a cost of %s" % shown(cost), "%s" % shown(plan_cost(instance, routes)))
+    return routes, cost
+
+
+def defects(instance, routes):
+    """Why routes that serve each customer once are no plan: the number of a route, and what is wrong with it."""
+    for place, route in enumerate(routes, 1):
+        load = sum(instance.demand(i) for i in route)
+        late = next((stop for stop in stops(instance, route) if stop.slack < 0), None)
+        if load > instance.capacity:
+            yield place, "a route with a load of %d, and a vehicle holds %d" % (load, instance.capacity)
+        elif late:
+            yield place, "a route that comes too late: to %s at %s, which is due at %s" % (
+                "customer %d" % late.stop if late.stop else "the depot", shown(late.begin),
+                shown(late.begin + late.slack))
+        if place == instance.fleet + 1:
+            yield place, "one route more than the %d vehicles" % instance.fleet
+
+
+def noted_defects(instance, routes):
+    return ["no plan of this instance: route %d is %s" % defect for defect in defects(instance, routes)]

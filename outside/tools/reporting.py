@@ -1,0 +1,233 @@
+"""A report of a plan as one page: what was asked and answered, the vehicles, the pictures, the timetable, the check."""
+import os
+import shlex
+from html import escape
+
+from reference.instances import route_cost
+from reference.texts import shown
+from tools import drawing_tree
+from tools.drawing import HEAD, colour, dash, is_hollow, plural
+from tools.drawing_map import Frame, drawn_map
+from tools.drawing_times import AXIS, FIGURES, LANES, Scale, drawn_bars
+from tools.reporting_page import SCRIPT, SHELL, STYLE
+from tools.timing import signed, stops, sums, total
+
+WIDE = 1000
+# What the tables say of a stop.
+STOP_COLUMNS = ("arrival", "wait", "begin", "end", "load", "slack")
+
+
+class Report:
+    """What is reported: routes and cost are None where there is no plan, and the certificate where there is none."""
+
+    def __init__(self, instance, names, routes, cost, certificate, values, paths):
+        self.instance, self.names, self.routes, self.cost = instance, names, routes, cost
+        self.certificate, self.values, self.paths = certificate, values, paths
+        self.bound = certificate.bound if certificate else None
+        self.is_checked = certificate is not None and None not in values
+
+    def name(self, i):
+        """The name of a place beside its number, which is blank where it has none."""
+        if self.names:
+            return self.names[i] if self.names[i] != str(i) else ""
+        return "" if i else "depot"
+
+    def verdict(self):
+        """The line that the check prints, or None without a certificate."""
+        if self.certificate is None:
+            return None
+        if self.cost is None:
+            return "NO PLAN" if self.bound == self.instance.ceiling() + 1 else "BOUND %s" % shown(self.bound)
+        return "BEST %s" % shown(self.cost) if self.cost == self.bound else "GAP %s %s" % (
+            shown(self.cost), shown(self.bound))
+
+
+def asked(report):
+    instance = report.instance
+    return ("Asked was to serve %s from %s with at most %s of capacity %d, each customer once and within its window, "
+            "at the least distance in all." % (
+                plural(instance.count, "customer"), report.name(0) if report.name(0) != "depot" else "the depot",
+                plural(instance.fleet, "vehicle"), instance.capacity))
+
+
+def claim(report):
+    """What the certificate shows, as a part of a sentence."""
+    kind = report.verdict().split()[0]
+    if kind == "GAP":
+        return "no plan costs less than %s, so the cheapest one saves at most %s of this cost" % (
+            shown(report.bound), percent(report.cost - report.bound, report.cost))
+    return {"BEST": "no plan is cheaper than this one", "NO": "there is no plan that serves all customers",
+            "BOUND": "every plan costs at least %s" % shown(report.bound)}[kind]
+
+
+def answer(report):
+    """What was answered, in sentences, of which each is true of what was checked."""
+    found = []
+    if report.cost is not None:
+        found.append("%s all, at a cost of %s units of distance." % (
+            "1 vehicle serves" if len(report.routes) == 1 else "%d vehicles serve" % len(report.routes),
+            shown(report.cost)))
+    elif report.verdict() != "NO PLAN":
+        found.append("No plan was found.")
+    if report.certificate is None:
+        return " ".join(found + ["Whether a cheaper plan exists isn't said: no certificate was given."])
+    told, command = claim(report), "<code>%s</code>" % escape(check_command(report))
+    if report.is_checked:
+        found.append("%s, and anybody can check that with %s." % (escape(told[0].upper() + told[1:]), command))
+    else:
+        found.append("The certificate says that %s; %d of its %d leaves have too many labels to be checked here. The "
+                     "whole check is %s." % (escape(told), report.values.count(None), len(report.values), command))
+    return " ".join(found)
+
+
+def check_command(report):
+    """The words of the check, with the names of the files."""
+    names = [shlex.quote(os.path.basename(path)) for path in report.paths]
+    return "./vrptw check %s %s%s" % (names[0], names[1], "" if report.cost is None else " --solution " + names[2])
+
+
+def percent(part, whole):
+    return "%.1f %%" % (100 * part / whole) if whole else "0 %"
+
+
+def figures(report):
+    """Pairs of a word and a figure."""
+    instance = report.instance
+    demand = sum(instance.demand(i) for i in range(1, instance.count + 1))
+    yield "customers", "%d" % instance.count
+    if report.cost is not None:
+        yield "vehicles", "%d of %d" % (len(report.routes), instance.fleet)
+        yield "cost (distance)", shown(report.cost)
+    if report.bound is not None and report.verdict() != "NO PLAN":
+        yield "bound", shown(report.bound)
+    if report.bound is not None and report.cost is not None:
+        yield "gap", "%s (%s)" % (shown(report.cost - report.bound), percent(report.cost - report.bound, report.cost))
+    yield "demand", "%d, and a vehicle holds %d" % (demand, instance.capacity)
+    if report.cost is not None:
+        whole = total([sums(instance, route) for route in report.routes])
+        yield "load of the vehicles", percent(demand, len(report.routes) * instance.capacity)
+        yield "duration of all routes", shown(whole.duration)
+        yield "waiting of all", shown(whole.waiting)
+    if report.certificate is not None:
+        yield "leaves of the certificate", "%d" % len(report.values)
+
+
+def sample(number):
+    """The line and the spot by which a route is known."""
+    hue = colour(number)
+    return ('<svg viewBox="0 0 44 12" width="44" height="12"><path d="M1 6h30" stroke="%s" stroke-width="2.6" '
+            'fill="none"%s/><circle cx="37" cy="6" r="4.2" fill="%s" stroke="%s" stroke-width="1.6"/></svg>' % (
+                hue, dash(number), "white" if is_hollow(number) else hue, hue))
+
+
+def row(cells, tag="td"):
+    return "".join("<%s>%s</%s>" % (tag, cell, tag) for cell in cells)
+
+
+def vehicles(report):
+    """The table of the vehicles: loads, distances and times."""
+    instance, rows = report.instance, []
+    for number, route in enumerate(report.routes):
+        load, first = sum(instance.demand(i) for i in route), stops(instance, route)[0]
+        found = sums(instance, route)
+        filled = '<div class="load"><i style="width:%d%%"></i><b>%d of %d</b></div>' % (
+            100 * load // instance.capacity, load, instance.capacity)
+        rows.append('<tr class="route" data-route="%d" tabindex="0">%s</tr>' % (number, row([
+            sample(number), number + 1, len(route), filled, shown(route_cost(instance, route)),
+            shown(first.begin - instance.arc[0][first.stop]), shown(instance.ready(0) + found.duration),
+            shown(found.waiting)])))
+    heading = ["", "vehicle", "stops", "load", "distance", "may leave at", "back at", "waiting"]
+    return ('<table class="figures"><thead><tr>%s</tr></thead><tbody>%s</tbody></table>'
+            '<p class="note">A vehicle that leaves no later than said serves its customers at the times below. Of the '
+            'waiting, what is spent at the first customer can be spent in the depot.</p>' % (
+                row(heading, "th"), "".join(rows)))
+
+
+def timetable(report):
+    """The stops of each route, with the return."""
+    parts = []
+    for number, route in enumerate(report.routes):
+        rows = ['<tr><th colspan="8">%s vehicle %d</th></tr>' % (sample(number), number + 1)]
+        for stop in stops(report.instance, route):
+            told = [stop.stop or "", escape(report.name(stop.stop)),
+                    *(signed(time) for time in stop[1:5]), stop.load, signed(stop.slack)]
+            rows.append("<tr>%s</tr>" % row(told))
+        parts.append('<tbody class="route" data-route="%d">%s</tbody>' % (number, "".join(rows)))
+    return '<table class="times"><thead><tr>%s</tr></thead>%s</table>' % (
+        row(["stop", "", *STOP_COLUMNS], "th"), "".join(parts))
+
+
+def picture(kind, width, height, drawn, told):
+    return ('<div class="picture %s"><svg xmlns="http://www.w3.org/2000/svg" viewBox="0 0 %d %d" role="img" '
+            'font-family="sans-serif" style="max-width:%dpx" aria-label="%s">%s</svg></div>' % (
+                kind, width, height, width, escape(told), "".join(drawn)))
+
+
+def map_of(report):
+    frame = Frame(report.instance)
+    drawn = ['<g transform="translate(0 -%d)">' % HEAD]
+    drawn += drawn_map(frame, report.instance, report.routes, report.names) + ["</g>"]
+    return picture("map", frame.width, frame.height - HEAD, drawn, "map of the routes")
+
+
+def bars_of(report):
+    scale, count = Scale(report.instance, report.routes, 0, WIDE), len(report.routes)
+    high = min(max(620 / count, LANES[0]), LANES[1])
+    drawn = drawn_bars(scale, report.instance, report.routes, report.names, 26, high)
+    height = round(26 + high * count + AXIS)
+    return picture("bars", scale.right + FIGURES, height, drawn, "bars of the routes over time")
+
+
+def tree_of(report):
+    lines = drawing_tree.picture(report.instance.name.decode(), report.certificate.tree, report.values, report.bound,
+                                 report.cost)
+    return '<div class="picture tree">%s</div>' % "".join(lines)
+
+
+def checks(report):
+    """How anybody checks the answer, with the line that comes."""
+    if report.certificate is None:
+        return ("<p>The plan is judged by <code>./vrptw check</code> with any certificate of the instance; "
+                "<code>./vrptw solve</code> writes one.</p>")
+    again = check_command(report).replace("./vrptw check", "outside/recheck").replace(" --solution", "")
+    return ("<p>Who has these files can check the answer:</p><pre>$ %s\n%s\n$ %s\n%s</pre>"
+            "<p>The first command is a program that is proved to say this line only where it is true; the second is "
+            "plain Python that shares nothing with it. The line says: %s</p>" % (
+                escape(check_command(report)), report.verdict(), escape(again), report.verdict(), meaning(report)))
+
+
+def meaning(report):
+    kind = report.verdict().split()[0]
+    plan = "the plan serves each customer once within capacity, windows and fleet at "
+    return {"BEST": plan + "this cost, and no plan is cheaper.",
+            "GAP": plan + "the first number, and every plan costs at least the second one.",
+            "BOUND": "every plan costs at least this number.", "NO": "there is no plan."}[kind]
+
+
+def sections(report):
+    """Pairs of a heading and what stands below it."""
+    yield "In figures", '<table class="pairs">%s</table>' % "".join(
+        "<tr>%s</tr>" % row(pair) for pair in figures(report))
+    if report.cost is not None:
+        yield "Vehicles", vehicles(report)
+        yield "Map", map_of(report)
+        yield "Over time", bars_of(report)
+        yield "Timetable", timetable(report) + (
+            '<p class="note">Times and distances are in units of the instance. Slack is how much later service could '
+            'begin before the due date.</p>')
+    if report.cost is not None and report.certificate is not None:
+        yield "The certificate's tree", tree_of(report) + (
+            '<p class="note">Each leaf holds a part of all plans: those that use the arcs of full lines above it, and '
+            'none of the broken ones. None of them is cheaper than the value of the leaf, so the least value is the '
+            'bound.</p>')
+    yield "How to check", checks(report)
+
+
+def page(report):
+    """The page, whose text is well-formed as XML too."""
+    name = escape(report.instance.name.decode())
+    body = "".join('<section id="%s"><h2>%s</h2>%s</section>' % (
+        heading.lower().replace(" ", "-").replace("'", ""), escape(heading), told)
+        for heading, told in sections(report))
+    return SHELL % {"name": name, "style": STYLE, "script": SCRIPT, "asked": escape(asked(report)),
+                    "answer": answer(report), "body": body}
