@@ -1,3 +1,4 @@
+pub mod Cheaper
 pub mod Gathering
 pub mod Settling
 pub mod Depths

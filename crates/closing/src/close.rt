@@ -1,6 +1,6 @@
 //! The closing of an instance.
 
-ghost use Rattle.std.specs.Prelude.{◌≤◌, IfOk, IfErr};
+ghost use Rattle.std.specs.Prelude.{◌≡◌, ◌≤◌, IfOk, IfErr, IfSome};
 ghost use Rattle.solomon_reader.specs.declared.limits.TheConstants.{MOST_LEAVES, MOST_NEIGHBOURS};
 ghost use Rattle.closing.specs.Closing.{IsClosed, IsLeftOpen};
 
@@ -10,6 +10,7 @@ use crate::growing::grow;
 use crate::growth::Growth;
 use crate::laws::depth_holds;
 use price_ascent::RoutePool;
+use schedule::Feasible;
 use solomon_reader::Instance;
 use std::alloc::Global;
 
@@ -52,10 +53,29 @@ pub fn close_counted<'i>(
     ensures closed { IfOk result (λ r. IsClosed instance.now neighbours leaf_limit r.0) }
     ensures left_open { IfErr result (IsLeftOpen instance.now neighbours leaf_limit) }
 {
+    close_from(alloc, instance, neighbours, leaf_limit, None)
+}
+
+/// What `close_counted` answers where the closing begins with a given plan, if it is cheaper than the one that
+/// an insertion builds.
+pub fn close_from<'i>(
+    alloc: Global,
+    instance: &'i Instance,
+    neighbours: u32,
+    leaf_limit: u32,
+    start: Option<Feasible<'i>>,
+) -> Result<(Closed<'i>, u64), CloseAloneFault>
+    requires few { neighbours ≤ MOST_NEIGHBOURS }
+    requires some { 1 ≤ leaf_limit }
+    requires most { leaf_limit ≤ MOST_LEAVES }
+    requires start { IfSome start (λ f. f.problem ≡ instance.now) }
+    ensures closed { IfOk result (λ r. IsClosed instance.now neighbours leaf_limit r.0) }
+    ensures left_open { IfErr result (IsLeftOpen instance.now neighbours leaf_limit) }
+{
     if instance.customer_count() > MOST_CLOSED {
         return Err(CloseAloneFault::TooLarge);
     }
-    let plan = first_plan(alloc, instance)?;
+    let plan = first_plan(alloc, instance, start)?;
     let root = first_leaf(alloc, instance, neighbours, plan.as_ref())?;
     let mut growth = Growth::new(alloc, instance, leaf_limit, plan);
     let mut pool = RoutePool::of_routes(alloc, instance, growth.routes())?;

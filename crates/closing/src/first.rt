@@ -1,12 +1,13 @@
 //! What a closing begins with: a plan, and prices at the root.
 
-ghost use Rattle.std.specs.Prelude.{◌≡◌, ◌≤◌, IfOk, MatchOption};
+ghost use Rattle.std.specs.Prelude.{◌≡◌, ◌≤◌, IfOk, IfSome, MatchOption};
 ghost use Rattle.solomon_reader.specs.Problem.{customer_count};
 ghost use Rattle.solomon_reader.specs.Region.{root_region};
 ghost use Rattle.solomon_reader.specs.declared.limits.TheConstants.{MOST_NEIGHBOURS};
 ghost use Rattle.insertion.specs.Building.{IsServedAlone};
 ghost use Rattle.search.specs.Searching.{plan_of};
 
+use crate::cheaper::cheaper;
 use insertion::{Weights, build_whole};
 use labelling::LabelFault;
 use price_ascent::{start_from, start_without_plan};
@@ -75,16 +76,20 @@ fn search_from<'i, R: Rng + Drop>(alloc: Global, plan: Feasible<'i>, random: R) 
     searcher.into_plan()
 }
 
-/// A plan to begin with, if an insertion builds one: what a descent and some turns make of it.
+/// A plan to begin with, if an insertion builds one or one is given: what a descent and some turns make of
+/// the cheaper one.
 pub(crate) fn first_plan<'i>(
     alloc: Global,
     instance: &'i Instance,
+    start: Option<Feasible<'i>>,
 ) -> Result<Option<Feasible<'i>>, AllocError>
+    requires { IfSome start (λ f. f.problem ≡ instance.now) }
     ensures { IfOk result (λ plan. MatchOption plan (¬ IsServedAlone instance.now)
         (λ f. f.problem ≡ instance.now)) }
 {
     let mut random = Xoshiro256PlusPlus::seed_from_u64(SEED);
-    let Some(plan) = built_plan(alloc, instance, &mut random)? else {
+    let built = built_plan(alloc, instance, &mut random)?;
+    let Some(plan) = cheaper(start, built) else {
         return Ok(None);
     };
     Ok(Some(search_from(alloc, plan, random)))

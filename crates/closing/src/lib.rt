@@ -5,6 +5,7 @@
 #![tactic(auto)]
 
 mod chain;
+mod cheaper;
 mod close;
 mod closed;
 mod fee;
@@ -17,7 +18,8 @@ mod leaf;
 mod serving;
 mod settling;
 
-pub use close::{close_alone, close_counted};
+pub use cheaper::cheaper;
+pub use close::{close_alone, close_counted, close_from};
 pub use closed::{CloseAloneFault, Closed, MOST_CLOSED};
 pub use laws::depth_holds;
 pub use leaf::settled_leaf;

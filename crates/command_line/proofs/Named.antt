@@ -17,7 +17,7 @@ one_name name solve check =
 -- no number of pairs is given
 pub no_check : (rows : List Row) → ((n : ℕ) → HasNumber (codes "states") rows n → ⊥) → (other : Job) → Says (codes "check") rows other → ⊥
 no_check rows none (Check instance certificate solution states) says = none states says.1.states_are
-no_check rows none (Solve instance solution certificate settings close leaves progress) says = absurd (one_name (codes "check") says.0 refl)
+no_check rows none (Solve instance solution certificate start settings close leaves progress live) says = absurd (one_name (codes "check") says.0 refl)
 
 -- one of the numbers of `solve` is not given
 pub no_number : (id : Text) (number : Settings → ℕ) (rows : List Row)
@@ -27,7 +27,7 @@ no_number id number rows has none other settings = none (number other) (has othe
 
 -- no settings are given
 pub no_solve : (rows : List Row) → ((other : Settings) → HasSettings rows other → ⊥) → (other : Job) → Says (codes "solve") rows other → ⊥
-no_solve rows none (Solve instance solution certificate settings close leaves progress) says = none settings says.1.settings_are
+no_solve rows none (Solve instance solution certificate start settings close leaves progress live) says = none settings says.1.settings_are
 no_solve rows none (Check instance certificate solution states) says = absurd (one_name (codes "solve") refl says.0)
 
 some_is_one : {X : Type 0} (o : Option X) (x y : X) → o ≡ Some x → o ≡ Some y → x ≡ y
@@ -49,40 +49,45 @@ no_leaves rows none close leaves has = none leaves has.leaves_are
 
 -- no job to solve is given where no closing is
 pub no_closing : (rows : List Row) → ((close : Bool) (leaves : ℕ) → HasClosing rows close leaves → ⊥) → (other : Job) → Says (codes "solve") rows other → ⊥
-no_closing rows none (Solve instance solution certificate settings close leaves progress) says = none close leaves says.1.closing_is
+no_closing rows none (Solve instance solution certificate start settings close leaves progress live) says = none close leaves says.1.closing_is
 no_closing rows none (Check instance certificate solution states) says = absurd (one_name (codes "solve") refl says.0)
 
 -- settings by their numbers
-abbrev with_numbers : ℕ → ℕ → ℕ → ℕ → ℕ → ℕ → Settings
-with_numbers searchers bounders turns seed neighbours labels = record {
+abbrev with_numbers : ℕ → ℕ → ℕ → ℕ → ℕ → ℕ → ℕ → Settings
+with_numbers searchers bounders turns seed neighbours labels gap = record {
   searchers = searchers;
   bounders = bounders;
   turns = turns;
   seed = seed;
   neighbours = neighbours;
   labels = labels;
+  gap = gap;
 }
 
 same_settings : (rows : List Row) (a b : Settings) → HasSettings rows a → HasSettings rows b → a ≡ b
 same_settings rows a b p q =
-    ap₂ (λ s o. with_numbers s o a.turns a.seed a.neighbours a.labels)
+    ap₂ (λ s o. with_numbers s o a.turns a.seed a.neighbours a.labels a.gap)
     (same_number _ rows _ _ p.searchers_are q.searchers_are) (same_number _ rows _ _ p.bounders_are q.bounders_are)
-    ∙ (ap₂ (λ t s. with_numbers b.searchers b.bounders t s a.neighbours a.labels)
+    ∙ (ap₂ (λ t s. with_numbers b.searchers b.bounders t s a.neighbours a.labels a.gap)
     (same_number _ rows _ _ p.turns_are q.turns_are) (same_number _ rows _ _ p.seed_is q.seed_is)
-    ∙ ap₂ (λ n l. with_numbers b.searchers b.bounders b.turns b.seed n l)
-    (same_number _ rows _ _ p.neighbours_are q.neighbours_are) (same_number _ rows _ _ p.labels_are q.labels_are))
+    ∙ (ap₂ (λ n l. with_numbers b.searchers b.bounders b.turns b.seed n l a.gap)
+    (same_number _ rows _ _ p.neighbours_are q.neighbours_are) (same_number _ rows _ _ p.labels_are q.labels_are)
+    ∙ ap (with_numbers b.searchers b.bounders b.turns b.seed b.neighbours b.labels)
+    (same_number _ rows _ _ p.gap_is q.gap_is)))
 
 -- what a command and its rows say is one job
 pub same_job : (named : Option (Text × List Row)) (found other : Job) → SaysAny named found → SaysAny named other → IsSameJob found other
 same_job None found other says also = absurd says
-same_job (Some (name, rows)) (Solve instance solution certificate settings close leaves progress) (Solve second_instance second_solution second_certificate second_settings second_close second_leaves second_progress) (_, p) (_, q) = (
+same_job (Some (name, rows)) (Solve instance solution certificate start settings close leaves progress live) (Solve second_instance second_solution second_certificate second_start second_settings second_close second_leaves second_progress second_live) (_, p) (_, q) = (
   some_is_one _ _ _ p.instance_path q.instance_path,
   some_is_one _ _ _ p.solution_path q.solution_path,
   some_is_one _ _ _ p.certificate_path q.certificate_path,
+  sym p.start_path ∙ q.start_path,
   same_settings rows settings second_settings p.settings_are q.settings_are,
   same_flag (codes "close") rows close second_close p.closing_is.close_is q.closing_is.close_is,
   same_number _ rows leaves second_leaves p.closing_is.leaves_are q.closing_is.leaves_are,
   same_flag (codes "progress") rows progress second_progress p.progress_is q.progress_is,
+  same_flag (codes "live") rows live second_live p.live_is q.live_is,
 )
 same_job (Some (name, rows)) (Check instance certificate solution states) (Check second_instance second_certificate second_solution second_states) (_, p) (_, q) = (
   some_is_one _ _ _ p.instance_path q.instance_path,
@@ -90,7 +95,7 @@ same_job (Some (name, rows)) (Check instance certificate solution states) (Check
   sym p.solution_path ∙ q.solution_path,
   same_number _ rows states second_states p.states_are q.states_are,
 )
-same_job (Some (name, rows)) (Solve instance solution certificate settings close leaves progress) (Check second_instance second_certificate second_solution second_states) p q =
+same_job (Some (name, rows)) (Solve instance solution certificate start settings close leaves progress live) (Check second_instance second_certificate second_solution second_states) p q =
     absurd (one_name name p.0 q.0)
-same_job (Some (name, rows)) (Check instance certificate solution states) (Solve second_instance second_solution second_certificate second_settings second_close second_leaves second_progress) p q =
+same_job (Some (name, rows)) (Check instance certificate solution states) (Solve second_instance second_solution second_certificate second_start second_settings second_close second_leaves second_progress second_live) p q =
     absurd (one_name name q.0 p.0)

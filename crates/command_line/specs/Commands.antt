@@ -6,7 +6,7 @@ use Rattle.clap.specs.declared.ArgAction.TheVariants.{SetTrue}
 use Rattle.clap.specs.declared.builder.ValueParser.{ValueParser}
 use Rattle.clap.specs.declared.builder.ValueParser.TheVariants as parser
 use Rattle.solomon_reader.specs.declared.limits.TheConstants.{MOST_LEAVES, MOST_NEIGHBOURS}
-use Rattle.worker_turns.specs.declared.settings.TheConstants.{MOST_BOUNDERS, MOST_LABELS, MOST_SEARCHERS, MOST_TURNS}
+use Rattle.worker_turns.specs.declared.settings.TheConstants.{MOST_BOUNDERS, MOST_GAP, MOST_LABELS, MOST_SEARCHERS, MOST_TURNS}
 use Rattle.command_line.specs.declared.jobs.TheConstants.{MOST_STATES}
 use Rattle.clap.specs.declared.Command.{Command}
 use Rattle.clap.specs.declared.Command.TheViews.{out-Command as fields_of}
@@ -50,9 +50,13 @@ pricing_rules = number_option_rule (codes "neighbours") (between 0 MOST_NEIGHBOU
 abbrev pub closing_rules : List Rule
 closing_rules = flag_rule (codes "close") ∷ number_option_rule (codes "leaves") (between 1 MOST_LEAVES) (codes "100000") ∷ []
 
--- whether to tell how far the turns are
-abbrev pub progress_rule : Rule
-progress_rule = flag_rule (codes "progress")
+-- the plan to start from, and the gap that is enough
+abbrev pub starting_rules : List Rule
+starting_rules = path_option_rule (codes "start") ∷ number_option_rule (codes "gap") (between 0 MOST_GAP) (codes "0") ∷ []
+
+-- whether to tell how far the turns are, line by line or on one line
+abbrev pub telling_rules : List Rule
+telling_rules = flag_rule (codes "progress") ∷ flag_rule (codes "live") ∷ []
 
 abbrev pub shape_with : Text → List Rule → Shape
 shape_with name rules = record (new_app name).top { rules = rules }
@@ -60,7 +64,7 @@ shape_with name rules = record (new_app name).top { rules = rules }
 abbrev pub solve_shape : Shape
 solve_shape = shape_with (codes "solve")
     (path_rule (codes "INSTANCE") ∷ path_rule (codes "SOLUTION") ∷ path_rule (codes "CERTIFICATE")
-    ∷ thread_rules ++ (search_rules ++ (pricing_rules ++ (closing_rules ++ progress_rule ∷ []))))
+    ∷ thread_rules ++ (search_rules ++ (pricing_rules ++ (closing_rules ++ (starting_rules ++ telling_rules)))))
 
 abbrev pub check_shape : Shape
 check_shape = shape_with (codes "check")

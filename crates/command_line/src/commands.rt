@@ -3,7 +3,7 @@ ghost use Rattle.std.specs.Prelude.{◌≡◌, [], false, map, codes, option_map
 ghost use Rattle.std.specs.Prelude.{IfOk, IfErr, MatchOption};
 ghost use Rattle.clap.specs.Words.{app_of, rule_of, rows_of, found_of, first_of};
 ghost use Rattle.clap.specs.Words.{subcommand_rows_of};
-ghost use Rattle.command_line.specs.Commands.{AddsRules, HasFlag, HasShape, IsNumberIf, between, check_shape, closing_rules, flag_rule, number_option_rule, path_option_rule, path_rule, pricing_rules, program, search_rules, solve_shape, thread_rules};
+ghost use Rattle.command_line.specs.Commands.{AddsRules, HasFlag, HasShape, IsNumberIf, between, check_shape, closing_rules, flag_rule, number_option_rule, path_option_rule, path_rule, pricing_rules, program, search_rules, solve_shape, starting_rules, telling_rules, thread_rules};
 ghost use Rattle.command_line.specs.Jobs.{Gives, HasClosing, HasSettings, IsRefused, IsSameJob, Says, SaysAny};
 
 use crate::jobs::{Job, MOST_STATES, UsageFault};
@@ -12,12 +12,14 @@ use clap::error::ErrorKind;
 use clap::{Arg, ArgAction, ArgMatches, Command};
 use solomon_reader::{MOST_LEAVES, MOST_NEIGHBOURS};
 use std::alloc::{AllocError, Global};
-use worker_turns::{MOST_BOUNDERS, MOST_LABELS, MOST_SEARCHERS, MOST_TURNS, Settings};
+use worker_turns::{
+    MOST_BOUNDERS, MOST_GAP, MOST_LABELS, MOST_SEARCHERS, MOST_TURNS, Settings,
+};
 
 const PROGRAM: &str = "vrptw";
 
 /// What `--version` prints behind the program's name.
-const VERSION: &str = "1.3.0 (writes certificates of version 2, reads versions 1 and 2)";
+const VERSION: &str = "1.4.0 (writes certificates of version 2, reads versions 1 and 2)";
 
 /// A path that has to be given.
 fn path<'a>(alloc: Global, id: &'a str, help: &'a str) -> Arg<'a>
@@ -146,6 +148,42 @@ fn with_closing_options<'a>(alloc: Global, command: Command<'a>) -> Result<Comma
         ))
 }
 
+/// Adds the options that say where the work starts, and how near cost and bound are enough.
+fn with_starting_options<'a>(alloc: Global, command: Command<'a>) -> Result<Command<'a>, AllocError>
+    ensures { IfOk result (AddsRules starting_rules command.entry) }
+{
+    command
+        .arg(path_option(
+            alloc,
+            "start",
+            "The file of a plan to start from, as this command writes one",
+        ))?
+        .arg(number_option(
+            alloc,
+            "gap",
+            (0, MOST_GAP),
+            "0",
+            "Ends the work once cost and bound are no further apart than so many tenths of a percent of the cost, 0 to 1000",
+        ))
+}
+
+/// Adds the flags that say whether to tell how far the turns are.
+fn with_telling_options<'a>(alloc: Global, command: Command<'a>) -> Result<Command<'a>, AllocError>
+    ensures { IfOk result (AddsRules telling_rules command.entry) }
+{
+    command
+        .arg(flag(
+            alloc,
+            "progress",
+            "Tells on standard error how far the turns are, and cost, bound, gap and leaves",
+        ))?
+        .arg(flag(
+            alloc,
+            "live",
+            "Tells the same on one line, which is written anew each time",
+        ))
+}
+
 fn solve_command<'a>(alloc: Global) -> Result<Command<'a>, AllocError>
     ensures { IfOk result (HasShape (record { top = solve_shape; subs = [] })) }
 {
@@ -165,11 +203,9 @@ fn solve_command<'a>(alloc: Global) -> Result<Command<'a>, AllocError>
     let command = with_thread_options(alloc, command)?;
     let command = with_search_options(alloc, command)?;
     let command = with_pricing_options(alloc, command)?;
-    with_closing_options(alloc, command)?.arg(flag(
-        alloc,
-        "progress",
-        "Tells on standard error how far the turns are, and cost, bound and gap",
-    ))
+    let command = with_closing_options(alloc, command)?;
+    let command = with_starting_options(alloc, command)?;
+    with_telling_options(alloc, command)
 }
 
 fn check_command<'a>(alloc: Global) -> Result<Command<'a>, AllocError>
@@ -254,6 +290,7 @@ fn settings_of(found: &ArgMatches<'_>) -> Option<Settings>
     let seed = number_of(found, "seed")?;
     let neighbours = number_of(found, "neighbours")?;
     let labels = number_of(found, "labels")?;
+    let gap = number_of(found, "gap")?;
     let settings = Settings {
         searchers,
         bounders,
@@ -261,6 +298,7 @@ fn settings_of(found: &ArgMatches<'_>) -> Option<Settings>
         seed,
         neighbours,
         labels,
+        gap,
     };
     // clap has refused other numbers; the proof knows it from here.
     if !settings.is_within() {
@@ -279,10 +317,12 @@ fn solve_job<'a>(found: &ArgMatches<'a>) -> Option<Job<'a>>
         instance: text_of(found, "INSTANCE")?,
         solution: text_of(found, "SOLUTION")?,
         certificate: text_of(found, "CERTIFICATE")?,
+        start: text_of(found, "start"),
         settings: settings_of(found)?,
         close,
         leaves,
         progress: flag_of(found, "progress"),
+        live: flag_of(found, "live"),
     })
 }
 

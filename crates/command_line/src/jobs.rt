@@ -19,6 +19,8 @@ pub enum Job<'a> {
         solution: &'a str,
         /// The path that the certificate of the bound is written to.
         certificate: &'a str,
+        /// The path of a plan to start from, if there is one.
+        start: Option<&'a str>,
         /// How much work to put into it.
         settings: Settings,
         /// Whether to close the instance, by one thread; of the settings the neighbours alone count then.
@@ -27,6 +29,8 @@ pub enum Job<'a> {
         leaves: u32,
         /// Whether to tell on standard error how far the turns are. It changes nothing of the answer.
         progress: bool,
+        /// Whether to tell the same on one line, which is written anew each time.
+        live: bool,
     },
     /// To check a certificate, and a plan if there is one.
     Check {

@@ -194,10 +194,11 @@ fn prices_at<'i>(
     ensures count { IfOk result (λ v. length v.items ≡ customer_count leaf.now.problem) }
     ensures in_range { IfOk result (λ v. AllByRecursion IsPrice v.items) }
 {
+    let most = i128::from(i64::MAX);
     let mut prices = Vec::new(alloc);
     for price in &ascent.centre.prices {
         let product = i128::from(*price).saturating_mul(i128::from(scale.min(WHOLE)));
-        prices.push((product / i128::from(WHOLE)) as i64)?;
+        prices.push((product / i128::from(WHOLE)).clamp(-most, most) as i64)?;
     }
     let trial = Trial::new(alloc, prices.as_slice(), 0, Floor::new(false))?;
     trial.prices_in_range(alloc, leaf.instance())

@@ -133,13 +133,17 @@ pub(crate) fn best_arc(
     };
     let mut arcs = candidates(leaf.region(), pool.flows()?, pool.rise())?;
     // Where rises are known, a worth takes no trial, and the best one spares the trials of other arcs.
-    arcs.sort_by_key(|flow| !pool.pseudocosts.knows(flow.arc))?;
+    let seen = &pool.pseudocosts;
+    arcs.sort_by_key(|flow| !seen.knows(flow.arc))?;
     let trials = pool.trials(leaf.instance(), ascent)?;
     let mut best: Option<TriedArc> = None;
     let mut routes: u64 = 0;
     for flow in &arcs {
-        let most = best.as_ref().map_or(0, |best| best.score);
-        let tried = try_arc(ascent, &trials, &pool.pseudocosts, flow.arc, most)?;
+        let most = match &best {
+            Some(best) => best.score,
+            None => 0,
+        };
+        let tried = try_arc(ascent, &trials, seen, flow.arc, most)?;
         routes = routes.saturating_add(tried.routes);
         if best.as_ref().is_none_or(|best| tried.score > best.score) {
             best = Some(tried);

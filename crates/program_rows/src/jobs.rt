@@ -12,15 +12,17 @@ pub fn tell_job<R: Runtime + AllocGlobal>(rt: &R, words: &[&str]) -> io::Result<
                 instance,
                 solution,
                 certificate,
+                start,
                 settings,
                 close,
                 leaves,
                 progress,
+                live,
             },
         ) => {
             println!(rt; "  solve {instance} {solution} {certificate}")?;
             println!(rt; "  {settings:?}")?;
-            println!(rt; "  close {close} leaves {leaves} progress {progress}")
+            println!(rt; "  close {close} leaves {leaves} progress {progress} live {live} start {start:?}")
         }
         Ok(
             Job::Check {

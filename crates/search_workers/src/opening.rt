@@ -1,6 +1,6 @@
 //! What a run begins with: the first plans, the root with its first prices, and the book of both.
 
-ghost use Rattle.std.specs.Prelude.{◌≡◌, ◌≢◌, ◌+◌, ◌<◌, ◌≤◌, ◌⊎◌, [], true, length, is_some, IfOk, IfErr, OnOk};
+ghost use Rattle.std.specs.Prelude.{◌≡◌, ◌≢◌, ◌+◌, ◌<◌, ◌≤◌, ◌⊎◌, [], true, length, is_some, IfOk, IfErr, IfSome, OnOk};
 ghost use Rattle.solomon_reader.specs.Problem.{customer_count};
 ghost use Rattle.solomon_reader.specs.History.{costs_of};
 ghost use Rattle.solomon_reader.specs.Region.{root_region};
@@ -11,6 +11,7 @@ ghost use Rattle.search_workers.specs.Running.{IsOneOn};
 ghost use Rattle.search_workers.specs.declared.fault.RunFault.TheVariants.{Memory, LabelLimit};
 
 use crate::fault::RunFault;
+use closing::cheaper;
 use incumbent_book::{Book, BookFault, OpenFault};
 use insertion::{Weights, build_whole};
 use labelling::LabelFault;
@@ -124,15 +125,17 @@ fn offer_both<'i, R: Threads + Sync>(
 }
 
 impl<'i> Opening<'i> {
-    /// A book of the root that was offered the first plan and what a descent makes of it, if insertion
-    /// builds one; else its prices begin where they may show that there is no plan.
+    /// A book of the root that was offered a first plan and what a descent makes of it, if insertion builds one
+    /// or one is given, the cheaper one; else its prices begin where they may show that there is no plan.
     pub(crate) fn new<R: Threads + Sync>(
         rt: &R,
         alloc: Global,
         instance: &'i Instance,
         settings: &Settings,
+        start: Option<Feasible<'i>>,
     ) -> Result<Opening<'i>, RunFault>
         requires few { settings.now.neighbours ≤ MOST_NEIGHBOURS }
+        requires start { IfSome start (λ f. f.problem ≡ instance.now) }
         ensures problem { IfOk result (λ o. o.book.problem ≡ instance.now) }
         ensures neighbours { IfOk result (λ o. o.book.neighbours ≡ settings.now.neighbours) }
         ensures offered { IfOk result (λ o. HasPlanIf (is_some o.plan) o.book.past) }
@@ -141,7 +144,8 @@ impl<'i> Opening<'i> {
     {
         let root = price_root(alloc, instance, settings)?;
         let labels = Some(pricing_labels(settings, instance.customer_count()));
-        let Some(plan) = build_whole(alloc, instance, &Weights::plain())? else {
+        let built = build_whole(alloc, instance, &Weights::plain())?;
+        let Some(plan) = cheaper(start, built) else {
             let book = open_book(alloc, start_without_plan(alloc, root, labels))?;
             return Ok(Opening { book, plan: None });
         };

@@ -126,6 +126,7 @@ fn post_workers<'a, 'i, R: Wait, J: Naming, G>(
                 number,
                 ceiling: site.ceiling,
                 seat,
+                enough: given.settings.gap,
             },
             settings: given.settings,
             task,
@@ -239,10 +240,30 @@ pub fn run<'i, R: Threads + Wait + Sync, G: Gate + Sync>(
     ensures within { IfOk result (λ _. IsWithin settings.now) }
     ensures refused { IfErr result (RefusesSettings settings.now) }
 {
+    run_from(rt, alloc, instance, settings, gate, None)
+}
+
+/// What `run` answers where the work begins with a given plan, if it is cheaper than the one that an insertion
+/// builds.
+pub fn run_from<'i, R: Threads + Wait + Sync, G: Gate + Sync>(
+    rt: &R,
+    alloc: Global,
+    instance: &'i Instance,
+    settings: &Settings,
+    gate: &G,
+    start: Option<Feasible<'i>>,
+) -> Result<Outcome<'i>, RunFault>
+    requires start { IfSome start (λ f. f.problem ≡ instance.now) }
+    ensures problem { IfOk result (λ o. o.problem ≡ instance.now) }
+    ensures neighbours { IfOk result (λ o. o.neighbours ≡ settings.now.neighbours) }
+    ensures served { IfOk result (λ o. IsServedAlone instance.now → costs_of o.past ≢ []) }
+    ensures within { IfOk result (λ _. IsWithin settings.now) }
+    ensures refused { IfErr result (RefusesSettings settings.now) }
+{
     if !settings.is_within() {
         return Err(RunFault::BadSettings);
     }
-    let opening = Opening::new(rt, alloc, instance, settings)?;
+    let opening = Opening::new(rt, alloc, instance, settings, start)?;
     let given = Given {
         rt,
         alloc,

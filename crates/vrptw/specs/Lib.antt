@@ -2,3 +2,4 @@ pub mod Certified
 pub mod Answers
 pub mod Found
 pub mod Closing
+pub mod Starting

@@ -1,14 +1,19 @@
 //! From the bytes of an instance to a plan that no plan is cheaper than.
 
-ghost use Rattle.std.specs.Prelude.{IsTrue, ◌↔◌};
+ghost use Rattle.std.specs.Prelude.{◌↔◌, ℕ, List, IfOk, IfSome, IsTrue, option_map};
+ghost use Rattle.solomon_reader.specs.Layout.{IsInstance};
 ghost use Rattle.vrptw.specs.Closing.{AreWithin, Closes};
+ghost use Rattle.vrptw.specs.Starting.{IsAtMost, IsPlanAt, TellsFrom};
 
 use crate::answer::{Answer, SolveFault};
 use crate::found::Found;
 use crate::solving::read_instance;
+use crate::starting::{StartFault, read_start};
 use crate::writing::write_found;
-use search_workers::{Closed, Settings, close_alone};
-use solomon_reader::MOST_LEAVES;
+use closing::Closed;
+use schedule::Feasible;
+use search_workers::Settings;
+use solomon_reader::{Instance, MOST_LEAVES};
 use std::alloc::Global;
 use tenths::Sink;
 
@@ -17,6 +22,32 @@ fn are_within(settings: &Settings, leaf_limit: u32) -> bool
     ensures { IsTrue result ↔ AreWithin settings.now leaf_limit }
 {
     settings.is_within() && leaf_limit >= 1 && leaf_limit <= MOST_LEAVES
+}
+
+/// Closes an instance, from a plan if there is one, and writes what is found.
+fn close_instance<'i, X: Sink, Y: Sink>(
+    alloc: Global,
+    instance: &'i Instance,
+    start: Option<Feasible<'i>>,
+    settings: &Settings,
+    leaf_limit: u32,
+    solution: &mut X,
+    certificate: &mut Y,
+) -> Result<Answer, SolveFault>
+    requires { IfSome start (IsPlanAt instance.now) }
+    ensures closed { (text : List ℕ) → IsInstance text instance.now → Closes text settings.now leaf_limit
+        (X.held solution.old) (X.held solution.new)
+        (Y.held certificate.old) (Y.held certificate.new) result }
+    ensures at_most { IfOk result (λ a. IfSome start.entry (λ f. IsAtMost f.cost a)) }
+{
+    if !are_within(settings, leaf_limit) {
+        return Err(SolveFault::BadSettings);
+    }
+    let neighbours = settings.neighbours;
+    let (closed, _pricings) = closing::close_from(alloc, instance, neighbours, leaf_limit, start)?;
+    let Closed { plan, bound, nodes } = closed;
+    let found = Found { plan, bound, nodes };
+    write_found(alloc, instance, neighbours, found, solution, certificate)
 }
 
 /// Closes the instance of a text, of at most 24 customers: writes a plan that no plan is cheaper than to
@@ -42,11 +73,33 @@ pub fn close<X: Sink, Y: Sink>(
         (Y.held certificate.old) (Y.held certificate.new) result }
 {
     let instance = read_instance(alloc, text)?;
-    if !are_within(settings, leaf_limit) {
-        return Err(SolveFault::BadSettings);
-    }
-    let neighbours = settings.neighbours;
-    let Closed { plan, bound, nodes } = close_alone(alloc, &instance, neighbours, leaf_limit)?;
-    let found = Found { plan, bound, nodes };
-    write_found(alloc, &instance, neighbours, found, solution, certificate)
+    close_instance(alloc, &instance, None, settings, leaf_limit, solution, certificate)
+}
+
+/// What `close` does, from a plan whose text is given, if it is cheaper than what an insertion builds.
+///
+/// `Start` where the text isn't that of a plan of the instance and of its cost, with the first fault that
+/// `check` would tell of it; it is told after a fault of the instance and before the others, and nothing was
+/// written.
+pub fn close_from<X: Sink, Y: Sink>(
+    alloc: Global,
+    text: &[u8],
+    start: Option<&[u8]>,
+    settings: &Settings,
+    leaf_limit: u32,
+    solution: &mut X,
+    certificate: &mut Y,
+) -> Result<Answer, StartFault>
+    ensures { TellsFrom (Closes text.now settings.now leaf_limit
+        (X.held solution.old) (X.held solution.new)
+        (Y.held certificate.old) (Y.held certificate.new))
+        text.now (option_map (λ t. t.now) start.entry)
+        (X.held solution.old) (X.held solution.new)
+        (Y.held certificate.old) (Y.held certificate.new) result }
+{
+    let instance = read_instance(alloc, text)?;
+    let start = read_start(alloc, &instance, start)?;
+    let answer =
+        close_instance(alloc, &instance, start, settings, leaf_limit, solution, certificate)?;
+    Ok(answer)
 }

@@ -11,14 +11,17 @@ mod paths;
 mod program;
 mod progress;
 mod solving;
+mod starting;
 mod writing;
 
 pub use answer::{Answer, SolveFault};
-pub use closing_text::close;
+pub use closing_text::{close, close_from};
 pub use command_line::{Job, MOST_STATES, UsageFault, job};
 pub use lines::words_fault;
 pub use program::run_words;
 pub use search_workers::{
-    Gate, GatePoint, MOST_BOUNDERS, MOST_LABELS, MOST_SEARCHERS, MOST_TURNS, NoGate, Settings,
+    Gate, GatePoint, MOST_BOUNDERS, MOST_GAP, MOST_LABELS, MOST_SEARCHERS, MOST_TURNS, NoGate,
+    Settings,
 };
-pub use solving::solve;
+pub use solving::{solve, solve_from};
+pub use starting::StartFault;

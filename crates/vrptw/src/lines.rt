@@ -3,6 +3,7 @@
 ghost use Rattle.std.specs.Prelude.{◌≡◌, ◌⊎◌};
 
 use crate::answer::{Answer, SolveFault};
+use crate::starting::StartFault;
 use checker::{CheckFault, Verdict};
 use command_line::{UsageFault, wrong_words};
 use solomon_reader::ReadFault;
@@ -118,7 +119,7 @@ fn instance_fault<Y: Sink>(alloc: Global, fault: ReadFault, errors: &mut Y) -> u
 }
 
 /// What is said where the solver gives no answer.
-pub(crate) fn solve_fault<Y: Sink>(alloc: Global, fault: SolveFault, errors: &mut Y) -> u8 {
+fn solve_fault<Y: Sink>(alloc: Global, fault: SolveFault, errors: &mut Y) -> u8 {
     match fault {
         SolveFault::Memory => memory_fault(errors),
         SolveFault::NoThread => fail(errors, "vrptw: thread\n", MEMORY),
@@ -128,6 +129,15 @@ pub(crate) fn solve_fault<Y: Sink>(alloc: Global, fault: SolveFault, errors: &mu
         SolveFault::TooLarge => fail(errors, "vrptw: limit: TooLarge\n", LIMIT),
         SolveFault::Device => file_fault(errors),
         SolveFault::Instance(fault) => instance_fault(alloc, fault, errors),
+    }
+}
+
+/// What is said where the solver gives no answer, perhaps since a plan to start from was refused: the latter
+/// as the checker would say it.
+pub(crate) fn start_fault<Y: Sink>(alloc: Global, fault: StartFault, errors: &mut Y) -> u8 {
+    match fault {
+        StartFault::Solve(fault) => solve_fault(alloc, fault, errors),
+        StartFault::Start(fault) => check_fault(alloc, fault, errors),
     }
 }
 

@@ -2,23 +2,36 @@
 
 ghost use Rattle.std.specs.Prelude.{◌≡◌, ◌⊎◌, IsTrue, ◌↔◌};
 
-use crate::answer::{Answer, SolveFault};
-use crate::closing_text::close;
+use crate::answer::Answer;
+use crate::closing_text::close_from;
 use crate::lines::{
-    check_fault, file_fault, open_fault, solve_fault, tell, tell_verdict, usage_fault,
+    check_fault, file_fault, open_fault, start_fault, tell, tell_verdict, usage_fault,
 };
 use crate::paths::is_same_path;
 use crate::progress::Progress;
-use crate::solving::solve;
+use crate::solving::solve_from;
+use crate::starting::StartFault;
 use checker::check;
 use command_line::{Job, job};
 use search_workers::{NoGate, Settings};
 use std::alloc::Global;
 use std::fs;
+use std::io;
 use std::rt::Files;
 use std::sync::Wait;
 use std::thread::Threads;
 use tenths::{Sink, StdSink};
+
+/// Whether to tell how far the turns are.
+#[derive(Clone, Copy)]
+enum Telling {
+    /// Nothing is told.
+    Nothing,
+    /// By a line each time.
+    Lines,
+    /// On one line, which is written anew.
+    Live,
+}
 
 /// How an instance is solved: within the settings, and where a number of leaves is given, by closing it
 /// with no more of them; and whether to tell how far the turns are.
@@ -26,64 +39,103 @@ use tenths::{Sink, StdSink};
 struct Work<'a> {
     settings: &'a Settings,
     closing: Option<u32>,
-    progress: bool,
+    telling: Telling,
 }
 
-/// Closes the instance of a text, or solves it.
+/// Closes the instance of a text, or solves it, from a plan if there is one.
 fn solve_text<R: Eprint + Threads + Wait + Sync, X: Sink, Y: Sink>(
     rt: &R,
     alloc: Global,
-    text: &[u8],
+    (text, start): (&[u8], Option<&[u8]>),
     work: Work<'_>,
     solution: &mut X,
     certificate: &mut Y,
-) -> Result<Answer, SolveFault> {
+) -> Result<Answer, StartFault> {
     let settings = work.settings;
-    match work.closing {
-        Some(leaves) => close(alloc, text, settings, leaves, solution, certificate),
-        None if work.progress => {
-            let gate = Progress::new(rt, settings);
-            solve(rt, alloc, text, settings, &gate, solution, certificate)
+    if let Some(leaves) = work.closing {
+        return close_from(alloc, text, start, settings, leaves, solution, certificate);
+    }
+    let is_live = match work.telling {
+        Telling::Nothing => {
+            return solve_from(
+                rt, alloc, text, start, settings, &NoGate, solution, certificate,
+            );
         }
-        None => solve(rt, alloc, text, settings, &NoGate, solution, certificate),
+        Telling::Lines => false,
+        Telling::Live => true,
+    };
+    let gate = Progress::new(rt, settings, is_live);
+    let answer = solve_from(rt, alloc, text, start, settings, &gate, solution, certificate);
+    gate.end();
+    answer
+}
+
+/// The paths of what is solved.
+#[derive(Clone, Copy)]
+struct Paths<'a> {
+    instance: &'a str,
+    start: Option<&'a str>,
+    solution: &'a str,
+    certificate: &'a str,
+}
+
+impl Paths<'_> {
+    /// Whether a file that is to be written is also to be read, or to be written again.
+    fn overwrite(&self) -> bool {
+        let is_read = |path: &str| {
+            is_same_path(self.instance, path)
+                || self.start.is_some_and(|start| is_same_path(start, path))
+        };
+        is_same_path(self.solution, self.certificate)
+            || is_read(self.solution)
+            || is_read(self.certificate)
     }
 }
 
-/// Solves the instance of the first file into the two others, which are made once the instance was read. No
-/// two paths may be the same, since one file would overwrite another.
+/// The bytes of a file, if one is named.
+fn read_if<R: Files + AllocGlobal>(rt: &R, path: Option<&str>) -> io::Result<Option<Vec<u8>>> {
+    match path {
+        Some(path) => Ok(Some(fs::read(rt, path)?)),
+        None => Ok(None),
+    }
+}
+
+/// Solves the instance of a file, from the plan of another one if it is named, into two others, which are made
+/// once both were read. No file that is written may be another of them, since it would be overwritten.
 fn solve_files<R: Eprint + Files + AllocGlobal + Threads + Wait + Sync, X: Sink, Y: Sink>(
     rt: &R,
     alloc: Global,
-    [instance, solution, certificate]: [&str; 3],
+    paths: Paths<'_>,
     work: Work<'_>,
     out: &mut X,
     errors: &mut Y,
 ) -> u8 {
-    let is_twice = is_same_path(solution, certificate);
-    if is_twice || is_same_path(instance, solution) || is_same_path(instance, certificate) {
+    if paths.overwrite() {
         return file_fault(errors);
     }
-    let text = match fs::read(rt, instance) {
+    let text = match fs::read(rt, paths.instance) {
         Ok(text) => text,
         Err(error) => return open_fault(&error, errors),
     };
-    let mut solution = match fs::create(rt, solution) {
+    let start = match read_if(rt, paths.start) {
+        Ok(start) => start,
+        Err(error) => return open_fault(&error, errors),
+    };
+    let mut solution = match fs::create(rt, paths.solution) {
         Ok(file) => StdSink::new(file),
         Err(error) => return open_fault(&error, errors),
     };
-    let mut certificate = match fs::create(rt, certificate) {
+    let mut certificate = match fs::create(rt, paths.certificate) {
         Ok(file) => StdSink::new(file),
         Err(error) => return open_fault(&error, errors),
     };
-    match solve_text(
-        rt,
-        alloc,
-        text.as_slice(),
-        work,
-        &mut solution,
-        &mut certificate,
-    ) {
-        Err(fault) => solve_fault(alloc, fault, errors),
+    let start = match &start {
+        Some(start) => Some(start.as_slice()),
+        None => None,
+    };
+    let texts = (text.as_slice(), start);
+    match solve_text(rt, alloc, texts, work, &mut solution, &mut certificate) {
+        Err(fault) => start_fault(alloc, fault, errors),
         Ok(answer) => tell(&answer, out, errors),
     }
 }
@@ -106,12 +158,9 @@ fn check_files<R: Files + AllocGlobal, X: Sink, Y: Sink>(
         Ok(text) => text,
         Err(error) => return open_fault(&error, errors),
     };
-    let solution = match solution {
-        Some(path) => match fs::read(rt, path) {
-            Ok(text) => Some(text),
-            Err(error) => return open_fault(&error, errors),
-        },
-        None => None,
+    let solution = match read_if(rt, solution) {
+        Ok(solution) => solution,
+        Err(error) => return open_fault(&error, errors),
     };
     let solution = match &solution {
         Some(text) => Some(text.as_slice()),
@@ -129,13 +178,24 @@ fn check_files<R: Files + AllocGlobal, X: Sink, Y: Sink>(
     }
 }
 
+/// What flags ask for: one line where both are given.
+fn telling_of(progress: bool, live: bool) -> Telling {
+    if live {
+        Telling::Live
+    } else if progress {
+        Telling::Lines
+    } else {
+        Telling::Nothing
+    }
+}
+
 /// Does what the program does with the words after its name and the files that they name: prints
 /// to `out` in place of standard output and to `errors` in place of standard error, and answers
 /// the status: 0 for `BEST`, `NO PLAN` and help, 1 for `GAP`, `OPEN` and `BOUND`, 2 for wrong words,
-/// 3 for a refused instance, 4 where memory was refused, 5 for a refused certificate or solution, 6
-/// where a file or a stream failed or two paths of `solve` are the same, 7 where the labels,
-/// the states or the leaves don't suffice, or an instance is too large to be closed. With `--progress` lines stand on
-/// standard error itself besides. What files hold no contract can say.
+/// 3 for a refused instance, 4 where memory was refused, 5 for a refused certificate or solution, or plan to
+/// start from, 6 where a file or a stream failed or `solve` would overwrite one of its files, 7 where the
+/// labels, the states or the leaves don't suffice, or an instance is too large to be closed. With `--progress`
+/// and `--live` lines stand on standard error itself besides. What files hold no contract can say.
 pub fn run_words<R: Eprint + Files + AllocGlobal + Threads + Wait + Sync, X: Sink, Y: Sink>(
     rt: &R,
     alloc: Global,
@@ -152,16 +212,23 @@ pub fn run_words<R: Eprint + Files + AllocGlobal + Threads + Wait + Sync, X: Sin
             instance,
             solution,
             certificate,
+            start,
             settings,
             close,
             leaves,
             progress,
+            live,
         } => {
-            let paths = [instance, solution, certificate];
+            let paths = Paths {
+                instance,
+                start,
+                solution,
+                certificate,
+            };
             let work = Work {
                 settings: &settings,
                 closing: close.then_some(leaves),
-                progress,
+                telling: telling_of(progress, live),
             };
             solve_files(rt, alloc, paths, work, out, errors)
         }

@@ -8,27 +8,57 @@ use std::io;
 use std::sync::atomic::{AtomicU64, Ordering};
 use tenths::Tenths;
 
-/// A gate that holds nobody, and tells on standard error how far the turns are: at most one line for each
+/// A gate that holds nobody, and tells on standard error how far the turns are: at most once for each
 /// hundredth of them, until cost and bound have met. It has no lock.
 #[derive(Drop)]
 pub(crate) struct Progress<'a, R: Eprint> {
     rt: &'a R,
+    /// Whether one line is written anew in place of one line after the other.
+    is_live: bool,
     turns: u64,
     made: AtomicU64,
+    /// How many leaves of the tree were split.
+    splits: AtomicU64,
     ghost some: { 0 < turns },
 }
 
-/// Writes a line of how far the turns are.
-fn write_progress<R: Eprint>(rt: &R, percent: u64, gap: &Gap) -> io::Result<()> {
+/// How far the workers are.
+#[derive(Clone, Copy)]
+struct Stage {
+    percent: u64,
+    made: u64,
+    leaves: u64,
+}
+
+/// What stands before and behind what is told: a carriage return and blanks, so that nothing is left of what
+/// stood on the line before, or nothing.
+fn ends(is_live: bool) -> (&'static str, &'static str) {
+    if is_live {
+        ("\r", "            ")
+    } else {
+        ("", "\n")
+    }
+}
+
+/// Writes how far the turns are.
+fn write_progress<R: Eprint>(rt: &R, is_live: bool, stage: Stage, gap: &Gap) -> io::Result<()> {
+    let (before, behind) = ends(is_live);
+    let Stage {
+        percent,
+        made,
+        leaves,
+    } = stage;
     let bound = gap.bound.get();
     let (whole, tenth) = (bound / 10, bound % 10);
     let Some(cost) = gap.cost.map(Tenths::get) else {
-        return eprintln!(rt; "vrptw: {percent} % of the turns, no plan, bound {whole}.{tenth}");
+        return eprint!(rt;
+            "{before}vrptw: {percent} % of the turns, no plan, bound {whole}.{tenth}, leaves {leaves}, turns {made}{behind}",
+        );
     };
     let part = cost.saturating_sub(bound).saturating_mul(1000);
     let permille = part.saturating_add(cost / 2) / cost.max(1);
-    eprintln!(rt;
-        "vrptw: {percent} % of the turns, cost {}.{}, bound {whole}.{tenth}, gap {}.{} %",
+    eprint!(rt;
+        "{before}vrptw: {percent} % of the turns, cost {}.{}, bound {whole}.{tenth}, gap {}.{} %, leaves {leaves}, turns {made}{behind}",
         cost / 10,
         cost % 10,
         permille / 10,
@@ -38,26 +68,47 @@ fn write_progress<R: Eprint>(rt: &R, percent: u64, gap: &Gap) -> io::Result<()> 
 
 impl<'a, R: Eprint> Progress<'a, R> {
     /// For all turns that the settings ask for.
-    pub(crate) fn new(rt: &'a R, settings: &Settings) -> Progress<'a, R> {
+    pub(crate) fn new(rt: &'a R, settings: &Settings, is_live: bool) -> Progress<'a, R> {
         let workers = u64::from(settings.searchers) + u64::from(settings.bounders);
         Progress {
             rt,
+            is_live,
             turns: workers.saturating_mul(u64::from(settings.turns)).max(1),
             made: AtomicU64::new(0),
+            splits: AtomicU64::new(0),
+        }
+    }
+
+    /// Ends the line that was written anew.
+    pub(crate) fn end(&self) {
+        if self.is_live {
+            // Where standard error fails, nothing is told.
+            let _ = eprint!(self.rt; "\n");
         }
     }
 }
 
 impl<'a, R: Eprint> Gate for Progress<'a, R> {
-    fn pass(&self, _worker: u16, _point: GatePoint) {}
+    fn pass(&self, _worker: u16, point: GatePoint) {
+        if point == GatePoint::Split {
+            self.splits.fetch_add(1, Ordering::SeqCst);
+        }
+    }
 
     fn tell(&self, gap: &Gap) {
-        let before = self.made.fetch_add(1, Ordering::SeqCst).saturating_mul(100);
+        let made = self.made.fetch_add(1, Ordering::SeqCst).saturating_add(1);
+        let before = made.saturating_sub(1).saturating_mul(100);
         let percent = before.saturating_add(100) / self.turns;
         let is_open = gap.cost.is_none_or(|cost| cost.get() > gap.bound.get());
         if is_open && before / self.turns < percent {
+            let leaves = self.splits.load(Ordering::SeqCst).saturating_add(1);
+            let stage = Stage {
+                percent,
+                made,
+                leaves,
+            };
             // Where standard error fails, nothing is told.
-            let _ = write_progress(self.rt, percent, gap);
+            let _ = write_progress(self.rt, self.is_live, stage, gap);
         }
     }
 }

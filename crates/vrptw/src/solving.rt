@@ -1,13 +1,17 @@
 //! From the bytes of an instance to a plan and a certificate.
 
-ghost use Rattle.std.specs.Prelude.{IfOk, IfErr};
+ghost use Rattle.std.specs.Prelude.{ℕ, List, IfOk, IfErr, IfSome, option_map};
 ghost use Rattle.solomon_reader.specs.Layout.{IsInstance};
 ghost use Rattle.vrptw.specs.Answers.{Solves, RefusesText};
+ghost use Rattle.vrptw.specs.Starting.{IsAtMost, IsPlanAt, TellsFrom};
 
 use crate::answer::{Answer, SolveFault};
-use crate::found::found_by;
+use crate::found::{Found, found_by};
+use crate::starting::{StartFault, read_start};
 use crate::writing::write_found;
-use search_workers::{Gate, Settings, run};
+use closing::cheaper;
+use schedule::Feasible;
+use search_workers::{Gate, Settings, run_from};
 use solomon_reader::{Instance, ReadFault, read};
 use std::alloc::Global;
 use std::sync::Wait;
@@ -24,6 +28,34 @@ pub(crate) fn read_instance(alloc: Global, text: &[u8]) -> Result<Instance, Solv
         Err(ReadFault::Memory) => Err(SolveFault::Memory),
         Err(fault) => Err(SolveFault::Instance(fault)),
     }
+}
+
+/// Solves an instance, from a plan if there is one, and writes what is found.
+fn solve_instance<'i, R: Threads + Wait + Sync, G: Gate + Sync, X: Sink, Y: Sink>(
+    rt: &R,
+    alloc: Global,
+    instance: &'i Instance,
+    start: Option<Feasible<'i>>,
+    settings: &Settings,
+    gate: &G,
+    solution: &mut X,
+    certificate: &mut Y,
+) -> Result<Answer, SolveFault>
+    requires { IfSome start (IsPlanAt instance.now) }
+    ensures solved { (text : List ℕ) → IsInstance text instance.now → Solves text settings.now
+        (X.held solution.old) (X.held solution.new)
+        (Y.held certificate.old) (Y.held certificate.new) result }
+    ensures at_most { IfOk result (λ a. IfSome start.entry (λ f. IsAtMost f.cost a)) }
+{
+    let copy = match &start {
+        Some(plan) => Some(plan.try_clone()?),
+        None => None,
+    };
+    let outcome = run_from(rt, alloc, instance, settings, gate, copy)?;
+    let Found { plan, bound, nodes } = found_by(alloc, &outcome)?;
+    let plan = cheaper(start, plan);
+    let found = Found { plan, bound, nodes };
+    write_found(alloc, instance, settings.neighbours, found, solution, certificate)
 }
 
 /// Solves the instance of a text: writes a plan to the first sink, if one was found, and then to
@@ -49,8 +81,35 @@ pub fn solve<R: Threads + Wait + Sync, G: Gate + Sync, X: Sink, Y: Sink>(
         (Y.held certificate.old) (Y.held certificate.new) result }
 {
     let instance = read_instance(alloc, text)?;
-    let outcome = run(rt, alloc, &instance, settings, gate)?;
-    let found = found_by(alloc, &outcome)?;
-    let neighbours = settings.neighbours;
-    write_found(alloc, &instance, neighbours, found, solution, certificate)
+    solve_instance(rt, alloc, &instance, None, settings, gate, solution, certificate)
+}
+
+/// What `solve` does, from a plan whose text is given, if it is cheaper than what an insertion builds. Then the
+/// answer is `Best` or `Gap`, and costs at most what that plan does.
+///
+/// `Start` where the text isn't that of a plan of the instance and of its cost, with the first fault that
+/// `check` would tell of it; it is told after a fault of the instance and before the others, and nothing was
+/// written.
+pub fn solve_from<R: Threads + Wait + Sync, G: Gate + Sync, X: Sink, Y: Sink>(
+    rt: &R,
+    alloc: Global,
+    text: &[u8],
+    start: Option<&[u8]>,
+    settings: &Settings,
+    gate: &G,
+    solution: &mut X,
+    certificate: &mut Y,
+) -> Result<Answer, StartFault>
+    ensures { TellsFrom (Solves text.now settings.now
+        (X.held solution.old) (X.held solution.new)
+        (Y.held certificate.old) (Y.held certificate.new))
+        text.now (option_map (λ t. t.now) start.entry)
+        (X.held solution.old) (X.held solution.new)
+        (Y.held certificate.old) (Y.held certificate.new) result }
+{
+    let instance = read_instance(alloc, text)?;
+    let start = read_start(alloc, &instance, start)?;
+    let answer =
+        solve_instance(rt, alloc, &instance, start, settings, gate, solution, certificate)?;
+    Ok(answer)
 }

@@ -80,6 +80,7 @@ fn turns_over<'i>(
         number,
         ceiling: &ceiling,
         seat,
+        enough: 0,
     };
     let made = bound_worker(&mut worker, &settings, nodes);
     Ok((

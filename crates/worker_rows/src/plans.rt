@@ -37,6 +37,7 @@ fn five_turns(
         number: 0,
         ceiling: &ceiling,
         seat,
+        enough: 0,
     };
     let made = search_worker(&mut worker, None, 5, generator(1, 0));
     Ok((

@@ -1,7 +1,7 @@
 -- How much work goes into a plan and a bound.
 use Rattle.std.specs.Prelude.{◌≤◌}
 use Rattle.worker_turns.specs.declared.settings.Settings.{Settings}
-use Rattle.worker_turns.specs.declared.settings.TheConstants.{MOST_BOUNDERS, MOST_LABELS}
+use Rattle.worker_turns.specs.declared.settings.TheConstants.{MOST_BOUNDERS, MOST_GAP, MOST_LABELS}
 use Rattle.worker_turns.specs.declared.settings.TheConstants.{MOST_SEARCHERS, MOST_TURNS}
 use Rattle.solomon_reader.specs.declared.limits.TheConstants.{MOST_NEIGHBOURS}
 
@@ -16,6 +16,7 @@ pub record IsWithin (settings : Settings) : Type 0 where
   pub most_neighbours : settings.neighbours ≤ MOST_NEIGHBOURS
   pub some_labels : 1 ≤ settings.labels
   pub most_labels : settings.labels ≤ MOST_LABELS
+  pub most_gap : settings.gap ≤ MOST_GAP
 
 -- the settings of words that name none
 abbrev pub default_settings : Settings
@@ -26,4 +27,5 @@ default_settings = record {
   seed = 1;
   neighbours = 8;
   labels = 1000000;
+  gap = 0;
 }

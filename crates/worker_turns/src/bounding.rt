@@ -175,7 +175,7 @@ fn work_at<'i, H: Hub<'i>, G: Gate>(
     bring(worker, number, leaf, is_raised, means, nodes)
 }
 
-/// Takes a node, unless there is none, cost and bound have met, or the worker is ahead of the turns that
+/// Takes a node, unless there is none, cost and bound are near enough, or the worker is ahead of the turns that
 /// it made; and works at it, unless its value reaches the cost. Answers whether there was one.
 fn work_on<'i, H: Hub<'i>, G: Gate>(
     worker: &mut Worker<'_, 'i, H, G>,
@@ -227,7 +227,7 @@ fn turn<'i, H: Hub<'i>, G: Gate>(
 /// the ceiling, else splits it; a leaf whose value had reached the ceiling is laid aside. Then it takes the
 /// next one, until it has done as much as the turns so far are worth, or ten leaves. The leaves that are open
 /// at the end are left for others to steal.
-/// A refusal of the hub ends the turn. Where the words for cost and bound have met, a turn does nothing,
+/// A refusal of the hub ends the turn. Where the words for cost and bound have met, or are near enough, a turn does nothing,
 /// and where the worker has done more than the turns so far are worth, so that dear pricings don't make the
 /// work endless.
 pub fn bound_worker<'i, H: Hub<'i>, G: Gate>(

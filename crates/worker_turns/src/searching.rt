@@ -112,8 +112,8 @@ fn offer<'i, H: Hub<'i>, G: Gate, R: Rng + Drop>(
     Ok(())
 }
 
-/// What the worker has after a turn, unless that ended its work. Where cost and bound have met, it has
-/// what it had.
+/// What the worker has after a turn, unless that ended its work. Where cost and bound have met, or are
+/// near enough, it has what it had.
 fn turn<'i, H: Hub<'i>, G: Gate, R: Rng + Drop>(
     worker: &mut Worker<'_, 'i, H, G>,
     quest: Quest<'i, R>,
@@ -142,7 +142,8 @@ fn turn<'i, H: Hub<'i>, G: Gate, R: Rng + Drop>(
 /// In each turn the worker makes a turn of a searcher, whose temperature falls over all of them, and offers
 /// the plan that it has then. Where it has none, it builds one with drawn weights; where that leaves customers
 /// out, it goes on with a search from which they are absent, until it meets a plan. A refusal of the hub ends
-/// the turn, and the worker keeps its plan. Where the words for cost and bound have met, a turn does nothing.
+/// the turn, and the worker keeps its plan. Where the words for cost and bound have met,
+/// or are near enough, a turn does nothing.
 pub fn search_worker<'i, H: Hub<'i>, G: Gate, R: Rng + Drop>(
     worker: &mut Worker<'_, 'i, H, G>,
     plan: Option<Feasible<'i>>,

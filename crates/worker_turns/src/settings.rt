@@ -11,6 +11,8 @@ pub const MOST_BOUNDERS: u32 = 32;
 pub const MOST_TURNS: u32 = 1_000_000;
 /// The most labels that may be active at once in a pricing.
 pub const MOST_LABELS: u32 = 100_000_000;
+/// The greatest gap that may be enough, in tenths of a percent of the cost.
+pub const MOST_GAP: u32 = 1_000;
 
 /// How much work goes into a plan and a bound. Any numbers can stand in it:
 /// `is_within` says whether they are within the limits.
@@ -29,6 +31,9 @@ pub struct Settings {
     pub neighbours: u32,
     /// How many labels may be active at once in a pricing: 1 to `MOST_LABELS`, by default 1,000,000.
     pub labels: u32,
+    /// Once cost and bound are no further apart than so many tenths of a percent of the cost, turns do
+    /// nothing: 0 to `MOST_GAP`, by default 0.
+    pub gap: u32,
 }
 
 fn is_between(number: u32, least: u32, most: u32) -> bool
@@ -49,6 +54,7 @@ impl Settings {
             && is_between(self.turns, 1, MOST_TURNS)
             && is_between(self.neighbours, 0, MOST_NEIGHBOURS)
             && is_between(self.labels, 1, MOST_LABELS)
+            && is_between(self.gap, 0, MOST_GAP)
     }
 }
 
@@ -65,6 +71,7 @@ impl Default for Settings {
             seed: 1,
             neighbours: 8,
             labels: 1_000_000,
+            gap: 0,
         }
     }
 }

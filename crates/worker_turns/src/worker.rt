@@ -33,7 +33,15 @@ pub struct Worker<'a, 'i, H, G> {
     pub ceiling: &'a Ceiling,
     /// Its right to move them.
     pub seat: CeilingSeat,
+    /// No work is left once cost and bound are no further apart than so many tenths of a percent of the cost.
+    pub enough: u32,
     pub ghost own: { IsSeatOf ceiling.now seat },
+}
+
+/// Whether a bound is no further below a cost than so many tenths of a percent of the cost.
+fn is_near(cost: u64, bound: u64, enough: u32) -> bool {
+    let apart = cost.saturating_sub(bound).saturating_mul(1_000);
+    apart <= cost.saturating_mul(u64::from(enough))
 }
 
 impl<'i, H: Hub<'i>, G: Gate> Worker<'_, 'i, H, G> {
@@ -62,11 +70,16 @@ impl<'i, H: Hub<'i>, G: Gate> Worker<'_, 'i, H, G> {
         }
     }
 
-    /// Whether cost and bound have met, so that no work is left.
+    /// Whether cost and bound have met, or are as near as is enough, so that no work is left.
     pub(crate) fn is_closed(&mut self) -> bool
         ensures { self.new.ceiling ≡ self.old.ceiling }
     {
-        self.target() <= self.ceiling.floor(&mut self.seat)
+        let (target, gap) = (self.target(), self.gap());
+        let bound = gap.bound.get();
+        match gap.cost {
+            Some(cost) => is_near(cost.get(), bound, self.enough),
+            None => target <= bound,
+        }
     }
 
     /// Ends a turn.

@@ -32,3 +32,8 @@ pub returns-in_err-labels : goal.returns-in_err-labels
 returns-in_err-labels c =
     rw c.from_residual-in_err-labels.ensures (no_number (codes "labels") (λ s. s.labels) (rows_of (found_of c.args.found.now))
     (λ settings has. has.labels_are) (rw c.in_err-labels.was at c.number_of-6.ensures))
+
+pub returns-in_err-gap : goal.returns-in_err-gap
+returns-in_err-gap c =
+    rw c.from_residual-in_err-gap.ensures (no_number (codes "gap") (λ s. s.gap) (rows_of (found_of c.args.found.now))
+    (λ settings has. has.gap_is) (rw c.in_err-gap.was at c.number_of-7.ensures))

@@ -1,7 +1,7 @@
 use Rattle.std.proofs.Common.{rules, codes}
 use Rattle.std.proofs.lemmas.Result.{IfOk-weaker}
 use Rattle.clap.specs.Words.{new_app}
-use Rattle.command_line.specs.Commands.{HasShape, path_rule, progress_rule}
+use Rattle.command_line.specs.Commands.{HasShape, path_rule}
 use Rattle.command_line.proofs.Steps.{adds_rule}
 use Rattle.command_line.proofs.commands.solve_command.Goals as goal
 
@@ -17,5 +17,6 @@ returns c =
     let threads = c.in_ok-command-2.ensures _ paths in
     let turns = c.in_ok-command-3.ensures _ threads in
     let prices = c.in_ok-command-4.ensures _ turns in
-    let closing = c.in_ok-with_closing_options.ensures _ prices in
-    IfOk-weaker c.arg-4.result _ _ (λ made adds. adds_rule _ made _ _ progress_rule closing adds c.flag.ensures.rule c.flag.ensures.own) c.arg-4.ensures
+    let closing = c.in_ok-command-5.ensures _ prices in
+    let starting = c.in_ok-command-6.ensures _ closing in
+    IfOk-weaker c.with_telling_options.result _ _ (λ made adds. adds _ starting) c.with_telling_options.ensures

@@ -4,7 +4,7 @@ use Rattle.solomon_reader.specs.Region.{root_region}
 use Rattle.branching.specs.Nodes.{IsListedTree}
 use Rattle.closing.specs.Growing.{Grows}
 use Rattle.closing.proofs.Grown.{listed_tree}
-use Rattle.closing.proofs.close.close_counted.Goals as goal
+use Rattle.closing.proofs.close.close_from.Goals as goal
 
 pub finish-requires-clause-tree : goal.finish-requires-clause-tree
 finish-requires-clause-tree c =
