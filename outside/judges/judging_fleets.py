@@ -17,13 +17,15 @@ from tools.reasons import reasons
 
 # How many customers a file of a class has, and how many turns are made once a vehicle is taken away.
 CUSTOMERS, TURNS = 25, 1000
+# The most customers whose plans are all gone through.
+MOST_CUSTOMERS = 9
 # Where the fleet stands among an instance's words.
 FLEET = 4
 
 
 def judge_fleets(program, folder, random):
     """Few customers, mostly with the defaults. Answers how the run was made and the line's first word."""
-    text = laid_out(random, edge_words(random, random.randint(1, 8)))
+    text = laid_out(random, edge_words(random, random.randint(1, MOST_CUSTOMERS)))
     words = random.choice([[]] * 6 + [["--close"], ["--turns", str(random.randint(1, 400))]])
     try:
         if words[:1] == ["--close"]:

@@ -19,6 +19,7 @@ from judges.judging_layouts import judge_layout, judge_round_trip, judge_wrong_l
 from judges.judging_plans import judge_picture, judge_respelled, judge_timetable, judge_wrong_spelling
 from judges.judging_printouts import judge_printout, judge_wrong_printout
 from judges.judging_reports import judge_report
+from judges.judging_starts import judge_start
 from judges.judging_tables import judge_foreseen, judge_table, judge_wrong_names
 from judges.refusing import judge_memory
 from judges.running import Disagreement
@@ -77,7 +78,9 @@ KINDS = {
                        judge_solve(programs.program, folder, random, random.randint(9, 25), 3, False)),
     "close": Kind("solve --close, 1 to 8 customers, drawn limits: the least cost of all plans", 24,
                   program_by(judge_close)),
-    "fleets": Kind("a fleet near the edge, 1 to 8 customers: NO PLAN exactly where there is none", 40,
+    "starts": Kind("solve --start, 1 to 8 customers: a plan that costs no more, or the start's fault", 40,
+                   program_by(judge_start)),
+    "fleets": Kind("a fleet near the edge, 1 to 9 customers: NO PLAN exactly where there is none", 40,
                    program_by(judge_fleets)),
     "tight": Kind("25 customers, one vehicle fewer again and again: never OPEN", 4, program_by(judge_tight)),
     "checks": Kind("instance, certificate and plan, right or with something wrong, through check", 60,

@@ -7,7 +7,7 @@ ghost use Rattle.solomon_reader.specs.declared.limits.TheConstants.{MOST_NEIGHBO
 ghost use Rattle.insertion.specs.Building.{IsServedAlone};
 ghost use Rattle.search.specs.Searching.{plan_of};
 
-use crate::cheaper::cheaper;
+use crate::cheaper_plan::cheaper;
 use insertion::{Weights, build_whole};
 use labelling::LabelFault;
 use price_ascent::{start_from, start_without_plan};

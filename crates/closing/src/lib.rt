@@ -5,7 +5,7 @@
 #![tactic(auto)]
 
 mod chain;
-mod cheaper;
+mod cheaper_plan;
 mod close;
 mod closed;
 mod fee;
@@ -18,7 +18,7 @@ mod leaf;
 mod serving;
 mod settling;
 
-pub use cheaper::cheaper;
+pub use cheaper_plan::cheaper;
 pub use close::{close_alone, close_counted, close_from};
 pub use closed::{CloseAloneFault, Closed, MOST_CLOSED};
 pub use laws::depth_holds;

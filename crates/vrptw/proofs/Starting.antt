@@ -1,5 +1,5 @@
 -- From what becomes of what was found to what is said of a plan to start from.
-use Rattle.std.proofs.Common.{tt, ◌≡◌, ◌∙◌, List, Option, Some, None, MatchOption, Result, Ok, Err, ℕ, ◌≤◌, ◌⊎◌, inl, inr, refl, sym, arith}
+use Rattle.std.proofs.Common.{◌≡◌, ◌∙◌, List, Option, Some, None, MatchOption, Result, Ok, Err, ℕ, ◌≤◌, ◌⊎◌, inl, inr, refl, sym, arith}
 use Rattle.std.specs.Prelude.{IfSome, IfOk}
 use Rattle.solomon_reader.specs.Problem.{Problem}
 use Rattle.solomon_reader.specs.Layout.{IsInstance}

@@ -1,0 +1,74 @@
+"""A plan taken to a changed instance: who is known again, who is gone, and where the others fit."""
+from reference.instances import walk_times
+from tools.tool import Refused, listed
+
+
+def marks_of(instance, names):
+    """What a customer is known by, its place or its name, and how many before it have the same: the numbers by that."""
+    found, count = {}, {}
+    for i in range(1, instance.count + 1):
+        mark = names[i] if names else tuple(instance.rows[i][:2])
+        count[mark] = count.get(mark, 0) + 1
+        found[mark, count[mark]] = i
+    return found
+
+
+def fits(instance, route):
+    load = sum(instance.demand(i) for i in route)
+    return load <= instance.capacity and walk_times(instance, route) is not None
+
+
+def way(instance, route):
+    stops = [0] + route + [0]
+    return sum(instance.arc[a][b] for a, b in zip(stops, stops[1:]))
+
+
+class Carried:
+    """Two instances, by names where both have some; notes of what was done."""
+
+    def __init__(self, instance, changed, names):
+        both = names if all(names) else (None, None)
+        before, after = marks_of(instance, both[0]), marks_of(changed, both[1])
+        self.changed, self.notes = changed, []
+        self.again = {i: after[mark] for mark, i in before.items() if mark in after}
+        gone = [i for i in before.values() if i not in self.again]
+        self.new = sorted(set(after.values()) - set(self.again.values()))
+        self.note("customers that are gone, by their numbers before", gone)
+        self.note("new customers", self.new)
+
+    def note(self, words, numbers):
+        if numbers:
+            self.notes.append("%s: %s" % (words, listed(sorted(numbers))))
+
+    def carry(self, routes):
+        """The routes of the changed instance that serve each customer once."""
+        kept = [[self.again[i] for i in route if i in self.again] for route in routes]
+        kept, left = self.shortened([route for route in kept if route])
+        self.note("customers that no longer fit where they were", left)
+        for customer in sorted(left + self.new, key=lambda i: (self.changed.due(i), i)):
+            self.put(kept, customer)
+        return kept
+
+    def shortened(self, routes):
+        """The routes as far as they still fit, the longest ones first where there are too many; and who is left."""
+        found, left = [], []
+        for route in sorted(routes, key=len, reverse=True):
+            fitting = []
+            for customer in route:
+                is_one = len(found) < self.changed.fleet and fits(self.changed, fitting + [customer])
+                (fitting if is_one else left).append(customer)
+            found += [fitting] if fitting else []
+        return found, left
+
+    def put(self, routes, customer):
+        """Puts a customer where the way around is shortest, or alone."""
+        places = [(way(self.changed, longer) - way(self.changed, route), k, longer)
+                  for k, route in enumerate(routes) for at in range(len(route) + 1)
+                  for longer in [route[:at] + [customer] + route[at:]] if fits(self.changed, longer)]
+        if places:
+            _, k, longer = min(places)
+            routes[k] = longer
+        elif len(routes) < self.changed.fleet and fits(self.changed, [customer]):
+            routes.append([customer])
+        else:
+            raise Refused("customer %d of the changed instance fits into no route" % customer)
