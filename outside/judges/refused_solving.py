@@ -12,7 +12,7 @@ from reference.instances import read
 from reference.texts import TextFault, read_certificate, read_solution, shown
 
 # By the call's name, how many customers its instance has.
-SIZES = {"solve_two": 2, "solve_three": 3}
+SIZES = {"solve_two": 2, "solve_three": 3, "solve_from": 3}
 ANSWERED = "answered"
 WORDS = {"Best": "BEST", "Gap": "GAP", "NoPlan": "NO PLAN", "Open": "BOUND"}
 ANSWER = re.compile(r'^(?:Ok (\w+)(?: \{ (.*) \})?|(\w+)) ("[^"]*") ("[^"]*")$')

@@ -21,7 +21,7 @@ use std::io;
 use std::sync::Wait;
 use std::thread::Threads;
 use tenths::MemorySink;
-use vrptw::{NoGate, Settings, solve};
+use vrptw::{NoGate, Settings, solve_from};
 
 /// Two customers to the right of the depot, and two above it.
 const CROSSED: &str =
@@ -40,7 +40,7 @@ fn text_of(alloc: Global, name: &str) -> Option<String> {
     let (fleet, capacity, depot, customers) = match name {
         "build" | "apply" | "descend" => (2, 4, DEPOT, CROSSED),
         "least" | "improve" => (1, 3, DEPOT, NEAR),
-        "check" | "solve_three" => (2, 2, NEAR_DEPOT, APART),
+        "check" | "solve_three" | "solve_from" => (2, 2, NEAR_DEPOT, APART),
         "solve_two" => (2, 1, DEPOT, IN_LINE),
         _ => (2, 2, DEPOT, IN_LINE),
     };
@@ -187,12 +187,19 @@ fn tell_written<R: Host>(rt: &R, cert: &Cert) -> io::Result<()> {
     tell_taken(rt, &[&sink])
 }
 
-/// Solves an instance by few turns of one worker of each kind, and prints the answer and both texts.
-fn tell_solved<R: Host + Threads + Wait>(rt: &R, text: &[u8]) -> io::Result<()> {
+/// Solves an instance by few turns of one worker of each kind, from a plan if there is one, and prints the answer
+/// and both texts.
+fn tell_solved<R: Host + Threads + Wait>(
+    rt: &R,
+    text: &[u8],
+    start: Option<&[u8]>,
+) -> io::Result<()> {
     let (alloc, mut settings) = (rt.alloc(), Settings::default());
     (settings.searchers, settings.bounders, settings.turns) = (1, 1, 2);
     let (mut plan, mut tree) = (MemorySink::new(alloc), MemorySink::new(alloc));
-    match solve(rt, alloc, text, &settings, &NoGate, &mut plan, &mut tree) {
+    match solve_from(
+        rt, alloc, text, start, &settings, &NoGate, &mut plan, &mut tree,
+    ) {
         Ok(answer) => print!(rt; "Ok {answer:?}")?,
         Err(fault) => print!(rt; "{fault}")?,
     }
@@ -214,7 +221,8 @@ fn tell_once<R: Host + Threads + Wait>(
         "read" => tell_outcome(rt, &certificate::read(alloc, CERTIFICATE)),
         "write" => tell_written(rt, cert),
         "check" => tell_outcome(rt, &check(alloc, text, CERTIFICATE, solution, STATES)),
-        "solve_two" | "solve_three" => tell_solved(rt, text),
+        "solve_two" | "solve_three" => tell_solved(rt, text, None),
+        "solve_from" => tell_solved(rt, text, solution),
         _ => Err(io::Error::from(WRONG)),
     }
 }

@@ -2,8 +2,8 @@
 //! on lines that begin with two blanks. A line without words, or with `#` as the first, is only printed. In
 //! texts a bar stands for a line feed and a tilde for the byte 1.
 //!
-//! - `file NAME FLEET CAPACITY LINES` writes an instance, `text NAME TEXT` another text, and `show NAME` prints
-//!   a file's text;
+//! - `file NAME FLEET CAPACITY LINES` writes an instance, `text NAME TEXT` another text, `returns NAME TEXT` one
+//!   in which a tilde stands for a carriage return, and `show NAME` prints a file's text;
 //! - `run WORDS` runs the program, and prints its status and both streams; `streams WORDS` says only whether
 //!   a stream is empty;
 //! - `solve NAME OPTIONS` solves an instance and checks what was written: the line printed depends on how
@@ -34,7 +34,7 @@ use crate::jobs::tell_job;
 use crate::library::tell_library;
 use crate::runs::{run, tell_printed, tell_unheard};
 use crate::sinks::tell_sinks;
-use crate::texts::{tell_file, write_file, write_text};
+use crate::texts::{LOW, tell_file, write_file, write_text};
 use std::io;
 use std::rt::Runtime;
 use std::sync::Wait;
@@ -49,7 +49,8 @@ fn obey<R: Runtime + AllocGlobal + Threads + Wait + Sync>(
     match words {
         [] | ["#", ..] => Ok(()),
         ["file", path, fleet, capacity, ..] => write_file(rt, line, [path, fleet, capacity]),
-        ["text", path, ..] => write_text(rt, line, path),
+        ["text", path, ..] => write_text(rt, line, path, LOW),
+        ["returns", path, ..] => write_text(rt, line, path, b'\r'),
         ["show", path] => tell_file(rt, path),
         ["bound", path] => tell_bound(rt, path, 0),
         ["bound", path, most] => tell_bound(rt, path, most.parse().unwrap_or(0)),

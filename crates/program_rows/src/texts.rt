@@ -4,8 +4,8 @@ use row_texts::{behind, bytes_meant, instance_text};
 use std::rt::Runtime;
 use std::{fs, io};
 
-/// The byte that a tilde stands for.
-const LOW: u8 = 1;
+/// The byte that a tilde stands for, mostly.
+pub const LOW: u8 = 1;
 
 /// Prints a text after its name, as a script's words would have it, so that it stands on one line.
 pub fn tell_text<R: Runtime + AllocGlobal>(rt: &R, name: &str, text: &[u8]) -> io::Result<()> {
@@ -44,8 +44,13 @@ pub fn write_file<R: Runtime + AllocGlobal>(
     fs::write(rt, path, text.as_str())
 }
 
-/// Writes the text of a command.
-pub fn write_text<R: Runtime + AllocGlobal>(rt: &R, line: &str, path: &str) -> io::Result<()> {
-    let text = bytes_meant(rt.alloc(), behind(line, 2), LOW)?;
+/// Writes the text of a command, in which a tilde stands for this byte.
+pub fn write_text<R: Runtime + AllocGlobal>(
+    rt: &R,
+    line: &str,
+    path: &str,
+    tilde: u8,
+) -> io::Result<()> {
+    let text = bytes_meant(rt.alloc(), behind(line, 2), tilde)?;
     fs::write(rt, path, text.as_slice())
 }
