@@ -16,11 +16,14 @@ WORKERS = [1] * 12 + [2] * 8 + [3, 4, 5, 6, 7, 8]
 # With more labels than these the first pricing of few customers is never refused.
 FEW_LABELS = 100
 # By default; an option that isn't drawn stands here.
-DEFAULTS = {"searchers": 2, "bounders": 2, "turns": 200, "seed": 1, "neighbours": 8, "labels": 1000000}
+DEFAULTS = {"searchers": 2, "bounders": 2, "turns": 200, "seed": 1, "neighbours": 8, "labels": 1000000,
+            "gap": 0}
 # How many lists of stops are gone through for one leaf.
 FEW_ROUTES = 10_000
-# A line of `--progress`.
-TOLD = re.compile(r"vrptw: (\d+) % of the turns, (?:no plan|cost (\d+\.\d)), bound (\d+\.\d)(?:, gap (\d+\.\d) %)?")
+# A line of `--progress`, or what `--live` writes on one line.
+TOLD = re.compile(r"vrptw: (\d+) % of the turns, (?:no plan|cost (\d+\.\d)), bound (\d+\.\d)(?:, gap (\d+\.\d) %)?"
+                  r", leaves (\d+), turns (\d+)")
+BLANKS = 12 * " "
 
 
 def drawn_options(random, most_turns):
@@ -29,7 +32,8 @@ def drawn_options(random, most_turns):
              "turns": random.randint(1, most_turns),
              "seed": random.choice([0, 2 ** 32 - 1, random.randrange(2 ** 32), random.randrange(2 ** 32)]),
              "neighbours": random.randint(0, 15),
-             "labels": random.choice([random.randint(1, 12), random.randint(10, 60), 1000, 10 ** 5, 10 ** 6, 10 ** 8])}
+             "labels": random.choice([random.randint(1, 12), random.randint(10, 60), 1000, 10 ** 5, 10 ** 6, 10 ** 8]),
+             "gap": random.choice([0] * 8 + [random.randint(0, 1000), 1000])}
     return {name: value for name, value in drawn.items() if name == "turns" or random.randrange(10)}
 
 
@@ -47,7 +51,7 @@ def judge_solve(program, folder, random, count, most_turns, is_small):
     text = laid_out(random, instance_words(random, count))
     drawn = drawn_options(random, most_turns)
     words = [word for name, value in drawn.items() for word in ("--" + name, str(value))]
-    words += ["--progress"] * random.choice([0, 0, 1])
+    words += random.choice([[], [], ["--progress"], ["--live"], ["--live", "--progress"]])
     with open(os.path.join(folder, "options"), "w") as file:
         file.write(" ".join(words) + "\n")
     try:
@@ -65,8 +69,11 @@ def judge_run(program, folder, text, words, settings, is_small):
         demand(settings["labels"] <= FEW_LABELS, "LabelLimit with %d labels" % settings["labels"])
         demand((solution, certificate) == (b"", b""), "files after LabelLimit")
         return "LabelLimit"
-    if "--progress" in words:
-        judge_progress(errors, out, settings)
+    if "--live" in words:
+        judge_progress(lines_of_live(errors), out, settings)
+    elif "--progress" in words:
+        judge_progress(errors.splitlines(), out, settings)
+    if "--live" in words or "--progress" in words:
         errors = ""
     demand(errors == "" and out.split()[:1] in (["BEST"], ["GAP"], ["NO"], ["OPEN"]), "solve: %r" % (said,))
     demand((solution == b"") == (out.split()[0] in ("NO", "OPEN")), "a solution's text beside %r" % out)
@@ -85,15 +92,23 @@ def tenths(number):
     return int(number.replace(".", ""))
 
 
+def lines_of_live(errors):
+    """What was written on one line: behind each carriage return a line with blanks, and a line feed at the end."""
+    first, *lines = errors.removesuffix("\n").split("\r")
+    demand(errors.endswith("\n") and first == "" and all(line.endswith(BLANKS) for line in lines), "live: %r" % errors)
+    return [line.removesuffix(BLANKS) for line in lines]
+
+
 def judge_progress(errors, out, settings):
     """Each hundredth of the turns is told once at most; no cost is below the last one, no bound above the last."""
-    lines = [TOLD.fullmatch(line) for line in errors.splitlines()]
+    lines = [TOLD.fullmatch(line) for line in errors]
     demand(all(lines), "progress: %r" % errors)
     parts = [int(line[1]) for line in lines]
     turns = settings["turns"] * (settings["searchers"] + settings["bounders"])
     demand(len(set(parts)) == len(parts) <= turns and set(parts) <= set(range(1, 101)), "progress: %r" % errors)
     for line in lines:
-        demand((line[2] is None) == (line[4] is None), "progress: %r" % errors)
+        demand((line[2] is None) == (line[4] is None) and int(line[5]) >= 1, "progress: %r" % errors)
+        demand(int(line[6]) * 100 // turns == int(line[1]), "turns: %r" % line[0])
         if line[2] is not None:
             cost, bound = tenths(line[2]), tenths(line[3])
             gap = (2000 * (cost - bound) + cost) // (2 * cost)
