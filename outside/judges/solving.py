@@ -94,6 +94,8 @@ def tenths(number):
 
 def lines_of_live(errors):
     """What was written on one line: behind each carriage return a line with blanks, and a line feed at the end."""
+    if errors == "":
+        return []
     first, *lines = errors.removesuffix("\n").split("\r")
     demand(errors.endswith("\n") and first == "" and all(line.endswith(BLANKS) for line in lines), "live: %r" % errors)
     return [line.removesuffix(BLANKS) for line in lines]

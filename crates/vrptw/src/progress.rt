@@ -5,7 +5,7 @@ ghost use Rattle.std.specs.Prelude.{◌<◌};
 use incumbent_book::Gap;
 use search_workers::{Gate, GatePoint, Settings};
 use std::io;
-use std::sync::atomic::{AtomicU64, Ordering};
+use std::sync::atomic::{AtomicBool, AtomicU64, Ordering};
 use tenths::Tenths;
 
 /// A gate that holds nobody, and tells on standard error how far the turns are: at most once for each
@@ -19,6 +19,8 @@ pub(crate) struct Progress<'a, R: Eprint> {
     made: AtomicU64,
     /// How many leaves of the tree were split.
     splits: AtomicU64,
+    /// Whether something was told.
+    has_told: AtomicBool,
     ghost some: { 0 < turns },
 }
 
@@ -76,12 +78,13 @@ impl<'a, R: Eprint> Progress<'a, R> {
             turns: workers.saturating_mul(u64::from(settings.turns)).max(1),
             made: AtomicU64::new(0),
             splits: AtomicU64::new(0),
+            has_told: AtomicBool::new(false),
         }
     }
 
-    /// Ends the line that was written anew.
+    /// Ends the line that was written anew, if one was.
     pub(crate) fn end(&self) {
-        if self.is_live {
+        if self.is_live && self.has_told.load(Ordering::SeqCst) {
             // Where standard error fails, nothing is told.
             let _ = eprint!(self.rt; "\n");
         }
@@ -107,6 +110,7 @@ impl<'a, R: Eprint> Gate for Progress<'a, R> {
                 made,
                 leaves,
             };
+            self.has_told.store(true, Ordering::SeqCst);
             // Where standard error fails, nothing is told.
             let _ = write_progress(self.rt, self.is_live, stage, gap);
         }
