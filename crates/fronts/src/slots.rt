@@ -6,9 +6,11 @@ ghost use Rattle.solomon_reader.specs.declared.limits.TheConstants.{MOST_TIME};
 use solomon_reader::{Instance, MOST_TIME};
 use std::alloc::{AllocError, Global};
 
-/// The most slots but the last one, and the fewest.
-const MOST_SLOTS: u64 = 160;
+/// The most slots but the last one. They are many: where a slot is longer than a step, the bound at the end of
+/// that step isn't known yet, and all bounds of which it is a part tell nothing.
+const MOST_SLOTS: u64 = 400;
 
+/// The fewest slots but the last one.
 const FEWEST_SLOTS: u64 = 80;
 
 /// When a route may leave a row, and where the row's bounds stand.
@@ -62,8 +64,8 @@ fn shortest(instance: &Instance) -> u64 {
     shortest
 }
 
-/// How long a slot is: no longer than the shortest way, unless there were too many, so that each step
-/// leads from the beginning of a slot into a later one.
+/// How long a slot is: no longer than the shortest way with the service behind it, so that each step leads
+/// from the beginning of a slot into a later one, unless there were too many slots.
 fn width_of(instance: &Instance) -> u64 {
     instance.law_of_limits();
     let due = instance.due(0);
