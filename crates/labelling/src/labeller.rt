@@ -3,7 +3,7 @@
 
 ghost use Rattle.std.specs.Prelude.{◌≡◌, ◌≢◌, ℕ, ◌+◌, ◌<◌, ◌≤◌, length, OnOk, IfOk, IfErr, IsTrue, IsFalse, None, ℤ, ◌≤ℤ◌};
 ghost use Rattle.std.specs.List.{AllByRecursion};
-ghost use Rattle.solomon_reader.specs.Problem.{IsCustomer, customer_count};
+ghost use Rattle.solomon_reader.specs.Problem.{customer_count};
 ghost use Rattle.solomon_reader.specs.CertificateText.{IsPrice};
 ghost use Rattle.solomon_reader.specs.States.{pricing, CanStep, IsAtMost};
 ghost use Rattle.solomon_reader.specs.declared.limits.TheConstants.{MOST_NEIGHBOURS};
@@ -12,9 +12,9 @@ ghost use Rattle.labelling.specs.Arena.{label_in, state_at, trace, IsArena, Coun
 ghost use Rattle.labelling.specs.Cover.{IsCounted, IsPassed};
 ghost use Rattle.fronts.specs.Completions.{IsBound};
 ghost use Rattle.fronts.specs.Fronts.{IsBounded, IsTask};
-ghost use Rattle.fronts.specs.Tables.{IsAllowedRow};
+ghost use Rattle.fronts.specs.Steps.{IsOpenStep};
 ghost use Rattle.fronts.specs.Tasks.{pricing_of};
-ghost use Rattle.labelling.specs.Search.{task_of, pricing_in, KeepsBest, Continues, GoesOn, StandsAt, ArePlacesFrom, IsAddedTo, TakesStepTo, TakesEachStep, Recalls, AddsAtLeast, EndsFor, LosesNothing};
+ghost use Rattle.labelling.specs.Search.{task_of, pricing_in, KeepsBest, Continues, GoesOn, StandsAt, IsAddedTo, TakesStepTo, TakesEachStep, Recalls, AddsAtLeast, EndsFor, LosesNothing};
 ghost use Rattle.labelling.specs.declared.fault.LabelFault.TheVariants.{LabelLimit};
 
 use crate::best::Best;
@@ -26,7 +26,7 @@ use crate::least_cost::Least;
 use crate::lookup::Lookup;
 use crate::route_ends::{RouteEnd, cheapest};
 use branching::Region;
-use fronts::{Bound, Completions, CustomerSet, Front, LIST_SIZE, Memory, Nearness, Task};
+use fronts::{Bound, Completions, Front, LIST_SIZE, Memory, Nearness, Step, Task};
 use solomon_reader::Instance;
 use std::alloc::{AllocError, Global};
 
@@ -255,60 +255,54 @@ impl<'t, 'i> Labeller<'t, 'i> {
         Ok(())
     }
 
-    /// Takes the step from the label at an index to a customer, where a route may go, if it may cost less
-    /// than the best.
+    /// Takes a step from the label at an index that a route may take, if it may cost less than the best.
     #[inline(never)]
-    fn step_to(
+    fn go_on(
         &mut self,
         label: &Label,
         index: usize,
         best: Option<i64>,
-        j: u16,
+        step: &Step,
     ) -> Result<(), LabelFault>
         requires labels { IsArena (pricing_in self.old) self.old.labels.items }
         requires index { StandsAt self.old.labels.items index label.now }
-        requires j { IsCustomer (pricing_in self.old).problem j }
-        requires can { CanStep (pricing_in self.old) (state_at (pricing_in self.old) label.now) j }
-        ensures stepped { OnOk result (TakesStepTo self.old self.new best label.now j) }
+        requires step { IsOpenStep (pricing_in self.old) label.now.front.last step.now }
+        requires can { CanStep (pricing_in self.old) (state_at (pricing_in self.old) label.now) step.now.customer }
+        ensures stepped { OnOk result (TakesStepTo self.old self.new best label.now step.now.customer) }
         ensures kept { KeepsBest self.old self.new result }
     {
         let task = self.completions.task;
         self.taken = self.taken.saturating_add(1);
-        let front = label.front.extend(task.instance, task.prices, j);
+        let front = task.after(&label.front, step);
         let bound = self.completions.at(front.last, front.time);
         if self.is_passed(&front, &bound, best) {
             return Ok(());
         }
-        let newer = label.extend(task, index, front, j);
-        self.add_label(&newer, bound.room)?;
+        let newer = label.extend(task, index, front, step.customer);
+        self.add_label(&newer, u32::from(bound.room))?;
         Ok(())
     }
 
-    /// Takes the step from the label at an index to a customer, if a route may go there and cost less
-    /// than the best.
+    /// Takes a step from the label at an index, if a route may take it and cost less than the best.
     #[inline(always)]
     fn take_step(
         &mut self,
         label: &Label,
         index: usize,
         best: Option<i64>,
-        rows: &CustomerSet,
-        places: &[u8],
-        j: u16,
+        step: &Step,
     ) -> Result<(), LabelFault>
         requires labels { IsArena (pricing_in self.old) self.old.labels.items }
         requires index { StandsAt self.old.labels.items index label.now }
-        requires rows { IsAllowedRow (pricing_in self.old).region label.now.front.last rows.now }
-        requires places { ArePlacesFrom (pricing_in self.old) label.now places.now }
-        requires j { IsCustomer (pricing_in self.old).problem j }
-        ensures stepped { OnOk result (TakesStepTo self.old self.new best label.now j) }
+        requires step { IsOpenStep (pricing_in self.old) label.now.front.last step.now }
+        ensures stepped { OnOk result (TakesStepTo self.old self.new best label.now step.now.customer) }
         ensures kept { KeepsBest self.old self.new result }
     {
         let task = self.completions.task;
-        if !task.can_step(&label.front, label.memory, rows, places, j) {
+        if !task.can_take(&label.front, label.memory, step) {
             return Ok(());
         }
-        self.step_to(label, index, best, j)
+        self.go_on(label, index, best, step)
     }
 
     /// Takes each step from the label at an index that may lead below the best.
@@ -324,14 +318,11 @@ impl<'t, 'i> Labeller<'t, 'i> {
         ensures kept { KeepsBest self.old self.new result }
     {
         let task = self.completions.task;
-        let last = usize::from(label.front.last);
-        let rows = &task.allowed_rows[last];
-        let places = task.places[last].as_slice();
         for step in task.steps_from(label.front.last) {
-            if step.latest < label.front.time {
+            if step.is_late(label.front.time) {
                 return Ok(());
             }
-            self.take_step(label, index, best, rows, places, step.customer)?;
+            self.take_step(label, index, best, step)?;
         }
         Ok(())
     }
@@ -460,21 +451,20 @@ impl<'t, 'i> Labeller<'t, 'i> {
     }
 
     /// Takes the step from the label at an index to the next stop of a known route, and answers where the
-    /// label that it leads to stands, if it is a new one; nothing where there is no such label or stop.
+    /// label that it leads to stands, if it is a new one; nothing where there is no such label or step.
     fn follow_to(&mut self, index: usize, j: u16) -> Result<Option<usize>, LabelFault>
         requires { LosesNothing self.old }
         ensures { GoesOn self.old self.new result }
     {
-        let task = self.completions.task;
         let count = self.labels.len();
-        if index >= count || j == 0 || j > task.instance.customer_count() {
+        if index >= count {
             return Ok(None);
         }
         let label = self.labels[index];
-        let last = usize::from(label.front.last);
-        let rows = &task.allowed_rows[last];
-        let places = task.places[last].as_slice();
-        self.take_step(&label, index, self.best.value, rows, places, j)?;
+        let Some(step) = self.completions.task.step_to(label.front.last, j) else {
+            return Ok(None);
+        };
+        self.take_step(&label, index, self.best.value, &step)?;
         Ok(Some(count))
     }
 
