@@ -88,11 +88,11 @@ fn inverse_of(width: u64) -> u64 {
     (1u64 << 32) / width.max(1) + 1
 }
 
-/// The slots of a customer, whose bounds stand from a place on.
+/// The slots of a customer, whose bounds stand from a place on: for all times at which a route may leave it until
+/// the depot closes, even where it is too late to get back, so that the bounds at those times are known.
 fn row_slots(instance: &Instance, width: u64, place: u32, v: u16) -> RowSlots
     requires { v < length instance.now.rows }
 {
-    let home = instance.distance(v, 0).get();
     let arrival = instance
         .ready(0)
         .saturating_add(instance.distance(0, v).get());
@@ -101,7 +101,7 @@ fn row_slots(instance: &Instance, width: u64, place: u32, v: u16) -> RowSlots
         .max(arrival)
         .saturating_add(instance.service(v));
     let served = instance.due(v).saturating_add(instance.service(v));
-    let latest = served.min(instance.due(0).saturating_sub(home));
+    let latest = served.min(instance.due(0));
     RowSlots {
         earliest,
         first: cut(earliest / width.max(1)),
