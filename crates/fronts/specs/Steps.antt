@@ -60,13 +60,13 @@ pub record AreStepsFrom (p : Problem) (k : ℕ) (price : ℕ → ℤ) (P : ℕ �
 abbrev pub IsStepList : Problem → ℕ → ℕ → Vec Step Global → Type 0
 IsStepList p k v steps = AreStepsFrom p k (λ _. pos 0) (λ _. Unit {0}) v steps.items
 
--- j is one of the rows that stand at v
-abbrev pub IsIn : List Rows → ℕ → ℕ → Type 0
-IsIn table v j = IsTrue (contains (slice_index_or table v empty) j)
+-- the list of those to some rows, at these prices
+abbrev pub AreStepsTo : Problem → ℕ → List ℤ → Rows → ℕ → Vec Step Global → Type 0
+AreStepsTo p k prices rows v steps = AreStepsFrom p k (price_of prices) (λ j. IsTrue (contains rows j)) v steps.items
 
--- the list of those to the rows that stand at v, at these prices
+-- the list of those to the rows that stand at v
 abbrev pub IsOpenList : Problem → ℕ → List ℤ → List Rows → ℕ → Vec Step Global → Type 0
-IsOpenList p k prices table v steps = AreStepsFrom p k (price_of prices) (IsIn table v) v steps.items
+IsOpenList p k prices table v steps = AreStepsTo p k prices (slice_index_or table v empty) v steps
 
 -- the step is one that the pricing allows
 abbrev pub IsOpenStep : Pricing → ℕ → Step → Type 0

@@ -107,7 +107,8 @@ fn least_onward(_task: &Task<'_>, on: Bound, v: u16, step: &Step, time: u64) -> 
 
 /// The customer that comes next where the least is added: j where a step there adds less than the bound says.
 fn next_of(bound: &Bound, j: u16, value: i64) -> u16
-    ensures { ((result ≡ j) × (value ≤ℤ bound.now.least)) ⊎ ((result ≡ bound.now.next) × (bound.now.least ≤ℤ value)) }
+    ensures { let b = bound.now in
+        ((result ≡ j) × (value ≤ℤ b.least)) ⊎ ((result ≡ b.next) × (b.least ≤ℤ value)) }
 {
     if value < bound.least { j } else { bound.next }
 }
@@ -178,7 +179,8 @@ fn with_step(
     requires step { IsOpenStep (pricing_of task.now) front.now.last step.now }
     requires soon { front.now.time ≤ step.now.latest }
     requires small { IsSmall bound }
-    ensures { IsBoundWith (pricing_of task.now) front.now.last front.now.time step.now.customer bound result }
+    ensures { let f = front.now in
+        IsBoundWith (pricing_of task.now) f.last f.time step.now.customer bound result }
 {
     let next = task.after(front, step);
     let place = step.place_at(task.slots.slot(next.time));
@@ -195,7 +197,7 @@ fn bound_from(task: &Task<'_>, bounds: &[RowBound], v: u16, from: u64) -> (Bound
     ensures { IsBound (pricing_of task.now) v from result.0 }
 {
     task.instance.law_of_limits();
-    let rows = &task.allowed_rows[usize::from(v)];
+    let rows = task.rows_from(v);
     let front = Front {
         last: v,
         time: from,

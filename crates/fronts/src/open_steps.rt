@@ -1,12 +1,10 @@
 //! The steps that a region allows, with their reduced costs.
 
-ghost use Rattle.std.specs.Prelude.{◌≡◌, ◌<◌, length, IfOk, IsTrue};
-ghost use Rattle.std.specs.FinSet.{contains};
+ghost use Rattle.std.specs.Prelude.{◌≡◌, ◌<◌, length, IfOk};
 ghost use Rattle.std.specs.List.{All};
 ghost use Rattle.solomon_reader.specs.Problem.{customer_count};
-ghost use Rattle.solomon_reader.specs.Relaxed.{price_of};
 ghost use Rattle.solomon_reader.specs.States.{IsPriced};
-ghost use Rattle.fronts.specs.Steps.{AreStepsFrom, IsOpenList};
+ghost use Rattle.fronts.specs.Steps.{AreStepsTo, IsOpenList};
 ghost use Rattle.fronts.specs.Tables.{IsTable};
 
 use crate::customer_set::CustomerSet;
@@ -26,7 +24,7 @@ fn open_steps_from(
     requires count { length prices.now ≡ customer_count nearness.now.instance.now }
     requires priced { All IsPriced prices.now }
     ensures { let n = nearness.now in
-        IfOk result (λ s. AreStepsFrom n.instance.now n.neighbours (price_of prices.now) (λ j. IsTrue (contains rows.now j)) v s.items) }
+        IfOk result (AreStepsTo n.instance.now n.neighbours prices.now rows.now v) }
 {
     let steps = nearness.steps[usize::from(v)].as_slice();
     let mut chosen = Vec::with_capacity(alloc, steps.len())?;
@@ -49,7 +47,9 @@ pub(crate) fn open_steps(
     requires count { length prices.now ≡ customer_count nearness.now.instance.now }
     requires priced { All IsPriced prices.now }
     ensures { let n = nearness.now in
-        IfOk result (λ t. IsTable (IsOpenList n.instance.now n.neighbours prices.now rows.now) (length n.instance.now.rows) t.items) }
+        let p = n.instance.now in
+        let is_open = IsOpenList p n.neighbours prices.now rows.now in
+        IfOk result (λ table. IsTable is_open (length p.rows) table.items) }
 {
     let count = nearness.instance.customer_count();
     let mut table = Vec::with_capacity(alloc, usize::from(count) + 1)?;

@@ -168,9 +168,9 @@ impl Slots {
         Some(from.max(row.earliest).min(20 * u64::from(MOST_TIME)) as u32)
     }
 
-    /// The slot of a time.
+    /// The slot of a time. No contract: a bound says itself what it bounds.
     pub(crate) fn slot(&self, time: u64) -> u32 {
-        cut(time.saturating_mul(self.inverse) >> 32)
+        cut(time.wrapping_mul(self.inverse) >> 32)
     }
 
     /// The last slot of a row, and the place of its bound in that.

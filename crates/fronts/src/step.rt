@@ -62,8 +62,8 @@ impl Step {
 
     /// The place of the customer's bound in a slot of time. No contract: a bound says itself what it bounds.
     pub(crate) fn place_at(&self, slot: u32) -> usize {
-        self.last_place
-            .saturating_add(self.last_slot.saturating_sub(slot)) as usize
+        let behind = self.last_slot.saturating_sub(slot);
+        self.last_place.wrapping_add(behind) as usize
     }
 }
 
@@ -90,11 +90,13 @@ fn step_to(
     customer: u16,
 ) -> Option<Step>
     requires few { neighbours < LIST_SIZE }
-    requires places { IsTable (ArePlaces instance.now neighbours) (length instance.now.rows) places.now }
+    requires places { let p = instance.now in
+        IsTable (ArePlaces p neighbours) (length p.rows) places.now }
     requires v { v < length instance.now.rows }
     requires customer { IsCustomer instance.now customer }
     ensures { let p = instance.now in
-        MatchOption result (¬ IsReachable p v customer) (λ s. IsFreeStep p neighbours v s × (s.customer ≡ customer)) }
+        MatchOption result (¬ IsReachable p v customer)
+        (λ s. IsFreeStep p neighbours v s × (s.customer ≡ customer)) }
 {
     if !is_reachable(instance, v, customer) {
         return None;
@@ -127,7 +129,8 @@ fn steps_from(
     v: u16,
 ) -> Result<Vec<Step>, AllocError>
     requires few { neighbours < LIST_SIZE }
-    requires places { IsTable (ArePlaces instance.now neighbours) (length instance.now.rows) places.now }
+    requires places { let p = instance.now in
+        IsTable (ArePlaces p neighbours) (length p.rows) places.now }
     requires v { v < length instance.now.rows }
     ensures { IfOk result (IsStepList instance.now neighbours v) }
 {
@@ -150,7 +153,8 @@ pub(crate) fn all_steps(
     slots: &Slots,
 ) -> Result<Vec<Vec<Step>>, AllocError>
     requires few { neighbours < LIST_SIZE }
-    requires places { IsTable (ArePlaces instance.now neighbours) (length instance.now.rows) places.now }
+    requires places { let p = instance.now in
+        IsTable (ArePlaces p neighbours) (length p.rows) places.now }
     ensures { let p = instance.now in
         IfOk result (λ table. IsTable (IsStepList p neighbours) (length p.rows) table.items) }
 {

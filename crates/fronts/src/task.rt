@@ -33,7 +33,7 @@ pub struct Task<'i> {
     pub places: &'i [Vec<u8>],
     pub neighbour_lists: &'i [[u16; LIST_SIZE as usize]],
     pub(crate) slots: &'i Slots,
-    pub allowed_rows: Vec<CustomerSet>,
+    allowed_rows: Vec<CustomerSet>,
     steps: Vec<Vec<Step>>,
     ghost task: { IsTask instance.now region.now prices.now },
     ghost few: { neighbours < LIST_SIZE },
@@ -75,11 +75,20 @@ impl<'i> Task<'i> {
         })
     }
 
+    /// The rows to which a route of the region may go from a row.
+    pub fn rows_from(&self, v: u16) -> &CustomerSet
+        requires { v < length self.now.instance.now.rows }
+        ensures { IsAllowedRow self.now.region.now v result.now }
+    {
+        &self.allowed_rows[usize::from(v)]
+    }
+
     /// The steps from a row that a route of the region may take, those first that may be left for latest.
     pub fn steps_from(&self, v: u16) -> &[Step]
         requires { v < length self.now.instance.now.rows }
         ensures { let t = self.now in
-            AreOpenSteps (pricing t.instance.now t.region.now t.neighbours t.prices.now) v result.now }
+            let q = pricing t.instance.now t.region.now t.neighbours t.prices.now in
+            AreOpenSteps q v result.now }
     {
         self.steps[usize::from(v)].as_slice()
     }
@@ -88,7 +97,8 @@ impl<'i> Task<'i> {
     pub fn step_to(&self, v: u16, j: u16) -> Option<Step>
         requires { v < length self.now.instance.now.rows }
         ensures { let t = self.now in
-            IfSome result (IsOpenStep (pricing t.instance.now t.region.now t.neighbours t.prices.now) v) }
+            let q = pricing t.instance.now t.region.now t.neighbours t.prices.now in
+            IfSome result (IsOpenStep q v) }
     {
         for step in self.steps_from(v) {
             if step.customer == j {
@@ -101,7 +111,8 @@ impl<'i> Task<'i> {
     /// Whether a route that remembers this may take a step after a front.
     pub fn can_take(&self, front: &Front, memory: Memory, step: &Step) -> bool
         requires step { let t = self.now in
-            IsOpenStep (pricing t.instance.now t.region.now t.neighbours t.prices.now) front.now.last step.now }
+            let q = pricing t.instance.now t.region.now t.neighbours t.prices.now in
+            IsOpenStep q front.now.last step.now }
         requires bounded { IsBounded self.now.instance.now front.now }
         ensures yes { let t = self.now in
             let q = pricing t.instance.now t.region.now t.neighbours t.prices.now in
@@ -120,11 +131,13 @@ impl<'i> Task<'i> {
     /// The vehicle after a step that it may take after a front.
     pub fn after(&self, front: &Front, step: &Step) -> Front
         requires step { let t = self.now in
-            IsOpenStep (pricing t.instance.now t.region.now t.neighbours t.prices.now) front.now.last step.now }
+            let q = pricing t.instance.now t.region.now t.neighbours t.prices.now in
+            IsOpenStep q front.now.last step.now }
         requires bounded { IsBounded self.now.instance.now front.now }
         requires load { front.now.load + step.now.demand ≤ self.now.instance.now.capacity }
         requires soon { front.now.time ≤ step.now.latest }
-        ensures after { IsAfter self.now.instance.now self.now.prices.now front.now step.now.customer result }
+        ensures after { let t = self.now in
+            IsAfter t.instance.now t.prices.now front.now step.now.customer result }
         ensures bounded { IsBounded self.now.instance.now result }
     {
         let begins = (front.time + u64::from(step.way)).max(u64::from(step.ready));

@@ -5,7 +5,7 @@ use crate::child_start::ChildStart;
 use crate::pool_trial::PoolTrial;
 use crate::starting::trial_rise;
 use branching::{Arc, Region};
-use labelling::{Hints, Nearness};
+use labelling::{Hints, Kept};
 use pooled_routes::{
     ArcFlow, HalfSpace, PooledRoute, Projection, Pseudocosts, RouteShare, Side, Trial, merge,
     reduced_cost, scaled,
@@ -42,8 +42,8 @@ pub struct RoutePool<'i> {
     pricings: u64,
     /// How much work they, the projections and the trials were, in looks.
     looks: u64,
-    /// The tables that the pricings go by, from the first one on.
-    pub(crate) nearness: Option<Nearness<'i>>,
+    /// What the last pricing handed on to the next one.
+    pub(crate) kept: Kept<'i>,
     /// The last raising of prices that has ended.
     pub(crate) ascent: Option<Ascent>,
     /// The rises of merit that were seen.
@@ -60,7 +60,7 @@ impl<'i> RoutePool<'i> {
             rise: 1,
             pricings: 0,
             looks: 0,
-            nearness: None,
+            kept: Kept::nothing(),
             ascent: None,
             pseudocosts: Pseudocosts::new(alloc),
         }
@@ -153,14 +153,14 @@ impl<'i> RoutePool<'i> {
         hints: Hints<'i>,
     ) -> Result<(), AllocError> {
         let Hints {
-            nearness,
+            kept,
             met,
             looks,
             ..
         } = hints;
         self.pricings = self.pricings.saturating_add(1);
         self.looks = self.looks.saturating_add(looks);
-        self.nearness = nearness;
+        self.kept = kept;
         for route in &met {
             self.add(instance, route.as_slice())?;
         }
