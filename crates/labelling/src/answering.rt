@@ -55,18 +55,18 @@ fn answer(alloc: Global, labels: &[Label], best: Best) -> Result<Least, AllocErr
 impl<'t, 'i> Labeller<'t, 'i> {
     /// How much work the search was: the steps taken, twice each, the customers that bounds looked at, and how
     /// often a newer label looked at others.
-    pub(crate) fn looks(&self) -> u64 {
+    fn looks(&self) -> u64 {
         let steps = self.taken.saturating_mul(LOOKS_OF_STEP);
         let looks = steps.saturating_add(self.completions.looks());
         looks.saturating_add(self.lookup.looks())
     }
 
     /// Tells further routes that were met, the cheapest ones.
-    pub(crate) fn tell(&self, hints: &mut Hints<'_>) -> Result<(), AllocError>
+    fn tell(&self, hints: &mut Hints<'_>) -> Result<(), AllocError>
         requires { LosesNothing self.now }
     {
         let alloc = self.completions.task.alloc;
-        let ends = self.ends()?;
+        let ends = self.cheap_ends()?;
         for end in &cheapest(alloc, ends.as_slice())? {
             if end.index < self.labels.len() && end.index != self.best.index {
                 let route = route_to(alloc, self.labels.as_slice(), end.index)?;
@@ -77,7 +77,7 @@ impl<'t, 'i> Labeller<'t, 'i> {
     }
 
     /// Extends all labels, the most promising first, and answers the least reduced cost with its route.
-    pub(crate) fn extend_all(&mut self, hints: &mut Hints<'_>) -> Result<Least, LabelFault>
+    fn extend_all(&mut self, hints: &mut Hints<'_>) -> Result<Least, LabelFault>
         requires { LosesNothing self.old }
         ensures least { IfOk result (IsLeastOf (pricing_in self.old)) }
         ensures unlimited { IfErr result (λ e. e ≡ LabelLimit → self.old.limit ≢ None) }

@@ -1,12 +1,12 @@
 //! The order in which labels are extended.
 
-ghost use Rattle.std.specs.Prelude.{length, OnOk};
-ghost use Rattle.labelling.specs.Arena.{NonePending};
+ghost use Rattle.std.specs.Prelude.{◌≡◌, length, OnOk};
+ghost use Rattle.labelling.specs.Arena.{IsOnward, NonePending};
 ghost use Rattle.labelling.specs.Search.{Continues, GoesOn, LosesNothing};
 
 use crate::fault::LabelFault;
 use crate::labeller::Labeller;
-use crate::route_ends::{RouteEnd, cheapest};
+use crate::route_ends::RouteEnd;
 use std::alloc::AllocError;
 
 /// How often the search dives for a cheap route before it goes on by time.
@@ -21,7 +21,7 @@ const ENOUGH_ENDS: usize = 40;
 impl<'t, 'i> Labeller<'t, 'i> {
     /// The index of a pending label from an index on after which the least may follow, as far as the
     /// bounds tell.
-    pub(crate) fn most_promising(&self, from: usize) -> Option<usize> {
+    fn most_promising(&self, from: usize) -> Option<usize> {
         let mut promising = None;
         let mut least = i128::MAX;
         for index in from..self.labels.len() {
@@ -38,7 +38,7 @@ impl<'t, 'i> Labeller<'t, 'i> {
 
     /// Extends the label at an index, then the most promising one of those that this adds, and so on: so
     /// that a cheap route is met early.
-    pub(crate) fn dive(&mut self, index: usize) -> Result<(), LabelFault>
+    fn dive(&mut self, index: usize) -> Result<(), LabelFault>
         requires { LosesNothing self.old }
         ensures { GoesOn self.old self.new result }
     {
@@ -48,7 +48,7 @@ impl<'t, 'i> Labeller<'t, 'i> {
                 break;
             };
             let count = self.labels.len();
-            self.extend_at(index)?;
+            self.extend(index)?;
             next = self.most_promising(count);
         }
         Ok(())
@@ -71,34 +71,59 @@ impl<'t, 'i> Labeller<'t, 'i> {
         Ok(())
     }
 
-    /// The ends of the routes after extended labels that cost less than the known route, or where none is
-    /// known, less than nothing; the cheapest first.
-    pub(crate) fn ends(&self) -> Result<Vec<RouteEnd>, AllocError>
-        requires { LosesNothing self.now }
+    /// What a route has to cost less than, in grains, so that it is told.
+    fn most(&self) -> i64 {
+        if self.cut == i64::MIN { 0 } else { self.cut }
+    }
+
+    /// Notes the end of the route after a pending label, which is about to be extended, if it is cheap.
+    fn note_end(&mut self, index: usize) -> Result<(), AllocError>
+        requires { LosesNothing self.old }
+        ensures kept { Continues self.old self.new }
+        ensures labels { self.new.labels ≡ self.old.labels }
     {
-        let most = if self.cut == i64::MIN { 0 } else { self.cut };
-        let mut ends = Vec::new(self.completions.task.alloc);
-        for index in 0..self.labels.len() {
-            let label = self.labels[index];
-            let cost = self.end_cost(&label);
-            if let Some(value) = cost
-                && value < most
-                && label.extended
-            {
-                let last = label.front.last;
-                ends.push(RouteEnd { value, last, index })?;
-            }
+        if !self.is_pending(index) {
+            return Ok(());
         }
+        let label = self.labels[index];
+        if let Some(value) = self.end_cost(&label)
+            && value < self.most()
+        {
+            let last = label.front.last;
+            self.ends.push(RouteEnd { value, last, index })?;
+        }
+        Ok(())
+    }
+
+    /// Extends the label at an index, if it is pending, and notes its end.
+    fn extend(&mut self, index: usize) -> Result<(), LabelFault>
+        requires { LosesNothing self.old }
+        ensures on { GoesOn self.old self.new result }
+        ensures onward { OnOk result (IsOnward self.old.labels.items self.new.labels.items index) }
+    {
+        self.note_end(index)?;
+        self.extend_at(index)
+    }
+
+    /// The ends of routes that are to be told, the cheapest first.
+    pub(crate) fn cheap_ends(&self) -> Result<Vec<RouteEnd>, AllocError> {
+        let mut ends = self.ends.clone()?;
+        let most = self.most();
+        ends.retain(|end| end.value < most);
+        ends.sort_by_key(|end| end.index)?;
         ends.sort_by_key(|end| end.value)?;
         Ok(ends)
     }
 
     /// Asks for cheaper routes alone, where more than enough were met that cost less than the known one.
-    pub(crate) fn tighten(&mut self) -> Result<(), AllocError>
+    fn tighten(&mut self) -> Result<(), AllocError>
         requires { LosesNothing self.old }
         ensures { Continues self.old self.new }
     {
-        let ends = self.ends()?;
+        if self.ends.len() <= ENOUGH_ENDS {
+            return Ok(());
+        }
+        let ends = self.cheap_ends()?;
         if let Some(end) = ends.get(ENOUGH_ENDS)
             && self.cut > end.value
         {
@@ -108,7 +133,7 @@ impl<'t, 'i> Labeller<'t, 'i> {
     }
 
     /// Extends the labels of a slot of time, until there are more than so many.
-    pub(crate) fn extend_slot(&mut self, slot: usize, most: usize) -> Result<(), LabelFault>
+    fn extend_slot(&mut self, slot: usize, most: usize) -> Result<(), LabelFault>
         requires { LosesNothing self.old }
         ensures { GoesOn self.old self.new result }
     {
@@ -119,7 +144,7 @@ impl<'t, 'i> Labeller<'t, 'i> {
             let Some(index) = self.lookup.take(slot) else {
                 break;
             };
-            self.extend_at(index)?;
+            self.extend(index)?;
         }
         Ok(())
     }
@@ -148,7 +173,7 @@ impl<'t, 'i> Labeller<'t, 'i> {
             if index >= self.labels.len() {
                 break;
             }
-            self.extend_at(index)?;
+            self.extend(index)?;
         }
         Ok(())
     }

@@ -8,7 +8,7 @@ use crate::labeller::Labeller;
 impl<'t, 'i> Labeller<'t, 'i> {
     /// Takes the step from the label at an index to the next stop of a known route, and answers where the
     /// label that it leads to stands, if it is a new one; nothing where there is no such label or step.
-    pub(crate) fn follow_to(&mut self, index: usize, j: u16) -> Result<Option<usize>, LabelFault>
+    fn follow_to(&mut self, index: usize, j: u16) -> Result<Option<usize>, LabelFault>
         requires { LosesNothing self.old }
         ensures { GoesOn self.old self.new result }
     {
@@ -25,7 +25,7 @@ impl<'t, 'i> Labeller<'t, 'i> {
     }
 
     /// Counts the route that ends at the label at an index, and asks from then on for cheaper ones alone.
-    pub(crate) fn cut_at(&mut self, index: usize)
+    fn cut_at(&mut self, index: usize)
         requires { LosesNothing self.old }
         ensures { Continues self.old self.new }
     {

@@ -13,6 +13,7 @@ use crate::customer_labels::Entry;
 use crate::fault::LabelFault;
 use crate::label::Label;
 use crate::lookup::Lookup;
+use crate::route_ends::RouteEnd;
 use fronts::{Bound, Completions, Front, LIST_SIZE, Memory};
 use solomon_reader::Instance;
 use std::alloc::{AllocError, Global};
@@ -29,6 +30,9 @@ pub(crate) struct Labeller<'t, 'i> {
     /// No label is left out after which a route may cost less, in grains: the reduced cost of the known
     /// route, so that others that cost less than that one are met, too.
     pub(crate) cut: i64,
+    /// The ends of routes after extended labels that cost less than that, or where none is known, less than
+    /// nothing.
+    pub(crate) ends: Vec<RouteEnd>,
     /// How many steps were taken.
     pub(crate) taken: u64,
 }
@@ -85,6 +89,7 @@ impl<'t, 'i> Labeller<'t, 'i> {
                 index: 0,
             },
             cut: i64::MIN,
+            ends: Vec::new(task.alloc),
             taken: 0,
         })
     }
@@ -102,12 +107,13 @@ impl<'t, 'i> Labeller<'t, 'i> {
             lookup: self.lookup,
             best: self.best,
             cut: self.cut,
+            ends: self.ends,
             taken: self.taken,
         }
     }
 
     /// Whether as many labels are active as the caller allowed. The empty beginning isn't counted.
-    pub(crate) fn is_full(&self) -> bool
+    fn is_full(&self) -> bool
         ensures { IsTrue result → self.now.limit ≢ None }
     {
         match self.limit {
@@ -129,7 +135,7 @@ impl<'t, 'i> Labeller<'t, 'i> {
     }
 
     /// Whether a label may not visit a customer next, as far as it remembers it.
-    pub(crate) fn recalls(&self, label: &Label, customer: u16) -> bool
+    fn recalls(&self, label: &Label, customer: u16) -> bool
         requires { IsBounded (pricing_in self.now).problem label.now.front }
         ensures { IsTrue result → Recalls (pricing_in self.now) label.now customer }
     {
@@ -143,7 +149,7 @@ impl<'t, 'i> Labeller<'t, 'i> {
 
     /// The least that what may come after a label adds to its reduced cost, in grains, where it remembers
     /// its last stop: the customer that comes next where the least is added may be one that it remembers.
-    pub(crate) fn least_after(&self, label: &Label) -> i64
+    fn least_after(&self, label: &Label) -> i64
         requires bounded { IsBounded (pricing_in self.now).problem label.now.front }
         requires remembered { Recalls (pricing_in self.now) label.now label.now.front.last }
         ensures { AddsAtLeast (pricing_in self.now) label.now result }

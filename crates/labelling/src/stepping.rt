@@ -16,7 +16,7 @@ use fronts::Step;
 impl<'t, 'i> Labeller<'t, 'i> {
     /// Takes a step from the label at an index that a route may take, if it may cost less than the best.
     #[inline(never)]
-    pub(crate) fn go_on(
+    fn go_on(
         &mut self,
         label: &Label,
         index: usize,
@@ -65,7 +65,7 @@ impl<'t, 'i> Labeller<'t, 'i> {
     }
 
     /// Takes each step from the label at an index that may lead below the best.
-    pub(crate) fn take_steps(
+    fn take_steps(
         &mut self,
         label: &Label,
         index: usize,
