@@ -9,13 +9,16 @@ use Rattle.solomon_reader.specs.Distance.{distance}
 use Rattle.solomon_reader.specs.Plan.{load_of}
 use Rattle.solomon_reader.specs.Problem.{IsCustomer, demand, due}
 use Rattle.solomon_reader.specs.Relaxed.{price_of}
-use Rattle.solomon_reader.specs.States.{Pricing, State, begins, step, CanStep, CanEnd, Completes, value_with, IsPriced}
+use Rattle.solomon_reader.specs.States.{Pricing, State, begins, step, CanEnd, Completes, value_with, IsPriced}
 use Rattle.fronts.specs.declared.front.Front.{Front}
 use Rattle.fronts.specs.declared.bound.Bound.{Bound}
 use Rattle.fronts.specs.Completions.{most_paid, IsSmall, Holds, IsBound, StartsIn, IsBoundAmong, IsEndBound, IsBoundWith, IsOnward, IsBelowStep, IsJoined}
 use Rattle.fronts.specs.Fronts.{bare_state, end_cost, IsTask, IsAfter}
 use Rattle.solomon_reader.specs.Memories.{place_of}
 use Rattle.solomon_reader.proofs.Places.{near_at}
+use Rattle.solomon_reader.specs.Region.{IsAllowed}
+use Rattle.fronts.specs.Steps.{IsReachable}
+use Rattle.fronts.proofs.Stepping.{can_reach}
 use Rattle.solomon_reader.proofs.Completions.{never_back}
 
 module _ (q : Pricing) where
@@ -28,7 +31,7 @@ module _ (q : Pricing) where
   room_whole (j ∷ s) a h = omega (arith, load_fits s (step q a j) h.0.load h.1, sum_by-cons (demand q.problem) j s)
 
   module _ (task : IsTask q.problem q.region q.prices) where
-    price_small : (j : ℕ) → IsCustomer q.problem j → IsPriced (price_of q.prices j)
+    pub price_small : (j : ℕ) → IsCustomer q.problem j → IsPriced (price_of q.prices j)
     price_small j c = task.priced (j - 1) (pos 0) (omega (arith, task.count, c.0, c.1))
 
     least_whole : (s : List ℕ) (a : State) → Completes q a s → a.cost ≤ℤ (value_with q a s +ℤ pos (MOST_PRICE * load_of q.problem s))
@@ -59,15 +62,6 @@ module _ (q : Pricing) (task : IsTask q.problem q.region q.prices) (held : q.pro
     begins_no_later : (a : State) (j : ℕ) → a.last ≡ v → t ≤ a.time → begins q.problem (bare_state f) j ≤ begins q.problem a j
     begins_no_later a j last later = omega (arith, later, time_is, ap (λ (i : ℕ). distance q.problem i j) last, ap (λ (i : ℕ). distance q.problem i j) last_is)
 
-    can_step_sooner : (a : State) (j : ℕ) → a.last ≡ v → t ≤ a.time → CanStep q a j → CanStep q (bare_state f) j
-    can_step_sooner a j last later can = record {
-      customer = can.customer;
-      allowed = rw last_is (rw last at can.allowed);
-      load = omega (arith, load, can.load);
-      due = omega (arith, begins_no_later a j last later, can.due);
-      fresh = refl;
-    }
-
     can_end_sooner : (a : State) → a.last ≡ v → t ≤ a.time → CanEnd q a → CanEnd q (bare_state f)
     can_end_sooner a last later can = record {
       allowed = rw last_is (rw last at can.allowed);
@@ -88,13 +82,6 @@ module _ (q : Pricing) (task : IsTask q.problem q.region q.prices) (held : q.pro
             let low : (a.cost +ℤ b.least) ≤ℤ value_with q a [] = omega (arith, ints, ends a last later h, cost, ap (λ (i : ℕ). distance q.problem i 0) last, ap (λ (i : ℕ). distance q.problem i 0) last_is) in
             record { room = omega arith; least = low; other = λ _. omega (arith, ints, same, low) }
         holds a (j ∷ s) last later remembered below h = absurd below
-
-    pub bound_no : (j : ℕ) (b : Bound) → IsSmall b → ¬ CanStep q (bare_state f) j → IsBoundWith q v t j b b
-    bound_no j b small cannot = record {
-      small = small;
-      older = λ a s h. h;
-      on = λ a s last later remembered h. absurd (cannot (can_step_sooner a j last later h.0));
-    }
 
     module _ (j : ℕ) (b : Bound) (next : Front) (on : Bound) (least z : ℤ) (is : z ≡ least) (out : Bound) (after : IsAfter q.problem q.prices f j next)
         (bound : IsBound q j next.time on) (onward : IsOnward q v j next.time least) (joined_z : IsJoined b j next.load next.cost on.room z out) where
@@ -159,13 +146,15 @@ module _ (q : Pricing) (task : IsTask q.problem q.region q.prices) (held : q.pro
       holds a [] last later remembered starts c = h.holds a [] last later remembered tt c
       holds a (i ∷ s) last later remembered starts c = h.holds a (i ∷ s) last later remembered (fewer i starts) c
 
-  -- of all that follows, where the customers are those that may be reached in time
-  pub bound_all : (v t : ℕ) (P : ℕ → Type 0) (b : Bound) → ((i : ℕ) → IsCustomer q.problem i → t + distance q.problem v i ≤ due q.problem i → P i) → IsBoundAmong q v t P b → IsBound q v t b
+  -- of all that follows, where the customers are those to whom a route may go in time
+  pub bound_all : (v t : ℕ) (P : ℕ → Type 0) (b : Bound) → ((i : ℕ) → IsCustomer q.problem i → IsReachable q.problem v i → IsAllowed q.region (v, i) → t + distance q.problem v i ≤ due q.problem i → P i)
+      → IsBoundAmong q v t P b → IsBound q v t b
   bound_all v t P b reached so_far = record { small = so_far.small; holds = holds }
     where
       holds : (a : State) (s : List ℕ) → a.last ≡ v → t ≤ a.time → IsTrue (a.memory v) → Completes q a s → Holds q a s b
       holds a [] last later remembered h = so_far.holds a [] last later remembered tt h
-      holds a (i ∷ s) last later remembered h = so_far.holds a (i ∷ s) last later remembered (reached i h.0.customer (omega (arith, later, h.0.due, ap (λ (u : ℕ). distance q.problem u i) last))) h
+      holds a (i ∷ s) last later remembered h =
+          so_far.holds a (i ∷ s) last later remembered (reached i h.0.customer (rw last at (can_reach q a i h.0)) (rw last at h.0.allowed) (omega (arith, later, h.0.due, ap (λ (u : ℕ). distance q.problem u i) last))) h
 
 module _ (q : Pricing) where
   -- a bound of an earlier time holds later

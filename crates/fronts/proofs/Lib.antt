@@ -5,3 +5,4 @@ pub mod Listed
 pub mod Recalling
 pub mod Following
 pub mod Stepping
+pub mod Opening

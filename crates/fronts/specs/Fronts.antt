@@ -2,7 +2,7 @@
 use Rattle.std.specs.Prelude.{◌≡◌, ℕ, ◌+◌, ◌*◌, ◌<◌, ◌≤◌, Bool, false, List, length, ℤ, pos, ◌+ℤ◌, ◌≤ℤ◌}
 use Rattle.std.specs.List.{All}
 use Rattle.solomon_reader.specs.declared.limits.TheConstants.{MOST_TIME, MOST_CAPACITY}
-use Rattle.solomon_reader.specs.Problem.{Problem, IsCustomer, customer_count, demand, ready, due, service}
+use Rattle.solomon_reader.specs.Problem.{Problem, IsCustomer, customer_count, demand, ready, service}
 use Rattle.solomon_reader.specs.Distance.{distance}
 use Rattle.solomon_reader.specs.Region.{Region}
 use Rattle.solomon_reader.specs.States.{State, arc_value, begins, most_grains, IsPriced}
@@ -29,10 +29,6 @@ pub record IsStart (p : Problem) (f : Front) : Type 0 where
   pub time : f.time ≡ ready p 0
   pub load : f.load ≡ 0
   pub cost : f.cost ≡ pos 0
-
-pub record CanServe (p : Problem) (f : Front) (j : ℕ) : Type 0 where
-  pub load : f.load + demand p j ≤ p.capacity
-  pub due : begins p (bare_state f) j ≤ due p j
 
 -- x is the front after f and a stop at j
 pub record IsAfter (p : Problem) (prices : List ℤ) (f : Front) (j : ℕ) (x : Front) : Type 0 where

@@ -6,16 +6,17 @@ ghost use Rattle.std.specs.Prelude.{◌≡◌, ◌+◌, ◌*◌, ◌<◌, ◌≤
 ghost use Rattle.std.specs.List.{All};
 ghost use Rattle.solomon_reader.specs.Problem.{IsCustomer, customer_count};
 ghost use Rattle.solomon_reader.specs.declared.limits.TheConstants.{MOST_TIME, MOST_CAPACITY};
-ghost use Rattle.solomon_reader.specs.States.{CanStep, CanEnd, most_grains};
+ghost use Rattle.solomon_reader.specs.States.{CanEnd, most_grains};
 ghost use Rattle.fronts.specs.Completions.{most_paid, IsCut, IsSmall, IsBound, IsEndBound, IsBoundWith, IsRowBound, IsOnward, IsBelowStep, IsJoined};
-ghost use Rattle.fronts.specs.Fronts.{bare_state, CanServe, IsBounded};
+ghost use Rattle.fronts.specs.Fronts.{bare_state, IsBounded};
+ghost use Rattle.fronts.specs.Steps.{IsOpenStep};
 ghost use Rattle.fronts.specs.Tables.{IsAllowedRow};
 ghost use Rattle.fronts.specs.Tasks.{pricing_of};
 
 use crate::bound::{Bound, RowBound};
 use crate::customer_set::CustomerSet;
 use crate::front::Front;
-use crate::neighbours::LIST_SIZE;
+use crate::step::Step;
 use crate::task::Task;
 use solomon_reader::{MOST_CAPACITY, MOST_PRICE, MOST_TIME};
 use std::alloc::AllocError;
@@ -28,7 +29,7 @@ fn unknown(task: &Task<'_>) -> Bound
     ensures { (v t : ℕ) → IsBound (pricing_of task.now) v t result }
 {
     Bound {
-        room: u32::from(task.instance.capacity()),
+        room: task.instance.capacity(),
         next: 0,
         least: -MOST_PAID,
         other: -MOST_PAID,
@@ -40,12 +41,20 @@ fn bound_at(task: &Task<'_>, bounds: &[RowBound], v: u16, time: u64) -> Bound
     requires { All (IsRowBound (pricing_of task.now)) bounds.now }
     ensures { IsBound (pricing_of task.now) v time result }
 {
-    let place = task.slots.place(v, time);
+    bound_in(task, bounds, task.slots.place(v, time), v, time)
+}
+
+/// What bounds all that may follow from a row at a time, as far as the bounds at a place tell.
+#[inline(always)]
+fn bound_in(task: &Task<'_>, bounds: &[RowBound], place: usize, v: u16, time: u64) -> Bound
+    requires { All (IsRowBound (pricing_of task.now)) bounds.now }
+    ensures { IsBound (pricing_of task.now) v time result }
+{
     if place >= bounds.len() {
         return unknown(task);
     }
-    let found = bounds[place];
-    if found.row != v || found.from > time {
+    let found = &bounds[place];
+    if found.row != v || u64::from(found.from) > time {
         return unknown(task);
     }
     found.bound
@@ -58,6 +67,15 @@ fn lesser(a: i64, b: i64) -> i64
     ensures one { (result ≡ a) ⊎ (result ≡ b) }
 {
     if a <= b { a } else { b }
+}
+
+/// The greater of two numbers.
+fn greater(a: i64, b: i64) -> i64
+    ensures first { a ≤ℤ result }
+    ensures second { b ≤ℤ result }
+    ensures one { (result ≡ a) ⊎ (result ≡ b) }
+{
+    if a <= b { b } else { a }
 }
 
 /// What a step of this cost and what follows on it add, no less than all prices together.
@@ -73,23 +91,31 @@ fn added(cost: i64, least: i64) -> i64
     if sum >= -MOST_PAID { sum } else { -MOST_PAID }
 }
 
-/// The least that follows on a step from v to j, where these bounds hold from then on. A route that comes
-/// from v goes back there at once only where j's neighbour list doesn't hold v.
-fn least_onward(task: &Task<'_>, on: Bound, v: u16, j: u16, time: u64) -> i64
-    requires on { IsBound (pricing_of task.now) j time on }
-    requires v { v < length task.now.instance.now.rows }
-    requires j { IsCustomer task.now.instance.now j }
-    ensures { IsOnward (pricing_of task.now) v j time result }
+/// The least that follows on a step from v, where these bounds hold from then on. A route that comes from v
+/// goes back there at once only where the customer's neighbour list doesn't hold v. The task is named by the
+/// contract alone.
+fn least_onward(_task: &Task<'_>, on: Bound, v: u16, step: &Step, time: u64) -> i64
+    requires on { IsBound (pricing_of _task.now) step.now.customer time on }
+    requires step { IsOpenStep (pricing_of _task.now) v step.now }
+    ensures { IsOnward (pricing_of _task.now) v step.now.customer time result }
 {
-    if on.next != v || task.place(j, v) >= LIST_SIZE {
-        return on.least;
+    if on.next == v && step.is_recalled {
+        return on.other;
     }
-    on.other
+    on.least
+}
+
+/// The customer that comes next where the least is added: j where a step there adds less than the bound says.
+fn next_of(bound: &Bound, j: u16, value: i64) -> u16
+    ensures { let b = bound.now in
+        ((result ≡ j) × (value ≤ℤ b.least)) ⊎ ((result ≡ b.next) × (b.least ≤ℤ value)) }
+{
+    if value < bound.least { j } else { bound.next }
 }
 
 /// What bounds both what a bound does, and a step to customer j of this load and cost with what follows
-/// on it.
-fn joined(bound: Bound, j: u16, next: &Front, room: u32, least: i64) -> Bound
+/// on it. It has no branch: mostly none can be foreseen.
+fn joined(bound: Bound, j: u16, next: &Front, room: u16, least: i64) -> Bound
     requires bound { IsSmall bound }
     requires room { room ≤ MOST_CAPACITY }
     requires least { IsCut least }
@@ -98,22 +124,13 @@ fn joined(bound: Bound, j: u16, next: &Front, room: u32, least: i64) -> Bound
     requires high { next.now.cost ≤ℤ pos (most_grains * MOST_CAPACITY) }
     ensures { IsJoined bound j next.now.load next.now.cost room least result }
 {
-    let room = (next.load + room).min(u32::from(MOST_CAPACITY));
-    let room = bound.room.max(room);
+    let room = (next.load + u32::from(room)).min(u32::from(MOST_CAPACITY)) as u16;
     let value = added(next.cost, least);
-    if value < bound.least {
-        return Bound {
-            room,
-            next: j,
-            least: value,
-            other: bound.least,
-        };
-    }
     Bound {
-        room,
-        next: bound.next,
-        least: bound.least,
-        other: lesser(bound.other, value),
+        room: bound.room.max(room),
+        next: next_of(&bound, j, value),
+        least: lesser(bound.least, value),
+        other: lesser(bound.other, greater(bound.least, value)),
     }
 }
 
@@ -124,17 +141,6 @@ fn can_end(task: &Task<'_>, front: &Front, rows: &CustomerSet) -> bool
     ensures no { IsFalse result → ¬ CanEnd (pricing_of task.now) (bare_state front.now) }
 {
     rows.contains(0) && front.is_back_in_time(task.instance)
-}
-
-/// Whether a front may go on to a customer, whatever is remembered.
-fn can_go(task: &Task<'_>, front: &Front, rows: &CustomerSet, j: u16) -> bool
-    requires rows { IsAllowedRow task.now.region.now front.now.last rows.now }
-    requires bounded { IsBounded task.now.instance.now front.now }
-    requires j { IsCustomer task.now.instance.now j }
-    ensures yes { IsTrue result → CanServe task.now.instance.now front.now j }
-    ensures no { IsFalse result → ¬ CanStep (pricing_of task.now) (bare_state front.now) j }
-{
-    rows.contains(j) && front.can_serve(task.instance, j)
 }
 
 /// What bounds the end at a front.
@@ -157,31 +163,30 @@ fn end_bound(task: &Task<'_>, front: &Front, rows: &CustomerSet) -> Bound
     }
 }
 
-/// What bounds a step to a customer, too.
+/// What bounds a step, too, for which a front is in time.
+#[inline(always)]
 fn with_step(
     task: &Task<'_>,
     bounds: &[RowBound],
     front: &Front,
-    rows: &CustomerSet,
-    j: u16,
+    step: &Step,
     bound: Bound,
 ) -> Bound
     requires bounds { All (IsRowBound (pricing_of task.now)) bounds.now }
-    requires rows { IsAllowedRow task.now.region.now front.now.last rows.now }
     requires bounded { IsBounded task.now.instance.now front.now }
     requires load { front.now.load ≡ 0 }
     requires cost { front.now.cost ≡ pos 0 }
-    requires j { IsCustomer task.now.instance.now j }
+    requires step { IsOpenStep (pricing_of task.now) front.now.last step.now }
+    requires soon { front.now.time ≤ step.now.latest }
     requires small { IsSmall bound }
-    ensures { IsBoundWith (pricing_of task.now) front.now.last front.now.time j bound result }
+    ensures { let f = front.now in
+        IsBoundWith (pricing_of task.now) f.last f.time step.now.customer bound result }
 {
-    if !can_go(task, front, rows, j) {
-        return bound;
-    }
-    let next = front.extend(task.instance, task.prices, j);
-    let on = bound_at(task, bounds, j, next.time);
-    let least = least_onward(task, on, front.last, j, next.time);
-    joined(bound, j, &next, on.room, least)
+    let next = task.after(front, step);
+    let place = step.place_at(task.slots.slot(next.time));
+    let on = bound_in(task, bounds, place, step.customer, next.time);
+    let least = least_onward(task, on, front.last, step, next.time);
+    joined(bound, step.customer, &next, on.room, least)
 }
 
 /// What bounds all that may follow from a row at a time or later, and how many customers were looked at.
@@ -192,7 +197,7 @@ fn bound_from(task: &Task<'_>, bounds: &[RowBound], v: u16, from: u64) -> (Bound
     ensures { IsBound (pricing_of task.now) v from result.0 }
 {
     task.instance.law_of_limits();
-    let rows = &task.allowed_rows[usize::from(v)];
+    let rows = task.rows_from(v);
     let front = Front {
         last: v,
         time: from,
@@ -202,17 +207,17 @@ fn bound_from(task: &Task<'_>, bounds: &[RowBound], v: u16, from: u64) -> (Bound
     let mut bound = end_bound(task, &front, rows);
     let mut looks: u64 = 0;
     for step in task.steps_from(v) {
-        if step.latest < from {
+        if step.is_late(from) {
             return (bound, looks);
         }
-        bound = with_step(task, bounds, &front, rows, step.customer, bound);
+        bound = with_step(task, bounds, &front, step, bound);
         looks = looks.saturating_add(1);
     }
     (bound, looks)
 }
 
 /// Puts in the bounds of a customer in a slot, if it has some, and says how many customers were looked at.
-fn fill_at(task: &Task<'_>, bounds: &mut [RowBound], v: u16, slot: u64) -> u64
+fn fill_at(task: &Task<'_>, bounds: &mut [RowBound], v: u16, slot: u32) -> u64
     requires bounds { All (IsRowBound (pricing_of task.now)) bounds.old }
     requires v { v < length task.now.instance.now.rows }
     ensures { All (IsRowBound (pricing_of task.now)) bounds.new }
@@ -220,20 +225,20 @@ fn fill_at(task: &Task<'_>, bounds: &mut [RowBound], v: u16, slot: u64) -> u64
     let Some(from) = task.slots.start(v, slot) else {
         return 0;
     };
-    let (bound, looks) = bound_from(task, bounds, v, from);
-    let place = task.slots.place(v, from);
+    let (bound, looks) = bound_from(task, bounds, v, u64::from(from));
+    let place = task.slots.place(v, u64::from(from));
     if place < bounds.len() {
         bounds[place] = RowBound {
-            row: v,
-            from,
             bound,
+            from,
+            row: v,
         };
     }
     looks
 }
 
 /// Puts in the bounds of all customers in a slot, and says how many customers were looked at.
-fn fill_slot(task: &Task<'_>, bounds: &mut [RowBound], slot: u64) -> u64
+fn fill_slot(task: &Task<'_>, bounds: &mut [RowBound], slot: u32) -> u64
     requires { All (IsRowBound (pricing_of task.now)) bounds.old }
     ensures { All (IsRowBound (pricing_of task.now)) bounds.new }
 {
@@ -284,9 +289,9 @@ impl<'t, 'i> Completions<'t, 'i> {
         ensures { IfOk result (λ c. c.task.now ≡ task.now) }
     {
         let nothing = RowBound {
-            row: 0,
-            from: 0,
             bound: unknown(task),
+            from: 0,
+            row: 0,
         };
         let mut bounds = vec![in task.alloc; nothing; task.slots.count()]?;
         let looks = fill(task, bounds.as_mut_slice());
@@ -307,5 +312,31 @@ impl<'t, 'i> Completions<'t, 'i> {
         ensures { IsBound (pricing_of self.now.task.now) v time result }
     {
         bound_at(self.task, self.bounds.as_slice(), v, time)
+    }
+}
+
+#[cfg(test)]
+mod tests {
+    use super::*;
+    use crate::nearness::Nearness;
+    use branching::Region;
+    use solomon_reader::read;
+    use std::test::Fail;
+
+    /// Two customers, from one to the other 2 with the service there, and the depot open for 600.
+    const NEAR: &str =
+        "near VEHICLE NUMBER CAPACITY 2 10 CUSTOMER CUST NO. XCOORD. YCOORD. DEMAND READY TIME DUE DATE SERVICE TIME 0 0 0 0 0 600 0 1 5 0 1 0 600 1 2 6 0 1 0 600 1";
+
+    #[test]
+    fn a_short_step_leads_into_a_later_slot(rt: HostRuntime) -> Result<(), Fail> {
+        let alloc = rt.alloc();
+        let instance = read(alloc, NEAR.as_bytes())?;
+        let nearness = Nearness::new(alloc, &instance, 0)?;
+        let region = Region::root(alloc, instance.customer_count());
+        let prices = vec![in alloc; 0; usize::from(instance.customer_count())]?;
+        let task = Task::new(alloc, &nearness, &region, prices.as_slice())?;
+        let completions = Completions::new(&task)?;
+        assert_eq!(rt; completions.at(1, 60).least, 50_000);
+        Ok(())
     }
 }

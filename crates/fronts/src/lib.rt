@@ -9,6 +9,7 @@ mod front;
 mod memory;
 mod nearness;
 mod neighbours;
+mod open_steps;
 mod slots;
 mod step;
 mod tables;

@@ -14,8 +14,8 @@ use crate::tables::{all_places, neighbour_lists};
 use solomon_reader::Instance;
 use std::alloc::{AllocError, Global};
 
-/// The neighbour list of each row, the places of all rows in it, the customers in the order in which they may
-/// be left for, and the slots of time: they serve every pricing of the instance with so many neighbours.
+/// The neighbour list of each row, the places of all rows in it, the steps to
+/// customers, and the slots of time: they serve every pricing of the instance with so many neighbours.
 #[derive(Drop)]
 pub struct Nearness<'i> {
     pub instance: &'i Instance,
@@ -27,7 +27,7 @@ pub struct Nearness<'i> {
     ghost few: { neighbours < LIST_SIZE },
     ghost placed: { IsTable (ArePlaces instance.now neighbours) (length instance.now.rows) places.items },
     ghost near: { IsTable (IsWholeList instance.now neighbours) (length instance.now.rows) neighbour_lists.items },
-    ghost stepped: { IsTable (IsStepList instance.now) (length instance.now.rows) steps.items },
+    ghost stepped: { IsTable (IsStepList instance.now neighbours) (length instance.now.rows) steps.items },
 }
 
 impl<'i> Nearness<'i> {
@@ -43,8 +43,8 @@ impl<'i> Nearness<'i> {
     {
         let places = all_places(alloc, instance, neighbours)?;
         let neighbour_lists = neighbour_lists(alloc, instance, neighbours, places.as_slice())?;
-        let steps = all_steps(alloc, instance)?;
         let slots = Slots::new(alloc, instance)?;
+        let steps = all_steps(alloc, instance, neighbours, places.as_slice(), &slots)?;
         Ok(Nearness {
             instance,
             neighbours,

@@ -6,9 +6,11 @@ ghost use Rattle.solomon_reader.specs.declared.limits.TheConstants.{MOST_TIME};
 use solomon_reader::{Instance, MOST_TIME};
 use std::alloc::{AllocError, Global};
 
-/// The most slots but the last one, and the fewest.
-const MOST_SLOTS: u64 = 160;
+/// The most slots but the last one. They are many: where a slot is longer than a step, the bound at the end of
+/// that step isn't known yet, and all bounds of which it is a part tell nothing.
+const MOST_SLOTS: u32 = 400;
 
+/// The fewest slots but the last one.
 const FEWEST_SLOTS: u64 = 80;
 
 /// When a route may leave a row, and where the row's bounds stand.
@@ -17,11 +19,11 @@ struct RowSlots {
     /// The earliest time, in tenths.
     earliest: u64,
     /// The first slot.
-    first: u64,
+    first: u32,
     /// The last slot.
-    last: u64,
+    last: u32,
     /// The place of the bound of the last slot; those of earlier ones stand behind it.
-    place: usize,
+    place: u32,
 }
 
 /// Slots of one length, from time 0 on. Each row has a bound for each slot in which a route may leave it.
@@ -33,10 +35,15 @@ pub(crate) struct Slots {
     /// division.
     inverse: u64,
     /// The last slot of all rows.
-    last: u64,
+    last: u32,
     /// How many bounds there are.
-    count: usize,
+    count: u32,
     rows: Vec<RowSlots>,
+}
+
+/// A number, cut to 32 bits.
+fn cut(number: u64) -> u32 {
+    number.min(u64::from(u32::MAX)) as u32
 }
 
 /// The shortest way from a row to a customer, with the service there, in tenths.
@@ -62,13 +69,15 @@ fn shortest(instance: &Instance) -> u64 {
     shortest
 }
 
-/// How long a slot is: no longer than the shortest way, unless there were too many, so that each step
-/// leads from the beginning of a slot into a later one.
+/// How long a slot is: no longer than the shortest way with the service behind it, so that each step leads
+/// from the beginning of a slot into a later one, unless there were too many slots.
 fn width_of(instance: &Instance) -> u64 {
     instance.law_of_limits();
     let due = instance.due(0);
     let longest = due / FEWEST_SLOTS + 1;
-    shortest(instance).max(due / MOST_SLOTS + 1).min(longest)
+    shortest(instance)
+        .max(due / u64::from(MOST_SLOTS) + 1)
+        .min(longest)
 }
 
 /// 2 to the power of 32 divided by the length of a slot, without the rest, and 1: more than the exact
@@ -79,11 +88,11 @@ fn inverse_of(width: u64) -> u64 {
     (1u64 << 32) / width.max(1) + 1
 }
 
-/// The slots of a customer, whose bounds stand from a place on.
-fn row_slots(instance: &Instance, width: u64, place: usize, v: u16) -> RowSlots
+/// The slots of a customer, whose bounds stand from a place on: for all times at which a route may leave it until
+/// the depot closes, even where it is too late to get back, so that the bounds at those times are known.
+fn row_slots(instance: &Instance, width: u64, place: u32, v: u16) -> RowSlots
     requires { v < length instance.now.rows }
 {
-    let home = instance.distance(v, 0).get();
     let arrival = instance
         .ready(0)
         .saturating_add(instance.distance(0, v).get());
@@ -92,22 +101,22 @@ fn row_slots(instance: &Instance, width: u64, place: usize, v: u16) -> RowSlots
         .max(arrival)
         .saturating_add(instance.service(v));
     let served = instance.due(v).saturating_add(instance.service(v));
-    let latest = served.min(instance.due(0).saturating_sub(home));
+    let latest = served.min(instance.due(0));
     RowSlots {
         earliest,
-        first: earliest / width.max(1),
-        last: latest / width.max(1),
+        first: cut(earliest / width.max(1)),
+        last: cut(latest / width.max(1)),
         place,
     }
 }
 
 impl RowSlots {
     /// The number of its slots.
-    fn count(self) -> usize {
+    fn count(self) -> u32 {
         if self.first > self.last {
             return 0;
         }
-        (self.last - self.first).min(MOST_SLOTS) as usize + 1
+        (self.last - self.first).min(MOST_SLOTS) + 1
     }
 }
 
@@ -138,25 +147,38 @@ impl Slots {
     }
 
     /// The last slot of all rows.
-    pub(crate) fn last(&self) -> u64 {
+    pub(crate) fn last(&self) -> u32 {
         self.last
     }
 
     /// How many bounds there are.
     pub(crate) fn count(&self) -> usize {
-        self.count
+        self.count as usize
     }
 
     /// The time from which on the bound of a row in a slot holds, in tenths, if the row has one.
-    pub(crate) fn start(&self, v: u16, slot: u64) -> Option<u64>
+    pub(crate) fn start(&self, v: u16, slot: u32) -> Option<u32>
         ensures { IfSome result (λ from. from ≤ 20 * MOST_TIME) }
     {
         let row = self.rows.get(usize::from(v))?;
         if slot < row.first || slot > row.last {
             return None;
         }
-        let from = slot.saturating_mul(self.width).max(row.earliest);
-        Some(from.min(20 * u64::from(MOST_TIME)))
+        let from = u64::from(slot).saturating_mul(self.width);
+        Some(from.max(row.earliest).min(20 * u64::from(MOST_TIME)) as u32)
+    }
+
+    /// The slot of a time. No contract: a bound says itself what it bounds.
+    pub(crate) fn slot(&self, time: u64) -> u32 {
+        cut(time.wrapping_mul(self.inverse) >> 32)
+    }
+
+    /// The last slot of a row, and the place of its bound in that.
+    pub(crate) fn last_of(&self, v: u16) -> (u32, u32) {
+        match self.rows.get(usize::from(v)) {
+            Some(row) => (row.last, row.place),
+            None => (0, 0),
+        }
     }
 
     /// The place of the bound of a row at a time.
@@ -165,9 +187,8 @@ impl Slots {
         if row >= self.rows.len() {
             return usize::MAX;
         }
-        let row = self.rows[row];
-        let slot = time.saturating_mul(self.inverse) >> 32;
-        row.place
-            .saturating_add(row.last.saturating_sub(slot) as usize)
+        let row = &self.rows[row];
+        let behind = row.last.saturating_sub(self.slot(time));
+        row.place.saturating_add(behind) as usize
     }
 }

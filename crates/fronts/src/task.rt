@@ -1,12 +1,10 @@
 //! What a labeller works on.
 
-ghost use Rattle.std.specs.Prelude.{◌≡◌, ◌<◌, ◌≤◌, length, IfOk, IsTrue, IsFalse};
-ghost use Rattle.solomon_reader.specs.Problem.{IsCustomer};
+ghost use Rattle.std.specs.Prelude.{◌≡◌, ◌+◌, ◌<◌, ◌≤◌, length, IfOk, IfSome, IsTrue, IsFalse};
 ghost use Rattle.solomon_reader.specs.States.{pricing, CanStep};
-ghost use Rattle.fronts.specs.Fronts.{IsTask, IsBounded};
-ghost use Rattle.solomon_reader.specs.Memories.{place_of, HasPlaces};
+ghost use Rattle.fronts.specs.Fronts.{IsTask, IsBounded, IsAfter};
 ghost use Rattle.fronts.specs.Memories.{state_with, ArePlaces, IsWholeList, Keeps};
-ghost use Rattle.fronts.specs.Steps.{IsStepList, AreStepsFrom};
+ghost use Rattle.fronts.specs.Steps.{IsOpenList, IsOpenStep, AreOpenSteps};
 ghost use Rattle.fronts.specs.Tables.{IsAllowedRow, IsTable};
 ghost use Rattle.fronts.specs.declared.neighbours.TheConstants.{LIST_SIZE};
 
@@ -15,6 +13,7 @@ use crate::front::Front;
 use crate::memory::Memory;
 use crate::nearness::Nearness;
 use crate::neighbours::LIST_SIZE;
+use crate::open_steps::open_steps;
 use crate::slots::Slots;
 use crate::step::Step;
 use crate::tables::allowed_rows;
@@ -22,9 +21,8 @@ use branching::Region;
 use solomon_reader::Instance;
 use std::alloc::{AllocError, Global};
 
-/// What the caller hands in, with the neighbour list of each row, the places of all rows in it, the customers
-/// in the order in which they may be left for, the slots of time, and the rows to which a route may go from
-/// each row.
+/// What the caller hands in, with the neighbour list of each row, the places of all rows in it, the slots of
+/// time, the rows to which a route of the region may go from each row, and the steps to them.
 #[derive(Drop)]
 pub struct Task<'i> {
     pub alloc: Global,
@@ -34,15 +32,15 @@ pub struct Task<'i> {
     pub neighbours: u32,
     pub places: &'i [Vec<u8>],
     pub neighbour_lists: &'i [[u16; LIST_SIZE as usize]],
-    pub(crate) steps: &'i [Vec<Step>],
     pub(crate) slots: &'i Slots,
-    pub allowed_rows: Vec<CustomerSet>,
+    allowed_rows: Vec<CustomerSet>,
+    steps: Vec<Vec<Step>>,
     ghost task: { IsTask instance.now region.now prices.now },
     ghost few: { neighbours < LIST_SIZE },
     ghost placed: { IsTable (ArePlaces instance.now neighbours) (length instance.now.rows) places.now },
     ghost near: { IsTable (IsWholeList instance.now neighbours) (length instance.now.rows) neighbour_lists.now },
-    ghost stepped: { IsTable (IsStepList instance.now) (length instance.now.rows) steps.now },
     ghost allowed: { IsTable (IsAllowedRow region.now) (length instance.now.rows) allowed_rows.items },
+    ghost stepped: { IsTable (IsOpenList instance.now neighbours prices.now allowed_rows.items) (length instance.now.rows) steps.items },
 }
 
 impl<'i> Task<'i> {
@@ -62,6 +60,7 @@ impl<'i> Task<'i> {
         let instance = nearness.instance;
         instance.law_of_limits();
         let allowed_rows = allowed_rows(alloc, instance, region)?;
+        let steps = open_steps(alloc, nearness, prices, allowed_rows.as_slice())?;
         Ok(Task {
             alloc,
             instance,
@@ -70,59 +69,84 @@ impl<'i> Task<'i> {
             neighbours: nearness.neighbours,
             places: nearness.places.as_slice(),
             neighbour_lists: nearness.neighbour_lists.as_slice(),
-            steps: nearness.steps.as_slice(),
             slots: &nearness.slots,
             allowed_rows,
+            steps,
         })
     }
 
-    /// The place of u in the neighbour list of v.
-    pub(crate) fn place(&self, v: u16, u: u16) -> u8
-        requires v { v < length self.now.instance.now.rows }
-        requires u { u < length self.now.instance.now.rows }
-        ensures { result ≡ place_of self.now.instance.now self.now.neighbours v u }
+    /// The rows to which a route of the region may go from a row.
+    pub fn rows_from(&self, v: u16) -> &CustomerSet
+        requires { v < length self.now.instance.now.rows }
+        ensures { IsAllowedRow self.now.region.now v result.now }
     {
-        let places = self.places[usize::from(v)].as_slice();
-        places[usize::from(u)]
+        &self.allowed_rows[usize::from(v)]
     }
 
-    /// All customers as seen from a row, those first that may be left for latest.
+    /// The steps from a row that a route of the region may take, those first that may be left for latest.
     pub fn steps_from(&self, v: u16) -> &[Step]
         requires { v < length self.now.instance.now.rows }
-        ensures { AreStepsFrom self.now.instance.now v result.now }
+        ensures { let t = self.now in
+            let q = pricing t.instance.now t.region.now t.neighbours t.prices.now in
+            AreOpenSteps q v result.now }
     {
         self.steps[usize::from(v)].as_slice()
     }
 
-    /// Whether a route may go on from a front to a customer, where this is what it remembers, it may go
-    /// to these rows, and these are the places of the neighbour list of its last stop.
-    pub fn can_step(
-        &self,
-        front: &Front,
-        memory: Memory,
-        rows: &CustomerSet,
-        places: &[u8],
-        j: u16,
-    ) -> bool
-        requires j { IsCustomer self.now.instance.now j }
-        requires rows { IsAllowedRow self.now.region.now front.now.last rows.now }
-        requires places { let p = self.now.instance.now in
-            HasPlaces p self.now.neighbours front.now.last (length p.rows) places.now }
+    /// The step from a row to a customer, if a route of the region may take it.
+    pub fn step_to(&self, v: u16, j: u16) -> Option<Step>
+        requires { v < length self.now.instance.now.rows }
+        ensures { let t = self.now in
+            let q = pricing t.instance.now t.region.now t.neighbours t.prices.now in
+            IfSome result (IsOpenStep q v) }
+    {
+        for step in self.steps_from(v) {
+            if step.customer == j {
+                return Some(*step);
+            }
+        }
+        None
+    }
+
+    /// Whether a route that remembers this may take a step after a front.
+    pub fn can_take(&self, front: &Front, memory: Memory, step: &Step) -> bool
+        requires step { let t = self.now in
+            let q = pricing t.instance.now t.region.now t.neighbours t.prices.now in
+            IsOpenStep q front.now.last step.now }
         requires bounded { IsBounded self.now.instance.now front.now }
         ensures yes { let t = self.now in
             let q = pricing t.instance.now t.region.now t.neighbours t.prices.now in
-            IsTrue result → CanStep q (state_with q front.now memory.bits) j }
+            IsTrue result → CanStep q (state_with q front.now memory.bits) step.now.customer }
         ensures no { let t = self.now in
             let q = pricing t.instance.now t.region.now t.neighbours t.prices.now in
-            IsFalse result → ¬ CanStep q (state_with q front.now memory.bits) j }
+            IsFalse result → ¬ CanStep q (state_with q front.now memory.bits) step.now.customer }
     {
-        if !rows.contains(j) {
+        if memory.contains(step.place) {
             return false;
         }
-        if memory.contains(places[usize::from(j)]) {
-            return false;
+        let load = front.load + u32::from(step.demand);
+        load <= u32::from(self.instance.capacity()) && front.time <= u64::from(step.latest)
+    }
+
+    /// The vehicle after a step that it may take after a front.
+    pub fn after(&self, front: &Front, step: &Step) -> Front
+        requires step { let t = self.now in
+            let q = pricing t.instance.now t.region.now t.neighbours t.prices.now in
+            IsOpenStep q front.now.last step.now }
+        requires bounded { IsBounded self.now.instance.now front.now }
+        requires load { front.now.load + step.now.demand ≤ self.now.instance.now.capacity }
+        requires soon { front.now.time ≤ step.now.latest }
+        ensures after { let t = self.now in
+            IsAfter t.instance.now t.prices.now front.now step.now.customer result }
+        ensures bounded { IsBounded self.now.instance.now result }
+    {
+        let begins = (front.time + u64::from(step.way)).max(u64::from(step.ready));
+        Front {
+            last: step.customer,
+            time: begins + u64::from(step.service),
+            load: front.load + u32::from(step.demand),
+            cost: front.cost + step.cost,
         }
-        front.can_serve(self.instance, j)
     }
 
     /// What is remembered after a stop at v with this memory, and a further one at j.

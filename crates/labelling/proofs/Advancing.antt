@@ -9,6 +9,7 @@ use Rattle.std.proofs.lemmas.Nat.Bits.{bit_at-zero}
 use Rattle.solomon_reader.specs.Distance.{distance}
 use Rattle.solomon_reader.specs.Problem.{Problem, IsCustomer, due}
 use Rattle.solomon_reader.specs.Relaxed.{IsRelaxed, reduced_cost}
+use Rattle.solomon_reader.specs.Region.{IsAllowed}
 use Rattle.solomon_reader.specs.States.{Pricing, State, start, step, CanStep, CanEnd, IsAtMost}
 use Rattle.solomon_reader.proofs.Completions.{reaches_none, reaches_more, at_most_more}
 use Rattle.labelling.specs.declared.least_cost.Least.{Least}
@@ -18,6 +19,8 @@ use Rattle.labelling.specs.Answer.{IsLeastOf}
 use Rattle.labelling.specs.Arena.{label_in, state_at, trace, IsLabel, IsArena, IsPending, HasActive, HasPending, IsDominated, inactive, IsPruned, IsExtension, IsAdded, IsSameStop, IsLater, IsGrown, IsMoved, IsMet, TakesStep, TakesSteps, CountsEnd, EndsAt, IsAttained, IsComplete, IsOnward, NonePending, IsAnswer, IsInList, IsFirst, blank}
 use Rattle.labelling.specs.Cover.{CoversAll, Carries, IsCounted, IsPassed}
 use Rattle.fronts.specs.Fronts.{end_cost, IsBounded, IsStart, IsAfter}
+use Rattle.fronts.specs.Steps.{IsReachable}
+use Rattle.fronts.proofs.Stepping.{can_reach}
 use Rattle.fronts.specs.declared.front.Front.{Front}
 use Rattle.solomon_reader.specs.Memories.{place_of}
 use Rattle.solomon_reader.proofs.Goodness.{reaches_same}
@@ -256,8 +259,8 @@ module _ (q : Pricing) where
   }
 
   -- each customer to whom a step may be taken is one of these
-  pub steps_all : (b : Option ℤ) (xs ys : List Label) (l : Label) (P : ℕ → Type 0) → ((j : ℕ) → IsCustomer q.problem j → l.front.time + distance q.problem l.front.last j ≤ due q.problem j → P j) → TakesSteps q b xs ys l P → TakesSteps q b xs ys l (IsCustomer q.problem)
-  steps_all b xs ys l P reached steps = record { moved = steps.moved; labelled = steps.labelled; met = λ j customer can. steps.met j (reached j customer (omega (arith, can.due))) can }
+  pub steps_all : (b : Option ℤ) (xs ys : List Label) (l : Label) (P : ℕ → Type 0) → ((j : ℕ) → IsCustomer q.problem j → IsReachable q.problem l.front.last j → IsAllowed q.region (l.front.last, j) → l.front.time + distance q.problem l.front.last j ≤ due q.problem j → P j) → TakesSteps q b xs ys l P → TakesSteps q b xs ys l (IsCustomer q.problem)
+  steps_all b xs ys l P reached steps = record { moved = steps.moved; labelled = steps.labelled; met = λ j customer can. steps.met j (reached j customer (can_reach q (state_at q l) j can) can.allowed (omega (arith, can.due))) can }
 
   pub here_still : (b : Option ℤ) (xs ys : List Label) (l : Label) (index : ℕ) (P : ℕ → Type 0) → index < length xs → IsSameStop (label_in xs index) l → TakesSteps q b xs ys l P → IsSameStop (label_in ys index) l
   here_still b xs ys l index P within here steps =

@@ -11,7 +11,6 @@ use Rattle.solomon_reader.specs.Problem.{IsCustomer}
 use Rattle.solomon_reader.specs.States.{Pricing, CanEnd, Completes, value_with}
 use Rattle.fronts.specs.Completions.{IsCut}
 use Rattle.fronts.specs.Fronts.{end_cost}
-use Rattle.solomon_reader.specs.Memories.{HasPlaces}
 use Rattle.fronts.specs.Tasks.{pricing_of}
 
 abbrev pub task_of : Labeller → Task
@@ -41,10 +40,6 @@ IsPrunedIn c xs ys x = IsPruned (pricing_of c.task.now) xs ys (state_at (pricing
 -- x was added to the labels, or one of them dominates it
 abbrev pub IsAddedTo : Labeller → Labeller → Label → Type 0
 IsAddedTo v w x = IsAdded (pricing_in v) v.labels.items w.labels.items x
-
--- the places in the neighbour list of a label's last stop
-abbrev pub ArePlacesFrom : Pricing → Label → List ℕ → Type 0
-ArePlacesFrom q l places = HasPlaces q.problem q.neighbours l.front.last (length q.problem.rows) places
 
 -- the step from l to j was taken, if it may be taken and may lead below the best
 abbrev pub TakesStepTo : Labeller → Labeller → Option ℤ → Label → ℕ → Type 0

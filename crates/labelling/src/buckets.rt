@@ -26,6 +26,13 @@ impl Buckets {
         })
     }
 
+    /// Empties the buckets, which serve for times up to the latest, in tenths.
+    pub(crate) fn clear(&mut self, latest: u64) {
+        self.width = latest / SLOTS + 1;
+        self.heads.as_mut_slice().fill(None);
+        self.nexts.clear();
+    }
+
     /// Puts the label at the next index into the bucket of its time, in tenths.
     pub(crate) fn add(&mut self, time: u64, index: usize) -> Result<(), AllocError> {
         let slot = (time / self.width.max(1)).min(SLOTS) as usize;

@@ -68,6 +68,16 @@ impl MemoryGroup {
         }
     }
 
+    /// Makes it the group of an entry, still without it.
+    fn begin(&mut self, entry: &Entry) {
+        self.memory = entry.memory;
+        self.least_time = entry.time;
+        self.least_cost = entry.cost;
+        self.latest_time = entry.time;
+        self.greatest_cost = entry.cost;
+        self.entries.clear();
+    }
+
     /// Whether one of its labels may dominate a newer one. All three are compared without a branch, as
     /// in `may_dominate`.
     fn may_dominate(&self, newer: &Entry) -> bool {
@@ -197,6 +207,8 @@ fn drop_each(
 #[derive(Drop)]
 pub(crate) struct CustomerLabels {
     groups: Vec<MemoryGroup>,
+    /// Groups of an earlier search, whose memory serves again.
+    spare: Vec<MemoryGroup>,
     /// How often newer labels looked at groups, and at labels of them.
     looks: u64,
 }
@@ -206,8 +218,20 @@ impl CustomerLabels {
     pub(crate) fn new(alloc: Global) -> CustomerLabels {
         CustomerLabels {
             groups: Vec::new(alloc),
+            spare: Vec::new(alloc),
             looks: 0,
         }
+    }
+
+    /// Drops all labels, and begins another search.
+    pub(crate) fn clear(&mut self) -> Result<(), AllocError> {
+        self.looks = 0;
+        for _ in 0..self.groups.len() {
+            if let Some(group) = self.groups.pop() {
+                self.spare.push(group)?;
+            }
+        }
+        Ok(())
     }
 
     /// How often newer labels looked at groups, and at labels of them.
@@ -257,13 +281,22 @@ impl CustomerLabels {
         dropped
     }
 
+    /// The group of an entry, still without it: a spare one, if there is one.
+    fn new_group(&mut self, alloc: Global, entry: &Entry) -> MemoryGroup {
+        let Some(mut group) = self.spare.pop() else {
+            return MemoryGroup::new(alloc, entry);
+        };
+        group.begin(entry);
+        group
+    }
+
     /// Adds an entry.
     pub(crate) fn add(&mut self, alloc: Global, entry: &Entry) -> Result<(), AllocError> {
         let memory = entry.memory;
         if let Some(m) = self.groups.iter().position(|g| g.memory.is_same(memory)) {
             return self.groups[m].add(entry);
         }
-        let mut group = MemoryGroup::new(alloc, entry);
+        let mut group = self.new_group(alloc, entry);
         group.add(entry)?;
         self.groups.push(group)?;
         Ok(())

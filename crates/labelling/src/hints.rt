@@ -1,6 +1,6 @@
 //! What a search goes by beside its task, and what it tells beside its answer.
 
-use fronts::Nearness;
+use crate::kept::Kept;
 use std::alloc::Global;
 
 /// What a search for the least reduced cost goes by, and what it tells beside its answer. No contract
@@ -10,9 +10,8 @@ pub struct Hints<'i> {
     /// The customers, in order, of a route that may be a relaxed one of low reduced cost; empty where none
     /// is known.
     pub known: Vec<u16>,
-    /// The tables of an earlier search, which serve where they are of the same instance and as many
-    /// neighbours; afterwards those that this one went by.
-    pub nearness: Option<Nearness<'i>>,
+    /// What an earlier search handed on; afterwards what this one hands on.
+    pub kept: Kept<'i>,
     /// Further routes that were met, by their customers: where the known one is relaxed, those that cost
     /// less than it does.
     pub met: Vec<Vec<u16>>,
@@ -24,15 +23,15 @@ pub struct Hints<'i> {
 impl<'i> Hints<'i> {
     /// Nothing is known. It takes no memory. No contract: it decides only how fast an answer is found.
     pub fn none(alloc: Global) -> Hints<'i> {
-        Hints::of(alloc, Vec::new(alloc), None)
+        Hints::of(alloc, Vec::new(alloc), Kept::nothing())
     }
 
-    /// A route is known, by its customers in order, and tables may be. It takes no memory. No contract: as
-    /// for `none`.
-    pub fn of(alloc: Global, known: Vec<u16>, nearness: Option<Nearness<'i>>) -> Hints<'i> {
+    /// A route is known, by its customers in order, and something may be kept. It takes no memory. No
+    /// contract: as for `none`.
+    pub fn of(alloc: Global, known: Vec<u16>, kept: Kept<'i>) -> Hints<'i> {
         Hints {
             known,
-            nearness,
+            kept,
             met: Vec::new(alloc),
             looks: 0,
         }

@@ -85,7 +85,7 @@ impl Label {
         fits(
             completions.task.instance.capacity(),
             self.front.load,
-            bound.room,
+            u32::from(bound.room),
         )
     }
 }

@@ -2,19 +2,25 @@
 //! labels: the first stops of routes, with what the further ones depend on.
 #![tactic(auto)]
 
+mod answering;
 mod best;
 mod buckets;
 mod customer_labels;
+mod extending;
 mod fault;
+mod following;
 mod hints;
+mod kept;
 mod label;
 mod labeller;
 mod least_cost;
 mod lookup;
+mod pricing;
 mod route_ends;
+mod stepping;
 
 pub use fault::LabelFault;
-pub use fronts::Nearness;
 pub use hints::Hints;
-pub use labeller::{least, least_by_hints};
+pub use kept::Kept;
 pub use least_cost::Least;
+pub use pricing::{least, least_by_hints};

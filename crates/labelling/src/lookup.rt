@@ -20,8 +20,36 @@ pub(crate) struct Lookup {
 }
 
 impl Lookup {
+    /// The lookup of the empty beginning alone: a former one of as many customers, or a new one.
+    pub(crate) fn again(
+        alloc: Global,
+        instance: &Instance,
+        former: Option<Lookup>,
+    ) -> Result<Lookup, AllocError> {
+        let rows = usize::from(instance.customer_count()) + 1;
+        match former {
+            Some(mut lookup) if lookup.customers.len() == rows => {
+                lookup.clear(instance)?;
+                Ok(lookup)
+            }
+            _ => Lookup::new(alloc, instance),
+        }
+    }
+
+    /// Leaves the empty beginning alone.
+    fn clear(&mut self, instance: &Instance) -> Result<(), AllocError> {
+        instance.law_of_limits();
+        for labels in &mut self.customers {
+            labels.clear()?;
+        }
+        self.buckets.clear(instance.due(0));
+        self.buckets.add(instance.ready(0), 0)?;
+        self.active = 0;
+        Ok(())
+    }
+
     /// The lookup of the empty beginning alone.
-    pub(crate) fn new(alloc: Global, instance: &Instance) -> Result<Lookup, AllocError> {
+    fn new(alloc: Global, instance: &Instance) -> Result<Lookup, AllocError> {
         instance.law_of_limits();
         let mut customers = Vec::new(alloc);
         for _ in 0..instance.customer_count() + 1 {

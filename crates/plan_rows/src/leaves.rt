@@ -2,7 +2,7 @@
 
 use crate::words::{list_of, listed, named, pair_of};
 use branching::{Arc, Region};
-use labelling::{Hints, least, least_by_hints};
+use labelling::{Hints, Kept, least, least_by_hints};
 use prices::{Priced, improve};
 use schedule::walk;
 use solomon_reader::{Instance, MOST_NEIGHBOURS};
@@ -92,7 +92,7 @@ fn reduced_cost(instance: &Instance, prices: &[i64], stops: &[u16]) -> Option<i6
 /// were met.
 fn told_met(alloc: Global, leaf: &Priced<'_>, route: &str) -> Option<String> {
     let _value = leaf.value();
-    let mut hints = Hints::of(alloc, list_of(alloc, route)?, None);
+    let mut hints = Hints::of(alloc, list_of(alloc, route)?, Kept::nothing());
     let (instance, region, prices) = (leaf.instance(), leaf.region(), leaf.prices());
     let neighbours = leaf.neighbours();
     let found = least_by_hints(

@@ -32,7 +32,7 @@ pub(crate) fn price<'i>(
 {
     let instance = leaf.instance();
     let known = pool.cheapest(&region, prices.as_slice())?;
-    let mut hints = Hints::of(alloc, known, pool.nearness.take());
+    let mut hints = Hints::of(alloc, known, pool.kept.take());
     let neighbours = leaf.neighbours();
     let priced = Priced::by_hints(
         alloc, instance, region, neighbours, prices, labels, &mut hints,

@@ -72,13 +72,13 @@ fn search<'i>(
     requires in_range { AllByRecursion IsPrice prices.now }
 {
     let instance = leaf.instance();
-    let nearness = match pool.nearness.take() {
+    let nearness = match pool.kept.nearness.take() {
         Some(nearness) if nearness.is_for(instance, leaf.neighbours()) => nearness,
         _ => return Ok(i64::MAX),
     };
     instance.law_of_limits();
     let found = routes_at(alloc, &nearness, &mut pool.quick, leaf.region(), prices, width);
-    pool.nearness = Some(nearness);
+    pool.kept.nearness = Some(nearness);
     let found = found?;
     pool.count_looks(found.looks);
     for route in &found.routes {

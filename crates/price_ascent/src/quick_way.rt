@@ -85,15 +85,15 @@ impl QuickWay {
         is_one
     }
 
-    /// Whether the next step is a round of quick searches, where an exact pricing takes so many looks. After
-    /// the first round that is so only where pricings are few.
+    /// Whether the next step is a round of quick searches, where an exact pricing takes so many looks and there
+    /// will be few of them.
     pub(crate) fn is_next(&mut self, exact: u64, are_few: bool) -> bool {
         if self.idle >= IDLE_ROUNDS {
             self.idle = self.idle.saturating_sub(2);
             return false;
         }
         let is_dear = exact > self.looks.saturating_mul(QUICK_OF_EXACT);
-        is_dear && (are_few || !self.has_begun)
+        is_dear && are_few
     }
 
     /// Learns whether a round raised the value.

@@ -7,7 +7,7 @@ use crate::quick_way::{QuickWay, WHOLE};
 use crate::starting::trial_rise;
 use branching::{Arc, Region};
 use fronts::allowed_rows;
-use labelling::{Hints, Nearness};
+use labelling::{Hints, Kept};
 use pooled_routes::{
     ArcFlow, Floor, HalfSpace, PooledRoute, Projection, Pseudocosts, RouteShare, Side, Trial,
     cost_of, merge, scaled,
@@ -44,8 +44,8 @@ pub struct RoutePool<'i> {
     pricings: u64,
     /// How much work they, the projections and the trials were, in looks.
     looks: u64,
-    /// The tables that the pricings go by, from the first one on.
-    pub(crate) nearness: Option<Nearness<'i>>,
+    /// What the last pricing handed on to the next one.
+    pub(crate) kept: Kept<'i>,
     /// How much work the last pricing was, in looks.
     pub(crate) exact_looks: u64,
     /// How an ascent by quick searches goes on, where one was made.
@@ -66,7 +66,7 @@ impl<'i> RoutePool<'i> {
             rise: 1,
             pricings: 0,
             looks: 0,
-            nearness: None,
+            kept: Kept::nothing(),
             exact_looks: 0,
             quick: None,
             ascent: None,
@@ -187,7 +187,7 @@ impl<'i> RoutePool<'i> {
         hints: Hints<'i>,
     ) -> Result<(), AllocError> {
         let Hints {
-            nearness,
+            kept,
             met,
             looks,
             ..
@@ -195,7 +195,7 @@ impl<'i> RoutePool<'i> {
         self.pricings = self.pricings.saturating_add(1);
         self.count_looks(looks);
         self.exact_looks = looks;
-        self.nearness = nearness;
+        self.kept = kept;
         for route in &met {
             self.add(instance, route.as_slice())?;
         }

@@ -21,7 +21,7 @@ const PRICINGS_WITHOUT_PLAN: u32 = 100;
 /// as long on every instance, so that turns do, too.
 const CUSTOMER_LOOKS: u64 = 14_000;
 
-const LEAST_CUSTOMERS: u64 = 80;
+const LEAST_CUSTOMERS: u64 = 120;
 
 /// Of what all turns are worth a single pricing may take this part, and at any number of turns what so
 /// many are worth.

@@ -7,23 +7,19 @@ pub loop-step-init : goal.loop-step-init
 loop-step-init c =
     bound_fewer _ c.args.task.now.task (omega arith) c.args.v c.args.from (λ _. ⊥) _ _ (λ i h. among_none c.steps_from-step-items.result.now i h) c.end_bound-bound.ensures
 
-pub with_step-bound-requires-clause-j : goal.with_step-bound-requires-clause-j
-with_step-bound-requires-clause-j c =
-    let are = c.steps_from-step-items.ensures in
-    (are.each c.loop-step.step-index (record { customer = 0; latest = 0 }) c.loop-step-test.true).customer
+pub with_step-bound-requires-clause-step : goal.with_step-bound-requires-clause-step
+with_step-bound-requires-clause-step c = c.steps_from-step-items.ensures.each c.loop-step.step-index _ c.loop-step-test.true
 
 pub loop-step-preserved : goal.loop-step-preserved
 loop-step-preserved c =
     bound_more _ c.args.task.now.task (omega arith) c.args.v c.args.from _ _ _ _ _ (among_more c.steps_from-step-items.result.now c.loop-step.step-index) c.loop-step.invariant c.with_step-bound.ensures
 
-pub returns-then-step-from : goal.returns-then-step-from
-returns-then-step-from c =
-    let are = c.steps_from-step-items.ensures in
+pub returns-then-is_late : goal.returns-then-is_late
+returns-then-is_late c =
     bound_all _ c.args.task.now.task (omega arith) c.args.v c.args.from _ _
-    (is_among _ c.args.v c.steps_from-step-items.result.now c.args.from c.loop-step.step-index are c.requires.from (inr c.if-step-from.true)) c.loop-step.invariant
+    (is_among _ _ _ _ c.args.v c.steps_from-step-items.result.now c.args.from c.loop-step.step-index c.steps_from-step-items.ensures c.requires.from (inr (c.is_late.ensures.0 c.if-is_late.true))) c.loop-step.invariant
 
 pub returns : goal.returns
 returns c =
-    let are = c.steps_from-step-items.ensures in
     bound_all _ c.args.task.now.task (omega arith) c.args.v c.args.from _ _
-    (is_among _ c.args.v c.steps_from-step-items.result.now c.args.from c.loop-step.step-index are c.requires.from (inl (omega arith))) c.loop-step.invariant
+    (is_among _ _ _ _ c.args.v c.steps_from-step-items.result.now c.args.from c.loop-step.step-index c.steps_from-step-items.ensures c.requires.from (inl (omega arith))) c.loop-step.invariant

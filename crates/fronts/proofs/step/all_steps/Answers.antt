@@ -3,4 +3,5 @@ use Rattle.fronts.proofs.Tabled.{table_more}
 use Rattle.fronts.proofs.step.all_steps.Goals as goal
 
 pub loop-v-preserved : goal.loop-v-preserved
-loop-v-preserved c = rw c.in_ok-push.ensures.items (table_more (IsStepList c.args.instance.now) c.loop-v.v c.in_ok-steps_from.field-0 c.loop-v.table.items c.loop-v.invariant c.in_ok-steps_from.ensures)
+loop-v-preserved c =
+    rw c.in_ok-push.ensures.items (table_more (IsStepList c.args.instance.now c.args.neighbours) c.loop-v.v c.in_ok-steps.steps c.loop-v.table.items c.loop-v.invariant c.in_ok-steps.ensures)

@@ -7,4 +7,4 @@ pub fill-looks-requires : goal.fill-looks-requires
 fill-looks-requires c =
     let task = c.args.task.now in
     rw (c.as_mut_slice.ensures.value, c.in_ok-bounds.ensures.items_if_clones_equal (λ y h. h))
-    (All-replicate (IsRowBound (pricing_of task)) c.count.result (record { row = 0; from = 0; bound = c.unknown.result }) (c.unknown.ensures 0 0))
+    (All-replicate (IsRowBound (pricing_of task)) c.count.result (record { bound = c.unknown.result; from = 0; row = 0 }) (c.unknown.ensures 0 0))

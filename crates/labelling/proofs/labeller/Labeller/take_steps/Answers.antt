@@ -4,6 +4,9 @@ use Rattle.fronts.proofs.Stepping.{among_more, is_among}
 use Rattle.labelling.proofs.Advancing.{steps_more, steps_all}
 use Rattle.labelling.proofs.labeller.Labeller.take_steps.Goals as goal
 
+pub take_step-requires-clause-step : goal.take_step-requires-clause-step
+take_step-requires-clause-step c = rw c.loop-step.invariant.same.task (c.steps_from-step-items.ensures.each c.loop-step.step-index _ c.loop-step-test.true)
+
 pub loop-step-preserved : goal.loop-step-preserved
 loop-step-preserved c =
     let before = c.loop-step.invariant in
@@ -13,14 +16,14 @@ loop-step-preserved c =
       best = after.best ∙ before.best;
     }
 
-pub returns-then-step-label-clause-stepped : goal.returns-then-step-label-clause-stepped
-returns-then-step-label-clause-stepped c =
+pub returns-then-is_late-clause-stepped : goal.returns-then-is_late-clause-stepped
+returns-then-is_late-clause-stepped c =
     let soon : c.args.label.now.front.time ≤ 20 * MOST_TIME = rw c.requires.index.here.front (c.requires.labels.each c.args.index c.requires.index.within).bounded.time in
     steps_all _ _ _ _ c.args.label.now _
-    (is_among _ c.args.label.now.front.last c.steps_from-step-items.result.now c.args.label.now.front.time c.loop-step.step-index c.steps_from-step-items.ensures soon (inr c.if-step-label.true)) c.loop-step.invariant.stepped
+    (is_among _ _ _ _ c.args.label.now.front.last c.steps_from-step-items.result.now c.args.label.now.front.time c.loop-step.step-index c.steps_from-step-items.ensures soon (inr (c.is_late.ensures.0 c.if-is_late.true))) c.loop-step.invariant.stepped
 
 pub returns-clause-stepped : goal.returns-clause-stepped
 returns-clause-stepped c =
     let soon : c.args.label.now.front.time ≤ 20 * MOST_TIME = rw c.requires.index.here.front (c.requires.labels.each c.args.index c.requires.index.within).bounded.time in
     steps_all _ _ _ _ c.args.label.now _
-    (is_among _ c.args.label.now.front.last c.steps_from-step-items.result.now c.args.label.now.front.time c.loop-step.step-index c.steps_from-step-items.ensures soon (inl (omega arith))) c.loop-step.invariant.stepped
+    (is_among _ _ _ _ c.args.label.now.front.last c.steps_from-step-items.result.now c.args.label.now.front.time c.loop-step.step-index c.steps_from-step-items.ensures soon (inl (omega arith))) c.loop-step.invariant.stepped

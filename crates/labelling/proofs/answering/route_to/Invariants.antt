@@ -1,6 +1,6 @@
 use Rattle.std.proofs.Common.{◌≡◌, ◌-◌, ◌<◌, ◌++◌, length, reverse}
 use Rattle.labelling.specs.Arena.{trace}
-use Rattle.labelling.proofs.labeller.route_to.Given as goal
+use Rattle.labelling.proofs.answering.route_to.Given as goal
 
 abbrev pub invariant-loop-taken : goal.invariant-loop-taken
 invariant-loop-taken l = record {

@@ -1,4 +1,4 @@
-use Rattle.fronts.proofs.completions.bound_at.Goals as goal
+use Rattle.fronts.proofs.completions.bound_in.Goals as goal
 
 pub returns-then-place-bounds : goal.returns-then-place-bounds
 returns-then-place-bounds c = c.unknown.ensures c.args.v c.args.time

@@ -1,6 +1,6 @@
 use Rattle.std.proofs.Common.{refl, arith}
 use Rattle.labelling.proofs.Advancing.{back_more, back_all, back_written}
-use Rattle.labelling.proofs.labeller.route_to.Goals as goal
+use Rattle.labelling.proofs.answering.route_to.Goals as goal
 
 pub loop-taken-preserved : goal.loop-taken-preserved
 loop-taken-preserved c = record {

@@ -1,0 +1,6 @@
+use Rattle.fronts.specs.Steps.{IsOpenList}
+use Rattle.fronts.specs.Tables.{IsTable}
+use Rattle.fronts.proofs.open_steps.open_steps.Given as goal
+
+abbrev pub invariant-loop-v : goal.invariant-loop-v
+invariant-loop-v l = IsTable (IsOpenList l.nearness.instance.now l.nearness.neighbours l.prices l.rows) l.v l.table.items

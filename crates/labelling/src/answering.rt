@@ -1,0 +1,108 @@
+//! What a search answers.
+
+ghost use Rattle.std.specs.Prelude.{◌≡◌, ◌≢◌, ℕ, ◌<◌, length, IfOk, IfErr, None};
+ghost use Rattle.labelling.specs.Answer.{IsLeastOf};
+ghost use Rattle.labelling.specs.Arena.{label_in, trace, IsInList, IsAnswer};
+ghost use Rattle.labelling.specs.Search.{pricing_in, LosesNothing};
+ghost use Rattle.labelling.specs.declared.fault.LabelFault.TheVariants.{LabelLimit};
+
+use crate::best::Best;
+use crate::fault::LabelFault;
+use crate::hints::Hints;
+use crate::label::Label;
+use crate::labeller::Labeller;
+use crate::least_cost::Least;
+use crate::route_ends::cheapest;
+use std::alloc::{AllocError, Global};
+
+/// A step takes about as long as so many looks.
+const LOOKS_OF_STEP: u64 = 2;
+
+/// The stops up to a label, by its parents.
+fn route_to(alloc: Global, labels: &[Label], index: usize) -> Result<Vec<u16>, AllocError>
+    requires index { index < length labels.now }
+    requires parents { (m : ℕ) → m < length labels.now → (label_in labels.now m).parent < length labels.now }
+    ensures { IfOk result (λ r. r.items ≡ trace labels.now (label_in labels.now index).stops (label_in labels.now index)) }
+{
+    let mut route = Vec::new(alloc);
+    let mut label = labels[index];
+    for taken in 0..label.stops {
+        route.push(label.front.last)?;
+        label = labels[label.parent];
+    }
+    route.as_mut_slice().reverse();
+    Ok(route)
+}
+
+/// The answer for the best of a search.
+fn answer(alloc: Global, labels: &[Label], best: Best) -> Result<Least, AllocError>
+    requires index { IsInList labels.now best }
+    requires parents { (m : ℕ) → m < length labels.now → (label_in labels.now m).parent < length labels.now }
+    ensures { IfOk result (λ l. IsAnswer labels.now best l.value l.route.items) }
+{
+    match best.value {
+        Some(value) => Ok(Least {
+            value: Some(i128::from(value)),
+            route: route_to(alloc, labels, best.index)?,
+        }),
+        None => Ok(Least {
+            value: None,
+            route: Vec::new(alloc),
+        }),
+    }
+}
+
+impl<'t, 'i> Labeller<'t, 'i> {
+    /// How much work the search was: the steps taken, twice each, the customers that bounds looked at, and how
+    /// often a newer label looked at others.
+    fn looks(&self) -> u64 {
+        let steps = self.taken.saturating_mul(LOOKS_OF_STEP);
+        let looks = steps.saturating_add(self.completions.looks());
+        looks.saturating_add(self.lookup.looks())
+    }
+
+    /// Tells further routes that were met, the cheapest ones.
+    fn tell(&self, hints: &mut Hints<'_>) -> Result<(), AllocError>
+        requires { LosesNothing self.now }
+    {
+        let alloc = self.completions.task.alloc;
+        let ends = self.cheap_ends()?;
+        for end in &cheapest(alloc, ends.as_slice())? {
+            if end.index < self.labels.len() && end.index != self.best.index {
+                let route = route_to(alloc, self.labels.as_slice(), end.index)?;
+                hints.met.push(route)?;
+            }
+        }
+        Ok(())
+    }
+
+    /// Extends all labels, the most promising first, and answers the least reduced cost with its route.
+    fn extend_all(&mut self, hints: &mut Hints<'_>) -> Result<Least, LabelFault>
+        requires { LosesNothing self.old }
+        ensures least { IfOk result (IsLeastOf (pricing_in self.old)) }
+        ensures unlimited { IfErr result (λ e. e ≡ LabelLimit → self.old.limit ≢ None) }
+    {
+        self.dive_often()?;
+        self.extend_by_time(usize::MAX)?;
+        self.extend_rest()?;
+        let alloc = self.completions.task.alloc;
+        let least = answer(alloc, self.labels.as_slice(), self.best)?;
+        self.tell(hints)?;
+        Ok(least)
+    }
+
+    /// Extends all labels, answers the least reduced cost with its route, and hands on what serves later
+    /// searches: where there were more labels than so many, the next one begins with bounds.
+    pub(crate) fn finish(mut self, few: usize, hints: &mut Hints<'_>) -> Result<Least, LabelFault>
+        requires { LosesNothing self }
+        ensures least { IfOk result (IsLeastOf (pricing_in self.entry)) }
+        ensures unlimited { IfErr result (λ e. e ≡ LabelLimit → self.entry.limit ≢ None) }
+    {
+        let found = self.extend_all(hints);
+        hints.looks = self.looks();
+        let Labeller { labels, lookup, .. } = self;
+        hints.kept.are_many = labels.len() > few;
+        hints.kept.lookup = Some(lookup);
+        found
+    }
+}

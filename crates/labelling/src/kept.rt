@@ -1,0 +1,36 @@
+//! What a search hands on to later ones.
+
+use crate::lookup::Lookup;
+use fronts::Nearness;
+
+/// What a search for the least reduced cost hands on to later ones of the same instance. No contract speaks of
+/// it: it decides only how fast an answer is found, and what doesn't fit another instance isn't used there.
+#[derive(Drop)]
+pub struct Kept<'i> {
+    /// The tables that it went by.
+    pub nearness: Option<Nearness<'i>>,
+    /// Where it looked its labels up: the memory serves again.
+    pub(crate) lookup: Option<Lookup>,
+    /// Whether its labels were many, so that bounds on what may follow pay from the beginning.
+    pub(crate) are_many: bool,
+}
+
+impl<'i> Kept<'i> {
+    /// What the first search has. It takes no memory.
+    pub fn nothing() -> Kept<'i> {
+        Kept {
+            nearness: None,
+            lookup: None,
+            are_many: false,
+        }
+    }
+
+    /// Takes out what is kept, and leaves nothing.
+    pub fn take(&mut self) -> Kept<'i> {
+        Kept {
+            nearness: self.nearness.take(),
+            lookup: self.lookup.take(),
+            are_many: self.are_many,
+        }
+    }
+}

@@ -1,0 +1,164 @@
+//! The least reduced cost over all relaxed routes. The labeller drops each label that another one dominates,
+//! leaves out each that can't lead below the best so far, and extends the others in the order of their times.
+
+ghost use Rattle.std.specs.Prelude.{◌≡◌, ◌≢◌, ◌≤◌, length, IfOk, IfErr, None};
+ghost use Rattle.std.specs.List.{AllByRecursion};
+ghost use Rattle.solomon_reader.specs.Problem.{customer_count};
+ghost use Rattle.solomon_reader.specs.CertificateText.{IsPrice};
+ghost use Rattle.solomon_reader.specs.States.{pricing};
+ghost use Rattle.solomon_reader.specs.declared.limits.TheConstants.{MOST_NEIGHBOURS};
+ghost use Rattle.labelling.specs.Answer.{HasLeastValue, HasItsRoute, IsLeastOf};
+ghost use Rattle.fronts.specs.Fronts.{IsTask};
+ghost use Rattle.fronts.specs.Tasks.{pricing_of};
+ghost use Rattle.labelling.specs.declared.fault.LabelFault.TheVariants.{LabelLimit};
+
+use crate::fault::LabelFault;
+use crate::hints::Hints;
+use crate::labeller::Labeller;
+use crate::least_cost::Least;
+use branching::Region;
+use fronts::{Completions, Nearness, Task};
+use solomon_reader::Instance;
+use std::alloc::{AllocError, Global};
+
+/// The bounds of a task where the labels are many; few labels don't pay for them.
+fn completions_for<'t, 'i>(
+    task: &'t Task<'i>,
+    are_many: bool,
+) -> Result<Completions<'t, 'i>, AllocError>
+    ensures { IfOk result (λ c. c.task.now ≡ task.now) }
+{
+    if are_many {
+        return Completions::new(task);
+    }
+    Ok(Completions::unknown(task))
+}
+
+/// What `least_by_hints` answers, from the tables of its task, with bounds from the beginning. With no more labels
+/// than so many the next search begins without them.
+fn least_with_bounds(
+    task: &Task<'_>,
+    limit: Option<usize>,
+    few: usize,
+    hints: &mut Hints<'_>,
+) -> Result<Least, LabelFault>
+    ensures least { IfOk result (IsLeastOf (pricing_of task.now)) }
+    ensures unlimited { IfErr result (λ e. e ≡ LabelLimit → limit ≢ None) }
+{
+    let completions = Completions::new(task)?;
+    let mut labeller = Labeller::new(&completions, limit, hints.kept.lookup.take())?;
+    labeller.follow(hints.known.as_slice())?;
+    labeller.finish(few, hints)
+}
+
+/// What `least_by_hints` answers, from the tables of its task.
+fn least_of_task(
+    task: &Task<'_>,
+    limit: Option<usize>,
+    hints: &mut Hints<'_>,
+) -> Result<Least, LabelFault>
+    ensures least { IfOk result (IsLeastOf (pricing_of task.now)) }
+    ensures unlimited { IfErr result (λ e. e ≡ LabelLimit → limit ≢ None) }
+{
+    let few = 2 * usize::from(task.instance.customer_count());
+    if hints.kept.are_many {
+        return least_with_bounds(task, limit, few / 2, hints);
+    }
+    let unknown = Completions::unknown(task);
+    let mut labeller = Labeller::new(&unknown, limit, hints.kept.lookup.take())?;
+    labeller.follow(hints.known.as_slice())?;
+    labeller.extend_by_time(few)?;
+    let completions = completions_for(task, labeller.labels.len() > few)?;
+    labeller.with(&completions).finish(few, hints)
+}
+
+/// What `least_by_hints` answers, from the tables of its instance.
+fn least_near(
+    alloc: Global,
+    nearness: &Nearness<'_>,
+    region: &Region,
+    prices: &[i64],
+    limit: Option<usize>,
+    hints: &mut Hints<'_>,
+) -> Result<Least, LabelFault>
+    requires { IsTask nearness.now.instance.now region.now prices.now }
+    ensures least { let n = nearness.now in
+        IfOk result (IsLeastOf (pricing n.instance.now region.now n.neighbours prices.now)) }
+    ensures unlimited { IfErr result (λ e. e ≡ LabelLimit → limit ≢ None) }
+{
+    let task = Task::new(alloc, nearness, region, prices)?;
+    least_of_task(&task, limit, hints)
+}
+
+/// The tables of an instance for so many neighbours: known ones, if they are.
+fn nearness_for<'i>(
+    alloc: Global,
+    instance: &'i Instance,
+    neighbours: u32,
+    known: Option<Nearness<'i>>,
+) -> Result<Nearness<'i>, AllocError>
+    requires { neighbours ≤ MOST_NEIGHBOURS }
+    ensures instance { IfOk result (λ n. n.instance.now ≡ instance.now) }
+    ensures neighbours { IfOk result (λ n. n.neighbours ≡ neighbours) }
+{
+    match known {
+        Some(nearness) if nearness.is_for(instance, neighbours) => Ok(nearness),
+        _ => Nearness::new(alloc, instance, neighbours),
+    }
+}
+
+/// The least reduced cost over all relaxed routes of the region at these prices, and a route that
+/// has it.
+///
+/// Prices and the answer are grains; `prices[i - 1]` is that of customer i. A relaxed route is an
+/// ng-route (Baldacci, Mingozzi and Roberti 2011) within load and windows over allowed arcs, for
+/// lists of this many neighbours, at most 15. `LabelLimit` where as many labels are active as `limit`
+/// allows, the empty beginning not counted; `Memory` where a growth was refused. A refusal leaves
+/// nothing behind.
+pub fn least(
+    alloc: Global,
+    instance: &Instance,
+    region: &Region,
+    prices: &[i64],
+    neighbours: u32,
+    limit: Option<usize>,
+) -> Result<Least, LabelFault>
+    requires size { region.now.size ≡ customer_count instance.now }
+    requires count { length prices.now ≡ customer_count instance.now }
+    requires priced { AllByRecursion IsPrice prices.now }
+    requires few { neighbours ≤ MOST_NEIGHBOURS }
+    ensures value { IfOk result (λ l. HasLeastValue instance.now region.now neighbours prices.now l) }
+    ensures route { IfOk result (λ l. HasItsRoute instance.now region.now neighbours prices.now l) }
+    ensures unlimited { IfErr result (λ e. e ≡ LabelLimit → limit ≢ None) }
+{
+    let mut hints = Hints::none(alloc);
+    least_by_hints(
+        alloc, instance, region, prices, neighbours, limit, &mut hints,
+    )
+}
+
+/// What `least` answers, found sooner where a route of low reduced cost or the tables of an earlier search
+/// are known, with further routes that were met.
+pub fn least_by_hints<'i>(
+    alloc: Global,
+    instance: &'i Instance,
+    region: &Region,
+    prices: &[i64],
+    neighbours: u32,
+    limit: Option<usize>,
+    hints: &mut Hints<'i>,
+) -> Result<Least, LabelFault>
+    requires size { region.now.size ≡ customer_count instance.now }
+    requires count { length prices.now ≡ customer_count instance.now }
+    requires priced { AllByRecursion IsPrice prices.now }
+    requires few { neighbours ≤ MOST_NEIGHBOURS }
+    ensures value { IfOk result (HasLeastValue instance.now region.now neighbours prices.now) }
+    ensures route { IfOk result (HasItsRoute instance.now region.now neighbours prices.now) }
+    ensures unlimited { IfErr result (λ e. e ≡ LabelLimit → limit ≢ None) }
+{
+    instance.law_of_limits();
+    let nearness = nearness_for(alloc, instance, neighbours, hints.kept.nearness.take())?;
+    let found = least_near(alloc, &nearness, region, prices, limit, hints);
+    hints.kept.nearness = Some(nearness);
+    found
+}
