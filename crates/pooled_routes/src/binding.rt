@@ -49,9 +49,17 @@ impl<'r> Binding<'r> {
     #[inline(always)]
     fn fall(&self, slack: i64) -> i64 {
         let is_beyond = slack < 0;
-        let more = if is_beyond { self.weight.wrapping_sub(1) } else { 0 };
+        let more = if is_beyond {
+            self.weight.wrapping_sub(1)
+        } else {
+            0
+        };
         let quotient = self.quotient(slack.unsigned_abs().wrapping_add(more));
-        let fall = if is_beyond { quotient.wrapping_neg() } else { quotient };
+        let fall = if is_beyond {
+            quotient.wrapping_neg()
+        } else {
+            quotient
+        };
         fall.min(self.multiplier)
     }
 

@@ -169,7 +169,9 @@ impl Ascent {
     /// quick searches know it.
     pub(crate) fn go_on_from(&mut self, pool: &mut RoutePool<'_>, least: i64, rise: i64) {
         self.centre.least = i128::from(least);
-        self.centre.merit = self.merit.of(self.centre.prices.as_slice(), self.centre.least);
+        self.centre.merit = self
+            .merit
+            .of(self.centre.prices.as_slice(), self.centre.least);
         self.is_quick = true;
         self.scale(pool, rise_in_range(rise));
     }

@@ -77,7 +77,14 @@ fn search<'i>(
         _ => return Ok(i64::MAX),
     };
     instance.law_of_limits();
-    let found = routes_at(alloc, &nearness, &mut pool.quick, leaf.region(), prices, width);
+    let found = routes_at(
+        alloc,
+        &nearness,
+        &mut pool.quick,
+        leaf.region(),
+        prices,
+        width,
+    );
     pool.kept.nearness = Some(nearness);
     let found = found?;
     pool.count_looks(found.looks);
@@ -86,7 +93,12 @@ fn search<'i>(
             pool.add(instance, route.stops.as_slice())?;
         }
     }
-    Ok(found.routes.first().map_or(i64::MAX, |route| route.reduced_cost))
+    Ok(
+        found
+            .routes
+            .first()
+            .map_or(i64::MAX, |route| route.reduced_cost),
+    )
 }
 
 /// Whether the next step of an ascent is a round of quick searches: at the root, where an exact pricing is
@@ -267,7 +279,11 @@ pub(crate) fn quick_round<'i>(
         Some(way) => (way.has_begun, way.margin),
         None => return Ok(None),
     };
-    let looks = if has_begun { pool.exact_looks } else { goal.looks / 10 * 3 };
+    let looks = if has_begun {
+        pool.exact_looks
+    } else {
+        goal.looks / 10 * 3
+    };
     quick_steps(alloc, pool, ascent, leaf, looks)?;
     let scale = scale_of(alloc, pool, ascent, leaf)?;
     let prices = prices_at(alloc, ascent, leaf, scale.min(WHOLE).saturating_sub(margin))?;

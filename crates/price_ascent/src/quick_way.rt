@@ -99,7 +99,11 @@ impl QuickWay {
     /// Learns whether a round raised the value.
     pub(crate) fn learn(&mut self, is_raised: bool) {
         self.has_begun = true;
-        self.idle = if is_raised { 0 } else { self.idle.saturating_add(1) };
+        self.idle = if is_raised {
+            0
+        } else {
+            self.idle.saturating_add(1)
+        };
     }
 
     /// Learns how far the last prices that were priced exactly missed the whole, in millionths.

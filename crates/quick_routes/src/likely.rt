@@ -71,13 +71,19 @@ fn step_to(task: &Task<'_>, v: u16, customer: u16) -> Option<LikelyStep>
     let instance = task.instance;
     let way = instance.distance(v, customer).get();
     let latest = instance.due(customer).checked_sub(way)?;
-    let arrival = instance.ready(0).saturating_add(instance.distance(0, v).get());
-    let earliest = arrival.max(instance.ready(v)).saturating_add(instance.service(v));
+    let arrival = instance
+        .ready(0)
+        .saturating_add(instance.distance(0, v).get());
+    let earliest = arrival
+        .max(instance.ready(v))
+        .saturating_add(instance.service(v));
     if v == customer || earliest > latest {
         return None;
     }
     let last = instance.due(v).saturating_add(instance.service(v));
-    let wait = instance.ready(customer).saturating_sub(last.saturating_add(way));
+    let wait = instance
+        .ready(customer)
+        .saturating_sub(last.saturating_add(way));
     let places = task.places.get(usize::from(v))?;
     Some(LikelyStep {
         latest,
@@ -117,7 +123,10 @@ fn choose_of(
     let mut steps = Vec::from_slice(alloc, all)?;
     if nearest < width.steps && width.steps < steps.len() {
         let others = &mut steps.as_mut_slice()[nearest..];
-        let _ = others.select_nth_unstable_by_key(width.steps - nearest, |step| step.far_at(prices));
+        let _ = others.select_nth_unstable_by_key(
+            width.steps - nearest,
+            |step| step.far_at(prices),
+        );
     }
     steps.truncate(width.steps);
     Ok(steps)

@@ -127,7 +127,12 @@ impl<'t, 'i> QuickSearch<'t, 'i> {
     }
 
     /// Takes a step from the label at an index.
-    fn take(&mut self, label: &QuickLabel, index: usize, step: &LikelyStep) -> Result<(), AllocError> {
+    fn take(
+        &mut self,
+        label: &QuickLabel,
+        index: usize,
+        step: &LikelyStep,
+    ) -> Result<(), AllocError> {
         let load = label.load.saturating_add(step.demand);
         let task = self.task;
         let last = task.instance.customer_count();

@@ -46,7 +46,13 @@ impl Stairs {
     }
 
     /// Drops the labels from a place on that a newer one makes needless.
-    fn drop_from(&mut self, place: usize, labels: &mut [QuickLabel], newer: &QuickLabel, most: usize) {
+    fn drop_from(
+        &mut self,
+        place: usize,
+        labels: &mut [QuickLabel],
+        newer: &QuickLabel,
+        most: usize,
+    ) {
         let mut is_any = false;
         for stair in self.stairs.iter().skip(place) {
             let is_dearer = stair.cost >= newer.cost;
@@ -74,7 +80,9 @@ impl Stairs {
         label: &QuickLabel,
         most: usize,
     ) -> Result<(bool, u64), AllocError> {
-        let place = self.stairs.partition_point(|stair| stair.time <= label.time);
+        let place = self
+            .stairs
+            .partition_point(|stair| stair.time <= label.time);
         let (is_out, met) = self.is_out(place, label, most);
         if is_out {
             return Ok((false, met));
