@@ -7,9 +7,28 @@ ghost use Rattle.leaf_arcs.specs.Arcs.{AreFreeArcs};
 use crate::arcs::AllowedArc;
 use crate::free_arcs::all_free_arcs;
 use crate::neighbours::Neighbours;
-use crate::slots::{MANY_SLOTS, MOST_LOAD_SLOTS, MOST_SLOTS, Resource, Slots};
+use crate::slots::Slots;
 use solomon_reader::Instance;
 use std::alloc::{AllocError, Global};
+
+/// How many slots of time and load a customer has in the mean, from the first level on.
+const MEANS: [u64; 3] = [32, 128, 512];
+
+/// How many levels there are at most: floors over time alone, and those with ever more over time and load.
+pub const LEVELS: usize = 4;
+
+/// The slots of time and load of each level.
+fn grids(alloc: Global, instance: &Instance) -> Result<Vec<Slots>, AllocError> {
+    let mut grids = Vec::new(alloc);
+    grids.push(Slots::none(alloc))?;
+    for mean in MEANS {
+        let slots = Slots::of_both(alloc, instance, mean)?;
+        if !slots.starts.is_empty() {
+            grids.push(slots)?;
+        }
+    }
+    Ok(grids)
+}
 
 /// What all leaves of a tree for an instance share; it is made once.
 #[derive(Drop)]
@@ -19,9 +38,8 @@ pub struct Network<'i> {
     /// The arcs from each row where nothing is decided, at prices 0.
     pub(crate) arcs: Vec<Vec<AllowedArc>>,
     pub(crate) time_slots: Slots,
-    pub(crate) load_slots: Slots,
-    /// Whether floors over load can be added.
-    pub has_load_slots: bool,
+    /// Slots of time and load by level, none at the first one.
+    pub(crate) grids: Vec<Slots>,
     ghost arcs_are: { AreFreeArcs neighbours.instance.now neighbours.k arcs.items },
 }
 
@@ -39,18 +57,20 @@ impl<'i> Network<'i> {
     {
         let neighbours = Neighbours::new(alloc, instance, k)?;
         let arcs = all_free_arcs(alloc, &neighbours)?;
-        let time_slots = Slots::new(alloc, instance, Resource::Time, leaves, MOST_SLOTS)?;
-        let mut most = MOST_LOAD_SLOTS;
-        if !time_slots.starts.is_empty() {
-            most = MANY_SLOTS.saturating_mul(u64::from(instance.customer_count()));
-        }
-        let load_slots = Slots::new(alloc, instance, Resource::Load, leaves, most)?;
+        let time_slots = Slots::of_time(alloc, instance, leaves)?;
         Ok(Network {
             neighbours,
             arcs,
             time_slots,
-            has_load_slots: !load_slots.starts.is_empty(),
-            load_slots,
+            grids: grids(alloc, instance)?,
         })
+    }
+
+    /// How many slots of time and load there are at a level; none where there is no such level.
+    pub fn slot_count(&self, level: usize) -> usize {
+        match self.grids.get(level) {
+            Some(slots) => slots.starts.len(),
+            None => 0,
+        }
     }
 }

@@ -13,12 +13,29 @@ use crate::fault::BoundFault;
 use crate::label::Label;
 use crate::steps::{close_route, is_dear, take_steps};
 use crate::table::{Table, empty_table, settle};
-use leaf_arcs::{Leaf, Task};
+use leaf_arcs::{LEVELS, Leaf, Network, Task};
 use std::alloc::Global;
 use std::mem;
 
-/// So many labels for each row are few.
-const FEW_LABELS: usize = 16;
+/// Finer floors are made once as many labels stand as a part of their slots, one in so many.
+const SLOTS_A_LABEL: usize = 4;
+
+/// Coarser floors are made for the next leaf where fewer labels stood than one in so many slots.
+const SLOTS_A_FEW: usize = 64;
+
+/// The least reduced cost of a leaf, and how fine floors of the next one are to be.
+#[derive(Clone, Copy)]
+pub(crate) struct Least {
+    pub(crate) cost: Option<i64>,
+    pub(crate) level: usize,
+}
+
+/// A least reduced cost, and how many labels stood in the end.
+#[derive(Clone, Copy)]
+struct Found {
+    cost: Option<i64>,
+    labels: usize,
+}
 
 /// Works a label: counts the route that ends there, and takes its steps.
 fn work_label(
@@ -143,36 +160,57 @@ fn least_below(
     alloc: Global,
     task: &Task<'_, '_>,
     state_limit: usize,
-) -> Result<Option<i64>, BoundFault>
-    ensures { IfOk result (λ found. IsLeastBelowIn task.now found) }
+) -> Result<Found, BoundFault>
+    ensures { IfOk result (λ found. IsLeastBelowIn task.now found.cost) }
 {
     let network = task.leaf.network;
     let capacity = network.neighbours.instance.capacity();
     let mut table = empty_table(alloc, capacity, state_limit)?;
     let start = beginning(&task.leaf);
     let best = work_label(task, &mut table, 0, &start, task.limit)?;
-    let least = sweep(task, &mut table, best)?;
-    Ok(least)
+    let cost = sweep(task, &mut table, best)?;
+    Ok(Found {
+        cost,
+        labels: table.standing,
+    })
+}
+
+/// How fine floors of the next leaf are to be.
+fn next_level(network: &Network<'_>, level: usize, labels: usize) -> usize {
+    if labels < network.slot_count(level) / SLOTS_A_FEW {
+        return level.saturating_sub(1);
+    }
+    level
 }
 
 /// The least reduced cost over all relaxed routes of a task in grains; its limit, if there is one, where no
-/// route costs less. Where there are more than a few labels, floors over load are added, too.
+/// route costs less. Floors are as fine as at a level, or finer where more than a few labels stand.
 pub(crate) fn least(
     alloc: Global,
     task: &mut Task<'_, '_>,
     state_limit: usize,
-) -> Result<Option<i64>, BoundFault>
-    ensures { IfOk result (λ found. IsLeastBelowIn task.old found) }
+    level: usize,
+) -> Result<Least, BoundFault>
+    ensures { IfOk result (λ found. IsLeastBelowIn task.old found.cost) }
 {
     let network = task.leaf.network;
-    let mut few = state_limit;
-    if network.has_load_slots {
-        few = few.min(task.rows.len().saturating_mul(FEW_LABELS));
+    for level in level..LEVELS {
+        task.add_floors(alloc, level)?;
+        let mut few = state_limit;
+        let finer = network.slot_count(level + 1);
+        if finer > 0 {
+            few = few.min(finer / SLOTS_A_LABEL);
+        }
+        match least_below(alloc, task, few) {
+            Err(BoundFault::StateLimit) if few < state_limit => {}
+            Err(fault) => return Err(fault),
+            Ok(found) => {
+                return Ok(Least {
+                    cost: found.cost,
+                    level: next_level(network, level, found.labels),
+                });
+            }
+        }
     }
-    match least_below(alloc, task, few) {
-        Err(BoundFault::StateLimit) => {}
-        result => return result,
-    }
-    task.add_load_floors(alloc)?;
-    least_below(alloc, task, state_limit)
+    Err(BoundFault::StateLimit)
 }
