@@ -21,5 +21,5 @@ pub use floor::Floor;
 pub use leaf::Leaf;
 pub use memory::{contains, is_subset};
 pub use neighbours::Neighbours;
-pub use network::{LEVELS, Network};
+pub use network::Network;
 pub use task::Task;

@@ -14,9 +14,6 @@ use std::alloc::{AllocError, Global};
 /// How many slots of time and load a customer has in the mean, from the first level on.
 const MEANS: [u64; 3] = [32, 128, 512];
 
-/// How many levels there are at most: floors over time alone, and those with ever more over time and load.
-pub const LEVELS: usize = 4;
-
 /// The slots of time and load of each level.
 fn grids(alloc: Global, instance: &Instance) -> Result<Vec<Slots>, AllocError> {
     let mut grids = Vec::new(alloc);

@@ -62,21 +62,23 @@ struct Ends {
 /// Where the floors of a row stand.
 #[derive(Clone, Copy)]
 struct RowSlots {
-    first_time: u64,
-    first_load: u64,
+    /// Where that of the time 0 and the load 0 stood, if there were one.
+    origin: u64,
     /// How many slots of load a time has.
     loads: u64,
-    /// The place of the floor of the first slot; those of later slots stand behind it.
-    place: u64,
 }
 
 /// Slots from 0 on. Each customer has one for each in which a vehicle may leave it.
 #[derive(Drop)]
 pub(crate) struct Slots {
-    lengths: Lengths,
+    /// A slot of time is 2 to the power of this in tenths.
+    time_shift: u32,
+    /// 2 to the power of 32 over the length of a slot of load, rounded up.
+    load_factor: u64,
     rows: Vec<RowSlots>,
-    /// The latest first. Each step leads from the beginning of a slot into a later one.
+    /// Each step leads from the beginning of a slot into one that stands before it.
     pub(crate) starts: Vec<Start>,
+    ghost by_time: { time_shift < 64 },
 }
 
 /// What a step from a customer to another one takes at least, in tenths.
@@ -207,49 +209,65 @@ fn both_lengths(instance: &Instance, mean: u64) -> Option<Lengths> {
     None
 }
 
-/// Adds the slots of a customer at a time.
-fn add_loads(
+/// Where the floors of each row stand: those of a time side by side, by load.
+fn row_slots(
+    alloc: Global,
+    instance: &Instance,
     lengths: Lengths,
-    ends: Ends,
-    start: Start,
-    starts: &mut Vec<Start>,
-) -> Result<(), AllocError> {
-    for slot in ends.first_load..ends.last_load.saturating_add(1) {
-        let loaded = slot.saturating_mul(lengths.load) as usize;
-        starts.push(Start {
-            loaded,
-            from: start.from,
-            row: start.row,
+) -> Result<Vec<RowSlots>, AllocError> {
+    let mut rows = Vec::new(alloc);
+    let mut place: u64 = 0;
+    rows.push(RowSlots {
+        origin: u64::MAX,
+        loads: 0,
+    })?;
+    for v in 1..instance.customer_count() + 1 {
+        let ends = ends_of(instance, lengths, v);
+        let (times, loads) = counts(ends);
+        let first = ends.first_time.saturating_mul(loads);
+        rows.push(RowSlots {
+            origin: place.wrapping_sub(first.saturating_add(ends.first_load)),
+            loads,
         })?;
+        place = place.saturating_add(times.saturating_mul(loads));
     }
-    Ok(())
+    Ok(rows)
 }
 
-/// Adds the slots of a customer.
-fn add_row(
+/// Adds the slots of a customer at a load.
+fn add_times(
     instance: &Instance,
     lengths: Lengths,
     v: u16,
-    rows: &mut Vec<RowSlots>,
+    loaded: usize,
     starts: &mut Vec<Start>,
 ) -> Result<(), AllocError>
     requires v { v < length instance.now.rows }
 {
     let ends = ends_of(instance, lengths, v);
     let earliest = instance.ready(v).saturating_add(instance.service(v));
-    rows.push(RowSlots {
-        first_time: ends.first_time,
-        first_load: ends.first_load,
-        loads: counts(ends).1,
-        place: starts.len() as u64,
-    })?;
     for slot in ends.first_time..ends.last_time.saturating_add(1) {
-        let start = Start {
-            loaded: 0,
+        starts.push(Start {
+            loaded,
             from: (slot << lengths.time_shift).max(earliest),
             row: v,
-        };
-        add_loads(lengths, ends, start, starts)?;
+        })?;
+    }
+    Ok(())
+}
+
+/// Adds the slots at a load.
+fn add_load(
+    instance: &Instance,
+    lengths: Lengths,
+    slot: u64,
+    starts: &mut Vec<Start>,
+) -> Result<(), AllocError> {
+    let loaded = slot.saturating_mul(lengths.load) as usize;
+    for v in 1..instance.customer_count() + 1 {
+        if ends_of(instance, lengths, v).first_load <= slot {
+            add_times(instance, lengths, v, loaded, starts)?;
+        }
     }
     Ok(())
 }
@@ -257,40 +275,34 @@ fn add_row(
 impl Slots {
     /// No slots.
     pub(crate) fn none(alloc: Global) -> Slots {
-        let lengths = Lengths {
-            time_shift: ONE_SLOT,
-            load: ANY_LOAD,
-        };
         Slots {
-            lengths,
+            time_shift: ONE_SLOT,
+            load_factor: 0,
             rows: Vec::new(alloc),
             starts: Vec::new(alloc),
         }
     }
 
-    /// The slots of these lengths.
+    /// The slots of these lengths, those of the greatest load first.
     fn of_lengths(
         alloc: Global,
         instance: &Instance,
         lengths: Option<Lengths>,
     ) -> Result<Slots, AllocError> {
-        let mut slots = Slots::none(alloc);
         let Some(lengths) = lengths else {
-            return Ok(slots);
+            return Ok(Slots::none(alloc));
         };
-        slots.lengths = lengths;
-        slots.rows.push(RowSlots {
-            first_time: 0,
-            first_load: 0,
-            loads: 1,
-            place: u64::MAX,
-        })?;
-        for v in 1..instance.customer_count() + 1 {
-            add_row(instance, lengths, v, &mut slots.rows, &mut slots.starts)?;
+        let last = u64::from(instance.capacity()) / lengths.load;
+        let mut starts = Vec::new(alloc);
+        for lower in 0..last.saturating_add(1) {
+            add_load(instance, lengths, last.saturating_sub(lower), &mut starts)?;
         }
-        slots.starts.sort()?;
-        slots.starts.reverse();
-        Ok(slots)
+        Ok(Slots {
+            time_shift: lengths.time_shift,
+            load_factor: (1_u64 << 32).div_ceil(lengths.load),
+            rows: row_slots(alloc, instance, lengths)?,
+            starts,
+        })
     }
 
     /// Slots of time for so many leaves: the fewer there are, the more slots; none where a step may take no
@@ -303,7 +315,10 @@ impl Slots {
     ) -> Result<Slots, AllocError> {
         let shared = SHARED_SLOTS / (leaves as u64).max(1);
         let mean = shared.max(FEW_SLOTS).min(MANY_SLOTS);
-        Slots::of_lengths(alloc, instance, time_lengths(instance, mean))
+        let mut slots = Slots::of_lengths(alloc, instance, time_lengths(instance, mean))?;
+        slots.starts.sort()?;
+        slots.starts.reverse();
+        Ok(slots)
     }
 
     /// Slots of time and load of which a customer has so many in the mean, or fewer; none where a time alone
@@ -321,10 +336,10 @@ impl Slots {
         let Some(row) = self.rows.get(usize::from(v)) else {
             return usize::MAX;
         };
-        let time_slot = (time >> self.lengths.time_shift).saturating_sub(row.first_time);
-        let load_slot = (load as u64 / self.lengths.load).saturating_sub(row.first_load);
-        row.place
-            .saturating_add(time_slot.saturating_mul(row.loads))
-            .saturating_add(load_slot) as usize
+        let load_slot = (load as u64).wrapping_mul(self.load_factor) >> 32;
+        let time_slot = time >> self.time_shift;
+        row.origin
+            .wrapping_add(time_slot.wrapping_mul(row.loads))
+            .wrapping_add(load_slot) as usize
     }
 }

@@ -22,9 +22,10 @@ pub struct Task<'a, 'i> {
     /// Where a route may go from each row.
     pub rows: Vec<ArcRow>,
     time_floors: Vec<Option<Floor>>,
-    /// Those over time and load, none until they are added, and the level of their slots.
+    /// Those over time and load, none until they are added.
     more_floors: Vec<Option<Floor>>,
-    level: usize,
+    /// The level of their slots.
+    pub level: usize,
     ghost rows_are: { AreArcRows (pricing_of leaf) rows.items },
     ghost by_time: { All (IsKnown (pricing_of leaf)) time_floors.items },
     ghost by_both: { All (IsKnown (pricing_of leaf)) more_floors.items },

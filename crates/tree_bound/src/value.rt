@@ -177,7 +177,8 @@ pub(crate) fn lesser_value(
         return Ok(Lesser { bound: 0, level });
     }
     task.limit = limit_of(setting, prices, most, known);
-    let found = least(alloc, &mut task, setting.state_limit, level)?;
+    task.add_floors(alloc, level)?;
+    let found = least(alloc, &mut task, setting.state_limit)?;
     Ok(Lesser {
         bound: u128::from(most).min(value_at(setting, prices, found.cost)) as u32,
         level: found.level,

@@ -13,7 +13,7 @@ use crate::fault::BoundFault;
 use crate::label::Label;
 use crate::steps::{close_route, is_dear, take_steps};
 use crate::table::{Table, empty_table, settle};
-use leaf_arcs::{LEVELS, Leaf, Network, Task};
+use leaf_arcs::{Leaf, Task};
 use std::alloc::Global;
 use std::mem;
 
@@ -21,20 +21,13 @@ use std::mem;
 const SLOTS_A_LABEL: usize = 4;
 
 /// Coarser floors are made for the next leaf where fewer labels stood than one in so many slots.
-const SLOTS_A_FEW: usize = 64;
+const SLOTS_A_FEW: usize = 32;
 
 /// The least reduced cost of a leaf, and how fine floors of the next one are to be.
 #[derive(Clone, Copy)]
-pub(crate) struct Least {
+pub(crate) struct LeastCost {
     pub(crate) cost: Option<i64>,
     pub(crate) level: usize,
-}
-
-/// A least reduced cost, and how many labels stood in the end.
-#[derive(Clone, Copy)]
-struct Found {
-    cost: Option<i64>,
-    labels: usize,
 }
 
 /// Works a label: counts the route that ends there, and takes its steps.
@@ -116,19 +109,35 @@ fn work_load(
     Ok(after)
 }
 
+/// Adds finer floors, if there are any, where many labels stand.
+fn refine(alloc: Global, task: &mut Task<'_, '_>, standing: usize) -> Result<(), BoundFault>
+    ensures leaf { task.new.leaf ≡ task.old.leaf }
+    ensures limit { task.new.limit ≡ task.old.limit }
+{
+    let network = task.leaf.network;
+    let finer = task.level.saturating_add(1);
+    let slots = network.slot_count(finer);
+    if slots > 0 && standing >= slots / SLOTS_A_LABEL {
+        task.add_floors(alloc, finer)?;
+    }
+    Ok(())
+}
+
 /// Works all loads from 1 on, the lowest first, so that what is settled is of no greater load than what
 /// remains, and what it dominates needn't be worked.
 fn sweep(
-    task: &Task<'_, '_>,
+    task: &mut Task<'_, '_>,
     table: &mut Table,
     best: Option<i64>,
 ) -> Result<Option<i64>, BoundFault>
-    requires { IsSweptIn task.now table.old.buckets.items [] 1 best }
-    ensures { IfOk result (λ after. (settled : List Label) × IsSweptIn task.now table.new.buckets.items settled (length table.new.buckets.items) after) }
+    requires { IsSweptIn task.old table.old.buckets.items [] 1 best }
+    ensures { let all = table.new.buckets.items in
+        IfOk result (λ after. (settled : List Label) × IsSweptIn task.old all settled (length all) after) }
 {
     let mut settled = Bucket::new(table.alloc);
     let mut best = best;
     for load in 1..table.buckets.len() {
+        refine(table.alloc, task, table.standing)?;
         best = work_load(task, table, &mut settled, load, best)?;
     }
     Ok(best)
@@ -154,14 +163,23 @@ pub(crate) fn beginning(leaf: &Leaf<'_, '_>) -> Label
     }
 }
 
+/// How fine floors of the next leaf are to be, where so many labels stood in the end.
+fn next_level(task: &Task<'_, '_>, labels: usize) -> usize {
+    let network = task.leaf.network;
+    if labels < network.slot_count(task.level) / SLOTS_A_FEW {
+        return task.level.saturating_sub(1);
+    }
+    task.level
+}
+
 /// The least reduced cost over all relaxed routes of a task in grains; its limit, if there is one, where no
 /// route costs less.
-fn least_below(
+pub(crate) fn least(
     alloc: Global,
-    task: &Task<'_, '_>,
+    task: &mut Task<'_, '_>,
     state_limit: usize,
-) -> Result<Found, BoundFault>
-    ensures { IfOk result (λ found. IsLeastBelowIn task.now found.cost) }
+) -> Result<LeastCost, BoundFault>
+    ensures { IfOk result (λ found. IsLeastBelowIn task.old found.cost) }
 {
     let network = task.leaf.network;
     let capacity = network.neighbours.instance.capacity();
@@ -169,48 +187,6 @@ fn least_below(
     let start = beginning(&task.leaf);
     let best = work_label(task, &mut table, 0, &start, task.limit)?;
     let cost = sweep(task, &mut table, best)?;
-    Ok(Found {
-        cost,
-        labels: table.standing,
-    })
-}
-
-/// How fine floors of the next leaf are to be.
-fn next_level(network: &Network<'_>, level: usize, labels: usize) -> usize {
-    if labels < network.slot_count(level) / SLOTS_A_FEW {
-        return level.saturating_sub(1);
-    }
-    level
-}
-
-/// The least reduced cost over all relaxed routes of a task in grains; its limit, if there is one, where no
-/// route costs less. Floors are as fine as at a level, or finer where more than a few labels stand.
-pub(crate) fn least(
-    alloc: Global,
-    task: &mut Task<'_, '_>,
-    state_limit: usize,
-    level: usize,
-) -> Result<Least, BoundFault>
-    ensures { IfOk result (λ found. IsLeastBelowIn task.old found.cost) }
-{
-    let network = task.leaf.network;
-    for level in level..LEVELS {
-        task.add_floors(alloc, level)?;
-        let mut few = state_limit;
-        let finer = network.slot_count(level + 1);
-        if finer > 0 {
-            few = few.min(finer / SLOTS_A_LABEL);
-        }
-        match least_below(alloc, task, few) {
-            Err(BoundFault::StateLimit) if few < state_limit => {}
-            Err(fault) => return Err(fault),
-            Ok(found) => {
-                return Ok(Least {
-                    cost: found.cost,
-                    level: next_level(network, level, found.labels),
-                });
-            }
-        }
-    }
-    Err(BoundFault::StateLimit)
+    let level = next_level(task, table.standing);
+    Ok(LeastCost { cost, level })
 }
