@@ -49,7 +49,14 @@ fn bound_at(
 {
     match &nodes[at] {
         CertNode::Leaf(prices) => {
-            let found = lesser_value(alloc, setting, path.as_slice(), prices.as_slice(), most, level)?;
+            let found = lesser_value(
+                alloc,
+                setting,
+                path.as_slice(),
+                prices.as_slice(),
+                most,
+                level,
+            )?;
             Ok(Subtree {
                 bound: found.bound,
                 next: at + 1,
@@ -70,7 +77,9 @@ fn bound_at(
                 to: *to,
                 required: false,
             })?;
-            let unused = bound_at(alloc, setting, nodes, used.next, path, used.bound, used.level)?;
+            let unused = bound_at(
+                alloc, setting, nodes, used.next, path, used.bound, used.level,
+            )?;
             path.truncate(depth);
             Ok(unused)
         }
