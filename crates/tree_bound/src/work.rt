@@ -18,7 +18,7 @@ use std::alloc::Global;
 use std::mem;
 
 /// Finer floors are made once as many labels stand as a part of their slots, one in so many.
-const SLOTS_A_LABEL: usize = 3;
+const SLOTS_A_LABEL: usize = 4;
 
 /// Coarser floors are made for the next leaf where fewer labels stood than one in so many slots.
 const SLOTS_A_FEW: usize = 32;
