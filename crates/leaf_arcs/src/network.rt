@@ -14,10 +14,17 @@ use std::alloc::{AllocError, Global};
 /// How many slots of time and load a customer has in the mean, from the first level on.
 const MEANS: [u64; 3] = [32, 128, 512];
 
-/// The slots of time and load of each level.
-fn grids(alloc: Global, instance: &Instance) -> Result<Vec<Slots>, AllocError> {
+/// Where more customers fit a vehicle in the mean, its load says little of what may follow.
+const MOST_STOPS: u32 = 25;
+
+/// The slots of time and load of each level, beside slots of time or none.
+fn grids(alloc: Global, instance: &Instance, time_slots: &Slots) -> Result<Vec<Slots>, AllocError> {
     let mut grids = Vec::new(alloc);
     grids.push(Slots::none(alloc))?;
+    let most = instance.fewest_routes().saturating_mul(MOST_STOPS);
+    if !time_slots.starts.is_empty() && u32::from(instance.customer_count()) > most {
+        return Ok(grids);
+    }
     for mean in MEANS {
         let slots = Slots::of_both(alloc, instance, mean)?;
         if !slots.starts.is_empty() {
@@ -58,8 +65,8 @@ impl<'i> Network<'i> {
         Ok(Network {
             neighbours,
             arcs,
+            grids: grids(alloc, instance, &time_slots)?,
             time_slots,
-            grids: grids(alloc, instance)?,
         })
     }
 
