@@ -1,15 +1,18 @@
 //! Turns of one worker: `turns` with an instance, a number of turns and a seed, `bound` with an instance, a number of
 //! turns and the cost of the plan to reach, in tenths. Pricings of the root: `ascent` with an instance, `labels` with an
-//! instance and a certificate.
+//! instance and a certificate. The bound of a certificate's tree: `check` with an instance and the certificate.
 #![allow(dead_code, unused)]
 
 mod arrayvec;
 mod bounding;
 mod branching;
+mod certificate;
+mod checking;
 mod fronts;
 mod gains;
 mod insertion;
 mod labelling;
+mod leaf_arcs;
 mod measuring;
 mod moves;
 mod pooled_routes;
@@ -25,6 +28,7 @@ mod segments;
 mod shim;
 mod solomon_reader;
 mod tenths;
+mod tree_bound;
 mod working_plan;
 
 use solomon_reader::Instance;
@@ -36,6 +40,7 @@ fn main() {
     match words[1].as_str() {
         "ascent" => measuring::tell_ascent(&instance),
         "labels" => measuring::tell_labels(&instance, &words[3]),
+        "check" => checking::tell(&instance, &words[3]),
         "bound" => bounding::tell(&instance, number(3) as u32, number(4)),
         _ => searching::tell(&instance, number(3) as u32, number(4)),
     }

@@ -102,6 +102,13 @@ impl<T: Clone> Vec<T> {
     }
 }
 
+impl<T: Ord> Vec<T> {
+    pub fn sort(&mut self) -> Result<(), AllocError> {
+        self.0.sort();
+        Ok(())
+    }
+}
+
 impl<T> Deref for Vec<T> {
     type Target = [T];
 

@@ -111,7 +111,9 @@ impl<'i> Neighbours<'i> {
     pub fn remember(&self, v: u16, memory: u16, j: u16) -> u16
         requires v { v < length self.now.instance.now.rows }
         requires j { j < length self.now.instance.now.rows }
-        ensures { (u : ℕ) → has_bit result (place_of self.now.instance.now self.now.k j u) ≡ remember (near self.now.instance.now self.now.k) (recalls self.now.instance.now self.now.k v memory) j u }
+        ensures { (u : ℕ) → has_bit result (place_of self.now.instance.now self.now.k j u)
+            ≡ remember (near self.now.instance.now self.now.k)
+            (recalls self.now.instance.now self.now.k v memory) j u }
     {
         let list = self.list(j);
         let mut after = insert(0, 0);

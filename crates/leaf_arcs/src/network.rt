@@ -7,9 +7,32 @@ ghost use Rattle.leaf_arcs.specs.Arcs.{AreFreeArcs};
 use crate::arcs::AllowedArc;
 use crate::free_arcs::all_free_arcs;
 use crate::neighbours::Neighbours;
-use crate::slots::{MANY_SLOTS, MOST_LOAD_SLOTS, MOST_SLOTS, Resource, Slots};
+use crate::slots::Slots;
 use solomon_reader::Instance;
 use std::alloc::{AllocError, Global};
+
+/// How many slots of time and load a customer has in the mean, from the first level on.
+const MEANS: [u64; 3] = [32, 128, 512];
+
+/// Where more customers fit a vehicle in the mean, its load says little of what may follow.
+const MOST_STOPS: u32 = 25;
+
+/// The slots of time and load of each level, beside slots of time or none.
+fn grids(alloc: Global, instance: &Instance, time_slots: &Slots) -> Result<Vec<Slots>, AllocError> {
+    let mut grids = Vec::new(alloc);
+    grids.push(Slots::none(alloc))?;
+    let most = instance.fewest_routes().saturating_mul(MOST_STOPS);
+    if !time_slots.starts.is_empty() && u32::from(instance.customer_count()) > most {
+        return Ok(grids);
+    }
+    for mean in MEANS {
+        let slots = Slots::of_both(alloc, instance, mean)?;
+        if !slots.starts.is_empty() {
+            grids.push(slots)?;
+        }
+    }
+    Ok(grids)
+}
 
 /// What all leaves of a tree for an instance share; it is made once.
 #[derive(Drop)]
@@ -19,9 +42,8 @@ pub struct Network<'i> {
     /// The arcs from each row where nothing is decided, at prices 0.
     pub(crate) arcs: Vec<Vec<AllowedArc>>,
     pub(crate) time_slots: Slots,
-    pub(crate) load_slots: Slots,
-    /// Whether floors over load can be added.
-    pub has_load_slots: bool,
+    /// Slots of time and load by level, none at the first one.
+    pub(crate) grids: Vec<Slots>,
     ghost arcs_are: { AreFreeArcs neighbours.instance.now neighbours.k arcs.items },
 }
 
@@ -39,18 +61,20 @@ impl<'i> Network<'i> {
     {
         let neighbours = Neighbours::new(alloc, instance, k)?;
         let arcs = all_free_arcs(alloc, &neighbours)?;
-        let time_slots = Slots::new(alloc, instance, Resource::Time, leaves, MOST_SLOTS)?;
-        let mut most = MOST_LOAD_SLOTS;
-        if !time_slots.starts.is_empty() {
-            most = MANY_SLOTS.saturating_mul(u64::from(instance.customer_count()));
-        }
-        let load_slots = Slots::new(alloc, instance, Resource::Load, leaves, most)?;
+        let time_slots = Slots::of_time(alloc, instance, leaves)?;
         Ok(Network {
             neighbours,
             arcs,
+            grids: grids(alloc, instance, &time_slots)?,
             time_slots,
-            has_load_slots: !load_slots.starts.is_empty(),
-            load_slots,
         })
+    }
+
+    /// How many slots of time and load there are at a level; none where there is no such level.
+    pub fn slot_count(&self, level: usize) -> usize {
+        match self.grids.get(level) {
+            Some(slots) => slots.starts.len(),
+            None => 0,
+        }
     }
 }

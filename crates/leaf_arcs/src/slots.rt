@@ -1,37 +1,32 @@
-//! The slots of time, or of load, for which floors are kept. They carry no proof: a floor is asked whether it
+//! The slots of time and load for which floors are kept. They carry no proof: a floor is asked whether it
 //! holds.
 
-ghost use Rattle.std.specs.Prelude.{◌<◌, length, IfSome};
+ghost use Rattle.std.specs.Prelude.{◌<◌, ◌≤◌, length, IfSome};
 
 use solomon_reader::Instance;
 use std::alloc::{AllocError, Global};
 
-/// The most slots that a customer has in the mean where there are many leaves, and where there is one,
-/// unless a slot were then longer than the shortest step.
+/// The most slots of time that a customer has in the mean where there are many leaves, and where there is
+/// one, unless a slot were then longer than the shortest step.
 const FEW_SLOTS: u64 = 8;
 
-pub(crate) const MANY_SLOTS: u64 = 64;
+const MANY_SLOTS: u64 = 64;
 
-/// The most slots that a customer has in the mean for all leaves together, where they have more than few.
+/// The most slots of time that a customer has in the mean for all leaves together, where they have more
+/// than few.
 const SHARED_SLOTS: u64 = 512;
 
 /// The most slots.
-pub(crate) const MOST_SLOTS: u64 = 1_000_000;
+const MOST_SLOTS: u64 = 1_000_000;
 
-/// The most slots of load, where there are none of time.
-pub(crate) const MOST_LOAD_SLOTS: u64 = 100_000;
+/// The most slots of load that a time has, unless the least demand were then less than one.
+const LOAD_SLOTS: u64 = 64;
 
-/// In place of the shift of what slots don't depend on.
-const NO_SHIFT: u32 = 63;
+/// In place of the shift where all times are in one slot.
+const ONE_SLOT: u32 = 63;
 
-/// What each step of a route adds to.
-#[derive(Clone, Copy)]
-pub(crate) enum Resource {
-    /// The time at which a vehicle leaves a customer, in tenths.
-    Time,
-    /// What is loaded.
-    Load,
-}
+/// In place of the length where all loads are in one slot.
+const ANY_LOAD: u64 = 1_000_000;
 
 /// From when on a floor holds.
 #[derive(Clone, Copy, PartialEq, Eq, PartialOrd, Ord)]
@@ -44,101 +39,155 @@ pub(crate) struct Start {
     pub(crate) row: u16,
 }
 
+/// How long slots are.
+#[derive(Clone, Copy)]
+struct Lengths {
+    /// A slot of time is 2 to the power of this in tenths.
+    time_shift: u32,
+    /// A slot of load is that long.
+    load: u64,
+    ghost by_time: { time_shift < 64 },
+    ghost by_load: { 1 ≤ load },
+}
+
+/// The first and the last slot in which a vehicle may leave a row, by time and by load.
+#[derive(Clone, Copy)]
+struct Ends {
+    first_time: u64,
+    last_time: u64,
+    first_load: u64,
+    last_load: u64,
+}
+
 /// Where the floors of a row stand.
 #[derive(Clone, Copy)]
 struct RowSlots {
-    /// The first slot.
-    first: u64,
-    /// The place of its floor; those of later slots stand behind it.
-    place: usize,
+    /// Where that of the time 0 and the load 0 stood, if there were one.
+    origin: u64,
+    /// How many slots of load a time has.
+    loads: u64,
 }
 
-/// Slots of one length, from 0 on. Each customer has one for each in which a vehicle may leave it.
+/// Slots from 0 on. Each customer has one for each in which a vehicle may leave it.
 #[derive(Drop)]
 pub(crate) struct Slots {
-    /// A slot is 2 to the power of this in tenths.
+    /// A slot of time is 2 to the power of this in tenths.
     time_shift: u32,
-    /// Or so in load.
-    load_shift: u32,
+    /// 2 to the power of 32 over the length of a slot of load, rounded up.
+    load_factor: u64,
     rows: Vec<RowSlots>,
-    /// The latest first. Each step leads from the beginning of a slot into a later one.
+    /// Each step leads from the beginning of a slot into one that stands before it.
     pub(crate) starts: Vec<Start>,
     ghost by_time: { time_shift < 64 },
-    ghost by_load: { load_shift < 64 },
 }
 
-/// What a step from a customer to another one adds at least.
-fn shortest_from(instance: &Instance, resource: Resource, i: u16) -> u64
+/// What a step from a customer to another one takes at least, in tenths.
+fn shortest_from(instance: &Instance, i: u16) -> u64
     requires { i < length instance.now.rows }
 {
     let mut shortest = u64::MAX;
     for j in 1..instance.customer_count() + 1 {
         if j != i {
-            let step = match resource {
-                Resource::Time => instance.distance(i, j).get() + instance.service(j),
-                Resource::Load => u64::from(instance.demand(j)),
-            };
-            shortest = shortest.min(step);
+            shortest = shortest.min(instance.distance(i, j).get() + instance.service(j));
         }
     }
     shortest
 }
 
-/// What a step between two customers adds at least.
-fn shortest(instance: &Instance, resource: Resource) -> u64 {
+/// What a step between two customers takes at least, in tenths.
+fn shortest(instance: &Instance) -> u64 {
     let mut shortest = u64::MAX;
     for i in 1..instance.customer_count() + 1 {
-        shortest = shortest.min(shortest_from(instance, resource, i));
+        shortest = shortest.min(shortest_from(instance, i));
     }
     shortest
 }
 
-/// The first and the last slot in which a vehicle may leave a customer.
-fn ends_of(instance: &Instance, resource: Resource, shift: u32, v: u16) -> (u64, u64)
-    requires small { shift < 64 }
+/// The least demand.
+fn least_demand(instance: &Instance) -> u64 {
+    let mut least = u64::MAX;
+    for i in 1..instance.customer_count() + 1 {
+        least = least.min(u64::from(instance.demand(i)));
+    }
+    least
+}
+
+/// The greatest common divisor of two numbers; 1 where they have none.
+fn common(a: u64, b: u64) -> u64
+    ensures { 1 ≤ result }
+{
+    let (mut a, mut b) = (a, b);
+    for _turn in 0..64 {
+        if b == 0 {
+            break;
+        }
+        (a, b) = (b, a % b);
+    }
+    a.max(1)
+}
+
+/// The length of slots of load: what divides all demands, or so many times that as leaves few slots, but no
+/// more than the least demand.
+fn load_length(instance: &Instance) -> u64
+    ensures { 1 ≤ result }
+{
+    let mut divisor = 0;
+    for i in 1..instance.customer_count() + 1 {
+        divisor = common(divisor, u64::from(instance.demand(i)));
+    }
+    let divisor = divisor.max(1);
+    let slots = u64::from(instance.capacity()) / divisor;
+    let times = (slots / LOAD_SLOTS).saturating_add(1);
+    divisor.saturating_mul(times.min(least_demand(instance) / divisor).max(1))
+}
+
+/// The first and the last slots in which a vehicle may leave a customer.
+fn ends_of(instance: &Instance, lengths: Lengths, v: u16) -> Ends
     requires v { v < length instance.now.rows }
 {
     let service = instance.service(v);
-    let (least, most) = match resource {
-        Resource::Time => (instance.ready(v) + service, instance.due(v) + service),
-        Resource::Load => (
-            u64::from(instance.demand(v)),
-            u64::from(instance.capacity()),
-        ),
-    };
-    (least >> shift, most >> shift)
+    Ends {
+        first_time: (instance.ready(v) + service) >> lengths.time_shift,
+        last_time: (instance.due(v) + service) >> lengths.time_shift,
+        first_load: u64::from(instance.demand(v)) / lengths.load,
+        last_load: u64::from(instance.capacity()) / lengths.load,
+    }
 }
 
-/// How many slots of this length all customers have.
-fn count_at(instance: &Instance, resource: Resource, shift: u32) -> u64
-    requires { shift < 64 }
-{
+/// How many slots of time, and how many of load.
+fn counts(ends: Ends) -> (u64, u64) {
+    let times = ends.last_time.saturating_sub(ends.first_time);
+    let loads = ends.last_load.saturating_sub(ends.first_load);
+    (times.saturating_add(1), loads.saturating_add(1))
+}
+
+/// How many slots of these lengths all customers have.
+fn count_at(instance: &Instance, lengths: Lengths) -> u64 {
     let mut count: u64 = 0;
     for v in 1..instance.customer_count() + 1 {
-        let (first, last) = ends_of(instance, resource, shift, v);
-        count = count
-            .saturating_add(last.saturating_sub(first))
-            .saturating_add(1);
+        let (times, loads) = counts(ends_of(instance, lengths, v));
+        count = count.saturating_add(times.saturating_mul(loads));
     }
     count
 }
 
-/// The length of a slot for so many leaves, `None` where there are to be none.
-fn shift_of(instance: &Instance, resource: Resource, leaves: usize, allowed: u64) -> Option<u32>
-    ensures { IfSome result (λ s. s < 64) }
-{
-    let shared = SHARED_SLOTS / (leaves as u64).max(1);
-    let mean = shared.max(FEW_SLOTS).min(MANY_SLOTS);
+/// The length of slots of time, where all loads are in one; `None` where there are to be none. It is no
+/// more than the shortest step.
+fn time_lengths(instance: &Instance, mean: u64) -> Option<Lengths> {
     let most = mean.saturating_mul(u64::from(instance.customer_count()));
-    let shortest = shortest(instance, resource);
+    let shortest = shortest(instance);
     if shortest == 0 {
         return None;
     }
-    for shift in 0..24 {
-        let count = count_at(instance, resource, shift);
-        let is_last = shortest >> shift < 2;
-        if count <= most || is_last && count <= allowed {
-            return Some(shift);
+    for time_shift in 0..ONE_SLOT {
+        let lengths = Lengths {
+            time_shift,
+            load: ANY_LOAD,
+        };
+        let count = count_at(instance, lengths);
+        let is_last = shortest >> time_shift < 2;
+        if count <= most || is_last && count <= MOST_SLOTS {
+            return Some(lengths);
         }
         if is_last {
             return None;
@@ -147,74 +196,139 @@ fn shift_of(instance: &Instance, resource: Resource, leaves: usize, allowed: u64
     None
 }
 
-/// Adds the slots of a customer.
-fn add_row(
+/// The lengths of slots of time and load of which a customer has so many in the mean, or fewer.
+fn both_lengths(instance: &Instance, mean: u64) -> Option<Lengths> {
+    let most = mean.saturating_mul(u64::from(instance.customer_count()));
+    let load = load_length(instance);
+    for time_shift in 0..ONE_SLOT {
+        let lengths = Lengths { time_shift, load };
+        if count_at(instance, lengths) <= most {
+            return Some(lengths);
+        }
+    }
+    None
+}
+
+/// Where the floors of each row stand: those of a time side by side, by load.
+fn row_slots(
+    alloc: Global,
     instance: &Instance,
-    resource: Resource,
-    shift: u32,
+    lengths: Lengths,
+) -> Result<Vec<RowSlots>, AllocError> {
+    let mut rows = Vec::new(alloc);
+    let mut place: u64 = 0;
+    rows.push(RowSlots {
+        origin: u64::MAX,
+        loads: 0,
+    })?;
+    for v in 1..instance.customer_count() + 1 {
+        let ends = ends_of(instance, lengths, v);
+        let (times, loads) = counts(ends);
+        let first = ends.first_time.saturating_mul(loads);
+        rows.push(RowSlots {
+            origin: place.wrapping_sub(first.saturating_add(ends.first_load)),
+            loads,
+        })?;
+        place = place.saturating_add(times.saturating_mul(loads));
+    }
+    Ok(rows)
+}
+
+/// Adds the slots of a customer at a load.
+fn add_times(
+    instance: &Instance,
+    lengths: Lengths,
     v: u16,
-    rows: &mut Vec<RowSlots>,
+    loaded: usize,
     starts: &mut Vec<Start>,
 ) -> Result<(), AllocError>
-    requires small { shift < 64 }
     requires v { v < length instance.now.rows }
 {
-    let (first, last) = ends_of(instance, resource, shift, v);
+    let ends = ends_of(instance, lengths, v);
     let earliest = instance.ready(v).saturating_add(instance.service(v));
-    let place = starts.len();
-    rows.push(RowSlots { first, place })?;
-    for slot in first..last.saturating_add(1) {
-        let least = slot << shift;
-        let (loaded, from) = match resource {
-            Resource::Time => (0, least.max(earliest)),
-            Resource::Load => (least as usize, earliest),
-        };
-        let row = v;
-        starts.push(Start { loaded, from, row })?;
+    for slot in ends.first_time..ends.last_time.saturating_add(1) {
+        starts.push(Start {
+            loaded,
+            from: (slot << lengths.time_shift).max(earliest),
+            row: v,
+        })?;
+    }
+    Ok(())
+}
+
+/// Adds the slots at a load.
+fn add_load(
+    instance: &Instance,
+    lengths: Lengths,
+    slot: u64,
+    starts: &mut Vec<Start>,
+) -> Result<(), AllocError> {
+    let loaded = slot.saturating_mul(lengths.load) as usize;
+    for v in 1..instance.customer_count() + 1 {
+        if ends_of(instance, lengths, v).first_load <= slot {
+            add_times(instance, lengths, v, loaded, starts)?;
+        }
     }
     Ok(())
 }
 
 impl Slots {
-    /// The slots of an instance for so many leaves: the fewer there are, the more slots; none where a step
-    /// may add nothing, or there were more than are allowed. No contract: any slots are sound, since a floor is
-    /// asked for its row, time and load.
-    pub(crate) fn new(
+    /// No slots.
+    pub(crate) fn none(alloc: Global) -> Slots {
+        Slots {
+            time_shift: ONE_SLOT,
+            load_factor: 0,
+            rows: Vec::new(alloc),
+            starts: Vec::new(alloc),
+        }
+    }
+
+    /// The slots of these lengths, those of the greatest load first.
+    fn of_lengths(
         alloc: Global,
         instance: &Instance,
-        resource: Resource,
-        leaves: usize,
-        allowed: u64,
+        lengths: Option<Lengths>,
     ) -> Result<Slots, AllocError> {
-        let mut rows = Vec::new(alloc);
+        let Some(lengths) = lengths else {
+            return Ok(Slots::none(alloc));
+        };
+        let last = u64::from(instance.capacity()) / lengths.load;
         let mut starts = Vec::new(alloc);
-        let Some(shift) = shift_of(instance, resource, leaves, allowed) else {
-            return Ok(Slots {
-                time_shift: NO_SHIFT,
-                load_shift: NO_SHIFT,
-                rows,
-                starts,
-            });
-        };
-        rows.push(RowSlots {
-            first: 0,
-            place: usize::MAX,
-        })?;
-        for v in 1..instance.customer_count() + 1 {
-            add_row(instance, resource, shift, v, &mut rows, &mut starts)?;
+        for lower in 0..last.saturating_add(1) {
+            add_load(instance, lengths, last.saturating_sub(lower), &mut starts)?;
         }
-        starts.sort()?;
-        starts.reverse();
-        let (time_shift, load_shift) = match resource {
-            Resource::Time => (shift, NO_SHIFT),
-            Resource::Load => (NO_SHIFT, shift),
-        };
         Ok(Slots {
-            time_shift,
-            load_shift,
-            rows,
+            time_shift: lengths.time_shift,
+            load_factor: (1_u64 << 32).div_ceil(lengths.load),
+            rows: row_slots(alloc, instance, lengths)?,
             starts,
         })
+    }
+
+    /// Slots of time for so many leaves: the fewer there are, the more slots; none where a step may take no
+    /// time, or there were more than are allowed. No contract: any slots are sound, since a floor is asked
+    /// for its row, time and load.
+    pub(crate) fn of_time(
+        alloc: Global,
+        instance: &Instance,
+        leaves: usize,
+    ) -> Result<Slots, AllocError> {
+        let shared = SHARED_SLOTS / (leaves as u64).max(1);
+        let mean = shared.max(FEW_SLOTS).min(MANY_SLOTS);
+        let mut slots = Slots::of_lengths(alloc, instance, time_lengths(instance, mean))?;
+        slots.starts.sort()?;
+        slots.starts.reverse();
+        Ok(slots)
+    }
+
+    /// Slots of time and load of which a customer has so many in the mean, or fewer; none where a time alone
+    /// has more. Each step adds a slot of load or more.
+    pub(crate) fn of_both(
+        alloc: Global,
+        instance: &Instance,
+        mean: u64,
+    ) -> Result<Slots, AllocError> {
+        Slots::of_lengths(alloc, instance, both_lengths(instance, mean))
     }
 
     /// The place of the floor of a row at a time and a load.
@@ -222,8 +336,10 @@ impl Slots {
         let Some(row) = self.rows.get(usize::from(v)) else {
             return usize::MAX;
         };
-        let slot = (time >> self.time_shift).saturating_add(load as u64 >> self.load_shift);
-        row.place
-            .saturating_add(slot.saturating_sub(row.first) as usize)
+        let load_slot = (load as u64).wrapping_mul(self.load_factor) >> 32;
+        let time_slot = time >> self.time_shift;
+        row.origin
+            .wrapping_add(time_slot.wrapping_mul(row.loads))
+            .wrapping_add(load_slot) as usize
     }
 }

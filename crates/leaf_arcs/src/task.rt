@@ -22,11 +22,13 @@ pub struct Task<'a, 'i> {
     /// Where a route may go from each row.
     pub rows: Vec<ArcRow>,
     time_floors: Vec<Option<Floor>>,
-    /// None until they are added.
-    load_floors: Vec<Option<Floor>>,
+    /// Those over time and load, none until they are added.
+    more_floors: Vec<Option<Floor>>,
+    /// The level of their slots.
+    pub level: usize,
     ghost rows_are: { AreArcRows (pricing_of leaf) rows.items },
     ghost by_time: { All (IsKnown (pricing_of leaf)) time_floors.items },
-    ghost by_load: { All (IsKnown (pricing_of leaf)) load_floors.items },
+    ghost by_both: { All (IsKnown (pricing_of leaf)) more_floors.items },
 }
 
 impl<'a, 'i> Task<'a, 'i> {
@@ -43,18 +45,23 @@ impl<'a, 'i> Task<'a, 'i> {
             limit: None,
             rows,
             time_floors,
-            load_floors: Vec::new(alloc),
+            more_floors: Vec::new(alloc),
+            level: 0,
         })
     }
 
-    /// Adds floors over load.
-    pub fn add_load_floors(&mut self, alloc: Global) -> Result<(), AllocError>
+    /// Adds floors over time and load, with slots of a level.
+    pub fn add_floors(&mut self, alloc: Global, level: usize) -> Result<(), AllocError>
         ensures leaf { self.new.leaf ≡ self.old.leaf }
         ensures limit { self.new.limit ≡ self.old.limit }
     {
         let network = self.leaf.network;
+        let Some(slots) = network.grids.get(level) else {
+            return Ok(());
+        };
         let rows = self.rows.as_slice();
-        self.load_floors = floors_of(alloc, &self.leaf, rows, &network.load_slots)?;
+        self.more_floors = floors_of(alloc, &self.leaf, rows, slots)?;
+        self.level = level;
         Ok(())
     }
 
@@ -68,16 +75,17 @@ impl<'a, 'i> Task<'a, 'i> {
         floor_at(&self.leaf, floors, place, row, time, load)
     }
 
-    /// The floor over load that holds of a row at a time and a load, if one is known.
-    pub fn load_floor_at(&self, row: u16, time: u64, load: usize) -> Option<Floor>
+    /// The floor over time and load that holds of a row at a time and a load, if one is known.
+    pub fn near_floor_at(&self, row: u16, time: u64, load: usize) -> Option<Floor>
         ensures { IfSome result (λ f. IsFloor (pricing_of self.now.leaf) row time load f) }
     {
-        if self.load_floors.is_empty() {
+        let network = self.leaf.network;
+        let slots = network.grids.get(self.level)?;
+        let floors = self.more_floors.as_slice();
+        if floors.is_empty() {
             return None;
         }
-        let network = self.leaf.network;
-        let place = network.load_slots.place(row, time, load);
-        let floors = self.load_floors.as_slice();
+        let place = slots.place(row, time, load);
         floor_at(&self.leaf, floors, place, row, time, load)
     }
 }

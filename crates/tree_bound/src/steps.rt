@@ -110,8 +110,8 @@ pub(crate) fn is_dear(task: &Task<'_, '_>, load: usize, label: &Label, best: Opt
             return true;
         }
     }
-    let by_load = task.load_floor_at(label.customer, label.time, load);
-    match floor_of(task, by_load, load, label) {
+    let by_both = task.near_floor_at(label.customer, label.time, load);
+    match floor_of(task, by_both, load, label) {
         Some(more) => is_dear_with(best, label.cost, more),
         None => false,
     }
@@ -139,7 +139,7 @@ fn is_dear_step(
             return true;
         }
     }
-    match task.load_floor_at(arc.to, time, load) {
+    match task.near_floor_at(arc.to, time, load) {
         Some(floor) => is_dear_with(best, cost, floor.least),
         None => false,
     }

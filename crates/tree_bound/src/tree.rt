@@ -19,11 +19,13 @@ use solomon_reader::Instance;
 use std::alloc::Global;
 use tenths::Tenths;
 
-/// The least of a number of tenths and a tree's bound, and the index after the tree's nodes.
+/// The least of a number of tenths and a tree's bound, the index after the tree's nodes, and how fine floors
+/// of the next leaf are to be.
 #[derive(Clone, Copy)]
 struct Subtree {
     bound: u32,
     next: usize,
+    level: usize,
 }
 
 /// The lesser of a number of tenths and the bound of the tree whose nodes begin at an index, below the
@@ -35,6 +37,7 @@ fn bound_at(
     at: usize,
     path: &mut Vec<Decision>,
     most: u32,
+    level: usize,
 ) -> Result<Subtree, BoundFault>
     requires most { most ≤ setting.now.most }
     requires within { at < length nodes.now }
@@ -46,9 +49,19 @@ fn bound_at(
 {
     match &nodes[at] {
         CertNode::Leaf(prices) => {
-            let bound = lesser_value(alloc, setting, path.as_slice(), prices.as_slice(), most)?;
-            let next = at + 1;
-            Ok(Subtree { bound, next })
+            let found = lesser_value(
+                alloc,
+                setting,
+                path.as_slice(),
+                prices.as_slice(),
+                most,
+                level,
+            )?;
+            Ok(Subtree {
+                bound: found.bound,
+                next: at + 1,
+                level: found.level,
+            })
         }
         CertNode::Split { from, to } => {
             let depth = path.len();
@@ -57,14 +70,16 @@ fn bound_at(
                 to: *to,
                 required: true,
             })?;
-            let used = bound_at(alloc, setting, nodes, at + 1, path, most)?;
+            let used = bound_at(alloc, setting, nodes, at + 1, path, most, level)?;
             path.truncate(depth);
             path.push(Decision {
                 from: *from,
                 to: *to,
                 required: false,
             })?;
-            let unused = bound_at(alloc, setting, nodes, used.next, path, used.bound)?;
+            let unused = bound_at(
+                alloc, setting, nodes, used.next, path, used.bound, used.level,
+            )?;
             path.truncate(depth);
             Ok(unused)
         }
@@ -96,6 +111,6 @@ pub fn bound(
     let setting = Setting::new(alloc, instance, cert, state_limit)?;
     let nodes = cert.parts().nodes.as_slice();
     let mut path = Vec::new(alloc);
-    let whole = bound_at(alloc, &setting, nodes, 0, &mut path, setting.most)?;
+    let whole = bound_at(alloc, &setting, nodes, 0, &mut path, setting.most, 0)?;
     Ok(Tenths::from(whole.bound))
 }

@@ -142,6 +142,13 @@ fn lowered(setting: &Setting<'_>, prices: &[i64], most: u32, known: Option<i64>)
     u128::from(most).min(value_at(setting, prices, known)) as u32
 }
 
+/// The lesser of a number of tenths and the value of a leaf, and how fine floors of the next one are to be.
+#[derive(Clone, Copy)]
+pub(crate) struct Lesser {
+    pub(crate) bound: u32,
+    pub(crate) level: usize,
+}
+
 /// The lesser of a number of tenths and the value of the leaf with these decisions on its path and these
 /// prices. Where the value isn't less, it isn't found.
 pub(crate) fn lesser_value(
@@ -150,10 +157,11 @@ pub(crate) fn lesser_value(
     path: &[Decision],
     prices: &[i64],
     most: u32,
-) -> Result<u32, BoundFault>
+    level: usize,
+) -> Result<Lesser, BoundFault>
     requires count { length prices.now ≡ customer_count setting.now.network.neighbours.instance.now }
     requires priced { AllByRecursion IsPrice prices.now }
-    ensures { IfOk result (λ b. IsLesserValue (version_of setting.now.version) setting.now.network.neighbours.instance.now (region_of (customer_count setting.now.network.neighbours.instance.now) path.now) setting.now.network.neighbours.k prices.now most b) }
+    ensures { IfOk result (λ b. IsLesserValue (version_of setting.now.version) setting.now.network.neighbours.instance.now (region_of (customer_count setting.now.network.neighbours.instance.now) path.now) setting.now.network.neighbours.k prices.now most b.bound) }
 {
     let network = &setting.network;
     network.neighbours.instance.law_of_limits();
@@ -166,9 +174,13 @@ pub(crate) fn lesser_value(
     let known = dive(&task);
     let most = lowered(setting, prices, most, known);
     if most == 0 {
-        return Ok(0);
+        return Ok(Lesser { bound: 0, level });
     }
     task.limit = limit_of(setting, prices, most, known);
+    task.add_floors(alloc, level)?;
     let found = least(alloc, &mut task, setting.state_limit)?;
-    Ok(u128::from(most).min(value_at(setting, prices, found)) as u32)
+    Ok(Lesser {
+        bound: u128::from(most).min(value_at(setting, prices, found.cost)) as u32,
+        level: found.level,
+    })
 }

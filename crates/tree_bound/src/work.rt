@@ -17,8 +17,18 @@ use leaf_arcs::{Leaf, Task};
 use std::alloc::Global;
 use std::mem;
 
-/// So many labels for each row are few.
-const FEW_LABELS: usize = 16;
+/// Finer floors are made once as many labels stand as a part of their slots, one in so many.
+const SLOTS_A_LABEL: usize = 4;
+
+/// Coarser floors are made for the next leaf where fewer labels stood than one in so many slots.
+const SLOTS_A_FEW: usize = 32;
+
+/// The least reduced cost of a leaf, and how fine floors of the next one are to be.
+#[derive(Clone, Copy)]
+pub(crate) struct LeastCost {
+    pub(crate) cost: Option<i64>,
+    pub(crate) level: usize,
+}
 
 /// Works a label: counts the route that ends there, and takes its steps.
 fn work_label(
@@ -99,19 +109,35 @@ fn work_load(
     Ok(after)
 }
 
+/// Adds finer floors, if there are any, where many labels stand.
+fn refine(alloc: Global, task: &mut Task<'_, '_>, standing: usize) -> Result<(), BoundFault>
+    ensures leaf { task.new.leaf ≡ task.old.leaf }
+    ensures limit { task.new.limit ≡ task.old.limit }
+{
+    let network = task.leaf.network;
+    let finer = task.level.saturating_add(1);
+    let slots = network.slot_count(finer);
+    if slots > 0 && standing >= slots / SLOTS_A_LABEL {
+        task.add_floors(alloc, finer)?;
+    }
+    Ok(())
+}
+
 /// Works all loads from 1 on, the lowest first, so that what is settled is of no greater load than what
 /// remains, and what it dominates needn't be worked.
 fn sweep(
-    task: &Task<'_, '_>,
+    task: &mut Task<'_, '_>,
     table: &mut Table,
     best: Option<i64>,
 ) -> Result<Option<i64>, BoundFault>
-    requires { IsSweptIn task.now table.old.buckets.items [] 1 best }
-    ensures { IfOk result (λ after. (settled : List Label) × IsSweptIn task.now table.new.buckets.items settled (length table.new.buckets.items) after) }
+    requires { IsSweptIn task.old table.old.buckets.items [] 1 best }
+    ensures { let all = table.new.buckets.items in
+        IfOk result (λ after. (settled : List Label) × IsSweptIn task.old all settled (length all) after) }
 {
     let mut settled = Bucket::new(table.alloc);
     let mut best = best;
     for load in 1..table.buckets.len() {
+        refine(table.alloc, task, table.standing)?;
         best = work_load(task, table, &mut settled, load, best)?;
     }
     Ok(best)
@@ -137,42 +163,30 @@ pub(crate) fn beginning(leaf: &Leaf<'_, '_>) -> Label
     }
 }
 
+/// How fine floors of the next leaf are to be, where so many labels stood in the end.
+fn next_level(task: &Task<'_, '_>, labels: usize) -> usize {
+    let network = task.leaf.network;
+    if labels < network.slot_count(task.level) / SLOTS_A_FEW {
+        return task.level.saturating_sub(1);
+    }
+    task.level
+}
+
 /// The least reduced cost over all relaxed routes of a task in grains; its limit, if there is one, where no
 /// route costs less.
-fn least_below(
+pub(crate) fn least(
     alloc: Global,
-    task: &Task<'_, '_>,
+    task: &mut Task<'_, '_>,
     state_limit: usize,
-) -> Result<Option<i64>, BoundFault>
-    ensures { IfOk result (λ found. IsLeastBelowIn task.now found) }
+) -> Result<LeastCost, BoundFault>
+    ensures { IfOk result (λ found. IsLeastBelowIn task.old found.cost) }
 {
     let network = task.leaf.network;
     let capacity = network.neighbours.instance.capacity();
     let mut table = empty_table(alloc, capacity, state_limit)?;
     let start = beginning(&task.leaf);
     let best = work_label(task, &mut table, 0, &start, task.limit)?;
-    let least = sweep(task, &mut table, best)?;
-    Ok(least)
-}
-
-/// The least reduced cost over all relaxed routes of a task in grains; its limit, if there is one, where no
-/// route costs less. Where there are more than a few labels, floors over load are added, too.
-pub(crate) fn least(
-    alloc: Global,
-    task: &mut Task<'_, '_>,
-    state_limit: usize,
-) -> Result<Option<i64>, BoundFault>
-    ensures { IfOk result (λ found. IsLeastBelowIn task.old found) }
-{
-    let network = task.leaf.network;
-    let mut few = state_limit;
-    if network.has_load_slots {
-        few = few.min(task.rows.len().saturating_mul(FEW_LABELS));
-    }
-    match least_below(alloc, task, few) {
-        Err(BoundFault::StateLimit) => {}
-        result => return result,
-    }
-    task.add_load_floors(alloc)?;
-    least_below(alloc, task, state_limit)
+    let cost = sweep(task, &mut table, best)?;
+    let level = next_level(task, table.standing);
+    Ok(LeastCost { cost, level })
 }

@@ -13,10 +13,10 @@ pub lesser_value-requires-clause-priced : goal.lesser_value-requires-clause-pric
 lesser_value-requires-clause-priced t c = rw c.as_slice-in-Leaf.ensures.value
     ((leaf_at (version_of c.args.setting.now.version) c.args.setting.now.network.neighbours.instance.now c.args.setting.now.network.neighbours.k c.args.path.now.items c.args.nodes.now c.args.at c.index-nodes-at.result c.requires.within c.index-nodes-at.is c.requires.begins c.in-Leaf.prices.items (ap node_of c.in-Leaf.is)).1)
 
-pub returns-in_ok-bound-in-Leaf-clause-bound : goal.returns-in_ok-bound-in-Leaf-clause-bound
-returns-in_ok-bound-in-Leaf-clause-bound t c =
+pub returns-in_ok-found-in-Leaf-clause-bound : goal.returns-in_ok-found-in-Leaf-clause-bound
+returns-in_ok-found-in-Leaf-clause-bound t c =
     leaf_bound_at (version_of c.args.setting.now.version) c.args.setting.now.network.neighbours.instance.now c.args.setting.now.network.neighbours.k c.args.path.now.items c.args.nodes.now c.args.at c.index-nodes-at.result c.requires.within c.index-nodes-at.is c.requires.begins c.in-Leaf.prices.items
-    c.args.most c.in_ok-bound-in-Leaf.bound (ap node_of c.in-Leaf.is) (omega (arith, c.requires.most, c.args.setting.now.most_is)) (rw (c.as_slice.ensures.value, c.as_slice-in-Leaf.ensures.value) at c.in_ok-bound-in-Leaf.ensures)
+    c.args.most c.in_ok-found-in-Leaf.found.bound (ap node_of c.in-Leaf.is) (omega (arith, c.requires.most, c.args.setting.now.most_is)) (rw (c.as_slice.ensures.value, c.as_slice-in-Leaf.ensures.value) at c.in_ok-found-in-Leaf.ensures)
 
 pub bound_at-requires : goal.bound_at-requires
 bound_at-requires t c =

@@ -26,4 +26,4 @@ returns c =
     let known = found_cost q c.dive-known.result (rw c.in_ok-task.ensures.leaf at c.dive-known.ensures) in
     rw (c.min.ensures, c.from.ensures)
     (lesser_found _ q least.0 least.1 c.args.most c.lowered-most.result c.dive-known.result c.requires.count known c.lowered-most.ensures c.limit_of-task.result
-    c.in_ok-found.found c.value_at.result (rw c.in_ok-task.ensures.leaf at c.in_ok-found.ensures) c.limit_of-task.ensures.worth c.limit_of-task.ensures.routeless c.value_at.ensures)
+    c.in_ok-found.found.cost c.value_at.result (rw (c.in_ok-add_floors.ensures.leaf, c.in_ok-add_floors.ensures.limit, c.in_ok-task.ensures.leaf) at c.in_ok-found.ensures) c.limit_of-task.ensures.worth c.limit_of-task.ensures.routeless c.value_at.ensures)
