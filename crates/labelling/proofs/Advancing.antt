@@ -13,18 +13,18 @@ use Rattle.solomon_reader.specs.Region.{IsAllowed}
 use Rattle.solomon_reader.specs.States.{Pricing, State, start, step, CanStep, CanEnd, IsAtMost}
 use Rattle.solomon_reader.proofs.Completions.{reaches_none, reaches_more, at_most_more}
 use Rattle.labelling.specs.declared.least_cost.Least.{Least}
-use Rattle.labelling.specs.declared.best.Best.{Best}
-use Rattle.labelling.specs.declared.label.Label.{Label}
+use Rattle.labels.specs.declared.best.Best.{Best}
+use Rattle.labels.specs.declared.label.Label.{Label}
 use Rattle.labelling.specs.Answer.{IsLeastOf}
-use Rattle.labelling.specs.Arena.{label_in, state_at, trace, IsLabel, IsArena, IsPending, HasActive, HasPending, IsDominated, inactive, IsPruned, IsExtension, IsAdded, IsSameStop, IsLater, IsGrown, IsMoved, IsMet, TakesStep, TakesSteps, CountsEnd, EndsAt, IsAttained, IsComplete, IsOnward, NonePending, IsAnswer, IsInList, IsFirst, blank}
-use Rattle.labelling.specs.Cover.{CoversAll, Carries, IsCounted, IsPassed}
+use Rattle.labels.specs.Arena.{label_in, state_at, trace, IsLabel, IsArena, IsPending, HasActive, HasPending, IsDominated, inactive, IsPruned, IsExtension, IsAdded, IsSameStop, IsLater, IsGrown, IsMoved, IsMet, TakesStep, TakesSteps, CountsEnd, EndsAt, IsAttained, IsComplete, IsOnward, NonePending, IsAnswer, IsInList, IsFirst, blank}
+use Rattle.labels.specs.Cover.{CoversAll, Carries, IsCounted, IsPassed}
 use Rattle.fronts.specs.Fronts.{end_cost, IsBounded, IsStart, IsAfter}
 use Rattle.fronts.specs.Steps.{IsReachable}
 use Rattle.fronts.proofs.Stepping.{can_reach}
 use Rattle.fronts.specs.declared.front.Front.{Front}
 use Rattle.solomon_reader.specs.Memories.{place_of}
 use Rattle.solomon_reader.proofs.Goodness.{reaches_same}
-use Rattle.labelling.proofs.Carrying.{carries_itself, carries_same, carries_through}
+use Rattle.labels.proofs.Carrying.{carries_itself, carries_same, carries_through}
 use Rattle.labelling.proofs.Cover.{covers_grown, covers_retired, least_at_end}
 use Rattle.labelling.proofs.Ends.{IsReached, least_value, least_route}
 

@@ -4,7 +4,7 @@ use Rattle.std.specs.Prelude.{ℤ, ◌≤ℤ◌}
 use Rattle.std.proofs.lemmas.Int.{ints}
 use Rattle.solomon_reader.specs.Relaxed.{IsRelaxed, reduced_cost}
 use Rattle.solomon_reader.specs.States.{Pricing, State, start, step, CanStep, CanEnd, Completes, value_with, IsAtMost}
-use Rattle.labelling.specs.Cover.{IsCovered, CoversAll, Carries, IsCounted}
+use Rattle.labels.specs.Cover.{IsCovered, CoversAll, Carries, IsCounted}
 use Rattle.solomon_reader.proofs.Completions.{completes_relaxed, value_is, at_most_more}
 
 module _ (q : Pricing) where

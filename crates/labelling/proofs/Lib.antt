@@ -1,4 +1,3 @@
 pub mod Ends
-pub mod Carrying
 pub mod Cover
 pub mod Advancing

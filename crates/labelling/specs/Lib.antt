@@ -1,4 +1,2 @@
 pub mod Answer
-pub mod Arena
-pub mod Cover
 pub mod Search

@@ -1,12 +1,11 @@
 -- How far a labeller has come.
 use Rattle.std.specs.Prelude.{◌≡◌, ◌≢◌, ℕ, ◌<◌, List, length, ℤ, Option, None, Result, MatchOption, OnOk, IfErr, IsTrue, ◌+ℤ◌, ◌≤ℤ◌}
-use Rattle.fronts.specs.declared.completions.Completions.{Completions}
 use Rattle.fronts.specs.declared.task.Task.{Task}
 use Rattle.labelling.specs.declared.fault.LabelFault.{LabelFault}
 use Rattle.labelling.specs.declared.fault.LabelFault.TheVariants.{LabelLimit}
-use Rattle.labelling.specs.declared.label.Label.{Label}
+use Rattle.labels.specs.declared.label.Label.{Label}
 use Rattle.labelling.specs.declared.labeller.Labeller.{Labeller}
-use Rattle.labelling.specs.Arena.{label_in, state_at, IsDominated, IsPruned, IsAdded, IsSameStop, TakesStep, TakesSteps, IsComplete}
+use Rattle.labels.specs.Arena.{label_in, state_at, IsAdded, IsSameStop, TakesStep, TakesSteps, IsComplete}
 use Rattle.solomon_reader.specs.Problem.{IsCustomer}
 use Rattle.solomon_reader.specs.States.{Pricing, CanEnd, Completes, value_with}
 use Rattle.fronts.specs.Completions.{IsCut}
@@ -28,14 +27,6 @@ pub record IsSameTask (v w : Labeller) : Type 0 where
 pub record StandsAt (xs : List Label) (index : ℕ) (l : Label) : Type 0 where
   pub within : index < length xs
   pub here : IsSameStop (label_in xs index) l
-
--- all that may come after x may come after an active label, at no greater cost
-abbrev pub IsDominatedIn : Completions → List Label → Label → Type 0
-IsDominatedIn c xs x = IsDominated (pricing_of c.task.now) xs (state_at (pricing_of c.task.now) x)
-
--- labels that x dominates were dropped
-abbrev pub IsPrunedIn : Completions → List Label → List Label → Label → Type 0
-IsPrunedIn c xs ys x = IsPruned (pricing_of c.task.now) xs ys (state_at (pricing_of c.task.now) x)
 
 -- x was added to the labels, or one of them dominates it
 abbrev pub IsAddedTo : Labeller → Labeller → Label → Type 0

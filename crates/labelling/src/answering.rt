@@ -2,17 +2,16 @@
 
 ghost use Rattle.std.specs.Prelude.{◌≡◌, ◌≢◌, ℕ, ◌<◌, length, IfOk, IfErr, None};
 ghost use Rattle.labelling.specs.Answer.{IsLeastOf};
-ghost use Rattle.labelling.specs.Arena.{label_in, trace, IsInList, IsAnswer};
+ghost use Rattle.labels.specs.Arena.{label_in, trace, IsInList, IsAnswer};
 ghost use Rattle.labelling.specs.Search.{pricing_in, LosesNothing};
 ghost use Rattle.labelling.specs.declared.fault.LabelFault.TheVariants.{LabelLimit};
 
-use crate::best::Best;
 use crate::fault::LabelFault;
 use crate::hints::Hints;
-use crate::label::Label;
 use crate::labeller::Labeller;
 use crate::least_cost::Least;
 use crate::route_ends::cheapest;
+use labels::{Best, Label};
 use std::alloc::{AllocError, Global};
 
 /// A step takes about as long as so many looks.

@@ -1,7 +1,7 @@
 //! The order in which labels are extended.
 
 ghost use Rattle.std.specs.Prelude.{◌≡◌, length, OnOk};
-ghost use Rattle.labelling.specs.Arena.{IsOnward, NonePending};
+ghost use Rattle.labels.specs.Arena.{IsOnward, NonePending};
 ghost use Rattle.labelling.specs.Search.{Continues, GoesOn, LosesNothing};
 
 use crate::fault::LabelFault;

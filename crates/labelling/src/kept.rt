@@ -1,7 +1,7 @@
 //! What a search hands on to later ones.
 
-use crate::lookup::Lookup;
 use fronts::Nearness;
+use labels::Lookup;
 
 /// What a search for the least reduced cost hands on to later ones of the same instance. No contract speaks of
 /// it: it decides only how fast an answer is found, and what doesn't fit another instance isn't used there.
@@ -16,7 +16,7 @@ pub struct Kept<'i> {
 }
 
 impl<'i> Kept<'i> {
-    /// What the first search has. It takes no memory.
+    /// What the first search has. It takes no memory. No contract: it decides only how fast an answer is found.
     pub fn nothing() -> Kept<'i> {
         Kept {
             nearness: None,
@@ -25,7 +25,7 @@ impl<'i> Kept<'i> {
         }
     }
 
-    /// Takes out what is kept, and leaves nothing.
+    /// Takes out what is kept, and leaves nothing. No contract: as for `nothing`.
     pub fn take(&mut self) -> Kept<'i> {
         Kept {
             nearness: self.nearness.take(),

@@ -2,19 +2,16 @@
 
 ghost use Rattle.std.specs.Prelude.{◌≡◌, ◌≢◌, ◌≤◌, OnOk, IfOk, IsTrue, IsFalse, None, ℤ, ◌≤ℤ◌};
 ghost use Rattle.solomon_reader.specs.States.{IsAtMost};
-ghost use Rattle.labelling.specs.Arena.{state_at, IsFirst};
-ghost use Rattle.labelling.specs.Cover.{IsCounted, IsPassed};
+ghost use Rattle.labels.specs.Arena.{state_at, IsFirst};
+ghost use Rattle.labels.specs.Cover.{IsCounted, IsPassed};
 ghost use Rattle.fronts.specs.Completions.{IsBound};
 ghost use Rattle.fronts.specs.Fronts.{IsBounded};
 ghost use Rattle.labelling.specs.Search.{task_of, pricing_in, KeepsBest, Continues, IsAddedTo, Recalls, AddsAtLeast, LosesNothing};
 
-use crate::best::Best;
-use crate::customer_labels::Entry;
 use crate::fault::LabelFault;
-use crate::label::Label;
-use crate::lookup::Lookup;
 use crate::route_ends::RouteEnd;
 use fronts::{Bound, Completions, Front, LIST_SIZE, Memory};
+use labels::{Best, Entry, Label, Lookup};
 use solomon_reader::Instance;
 use std::alloc::{AllocError, Global};
 

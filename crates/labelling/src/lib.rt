@@ -3,18 +3,13 @@
 #![tactic(auto)]
 
 mod answering;
-mod best;
-mod buckets;
-mod customer_labels;
 mod extending;
 mod fault;
 mod following;
 mod hints;
 mod kept;
-mod label;
 mod labeller;
 mod least_cost;
-mod lookup;
 mod pricing;
 mod route_ends;
 mod stepping;

@@ -2,16 +2,15 @@
 
 ghost use Rattle.std.specs.Prelude.{◌<◌, length, OnOk, IsTrue, IsFalse};
 ghost use Rattle.solomon_reader.specs.States.{CanStep};
-ghost use Rattle.labelling.specs.Arena.{label_in, state_at, IsArena, CountsEnd, IsPending, IsOnward};
+ghost use Rattle.labels.specs.Arena.{label_in, state_at, IsArena, CountsEnd, IsPending, IsOnward};
 ghost use Rattle.fronts.specs.Fronts.{IsBounded};
 ghost use Rattle.fronts.specs.Steps.{IsOpenStep};
 ghost use Rattle.labelling.specs.Search.{pricing_in, KeepsBest, GoesOn, StandsAt, TakesStepTo, TakesEachStep, EndsFor, LosesNothing};
 
-use crate::best::Best;
 use crate::fault::LabelFault;
-use crate::label::Label;
 use crate::labeller::{Labeller, is_at_most};
 use fronts::Step;
+use labels::{Best, Label};
 
 impl<'t, 'i> Labeller<'t, 'i> {
     /// Takes a step from the label at an index that a route may take, if it may cost less than the best.

@@ -11,12 +11,11 @@ ghost use Rattle.prices.specs.Narrowing.{IsNarrower};
 ghost use Rattle.prices.specs.declared.fault.PriceFault.TheVariants.{LabelLimit, PriceRange};
 ghost use Rattle.price_ascent.specs.Branching.{AreChildren, IsPricedAt};
 
-use crate::child_start::ChildStart;
 use crate::pricing::price;
-use crate::route_pool::RoutePool;
 use crate::trying::{TriedArc, best_arc};
 use branching::{Arc, Region, RegionFault};
 use pooled_routes::{GRAINS_OF_TENTH, Side};
+use price_way::{ChildStart, RoutePool};
 use prices::{PriceFault, Priced};
 use solomon_reader::Instance;
 use std::alloc::{AllocError, Global};

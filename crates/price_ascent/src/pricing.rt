@@ -7,9 +7,9 @@ ghost use Rattle.solomon_reader.specs.CertificateText.{IsPrice};
 ghost use Rattle.prices.specs.declared.fault.PriceFault.TheVariants.{LabelLimit, PriceRange};
 ghost use Rattle.price_ascent.specs.Branching.{IsPricedAt};
 
-use crate::route_pool::RoutePool;
 use branching::Region;
 use labelling::Hints;
+use price_way::RoutePool;
 use prices::{PriceFault, Priced};
 use std::alloc::Global;
 

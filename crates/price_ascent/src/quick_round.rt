@@ -7,14 +7,11 @@ ghost use Rattle.solomon_reader.specs.CertificateText.{IsPrice};
 ghost use Rattle.fronts.specs.Fronts.{IsTask};
 ghost use Rattle.price_ascent.specs.Branching.{IsPricedAt};
 
-use crate::ascent::Ascent;
-use crate::goal::Goal;
 use crate::pricing::price;
-use crate::quick_way::{QuickWay, WHOLE, widest};
-use crate::route_pool::RoutePool;
 use branching::Region;
 use fronts::{Nearness, Task};
 use pooled_routes::{Floor, Trial};
+use price_way::{Ascent, Goal, QuickWay, RoutePool, WHOLE, widest};
 use prices::{PriceFault, Priced};
 use quick_routes::{QuickRoutes, Width, quick_routes};
 use std::alloc::{AllocError, Global};

@@ -3,13 +3,10 @@
 ghost use Rattle.std.specs.Prelude.{◌≡◌, ◌≤◌, IfOk, IfSome};
 ghost use Rattle.price_ascent.specs.Branching.{IsPricedAt};
 
-use crate::ascent::Ascent;
-use crate::child_start::ChildStart;
-use crate::goal::Goal;
 use crate::pricing::price;
 use crate::quick_round::{is_quick_next, quick_round};
-use crate::route_pool::RoutePool;
 use pooled_routes::Trial;
+use price_way::{Ascent, ChildStart, Goal, RoutePool};
 use prices::{PriceFault, Priced};
 use std::alloc::{AllocError, Global};
 

@@ -1,10 +1,8 @@
 //! The arc that a leaf is best split on.
 
-use crate::ascent::Ascent;
-use crate::pool_trial::{ChildTrial, PoolTrial};
-use crate::route_pool::RoutePool;
 use branching::{Arc, Region};
 use pooled_routes::{ArcFlow, Pseudocosts, Side, Trial};
+use price_way::{Ascent, ChildTrial, PoolTrial, RoutePool};
 use prices::Priced;
 use std::alloc::AllocError;
 

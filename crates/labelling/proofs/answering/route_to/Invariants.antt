@@ -1,5 +1,5 @@
 use Rattle.std.proofs.Common.{◌≡◌, ◌-◌, ◌<◌, ◌++◌, length, reverse}
-use Rattle.labelling.specs.Arena.{trace}
+use Rattle.labels.specs.Arena.{trace}
 use Rattle.labelling.proofs.answering.route_to.Given as goal
 
 abbrev pub invariant-loop-taken : goal.invariant-loop-taken

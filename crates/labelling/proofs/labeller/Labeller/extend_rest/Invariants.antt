@@ -1,4 +1,4 @@
-use Rattle.labelling.specs.Arena.{NonePending}
+use Rattle.labels.specs.Arena.{NonePending}
 use Rattle.labelling.specs.Search.{Continues}
 use Rattle.labelling.proofs.labeller.Labeller.extend_rest.Given as goal
 

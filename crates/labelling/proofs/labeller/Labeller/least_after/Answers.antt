@@ -1,6 +1,6 @@
 use Rattle.std.proofs.Common.{refl, arith, to_z, of_z, w64, ◌≡◌}
 use Rattle.std.proofs.lemmas.Int.{ints, to_z-of_z}
-use Rattle.labelling.specs.Arena.{state_at}
+use Rattle.labels.specs.Arena.{state_at}
 use Rattle.labelling.specs.Search.{pricing_in}
 use Rattle.solomon_reader.proofs.Completions.{never_next}
 use Rattle.labelling.proofs.labeller.Labeller.least_after.Goals as goal

@@ -1,0 +1,17 @@
+use Rattle.std.proofs.Common.{arith, refl, sym, ◌∙◌}
+use Rattle.fronts.specs.Tasks.{pricing_of}
+use Rattle.labels.specs.Arena.{state_at}
+use Rattle.labels.proofs.Carrying.{carries_ahead, carries_light, remembers_last}
+use Rattle.labels.proofs.label.Label.dominates.Goals as goal
+
+pub returns-then-self-other : goal.returns-then-self-other
+returns-then-self-other c =
+    let q = pricing_of c.args.completions.now.task.now in
+    λ _. carries_ahead q (state_at q c.args.self.now) (state_at q c.args.other.now) (c.is_ahead.ensures c.if-not-is_ahead.false) (omega arith)
+
+pub returns : goal.returns
+returns c =
+    let q = pricing_of c.args.completions.now.task.now in
+    let other = c.args.other.now in
+    λ fits. carries_light q (state_at q c.args.self.now) (state_at q other) (c.is_ahead.ensures c.if-not-is_ahead.false)
+    (λ s h. omega (arith, (c.at-bound.ensures.holds (state_at q other) s refl (omega arith) (remembers_last q other (sym c.contains.ensures ∙ c.if-not-contains.false)) h).room, c.fits.ensures.0 fits))

@@ -1,0 +1,305 @@
+//! The labels of one customer, to find those that dominate another one. What is found is held against
+//! the labels themselves.
+
+ghost use Rattle.std.specs.Prelude.{IsTrue};
+ghost use Rattle.labels.specs.Domination.{IsDominatedIn, IsPrunedIn};
+
+use crate::label::Label;
+use fronts::{Completions, Memory};
+use std::alloc::{AllocError, Global};
+
+/// So many labels of a group, which stand side by side, count as one look.
+const LABELS_OF_LOOK: u64 = 4;
+
+/// A label, by what it dominates others of its customer with.
+#[derive(Clone, Copy)]
+pub struct Entry {
+    memory: Memory,
+    time: u64,
+    cost: i64,
+    load: u32,
+    /// The greatest load with which another label may dominate it.
+    most: u32,
+    index: usize,
+}
+
+impl Entry {
+    /// The entry of a label, which stands at an index, and which another one of this load may dominate
+    /// even where it is lighter.
+    /// No contract: it decides only how fast a search is.
+    pub fn new(label: &Label, load: u32, index: usize) -> Entry {
+        Entry {
+            memory: label.memory,
+            time: label.front.time,
+            cost: label.front.cost,
+            load: label.front.load,
+            most: load.max(label.front.load),
+            index,
+        }
+    }
+
+    /// Whether it may dominate another one that remembers no less. All three are compared without a
+    /// branch: mostly one of them fails, and which one cannot be foreseen.
+    fn may_dominate(&self, other: &Entry) -> bool {
+        (self.time <= other.time) & (self.cost <= other.cost) & (self.load <= other.most)
+    }
+}
+
+/// The labels of one customer with one memory, in order of time.
+#[derive(Drop)]
+struct MemoryGroup {
+    memory: Memory,
+    least_time: u64,
+    least_cost: i64,
+    latest_time: u64,
+    greatest_cost: i64,
+    entries: Vec<Entry>,
+}
+
+impl MemoryGroup {
+    /// The group of an entry, still without it.
+    fn new(alloc: Global, entry: &Entry) -> MemoryGroup {
+        MemoryGroup {
+            memory: entry.memory,
+            least_time: entry.time,
+            least_cost: entry.cost,
+            latest_time: entry.time,
+            greatest_cost: entry.cost,
+            entries: Vec::new(alloc),
+        }
+    }
+
+    /// Makes it the group of an entry, still without it.
+    fn begin(&mut self, entry: &Entry) {
+        self.memory = entry.memory;
+        self.least_time = entry.time;
+        self.least_cost = entry.cost;
+        self.latest_time = entry.time;
+        self.greatest_cost = entry.cost;
+        self.entries.clear();
+    }
+
+    /// Whether one of its labels may dominate a newer one. All three are compared without a branch, as
+    /// in `may_dominate`.
+    fn may_dominate(&self, newer: &Entry) -> bool {
+        self.memory.is_subset(newer.memory)
+            & (self.least_time <= newer.time)
+            & (self.least_cost <= newer.cost)
+    }
+
+    /// The index of a label that dominates a newer one, as far as the group tells, and how many of its labels
+    /// were looked at.
+    fn find_dominating(&self, newer: &Entry) -> (Option<usize>, usize) {
+        if !self.may_dominate(newer) {
+            return (None, 0);
+        }
+        for (place, entry) in self.entries.iter().enumerate() {
+            if entry.time > newer.time {
+                return (None, place);
+            }
+            if entry.may_dominate(newer) {
+                return (Some(entry.index), place);
+            }
+        }
+        (None, self.entries.len())
+    }
+
+    /// Whether a newer label may dominate one of its labels.
+    fn may_be_dominated(&self, newer: &Entry) -> bool {
+        newer.memory.is_subset(self.memory)
+            & (newer.time <= self.latest_time)
+            & (newer.cost <= self.greatest_cost)
+    }
+
+    /// Drops those of its labels that a newer one dominates, and says how many.
+    fn drop_dominated(
+        &mut self,
+        completions: &Completions<'_, '_>,
+        labels: &mut [Label],
+        label: &Label,
+        newer: &Entry,
+    ) -> usize
+        ensures { IsPrunedIn completions.now labels.old labels.new label.now }
+    {
+        if !self.may_be_dominated(newer) {
+            return 0;
+        }
+        let entries = self.entries.as_slice();
+        let start = entries.partition_point(|entry| entry.time < newer.time);
+        let later = &entries[start..];
+        if !later.iter().any(|entry| newer.may_dominate(entry)) {
+            return 0;
+        }
+        drop_each(completions, labels, later, label, newer);
+        let before = self.entries.len();
+        self.entries.retain(|entry| is_active(labels, entry.index));
+        before - self.entries.len()
+    }
+
+    /// Adds an entry.
+    fn add(&mut self, entry: &Entry) -> Result<(), AllocError> {
+        let entries = self.entries.as_slice();
+        let start = entries.partition_point(|other| other.time < entry.time);
+        self.entries.insert(start, *entry)?;
+        self.least_time = self.least_time.min(entry.time);
+        self.least_cost = self.least_cost.min(entry.cost);
+        self.latest_time = self.latest_time.max(entry.time);
+        self.greatest_cost = self.greatest_cost.max(entry.cost);
+        Ok(())
+    }
+}
+
+/// Whether the label at an index is active and dominates a newer one.
+fn dominates_at(
+    completions: &Completions<'_, '_>,
+    labels: &[Label],
+    index: usize,
+    newer: &Label,
+) -> bool
+    ensures { IsTrue result → IsDominatedIn completions.now labels.now newer.now }
+{
+    if index >= labels.len() {
+        return false;
+    }
+    let label = labels[index];
+    label.active && label.dominates(completions, newer)
+}
+
+/// Whether the label at an index is active.
+fn is_active(labels: &[Label], index: usize) -> bool {
+    index < labels.len() && labels[index].active
+}
+
+/// Drops the label of an entry, if a newer one dominates it.
+fn drop_if_dominated(
+    completions: &Completions<'_, '_>,
+    labels: &mut [Label],
+    entry: &Entry,
+    label: &Label,
+    newer: &Entry,
+)
+    ensures { IsPrunedIn completions.now labels.old labels.new label.now }
+{
+    let index = entry.index;
+    if !newer.may_dominate(entry) || index >= labels.len() {
+        return;
+    }
+    if label.dominates(completions, &labels[index]) {
+        labels[index].active = false;
+    }
+}
+
+/// Drops those labels of some entries that a newer one dominates.
+fn drop_each(
+    completions: &Completions<'_, '_>,
+    labels: &mut [Label],
+    entries: &[Entry],
+    label: &Label,
+    newer: &Entry,
+)
+    ensures { IsPrunedIn completions.now labels.old labels.new label.now }
+{
+    for entry in entries {
+        drop_if_dominated(completions, labels, entry, label, newer);
+    }
+}
+
+/// The labels of one customer: first those with the memory by which one dominated another last.
+#[derive(Drop)]
+pub(crate) struct CustomerLabels {
+    groups: Vec<MemoryGroup>,
+    /// Groups of an earlier search, whose memory serves again.
+    spare: Vec<MemoryGroup>,
+    /// How often newer labels looked at groups, and at labels of them.
+    looks: u64,
+}
+
+impl CustomerLabels {
+    /// No labels.
+    pub(crate) fn new(alloc: Global) -> CustomerLabels {
+        CustomerLabels {
+            groups: Vec::new(alloc),
+            spare: Vec::new(alloc),
+            looks: 0,
+        }
+    }
+
+    /// Drops all labels, and begins another search.
+    pub(crate) fn clear(&mut self) -> Result<(), AllocError> {
+        self.looks = 0;
+        for _ in 0..self.groups.len() {
+            if let Some(group) = self.groups.pop() {
+                self.spare.push(group)?;
+            }
+        }
+        Ok(())
+    }
+
+    /// How often newer labels looked at groups, and at labels of them.
+    pub(crate) fn looks(&self) -> u64 {
+        self.looks
+    }
+
+    /// Whether an active label dominates a newer one.
+    pub(crate) fn is_dominated(
+        &mut self,
+        completions: &Completions<'_, '_>,
+        labels: &[Label],
+        label: &Label,
+        newer: &Entry,
+    ) -> bool
+        ensures { IsTrue result → IsDominatedIn completions.now labels.now label.now }
+    {
+        for place in 0..self.groups.len() {
+            let (found, labels_met) = self.groups[place].find_dominating(newer);
+            let looks = 1 + labels_met as u64 / LABELS_OF_LOOK;
+            self.looks = self.looks.saturating_add(looks);
+            if let Some(index) = found
+                && dominates_at(completions, labels, index, label)
+            {
+                self.groups.as_mut_slice().swap(0, place);
+                return true;
+            }
+        }
+        false
+    }
+
+    /// Drops the labels that a newer one dominates, and says how many.
+    pub(crate) fn drop_dominated(
+        &mut self,
+        completions: &Completions<'_, '_>,
+        labels: &mut [Label],
+        label: &Label,
+        newer: &Entry,
+    ) -> usize
+        ensures { IsPrunedIn completions.now labels.old labels.new label.now }
+    {
+        let mut dropped: usize = 0;
+        for group in &mut self.groups {
+            let count = group.drop_dominated(completions, labels, label, newer);
+            dropped = dropped.saturating_add(count);
+        }
+        dropped
+    }
+
+    /// The group of an entry, still without it: a spare one, if there is one.
+    fn new_group(&mut self, alloc: Global, entry: &Entry) -> MemoryGroup {
+        let Some(mut group) = self.spare.pop() else {
+            return MemoryGroup::new(alloc, entry);
+        };
+        group.begin(entry);
+        group
+    }
+
+    /// Adds an entry.
+    pub(crate) fn add(&mut self, alloc: Global, entry: &Entry) -> Result<(), AllocError> {
+        let memory = entry.memory;
+        if let Some(m) = self.groups.iter().position(|g| g.memory.is_same(memory)) {
+            return self.groups[m].add(entry);
+        }
+        let mut group = self.new_group(alloc, entry);
+        group.add(entry)?;
+        self.groups.push(group)?;
+        Ok(())
+    }
+}

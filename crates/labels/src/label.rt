@@ -1,0 +1,91 @@
+//! Labels: the first stops of relaxed routes, with what the further ones depend on.
+
+ghost use Rattle.std.specs.Prelude.{◌≡◌, ◌+◌, ◌≤◌, ◌↔◌, IsTrue};
+ghost use Rattle.solomon_reader.specs.States.{CanStep};
+ghost use Rattle.fronts.specs.Fronts.{IsAfter, IsBounded};
+ghost use Rattle.fronts.specs.Tasks.{pricing_of};
+ghost use Rattle.labels.specs.Arena.{state_at, IsExtension};
+ghost use Rattle.labels.specs.Cover.{IsAhead, Carries};
+
+use fronts::{Completions, Front, Memory, Task};
+
+/// The first stops of a relaxed route. It stands in a list that only grows.
+#[derive(Clone, Copy)]
+pub struct Label {
+    /// Where the vehicle stands.
+    pub front: Front,
+    /// The customers that it may not visit next.
+    pub memory: Memory,
+    /// The index of the label before the last stop.
+    pub parent: usize,
+    /// The number of stops.
+    pub stops: u32,
+    /// Whether no label that dominates it was added.
+    pub active: bool,
+    /// Whether its steps were taken.
+    pub extended: bool,
+}
+
+/// Whether so much may be loaded beside a load.
+fn fits(capacity: u16, load: u32, room: u32) -> bool
+    ensures { IsTrue result ↔ (load + room ≤ capacity) }
+{
+    load.saturating_add(room) <= u32::from(capacity)
+}
+
+impl Label {
+    /// The label at an index with one more stop, at j, after which the vehicle stands at this front.
+    pub fn extend(&self, task: &Task<'_>, index: usize, front: Front, j: u16) -> Label
+        requires bounded { IsBounded task.now.instance.now self.now.front }
+        requires light { self.now.stops ≤ self.now.front.load }
+        requires can { CanStep (pricing_of task.now) (state_at (pricing_of task.now) self.now) j }
+        requires after { IsAfter task.now.instance.now task.now.prices.now self.now.front j front }
+        requires after_bounded { IsBounded task.now.instance.now front }
+        requires carried { self.now.front.load + 1 ≤ front.load }
+        ensures { IsExtension (pricing_of task.now) self.now index j result }
+    {
+        Label {
+            front,
+            memory: task.remember(self.front.last, self.memory, j),
+            parent: index,
+            stops: self.stops + 1,
+            active: true,
+            extended: false,
+        }
+    }
+
+    /// Whether this one is no worse than another, the loads left aside.
+    fn is_ahead(&self, task: &Task<'_>, other: &Label) -> bool
+        ensures { let q = pricing_of task.now in
+            IsTrue result → IsAhead (state_at q self.now) (state_at q other.now) }
+    {
+        self.front.last == other.front.last
+            && self.front.time <= other.front.time
+            && self.front.cost <= other.front.cost
+            && self.memory.is_subset(other.memory)
+    }
+
+    /// Whether all that may come after another label may come after this one, at no greater cost. This
+    /// one may be heavier where it has room for all that the other one may still load.
+    pub fn dominates(&self, completions: &Completions<'_, '_>, other: &Label) -> bool
+        ensures { let q = pricing_of completions.now.task.now in
+            IsTrue result → Carries q (state_at q self.now) (state_at q other.now) }
+    {
+        if !self.is_ahead(completions.task, other) {
+            return false;
+        }
+        if self.front.load <= other.front.load {
+            return true;
+        }
+        // Bounds hold where the last stop is remembered, as it is after each stop.
+        if !other.memory.contains(0) {
+            return false;
+        }
+        let bound = completions.at(other.front.last, other.front.time);
+        fits(
+            completions.task.instance.capacity(),
+            self.front.load,
+            u32::from(bound.room),
+        )
+    }
+}

@@ -1,0 +1,200 @@
+//! The way of prices from one centre to the next.
+
+use crate::centre::Centre;
+use crate::goal::Goal;
+use crate::route_pool::RoutePool;
+use pooled_routes::{Floor, GRAINS_OF_TENTH, Merit, Trial};
+use prices::Priced;
+use std::alloc::{AllocError, Global};
+
+/// The least rise, in grains.
+const LEAST_RISE: i64 = 1_000;
+
+/// The greatest rise, in grains.
+const MOST_RISE: i64 = 100_000_000_000;
+
+/// The least gap to the target that counts, in grains.
+const LEAST_GAP: i128 = 1_000;
+
+/// A way of prices by serious and null steps (Lemaréchal 1975; Kiwiel 1990): a serious step makes the
+/// prices of a trial the centre of the next, and a null step only adds a route to the pool.
+#[derive(Drop)]
+pub struct Ascent {
+    pub centre: Centre,
+    merit: Merit,
+    floor: Floor,
+    rise: i64,
+    /// The value in tenths at which to stop.
+    pub target: i128,
+    /// Whether only quick searches know the centre's least reduced cost.
+    is_quick: bool,
+}
+
+/// Tenths in grains.
+fn grains(tenths: i128) -> i128 {
+    tenths.saturating_mul(i128::from(GRAINS_OF_TENTH))
+}
+
+/// A rise within its range.
+fn rise_in_range(rise: i64) -> i64 {
+    rise.clamp(LEAST_RISE, MOST_RISE)
+}
+
+impl Ascent {
+    /// The way from these prices to a goal.
+    /// No contract: a rule of search; any prices are sound.
+    pub fn new(
+        alloc: Global,
+        pool: &mut RoutePool<'_>,
+        priced: &Priced<'_>,
+        goal: &Goal,
+    ) -> Result<Ascent, AllocError> {
+        let merit = Merit::new(priced.instance(), goal.routes);
+        let centre = Centre::new(alloc, priced, merit)?;
+        let rise = rise_in_range(goal.rise);
+        pool.scale(rise);
+        pool.add(priced.instance(), priced.least().route.as_slice())?;
+        Ok(Ascent {
+            centre,
+            merit,
+            floor: merit.floor(),
+            rise,
+            target: goal.value,
+            is_quick: false,
+        })
+    }
+
+    /// How much the merit has to rise in grains until the value, which is rounded up, is the target.
+    /// No contract: a rule of search; any prices are sound.
+    pub fn gap(&self) -> i128 {
+        let enough = grains(self.target.saturating_sub(1)).saturating_add(1);
+        enough.saturating_sub(self.centre.merit).max(LEAST_GAP)
+    }
+
+    /// How far the merit has risen above another, in grains: at most to the target, and up to it where
+    /// the value has reached it.
+    /// No contract: a rule of search; any prices are sound.
+    pub fn rise_since(&self, merit: i128, value: i128) -> i128 {
+        let most = grains(self.target);
+        let reached = if value >= self.target {
+            most
+        } else {
+            self.centre.merit.min(most)
+        };
+        reached.saturating_sub(merit).max(0)
+    }
+
+    /// The centre after a rise in grains, from which a projection starts.
+    /// No contract: a rule of search; any prices are sound.
+    pub fn start(&self, alloc: Global, rise: i64) -> Result<Trial, AllocError> {
+        let floor = self.floor.scaled(self.rise, rise);
+        let floor = self.merit.start(floor, self.centre.least, rise);
+        Trial::new(alloc, self.centre.prices.as_slice(), rise, floor)
+    }
+
+    /// How far the merit rises from the centre to the prices of a trial with this least reduced cost,
+    /// in grains.
+    /// No contract: a rule of search; any prices are sound.
+    pub fn rise_to(&self, trial: &Trial, least: i64) -> i128 {
+        let merit = self.merit.of(trial.prices.as_slice(), i128::from(least));
+        merit.saturating_sub(self.centre.merit)
+    }
+
+    /// The centre after the rise, projected onto what the routes of the pool say.
+    /// No contract: a rule of search; any prices are sound.
+    pub fn trial(&self, alloc: Global, pool: &mut RoutePool<'_>) -> Result<Trial, AllocError> {
+        let mut trial = self.start(alloc, self.rise)?;
+        pool.project(&mut trial)?;
+        Ok(trial)
+    }
+
+    /// Measures the multipliers by another rise.
+    fn scale(&mut self, pool: &mut RoutePool<'_>, rise: i64) {
+        pool.scale(rise);
+        self.floor = self.floor.scaled(self.rise, rise);
+        self.rise = rise;
+    }
+
+    /// Goes on with a shorter rise: after a null step, or where the prices of a trial had no value.
+    /// No contract: a rule of search; any prices are sound.
+    pub fn draw_back(&mut self, pool: &mut RoutePool<'_>) {
+        self.scale(pool, rise_in_range(self.rise.saturating_mul(3) / 5));
+    }
+
+    /// Goes on from a trial with another centre: a serious step where the merit has grown by more than a tenth
+    /// of what the trial promised.
+    fn go_on(&mut self, pool: &mut RoutePool<'_>, trial: &Trial, next: Centre) -> bool {
+        self.floor = trial.floor;
+        let before = self.centre.merit;
+        let promised = self.merit.promised(next.prices.as_slice(), self.floor);
+        let growth = next.merit.saturating_sub(before);
+        let is_serious = growth.saturating_mul(10) > promised.saturating_sub(before);
+        if is_serious {
+            self.centre = next;
+            self.scale(pool, rise_in_range(self.rise.saturating_mul(3) / 2));
+        } else {
+            self.draw_back(pool);
+        }
+        is_serious
+    }
+
+    /// Takes in what the prices of a trial led to.
+    /// No contract: a rule of search; any prices are sound.
+    pub fn take_in(
+        &mut self,
+        alloc: Global,
+        pool: &mut RoutePool<'_>,
+        trial: &Trial,
+        priced: &Priced<'_>,
+    ) -> Result<(), AllocError> {
+        let next = Centre::new(alloc, priced, self.merit)?;
+        if next.least < i128::from(trial.floor.value()) {
+            pool.add(priced.instance(), priced.least().route.as_slice())?;
+        }
+        self.go_on(pool, trial, next);
+        Ok(())
+    }
+
+    /// Takes in the least reduced cost that a quick search found at the prices of a trial.
+    /// No contract: a rule of search; any prices are sound.
+    pub fn take_in_quick(
+        &mut self,
+        pool: &mut RoutePool<'_>,
+        trial: &Trial,
+        prices: Vec<i64>,
+        least: i64,
+    ) {
+        let next = Centre::at(prices, i128::from(least), self.merit);
+        if self.go_on(pool, trial, next) {
+            self.is_quick = true;
+        }
+    }
+
+    /// Goes on with another rise from the same centre, whose least reduced cost is known anew, as far as
+    /// quick searches know it.
+    /// No contract: a rule of search; any prices are sound.
+    pub fn go_on_from(&mut self, pool: &mut RoutePool<'_>, least: i64, rise: i64) {
+        self.centre.least = i128::from(least);
+        self.centre.merit = self
+            .merit
+            .of(self.centre.prices.as_slice(), self.centre.least);
+        self.is_quick = true;
+        self.scale(pool, rise_in_range(rise));
+    }
+
+    /// Goes back to these prices as the centre, unless that was priced exactly.
+    /// No contract: a rule of search; any prices are sound.
+    pub fn go_back_to(&mut self, alloc: Global, priced: &Priced<'_>) -> Result<(), AllocError> {
+        if self.is_quick {
+            self.centre = Centre::new(alloc, priced, self.merit)?;
+            self.is_quick = false;
+        }
+        Ok(())
+    }
+
+    /// Whether the merit has come to the target.
+    /// No contract: a rule of search; any prices are sound.
+    pub fn is_at_target(&self) -> bool {
+        self.centre.merit >= grains(self.target)
+    }
+}

@@ -1,0 +1,20 @@
+//! The way of prices from one centre to the next, and the pool of routes that it goes by.
+#![tactic(auto)]
+
+mod ascent;
+mod centre;
+mod child_start;
+mod goal;
+mod pool_trial;
+mod quick_way;
+mod rises;
+mod route_pool;
+
+pub use ascent::Ascent;
+pub use centre::Centre;
+pub use child_start::ChildStart;
+pub use goal::{Goal, IDLE_PRICINGS, counted_routes};
+pub use pool_trial::{ChildTrial, PoolTrial};
+pub use quick_way::{QuickWay, WHOLE, widest};
+pub use rises::{first_rise, rise_at, trial_rise};
+pub use route_pool::RoutePool;

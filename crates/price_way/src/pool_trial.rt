@@ -1,0 +1,95 @@
+//! The trial of a leaf's children over the routes of a pool.
+
+use crate::ascent::Ascent;
+use branching::Arc;
+use pooled_routes::{Floor, HalfSpace, Projection, Side, Trial};
+use std::alloc::{AllocError, Global};
+
+/// The most sweeps of a trial.
+const MOST_SWEEPS: u32 = 20;
+
+/// The routes of a pool at a leaf, over which its children are tried without a pricing.
+#[derive(Drop)]
+pub struct PoolTrial<'r> {
+    alloc: Global,
+    ascent: &'r Ascent,
+    spaces: Vec<HalfSpace<'r>>,
+    /// In grains.
+    rise: i64,
+}
+
+/// What the trial of a child came to.
+#[derive(Drop)]
+pub struct ChildTrial {
+    pub prices: Trial,
+    /// How far the merit rose above that of the leaf, in grains; nothing where no route is left.
+    pub rise: Option<i128>,
+    /// How often a route was looked at.
+    pub routes: u64,
+}
+
+/// Routes of lower rank serve better: those that make up the prices, and then those of the least
+/// reduced cost at these prices.
+fn rank(space: &HalfSpace<'_>, prices: &Trial) -> i64 {
+    if space.multiplier > 0 {
+        i64::MIN
+    } else {
+        prices.reduced_cost(space.fours, space.cost)
+    }
+}
+
+impl<'r> PoolTrial<'r> {
+    /// Trials with this rise in grains, over at most so many of a pool's routes, whose multipliers are
+    /// measured by the rise already.
+    /// No contract: a rule of search; any prices are sound.
+    pub fn new(
+        alloc: Global,
+        ascent: &'r Ascent,
+        mut spaces: Vec<HalfSpace<'r>>,
+        most: usize,
+        rise: i64,
+    ) -> Result<PoolTrial<'r>, AllocError> {
+        if spaces.len() > most {
+            let prices = ascent.centre.prices.as_slice();
+            let prices = Trial::new(alloc, prices, 0, Floor::new(false))?;
+            spaces.sort_by_key(|space| rank(space, &prices))?;
+            spaces.truncate(most);
+        }
+        Ok(PoolTrial {
+            alloc,
+            ascent,
+            spaces,
+            rise,
+        })
+    }
+
+    /// What those of the pool's routes say that a child doesn't forbid.
+    fn spaces_of_child(&self, arc: Arc, side: Side) -> Result<Vec<HalfSpace<'r>>, AllocError> {
+        let mut spaces = Vec::with_capacity(self.alloc, self.spaces.len())?;
+        for space in &self.spaces {
+            if !space.is_forbidden_by(arc, side) {
+                spaces.push(*space)?;
+            }
+        }
+        Ok(spaces)
+    }
+
+    /// The prices that a child's ascent would come to if it had only those of the pool's routes that the
+    /// child doesn't forbid.
+    /// No contract: a rule of search; any prices are sound.
+    pub fn of_child(&self, arc: Arc, side: Side) -> Result<ChildTrial, AllocError> {
+        let spaces = self.spaces_of_child(arc, side)?;
+        let mut projection = Projection { spaces, looks: 0 };
+        let mut trial = self.ascent.start(self.alloc, self.rise)?;
+        projection.project(self.alloc, &mut trial, MOST_SWEEPS)?;
+        let spaces = projection.spaces.iter();
+        let least = spaces
+            .map(|space| trial.reduced_cost(space.fours, space.cost))
+            .min();
+        Ok(ChildTrial {
+            rise: least.map(|least| self.ascent.rise_to(&trial, least)),
+            routes: projection.looks,
+            prices: trial,
+        })
+    }
+}

@@ -1,0 +1,378 @@
+//! The routes met so far.
+
+use crate::ascent::Ascent;
+use crate::child_start::ChildStart;
+use crate::pool_trial::PoolTrial;
+use crate::quick_way::{QuickWay, WHOLE};
+use crate::rises::trial_rise;
+use branching::{Arc, Region};
+use fronts::allowed_rows;
+use labelling::{Hints, Kept};
+use pooled_routes::{
+    ArcFlow, Floor, HalfSpace, PooledRoute, Projection, Pseudocosts, RouteShare, Side, Trial,
+    cost_of, merge, scaled,
+};
+use prices::{Priced, allows_route};
+use solomon_reader::Instance;
+use std::alloc::{AllocError, Global};
+
+/// The most routes of a pool: so many, or where that is more, so many for each customer.
+const MOST_ROUTES: usize = 1_000;
+
+const ROUTES_OF_CUSTOMER: usize = 4;
+
+/// The most sweeps of one projection.
+const MOST_SWEEPS: u32 = 60;
+
+/// The most routes of a trial for each customer.
+const TRIAL_ROUTES: usize = 4;
+
+/// A route that prices are projected onto takes as long as so many looks at customers.
+const LOOKS_AT_ROUTE: u64 = 4;
+
+/// The relaxed routes met so far at an instance's leaves, with what each says of prices. One pool
+/// serves all leaves, since a route doesn't depend on the region.
+#[derive(Drop)]
+pub struct RoutePool<'i> {
+    alloc: Global,
+    routes: Vec<PooledRoute>,
+    /// How many routes were added.
+    met: u64,
+    /// The rise by which the multipliers are measured, in grains.
+    rise: i64,
+    /// How many pricings were made for it.
+    pricings: u64,
+    /// How much work they, the projections and the trials were, in looks.
+    looks: u64,
+    /// What the last pricing handed on to the next one.
+    pub kept: Kept<'i>,
+    /// How much work the last pricing was, in looks.
+    pub exact_looks: u64,
+    /// How an ascent by quick searches goes on, where one was made.
+    pub quick: Option<QuickWay>,
+    /// The last raising of prices that has ended.
+    pub ascent: Option<Ascent>,
+    /// The rises of merit that were seen.
+    pub pseudocosts: Pseudocosts,
+}
+
+impl<'i> RoutePool<'i> {
+    /// A pool without routes. No contract: any prices are sound, whatever stands in a pool.
+    pub fn new(alloc: Global) -> RoutePool<'i> {
+        RoutePool {
+            alloc,
+            routes: Vec::new(alloc),
+            met: 0,
+            rise: 1,
+            pricings: 0,
+            looks: 0,
+            kept: Kept::nothing(),
+            exact_looks: 0,
+            quick: None,
+            ascent: None,
+            pseudocosts: Pseudocosts::new(alloc),
+        }
+    }
+
+    /// A pool of these routes of an instance, each its customers in order, unless memory runs out. No
+    /// contract: any prices are sound, whatever stands in a pool.
+    pub fn of_routes(
+        alloc: Global,
+        instance: &Instance,
+        routes: &[Vec<u16>],
+    ) -> Result<RoutePool<'i>, AllocError> {
+        let mut pool = RoutePool::new(alloc);
+        for route in routes {
+            pool.add(instance, route.as_slice())?;
+        }
+        Ok(pool)
+    }
+
+    /// Adds a route of an instance, by its customers in order: a relaxed one, or one of a plan. Twice
+    /// the same is kept once, and the empty one isn't kept. Where the pool is full, the route that was
+    /// of least use makes room. No contract: any prices are sound, whatever stands in a pool.
+    pub fn add(&mut self, instance: &Instance, stops: &[u16]) -> Result<(), AllocError> {
+        let cost = cost_of(instance, stops);
+        let is_it = |route: &PooledRoute| route.cost == cost && route.stops.as_slice() == stops;
+        if stops.is_empty() || self.routes.iter().any(is_it) {
+            return Ok(());
+        }
+        let route = PooledRoute::new(self.alloc, instance, stops, self.met, self.pricings)?;
+        self.met = self.met.saturating_add(1);
+        let customers = usize::from(instance.customer_count());
+        if self.routes.len() >= MOST_ROUTES.max(customers * ROUTES_OF_CUSTOMER) {
+            self.drop_one();
+        }
+        self.routes.push(route)?;
+        Ok(())
+    }
+
+    /// The rise in grains with which the last raising of prices ended; another one at the same leaf may
+    /// begin with it. No contract: any rise serves.
+    pub fn rise(&self) -> i64 {
+        self.rise
+    }
+
+    /// How many pricings were made with the pool: those of trials, and of children that don't keep
+    /// their parent's value. No contract: it only measures.
+    pub fn pricings(&self) -> u64 {
+        self.pricings
+    }
+
+    /// How much work the pricings, the projections and the trials were, in looks: of bounds at customers, of
+    /// labels at others, two for a step from a label, and `LOOKS_AT_ROUTE` for a route that prices are
+    /// projected onto. No contract: it only measures.
+    pub fn looks(&self) -> u64 {
+        self.looks
+    }
+
+    /// Counts looks.
+    /// No contract: a rule of search; any prices are sound.
+    pub fn count_looks(&mut self, looks: u64) {
+        self.looks = self.looks.saturating_add(looks);
+    }
+
+    /// Counts the looks at routes of projections.
+    /// No contract: a rule of search; any prices are sound.
+    pub fn count_routes(&mut self, routes: u64) {
+        self.count_looks(routes.saturating_mul(LOOKS_AT_ROUTE));
+    }
+
+    /// The customers of the route of least reduced cost at these prices among those that a region allows;
+    /// none where it allows none.
+    /// No contract: a rule of search; any prices are sound.
+    pub fn cheapest(&self, region: &Region, prices: &[i64]) -> Result<Vec<u16>, AllocError> {
+        let rows = Trial::new(self.alloc, prices, 0, Floor::new(false))?;
+        let mut cheapest: Option<(&[u16], i64)> = None;
+        for route in self.routes.iter().filter(|route| route.is_allowed) {
+            let stops = route.stops.as_slice();
+            let cost = rows.reduced_cost(route.fours.as_slice(), route.cost);
+            let is_cheaper = cheapest.is_none_or(|(_, least)| cost < least);
+            if is_cheaper && allows_route(region, stops) {
+                cheapest = Some((stops, cost));
+            }
+        }
+        match cheapest {
+            Some((stops, _)) => Vec::from_slice(self.alloc, stops),
+            None => Ok(Vec::new(self.alloc)),
+        }
+    }
+
+    /// The least reduced cost of the routes that count at these prices, in grains; the greatest number where
+    /// none does.
+    /// No contract: a rule of search; any prices are sound.
+    pub fn least(&self, prices: &[i64]) -> Result<i64, AllocError> {
+        let rows = Trial::new(self.alloc, prices, 0, Floor::new(false))?;
+        let counting = self.routes.iter().filter(|route| route.is_allowed);
+        let costs = counting.map(|route| rows.reduced_cost(route.fours.as_slice(), route.cost));
+        Ok(costs.min().unwrap_or(i64::MAX))
+    }
+
+    /// By how many millionths these prices are to be multiplied so that none of the routes that count pays
+    /// more than it costs (Farley 1990); the greatest number where none pays.
+    /// No contract: a rule of search; any prices are sound.
+    pub fn scale_at(&self, prices: &[i64]) -> Result<i64, AllocError> {
+        let rows = Trial::new(self.alloc, prices, 0, Floor::new(false))?;
+        let mut least = i64::MAX;
+        for route in self.routes.iter().filter(|route| route.is_allowed) {
+            let reduced = rows.reduced_cost(route.fours.as_slice(), route.cost);
+            let paid = route.cost.saturating_sub(reduced);
+            if paid > 0 {
+                least = least.min(scaled(WHOLE, paid, route.cost));
+            }
+        }
+        Ok(least)
+    }
+
+    /// Takes in what a pricing told: counts it, keeps the tables that it went by, and adds the routes that it
+    /// met.
+    /// No contract: a rule of search; any prices are sound.
+    pub fn take_in(&mut self, instance: &Instance, hints: Hints<'i>) -> Result<(), AllocError> {
+        let Hints {
+            kept,
+            met,
+            looks,
+            ..
+        } = hints;
+        self.pricings = self.pricings.saturating_add(1);
+        self.count_looks(looks);
+        self.exact_looks = looks;
+        self.kept = kept;
+        for route in &met {
+            self.add(instance, route.as_slice())?;
+        }
+        Ok(())
+    }
+
+    /// Each arc that the routes of the pool use once, with all that it carries.
+    /// No contract: a rule of search; any prices are sound.
+    pub fn flows(&self) -> Result<Vec<ArcFlow>, AllocError> {
+        let mut arcs = Vec::new(self.alloc);
+        for route in self.routes.iter().filter(|route| route.multiplier > 0) {
+            route.push_arcs(&mut arcs)?;
+        }
+        merge(arcs, Vec::new(self.alloc))
+    }
+
+    /// Arcs to branch on at the leaf whose prices were raised last, best ones first, for `choose` of
+    /// its region: first those that the routes of the pool, weighted as they make up the prices, use
+    /// nearly one half of a time. They stand one after the other as three numbers: one above the last customer,
+    /// so that the arcs to and from it are none of the region's, and the arc's two rows. No contract: `choose`
+    /// judges each.
+    pub fn branching_arcs(&self, instance: &Instance) -> Result<Vec<u16>, AllocError> {
+        let between = instance.customer_count() + 1;
+        let mut arcs = self.flows()?;
+        arcs.sort_by_key(|flow| flow.distance_from_half(self.rise))?;
+        let mut rows = Vec::new(self.alloc);
+        for flow in &arcs {
+            rows.push(between)?;
+            rows.push(flow.arc.from)?;
+            rows.push(flow.arc.to)?;
+        }
+        rows.push(between)?;
+        Ok(rows)
+    }
+
+    /// The routes that make up the prices raised last by more than one half of a route each: where no
+    /// arc is fractional they may be a plan. No contract: who takes them for one has to check it.
+    pub fn main_routes(&self) -> Result<Vec<Vec<u16>>, AllocError> {
+        let half = self.rise / 2;
+        let mut routes = Vec::new(self.alloc);
+        for route in self.routes.iter().filter(|route| route.multiplier > half) {
+            routes.push(route.stops.to_vec(self.alloc)?)?;
+        }
+        Ok(routes)
+    }
+
+    /// Drops the route that was of least use.
+    fn drop_one(&mut self) {
+        let mut least = 0;
+        for (i, route) in self.routes.iter().enumerate() {
+            if route.yields_to(&self.routes[least]) {
+                least = i;
+            }
+        }
+        if least < self.routes.len() {
+            let _ = self.routes.swap_remove(least);
+        }
+    }
+
+    /// Lets only the routes count that a leaf allows.
+    /// No contract: a rule of search; any prices are sound.
+    pub fn enter(&mut self, leaf: &Priced<'_>) -> Result<(), AllocError> {
+        let rows = allowed_rows(self.alloc, leaf.instance(), leaf.region())?;
+        for route in self.routes.iter_mut() {
+            route.enter(rows.as_slice());
+        }
+        Ok(())
+    }
+
+    /// Measures the multipliers by another rise.
+    /// No contract: a rule of search; any prices are sound.
+    pub fn scale(&mut self, rise: i64) {
+        for route in self.routes.iter_mut() {
+            route.scale(self.rise, rise, self.pricings);
+        }
+        self.rise = rise;
+    }
+
+    /// What the routes say of prices that the region entered last allows.
+    fn half_spaces(&self) -> Result<Vec<HalfSpace<'_>>, AllocError> {
+        let mut spaces = Vec::with_capacity(self.alloc, self.routes.len())?;
+        for (place, route) in self.routes.iter().enumerate() {
+            if route.is_allowed {
+                spaces.push(route.half_space(place))?;
+            }
+        }
+        Ok(spaces)
+    }
+
+    /// Projects a trial, and answers the places of the routes with the multipliers that it came to, and how
+    /// often it looked at a route.
+    fn projected(&self, trial: &mut Trial) -> Result<(Vec<(usize, i64)>, u64), AllocError> {
+        let spaces = self.half_spaces()?;
+        let mut projection = Projection { spaces, looks: 0 };
+        projection.project(self.alloc, trial, MOST_SWEEPS)?;
+        let spaces = projection.spaces.iter();
+        let multipliers = spaces
+            .map(|space| (space.place, space.multiplier))
+            .collect(self.alloc)?;
+        Ok((multipliers, projection.looks))
+    }
+
+    /// Projects a trial onto what all routes say, nearly, from where the multipliers lead.
+    /// No contract: a rule of search; any prices are sound.
+    pub fn project(&mut self, trial: &mut Trial) -> Result<(), AllocError> {
+        let (multipliers, routes) = self.projected(trial)?;
+        self.count_routes(routes);
+        for (place, multiplier) in &multipliers {
+            if let Some(route) = self.routes.get_mut(*place) {
+                route.multiplier = *multiplier;
+            }
+        }
+        Ok(())
+    }
+
+    /// Trials of the children of the leaf whose prices were raised last. They leave the pool as it is.
+    /// No contract: a rule of search; any prices are sound.
+    pub fn trials<'r>(
+        &'r self,
+        instance: &Instance,
+        ascent: &'r Ascent,
+    ) -> Result<PoolTrial<'r>, AllocError> {
+        let rise = trial_rise(instance, ascent.target);
+        let most = usize::from(instance.customer_count()) * TRIAL_ROUTES;
+        let mut spaces = self.half_spaces()?;
+        for space in spaces.iter_mut() {
+            space.multiplier = scaled(space.multiplier, self.rise, rise);
+        }
+        PoolTrial::new(self.alloc, ascent, spaces, most, rise)
+    }
+
+    /// The shares of the rise that the multipliers are, by the numbers of the routes.
+    fn shares(&self) -> Result<Vec<RouteShare>, AllocError> {
+        let mut shares = Vec::new(self.alloc);
+        for route in self.routes.iter().filter(|route| route.multiplier > 0) {
+            shares.push(route.share(self.rise))?;
+        }
+        shares.sort_by_key(|share| share.number)?;
+        Ok(shares)
+    }
+
+    /// Where the ascent at a child by an arc starts whose trial came to these prices, if there was one;
+    /// nothing where the prices of no leaf were raised.
+    /// No contract: a rule of search; any prices are sound.
+    pub fn start_of(
+        &self,
+        arc: Arc,
+        side: Side,
+        trial: Option<Trial>,
+    ) -> Result<Option<ChildStart>, AllocError> {
+        let Some(ascent) = &self.ascent else {
+            return Ok(None);
+        };
+        Ok(Some(ChildStart {
+            arc,
+            side,
+            merit: ascent.centre.merit,
+            trial,
+            shares: self.shares()?,
+        }))
+    }
+
+    /// Takes the multipliers with which a child starts.
+    /// No contract: a rule of search; any prices are sound.
+    pub fn begin(&mut self, start: &ChildStart) {
+        for route in self.routes.iter_mut() {
+            route.take_share(start.shares.as_slice(), self.rise);
+        }
+    }
+
+    /// Learns from the ascent of a child how far its merit rose, where its value came to this many
+    /// tenths. Where memory is refused, it doesn't.
+    /// No contract: a rule of search; any prices are sound.
+    pub fn learn(&mut self, start: &ChildStart, ascent: &Ascent, value: i128) {
+        let rise = ascent.rise_since(start.merit, value);
+        let _ = self.pseudocosts.note(start.arc, start.side, rise);
+    }
+}
