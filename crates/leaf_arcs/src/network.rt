@@ -71,6 +71,7 @@ impl<'i> Network<'i> {
     }
 
     /// How many slots of time and load there are at a level; none where there is no such level.
+    /// No contract: it decides only how fast a check is.
     pub fn slot_count(&self, level: usize) -> usize {
         match self.grids.get(level) {
             Some(slots) => slots.starts.len(),
