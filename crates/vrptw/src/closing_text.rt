@@ -73,7 +73,15 @@ pub fn close<X: Sink, Y: Sink>(
         (Y.held certificate.old) (Y.held certificate.new) result }
 {
     let instance = read_instance(alloc, text)?;
-    close_instance(alloc, &instance, None, settings, leaf_limit, solution, certificate)
+    close_instance(
+        alloc,
+        &instance,
+        None,
+        settings,
+        leaf_limit,
+        solution,
+        certificate,
+    )
 }
 
 /// What `close` does, from a plan whose text is given, if it is cheaper than what an insertion builds.
@@ -99,7 +107,14 @@ pub fn close_from<X: Sink, Y: Sink>(
 {
     let instance = read_instance(alloc, text)?;
     let start = read_start(alloc, &instance, start)?;
-    let answer =
-        close_instance(alloc, &instance, start, settings, leaf_limit, solution, certificate)?;
+    let answer = close_instance(
+        alloc,
+        &instance,
+        start,
+        settings,
+        leaf_limit,
+        solution,
+        certificate,
+    )?;
     Ok(answer)
 }

@@ -55,7 +55,14 @@ fn solve_instance<'i, R: Threads + Wait + Sync, G: Gate + Sync, X: Sink, Y: Sink
     let Found { plan, bound, nodes } = found_by(alloc, &outcome)?;
     let plan = cheaper(start, plan);
     let found = Found { plan, bound, nodes };
-    write_found(alloc, instance, settings.neighbours, found, solution, certificate)
+    write_found(
+        alloc,
+        instance,
+        settings.neighbours,
+        found,
+        solution,
+        certificate,
+    )
 }
 
 /// Solves the instance of a text: writes a plan to the first sink, if one was found, and then to
@@ -81,7 +88,16 @@ pub fn solve<R: Threads + Wait + Sync, G: Gate + Sync, X: Sink, Y: Sink>(
         (Y.held certificate.old) (Y.held certificate.new) result }
 {
     let instance = read_instance(alloc, text)?;
-    solve_instance(rt, alloc, &instance, None, settings, gate, solution, certificate)
+    solve_instance(
+        rt,
+        alloc,
+        &instance,
+        None,
+        settings,
+        gate,
+        solution,
+        certificate,
+    )
 }
 
 /// What `solve` does, from a plan whose text is given, if it is cheaper than what an insertion builds. Then the
@@ -109,7 +125,15 @@ pub fn solve_from<R: Threads + Wait + Sync, G: Gate + Sync, X: Sink, Y: Sink>(
 {
     let instance = read_instance(alloc, text)?;
     let start = read_start(alloc, &instance, start)?;
-    let answer =
-        solve_instance(rt, alloc, &instance, start, settings, gate, solution, certificate)?;
+    let answer = solve_instance(
+        rt,
+        alloc,
+        &instance,
+        start,
+        settings,
+        gate,
+        solution,
+        certificate,
+    )?;
     Ok(answer)
 }
