@@ -87,17 +87,11 @@ pub fn solve<R: Threads + Wait + Sync, G: Gate + Sync, X: Sink, Y: Sink>(
         (X.held solution.old) (X.held solution.new)
         (Y.held certificate.old) (Y.held certificate.new) result }
 {
-    let instance = read_instance(alloc, text)?;
-    solve_instance(
-        rt,
-        alloc,
-        &instance,
-        None,
-        settings,
-        gate,
-        solution,
-        certificate,
-    )
+    match solve_from(rt, alloc, text, None, settings, gate, solution, certificate) {
+        Ok(answer) => Ok(answer),
+        Err(StartFault::Solve(fault)) => Err(fault),
+        Err(StartFault::Start(_)) => unreachable!(),
+    }
 }
 
 /// What `solve` does, from a plan whose text is given, if it is cheaper than what an insertion builds. Then the
@@ -123,12 +117,12 @@ pub fn solve_from<R: Threads + Wait + Sync, G: Gate + Sync, X: Sink, Y: Sink>(
         (X.held solution.old) (X.held solution.new)
         (Y.held certificate.old) (Y.held certificate.new) result }
 {
-    let instance = read_instance(alloc, text)?;
-    let start = read_start(alloc, &instance, start)?;
+    let instance = &read_instance(alloc, text)?;
+    let start = read_start(alloc, instance, start)?;
     let answer = solve_instance(
         rt,
         alloc,
-        &instance,
+        instance,
         start,
         settings,
         gate,
