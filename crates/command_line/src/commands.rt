@@ -12,9 +12,7 @@ use clap::error::ErrorKind;
 use clap::{Arg, ArgAction, ArgMatches, Command};
 use solomon_reader::{MOST_LEAVES, MOST_NEIGHBOURS};
 use std::alloc::{AllocError, Global};
-use worker_turns::{
-    MOST_BOUNDERS, MOST_GAP, MOST_LABELS, MOST_SEARCHERS, MOST_TURNS, Settings,
-};
+use worker_turns::{MOST_BOUNDERS, MOST_GAP, MOST_LABELS, MOST_SEARCHERS, MOST_TURNS, Settings};
 
 const PROGRAM: &str = "vrptw";
 

@@ -22,7 +22,9 @@ pub fn tell_job<R: Runtime + AllocGlobal>(rt: &R, words: &[&str]) -> io::Result<
         ) => {
             println!(rt; "  solve {instance} {solution} {certificate}")?;
             println!(rt; "  {settings:?}")?;
-            println!(rt; "  close {close} leaves {leaves} progress {progress} live {live} start {start:?}")
+            println!(rt;
+                "  close {close} leaves {leaves} progress {progress} live {live} start {start:?}"
+            )
         }
         Ok(
             Job::Check {

@@ -1,6 +1,6 @@
 //! What a run begins with: the first plans, the root with its first prices, and the book of both.
 
-ghost use Rattle.std.specs.Prelude.{◌≡◌, ◌≢◌, ◌+◌, ◌<◌, ◌≤◌, ◌⊎◌, [], true, length, is_some, IfOk, IfErr, IfSome, OnOk};
+ghost use Rattle.std.specs.Prelude.{◌≡◌, ◌≢◌, ◌+◌, ◌<◌, ◌≤◌, ◌⊎◌, [], true, length, is_some, IfOk, IfErr, IfSome, MatchOption, OnOk};
 ghost use Rattle.solomon_reader.specs.Problem.{customer_count};
 ghost use Rattle.solomon_reader.specs.History.{costs_of};
 ghost use Rattle.solomon_reader.specs.Region.{root_region};
@@ -66,6 +66,23 @@ fn price_root<'i>(
         Err(LabelFault::Memory) => Err(RunFault::Memory),
         Err(LabelFault::LabelLimit) => Err(RunFault::LabelLimit),
     }
+}
+
+/// The plan that insertion builds, or a given one where that is cheaper.
+fn first_plan<'i>(
+    alloc: Global,
+    instance: &'i Instance,
+    start: Option<Feasible<'i>>,
+) -> Result<Option<Feasible<'i>>, AllocError>
+    requires { IfSome start (λ f. f.problem ≡ instance.now) }
+    ensures { IfOk result (λ plan. MatchOption plan (¬ IsServedAlone instance.now)
+        (λ f. f.problem ≡ instance.now)) }
+{
+    let built = build_whole(alloc, instance, &Weights::plain())?;
+    let Some(plan) = cheaper(start, built) else {
+        return Ok(None);
+    };
+    Ok(Some(plan))
 }
 
 /// A book of the root.
@@ -144,8 +161,7 @@ impl<'i> Opening<'i> {
     {
         let root = price_root(alloc, instance, settings)?;
         let labels = Some(pricing_labels(settings, instance.customer_count()));
-        let built = build_whole(alloc, instance, &Weights::plain())?;
-        let Some(plan) = cheaper(start, built) else {
+        let Some(plan) = first_plan(alloc, instance, start)? else {
             let book = open_book(alloc, start_without_plan(alloc, root, labels))?;
             return Ok(Opening { book, plan: None });
         };

@@ -2,3 +2,4 @@ pub mod Answering
 pub mod BoundTexts
 pub mod OutcomeTrees
 pub mod TreeTexts
+pub mod AtMost

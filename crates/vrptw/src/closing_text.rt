@@ -72,8 +72,19 @@ pub fn close<X: Sink, Y: Sink>(
         (X.held solution.old) (X.held solution.new)
         (Y.held certificate.old) (Y.held certificate.new) result }
 {
-    let instance = read_instance(alloc, text)?;
-    close_instance(alloc, &instance, None, settings, leaf_limit, solution, certificate)
+    match close_from(
+        alloc,
+        text,
+        None,
+        settings,
+        leaf_limit,
+        solution,
+        certificate,
+    ) {
+        Ok(answer) => Ok(answer),
+        Err(StartFault::Solve(fault)) => Err(fault),
+        Err(StartFault::Start(_)) => unreachable!(),
+    }
 }
 
 /// What `close` does, from a plan whose text is given, if it is cheaper than what an insertion builds.
@@ -97,9 +108,16 @@ pub fn close_from<X: Sink, Y: Sink>(
         (X.held solution.old) (X.held solution.new)
         (Y.held certificate.old) (Y.held certificate.new) result }
 {
-    let instance = read_instance(alloc, text)?;
-    let start = read_start(alloc, &instance, start)?;
-    let answer =
-        close_instance(alloc, &instance, start, settings, leaf_limit, solution, certificate)?;
+    let instance = &read_instance(alloc, text)?;
+    let start = read_start(alloc, instance, start)?;
+    let answer = close_instance(
+        alloc,
+        instance,
+        start,
+        settings,
+        leaf_limit,
+        solution,
+        certificate,
+    )?;
     Ok(answer)
 }

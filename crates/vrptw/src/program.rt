@@ -15,11 +15,10 @@ use checker::check;
 use command_line::{Job, job};
 use search_workers::{NoGate, Settings};
 use std::alloc::Global;
-use std::fs;
-use std::io;
 use std::rt::Files;
 use std::sync::Wait;
 use std::thread::Threads;
+use std::{fs, io};
 use tenths::{Sink, StdSink};
 
 /// Whether to tell how far the turns are.
@@ -58,14 +57,30 @@ fn solve_text<R: Eprint + Threads + Wait + Sync, X: Sink, Y: Sink>(
     let is_live = match work.telling {
         Telling::Nothing => {
             return solve_from(
-                rt, alloc, text, start, settings, &NoGate, solution, certificate,
+                rt,
+                alloc,
+                text,
+                start,
+                settings,
+                &NoGate,
+                solution,
+                certificate,
             );
         }
         Telling::Lines => false,
         Telling::Live => true,
     };
     let gate = Progress::new(rt, settings, is_live);
-    let answer = solve_from(rt, alloc, text, start, settings, &gate, solution, certificate);
+    let answer = solve_from(
+        rt,
+        alloc,
+        text,
+        start,
+        settings,
+        &gate,
+        solution,
+        certificate,
+    );
     gate.end();
     answer
 }

@@ -55,7 +55,14 @@ fn solve_instance<'i, R: Threads + Wait + Sync, G: Gate + Sync, X: Sink, Y: Sink
     let Found { plan, bound, nodes } = found_by(alloc, &outcome)?;
     let plan = cheaper(start, plan);
     let found = Found { plan, bound, nodes };
-    write_found(alloc, instance, settings.neighbours, found, solution, certificate)
+    write_found(
+        alloc,
+        instance,
+        settings.neighbours,
+        found,
+        solution,
+        certificate,
+    )
 }
 
 /// Solves the instance of a text: writes a plan to the first sink, if one was found, and then to
@@ -80,8 +87,11 @@ pub fn solve<R: Threads + Wait + Sync, G: Gate + Sync, X: Sink, Y: Sink>(
         (X.held solution.old) (X.held solution.new)
         (Y.held certificate.old) (Y.held certificate.new) result }
 {
-    let instance = read_instance(alloc, text)?;
-    solve_instance(rt, alloc, &instance, None, settings, gate, solution, certificate)
+    match solve_from(rt, alloc, text, None, settings, gate, solution, certificate) {
+        Ok(answer) => Ok(answer),
+        Err(StartFault::Solve(fault)) => Err(fault),
+        Err(StartFault::Start(_)) => unreachable!(),
+    }
 }
 
 /// What `solve` does, from a plan whose text is given, if it is cheaper than what an insertion builds. Then the
@@ -107,9 +117,17 @@ pub fn solve_from<R: Threads + Wait + Sync, G: Gate + Sync, X: Sink, Y: Sink>(
         (X.held solution.old) (X.held solution.new)
         (Y.held certificate.old) (Y.held certificate.new) result }
 {
-    let instance = read_instance(alloc, text)?;
-    let start = read_start(alloc, &instance, start)?;
-    let answer =
-        solve_instance(rt, alloc, &instance, start, settings, gate, solution, certificate)?;
+    let instance = &read_instance(alloc, text)?;
+    let start = read_start(alloc, instance, start)?;
+    let answer = solve_instance(
+        rt,
+        alloc,
+        instance,
+        start,
+        settings,
+        gate,
+        solution,
+        certificate,
+    )?;
     Ok(answer)
 }

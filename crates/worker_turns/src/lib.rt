@@ -19,7 +19,5 @@ pub use nodes::Nodes;
 pub use pricing::pricing_labels;
 pub use random::generator;
 pub use searching::search_worker;
-pub use settings::{
-    MOST_BOUNDERS, MOST_GAP, MOST_LABELS, MOST_SEARCHERS, MOST_TURNS, Settings,
-};
+pub use settings::{MOST_BOUNDERS, MOST_GAP, MOST_LABELS, MOST_SEARCHERS, MOST_TURNS, Settings};
 pub use worker::Worker;
