@@ -1,0 +1,8 @@
+use Rattle.std.proofs.Common.{refl}
+use Rattle.vrptw.proofs.Answering.{closed_text}
+use Rattle.vrptw.proofs.closing_text.close_instance.Goals as goal
+
+pub returns-clause-closed : goal.returns-clause-closed
+returns-clause-closed g c text is =
+    closed_text c.args.instance.now c.args.settings.now.neighbours c.args.leaf_limit c.in_ok-closed.closed c.in_ok-closed.ensures.closed text c.args.settings.now _ _ _ _
+    is (c.are_within.ensures.0 c.if-not-are_within.false) refl c.write_found.result c.write_found.ensures
