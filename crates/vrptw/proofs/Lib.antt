@@ -2,4 +2,4 @@ pub mod Answering
 pub mod BoundTexts
 pub mod OutcomeTrees
 pub mod TreeTexts
-pub mod AtMost
+pub mod Cheaper
