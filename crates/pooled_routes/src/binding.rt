@@ -38,6 +38,7 @@ impl<'r> Binding<'r> {
     #[inline(always)]
     fn quotient(&self, number: u64) -> i64 {
         if number < MOST_BY_PRODUCT {
+            // It fits, as each product of two numbers of 64 bits.
             let product = u128::from(number).wrapping_mul(u128::from(self.inverse));
             return (product >> 64) as i64;
         }
@@ -50,13 +51,13 @@ impl<'r> Binding<'r> {
     fn fall(&self, slack: i64) -> i64 {
         let is_beyond = slack < 0;
         let more = if is_beyond {
-            self.weight.wrapping_sub(1)
+            self.weight.saturating_sub(1)
         } else {
             0
         };
-        let quotient = self.quotient(slack.unsigned_abs().wrapping_add(more));
+        let quotient = self.quotient(slack.unsigned_abs().saturating_add(more));
         let fall = if is_beyond {
-            quotient.wrapping_neg()
+            0i64.saturating_sub(quotient)
         } else {
             quotient
         };
@@ -67,11 +68,11 @@ impl<'r> Binding<'r> {
     /// (Hildreth 1957), and answers by how much each price rose.
     #[inline(always)]
     pub(crate) fn project(&mut self, prices: &mut [i64], floor: &mut i64, parts: i64) -> i64 {
-        let slack = reduced(prices, self.stops, self.cost).wrapping_sub(*floor);
+        let slack = reduced(prices, self.stops, self.cost).saturating_sub(*floor);
         let fall = self.fall(slack);
         if fall != 0 {
-            self.multiplier = self.multiplier.wrapping_sub(fall);
-            *floor = floor.wrapping_add(parts.wrapping_mul(fall));
+            self.multiplier = self.multiplier.saturating_sub(fall);
+            *floor = floor.saturating_add(parts.saturating_mul(fall));
             raise(prices, self.stops, fall);
         }
         fall

@@ -26,15 +26,14 @@ pub(crate) fn price(prices: &[i64], row: u16) -> i64 {
     prices.get(usize::from(row)).copied().unwrap_or(0)
 }
 
-/// The cost of a route less the prices of its stops, in grains; that of row i stands at i. Sums wrap: they
-/// would only where prices are far out of proportion, and any prices are sound.
+/// The cost of a route less the prices of its stops, in grains; that of row i stands at i.
 #[inline(always)]
 pub(crate) fn reduced(prices: &[i64], stops: &[Four], cost: i64) -> i64 {
     let mut reduced = cost;
     for [a, b, c, d] in stops {
-        let first = price(prices, *a).wrapping_add(price(prices, *b));
-        let second = price(prices, *c).wrapping_add(price(prices, *d));
-        reduced = reduced.wrapping_sub(first.wrapping_add(second));
+        let first = price(prices, *a).saturating_add(price(prices, *b));
+        let second = price(prices, *c).saturating_add(price(prices, *d));
+        reduced = reduced.saturating_sub(first.saturating_add(second));
     }
     reduced
 }
@@ -44,7 +43,7 @@ pub(crate) fn reduced(prices: &[i64], stops: &[Four], cost: i64) -> i64 {
 fn raise_four(prices: &mut [i64], four: &Four, change: i64) {
     for row in four {
         if let Some(price) = prices.get_mut(usize::from(*row)) {
-            *price = price.wrapping_add(change);
+            *price = price.saturating_add(change);
         }
     }
 }

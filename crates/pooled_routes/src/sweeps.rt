@@ -58,7 +58,7 @@ impl<'r> Sweeps<'r> {
         let mut farthest = 0;
         for binding in self.bindings.iter_mut() {
             let fall = binding.project(prices, &mut floor, parts);
-            risen = risen.wrapping_add(fall);
+            risen = risen.saturating_add(fall);
             farthest = binding.distance(fall).max(farthest);
         }
         trial.floor = trial.floor.raised(risen);
