@@ -42,7 +42,8 @@ impl<'r> Binding<'r> {
             let product = u128::from(number).wrapping_mul(u128::from(self.inverse));
             return (product >> 64) as i64;
         }
-        number.checked_div(self.weight).unwrap_or(0).cast_signed()
+        let quotient = number.checked_div(self.weight).unwrap_or(0);
+        quotient.min(i64::MAX as u64) as i64
     }
 
     /// How far prices are to rise along the route so that its slack is 0, as far as the multiplier
