@@ -19,7 +19,7 @@ EXCEPTED = {
     r"/dev/.*": "the system's",
     r"(c|r|rc)[12](_\d+)?": "the files and classes of docs/measures.md, most of which aren't in the repository",
     r"(?=.*\d)[0-9a-f]{7}": "commits",
-    r"\./plan|(instance|plan|certificate)\.txt": "a user's own files",
+    r"\./plan|(instance|plan|certificate|yesterday|today|start)\.txt": "a user's own files",
 }
 
 # Where files stand that a document names without a folder: what it is about.
