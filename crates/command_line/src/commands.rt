@@ -135,7 +135,7 @@ fn with_closing_options<'a>(alloc: Global, command: Command<'a>) -> Result<Comma
         .arg(flag(
             alloc,
             "close",
-            "Closes an instance of at most 24 customers by one thread; of the other options only --neighbours and --leaves count",
+            "Closes an instance of at most 24 customers by one thread; of the other options only --neighbours, --leaves and --start count",
         ))?
         .arg(number_option(
             alloc,

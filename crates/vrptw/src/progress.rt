@@ -9,13 +9,15 @@ use std::sync::atomic::{AtomicBool, AtomicU64, Ordering};
 use tenths::Tenths;
 
 /// A gate that holds nobody, and tells on standard error how far the turns are: at most once for each
-/// hundredth of them, until cost and bound have met. It has no lock.
+/// hundredth of them, until cost and bound are as near as is enough. It has no lock.
 #[derive(Drop)]
 pub(crate) struct Progress<'a, R: Eprint> {
     rt: &'a R,
     /// Whether one line is written anew in place of one line after the other.
     is_live: bool,
     turns: u64,
+    /// The gap that is enough, in tenths of a percent of the cost.
+    enough: u32,
     made: AtomicU64,
     /// How many leaves of the tree were split.
     splits: AtomicU64,
@@ -68,6 +70,12 @@ fn write_progress<R: Eprint>(rt: &R, is_live: bool, stage: Stage, gap: &Gap) -> 
     )
 }
 
+/// Whether a bound is further below a cost than so many tenths of a percent of the cost.
+fn is_apart(cost: u64, bound: u64, enough: u32) -> bool {
+    let apart = cost.saturating_sub(bound).saturating_mul(1_000);
+    apart > cost.saturating_mul(u64::from(enough))
+}
+
 impl<'a, R: Eprint> Progress<'a, R> {
     /// For all turns that the settings ask for.
     pub(crate) fn new(rt: &'a R, settings: &Settings, is_live: bool) -> Progress<'a, R> {
@@ -76,6 +84,7 @@ impl<'a, R: Eprint> Progress<'a, R> {
             rt,
             is_live,
             turns: workers.saturating_mul(u64::from(settings.turns)).max(1),
+            enough: settings.gap,
             made: AtomicU64::new(0),
             splits: AtomicU64::new(0),
             has_told: AtomicBool::new(false),
@@ -102,7 +111,10 @@ impl<'a, R: Eprint> Gate for Progress<'a, R> {
         let made = self.made.fetch_add(1, Ordering::SeqCst).saturating_add(1);
         let before = made.saturating_sub(1).saturating_mul(100);
         let percent = before.saturating_add(100) / self.turns;
-        let is_open = gap.cost.is_none_or(|cost| cost.get() > gap.bound.get());
+        let is_open = match gap.cost {
+            Some(cost) => is_apart(cost.get(), gap.bound.get(), self.enough),
+            None => true,
+        };
         if is_open && before / self.turns < percent {
             let leaves = self.splits.load(Ordering::SeqCst).saturating_add(1);
             let stage = Stage {
