@@ -100,10 +100,11 @@ def pairs(name, customers, bound, price, states, said):
 
 # On the line of two each route has a reduced cost of 0 or more, which doesn't lower the bound, and the floors say so of
 # each customer's first pair: none is kept. At the depot the first route leaves the bound at 0.0. On the line of three
-# with room for three the floors over load see that no customer comes again. With room for four they don't, and twelve
-# pairs stand: after 1, 2 and 3, after each two of them and after all, by the last one.
+# so few pairs stand that there are no floors over load, with room for three and for four alike. Twelve do: after 1, 2
+# and 3, after each two of them and after all, by the last one.
 PAIRS = [pairs("together", 2, "20.0", 100000, 4, "BOUND 20.0"), pairs("together", 2, "20.0", 100000, 1, "BOUND 20.0"),
-         pairs("still", 2, "0.0", 0, 1, "BOUND 0.0"), pairs("room", 3, "6.0", 100000, 1, "BOUND 6.0"),
+         pairs("still", 2, "0.0", 0, 1, "BOUND 0.0"), pairs("room", 3, "6.0", 100000, 12, "BOUND 6.0"),
+         pairs("room", 3, "6.0", 100000, 11, "vrptw: limit: StateLimit"),
          pairs("wide", 3, "6.0", 100000, 12, "BOUND 6.0"), pairs("wide", 3, "6.0", 100000, 11, "vrptw: limit: StateLimit")]
 
 ROWS = ([texts_of(line) for line in TABLE.strip().split("\n")]
