@@ -1,6 +1,7 @@
 """Runs of the program in which allocations are refused, by the library that `refusing.c` is.
 
-Each run is one of `solve`, `check` or `solve --close` on one of three instances, and one way to refuse: the allocation
+Each run is one of `solve`, `check` or `solve --close` on one of three instances, or `solve --start` on the two smaller
+ones, and one way to refuse: the allocation
 of one number, that one and all after it, or one thread. Every other run of a case takes the next number in turn, from
 1, and the others draw theirs."""
 import functools
@@ -25,9 +26,13 @@ TWO = ["T"] + HEAD[:3] + ["2", "1"] + HEAD[5:] + "0 0 0 0 0 1000 0  1 3 4 1 0 10
 THREE = ["T"] + HEAD[:3] + ["2", "2"] + HEAD[5:] + ("0 0 1 0 0 1000 0  1 100 1 1 0 1000 0  2 100 2 1 0 1000 0  "
                                                   "3 100 0 1 0 1000 0").split()
 FEW = ["--searchers", "1", "--bounders", "1", "--turns", "2"]
+# What a run with a start begins with: each customer alone, and the best plan.
+STARTS = {2: b"Route #1: 1\nRoute #2: 2\nCost 30.0\n", 3: b"Route #1: 2 1\nRoute #2: 3\nCost 401.0\n"}
+STARTED = ["solve"] + FEW + ["--start"]
 ANSWERS = {"BEST": 0, "NO": 0, "GAP": 1, "OPEN": 1}
 CASES = [(size, words, way) for size in (2, 3, 25) for words in (["solve"] + FEW, ["check"], ["solve", "--close"])
          for way in ("one", "all after", "thread") if way != "thread" or words[-1] == "2"]
+CASES += [(size, STARTED, way) for size in STARTS for way in ("one", "all after")]
 
 
 def build(folder):
@@ -74,8 +79,12 @@ def words_run(program, folder, library, case, number):
         for path in paths[1:]:
             put(path, OLD)
         ordered = paths
+    words = words[1:]
+    if words[-1:] == ["--start"]:
+        words = words + [os.path.join(folder, "start")]
+        put(words[-1], STARTS[size])
     variables = variables_of(folder, library, way, number)
-    out, errors, status = run([program, words[0]] + ordered + words[1:], variables, (), LONGEST)
+    out, errors, status = run([program, case[1][0]] + ordered + words, variables, (), LONGEST)
     return shown(out), shown(errors), status, got(paths[1]), got(paths[2]), counted(folder)
 
 
@@ -111,14 +120,15 @@ def judge_memory(program, folder, library, random, seed):
     came = words_run(program, folder, library, case, number)
     told = "%s of %d customers, %s from %d of %d" % (" ".join(words), size, way, number, asked)
     found = judge_came(program, folder, case, usual, came, told)
-    return "%s %d, %s: %s" % (" ".join(words[:2] if words[-1] == "--close" else words[:1]), size, way, found)
+    named = " ".join(words[:1] + [word for word in words[-1:] if word.startswith("--")])
+    return "%s %d, %s: %s" % (named, size, way, found)
 
 
 def judge_came(program, folder, case, usual, came, told):
     """Memory or a thread that was refused is told, or the answer is right; where no thread takes part and nothing was
     refused, it is the usual one."""
     out, errors, status, solution, certificate, (_, _, refused) = came
-    solves, alone = case[1][0] == "solve", case[1] != ["solve"] + FEW
+    solves, alone = case[1][0] == "solve", case[1][:1 + len(FEW)] != ["solve"] + FEW
     if status == 4:
         demand(refused > 0, "%s: memory without a refusal" % told)
         judge_want(came, usual, solves, alone, told)
