@@ -7,7 +7,7 @@ use Rattle.solomon_reader.specs.TwoWords.{Moment, SeatAccount, Obeys, least, gre
 use Rattle.ceiling.specs.declared.law.Hand.{Hand}
 use Rattle.ceiling.specs.declared.law.Opening.{Opening}
 use Rattle.ceiling.specs.declared.seat.CeilingSeat.{CeilingSeat}
-use Rattle.ceiling.specs.Hands.{opening, account, IsKept, parts_of, greatest_word, together}
+use Rattle.ceiling.specs.Hands.{opening, account, IsLawful, parts_of, greatest_word, together}
 use Rattle.ceiling.specs.Seats.{account_of, accounts_of}
 use Rattle.ceiling.proofs.Extremes.{put_cost, told_cost, put_bound, told_bound, least_by, greatest_by, least_at, greatest_at, least_below, greatest_above, parts_at}
 use Rattle.ceiling.proofs.Moves.{Idles}
@@ -93,7 +93,7 @@ whole_hand o n (x ∷ xs) (suc id) v fits idles parts all e =
 
 -- the table at its end, where one hand has all parts
 pub ends : (o : Opening) (id : ℕ) (v : Hand) (cost bound : ℕ) (words : List ℕ) (slots : List (Unit {0})) → v.parts ≡ o.parts
-    → Final (Seen (IsKept o) id v) words slots → get_elem? words 0 ≡ some cost → get_elem? words 1 ≡ some bound → Obeys (opening o) (account v ∷ []) (record { cost = cost; bound = bound })
+    → Final (Seen (IsLawful o) id v) words slots → get_elem? words 0 ≡ some cost → get_elem? words 1 ≡ some bound → Obeys (opening o) (account v ∷ []) (record { cost = cost; bound = bound })
 ends o id v cost bound words slots all final first second =
     let kept = final.1.0 in
     let at = final.1.1 in

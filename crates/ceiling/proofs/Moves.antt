@@ -7,7 +7,7 @@ use Rattle.atomic_table.proofs.Lists.{at_set, at_snoc, set_here, set_else}
 use Rattle.solomon_reader.specs.TwoWords.{Moment, SeatAccount}
 use Rattle.ceiling.specs.declared.law.Hand.{Hand}
 use Rattle.ceiling.specs.declared.law.Opening.{Opening}
-use Rattle.ceiling.specs.Hands.{opening, account, first_hand, IsKept, Holds, Lowered, Raised, SawCost, SawBound, greatest_word, with_fewer, with_one, together, idle_hand}
+use Rattle.ceiling.specs.Hands.{opening, account, first_hand, IsLawful, Holds, Lowered, Raised, SawCost, SawBound, greatest_word, with_fewer, with_one, together, idle_hand}
 use Rattle.ceiling.proofs.Extremes.{put_cost, told_cost, put_bound, told_bound, least_by, greatest_by, least_at, greatest_at, least_set, greatest_set, least_same, greatest_same, least_unset, greatest_unset, least_snoc, greatest_snoc, parts_set, parts_snoc}
 
 -- each hand with no part has put nothing
@@ -107,7 +107,7 @@ module _ (o : Opening) (hands : List Hand) (id : ℕ) (v : Hand) (at : get_elem?
       }
 
 module _ (o : Opening) (slots id : ℕ) (me : Me (Unit {0}) Hand) (k : ℕ) (part : 0 < me.0.parts) where
-  pub lowers : Allows (IsKept o) slots id me 0 (λ n. min n k) (Lowered (step slots 0 k 0 none) me)
+  pub lowers : Allows (IsLawful o) slots id me 0 (λ n. min n k) (Lowered (step slots 0 k 0 none) me)
   lowers s kept homes at word =
       let now = kept.0 in
       let law = kept.2.law in
@@ -115,7 +115,7 @@ module _ (o : Opening) (slots id : ℕ) (me : Me (Unit {0}) Hand) (k : ℕ) (par
       let put_before = least_at put_cost o.cost s.views id me.0 at in
       let told_before = least_at told_cost o.cost s.views id me.0 at in
       let w : Hand = record me.0 { put_cost = min me.0.put_cost k; told_cost = min now.cost k } in
-      let P : ℕ → Type 0 = λ n. (w : Hand) × (a : Act (Unit {0})) × Valid s.homes me.1 a × IsKept o (stepped s 0 (min n k) id me.1 w a) × Lowered (step slots 0 k 0 none) me n (w, carried_after me.1 a) in
+      let P : ℕ → Type 0 = λ n. (w : Hand) × (a : Act (Unit {0})) × Valid s.homes me.1 a × IsLawful o (stepped s 0 (min n k) id me.1 w a) × Lowered (step slots 0 k 0 none) me n (w, carried_after me.1 a) in
       subst P (sym (ap (λ (ws : List ℕ). slice_index ws 0) kept.1)) (
         w,
         keeps,
@@ -124,7 +124,7 @@ module _ (o : Opening) (slots id : ℕ) (me : Me (Unit {0}) Hand) (k : ℕ) (par
         (refl, refl, record { newest = record { put = omega arith; told = omega arith }; lower = omega arith; seat = refl }),
       )
 
-  pub raises : Allows (IsKept o) slots id me 1 (λ n. max n k) (Raised (step slots 1 k 0 none) me)
+  pub raises : Allows (IsLawful o) slots id me 1 (λ n. max n k) (Raised (step slots 1 k 0 none) me)
   raises s kept homes at word =
       let now = kept.0 in
       let law = kept.2.law in
@@ -132,7 +132,7 @@ module _ (o : Opening) (slots id : ℕ) (me : Me (Unit {0}) Hand) (k : ℕ) (par
       let put_before = greatest_at put_bound o.bound s.views id me.0 at in
       let told_before = greatest_at told_bound o.bound s.views id me.0 at in
       let w : Hand = record me.0 { put_bound = max me.0.put_bound k; told_bound = max now.bound k } in
-      let P : ℕ → Type 0 = λ n. (w : Hand) × (a : Act (Unit {0})) × Valid s.homes me.1 a × IsKept o (stepped s 1 (max n k) id me.1 w a) × Raised (step slots 1 k 0 none) me n (w, carried_after me.1 a) in
+      let P : ℕ → Type 0 = λ n. (w : Hand) × (a : Act (Unit {0})) × Valid s.homes me.1 a × IsLawful o (stepped s 1 (max n k) id me.1 w a) × Raised (step slots 1 k 0 none) me n (w, carried_after me.1 a) in
       subst P (sym (ap (λ (ws : List ℕ). slice_index ws 1) kept.1)) (
         w,
         keeps,
@@ -141,7 +141,7 @@ module _ (o : Opening) (slots id : ℕ) (me : Me (Unit {0}) Hand) (k : ℕ) (par
         (refl, refl, record { newest = record { put = omega arith; told = omega arith }; higher = omega arith; seat = refl }),
       )
 
-  pub reads_cost : Allows (IsKept o) slots id me 0 (λ n. n) (SawCost (step slots 0 0 0 none) me)
+  pub reads_cost : Allows (IsLawful o) slots id me 0 (λ n. n) (SawCost (step slots 0 0 0 none) me)
   reads_cost s kept homes at word =
       let now = kept.0 in
       let law = kept.2.law in
@@ -149,7 +149,7 @@ module _ (o : Opening) (slots id : ℕ) (me : Me (Unit {0}) Hand) (k : ℕ) (par
       let put_before = least_at put_cost o.cost s.views id me.0 at in
       let told_before = least_at told_cost o.cost s.views id me.0 at in
       let w : Hand = record me.0 { told_cost = now.cost } in
-      let P : ℕ → Type 0 = λ n. (w : Hand) × (a : Act (Unit {0})) × Valid s.homes me.1 a × IsKept o (stepped s 0 n id me.1 w a) × SawCost (step slots 0 0 0 none) me n (w, carried_after me.1 a) in
+      let P : ℕ → Type 0 = λ n. (w : Hand) × (a : Act (Unit {0})) × Valid s.homes me.1 a × IsLawful o (stepped s 0 n id me.1 w a) × SawCost (step slots 0 0 0 none) me n (w, carried_after me.1 a) in
       subst P (sym (ap (λ (ws : List ℕ). slice_index ws 0) kept.1)) (
         w,
         keeps,
@@ -158,7 +158,7 @@ module _ (o : Opening) (slots id : ℕ) (me : Me (Unit {0}) Hand) (k : ℕ) (par
         (refl, refl, record { newest = record { put = omega arith; told = omega arith }; seat = refl }),
       )
 
-  pub reads_bound : Allows (IsKept o) slots id me 1 (λ n. n) (SawBound (step slots 1 0 0 none) me)
+  pub reads_bound : Allows (IsLawful o) slots id me 1 (λ n. n) (SawBound (step slots 1 0 0 none) me)
   reads_bound s kept homes at word =
       let now = kept.0 in
       let law = kept.2.law in
@@ -166,7 +166,7 @@ module _ (o : Opening) (slots id : ℕ) (me : Me (Unit {0}) Hand) (k : ℕ) (par
       let put_before = greatest_at put_bound o.bound s.views id me.0 at in
       let told_before = greatest_at told_bound o.bound s.views id me.0 at in
       let w : Hand = record me.0 { told_bound = now.bound } in
-      let P : ℕ → Type 0 = λ n. (w : Hand) × (a : Act (Unit {0})) × Valid s.homes me.1 a × IsKept o (stepped s 1 n id me.1 w a) × SawBound (step slots 1 0 0 none) me n (w, carried_after me.1 a) in
+      let P : ℕ → Type 0 = λ n. (w : Hand) × (a : Act (Unit {0})) × Valid s.homes me.1 a × IsLawful o (stepped s 1 n id me.1 w a) × SawBound (step slots 1 0 0 none) me n (w, carried_after me.1 a) in
       subst P (sym (ap (λ (ws : List ℕ). slice_index ws 1) kept.1)) (
         w,
         keeps,
@@ -190,7 +190,7 @@ opens o part fits = record {
   fits = fits;
 }
 
-pub splits : (o : Opening) (id : ℕ) (v : Hand) → 1 < v.parts → Splits {S = Unit {0}} (IsKept o) id v (with_fewer v) (with_one v)
+pub splits : (o : Opening) (id : ℕ) (v : Hand) → 1 < v.parts → Splits {S = Unit {0}} (IsLawful o) id v (with_fewer v) (with_one v)
 splits o id v more s kept at =
     let held = kept.2 in
     let law = held.law in
@@ -252,7 +252,7 @@ module _ (f : SeatAccount → ℕ) (n : ℕ) (hands : List Hand) (id other : ℕ
     greatest_at f n (set (set hands id both) other spent) id both here,
   )
 
-pub joins : (o : Opening) (id : ℕ) (v : Hand) (other : ℕ) (w : Hand) → 0 < v.parts → Joins {S = Unit {0}} (IsKept o) id v other w (together v w) idle_hand
+pub joins : (o : Opening) (id : ℕ) (v : Hand) (other : ℕ) (w : Hand) → 0 < v.parts → Joins {S = Unit {0}} (IsLawful o) id v other w (together v w) idle_hand
 joins o id v other w part s kept at two at' =
     let held = kept.2 in
     let law = held.law in

@@ -56,8 +56,9 @@ pub record Holds (o : Opening) (now : Moment) (hands : List Hand) : Type 0 where
   pub idle : (id : ℕ) (v : Hand) → get_elem? hands id ≡ some v → v.parts ≡ 0 → (v.put_cost ≡ greatest_word) × (v.put_bound ≡ 0)
   pub fits : o.cost ≤ greatest_word
 
-abbrev pub IsKept : Opening → State (Unit {0}) Hand → Type 0
-IsKept o s = (now : Moment) × (s.words ≡ now.cost ∷ now.bound ∷ []) × Holds o now s.views
+-- the words of a table are a cost and a bound of which all this holds
+abbrev pub IsLawful : Opening → State (Unit {0}) Hand → Type 0
+IsLawful o s = (now : Moment) × (s.words ≡ now.cost ∷ now.bound ∷ []) × Holds o now s.views
 
 -- the cost became the least of what was found and put
 abbrev pub Lowered : Step (Unit {0}) → Me (Unit {0}) Hand → ℕ → Me (Unit {0}) Hand → Type 0

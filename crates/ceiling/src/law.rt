@@ -24,9 +24,9 @@ pub(crate) struct Opening {
 pub(crate) struct Law;
 
 impl TableRule<(), Hand, Opening> for Law {
-    ghost use Rattle.ceiling.specs.Hands.{IsKept, first_hand};
+    ghost use Rattle.ceiling.specs.Hands.{IsLawful, first_hand};
 
-    ghost holds = { IsKept };
+    ghost holds = { IsLawful };
 
     ghost first = { first_hand };
 }

@@ -21,7 +21,7 @@ use Rattle.moves.specs.Values.{HasValue}
 use Rattle.moves.proofs.Swaps.{ends}
 use Rattle.gains.specs.declared.cuts.Cut.{Cut}
 use Rattle.gains.specs.Cuts.{IsCut, cut_at, joint_of, change_apart, ends_change, front_change}
-use Rattle.gains.specs.Gaps.{IsLeastEndSwap}
+use Rattle.gains.specs.Gaps.{IsEndSwapBound}
 use Rattle.gains.specs.Gains.{Starts, IsFirstCut, IsEndsKind, first_taken, second_taken}
 use Rattle.gains.proofs.CutStops.{first_dropped, first_position, some_position, nothing_first}
 use Rattle.gains.proofs.MoveChanges.{start_stands, second_stands, value_apart}
@@ -97,7 +97,7 @@ taken_second kind.TwoOptStar l left h = refl
 taken_second kind.Cross l left h = absurd h
 
 module _ (p : Problem) (laws : SegmentLaws) (limits : IsWithinLimits p) (routes : List (List ℕ)) (k : Kind) (f : Chain) (b : ℕ) (c : Cut) (x : ℤ) (plan : IsPlan p routes) (kind : IsEndsKind k) (ne : f.route ≢ b)
-    (first : IsFirstCut routes k f c) (least : IsLeastEndSwap p (route routes f.route) f.position c (route routes b) x) where
+    (first : IsFirstCut routes k f c) (least : IsEndSwapBound p (route routes f.route) f.position c (route routes b) x) where
   -- no exchange of ends from a chain on changes the cost by less than the least
   pub no_end_is_better : (n : Move) (u : ℤ) → kind_of n ≡ k → Starts (f.route ∷ f.position ∷ f.length ∷ []) (numbers n) → Starts (f.route ∷ f.position ∷ f.length ∷ b ∷ []) (numbers n) → HasValue p routes n u → x ≤ℤ u
   no_end_is_better n u e t s h =

@@ -19,7 +19,7 @@ use Rattle.gains.specs.declared.cuts.Cut.{Cut}
 use Rattle.gains.specs.declared.replaced.Replaced.{Replaced}
 use Rattle.gains.specs.declared.route_gaps.Gap.{Gap}
 use Rattle.gains.specs.Cuts.{cut_at, change_apart}
-use Rattle.gains.specs.Gaps.{IsGap, AreGaps, MayFollow, MayPrecede, IsLeastSwap}
+use Rattle.gains.specs.Gaps.{IsGap, AreGaps, MayFollow, MayPrecede, IsSwapBound}
 use Rattle.gains.specs.Kept.{skip, skip_if, origin_of, IsReplaced}
 use Rattle.gains.proofs.SwapBounds.{low_enough, cut_is}
 
@@ -64,7 +64,7 @@ abbrev pub LeastBefore : Problem → List ℕ → Cut → ℕ → ℤ → Type 0
 LeastBefore p r c k x = (i : ℕ) → i < k → MayFollow p r i c → MayPrecede p r i c → x ≤ℤ change_apart p c (cut_at r i 0)
 
 -- all gaps were looked at
-pub all_gaps : (p : Problem) (r : List ℕ) (c : Cut) (n : ℕ) (x : ℤ) → n ≡ length r + 1 → LeastBefore p r c n x → IsLeastSwap p r c 0 0 x
+pub all_gaps : (p : Problem) (r : List ℕ) (c : Cut) (n : ℕ) (x : ℤ) → n ≡ length r + 1 → LeastBefore p r c n x → IsSwapBound p r c 0 0 x
 all_gaps p r c n x count least i l low high fits follow precede =
     let none : 0 ≡ l = omega (arith, high) in
     let here : i + l ≡ i = omega (arith, high) in

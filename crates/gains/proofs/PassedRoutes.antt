@@ -20,7 +20,7 @@ use Rattle.moves.proofs.Rebuilding.{rebuilt_parts}
 use Rattle.moves.proofs.Swaps.{swap_rebuilds, or_opt_later_is, or_opt_earlier_is, position_apart_from, exchange_apart_is, two_opt_star_is, cross_is}
 use Rattle.gains.specs.declared.cuts.Cut.{Cut}
 use Rattle.gains.specs.Cuts.{cut_at, change_apart, AreKnownCuts}
-use Rattle.gains.specs.Gaps.{IsLeastSwap}
+use Rattle.gains.specs.Gaps.{IsSwapBound}
 use Rattle.gains.specs.Gains.{Starts, IsFirstCut, TakesBetween, first_taken, second_taken, taken_chain, first_chain_of, second_chain_of}
 use Rattle.gains.proofs.CutStops.{known_cut}
 use Rattle.gains.proofs.MoveChanges.{first_chain, second_chain, start_stands, second_stands, value_apart}
@@ -108,7 +108,7 @@ numbers_fit p routes k n f s v plan e is ne h =
     rw (first, second) at (move_fits p routes n v plan (rw (first, second) ne) h)
 
 module _ (p : Problem) (laws : SegmentLaws) (limits : IsWithinLimits p) (routes : List (List ℕ)) (k : Kind) (f : Chain) (b : ℕ) (c : Cut) (low high : ℕ) (x : ℤ) (plan : IsPlan p routes) (ne : f.route ≢ b)
-    (takes : TakesBetween k low high) (first : IsFirstCut routes k f c) (least : IsLeastSwap p (route routes b) c low high x) where
+    (takes : TakesBetween k low high) (first : IsFirstCut routes k f c) (least : IsSwapBound p (route routes b) c low high x) where
   -- no move with a chain changes the cost by less than the least swap
   pub none_is_better : (n : Move) (u : ℤ) → kind_of n ≡ k → Starts (f.route ∷ f.position ∷ f.length ∷ []) (numbers n) → Starts (f.route ∷ f.position ∷ f.length ∷ b ∷ []) (numbers n) → HasValue p routes n u → x ≤ℤ u
   none_is_better n u e t s h =

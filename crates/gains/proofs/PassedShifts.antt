@@ -13,7 +13,7 @@ use Rattle.moves.specs.Values.{HasValue, after}
 use Rattle.moves.specs.Changes.{rebuilt, swapped_within}
 use Rattle.moves.proofs.Swaps.{position_within_from}
 use Rattle.gains.specs.declared.cuts.Cut.{Cut}
-use Rattle.gains.specs.Cuts.{IsCut, cut_at, change_apart, change_within, IsLeastShift, IsShiftChange}
+use Rattle.gains.specs.Cuts.{IsCut, cut_at, change_apart, change_within, IsShiftBound, IsShiftChange}
 use Rattle.gains.specs.Gains.{Starts, IsFirstCut, IsShiftKind, first_taken, taken_chain}
 use Rattle.gains.proofs.CutStops.{some_position}
 use Rattle.gains.proofs.MoveChanges.{first_chain, second_chain, or_opt_of, back_is, shifts_back, shifts_forward, value_within}
@@ -66,8 +66,8 @@ module _ (p : Problem) (routes : List (List ℕ)) (k : Kind) (f : Chain) (c : Cu
         },
       )
 
-  pub no_shift_is_better : (x : ℤ) → IsLeastShift p (route routes f.route) c 0 f.position x
-      → IsLeastShift p (route routes f.route) c (f.position + (taken_chain routes (first_taken k) f).length + 1) (length (route routes f.route) + 1) x → x ≤ℤ pos 0
+  pub no_shift_is_better : (x : ℤ) → IsShiftBound p (route routes f.route) c 0 f.position x
+      → IsShiftBound p (route routes f.route) c (f.position + (taken_chain routes (first_taken k) f).length + 1) (length (route routes f.route) + 1) x → x ≤ℤ pos 0
       → (n : Move) (u : ℤ) → kind_of n ≡ k → Starts (f.route ∷ f.position ∷ f.length ∷ f.route ∷ []) (numbers n) → HasValue p routes n u → x ≤ℤ u
   no_shift_is_better x back on low n u e s h =
       let q = get_or (numbers n) 4 0 in

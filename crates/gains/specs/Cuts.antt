@@ -71,5 +71,5 @@ abbrev pub AreKnownCuts : Problem → List ℕ → Type 0
 AreKnownCuts p r = (i l : ℕ) → i + l ≤ length r → IsKnownCut p (cut_at r i l)
 
 -- the chain c, put into any of some gaps of a route, changes the cost by no less
-abbrev pub IsLeastShift : Problem → List ℕ → Cut → ℕ → ℕ → ℤ → Type 0
-IsLeastShift p r c from to x = (i : ℕ) → from ≤ i → i < to → i ≤ length r → x ≤ℤ change_apart p c (cut_at r i 0)
+abbrev pub IsShiftBound : Problem → List ℕ → Cut → ℕ → ℕ → ℤ → Type 0
+IsShiftBound p r c from to x = (i : ℕ) → from ≤ i → i < to → i ≤ length r → x ≤ℤ change_apart p c (cut_at r i 0)

@@ -53,9 +53,9 @@ abbrev pub MayMeet : Problem → List ℕ → ℕ → List ℕ → ℕ → Type 
 MayMeet p r i q j = (g h : Gap) → IsGap p r i g → IsGap p q j h → g.leaves ≤ℤ h.latest
 
 -- no swap of the chain c with low to high stops of a route, between whose neighbours it may stand, changes the cost by less
-abbrev pub IsLeastSwap : Problem → List ℕ → Cut → ℕ → ℕ → ℤ → Type 0
-IsLeastSwap p r c low high x = (i l : ℕ) → low ≤ l → l ≤ high → i + l ≤ length r → MayFollow p r i c → MayPrecede p r (i + l) c → x ≤ℤ change_apart p c (cut_at r i l)
+abbrev pub IsSwapBound : Problem → List ℕ → Cut → ℕ → ℕ → ℤ → Type 0
+IsSwapBound p r c low high x = (i l : ℕ) → low ≤ l → l ≤ high → i + l ≤ length r → MayFollow p r i c → MayPrecede p r (i + l) c → x ≤ℤ change_apart p c (cut_at r i l)
 
 -- no exchange of the ends from the chain c on, at gap i of a route, and behind a gap of another, where both may be in time, changes the cost by less
-abbrev pub IsLeastEndSwap : Problem → List ℕ → ℕ → Cut → List ℕ → ℤ → Type 0
-IsLeastEndSwap p r i c q x = (j : ℕ) → j ≤ length q → MayMeet p r i q j → MayMeet p q j r i → x ≤ℤ front_change p q c j
+abbrev pub IsEndSwapBound : Problem → List ℕ → ℕ → Cut → List ℕ → ℤ → Type 0
+IsEndSwapBound p r i c q x = (j : ℕ) → j ≤ length q → MayMeet p r i q j → MayMeet p q j r i → x ≤ℤ front_change p q c j

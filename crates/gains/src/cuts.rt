@@ -5,7 +5,7 @@ ghost use Rattle.solomon_reader.specs.Problem.{customer_count};
 ghost use Rattle.solomon_reader.specs.Distance.{distance};
 ghost use Rattle.solomon_reader.specs.declared.limits.TheConstants.{MOST_DISTANCE};
 ghost use Rattle.segments.specs.Segments.{last_from};
-ghost use Rattle.gains.specs.Cuts.{AreBeside, IsCut, IsKnownCut, joint_of, change_apart, change_within, ends_change, AreKnownCuts, IsLeastShift};
+ghost use Rattle.gains.specs.Cuts.{AreBeside, IsCut, IsKnownCut, joint_of, change_apart, change_within, ends_change, AreKnownCuts, IsShiftBound};
 
 use moves::Chain;
 use solomon_reader::{Instance, MOST_DISTANCE};
@@ -95,7 +95,7 @@ fn joint(instance: &Instance, before: u16, chain: &Cut, behind: u16) -> i64
     ensures value { result ≡ pos (joint_of instance.now before chain.now behind) }
     ensures bound { result ≤ℤ pos (2 * MOST_DISTANCE) }
 {
-    let _count = instance.customer_count();
+    instance.law_of_limits();
     if chain.some {
         let to = instance.distance(before, chain.first).get();
         let from = instance.distance(chain.last, behind).get();
@@ -165,9 +165,9 @@ pub fn least_front(last: (i64, i64, i64), most: usize) -> i64
     lesser(lesser(last.0, last.1), last.2)
 }
 
-/// The least of what a chain changes of the cost that goes into one of some gaps of a route, counted by
-/// the stops before them, in tenths, or what was found before, if that is less.
-pub fn least_shift(
+/// A number of tenths, at most what was found before: a chain that goes into one of some gaps of a route,
+/// counted by the stops before them, changes the cost by no less.
+pub fn shift_bound(
     instance: &Instance,
     stops: &[u16],
     chain: &Cut,
@@ -178,7 +178,7 @@ pub fn least_shift(
     requires stops { AreKnownCuts instance.now stops.now }
     requires gaps { gaps.end ≤ length stops.now + 1 }
     ensures lower { result ≤ℤ before }
-    ensures least { IsLeastShift instance.now stops.now chain.now gaps.start gaps.end result }
+    ensures least { IsShiftBound instance.now stops.now chain.now gaps.start gaps.end result }
 {
     let mut least = before;
     for position in gaps.start..gaps.end {
@@ -195,7 +195,7 @@ fn arc(instance: &Instance, from: u16, to: u16) -> i64
     ensures value { result ≡ pos (distance instance.now from to) }
     ensures bound { result ≤ℤ pos MOST_DISTANCE }
 {
-    let _count = instance.customer_count();
+    instance.law_of_limits();
     instance.distance(from, to).get() as i64
 }
 

@@ -4,11 +4,11 @@ ghost use Rattle.std.specs.Prelude.{◌≡◌, ◌≢◌, ◌+◌, ◌*◌, ◌�
 ghost use Rattle.solomon_reader.specs.declared.limits.TheConstants.{MOST_DISTANCE};
 ghost use Rattle.gains.specs.Cuts.{AreBeside, IsKnownCut, ends_change};
 ghost use Rattle.gains.specs.Gains.{IsFirstCut};
-ghost use Rattle.gains.specs.Gaps.{IsLeastSwap, IsLeastEndSwap};
+ghost use Rattle.gains.specs.Gaps.{IsSwapBound, IsEndSwapBound};
 ghost use Rattle.gains.specs.Searches.{instance_of, plan_of, IsOfPlan, NoneIsBetter, NoneIsLess};
 
 use crate::comparing::is_shift;
-use crate::cuts::{Cut, NO_FRONT, change_apart, change_of_ends, least_front, least_shift, lesser};
+use crate::cuts::{Cut, NO_FRONT, change_apart, change_of_ends, least_front, shift_bound, lesser};
 use crate::found::{Found, may_be_better};
 use crate::neighbourhood::Neighbourhood;
 use crate::route_gaps::{Gap, window_of};
@@ -75,19 +75,19 @@ impl Neighbourhood<'_, '_> {
         let from = usize::from(chain.position);
         let to = from + usize::from(chain.length) + 1;
         let instance = self.trees.instance();
-        let least = least_shift(instance, stops, cut, 0..from.min(ends), 0);
-        let least = least_shift(instance, stops, cut, to..ends, least);
+        let least = shift_bound(instance, stops, cut, 0..from.min(ends), 0);
+        let least = shift_bound(instance, stops, cut, to..ends, least);
         !may_be_better(least, before)
     }
 
-    /// The least of what a chain changes of the cost that goes into one of the gaps of the second route
-    /// where it may be in time, in tenths, or 0, if that is less.
+    /// A number of tenths, at most 0: a chain that goes into a gap of the second route where it may be in
+    /// time changes the cost by no less.
     #[inline(always)]
-    fn least_detour(&self, chain: &Cut) -> i64
+    fn detour_bound(&self, chain: &Cut) -> i64
         requires plan { IsOfPlan self.now }
         requires chain { IsKnownCut (instance_of self.now) chain.now }
         requires all { length self.now.gaps.now ≡ length self.now.others.now + 1 }
-        ensures { IsLeastSwap (instance_of self.now) self.now.others.now chain.now 0 0 result }
+        ensures { IsSwapBound (instance_of self.now) self.now.others.now chain.now 0 0 result }
     {
         let instance = self.trees.instance();
         let (due, left) = window_of(instance, chain);
@@ -107,17 +107,17 @@ impl Neighbourhood<'_, '_> {
         least
     }
 
-    /// The least of what swaps of a chain with one to so many stops of the second route change of the cost,
-    /// where it may be in time, in tenths, or 0, if that is less. A swap changes the cost as two exchanges of
-    /// ends do, one at the front of the chain and one behind it, so that each gap is looked at once.
+    /// A number of tenths, at most 0: no swap of a chain with one to so many stops of the second route,
+    /// where it may be in time, changes the cost by less. A swap changes the cost as two exchanges of ends
+    /// do, one at the front of the chain and one behind it, so that each gap is looked at once.
     #[inline(always)]
-    fn least_swap(&self, chain: &Cut, most: usize) -> i64
+    fn swap_bound(&self, chain: &Cut, most: usize) -> i64
         requires plan { IsOfPlan self.now }
         requires chain { IsKnownCut (instance_of self.now) chain.now }
         requires some { chain.now.some ≡ true }
         requires all { length self.now.gaps.now ≡ length self.now.others.now + 1 }
         requires few { most ≤ 3 }
-        ensures { IsLeastSwap (instance_of self.now) self.now.others.now chain.now 1 most result }
+        ensures { IsSwapBound (instance_of self.now) self.now.others.now chain.now 1 most result }
     {
         let instance = self.trees.instance();
         let (due, left) = window_of(instance, chain);
@@ -136,11 +136,11 @@ impl Neighbourhood<'_, '_> {
     /// A number of tenths, at most 0: no exchange of the ends from a chain on and behind a gap of the second
     /// route that leaves both in time changes the cost by less. `None` where the first route's gaps aren't known.
     #[inline(always)]
-    fn least_end_swap(&self, first: &Chain, cut: &Cut) -> Option<i64>
+    fn end_swap_bound(&self, first: &Chain, cut: &Cut) -> Option<i64>
         requires plan { IsOfPlan self.now }
         requires cut { IsKnownCut (instance_of self.now) cut.now }
         requires all { length self.now.gaps.now ≡ length self.now.others.now + 1 }
-        ensures { IfSome result (λ x. IsLeastEndSwap (instance_of self.now) self.now.stops.now
+        ensures { IfSome result (λ x. IsEndSwapBound (instance_of self.now) self.now.stops.now
             first.now.position cut.now self.now.others.now x) }
     {
         let own = self.own_gaps.get(usize::from(first.position))?;
@@ -159,7 +159,7 @@ impl Neighbourhood<'_, '_> {
     /// A number of tenths, at most 0: no move with this first chain between two routes changes the cost by
     /// less. `None` where that isn't told.
     #[inline(always)]
-    fn least_apart(&self, first: &Chain, cut: &Cut) -> Option<i64>
+    fn apart_bound(&self, first: &Chain, cut: &Cut) -> Option<i64>
         requires plan { IsOfPlan self.now }
         requires cut { IsFirstCut (plan_of self.now) self.now.kind first.now cut.now }
         requires first { first.now.route ≡ self.now.first }
@@ -173,11 +173,11 @@ impl Neighbourhood<'_, '_> {
             return None;
         }
         match self.kind {
-            Kind::Relocate | Kind::OrOpt => Some(self.least_detour(cut)),
-            Kind::Exchange if cut.some => Some(self.least_swap(cut, 1)),
-            Kind::Cross if cut.some => Some(self.least_swap(cut, 3)),
+            Kind::Relocate | Kind::OrOpt => Some(self.detour_bound(cut)),
+            Kind::Exchange if cut.some => Some(self.swap_bound(cut, 1)),
+            Kind::Cross if cut.some => Some(self.swap_bound(cut, 3)),
             Kind::Exchange | Kind::Cross => None,
-            Kind::TwoOptStar => self.least_end_swap(first, cut),
+            Kind::TwoOptStar => self.end_swap_bound(first, cut),
         }
     }
 
@@ -193,8 +193,8 @@ impl Neighbourhood<'_, '_> {
         if self.first == self.second {
             return self.is_no_better_within(first, cut, before);
         }
-        match self.least_apart(first, cut) {
-            Some(least) => !may_be_better(least, before),
+        match self.apart_bound(first, cut) {
+            Some(bound) => !may_be_better(bound, before),
             None => false,
         }
     }

@@ -58,7 +58,7 @@ pub fn window_of(instance: &Instance, chain: &Cut) -> (i64, i64)
     ensures left { result.1 ≡ pos (ready instance.now chain.now.last + service instance.now
         chain.now.last) }
 {
-    let _count = instance.customer_count();
+    instance.law_of_limits();
     let due = instance.due(chain.first) as i64;
     let left = instance.ready(chain.last) + instance.service(chain.last);
     (due, left as i64)

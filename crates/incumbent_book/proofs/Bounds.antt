@@ -10,13 +10,13 @@ use Rattle.solomon_reader.specs.DualityLaws.{weak_duality}
 use Rattle.solomon_reader.specs.History.{Event, offered, repriced, branched, split_count, used_number, unused_number, split_of, IsLeaf, region_of, value_of, IsBound, IsLegal}
 use Rattle.incumbent_book.specs.Contents.{Contents, IsBook, pricing_at}
 use Rattle.incumbent_book.specs.Arena.{IsLeastOf}
-use Rattle.incumbent_book.specs.Keeping.{IsKept}
+use Rattle.incumbent_book.specs.Keeping.{IsConsistent}
 use Rattle.incumbent_book.specs.declared.node.Node.{Node}
 use Rattle.incumbent_book.proofs.Histories.{elsewhere, not_yet, same_region, used_region, unused_region}
 use Rattle.incumbent_book.proofs.Growing.{open_at, leaf_is}
 use Rattle.incumbent_book.proofs.Kept.{kept_open}
 
-module _ (b : Contents) (nodes : List Node) (is : IsKept b nodes) where
+module _ (b : Contents) (nodes : List Node) (is : IsConsistent b nodes) where
   reached_at : (v : ℕ) → IsLeastOf nodes (Some v) → (m : ℕ) × IsLeaf b.past m × (v ≡ value_of b.root b.past m)
   reached_at v least =
       let m = least.0.0 in let l = least.0.1 in

@@ -14,7 +14,7 @@ use Rattle.incumbent_book.specs.Contents.{Contents, IsBook, pricing_at}
 use Rattle.incumbent_book.specs.Faults.{IsAccepted, reprice, split}
 use Rattle.incumbent_book.specs.Replies.{with_offer, with_incumbent, with_prices, with_split}
 use Rattle.incumbent_book.specs.Arena.{leaf_at, new_leaf, prices_of}
-use Rattle.incumbent_book.specs.Keeping.{IsKept, IsLeafOf}
+use Rattle.incumbent_book.specs.Keeping.{IsConsistent, IsLeafOf}
 use Rattle.incumbent_book.specs.declared.fault.BookFault.TheVariants.{ForeignInstance, JournalFull, NotALeaf, WrongRegion, NotHigher, Lower, LeavesFull, TooDeep}
 use Rattle.incumbent_book.specs.declared.node.Leaf.{Leaf}
 use Rattle.incumbent_book.specs.declared.node.Node.{Node}
@@ -22,7 +22,7 @@ use Rattle.incumbent_book.specs.declared.node.Node.TheVariants.{Open, Split}
 use Rattle.incumbent_book.proofs.Histories.{best-better, best-kept, which_number, same_depth, used_depth, unused_depth}
 use Rattle.incumbent_book.proofs.Growing.{open_node, open_at, leaf_is, leaf_there, no_leaf, after_offer, after_prices, after_split}
 
-module _ (b : Contents) (nodes : List Node) (is : IsKept b nodes) where
+module _ (b : Contents) (nodes : List Node) (is : IsConsistent b nodes) where
   abbrev n : ℕ
   n = customer_count b.problem
 
@@ -63,7 +63,7 @@ module _ (b : Contents) (nodes : List Node) (is : IsKept b nodes) where
       let o = open_at b.problem b.neighbours b.root b.past nodes is.arena m l.0 l.1 in
       (l.0, l.1, o.value, o.depth)
 
-  pub kept_keep : (worker cost : ℕ) → length b.past < b.limits.events → ¬ IsCheaper b.past cost → IsKept (with_offer b worker cost) nodes
+  pub kept_keep : (worker cost : ℕ) → length b.past < b.limits.events → ¬ IsCheaper b.past cost → IsConsistent (with_offer b worker cost) nodes
   kept_keep worker cost room dearer = record {
     legal = (((λ t. absurd cc), (λ cheaper. absurd (dearer cheaper))), is.legal);
     limits = is.limits;
@@ -74,7 +74,7 @@ module _ (b : Contents) (nodes : List Node) (is : IsKept b nodes) where
     prices = is.prices;
   }
 
-  pub kept_replace : (worker : ℕ) (plan : Solution) → length b.past < b.limits.events → IsSolution plan → plan.problem ≡ b.problem → IsCheaper b.past plan.cost → IsKept (with_incumbent b worker plan) nodes
+  pub kept_replace : (worker : ℕ) (plan : Solution) → length b.past < b.limits.events → IsSolution plan → plan.problem ≡ b.problem → IsCheaper b.past plan.cost → IsConsistent (with_incumbent b worker plan) nodes
   kept_replace worker plan room solution same cheaper = record {
     legal = (((λ t. cheaper), (λ c. refl)), is.legal);
     limits = is.limits;
@@ -86,7 +86,7 @@ module _ (b : Contents) (nodes : List Node) (is : IsKept b nodes) where
   }
 
   pub kept_raise : (worker m : ℕ) (f : Pricing) (old : Leaf) → IsAccepted b (reprice m f) → IsPricing f → leaf_at nodes m ≡ Some old
-      → IsKept (with_prices b worker m f) (slice_set nodes m (Open (new_leaf old.depth f)))
+      → IsConsistent (with_prices b worker m f) (slice_set nodes m (Open (new_leaf old.depth f)))
   kept_raise worker m f old accepted pricing was =
       let room = accepted.met JournalFull (omega arith) in
       let at = accepted.met WrongRegion (omega arith) in record {
@@ -101,7 +101,7 @@ module _ (b : Contents) (nodes : List Node) (is : IsKept b nodes) where
       }
 
   pub kept_split : (worker m : ℕ) (arc : Arc) (x y : Pricing) (old : Leaf) → IsAccepted b (split m (pair arc) x y) → IsPricing x → IsPricing y → leaf_at nodes m ≡ Some old
-      → IsKept (with_split b worker m (pair arc) x y) (slice_set nodes m (Split arc (length nodes) (length nodes + 1)) ++ Open (new_leaf (old.depth + 1) x) ∷ Open (new_leaf (old.depth + 1) y) ∷ [])
+      → IsConsistent (with_split b worker m (pair arc) x y) (slice_set nodes m (Split arc (length nodes) (length nodes + 1)) ++ Open (new_leaf (old.depth + 1) x) ∷ Open (new_leaf (old.depth + 1) y) ∷ [])
   kept_split worker m arc x y old accepted xv yv was =
       let room = accepted.met JournalFull (omega arith) in
       let leaves = accepted.met LeavesFull (omega arith) in

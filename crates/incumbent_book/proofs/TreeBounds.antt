@@ -13,7 +13,7 @@ use Rattle.prices.specs.Pricing.{Pricing}
 use Rattle.solomon_reader.specs.History.{Event, offered, repriced, branched, split_count, used_number, unused_number, last_number, split_of, IsLeaf, region_of, depth_of, value_of, IsBound, IsLegal}
 use Rattle.incumbent_book.specs.Contents.{Contents, IsBook}
 use Rattle.incumbent_book.specs.Arena.{open_leaf, leaf_at}
-use Rattle.incumbent_book.specs.Keeping.{IsKept}
+use Rattle.incumbent_book.specs.Keeping.{IsConsistent}
 use Rattle.incumbent_book.specs.Trees.{GrowsAt, IsTreeOf}
 use Rattle.incumbent_book.specs.Forward.{IsForward, GrowsIn}
 use Rattle.incumbent_book.specs.declared.node.Node.{Node}
@@ -25,7 +25,7 @@ use Rattle.incumbent_book.proofs.LeafCounts.{all_leaves}
 use Rattle.incumbent_book.proofs.Trees.{split_facts, grown, from_some}
 
 -- what stands in the nodes stands in the history
-module _ (b : Contents) (nodes : List Node) (is : IsKept b nodes) where
+module _ (b : Contents) (nodes : List Node) (is : IsConsistent b nodes) where
   pub nodes_forward : IsForward nodes
   nodes_forward = record {
     used = λ m arc i j e.

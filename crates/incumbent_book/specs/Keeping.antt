@@ -8,7 +8,7 @@ use Rattle.incumbent_book.specs.declared.node.Leaf.{Leaf}
 use Rattle.incumbent_book.specs.declared.node.Node.{Node}
 
 -- the laws of the history, and nodes that are what it says
-pub record IsKept (b : Contents) (nodes : List Node) : Type 0 where
+pub record IsConsistent (b : Contents) (nodes : List Node) : Type 0 where
   pub legal : IsLegal (customer_count b.problem) b.root b.past
   pub limits : AreLimits b.limits
   pub within : IsWithin b.limits b.past

@@ -75,6 +75,6 @@ abbrev pub Shows : Contents → ℕ → Option Pricing → Type 0
 Shows b m found = MatchOption found (¬ IsLeaf b.past m) (λ f. IsLeaf b.past m × (f ≡ pricing_at b m))
 
 -- the best cost offered and the bound
-pub record IsGap (b : Contents) (gap : Gap) : Type 0 where
+pub record IsOptimalityGap (b : Contents) (gap : Gap) : Type 0 where
   pub cost : IsBestCost b.past gap.cost
   pub bound : IsBound b.problem b.root b.past gap.bound

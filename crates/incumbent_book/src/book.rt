@@ -9,7 +9,7 @@ ghost use Rattle.solomon_reader.specs.Bound.{Tree, preorder};
 ghost use Rattle.solomon_reader.specs.Plan.{IsPlan, plan_cost};
 ghost use Rattle.solomon_reader.specs.History.{IsBound};
 ghost use Rattle.incumbent_book.specs.Contents.{limits_of, past_of, IsBook};
-ghost use Rattle.incumbent_book.specs.Replies.{Opens, Offers, Reprices, Splits, Shows, IsGap};
+ghost use Rattle.incumbent_book.specs.Replies.{Opens, Offers, Reprices, Splits, Shows, IsOptimalityGap};
 
 use crate::arena::{Arena, value_of};
 use crate::bounded::Bounded;
@@ -48,13 +48,13 @@ impl<'i> Model for Book<'i> {
     ghost use Rattle.std.specs.Prelude.{map};
     ghost use Rattle.incumbent_book.specs.Contents.{Contents, limits_of, past_of};
     ghost use Rattle.incumbent_book.specs.Arena.{prices_of};
-    ghost use Rattle.incumbent_book.specs.Keeping.{IsKept};
+    ghost use Rattle.incumbent_book.specs.Keeping.{IsConsistent};
 
     ghost Value = { Contents };
 
     ghost view = { λ b. record { problem = b.bounded; neighbours = b.neighbours; root = b.root; limits = limits_of b.limits; incumbent = b.incumbent; past = past_of b.history.items; prices = map prices_of b.arena } };
 
-    ghost invariant = { λ b. IsKept (record { problem = b.bounded; neighbours = b.neighbours; root = b.root; limits = limits_of b.limits; incumbent = b.incumbent; past = past_of b.history.items; prices = map prices_of b.arena }) b.arena };
+    ghost invariant = { λ b. IsConsistent (record { problem = b.bounded; neighbours = b.neighbours; root = b.root; limits = limits_of b.limits; incumbent = b.incumbent; past = past_of b.history.items; prices = map prices_of b.arena }) b.arena };
 }
 
 /// A list for the events, with some room.
@@ -185,7 +185,7 @@ impl<'i> Book<'i> {
     /// The best cost offered, and the least of the leaves' values and the ceiling plus one, which no
     /// plan's cost is below.
     pub fn gap(&self) -> Gap
-        ensures gap { IsGap self.now result }
+        ensures gap { IsOptimalityGap self.now result }
         ensures within { result.bound ≤ MOST_TENTHS }
         ensures holds { (routes : List (List ℕ)) → IsPlan self.now.problem routes
             → result.bound ≤ plan_cost self.now.problem routes }
@@ -196,7 +196,7 @@ impl<'i> Book<'i> {
 
     /// The answer of `gap`. It reads the value of one node at most, which `steps` counts.
     pub fn gap_counted(&self, steps: &mut Steps) -> Gap
-        ensures gap { IsGap self.now result }
+        ensures gap { IsOptimalityGap self.now result }
         ensures within { result.bound ≤ MOST_TENTHS }
         ensures holds { (routes : List (List ℕ)) → IsPlan self.now.problem routes
             → result.bound ≤ plan_cost self.now.problem routes }

@@ -5,7 +5,7 @@ use Rattle.solomon_reader.specs.Problem.{Problem}
 use Rattle.insertion.specs.declared.gap.Gap.{Gap}
 
 -- between two rows of the instance, within the limits of times and ways
-pub record IsGap (p : Problem) (g : Gap) : Type 0 where
+pub record IsBoundedGap (p : Problem) (g : Gap) : Type 0 where
   pub before : g.before < length p.rows
   pub after : g.after < length p.rows
   pub leaves : g.leaves ≤ 20 * MOST_TIME

@@ -4,7 +4,7 @@ ghost use Rattle.std.specs.Prelude.{◌≡◌, ◌+◌, ◌*◌, ◌<◌, ◌≤
 ghost use Rattle.std.specs.List.{All};
 ghost use Rattle.solomon_reader.specs.declared.limits.TheConstants.{MOST_TIME};
 ghost use Rattle.solomon_reader.specs.Problem.{IsCustomer};
-ghost use Rattle.insertion.specs.Gaps.{IsGap};
+ghost use Rattle.insertion.specs.Gaps.{IsBoundedGap};
 
 use solomon_reader::Instance;
 use std::alloc::{AllocError, Global};
@@ -31,7 +31,7 @@ impl Gap {
         requires before { before < length instance.now.rows }
         requires after { after < length instance.now.rows }
         requires leaves { leaves ≤ 20 * MOST_TIME }
-        ensures { IsGap instance.now result }
+        ensures { IsBoundedGap instance.now result }
     {
         let arc = instance.distance(before, after).get();
         let due = instance.due(after);
@@ -48,8 +48,8 @@ impl Gap {
 
 /// Lowers each latest time so far that the stops after it are in time, too.
 fn tighten(instance: &Instance, gaps: &mut [Gap])
-    requires { All (λ g. IsGap instance.now g) gaps.old }
-    ensures known { All (λ g. IsGap instance.now g) gaps.new }
+    requires { All (λ g. IsBoundedGap instance.now g) gaps.old }
+    ensures known { All (λ g. IsBoundedGap instance.now g) gaps.new }
     ensures len { length gaps.new ≡ length gaps.old }
 {
     let mut latest = u64::MAX;
@@ -69,7 +69,7 @@ pub(crate) fn gaps(
 ) -> Result<Vec<Gap>, AllocError>
     requires depot { 0 < length instance.now.rows }
     requires known { All (λ i. IsCustomer instance.now i) visits.now }
-    ensures known { IfOk result (λ v. All (λ g. IsGap instance.now g) v.items) }
+    ensures known { IfOk result (λ v. All (λ g. IsBoundedGap instance.now g) v.items) }
     ensures len { IfOk result (λ v. length v.items ≡ length visits.now + 1) }
 {
     let mut gaps = Vec::new(alloc);

@@ -3,7 +3,7 @@
 ghost use Rattle.std.specs.Prelude.{◌≤◌, ◌<◌, ◌^◌, length, IfSome, unsigned_abs};
 ghost use Rattle.std.specs.List.{All};
 ghost use Rattle.solomon_reader.specs.Problem.{IsCustomer};
-ghost use Rattle.insertion.specs.Gaps.{IsGap};
+ghost use Rattle.insertion.specs.Gaps.{IsBoundedGap};
 
 use crate::gap::Gap;
 use crate::route::OpenRoute;
@@ -28,7 +28,7 @@ pub(crate) struct Proposal {
 
 /// The criterion c1 of a customer in this gap, or `None` where the route would be late.
 fn cost_in(instance: &Instance, weights: &Weights, gap: &Gap, customer: u16) -> Option<i64>
-    requires gap { IsGap instance.now gap.now }
+    requires gap { IsBoundedGap instance.now gap.now }
     requires customer { IsCustomer instance.now customer }
     ensures { IfSome result (λ cost. unsigned_abs cost ≤ 10 ^ 15) }
 {

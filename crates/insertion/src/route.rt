@@ -3,7 +3,7 @@
 ghost use Rattle.std.specs.Prelude.{◌≡◌, ◌+◌, ◌≤◌, length, IfOk, IfSome, IfNone};
 ghost use Rattle.std.specs.List.{All, insert};
 ghost use Rattle.solomon_reader.specs.Plan.{IsFitting};
-ghost use Rattle.insertion.specs.Gaps.{IsGap};
+ghost use Rattle.insertion.specs.Gaps.{IsBoundedGap};
 
 use crate::gap::{Gap, gaps};
 use schedule::walk;
@@ -17,7 +17,7 @@ pub(crate) struct OpenRoute<'i> {
     pub(crate) visits: Vec<u16>,
     pub(crate) gaps: Vec<Gap>,
     pub(crate) room: u32,
-    ghost known: { All (λ g. IsGap instance.now g) gaps.items },
+    ghost known: { All (λ g. IsBoundedGap instance.now g) gaps.items },
     ghost count: { length gaps.items ≡ length visits.items + 1 },
 }
 

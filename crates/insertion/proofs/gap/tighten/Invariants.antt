@@ -1,6 +1,6 @@
 use Rattle.std.specs.List.{All}
-use Rattle.insertion.specs.Gaps.{IsGap}
+use Rattle.insertion.specs.Gaps.{IsBoundedGap}
 use Rattle.insertion.proofs.gap.tighten.Given as goal
 
 abbrev pub invariant-loop-index : goal.invariant-loop-index
-invariant-loop-index l = All (λ g. IsGap l.instance g) l.gaps
+invariant-loop-index l = All (λ g. IsBoundedGap l.instance g) l.gaps

@@ -9,8 +9,8 @@ use Rattle.gains.specs.Searches.{instance_of, plan_of}
 use Rattle.gains.proofs.CutStops.{known_gap}
 use Rattle.gains.proofs.SwapBounds.{low_enough}
 use Rattle.gains.proofs.PassedRoutes.{known_cuts}
-use Rattle.gains.proofs.neighbourhood.Neighbourhood.least_end_swap.Goals.{then-meets, else-meets}
-use Rattle.gains.proofs.neighbourhood.Neighbourhood.least_end_swap.Goals as goal
+use Rattle.gains.proofs.neighbourhood.Neighbourhood.end_swap_bound.Goals.{then-meets, else-meets}
+use Rattle.gains.proofs.neighbourhood.Neighbourhood.end_swap_bound.Goals as goal
 
 pub change_of_ends-change-requires-clause-other : goal.change_of_ends-change-requires-clause-other
 change_of_ends-change-requires-clause-other c =

@@ -10,8 +10,8 @@ use Rattle.gains.specs.Searches.{instance_of, plan_of}
 use Rattle.gains.proofs.CutStops.{known_gap}
 use Rattle.gains.proofs.EndChanges.{IsLow, so_far_next, low_sum, front_low}
 use Rattle.gains.proofs.PassedRoutes.{known_cuts}
-use Rattle.gains.proofs.neighbourhood.Neighbourhood.least_swap.Goals.{then-left-gap, else-left-gap}
-use Rattle.gains.proofs.neighbourhood.Neighbourhood.least_swap.Goals as goal
+use Rattle.gains.proofs.neighbourhood.Neighbourhood.swap_bound.Goals.{then-left-gap, else-left-gap}
+use Rattle.gains.proofs.neighbourhood.Neighbourhood.swap_bound.Goals as goal
 
 pub lesser_swap-least-requires-clause-gap : goal.lesser_swap-least-requires-clause-gap
 lesser_swap-least-requires-clause-gap c =

@@ -2,7 +2,7 @@ use Rattle.std.proofs.Common.{◌≡◌, arith, to_z, of_z, w64}
 use Rattle.std.specs.Prelude.{◌≤ℤ◌}
 use Rattle.std.proofs.lemmas.Int.{ints}
 use Rattle.gains.proofs.SwapBounds.{low_enough, gap_next}
-use Rattle.gains.proofs.cuts.least_shift.Goals as goal
+use Rattle.gains.proofs.cuts.shift_bound.Goals as goal
 
 pub loop-position-preserved : goal.loop-position-preserved
 loop-position-preserved c =

@@ -3,7 +3,7 @@ use Rattle.std.specs.Prelude.{◌≤ℤ◌}
 use Rattle.gains.specs.Cuts.{front_change}
 use Rattle.gains.specs.Gaps.{MayMeet}
 use Rattle.gains.specs.Searches.{instance_of}
-use Rattle.gains.proofs.neighbourhood.Neighbourhood.least_end_swap.Given as goal
+use Rattle.gains.proofs.neighbourhood.Neighbourhood.end_swap_bound.Given as goal
 
 abbrev pub invariant-loop-gap : goal.invariant-loop-gap
 invariant-loop-gap l =
