@@ -93,7 +93,8 @@ whole_hand o n (x ∷ xs) (suc id) v fits idles parts all e =
 
 -- the table at its end, where one hand has all parts
 pub ends : (o : Opening) (id : ℕ) (v : Hand) (cost bound : ℕ) (words : List ℕ) (slots : List (Unit {0})) → v.parts ≡ o.parts
-    → Final (Seen (IsLawful o) id v) words slots → get_elem? words 0 ≡ some cost → get_elem? words 1 ≡ some bound → Obeys (opening o) (account v ∷ []) (record { cost = cost; bound = bound })
+    → Final (Seen (IsLawful o) id v) words slots → get_elem? words 0 ≡ some cost → get_elem? words 1 ≡ some bound
+    → Obeys (opening o) (account v ∷ []) (record { cost = cost; bound = bound })
 ends o id v cost bound words slots all final first second =
     let kept = final.1.0 in
     let at = final.1.1 in

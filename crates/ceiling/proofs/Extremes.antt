@@ -78,7 +78,8 @@ module _ (f : SeatAccount → ℕ) (n : ℕ) where
       omega (arith, is, high, least_below xs)
   least_unset (x ∷ xs) (suc id) v w e high = omega (arith, least_unset xs id v w e high)
 
-  pub greatest_unset : (hands : List Hand) (id : ℕ) (v w : Hand) → get_elem? hands id ≡ some v → f (account w) ≤ n → max (greatest_by (set hands id w)) (f (account v)) ≡ greatest_by hands
+  pub greatest_unset : (hands : List Hand) (id : ℕ) (v w : Hand) → get_elem? hands id ≡ some v → f (account w) ≤ n
+      → max (greatest_by (set hands id w)) (f (account v)) ≡ greatest_by hands
   greatest_unset [] id v w e low = absurd (some-ne-none v (sym e))
   greatest_unset (x ∷ xs) zero v w e low =
       let is : f (account x) ≡ f (account v) = ap (λ y. f (account y)) (some-injective x v e) in

@@ -1,5 +1,6 @@
 -- Each step keeps the law of the two words.
-use Rattle.std.proofs.Common.{◌≡◌, ℕ, zero, suc, ◌<◌, ◌≤◌, ◌≢◌, List, [], ◌∷◌, min, max, length, set, sym, refl, ap, ◌∙◌, subst, ⊎_elim, arith, slice_index, slice_set}
+use Rattle.std.proofs.Common.{◌≡◌, ℕ, zero, suc, ◌<◌, ◌≤◌, ◌≢◌, List, [], ◌∷◌, min, max}
+use Rattle.std.proofs.Common.{length, set, sym, refl, ap, ◌∙◌, subst, ⊎_elim, arith, slice_index, slice_set}
 use mathlib.Core.Option.{some, none, some-ne-none, some-injective}
 use lib.ListN.{get_elem?}
 use Rattle.atomic_table.specs.Table.{Me, step, Act, keeps, Allows, Splits, Joins, Valid, carried_after, stepped}
@@ -8,7 +9,8 @@ use Rattle.solomon_reader.specs.TwoWords.{Moment, SeatAccount}
 use Rattle.ceiling.specs.declared.law.Hand.{Hand}
 use Rattle.ceiling.specs.declared.law.Opening.{Opening}
 use Rattle.ceiling.specs.Hands.{opening, account, first_hand, IsLawful, Holds, Lowered, Raised, SawCost, SawBound, greatest_word, with_fewer, with_one, together, idle_hand}
-use Rattle.ceiling.proofs.Extremes.{put_cost, told_cost, put_bound, told_bound, least_by, greatest_by, least_at, greatest_at, least_set, greatest_set, least_same, greatest_same, least_unset, greatest_unset, least_snoc, greatest_snoc, parts_set, parts_snoc}
+use Rattle.ceiling.proofs.Extremes.{put_cost, told_cost, put_bound, told_bound, least_by, greatest_by, least_at, greatest_at, least_set, greatest_set}
+use Rattle.ceiling.proofs.Extremes.{least_same, greatest_same, least_unset, greatest_unset, least_snoc, greatest_snoc, parts_set, parts_snoc}
 
 -- each hand with no part has put nothing
 abbrev pub Idles : List Hand → Type 0
@@ -115,12 +117,18 @@ module _ (o : Opening) (slots id : ℕ) (me : Me (Unit {0}) Hand) (k : ℕ) (par
       let put_before = least_at put_cost o.cost s.views id me.0 at in
       let told_before = least_at told_cost o.cost s.views id me.0 at in
       let w : Hand = record me.0 { put_cost = min me.0.put_cost k; told_cost = min now.cost k } in
-      let P : ℕ → Type 0 = λ n. (w : Hand) × (a : Act (Unit {0})) × Valid s.homes me.1 a × IsLawful o (stepped s 0 (min n k) id me.1 w a) × Lowered (step slots 0 k 0 none) me n (w, carried_after me.1 a) in
+      let P : ℕ → Type 0 = λ n. (w : Hand) × (a : Act (Unit {0})) × Valid s.homes me.1 a × IsLawful o (stepped s 0 (min n k) id me.1 w a)
+      × Lowered (step slots 0 k 0 none) me n (w, carried_after me.1 a) in
       subst P (sym (ap (λ (ws : List ℕ). slice_index ws 0) kept.1)) (
         w,
         keeps,
         tt,
-        (record now { cost = min now.cost k }, ap (λ (ws : List ℕ). slice_set ws 0 (min now.cost k)) kept.1, lowers_holds o s.views id me.0 at part now k (min now.cost k) kept.2 (omega arith) (omega arith)),
+        (
+          record now { cost = min now.cost k },
+          ap (λ (ws : List ℕ). slice_set ws 0 (min now.cost k)) kept.1,
+          lowers_holds o s.views id me.0 at part
+              now k (min now.cost k) kept.2 (omega arith) (omega arith),
+        ),
         (refl, refl, record { newest = record { put = omega arith; told = omega arith }; lower = omega arith; seat = refl }),
       )
 
@@ -132,12 +140,18 @@ module _ (o : Opening) (slots id : ℕ) (me : Me (Unit {0}) Hand) (k : ℕ) (par
       let put_before = greatest_at put_bound o.bound s.views id me.0 at in
       let told_before = greatest_at told_bound o.bound s.views id me.0 at in
       let w : Hand = record me.0 { put_bound = max me.0.put_bound k; told_bound = max now.bound k } in
-      let P : ℕ → Type 0 = λ n. (w : Hand) × (a : Act (Unit {0})) × Valid s.homes me.1 a × IsLawful o (stepped s 1 (max n k) id me.1 w a) × Raised (step slots 1 k 0 none) me n (w, carried_after me.1 a) in
+      let P : ℕ → Type 0 = λ n. (w : Hand) × (a : Act (Unit {0})) × Valid s.homes me.1 a × IsLawful o (stepped s 1 (max n k) id me.1 w a)
+      × Raised (step slots 1 k 0 none) me n (w, carried_after me.1 a) in
       subst P (sym (ap (λ (ws : List ℕ). slice_index ws 1) kept.1)) (
         w,
         keeps,
         tt,
-        (record now { bound = max now.bound k }, ap (λ (ws : List ℕ). slice_set ws 1 (max now.bound k)) kept.1, raises_holds o s.views id me.0 at part now k (max now.bound k) kept.2 (omega arith) (omega arith)),
+        (
+          record now { bound = max now.bound k },
+          ap (λ (ws : List ℕ). slice_set ws 1 (max now.bound k)) kept.1,
+          raises_holds o s.views id me.0 at part
+              now k (max now.bound k) kept.2 (omega arith) (omega arith),
+        ),
         (refl, refl, record { newest = record { put = omega arith; told = omega arith }; higher = omega arith; seat = refl }),
       )
 
@@ -149,7 +163,8 @@ module _ (o : Opening) (slots id : ℕ) (me : Me (Unit {0}) Hand) (k : ℕ) (par
       let put_before = least_at put_cost o.cost s.views id me.0 at in
       let told_before = least_at told_cost o.cost s.views id me.0 at in
       let w : Hand = record me.0 { told_cost = now.cost } in
-      let P : ℕ → Type 0 = λ n. (w : Hand) × (a : Act (Unit {0})) × Valid s.homes me.1 a × IsLawful o (stepped s 0 n id me.1 w a) × SawCost (step slots 0 0 0 none) me n (w, carried_after me.1 a) in
+      let P : ℕ → Type 0 = λ n. (w : Hand) × (a : Act (Unit {0})) × Valid s.homes me.1 a × IsLawful o (stepped s 0 n id me.1 w a)
+      × SawCost (step slots 0 0 0 none) me n (w, carried_after me.1 a) in
       subst P (sym (ap (λ (ws : List ℕ). slice_index ws 0) kept.1)) (
         w,
         keeps,
@@ -166,7 +181,8 @@ module _ (o : Opening) (slots id : ℕ) (me : Me (Unit {0}) Hand) (k : ℕ) (par
       let put_before = greatest_at put_bound o.bound s.views id me.0 at in
       let told_before = greatest_at told_bound o.bound s.views id me.0 at in
       let w : Hand = record me.0 { told_bound = now.bound } in
-      let P : ℕ → Type 0 = λ n. (w : Hand) × (a : Act (Unit {0})) × Valid s.homes me.1 a × IsLawful o (stepped s 1 n id me.1 w a) × SawBound (step slots 1 0 0 none) me n (w, carried_after me.1 a) in
+      let P : ℕ → Type 0 = λ n. (w : Hand) × (a : Act (Unit {0})) × Valid s.homes me.1 a × IsLawful o (stepped s 1 n id me.1 w a)
+      × SawBound (step slots 1 0 0 none) me n (w, carried_after me.1 a) in
       subst P (sym (ap (λ (ws : List ℕ). slice_index ws 1) kept.1)) (
         w,
         keeps,
@@ -227,7 +243,8 @@ place_of (x ∷ xs) zero v e = omega arith
 place_of (x ∷ xs) (suc id) v e = omega (arith, place_of xs id v e)
 
 -- the numbers of two hands, where the first takes in the second's
-module _ (f : SeatAccount → ℕ) (n : ℕ) (hands : List Hand) (id other : ℕ) (v w both spent : Hand) (two : other ≢ id) (at : get_elem? hands id ≡ some v) (was : get_elem? hands other ≡ some w)
+module _ (f : SeatAccount → ℕ) (n : ℕ) (hands : List Hand) (id other : ℕ) (v w both spent : Hand) (two : other ≢ id)
+    (at : get_elem? hands id ≡ some v) (was : get_elem? hands other ≡ some w)
     (at' : get_elem? (set hands id both) other ≡ some w) where
   here : get_elem? (set (set hands id both) other spent) id ≡ some both
   here = set_else (set hands id both) other id spent (λ e. two (sym e)) ∙ set_here hands id both (place_of hands id v at)

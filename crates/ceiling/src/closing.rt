@@ -17,10 +17,12 @@ pub(crate) fn closed(
     mut others: Vec<CeilingSeat>,
 ) -> (u64, u64)
     requires table { (board.shared.table_id.words ≡ 2) × (board.shared.table_id.slots ≡ 0) }
-    requires seat { (seat.table_id ≡ board.shared.table_id) × (seat.me.1 ≡ []) × (seat.me.0.parts ≡ 1) }
+    requires seat { (seat.table_id ≡ board.shared.table_id) × (seat.me.1 ≡ [])
+        × (seat.me.0.parts ≡ 1) }
     requires others { All (λ s. s.seat.table_id ≡ board.shared.table_id) others.items }
     requires all { vec_len others + 1 ≡ board.shared.key.parts }
-    ensures { Obeys (opening board.shared.key) (account seat.me.0 ∷ accounts_of others.items) (record { cost = result.0; bound = result.1 }) }
+    ensures { Obeys (opening board.shared.key) (account seat.me.0 ∷ accounts_of others.items)
+        (record { cost = result.0; bound = result.1 }) }
 {
     while let Some(CeilingSeat { seat: other }) = others.pop() {
         board.shared.join_seat::<Parts>(&mut seat, other);

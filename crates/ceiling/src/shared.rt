@@ -38,7 +38,8 @@ impl Ceiling {
         bound: u64,
     ) -> Result<(Ceiling, Vec<CeilingSeat>), CeilingFault>
         requires { 0 < seats }
-        ensures opening { IfOk result (λ r. opening_of r.0 ≡ record { cost = cost; bound = bound }) }
+        ensures opening { IfOk result (λ r. opening_of r.0
+            ≡ record { cost = cost; bound = bound }) }
         ensures count { IfOk result (λ r. (seats_of r.0 ≡ seats) × (vec_len r.1 ≡ seats)) }
         ensures seats { IfOk result (λ r. All (IsNewSeat r.0) r.1.items) }
         ensures err { IfErr result (λ e. e ≡ memory) }
@@ -113,7 +114,8 @@ impl Ceiling {
     ) -> Result<(u64, u64), (Ceiling, Vec<CeilingSeat>, CeilingFault)>
         requires { All (IsSeatOf self) seats.items }
         ensures all { IsOk result ↔ (vec_len seats ≡ seats_of self) }
-        ensures words { IfOk result (λ r. Obeys (opening_of self) (accounts_of seats.items) (record { cost = r.0; bound = r.1 })) }
+        ensures words { IfOk result (λ r. Obeys (opening_of self) (accounts_of seats.items)
+            (record { cost = r.0; bound = r.1 })) }
         ensures back { IfErr result (λ e. (e.0 ≡ self) × (e.1 ≡ seats) × (e.2 ≡ missing)) }
     {
         if seats.len() != self.seats {

@@ -1,5 +1,6 @@
 -- The text of a certificate is read as that certificate.
-use Rattle.std.proofs.Common.{◌≡◌, ◌≢◌, ℕ, suc, ◌+◌, ◌-◌, ◌≤◌, ◌<◌, ◌^◌, Bool, true, false, List, [], ◌∷◌, ◌++◌, length, map, Ok, refl, sym, ap, ◌∙◌, append_assoc, arith, lit<, inl, inr}
+use Rattle.std.proofs.Common.{◌≡◌, ◌≢◌, ℕ, suc, ◌+◌, ◌-◌, ◌≤◌, ◌<◌, ◌^◌, Bool, true, false, List}
+use Rattle.std.proofs.Common.{[], ◌∷◌, ◌++◌, length, map, Ok, refl, sym, ap, ◌∙◌, append_assoc, arith, lit<, inl, inr}
 use Rattle.std.specs.Prelude.{nat_le, ◌||◌, ◌==◌, codes, decimal, ℤ, pos, negsuc, nat_abs}
 use Rattle.std.specs.Fmt.{signed_decimal}
 use Rattle.std.specs.List.{AllByRecursion, list_all}
@@ -24,7 +25,8 @@ use Rattle.solomon_reader.specs.CertificateText.{version_text, leaf_count, IsPri
 use Rattle.certificate.proofs.Paths.{IsNodeOn, IsTreeOn}
 use Rattle.certificate.specs.Text.{node_text, text_lines}
 use Rattle.certificate.specs.declared.fault.CertFault.TheVariants.{BadLine}
-use Rattle.certificate.specs.Reading.{next_at, signed_at, is_price, prices_at, pair_at, is_arc, arc_eq, is_decided, arc_at, node_in, node_at, one_leaf, tree_at, fixed_at, second, field_at, is_name, name_at, within_from, within_at, bound_at, Head, sizes_at, version_in, version_at, title_at, head_at, nodes_at, reading}
+use Rattle.certificate.specs.Reading.{next_at, signed_at, is_price, prices_at, pair_at, is_arc, arc_eq, is_decided, arc_at, node_in, node_at, one_leaf, tree_at, fixed_at, second}
+use Rattle.certificate.specs.Reading.{field_at, is_name, name_at, within_from, within_at, bound_at, Head, sizes_at, version_in, version_at, title_at, head_at, nodes_at, reading}
 use Rattle.tenths.specs.Reading.{value_or}
 use Rattle.solomon_reader.specs.Words.{is_letter}
 use Rattle.certificate.proofs.Steps.{children_at, tree_at-leaf, tree_at-split}
@@ -126,7 +128,8 @@ node_in_again n k path (leaf_node zs) lt h =
     let cut : parts 32 (node_text (leaf_node zs)) ≡ codes "P" ∷ map signed_decimal zs = parts-spaced (codes "P") (map signed_decimal zs) (refl, tt) (prices_lack 32 zs (lit< tt)) in
     rw (cut, prices_again n k zs h.0 h.1) refl
 node_in_again n k path (split_node a) lt h =
-    let cut : parts 32 (node_text (split_node a)) ≡ codes "S" ∷ decimal a.0 ∷ decimal a.1 ∷ [] = parts-spaced (codes "S") (decimal a.0 ∷ decimal a.1 ∷ []) (refl, tt) (arc_lacks 32 a (lit< tt)) in
+    let cut : parts 32 (node_text (split_node a)) ≡ codes "S" ∷ decimal a.0 ∷ decimal a.1 ∷ [] =
+    parts-spaced (codes "S") (decimal a.0 ∷ decimal a.1 ∷ []) (refl, tt) (arc_lacks 32 a (lit< tt)) in
     rw (cut, arc_again n k path a lt h.0 h.1) refl
 
 -- the lines after a line
@@ -149,7 +152,8 @@ node_again n k path x ps lt h is = rw (next_again k (node_text x) ps h, node_in_
 abbrev IsReadAs : ℕ → ℕ → List Arc → ℕ → ℕ → List Node → List (List ℕ) → ℕ → Type 0
 IsReadAs n left path leaves k nodes ps x = (j : ℕ) × (tree_at n left path leaves (k, map node_text nodes ++ ps) ≡ Ok (nodes, (x, (j, ps))))
 
-one_leaf_again : (n left : ℕ) (path : List Arc) (leaves k : ℕ) (zs : List ℤ) (ps : List (List ℕ)) (x : ℕ) → n < 1000000 → IsMore ps → IsNodeOn n path (leaf_node zs) → leaves ≡ suc x
+one_leaf_again : (n left : ℕ) (path : List Arc) (leaves k : ℕ) (zs : List ℤ) (ps : List (List ℕ)) (x : ℕ) → n < 1000000 → IsMore ps
+    → IsNodeOn n path (leaf_node zs) → leaves ≡ suc x
     → IsReadAs n left path leaves k (leaf_node zs ∷ []) ps x
 one_leaf_again n left path leaves k zs ps x lt h is e =
     (k + 1, tree_at-leaf n left path leaves (k, node_text (leaf_node zs) ∷ ps) (k + 1, ps) zs (node_again n k path (leaf_node zs) ps lt h is) ∙ ap (λ (m : ℕ). one_leaf k zs m (k + 1, ps)) e)
@@ -159,7 +163,8 @@ children_again : (n left : ℕ) (path : List Arc) (leaves : ℕ) (a : Arc) (rest
     → children_at n left path leaves a rest ≡ Ok (split_node a ∷ (us ++ vs), (y, end))
 children_again n left path leaves a rest mid end us vs x y e f = rw (e, f) refl
 
-pub tree_again : (n : ℕ) → n < 1000000 → (tree : Tree) (left : ℕ) (path : List Arc) (leaves k : ℕ) (ps : List (List ℕ)) (x : ℕ) → IsMore ps → IsTreeOn n path left tree → leaves ≡ x + leaf_count tree
+pub tree_again : (n : ℕ) → n < 1000000 → (tree : Tree) (left : ℕ) (path : List Arc) (leaves k : ℕ) (ps : List (List ℕ)) (x : ℕ) → IsMore ps
+    → IsTreeOn n path left tree → leaves ≡ x + leaf_count tree
     → IsReadAs n left path leaves k (preorder tree) ps x
 tree_again n lt (leaf zs) left path leaves k ps x h is e = one_leaf_again n left path leaves k zs ps x lt h is (omega (arith, e))
 tree_again n lt (split a used unused) left path leaves k ps x h is e =
@@ -251,7 +256,8 @@ version_again : (k : ℕ) (v : Version) (ps : List (List ℕ)) → IsMore ps →
 unfolding version_at
 version_again k v ps h = rw (next_again k (version_text v) ps h, version_in_again k v) refl
 
-title_again : (k : ℕ) (v : Version) (w : List ℕ) (ps : List (List ℕ)) → IsMore ps → IsName w → title_at (k, version_text v ∷ (codes "INSTANCE" ++ spaced w) ∷ ps) ≡ Ok ((v, w), (k + 1 + 1, ps))
+title_again : (k : ℕ) (v : Version) (w : List ℕ) (ps : List (List ℕ)) → IsMore ps → IsName w
+    → title_at (k, version_text v ∷ (codes "INSTANCE" ++ spaced w) ∷ ps) ≡ Ok ((v, w), (k + 1 + 1, ps))
 unfolding title_at
 title_again k v w ps h n = rw (version_again k v ((codes "INSTANCE" ++ spaced w) ∷ ps) (codes "INSTANCE" ++ spaced w, ps, refl), name_again (k + 1) w ps h n) refl
 
@@ -262,7 +268,11 @@ sizes_again k n m ps h a b c =
     let p : Lacks 32 (codes "CUSTOMERS") = (refl, (refl, (refl, (refl, (refl, (refl, (refl, (refl, (refl, tt))))))))) in
     let q : Lacks 32 (codes "NEIGHBOURS") = (refl, (refl, (refl, (refl, (refl, (refl, (refl, (refl, (refl, (refl, tt)))))))))) in
     let line = codes "NEIGHBOURS" ++ spaced (decimal m) in
-    rw (within_again (codes "CUSTOMERS") 1 MOST_CUSTOMERS k n (line ∷ ps) (line, ps, refl) p a b (lit< tt), within_again (codes "NEIGHBOURS") 0 MOST_NEIGHBOURS (k + 1) m ps h q (omega arith) c (lit< tt)) refl
+    rw (
+      within_again (codes "CUSTOMERS") 1 MOST_CUSTOMERS k n (line ∷ ps) (line, ps, refl) p a b (lit< tt),
+      within_again (codes "NEIGHBOURS") 0
+          MOST_NEIGHBOURS (k + 1) m ps h q (omega arith) c (lit< tt),
+    ) refl
 
 abbrev head_of : Certificate → Head
 head_of c = record { version = c.version; name = c.name; size = c.size; neighbours = c.neighbours; bound = c.bound }

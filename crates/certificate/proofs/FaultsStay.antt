@@ -15,7 +15,8 @@ use Rattle.solomon_reader.specs.Bound.{Node, leaf_node, split_node}
 use Rattle.certificate.specs.declared.fault.CertFault.{CertFault}
 use Rattle.certificate.specs.declared.fault.CertFault.TheVariants.{BadLine, Truncated, Extra, TooDeep}
 use Rattle.certificate.specs.Laws.{FirstFaultStays}
-use Rattle.certificate.specs.Reading.{next_at, node_in, node_at, Below, one_leaf, below, tree_at, fixed_at, second, field_at, is_name, name_at, within_from, within_at, bound_at, sizes_at, version_in, version_at, title_at, head_at, nodes_at, with_tree, reading}
+use Rattle.certificate.specs.Reading.{next_at, node_in, node_at, Below, one_leaf, below, tree_at, fixed_at, second, field_at, is_name, name_at, within_from}
+use Rattle.certificate.specs.Reading.{within_at, bound_at, sizes_at, version_in, version_at, title_at, head_at, nodes_at, with_tree, reading}
 use Rattle.certificate.proofs.Steps.{children_at}
 
 module _ (x : List ℕ) (rest : List (List ℕ)) where
@@ -56,17 +57,20 @@ module _ (x : List ℕ) (rest : List (List ℕ)) where
 
   name_stays : LineStays pair_longer name_at
   unfolding name_at
-  name_stays st = then Truncated pair_longer pair_longer (λ w. check (is_name w.0) (BadLine st.0) w) (field_at (codes "INSTANCE") st) (field_at (codes "INSTANCE") (longer st)) (field_stays (codes "INSTANCE") st)
+  name_stays st = then Truncated pair_longer pair_longer (λ w. check (is_name w.0) (BadLine st.0) w) (field_at (codes "INSTANCE") st)
+      (field_at (codes "INSTANCE") (longer st)) (field_stays (codes "INSTANCE") st)
       (λ w. inr (kept_test Truncated pair_longer (is_name w.0) (BadLine st.0) w))
 
   within_stays : (text : List ℕ) (low high : ℕ) → LineStays pair_longer (within_at text low high)
   unfolding within_at
-  within_stays text low high st = then Truncated pair_longer pair_longer (λ w. within_from low high st.0 (option_map capped (number_of w.0)) >>= λ m. Ok (m, w.1)) (field_at text st) (field_at text (longer st)) (field_stays text st)
+  within_stays text low high st = then Truncated pair_longer pair_longer
+      (λ w. within_from low high st.0 (option_map capped (number_of w.0)) >>= λ m. Ok (m, w.1)) (field_at text st) (field_at text (longer st)) (field_stays text st)
       (λ w. inr (kept Truncated pair_longer (λ m. (m, w.1)) (within_from low high st.0 (option_map capped (number_of w.0)))))
 
   bound_stays : LineStays pair_longer bound_at
   unfolding bound_at
-  bound_stays st = then Truncated pair_longer pair_longer (λ w. value_or (BadLine st.0) (tenths_of w.0) >>= λ t. Ok (t, w.1)) (field_at (codes "BOUND") st) (field_at (codes "BOUND") (longer st)) (field_stays (codes "BOUND") st)
+  bound_stays st = then Truncated pair_longer pair_longer (λ w. value_or (BadLine st.0) (tenths_of w.0) >>= λ t. Ok (t, w.1))
+      (field_at (codes "BOUND") st) (field_at (codes "BOUND") (longer st)) (field_stays (codes "BOUND") st)
       (λ w. inr (kept Truncated pair_longer (λ t. (t, w.1)) (value_or (BadLine st.0) (tenths_of w.0))))
 
   version_stays : LineStays pair_longer version_at
@@ -76,7 +80,8 @@ module _ (x : List ℕ) (rest : List (List ℕ)) where
 
   sizes_stays : LineStays pair_longer sizes_at
   unfolding sizes_at
-  sizes_stays st = then Truncated pair_longer pair_longer (λ n. within_at (codes "NEIGHBOURS") 0 MOST_NEIGHBOURS n.1 >>= λ k. Ok ((n.0, k.0), k.1)) _ _ (within_stays (codes "CUSTOMERS") 1 MOST_CUSTOMERS st)
+  sizes_stays st = then Truncated pair_longer pair_longer
+      (λ n. within_at (codes "NEIGHBOURS") 0 MOST_NEIGHBOURS n.1 >>= λ k. Ok ((n.0, k.0), k.1)) _ _ (within_stays (codes "CUSTOMERS") 1 MOST_CUSTOMERS st)
       (λ n. then Truncated pair_longer pair_longer (λ k. Ok ((n.0, k.0), k.1)) _ _ (within_stays (codes "NEIGHBOURS") 0 MOST_NEIGHBOURS n.1) (λ k. inr refl))
 
   title_stays : LineStays pair_longer title_at
@@ -100,7 +105,8 @@ module _ (x : List ℕ) (rest : List (List ℕ)) where
   one_leaf_stays k zs zero st = inr refl
   one_leaf_stays k zs (suc leaves) st = inr refl
 
-  below_stays : (k leaves : ℕ) (children : Arc → Left → Result Below CertFault) → ((a : Arc) → LineStays below_longer (children a)) → (node : Node) → LineStays below_longer (below k leaves children node)
+  below_stays : (k leaves : ℕ) (children : Arc → Left → Result Below CertFault) → ((a : Arc) → LineStays below_longer (children a)) → (node : Node)
+      → LineStays below_longer (below k leaves children node)
   below_stays k leaves children h (leaf_node zs) st = one_leaf_stays k zs leaves st
   below_stays k leaves children h (split_node a) st = h a st
 

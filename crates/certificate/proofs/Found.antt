@@ -1,5 +1,6 @@
 -- What is read as a certificate is one, and the text is its text.
-use Rattle.std.proofs.Common.{◌≡◌, ℕ, ◌≤◌, ◌<◌, ◌^◌, Bool, true, false, cond, List, [], ◌∷◌, ◌++◌, length, map, Option, Some, None, Ok, Err, refl, sym, ap, subst, ◌∙◌, append_assoc, arith, lit<}
+use Rattle.std.proofs.Common.{◌≡◌, ℕ, ◌≤◌, ◌<◌, ◌^◌, Bool, true, false, cond, List, [], ◌∷◌, ◌++◌}
+use Rattle.std.proofs.Common.{length, map, Option, Some, None, Ok, Err, refl, sym, ap, subst, ◌∙◌, append_assoc, arith, lit<}
 use Rattle.std.specs.Prelude.{nat_le, ◌&&◌, codes, decimal}
 use Rattle.std.specs.Int.{IsInRange}
 use Rattle.std.specs.List.{AllByRecursion, list_all}
@@ -24,7 +25,8 @@ use Rattle.certificate.specs.declared.fault.CertFault.TheVariants.{BadLine, Extr
 use Rattle.certificate.proofs.Paths.{IsTreeOn}
 use Rattle.certificate.specs.Text.{node_text, text_lines, content_text}
 use Rattle.tenths.specs.Reading.{◌>>=◌, check, value_or}
-use Rattle.certificate.specs.Reading.{next_at, fixed_at, second, field_at, is_name, name_at, within_from, within_at, bound_at, Head, sizes_at, version_in, version_at, title_at, head_at, tree_at, nodes_at, with_tree, reading}
+use Rattle.certificate.specs.Reading.{next_at, fixed_at, second, field_at, is_name, name_at, within_from, within_at, bound_at, Head}
+use Rattle.certificate.specs.Reading.{sizes_at, version_in, version_at, title_at, head_at, tree_at, nodes_at, with_tree, reading}
 use Rattle.solomon_reader.specs.Words.{is_letter}
 use Rattle.tenths.proofs.Steps.{bind_ok, ok_is, test_ok}
 use Rattle.certificate.proofs.Trees.{TakesAll, tree_takes}
@@ -74,7 +76,8 @@ within_number low high k (Some x) m lt h =
     tests : (m : ℕ) → (nat_le low m && nat_le m high) ≡ true → IsInRange low high m
     tests m e = grind (arith, nat_tests)
 
-within_takes : (text : List ℕ) (low high : ℕ) (st : Left) (f : ℕ × Left) → high < 1000000 → within_at text low high st ≡ Ok f → (st.1 ≡ (text ++ spaced (decimal f.0)) ∷ f.1.1) × IsInRange low high f.0
+within_takes : (text : List ℕ) (low high : ℕ) (st : Left) (f : ℕ × Left) → high < 1000000 → within_at text low high st ≡ Ok f
+    → (st.1 ≡ (text ++ spaced (decimal f.0)) ∷ f.1.1) × IsInRange low high f.0
 unfolding within_at
 within_takes text low high st f lt h =
     let w = bind_ok (field_at text st) (λ w. within_from low high st.0 (option_map capped (number_of w.0)) >>= λ m. Ok (m, w.1)) f h in
@@ -156,7 +159,8 @@ version_is k v l h = first (bytes_eq l (version_text version_1)) refl h
     second_of false e f = absurd cc
     second_of true e f = (bytes_eq-Decides l (version_text version_2)).0 e ∙ ap version_text (ok_is version_2 v f)
 
-    first : (t : Bool) → bytes_eq l (version_text version_1) ≡ t → cond t (Ok version_1) (cond (bytes_eq l (version_text version_2)) (Ok version_2) (Err (BadLine k))) ≡ Ok v → l ≡ version_text v
+    first : (t : Bool) → bytes_eq l (version_text version_1) ≡ t
+        → cond t (Ok version_1) (cond (bytes_eq l (version_text version_2)) (Ok version_2) (Err (BadLine k))) ≡ Ok v → l ≡ version_text v
     first false e f = second_of (bytes_eq l (version_text version_2)) refl f
     first true e f = (bytes_eq-Decides l (version_text version_1)).0 e ∙ ap version_text (ok_is version_1 v f)
 
@@ -175,7 +179,8 @@ title_takes st f h =
     let n = bind_ok (name_at v.0.1) (λ name. Ok ((v.0.0, name.0), name.1)) f v.2 in
     let u = name_takes v.0.1 n.0 n.1 in
     let lines : st.1 ≡ version_text v.0.0 ∷ (codes "INSTANCE" ++ spaced n.0.0) ∷ n.0.1.1 = version_takes st v.0 v.1 ∙ ap (λ (x : List (List ℕ)). version_text v.0.0 ∷ x) u.0 in
-    subst (λ (x : (Version × List ℕ) × Left). (st.1 ≡ version_text x.0.0 ∷ (codes "INSTANCE" ++ spaced x.0.1) ∷ x.1.1) × (is_name x.0.1 ≡ true)) (ok_is ((v.0.0, n.0.0), n.0.1) f n.2) (lines, u.1)
+    subst (λ (x : (Version × List ℕ) × Left). (st.1 ≡ version_text x.0.0 ∷ (codes "INSTANCE" ++ spaced x.0.1) ∷ x.1.1)
+    × (is_name x.0.1 ≡ true)) (ok_is ((v.0.0, n.0.0), n.0.1) f n.2) (lines, u.1)
 
 sizes_take : (st : Left) (f : (ℕ × ℕ) × Left) → sizes_at st ≡ Ok f
     → (st.1 ≡ (codes "CUSTOMERS" ++ spaced (decimal f.0.0)) ∷ (codes "NEIGHBOURS" ++ spaced (decimal f.0.1)) ∷ f.1.1) × IsInRange 1 MOST_CUSTOMERS f.0.0 × IsInRange 0 MOST_NEIGHBOURS f.0.1
@@ -185,8 +190,10 @@ sizes_take st f h =
     let k = bind_ok (within_at (codes "NEIGHBOURS") 0 MOST_NEIGHBOURS n.0.1) (λ k. Ok ((n.0.0, k.0), k.1)) f n.2 in
     let t = within_takes (codes "CUSTOMERS") 1 MOST_CUSTOMERS st n.0 (lit< tt) n.1 in
     let u = within_takes (codes "NEIGHBOURS") 0 MOST_NEIGHBOURS n.0.1 k.0 (lit< tt) k.1 in
-    let lines : st.1 ≡ (codes "CUSTOMERS" ++ spaced (decimal n.0.0)) ∷ (codes "NEIGHBOURS" ++ spaced (decimal k.0.0)) ∷ k.0.1.1 = t.0 ∙ ap (λ (x : List (List ℕ)). (codes "CUSTOMERS" ++ spaced (decimal n.0.0)) ∷ x) u.0 in
-    subst (λ (x : (ℕ × ℕ) × Left). (st.1 ≡ (codes "CUSTOMERS" ++ spaced (decimal x.0.0)) ∷ (codes "NEIGHBOURS" ++ spaced (decimal x.0.1)) ∷ x.1.1) × IsInRange 1 MOST_CUSTOMERS x.0.0 × IsInRange 0 MOST_NEIGHBOURS x.0.1)
+    let lines : st.1 ≡ (codes "CUSTOMERS" ++ spaced (decimal n.0.0)) ∷ (codes "NEIGHBOURS" ++ spaced (decimal k.0.0)) ∷ k.0.1.1 = t.0
+    ∙ ap (λ (x : List (List ℕ)). (codes "CUSTOMERS" ++ spaced (decimal n.0.0)) ∷ x) u.0 in
+    subst (λ (x : (ℕ × ℕ) × Left). (st.1 ≡ (codes "CUSTOMERS" ++ spaced (decimal x.0.0)) ∷ (codes "NEIGHBOURS" ++ spaced (decimal x.0.1)) ∷ x.1.1)
+    × IsInRange 1 MOST_CUSTOMERS x.0.0 × IsInRange 0 MOST_NEIGHBOURS x.0.1)
     (ok_is ((n.0.0, k.0.0), k.0.1) f k.2) (lines, t.1, u.1)
 
 abbrev made : Version × List ℕ → ℕ × ℕ → ℕ → Head
@@ -214,13 +221,16 @@ built h tree = record { version = h.version; name = h.name; size = h.size; neigh
 same_content : (h : Head) (nodes : List Node) (tree : Tree) → nodes ≡ preorder tree → with_tree h nodes ≡ listed (built h tree)
 same_content h nodes tree f = ap (with_tree h) f
 
-put_together : (text : List ℕ) (h : Head) (nodes : List Node) (mid rest : Left) → IsHeadRead (1, parts 10 text) h mid → IsTreeRead h.size mid nodes rest → rest.1 ≡ [] ∷ [] → IsCertificateText text (with_tree h nodes)
+put_together : (text : List ℕ) (h : Head) (nodes : List Node) (mid rest : Left) → IsHeadRead (1, parts 10 text) h mid
+    → IsTreeRead h.size mid nodes rest → rest.1 ≡ [] ∷ [] → IsCertificateText text (with_tree h nodes)
 put_together text h nodes mid rest a t e =
     let x = with_tree h nodes in
     let tail : codes "TREE" ∷ (map node_text nodes ++ (codes "END" ∷ rest.1)) ≡ codes "TREE" ∷ ((map node_text nodes ++ (codes "END" ∷ [])) ++ ([] ∷ [])) =
-    ap (λ (x : List (List ℕ)). codes "TREE" ∷ (map node_text nodes ++ (codes "END" ∷ x))) e ∙ ap (λ (x : List (List ℕ)). codes "TREE" ∷ x) (sym (append_assoc (map node_text nodes) (codes "END" ∷ []) ([] ∷ []))) in
+    ap (λ (x : List (List ℕ)). codes "TREE" ∷ (map node_text nodes ++ (codes "END" ∷ x))) e
+    ∙ ap (λ (x : List (List ℕ)). codes "TREE" ∷ x) (sym (append_assoc (map node_text nodes) (codes "END" ∷ []) ([] ∷ []))) in
     let lines : parts 10 text ≡ text_lines x ++ ([] ∷ []) = a.lines
-    ∙ ap (λ (x : List (List ℕ)). version_text h.version ∷ (codes "INSTANCE" ++ spaced h.name) ∷ (codes "CUSTOMERS" ++ spaced (decimal h.size)) ∷ (codes "NEIGHBOURS" ++ spaced (decimal h.neighbours)) ∷ (codes "BOUND" ++ spaced (tenths_text h.bound)) ∷ x) (t.lines ∙ tail) in
+    ∙ ap (λ (x : List (List ℕ)). version_text h.version ∷ (codes "INSTANCE" ++ spaced h.name) ∷ (codes "CUSTOMERS" ++ spaced (decimal h.size))
+    ∷ (codes "NEIGHBOURS" ++ spaced (decimal h.neighbours)) ∷ (codes "BOUND" ++ spaced (tenths_text h.bound)) ∷ x) (t.lines ∙ tail) in
     let spelled : text ≡ content_text x = sym (joined-parts 10 text) ∙ ap (λ (x : List (List ℕ)). joined 10 x) lines ∙ joined-lines (text_lines x) in
     let same = same_content h nodes t.tree t.preorder in
     let at = at_from_on t.tree (root_region h.size) [] MOST_DEPTH (decides_root h.size) t.shaped in

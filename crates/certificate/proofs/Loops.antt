@@ -15,7 +15,8 @@ with_numbers front read = read >>= λ zs. Ok (front ++ zs)
 abbrev pub word_at : ℕ → List ℕ → Result ℤ CertFault
 word_at k w = value_or (BadLine k) (option_map clamped (signed_of w))
 
-pub numbers_more : (k : ℕ) (z : ℤ) (front : List ℤ) (w : List ℕ) (ws : List (List ℕ)) (total : Result (List ℤ) CertFault) → word_at k w ≡ Ok z → with_numbers front (signed_at k (w ∷ ws)) ≡ total
+pub numbers_more : (k : ℕ) (z : ℤ) (front : List ℤ) (w : List ℕ) (ws : List (List ℕ)) (total : Result (List ℤ) CertFault) → word_at k w ≡ Ok z
+    → with_numbers front (signed_at k (w ∷ ws)) ≡ total
     → with_numbers (front ++ (z ∷ [])) (signed_at k ws) ≡ total
 unfolding signed_at
 numbers_more k z front w ws total h so_far = sym (regroup (signed_at k ws)) ∙ so_far_is
@@ -27,7 +28,8 @@ numbers_more k z front w ws total h so_far = sym (regroup (signed_at k ws)) ∙ 
     so_far_is : with_numbers front (signed_at k ws >>= λ zs. Ok (z ∷ zs)) ≡ total
     so_far_is = let s = rw h at so_far in s
 
-pub numbers_fail : (k : ℕ) (front : List ℤ) (w : List ℕ) (ws : List (List ℕ)) (e : CertFault) (total : Result (List ℤ) CertFault) → word_at k w ≡ Err e → with_numbers front (signed_at k (w ∷ ws)) ≡ total → total ≡ Err e
+pub numbers_fail : (k : ℕ) (front : List ℤ) (w : List ℕ) (ws : List (List ℕ)) (e : CertFault) (total : Result (List ℤ) CertFault)
+    → word_at k w ≡ Err e → with_numbers front (signed_at k (w ∷ ws)) ≡ total → total ≡ Err e
 unfolding signed_at
 numbers_fail k front w ws e total h so_far = sym so_far ∙ rw h refl
 

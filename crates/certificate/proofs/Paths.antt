@@ -18,7 +18,8 @@ IsNodeOn n path (split_node a) = IsArc n a × ¬ Among a path
 -- the tree stands below a path of decided arcs, of which so many may still come
 abbrev pub IsTreeOn : ℕ → List Arc → ℕ → Tree → Type 0
 IsTreeOn n path left (leaf prices) = IsNodeOn n path (leaf_node prices)
-IsTreeOn n path left (split a used unused) = IsNodeOn n path (split_node a) × ((rest : ℕ) × (left ≡ rest + 1) × IsTreeOn n (path ++ (a ∷ [])) rest used × IsTreeOn n (path ++ (a ∷ [])) rest unused)
+IsTreeOn n path left (split a used unused) = IsNodeOn n path (split_node a)
+    × ((rest : ℕ) × (left ≡ rest + 1) × IsTreeOn n (path ++ (a ∷ [])) rest used × IsTreeOn n (path ++ (a ∷ [])) rest unused)
 
 -- the region decides the arcs of the path, and no others
 pub record Decides (g : Region) (path : List Arc) : Type 0 where

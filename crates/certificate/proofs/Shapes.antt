@@ -1,5 +1,6 @@
 -- The walk over nodes finds a tree exactly where they begin with one.
-use Rattle.std.proofs.Common.{◌≡◌, ℕ, zero, suc, ◌+◌, ◌-◌, ◌≤◌, Bool, true, false, cond, not, ◌==◌, List, [], ◌∷◌, ◌++◌, length, Option, Some, None, Result, Ok, Err, refl, sym, ap, subst, ◌∙◌, append_assoc, arith, add-one}
+use Rattle.std.proofs.Common.{◌≡◌, ℕ, zero, suc, ◌+◌, ◌-◌, ◌≤◌, Bool, true, false, cond, not, ◌==◌, List, [], ◌∷◌}
+use Rattle.std.proofs.Common.{◌++◌, length, Option, Some, None, Result, Ok, Err, refl, sym, ap, subst, ◌∙◌, append_assoc, arith, add-one}
 use Rattle.std.specs.Prelude.{nat_le, ℤ, nat_abs, option_and_then, ◌↔◌, IsTrue, IfOk}
 use Rattle.std.specs.List.{AllByRecursion, list_all}
 use Rattle.std.proofs.lemmas.List.{append-nil}
@@ -68,14 +69,16 @@ some_of r = Some r
 some_is : (r s : Rest) → some_of r ≡ some_of s → r ≡ s
 some_is r s e = cc
 
-chosen_leaf : (n left : ℕ) (path : List Arc) (leaves : ℕ) (zs : List ℤ) (xs : List Node) (r : Rest) (b : Bool) → is_leaf n zs ≡ b → without_leaf b leaves xs ≡ Some r → IsBehind n left path leaves (leaf_node zs ∷ xs) r
+chosen_leaf : (n left : ℕ) (path : List Arc) (leaves : ℕ) (zs : List ℤ) (xs : List Node) (r : Rest) (b : Bool) → is_leaf n zs ≡ b
+    → without_leaf b leaves xs ≡ Some r → IsBehind n left path leaves (leaf_node zs ∷ xs) r
 chosen_leaf n left path leaves zs xs r false e h = absurd cc
 chosen_leaf n left path zero zs xs r true e h = absurd cc
 chosen_leaf n left path (suc leaves) zs xs r true e h =
     let made : IsBehind n left path (suc leaves) (leaf_node zs ∷ xs) (leaves, xs) = record { tree = leaf zs; begins = refl; shaped = leaf_is n zs e; counted = omega arith } in
     subst (λ (s : Rest). IsBehind n left path (suc leaves) (leaf_node zs ∷ xs) s) (some_is (leaves, xs) r h) made
 
-both_parts : (n left : ℕ) (path : List Arc) (leaves : ℕ) (a : Arc) (xs : List Node) (u r : Rest) → IsArc n a × ¬ Among a path → IsBehind n left (path ++ (a ∷ [])) leaves xs u → IsBehind n left (path ++ (a ∷ [])) u.0 u.1 r
+both_parts : (n left : ℕ) (path : List Arc) (leaves : ℕ) (a : Arc) (xs : List Node) (u r : Rest) → IsArc n a × ¬ Among a path
+    → IsBehind n left (path ++ (a ∷ [])) leaves xs u → IsBehind n left (path ++ (a ∷ [])) u.0 u.1 r
     → IsBehind n (suc left) path leaves (split_node a ∷ xs) r
 both_parts n left path leaves a xs u r is p q = record {
   tree = split a p.tree q.tree;
@@ -109,12 +112,14 @@ unfolding behind_tree
 behind_leaf n zero path leaves zs xs = refl
 behind_leaf n (suc left) path leaves zs xs = refl
 
-behind_split : (n left : ℕ) (path : List Arc) (leaves : ℕ) (a : Arc) (xs : List Node) (u r : Rest) → is_open n path a ≡ true → behind_tree n left (path ++ (a ∷ [])) leaves xs ≡ Some u → behind_tree n left (path ++ (a ∷ [])) u.0 u.1 ≡ Some r
+behind_split : (n left : ℕ) (path : List Arc) (leaves : ℕ) (a : Arc) (xs : List Node) (u r : Rest) → is_open n path a ≡ true
+    → behind_tree n left (path ++ (a ∷ [])) leaves xs ≡ Some u → behind_tree n left (path ++ (a ∷ [])) u.0 u.1 ≡ Some r
     → behind_tree n (suc left) path leaves (split_node a ∷ xs) ≡ Some r
 unfolding behind_tree
 behind_split n left path leaves a xs u r e f g = rw (e, f) g
 
-pub behind_again : (n : ℕ) (tree : Tree) (left : ℕ) (path : List Arc) (leaves x : ℕ) (rest : List Node) → IsTreeOn n path left tree → leaves ≡ x + leaf_count tree → behind_tree n left path leaves (preorder tree ++ rest) ≡ Some (x, rest)
+pub behind_again : (n : ℕ) (tree : Tree) (left : ℕ) (path : List Arc) (leaves x : ℕ) (rest : List Node) → IsTreeOn n path left tree
+    → leaves ≡ x + leaf_count tree → behind_tree n left path leaves (preorder tree ++ rest) ≡ Some (x, rest)
 behind_again n (leaf zs) left path leaves x rest is e =
     let one : leaves ≡ suc x = omega (arith, e) in
     behind_leaf n left path leaves zs rest ∙ ap (λ (b : Bool). without_leaf b leaves rest) (leaf_again n zs is.0 is.1) ∙ ap (λ (m : ℕ). without_leaf true m rest) one
@@ -215,7 +220,12 @@ pub text_tree : (x : Content) → HasText x → is_one_tree x.size x.nodes ≡ t
 text_tree x h =
     let c = h.certificate in
     subst (λ (y : Content). is_one_tree y.size y.nodes ≡ true) (sym h.is)
-    (one_tree_again c.size (preorder c.tree) (record { tree = c.tree; is = refl; shaped = on_from_at c.tree (root_region c.size) [] MOST_DEPTH (decides_root c.size) h.shaped.tree h.shaped.depth; few = h.shaped.leaves }))
+    (one_tree_again c.size (preorder c.tree) (record {
+      tree = c.tree;
+      is = refl;
+      shaped = on_from_at c.tree (root_region c.size) [] MOST_DEPTH (decides_root c.size) h.shaped.tree h.shaped.depth;
+      few = h.shaped.leaves;
+    }))
 
 -- ---- as the code finds it
 
@@ -283,9 +293,11 @@ module _ (n left : ℕ) (path : List Arc) (leaves : ℕ) (nodes : List CertNode)
         unfolding behind_tree
         no_first e f = at_split (suc less) some ∙ rw (e, f) refl
 
-        pub no_second : (u : Rest) → is_open n path a ≡ true → behind_tree n less (path ++ (a ∷ [])) leaves (nodes_of rest) ≡ Some u → behind_tree n less (path ++ (a ∷ [])) u.0 u.1 ≡ None → behind_tree n left path leaves (nodes_of nodes) ≡ None
+        pub no_second : (u : Rest) → is_open n path a ≡ true → behind_tree n less (path ++ (a ∷ [])) leaves (nodes_of rest) ≡ Some u
+            → behind_tree n less (path ++ (a ∷ [])) u.0 u.1 ≡ None → behind_tree n left path leaves (nodes_of nodes) ≡ None
         unfolding behind_tree
         no_second u e f g = at_split (suc less) some ∙ rw (e, f) g
 
-        pub both_there : (u r : Rest) → is_open n path a ≡ true → behind_tree n less (path ++ (a ∷ [])) leaves (nodes_of rest) ≡ Some u → behind_tree n less (path ++ (a ∷ [])) u.0 u.1 ≡ Some r → behind_tree n left path leaves (nodes_of nodes) ≡ Some r
+        pub both_there : (u r : Rest) → is_open n path a ≡ true → behind_tree n less (path ++ (a ∷ [])) leaves (nodes_of rest) ≡ Some u
+            → behind_tree n less (path ++ (a ∷ [])) u.0 u.1 ≡ Some r → behind_tree n left path leaves (nodes_of nodes) ≡ Some r
         both_there u r e f g = at_split (suc less) some ∙ behind_split n less path leaves a (nodes_of rest) u r e f g

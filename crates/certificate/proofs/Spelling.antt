@@ -22,14 +22,16 @@ tree_lines (split a used unused) =
     let both : flat_map line (map node_text (preorder used ++ preorder unused)) ≡ node_lines used ++ node_lines unused =
     ap (λ (w : List (List ℕ)). flat_map line w) (map-append node_text (preorder used) (preorder unused)) ∙ flat_map-append line (map node_text (preorder used)) (map node_text (preorder unused))
     ∙ ap (λ (w : List ℕ). w ++ flat_map line (map node_text (preorder unused))) (tree_lines used) ∙ ap (λ (w : List ℕ). node_lines used ++ w) (tree_lines unused) in
-    ap (λ (w : List ℕ). w ++ flat_map line (map node_text (preorder used ++ preorder unused))) one ∙ ap (λ (w : List ℕ). shared.split_line a ++ w) both ∙ sym (append_assoc (shared.split_line a) (node_lines used) (node_lines unused))
+    ap (λ (w : List ℕ). w ++ flat_map line (map node_text (preorder used ++ preorder unused))) one
+    ∙ ap (λ (w : List ℕ). shared.split_line a ++ w) both ∙ sym (append_assoc (shared.split_line a) (node_lines used) (node_lines unused))
 
 six : (a b c d e f : List ℕ) → a ++ (b ++ (c ++ (d ++ (e ++ f)))) ≡ ((((a ++ b) ++ c) ++ d) ++ e) ++ f
 six a b c d e f = simp append_assoc
 
 head_text : (c : Certificate) → flat_map line (head_lines (listed c)) ≡ shared.head_lines c
 head_text c =
-    six (first_line c.version) (line (codes "INSTANCE " ++ c.name)) (line (codes "CUSTOMERS " ++ decimal c.size)) (line (codes "NEIGHBOURS " ++ decimal c.neighbours)) (line (codes "BOUND " ++ tenths_text c.bound)) (line (codes "TREE"))
+    six (first_line c.version) (line (codes "INSTANCE " ++ c.name)) (line (codes "CUSTOMERS " ++ decimal c.size))
+    (line (codes "NEIGHBOURS " ++ decimal c.neighbours)) (line (codes "BOUND " ++ tenths_text c.bound)) (line (codes "TREE"))
 
 pub text_is : (c : Certificate) → content_text (listed c) ≡ certificate_text c
 text_is c =

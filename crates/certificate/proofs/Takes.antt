@@ -1,5 +1,6 @@
 -- A node that is read stands in its line with this very text.
-use Rattle.std.proofs.Common.{◌≡◌, ℕ, ◌+◌, ◌≤◌, ◌<◌, Bool, true, false, cond, List, [], ◌∷◌, ◌++◌, length, map, Option, Some, None, Ok, Err, refl, sym, ap, subst, ◌∙◌, arith, inl, inr}
+use Rattle.std.proofs.Common.{◌≡◌, ℕ, ◌+◌, ◌≤◌, ◌<◌, Bool, true, false, cond, List, [], ◌∷◌, ◌++◌}
+use Rattle.std.proofs.Common.{length, map, Option, Some, None, Ok, Err, refl, sym, ap, subst, ◌∙◌, arith, inl, inr}
 use Rattle.std.specs.Prelude.{nat_le, ◌&&◌, ◌||◌, ◌==◌, codes, decimal, ℤ, nat_abs}
 use Rattle.std.specs.Fmt.{signed_decimal}
 use Rattle.std.specs.Option.{option_map}
@@ -115,7 +116,8 @@ undecided_takes k path b a h = chosen (is_decided b path) refl h
         (same, λ among. let is : is_decided b path ≡ true = Among_is b path (subst (λ (x : Arc). Among x path) (sym same) among) in absurd (cc (e, is)))
 
 pair_takes : (k : ℕ) (ws : List (List ℕ)) (a : Arc) → pair_at k ws ≡ Ok a
-    → (v : List ℕ) × (w : List ℕ) × (ws ≡ v ∷ w ∷ []) × (value_or (BadLine k) (option_map capped (number_of v)) ≡ Ok a.0) × (value_or (BadLine k) (option_map capped (number_of w)) ≡ Ok a.1)
+    → (v : List ℕ) × (w : List ℕ) × (ws ≡ v ∷ w ∷ []) × (value_or (BadLine k) (option_map capped (number_of v)) ≡ Ok a.0)
+    × (value_or (BadLine k) (option_map capped (number_of w)) ≡ Ok a.1)
 unfolding pair_at
 pair_takes k [] a h = absurd cc
 pair_takes k (v ∷ []) a h = absurd cc
@@ -126,7 +128,8 @@ pair_takes k (v ∷ w ∷ []) a h =
     let e = ok_is (i.0, j.0) a j.2 in
     (v, w, refl, i.1 ∙ ap (λ (x : Arc). Ok x.0) e, j.1 ∙ ap (λ (x : Arc). Ok x.1) e)
 
-arc_takes : (n k : ℕ) (path : List Arc) (ws : List (List ℕ)) (a : Arc) → n < 1000000 → arc_at n k path ws ≡ Ok a → (ws ≡ decimal a.0 ∷ decimal a.1 ∷ []) × IsArc n a × ¬ Among a path
+arc_takes : (n k : ℕ) (path : List Arc) (ws : List (List ℕ)) (a : Arc) → n < 1000000 → arc_at n k path ws ≡ Ok a
+    → (ws ≡ decimal a.0 ∷ decimal a.1 ∷ []) × IsArc n a × ¬ Among a path
 unfolding arc_at
 arc_takes n k path ws a lt h =
     let p = bind_ok (pair_at k ws) (λ a. check (is_arc n a) (BadArc k) a >>= λ b. undecided k path b) a h in
@@ -157,15 +160,18 @@ node_in_takes n k path (w ∷ ws) x lt h = leaf_or (bytes_eq w (codes "P")) refl
     split_or true e f =
         let a = bind_ok (arc_at n k path ws) (λ a. Ok (split_node a)) x f in
         let t = arc_takes n k path ws a.0 lt a.1 in
-        let text : joined 32 (w ∷ ws) ≡ node_text (split_node a.0) = joined-spaced w ws ∙ ap (λ (v : List ℕ). v ++ flat_map spaced ws) ((bytes_eq-Decides w (codes "S")).0 e) ∙ ap (λ (v : List (List ℕ)). codes "S" ++ flat_map spaced v) t.0 in
+        let text : joined 32 (w ∷ ws) ≡ node_text (split_node a.0) = joined-spaced w ws
+        ∙ ap (λ (v : List ℕ). v ++ flat_map spaced ws) ((bytes_eq-Decides w (codes "S")).0 e) ∙ ap (λ (v : List (List ℕ)). codes "S" ++ flat_map spaced v) t.0 in
         subst (λ (y : Node). IsNodeLine n path (w ∷ ws) y) (ok_is (split_node a.0) x a.2) (text, (t.1, t.2))
 
-    leaf_or : (t : Bool) → bytes_eq w (codes "P") ≡ t → cond t (prices_at n k ws >>= λ zs. Ok (leaf_node zs)) (cond (bytes_eq w (codes "S")) (arc_at n k path ws >>= λ a. Ok (split_node a)) (Err (BadLine k))) ≡ Ok x → IsNodeLine n path (w ∷ ws) x
+    leaf_or : (t : Bool) → bytes_eq w (codes "P") ≡ t → cond t (prices_at n k ws >>= λ zs. Ok (leaf_node zs))
+        (cond (bytes_eq w (codes "S")) (arc_at n k path ws >>= λ a. Ok (split_node a)) (Err (BadLine k))) ≡ Ok x → IsNodeLine n path (w ∷ ws) x
     leaf_or false e f = split_or (bytes_eq w (codes "S")) refl f
     leaf_or true e f =
         let a = bind_ok (prices_at n k ws) (λ zs. Ok (leaf_node zs)) x f in
         let t = prices_take n k ws a.0 a.1 in
-        let text : joined 32 (w ∷ ws) ≡ node_text (leaf_node a.0) = joined-spaced w ws ∙ ap (λ (v : List ℕ). v ++ flat_map spaced ws) ((bytes_eq-Decides w (codes "P")).0 e) ∙ ap (λ (v : List (List ℕ)). codes "P" ++ flat_map spaced v) t.0 in
+        let text : joined 32 (w ∷ ws) ≡ node_text (leaf_node a.0) = joined-spaced w ws
+        ∙ ap (λ (v : List ℕ). v ++ flat_map spaced ws) ((bytes_eq-Decides w (codes "P")).0 e) ∙ ap (λ (v : List (List ℕ)). codes "P" ++ flat_map spaced v) t.0 in
         subst (λ (y : Node). IsNodeLine n path (w ∷ ws) y) (ok_is (leaf_node a.0) x a.2) (text, (t.1, t.2))
 
 -- the node's line, and what is left behind it

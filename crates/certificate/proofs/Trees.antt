@@ -13,7 +13,8 @@ use Rattle.tenths.proofs.Steps.{bind_ok, ok_is}
 use Rattle.certificate.proofs.Steps.{children_at}
 
 -- one node's line stands at the front: `Takes st x rest` is to say that the lines from st are x's line and the lines from rest
-module _ (n : ℕ) (Takes : Left → Node → Left → Type 0) (node_takes : (path : List Arc) (st rest : Left) (x : Node) → node_at n path st ≡ Ok (x, rest) → Takes st x rest × IsNodeOn n path x) where
+module _ (n : ℕ) (Takes : Left → Node → Left → Type 0) (node_takes : (path : List Arc) (st rest : Left) (x : Node) → node_at n path st ≡ Ok (x, rest)
+    → Takes st x rest × IsNodeOn n path x) where
   -- the nodes' lines one after another
   abbrev pub TakesAll : Left → List Node → Left → Type 0
   TakesAll st [] rest = st ≡ rest
@@ -30,11 +31,13 @@ module _ (n : ℕ) (Takes : Left → Node → Left → Type 0) (node_takes : (pa
     pub counted : b.1.0 + leaf_count tree ≡ leaves
     pub spelled : TakesAll st b.0 b.1.1
 
-  leaf_read : (path : List Arc) (left leaves k : ℕ) (st rest : Left) (zs : List ℤ) (b : Below) → Takes st (leaf_node zs) rest × IsNodeOn n path (leaf_node zs) → one_leaf k zs leaves rest ≡ Ok b → IsRead path left leaves st b
+  leaf_read : (path : List Arc) (left leaves k : ℕ) (st rest : Left) (zs : List ℤ) (b : Below) → Takes st (leaf_node zs) rest
+      × IsNodeOn n path (leaf_node zs) → one_leaf k zs leaves rest ≡ Ok b → IsRead path left leaves st b
   leaf_read path left zero k st rest zs b t e = absurd cc
   leaf_read path left (suc leaves) k st rest zs b t e =
       let same : (leaf_node zs ∷ [], (leaves, rest)) ≡ b = ok_is (leaf_node zs ∷ [], (leaves, rest)) b e in
-      let made : IsRead path left (suc leaves) st (leaf_node zs ∷ [], (leaves, rest)) = record { tree = leaf zs; preorder = refl; shaped = t.1; counted = omega arith; spelled = (rest, t.0, refl) } in
+      let made : IsRead path left (suc leaves) st (leaf_node zs ∷ [], (leaves, rest)) =
+      record { tree = leaf zs; preorder = refl; shaped = t.1; counted = omega arith; spelled = (rest, t.0, refl) } in
       subst (λ (z : Below). IsRead path left (suc leaves) st z) same made
 
   split_read : (path : List Arc) (left leaves : ℕ) (st rest : Left) (a : Arc) (u v : Below) → Takes st (split_node a) rest × IsNodeOn n path (split_node a)
@@ -63,7 +66,8 @@ module _ (n : ℕ) (Takes : Left → Node → Left → Type 0) (node_takes : (pa
     where
       of : (node : Node) (rest : Left) → Takes st node rest × IsNodeOn n path node → below st.0 leaves (λ a rest. children_at n left path leaves a rest) node rest ≡ Ok b
           → ((a : Arc) (rest : Left) (u : Below) → tree_at n left (path ++ (a ∷ [])) leaves rest ≡ Ok u → IsRead (path ++ (a ∷ [])) left leaves rest u)
-          → ((a : Arc) (lv : ℕ) (mid : Left) (v : Below) → tree_at n left (path ++ (a ∷ [])) lv mid ≡ Ok v → IsRead (path ++ (a ∷ [])) left lv mid v) → IsRead path (suc left) leaves st b
+          → ((a : Arc) (lv : ℕ) (mid : Left) (v : Below) → tree_at n left (path ++ (a ∷ [])) lv mid ≡ Ok v → IsRead (path ++ (a ∷ [])) left lv mid v)
+          → IsRead path (suc left) leaves st b
       of (leaf_node zs) rest t e first second = leaf_read path (suc left) leaves st.0 st rest zs b t e
       of (split_node a) rest t e first second =
           let u = bind_ok (tree_at n left (path ++ (a ∷ [])) leaves rest) (λ used. tree_at n left (path ++ (a ∷ [])) used.1.0 used.1.1 >>= λ unused. Ok (both a used.0 unused)) b e in

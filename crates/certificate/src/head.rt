@@ -133,7 +133,17 @@ fn version(lines: &mut Lines<'_>) -> Result<Version, CertFault>
 /// The lines before the tree.
 #[tactic(auto, unfolding(crate::specs::Reading::head_at, crate::specs::Reading::title_at, crate::specs::Reading::sizes_at))]
 pub fn head_lines(alloc: Global, lines: &mut Lines<'_>) -> Result<Head, CertFault>
-    ensures { Gives (λ h. (record { version = version_of h.version; name = h.name.items; size = h.size; neighbours = h.neighbours; bound = h.bound }, lines.new)) result (head_at lines.old) }
+    ensures { Gives (λ h. (
+      record {
+        version = version_of h.version;
+        name = h.name.items;
+        size = h.size;
+        neighbours = h.neighbours;
+        bound = h.bound;
+      },
+      lines.new,
+    ))
+        result (head_at lines.old) }
 {
     let version = version(lines)?;
     let name = name(alloc, lines)?;

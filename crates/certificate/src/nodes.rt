@@ -22,8 +22,12 @@ pub struct Nodes<'a> {
 
 /// Reads the tree below the path, which may grow by `left` arcs.
 pub fn tree(alloc: Global, state: &mut Nodes<'_>, left: u32) -> Result<(), CertFault>
-    ensures exact { Gives (λ _. (nodes_of state.new.nodes.items, (state.new.leaves, state.new.lines))) result
-        (with_nodes (nodes_of state.old.nodes.items) (tree_at state.old.size left state.old.path.items state.old.leaves state.old.lines)) }
+    ensures exact { Gives (λ _. (
+      nodes_of state.new.nodes.items,
+      (state.new.leaves, state.new.lines),
+    )) result
+        (with_nodes (nodes_of state.old.nodes.items)
+        (tree_at state.old.size left state.old.path.items state.old.leaves state.old.lines)) }
     ensures path { OnOk result (state.new.path.items ≡ state.old.path.items) }
     ensures size { OnOk result (state.new.size ≡ state.old.size) }
 {

@@ -73,7 +73,8 @@ pub fn read(alloc: Global, text: &[u8]) -> Result<Cert, CertFault>
     // The text is that of what is read.
     ensures found { IfOk result (λ c. IsCertificateText text.now c) }
     // Each text of a certificate is read, unless memory runs out.
-    ensures only { (c : Certificate) → IsCertificate c → text.now ≡ certificate_text c → Gives (λ x. x) result (Ok (listed c)) }
+    ensures only { (c : Certificate) → IsCertificate c → text.now ≡ certificate_text c
+        → Gives (λ x. x) result (Ok (listed c)) }
     // Which fault it is, unless memory ran out.
     ensures exact { Gives (λ x. x) result (reading text.now) }
 {

@@ -40,8 +40,12 @@ fn is_open_arc(size: u16, path: &[(u16, u16)], arc: (u16, u16)) -> bool
 /// Takes the first tree from the nodes, below the path, which may grow by `left` arcs; or finds that
 /// they don't begin with one.
 fn take_tree(remaining: &mut Remaining<'_>, left: u32) -> Result<bool, AllocError>
-    ensures exact { IfOk result (λ b. Finds b (behind_tree remaining.old.size left remaining.old.path.items remaining.old.leaves (nodes_of remaining.old.nodes.now)) (remaining.new.leaves, nodes_of remaining.new.nodes.now)) }
-    ensures path { IfOk result (λ b. IsTrue b → remaining.new.path.items ≡ remaining.old.path.items) }
+    ensures exact { IfOk result (λ b. Finds b
+        (behind_tree remaining.old.size left remaining.old.path.items remaining.old.leaves
+        (nodes_of remaining.old.nodes.now))
+        (remaining.new.leaves, nodes_of remaining.new.nodes.now)) }
+    ensures path { IfOk result (λ b. IsTrue b
+        → remaining.new.path.items ≡ remaining.old.path.items) }
     ensures size { IfOk result (λ b. remaining.new.size ≡ remaining.old.size) }
 {
     let Some((node, rest)) = remaining.nodes.split_first() else {

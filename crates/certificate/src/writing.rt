@@ -19,7 +19,8 @@ use tenths::{Device, Sink, write_number_line, write_pieces, write_tenths_line, w
 /// The lines before that of the bound.
 fn write_names<W: Sink>(parts: &CertParts, sink: &mut W) -> Result<(), Device>
     ensures { Writes (W.held sink.old) (W.held sink.new) result
-        (first_line (version_of parts.now.version) ++ flat_map line (name_lines (content_of parts.now))) }
+        (first_line (version_of parts.now.version)
+        ++ flat_map line (name_lines (content_of parts.now))) }
 {
     let first = match parts.version {
         Version::One => b"VRPTW-CERT 1\n".as_slice(),
@@ -44,7 +45,8 @@ fn write_names<W: Sink>(parts: &CertParts, sink: &mut W) -> Result<(), Device>
 
 /// The lines before the nodes.
 fn write_head<W: Sink>(parts: &CertParts, sink: &mut W) -> Result<(), Device>
-    ensures { Writes (W.held sink.old) (W.held sink.new) result (flat_map line (head_lines (content_of parts.now))) }
+    ensures { Writes (W.held sink.old) (W.held sink.new) result
+        (flat_map line (head_lines (content_of parts.now))) }
 {
     write_names(parts, sink)?;
     write_tenths_line(b"BOUND ", parts.bound, sink)?;
@@ -53,7 +55,8 @@ fn write_head<W: Sink>(parts: &CertParts, sink: &mut W) -> Result<(), Device>
 
 /// A node's line.
 fn write_node<W: Sink>(node: &CertNode, sink: &mut W) -> Result<(), Device>
-    ensures { Writes (W.held sink.old) (W.held sink.new) result (line (node_text (node_of node.now))) }
+    ensures { Writes (W.held sink.old) (W.held sink.new) result
+        (line (node_text (node_of node.now))) }
 {
     match node {
         CertNode::Split { from, to } => write_number_line(&[b"S"], &[*from, *to], sink),
@@ -63,7 +66,8 @@ fn write_node<W: Sink>(node: &CertNode, sink: &mut W) -> Result<(), Device>
 
 /// A line for each node.
 fn write_nodes<W: Sink>(nodes: &[CertNode], sink: &mut W) -> Result<(), Device>
-    ensures { Writes (W.held sink.old) (W.held sink.new) result (flat_map (λ x. line (node_text (node_of x))) nodes.now) }
+    ensures { Writes (W.held sink.old) (W.held sink.new) result
+        (flat_map (λ x. line (node_text (node_of x))) nodes.now) }
 {
     for node in nodes {
         write_node(node, sink)?;
@@ -76,7 +80,8 @@ fn write_nodes<W: Sink>(nodes: &[CertNode], sink: &mut W) -> Result<(), Device>
 pub fn write<W: Sink>(cert: &Cert, sink: &mut W) -> Result<(), WriteFault>
     // There is a certificate with these contents; two of them are the same.
     ensures has_text { HasText cert.now }
-    ensures text { (c : Certificate) → cert.now ≡ listed c → Writes (W.held sink.old) (W.held sink.new) result (certificate_text c) }
+    ensures text { (c : Certificate) → cert.now ≡ listed c
+        → Writes (W.held sink.old) (W.held sink.new) result (certificate_text c) }
 {
     let parts = cert.parts();
     write_head(parts, sink)?;

@@ -20,7 +20,8 @@ use Rattle.checker.specs.declared.fault.CheckFault.TheVariants as fault
 use Rattle.checker.specs.declared.verdict.Verdict.{Verdict}
 use Rattle.checker.specs.declared.verdict.Verdict.TheVariants.{Best, Gap, NoPlan, BoundOnly}
 use Rattle.checker.specs.Plans.{defect_of}
-use Rattle.checker.specs.Checking.{Texts, Spelled, IsRight, IsRightSolution, Means, IsSolutionOf, AreTextsOf, HasBound, Judges, RefusesInstance, RefusesCertificate, RefusesSolutionText, RefusesTexts, RefusesBound, RefusesSolution, RefusesPlan, RefusesContents, Refuses, Checks}
+use Rattle.checker.specs.Checking.{Texts, Spelled, IsRight, IsRightSolution, Means, IsSolutionOf, AreTextsOf, HasBound, Judges, RefusesInstance, RefusesCertificate}
+use Rattle.checker.specs.Checking.{RefusesSolutionText, RefusesTexts, RefusesBound, RefusesSolution, RefusesPlan, RefusesContents, Refuses, Checks}
 
 -- memory or the states don't suffice
 abbrev IsLimit : CheckFault → Type 0

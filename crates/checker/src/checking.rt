@@ -147,7 +147,11 @@ fn check_texts(
     sol: Option<&[u8]>,
     state_limit: usize,
 ) -> Result<Verdict, CheckFault>
-    ensures { Checks (record { instance = instance.now; certificate = cert.now; solution = option_map (λ t. t.now) sol.entry }) result }
+    ensures { Checks (record {
+      instance = instance.now;
+      certificate = cert.now;
+      solution = option_map (λ t. t.now) sol.entry;
+    }) result }
 {
     let instance = read_instance(alloc, instance)?;
     let cert = read_certificate(alloc, cert)?;
@@ -174,11 +178,24 @@ pub fn check(
     state_limit: usize,
 ) -> Result<Verdict, CheckFault>
     // Which verdict or fault it is.
-    ensures told { Checks (record { instance = instance.now; certificate = cert.now; solution = option_map (λ t. t.now) sol.entry }) result }
+    ensures told { Checks (record {
+      instance = instance.now;
+      certificate = cert.now;
+      solution = option_map (λ t. t.now) sol.entry;
+    }) result }
     // A verdict is given only where the texts are right,
-    ensures right { IfOk result (λ _. IsRight (record { instance = instance.now; certificate = cert.now; solution = option_map (λ t. t.now) sol.entry })) }
+    ensures right { IfOk result (λ _. IsRight (record {
+      instance = instance.now;
+      certificate = cert.now;
+      solution = option_map (λ t. t.now) sol.entry;
+    })) }
     // and wherever they are, unless memory or the states don't suffice.
-    ensures wrong { IfErr result (λ e. (e ≡ Memory) ⊎ ((e ≡ StateLimit) ⊎ (¬ IsRight (record { instance = instance.now; certificate = cert.now; solution = option_map (λ t. t.now) sol.entry })))) }
+    ensures wrong { IfErr result (λ e. (e ≡ Memory) ⊎ ((e ≡ StateLimit)
+        ⊎ (¬ IsRight (record {
+          instance = instance.now;
+          certificate = cert.now;
+          solution = option_map (λ t. t.now) sol.entry;
+        })))) }
     // What the verdict says of every plan.
     ensures means { IfOk result (λ v. (p : Problem) → IsInstance instance.now p → Means p v) }
 {

@@ -26,7 +26,8 @@ fn mark(marks: &mut Vec<bool>, number: u16) -> bool
     requires { number < length marks.old.items }
     ensures count { length marks.new.items ≡ length marks.old.items }
     ensures marked { (before : List ℕ) → AreServed before marks.old.items
-        → MatchBool result (AreServed (before ++ number ∷ []) marks.new.items) (count_of number before ≡ 1) }
+        → MatchBool result (AreServed (before ++ number ∷ []) marks.new.items)
+        (count_of number before ≡ 1) }
 {
     let index = usize::from(number);
     if marks[index] {
@@ -41,7 +42,8 @@ fn mark_stops(marks: &mut Vec<bool>, stops: &[u16]) -> bool
     requires { All (λ i. i < length marks.old.items) stops.now }
     ensures count { length marks.new.items ≡ length marks.old.items }
     ensures marked { (before : List ℕ) → AreServed before marks.old.items
-        → MatchBool result (AreServed (before ++ stops.now) marks.new.items) ((i : ℕ) × (2 ≤ count_of i (before ++ stops.now))) }
+        → MatchBool result (AreServed (before ++ stops.now) marks.new.items)
+        ((i : ℕ) × (2 ≤ count_of i (before ++ stops.now))) }
 {
     for stop in stops {
         if !mark(marks, *stop) {

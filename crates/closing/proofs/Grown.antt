@@ -18,7 +18,8 @@ use Rattle.closing.specs.Growing.{Grows, IsSameTask, IsSameTree, Splits}
 use Rattle.closing.specs.declared.growth.Growth.{Growth}
 
 -- a leaf that was listed has grown
-pub leaf_grows : (f : Pricing) (old new : Growth) (node : TreeNode) → IsPricing f → f.problem ≡ old.instance.now → IsSameTask old new → node_of node ≡ leaf_node f.prices → new.nodes.items ≡ old.nodes.items ++ (node ∷ [])
+pub leaf_grows : (f : Pricing) (old new : Growth) (node : TreeNode) → IsPricing f → f.problem ≡ old.instance.now → IsSameTask old new
+    → node_of node ≡ leaf_node f.prices → new.nodes.items ≡ old.nodes.items ++ (node ∷ [])
     → old.bound ≤ ceiling_of old.instance.now + 1 → new.bound ≡ min old.bound f.value → new.leaves ≡ old.leaves → Grows f.neighbours f.region old new
 leaf_grows f old new node is own task item e low least leaves = record {
   task = task;
@@ -48,7 +49,8 @@ same_children f raised c problem region neighbours are = record {
 }
 
 -- a split of a leaf at raised prices is a split of the leaf
-raised_split : (f raised : Pricing) (old new : Growth) (c : Children) → raised.problem ≡ f.problem → raised.region ≡ f.region → raised.neighbours ≡ f.neighbours → Splits raised old new c → Splits f old new c
+raised_split : (f raised : Pricing) (old new : Growth) (c : Children) → raised.problem ≡ f.problem → raised.region ≡ f.region
+    → raised.neighbours ≡ f.neighbours → Splits raised old new c → Splits f old new c
 raised_split f raised old new c problem region neighbours adds = record {
   children = same_children f raised c problem region neighbours adds.children;
   task = adds.task;
@@ -58,7 +60,8 @@ raised_split f raised old new c problem region neighbours adds = record {
 }
 
 -- what was split at raised prices, if anything, was split at the leaf
-pub splits_raised : {E : Type 0} (f raised : Pricing) (old new : Growth) (r : Result (Option Children) E) → raised.problem ≡ f.problem → raised.region ≡ f.region → raised.neighbours ≡ f.neighbours
+pub splits_raised : {E : Type 0} (f raised : Pricing) (old new : Growth) (r : Result (Option Children) E) → raised.problem ≡ f.problem
+    → raised.region ≡ f.region → raised.neighbours ≡ f.neighbours
     → IfOk r (λ found. IfSome found (Splits raised old new)) → IfOk r (λ found. IfSome found (Splits f old new))
 splits_raised f raised old new (Err e) problem region neighbours h = tt
 splits_raised f raised old new (Ok None) problem region neighbours h = tt
@@ -82,7 +85,8 @@ pub record ListsSplit (c : Children) (old new : Growth) : Type 0 where
   pub bound : new.bound ≡ old.bound
 
 -- a split whose children have grown, that which forbids the arc first
-pub split_grows : (f : Pricing) (c : Children) (old begun middle grown new : Growth) → Splits f old begun c → Grows c.unused.neighbours c.unused.region begun middle → Grows c.used.neighbours c.used.region middle grown
+pub split_grows : (f : Pricing) (c : Children) (old begun middle grown new : Growth) → Splits f old begun c
+    → Grows c.unused.neighbours c.unused.region begun middle → Grows c.used.neighbours c.used.region middle grown
     → ListsSplit c grown new → Grows f.neighbours f.region old new
 split_grows f c old begun middle grown new splits first second last =
     let are = splits.children in
@@ -97,7 +101,8 @@ split_grows f c old begun middle grown new splits first second last =
         limit = last.task.limit ∙ used.task.limit ∙ unused.task.limit ∙ splits.task.limit;
       };
       tree = split (pair c.arc) used.tree unused.tree;
-      nodes = last.nodes ∙ ap (λ ns. ns ++ node) (used.nodes ∙ ap (λ ns. ns ++ reverse (preorder used.tree)) (unused.nodes ∙ ap (λ ns. map node_of ns ++ reverse (preorder unused.tree)) splits.nodes)
+      nodes = last.nodes ∙ ap (λ ns. ns ++ node) (used.nodes
+          ∙ ap (λ ns. ns ++ reverse (preorder used.tree)) (unused.nodes ∙ ap (λ ns. map node_of ns ++ reverse (preorder unused.tree)) splits.nodes)
           ∙ append_assoc (map node_of old.nodes.items) (reverse (preorder unused.tree)) (reverse (preorder used.tree)))
           ∙ append_assoc (map node_of old.nodes.items) (reverse (preorder unused.tree) ++ reverse (preorder used.tree)) node
           ∙ ap (λ ns. map node_of old.nodes.items ++ ns) (sym listed);
@@ -128,13 +133,16 @@ bound_low p k g (split a used unused) b has = let low = bound_low p k (used_chil
 
 map_reverse : {A B : Type 0} (f : A → B) (xs : List A) → map f (reverse xs) ≡ reverse (map f xs)
 map_reverse f [] = refl
-map_reverse f (x ∷ xs) = ap (λ ys. map f ys) (reverse-append (x ∷ []) xs) ∙ map-append f (reverse xs) (x ∷ []) ∙ ap (λ ys. ys ++ (f x ∷ [])) (map_reverse f xs) ∙ sym (reverse-append (f x ∷ []) (map f xs))
+map_reverse f (x ∷ xs) = ap (λ ys. map f ys) (reverse-append (x ∷ []) xs) ∙ map-append f (reverse xs) (x ∷ [])
+    ∙ ap (λ ys. ys ++ (f x ∷ [])) (map_reverse f xs) ∙ sym (reverse-append (f x ∷ []) (map f xs))
 
 -- a tree that has grown from the root alone is the instance's
-pub listed_tree : (p : Problem) (k : ℕ) (old new : Growth) → Grows k (root_region (customer_count p)) old new → old.instance.now ≡ p → old.nodes.items ≡ [] → old.leaves ≡ 1 → old.bound ≡ ceiling_of p + 1
+pub listed_tree : (p : Problem) (k : ℕ) (old new : Growth) → Grows k (root_region (customer_count p)) old new → old.instance.now ≡ p
+    → old.nodes.items ≡ [] → old.leaves ≡ 1 → old.bound ≡ ceiling_of p + 1
     → customer_count p ≤ 24 → new.leaves ≤ MOST_LEAVES → DepthHolds → IsListedTree p k (reverse new.nodes.items) new.bound new.leaves
 listed_tree p k old new grows own none one high small few deep =
-    let has : HasBound version_2 p k (root_region (customer_count p)) grows.tree grows.value = subst (λ (q : Problem). HasBound version_2 q k (root_region (customer_count p)) grows.tree grows.value) own grows.bound in
+    let has : HasBound version_2 p k (root_region (customer_count p)) grows.tree grows.value =
+    subst (λ (q : Problem). HasBound version_2 q k (root_region (customer_count p)) grows.tree grows.value) own grows.bound in
     let same : new.bound ≡ grows.value = omega (arith, grows.least, high, bound_low p k (root_region (customer_count p)) grows.tree grows.value has) in
     let room : customer_count p * (customer_count p + 1) ≤ 24 * 25 = mul-le (customer_count p) (customer_count p + 1) 24 25 (omega (arith, small)) (omega (arith, small)) in record {
       tree = grows.tree;

@@ -8,7 +8,8 @@ use Rattle.solomon_reader.specs.Plan.{IsPlan, IsFitting, arcs_from, count_of}
 use Rattle.solomon_reader.specs.PlanDefects.{stops}
 use Rattle.solomon_reader.specs.Region.{Region, IsAllowed}
 use Rattle.solomon_reader.specs.AmongLaws.{weaker}
-use Rattle.solomon_reader.specs.CountLaws.{mark, mark-same, mark-other, count-cons, count-append, count_none, count_positive, All-flat, permutation_from_counts, count-range_below, count-range_above, count-range_within}
+use Rattle.solomon_reader.specs.CountLaws.{mark, mark-same, mark-other, count-cons, count-append, count_none, count_positive, All-flat}
+use Rattle.solomon_reader.specs.CountLaws.{permutation_from_counts, count-range_below, count-range_above, count-range_within}
 use Rattle.branching.specs.Choosing.{IsSettled}
 use Rattle.closing.specs.Gathering.{FitsIn, IsGathered, begins}
 use Rattle.closing.proofs.Following.{same_next, same_before}

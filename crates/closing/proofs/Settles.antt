@@ -1,5 +1,6 @@
 -- The prices that settle a region.
-use Rattle.std.proofs.Common.{◌≡◌, ◌≢◌, refl, ℕ, zero, suc, ◌+◌, ◌-◌, ◌*◌, ◌<◌, ◌≤◌, List, [], ◌∷◌, length, get_or, set, get_or-set_other, arith, ap, ◌∙◌}
+use Rattle.std.proofs.Common.{◌≡◌, ◌≢◌, refl, ℕ, zero, suc, ◌+◌, ◌-◌, ◌*◌, ◌<◌, ◌≤◌}
+use Rattle.std.proofs.Common.{List, [], ◌∷◌, length, get_or, set, get_or-set_other, arith, ap, ◌∙◌}
 use Rattle.std.specs.Prelude.{ℤ, pos, negsuc, ◌+ℤ◌, ◌≤ℤ◌, Some, None}
 use Rattle.std.specs.List.{AllByRecursion}
 use Rattle.std.proofs.lemmas.Int.{ints}
@@ -52,14 +53,16 @@ pub raised_range : (zs : List ℤ) (i d : ℕ) → AllByRecursion HasRoom zs →
 raised_range zs i d all h k = all_set zs i _ (in_range zs all) (abs_more (get_or zs i (pos 0)) d (room_at zs i all h) k)
 
 module _ (p : Problem) (g : Region) (size : g.size ≡ customer_count p) where
-  above : (prices : List ℤ) (fee : ℕ) → IsUniform p g prices fee → length prices ≡ customer_count p → pos (1000 * (ceiling_of p + 1) + p.fleet * fee) ≤ℤ int_sum prices → IsSettling p g prices None
+  above : (prices : List ℤ) (fee : ℕ) → IsUniform p g prices fee → length prices ≡ customer_count p
+      → pos (1000 * (ceiling_of p + 1) + p.fleet * fee) ≤ℤ int_sum prices → IsSettling p g prices None
   above prices fee uniform priced high = (
     λ version k v value. omega (arith, ints, high, value_covers p g prices fee uniform version k v value),
     λ routes plan obeys. none_pays p g prices fee uniform routes size priced plan obeys high,
   )
 
   module _ (settled : IsSettled g) where
-    pub too_many : (prices : List ℤ) (fee : ℕ) (routes : List (List ℕ)) → IsGathered p g (customer_count p + 1) fee prices routes → fee ≡ 1000 * (ceiling_of p + 1) → p.fleet < length routes → IsSettling p g prices None
+    pub too_many : (prices : List ℤ) (fee : ℕ) (routes : List (List ℕ)) → IsGathered p g (customer_count p + 1) fee prices routes
+        → fee ≡ 1000 * (ceiling_of p + 1) → p.fleet < length routes → IsSettling p g prices None
     too_many prices fee routes all is many =
         let most : (p.fleet + 1) * fee ≤ length routes * fee = mul-le (p.fleet + 1) fee (length routes) fee (omega arith) (omega arith) in
         above prices fee (gathered_uniform p g settled fee prices routes all) (omega (arith, all.count)) (omega (arith, ints, all.sum, most, is))
@@ -80,7 +83,8 @@ module _ (p : Problem) (g : Region) (size : g.size ≡ customer_count p) where
         same_prices : (r : List ℕ) → AllByRecursion (IsCustomer p) r → count_of c r ≡ 0 → int_sum_by (price_of raised) r ≡ int_sum_by (price_of prices) r
         same_prices [] known none = refl
         same_prices (x ∷ r) known none =
-            let other : x - 1 ≢ c - 1 = λ e. (let same : x ≡ c = omega (arith, e, known.0.0, customer.0) in let m : mark c x ≡ 1 = rw same (mark-same c) in omega (arith, none, count-cons c x r, m)) in
+            let other : x - 1 ≢ c - 1 = λ e. (let same : x ≡ c = omega (arith, e, known.0.0, customer.0) in
+            let m : mark c x ≡ 1 = rw same (mark-same c) in omega (arith, none, count-cons c x r, m)) in
             let here : price_of raised x ≡ price_of prices x = rw get_or-set_other refl in
             let rest = same_prices r known.1 (omega (arith, none, count-cons c x r)) in
             omega (arith, ints, here, rest)
@@ -90,4 +94,5 @@ module _ (p : Problem) (g : Region) (size : g.size ≡ customer_count p) where
             let uniform = gathered_uniform p g settled 0 prices routes all in
             let free : (r : List ℕ) → FitsIn p g r → count_of c r ≡ 0 = λ r f. omega (arith, missing, count-route c r routes (all_there p g settled 0 prices routes all r f)) in
             let still : IsUniform p g raised 0 = record { each = λ r f. (let e = uniform.each r f in omega (arith, ints, e, same_prices r f.fitting.known (free r f))) } in
-            above raised 0 still (length_set prices (c - 1) _ ∙ omega (arith, all.count)) (omega (arith, ints, is, all.sum, sum_set prices (c - 1) d (omega (arith, all.count, customer.0, customer.1))))
+            above raised 0 still (length_set prices (c - 1) _ ∙ omega (arith, all.count))
+            (omega (arith, ints, is, all.sum, sum_set prices (c - 1) d (omega (arith, all.count, customer.0, customer.1))))

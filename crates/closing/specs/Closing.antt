@@ -30,7 +30,9 @@ pub record IsClosed (p : Problem) (k limit : ℕ) (c : Closed) : Type 0 where
   pub tree : IsListedTree p k c.nodes.items c.bound leaves
   pub within : leaves ≤ limit
 
--- A tree with exactly as many leaves as the limit allows, whose bound is below the cost told, which a plan has, or at most the ceiling where none is told. A cost is told where there is a vehicle for each customer and each can be served alone.
+-- A tree with exactly as many leaves as the limit allows, whose bound is below the cost told, which a plan has, or at
+-- most the ceiling where none is told. A cost is told where there is a vehicle for each customer and each can be served
+-- alone.
 pub record IsStopped (p : Problem) (k limit : ℕ) (cost : Option ℕ) (bound : ℕ) (nodes : List TreeNode) : Type 0 where
   pub small : customer_count p ≤ MOST_CLOSED
   pub plan : MatchOption cost (¬ IsServedAlone p) (IsPlanCost p)

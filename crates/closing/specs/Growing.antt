@@ -15,7 +15,8 @@ use Rattle.closing.specs.declared.growth.Growth.{Growth}
 abbrev pub target_of : Growth → ℕ
 target_of t = known_or_above t.instance.now (costs t.best)
 
--- A plan is known where there is a vehicle for each customer and each can be served alone. The bound is below the target only where the growth has stopped, and then there are as many leaves as the limit allows.
+-- A plan is known where there is a vehicle for each customer and each can be served alone. The bound is below the
+-- target only where the growth has stopped, and then there are as many leaves as the limit allows.
 pub record IsGrowth (t : Growth) : Type 0 where
   pub best : MatchOption t.best (¬ IsServedAlone t.instance.now) (λ f. f.problem ≡ t.instance.now)
   pub low : t.bound ≤ ceiling_of t.instance.now + 1

@@ -78,17 +78,18 @@ same_settings rows a b p q =
 -- what a command and its rows say is one job
 pub same_job : (named : Option (Text × List Row)) (found other : Job) → SaysAny named found → SaysAny named other → IsSameJob found other
 same_job None found other says also = absurd says
-same_job (Some (name, rows)) (Solve instance solution certificate start settings close leaves progress live) (Solve second_instance second_solution second_certificate second_start second_settings second_close second_leaves second_progress second_live) (_, p) (_, q) = (
-  some_is_one _ _ _ p.instance_path q.instance_path,
-  some_is_one _ _ _ p.solution_path q.solution_path,
-  some_is_one _ _ _ p.certificate_path q.certificate_path,
-  sym p.start_path ∙ q.start_path,
-  same_settings rows settings second_settings p.settings_are q.settings_are,
-  same_flag (codes "close") rows close second_close p.closing_is.close_is q.closing_is.close_is,
-  same_number _ rows leaves second_leaves p.closing_is.leaves_are q.closing_is.leaves_are,
-  same_flag (codes "progress") rows progress second_progress p.progress_is q.progress_is,
-  same_flag (codes "live") rows live second_live p.live_is q.live_is,
-)
+same_job (Some (name, rows)) (Solve instance solution certificate start settings close leaves progress live)
+    (Solve second_instance second_solution second_certificate second_start second_settings second_close second_leaves second_progress second_live) (_, p) (_, q) = (
+      some_is_one _ _ _ p.instance_path q.instance_path,
+      some_is_one _ _ _ p.solution_path q.solution_path,
+      some_is_one _ _ _ p.certificate_path q.certificate_path,
+      sym p.start_path ∙ q.start_path,
+      same_settings rows settings second_settings p.settings_are q.settings_are,
+      same_flag (codes "close") rows close second_close p.closing_is.close_is q.closing_is.close_is,
+      same_number _ rows leaves second_leaves p.closing_is.leaves_are q.closing_is.leaves_are,
+      same_flag (codes "progress") rows progress second_progress p.progress_is q.progress_is,
+      same_flag (codes "live") rows live second_live p.live_is q.live_is,
+    )
 same_job (Some (name, rows)) (Check instance certificate solution states) (Check second_instance second_certificate second_solution second_states) (_, p) (_, q) = (
   some_is_one _ _ _ p.instance_path q.instance_path,
   some_is_one _ _ _ p.certificate_path q.certificate_path,
@@ -97,5 +98,6 @@ same_job (Some (name, rows)) (Check instance certificate solution states) (Check
 )
 same_job (Some (name, rows)) (Solve instance solution certificate start settings close leaves progress live) (Check second_instance second_certificate second_solution second_states) p q =
     absurd (one_name name p.0 q.0)
-same_job (Some (name, rows)) (Check instance certificate solution states) (Solve second_instance second_solution second_certificate second_start second_settings second_close second_leaves second_progress second_live) p q =
+same_job (Some (name, rows)) (Check instance certificate solution states)
+    (Solve second_instance second_solution second_certificate second_start second_settings second_close second_leaves second_progress second_live) p q =
     absurd (one_name name q.0 p.0)

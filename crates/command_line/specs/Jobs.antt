@@ -87,4 +87,5 @@ IsSameJob (Check instance certificate solution states) (Check second_instance se
     (instance.now ≡ second_instance.now) × (certificate.now ≡ second_certificate.now)
     × (option_map (λ s. s.now) solution ≡ option_map (λ s. s.now) second_solution) × (states ≡ second_states)
 IsSameJob (Solve instance solution certificate start settings close leaves progress live) (Check second_instance second_certificate second_solution second_states) = ⊥
-IsSameJob (Check instance certificate solution states) (Solve second_instance second_solution second_certificate second_start second_settings second_close second_leaves second_progress second_live) = ⊥
+IsSameJob (Check instance certificate solution states)
+    (Solve second_instance second_solution second_certificate second_start second_settings second_close second_leaves second_progress second_live) = ⊥

@@ -43,7 +43,8 @@ fn number_option<'a>(
     default: &'a str,
     help: &'a str,
 ) -> Arg<'a>
-    ensures rule { rule_of result ≡ number_option_rule id.entry.now (between range.0 range.1) default.entry.now }
+    ensures rule { rule_of result ≡ number_option_rule id.entry.now (between range.0 range.1)
+        default.entry.now }
     ensures own { result.global ≡ false }
 {
     Arg::new(alloc, id)
@@ -267,7 +268,8 @@ fn flag_of(found: &ArgMatches<'_>, id: &str) -> bool
 /// Whether to close the instance, and with how many leaves at most.
 fn closing_of(found: &ArgMatches<'_>) -> Option<(bool, u32)>
     ensures { let rows = rows_of (found_of found.now) in
-        MatchOption result ((close : _) (leaves : _) → HasClosing rows close leaves → ⊥) (λ r. HasClosing rows r.0 r.1) }
+        MatchOption result ((close : _) (leaves : _) → HasClosing rows close leaves → ⊥)
+        (λ r. HasClosing rows r.0 r.1) }
 {
     let leaves = number_of(found, "leaves")?;
     // clap has refused other numbers; the proof knows it from here.

@@ -49,7 +49,8 @@ tally_by-push f xs x i = record {
 }
 
 -- an event more, in the history and in the totals
-pub counted_more : (past : List Event) (event : Event) (before after : Tally) (new : List Event) → tally_of past ≡ before → new ≡ event ∷ past → after ≡ plus before (tally_of_event event) → tally_of new ≡ after
+pub counted_more : (past : List Event) (event : Event) (before after : Tally) (new : List Event) → tally_of past ≡ before → new ≡ event ∷ past
+    → after ≡ plus before (tally_of_event event) → tally_of new ≡ after
 counted_more past event before after new was longer more = rw (longer, tally_by-cons tally_of_event event past, was, more) refl
 
 pub plus_none : (a : Tally) → plus a (each 0) ≡ a
@@ -116,7 +117,8 @@ pub gather_first : (all rest : List Account) (last : Account) → all ≡ rest +
 gather_first all rest last are = rw are (sym (tally_by-push (λ (s : Account). s.tally) rest last ∙ plus_swap (tally_of_shares rest) last.tally))
 
 -- one more of the others
-pub gather_more : (before after : List Account) (share : Account) (tally : Tally) → before ≡ after ++ share ∷ [] → plus (plus tally share.tally) (tally_of_shares after) ≡ plus tally (tally_of_shares before)
+pub gather_more : (before after : List Account) (share : Account) (tally : Tally) → before ≡ after ++ share ∷ []
+    → plus (plus tally share.tally) (tally_of_shares after) ≡ plus tally (tally_of_shares before)
 gather_more before after share tally are = rw are (merged (λ (s : Account). s.tally) after share tally)
 
 -- none of the others
@@ -124,7 +126,8 @@ pub gather_all : (others : List Account) (tally : Tally) → others ≡ [] → p
 gather_all others tally none = rw (none, tally_by-none (λ (s : Account). s.tally)) (plus_none tally)
 
 -- the events so far, and one more
-past_of-more : (history : List Kept) (i : ℕ) (event : Kept) → i < length history → event ≡ get_or history i event → past_of (take (i + 1) history) ≡ event_of event ∷ past_of (take i history)
+past_of-more : (history : List Kept) (i : ℕ) (event : Kept) → i < length history → event ≡ get_or history i event
+    → past_of (take (i + 1) history) ≡ event_of event ∷ past_of (take i history)
 past_of-more history i event h is =
     rw (take_more history i event h, map-append event_of (take i history) (get_or history i event ∷ []), reverse-append (map event_of (take i history)) (event_of (get_or history i event) ∷ []))
     (ap (λ (e : Kept). event_of e ∷ past_of (take i history)) (sym is))

@@ -31,7 +31,8 @@ best_unique past a b p q =
     let r : b ≤ a = among_all (λ other. b ≤ other) (costs_of past) q.1 a p.0 in
     omega arith
 
-of_incumbent : (b : Contents) (incumbent : Option Solution) (best : ℕ) → IsOfProblem b.problem incumbent → IsBestCost b.past (option_map (λ s. s.cost) incumbent) → IsBestCost b.past (Some best)
+of_incumbent : (b : Contents) (incumbent : Option Solution) (best : ℕ) → IsOfProblem b.problem incumbent
+    → IsBestCost b.past (option_map (λ s. s.cost) incumbent) → IsBestCost b.past (Some best)
     → IsPlanCost b.problem best
 of_incumbent b None best of is found = absurd (rw is at found.0)
 of_incumbent b (Some s) best of is found =
@@ -43,7 +44,8 @@ pub best_of_plan : (b : Contents) (best : ℕ) → IsBook b → IsBestCost b.pas
 best_of_plan b best is found = of_incumbent b b.incumbent best is.plan is.best found
 
 -- an offer that isn't cheaper leaves the best cost, a plan's
-pub kept_of_plan : (b new : Contents) (worker cost best : ℕ) → IsBook new → new ≡ book.with_offer b worker cost → ¬ IsCheaper b.past cost → IsBestCost b.past (Some best) → IsPlanCost b.problem best
+pub kept_of_plan : (b new : Contents) (worker cost best : ℕ) → IsBook new → new ≡ book.with_offer b worker cost → ¬ IsCheaper b.past cost
+    → IsBestCost b.past (Some best) → IsPlanCost b.problem best
 kept_of_plan b new worker cost best is same dearer found = best_of_plan (book.with_offer b worker cost) best (rw same at is) (best-kept b.past worker cost (Some best) found dearer)
 
 -- what a book tells of plans
@@ -84,7 +86,8 @@ still_served has_plan (branched worker leaf a used unused x y) past served has =
 -- a book of our instance and number of neighbours, with a plan if it is to have one
 module _ (p : Problem) (k : ℕ) (has_plan : Bool) (b : Contents) (before : Tally) (is : IsCounted p k has_plan b before) where
   -- the totals are those of the history again, where both have the same event more
-  pub counted_call : (new : Contents) (event : Event) (after : Tally) → new.past ≡ event ∷ b.past → new.problem ≡ b.problem → new.neighbours ≡ b.neighbours → after ≡ plus before (tally_of_event event)
+  pub counted_call : (new : Contents) (event : Event) (after : Tally) → new.past ≡ event ∷ b.past → new.problem ≡ b.problem
+      → new.neighbours ≡ b.neighbours → after ≡ plus before (tally_of_event event)
       → IsCounted p k has_plan new after
   counted_call new event after longer problem neighbours more =
       record {
@@ -95,10 +98,12 @@ module _ (p : Problem) (k : ℕ) (has_plan : Bool) (b : Contents) (before : Tall
       }
 
   -- a refusal changes no share
-  pub refused_offer : (worker : ℕ) (plan : Solution) (refused : Solution × BookFault) (new : Contents) (mine : Account) → book.Offers b worker plan (Err refused) new → Offers p mine plan (Err refused) mine
+  pub refused_offer : (worker : ℕ) (plan : Solution) (refused : Solution × BookFault) (new : Contents) (mine : Account)
+      → book.Offers b worker plan (Err refused) new → Offers p mine plan (Err refused) mine
   refused_offer worker plan refused new mine told = (rw is.problem at (tells_foreign b (offer plan) refused.1 told.0), told.1, refl)
 
-  pub refused_reprice : (worker m : ℕ) (f : Pricing) (refused : Pricing × BookFault) (new : Contents) (mine : Account) → book.Reprices b worker m f (Err refused) new → Reprices p k mine m f (Err refused) mine
+  pub refused_reprice : (worker m : ℕ) (f : Pricing) (refused : Pricing × BookFault) (new : Contents) (mine : Account)
+      → book.Reprices b worker m f (Err refused) new → Reprices p k mine m f (Err refused) mine
   refused_reprice worker m f refused new mine told = (rw is.problem at (tells_foreign b (reprice m f) refused.1 told.0), told.1, refl)
 
   pub refused_split : (worker m : ℕ) (a : Arc) (x y : Pricing) (refused : Pricing × Pricing × BookFault) (new : Contents) (mine : Account) → book.Splits b worker m a x y (Err refused) new

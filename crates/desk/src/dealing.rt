@@ -38,7 +38,12 @@ pub(crate) fn deal<J: Naming>(
 ) -> Vec<Share<J>>
     requires some { 0 < workers }
     requires empty { (shares.items ≡ []) × (workers ≤ vec_capacity shares) }
-    requires first { first ≡ record { worker = 0; tally = first.tally; cost = seen.now.cost; bound = seen.now.bound } }
+    requires first { first ≡ record {
+      worker = 0;
+      tally = first.tally;
+      cost = seen.now.cost;
+      bound = seen.now.bound;
+    } }
     requires rest { (rest.parts + 1 ≡ workers) × (rest.tally ≡ each 0) }
     requires seen { IsSeen J.problem seen.now.cost seen.now.bound }
     ensures shares { result.items ≡ opening_accounts workers first.tally seen.now.cost

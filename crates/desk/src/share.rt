@@ -29,7 +29,12 @@ impl<J: Naming> Model for Share<J> {
 
     ghost Value = { Account };
 
-    ghost view = { λ s. record { worker = s.worker; tally = s.tokens.tally; cost = s.cost; bound = s.bound } };
+    ghost view = { λ s. record {
+      worker = s.worker;
+      tally = s.tokens.tally;
+      cost = s.cost;
+      bound = s.bound;
+    } };
 
     ghost invariant = { λ s. (s.tokens.parts ≡ 1) × IsSeen J.problem s.cost s.bound };
 }
@@ -39,7 +44,12 @@ impl<J: Naming> Share<J> {
     pub(crate) fn new(worker: u16, tokens: Tokens<J>, seen: &Gap) -> Share<J>
         requires part { tokens.parts ≡ 1 }
         requires seen { IsSeen J.problem seen.now.cost seen.now.bound }
-        ensures { result ≡ record { worker = worker; tally = tokens.tally; cost = seen.now.cost; bound = seen.now.bound } }
+        ensures { result ≡ record {
+          worker = worker;
+          tally = tokens.tally;
+          cost = seen.now.cost;
+          bound = seen.now.bound;
+        } }
     {
         Share {
             worker,
@@ -95,7 +105,12 @@ impl<J: Naming> Share<J> {
     /// Notes a plan's cost.
     pub(crate) fn see_cost(&mut self, cost: Tenths)
         requires { IsPlanCost J.problem cost }
-        ensures { self.new ≡ record { worker = self.old.worker; tally = self.old.tally; cost = lesser_of self.old.cost cost; bound = self.old.bound } }
+        ensures { self.new ≡ record {
+          worker = self.old.worker;
+          tally = self.old.tally;
+          cost = lesser_of self.old.cost cost;
+          bound = self.old.bound;
+        } }
     {
         self.cost = Some(self.least_cost(cost));
     }
@@ -104,7 +119,12 @@ impl<J: Naming> Share<J> {
     /// never falls.
     pub(crate) fn see_bound(&mut self, bound: Tenths)
         requires { IsBelowPlans J.problem bound }
-        ensures { self.new ≡ record { worker = self.old.worker; tally = self.old.tally; cost = self.old.cost; bound = max self.old.bound bound } }
+        ensures { self.new ≡ record {
+          worker = self.old.worker;
+          tally = self.old.tally;
+          cost = self.old.cost;
+          bound = max self.old.bound bound;
+        } }
     {
         if self.bound.get() < bound.get() {
             self.bound = bound;

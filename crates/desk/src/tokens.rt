@@ -273,7 +273,10 @@ impl<J: Naming> Tokens<J> {
     /// Takes other tokens in.
     #[tactic(auto, unfolding(crate::specs::Tally::plus))]
     pub(crate) fn merge(&mut self, other: Tokens<J>)
-        ensures { self.new ≡ record { parts = self.old.parts + other.parts; tally = plus self.old.tally other.tally } }
+        ensures { self.new ≡ record {
+          parts = self.old.parts + other.parts;
+          tally = plus self.old.tally other.tally;
+        } }
     {
         let Tokens {
             accepted,

@@ -26,7 +26,8 @@ module _ (p : Problem) (r : List ℕ) (c : Cut) (some_c : c.some ≡ true) where
       let first : d.first ≡ first_of (drop j r) = first_position r j m more ∙ sym (first_dropped r j) in
       let last : d.last ≡ last_from 0 (take (j + m) r) = last_position r j m more fits ∙ sym (before_position r (j + m) 0 (omega arith) fits) in
       rw (joint_some p c.before d c.behind some_d, joint_some p d.before c d.behind some_c, joint_some p c.before c c.behind some_c, joint_some p d.before d d.behind some_d, first, last)
-      (sums (distance p c.before (first_of (drop j r))) (distance p (last_from 0 (take (j + m) r)) c.behind) (distance p (last_from 0 (take j r)) c.first) (distance p c.last (first_of (drop (j + m) r)))
+      (sums (distance p c.before (first_of (drop j r))) (distance p (last_from 0 (take (j + m) r)) c.behind)
+      (distance p (last_from 0 (take j r)) c.first) (distance p c.last (first_of (drop (j + m) r)))
       (distance p c.before c.first) (distance p c.last c.behind) (distance p (last_from 0 (take j r)) (first_of (drop j r))) (distance p (last_from 0 (take (j + m) r)) (first_of (drop (j + m) r))))
 
 -- the least of the swaps that end before gap n is at least x, and the changes at the fronts of the last three gaps at least these
@@ -50,7 +51,8 @@ pub record IsLow (most : ℕ) (y one two three b : ℤ) : Type 0 where
   pub with_three : 2 ≤ most → y ≤ℤ (three +ℤ b)
 
 -- the least of three fronts is as high as each of them
-pub front_low : (best one two three : ℤ) → (best ≡ one) ⊎ ((best ≡ two) ⊎ (best ≡ three)) → pos 0 ≤ℤ (one +ℤ pos (2 * MOST_DISTANCE)) → pos 0 ≤ℤ (two +ℤ pos (2 * MOST_DISTANCE)) → pos 0 ≤ℤ (three +ℤ pos (2 * MOST_DISTANCE))
+pub front_low : (best one two three : ℤ) → (best ≡ one) ⊎ ((best ≡ two) ⊎ (best ≡ three)) → pos 0 ≤ℤ (one +ℤ pos (2 * MOST_DISTANCE))
+    → pos 0 ≤ℤ (two +ℤ pos (2 * MOST_DISTANCE)) → pos 0 ≤ℤ (three +ℤ pos (2 * MOST_DISTANCE))
     → pos 0 ≤ℤ (best +ℤ pos (2 * MOST_DISTANCE))
 front_low best one two three is h k l = elim is [
   | inl e ↦ rw e h
@@ -58,7 +60,8 @@ front_low best one two three is h k l = elim is [
 ]
 
 -- by the least of these sums
-pub low_sum : (most : ℕ) (y one two three b best : ℤ) → y ≤ℤ (best +ℤ b) → best ≤ℤ one → (2 ≤ most → best ≤ℤ two) → (2 ≤ most → best ≤ℤ three) → IsLow most y one two three b
+pub low_sum : (most : ℕ) (y one two three b best : ℤ) → y ≤ℤ (best +ℤ b) → best ≤ℤ one → (2 ≤ most → best ≤ℤ two) → (2 ≤ most → best ≤ℤ three)
+    → IsLow most y one two three b
 low_sum most y one two three b best h k two_low three_low = record {
   with_one = omega (arith, ints, h, k);
   with_two = λ more. let low = two_low more in omega (arith, ints, h, low);

@@ -1,5 +1,6 @@
 -- Ends of two routes that change places.
-use Rattle.std.proofs.Common.{◌≡◌, ◌≢◌, refl, sym, ap, subst, ◌∙◌, ℕ, ◌+◌, ◌-◌, ◌≤◌, Bool, true, false, List, [], ◌∷◌, length, get_or, take, drop, arith, inl, inr}
+use Rattle.std.proofs.Common.{◌≡◌, ◌≢◌, refl, sym, ap, subst, ◌∙◌, ℕ, ◌+◌, ◌-◌, ◌≤◌}
+use Rattle.std.proofs.Common.{Bool, true, false, List, [], ◌∷◌, length, get_or, take, drop, arith, inl, inr}
 use Rattle.std.specs.Prelude.{ℤ, pos, ◌-ℤ◌, ◌≤ℤ◌}
 use Rattle.std.proofs.lemmas.Int.{ints}
 use Rattle.std.proofs.lemmas.Bool.{cases_lt}
@@ -38,7 +39,8 @@ sums : (a b e g x y : ℕ) → pos ((a + x) + (b + y)) -ℤ pos ((e + y) + (g + 
 sums a b e g x y = omega (arith, ints)
 
 -- the ends behind two gaps, where the depot stands behind both
-ends_exact : (p : Problem) (c d : Cut) → c.behind ≡ 0 → d.behind ≡ 0 → (c.some ≡ false → c.first ≡ 0) → (d.some ≡ false → d.first ≡ 0) → change_apart p c d ≡ ends_change p c.before c.first d.before d.first
+ends_exact : (p : Problem) (c d : Cut) → c.behind ≡ 0 → d.behind ≡ 0 → (c.some ≡ false → c.first ≡ 0) → (d.some ≡ false → d.first ≡ 0)
+    → change_apart p c d ≡ ends_change p c.before c.first d.before d.first
 ends_exact p c d behind_c behind_d empty_c empty_d = by_some c.some d.some refl refl
   where
     by_some : (s t : Bool) → c.some ≡ s → d.some ≡ t → change_apart p c d ≡ ends_change p c.before c.first d.before d.first
@@ -58,7 +60,16 @@ ends_exact p c d behind_c behind_d empty_c empty_d = by_some c.some d.some refl 
         only_second : (a b e g x : ℕ) → pos ((a + x) + b) -ℤ pos (e + (g + x)) ≡ pos (a + b) -ℤ pos (e + g)
         only_second a b e g x = omega (arith, ints)
     by_some false false s t =
-        rw (joint_none p c.before d c.behind t, joint_none p d.before c d.behind s, joint_none p c.before c c.behind s, joint_none p d.before d d.behind t, behind_c, behind_d, empty_c s, empty_d t) refl
+        rw (
+          joint_none p c.before d c.behind t,
+          joint_none p d.before c d.behind s,
+          joint_none p c.before c c.behind s,
+          joint_none p d.before d d.behind t,
+          behind_c,
+          behind_d,
+          empty_c s,
+          empty_d t,
+        ) refl
 
 -- the ends of a route from position i on
 module _ (r : List ℕ) (i : ℕ) (c : Cut) (fits : i + (length r - i) ≤ length r) (hc : IsCut r i (length r - i) c) where
@@ -96,10 +107,12 @@ taken_second kind.OrOpt l left h = absurd h
 taken_second kind.TwoOptStar l left h = refl
 taken_second kind.Cross l left h = absurd h
 
-module _ (p : Problem) (laws : SegmentLaws) (limits : IsWithinLimits p) (routes : List (List ℕ)) (k : Kind) (f : Chain) (b : ℕ) (c : Cut) (x : ℤ) (plan : IsPlan p routes) (kind : IsEndsKind k) (ne : f.route ≢ b)
+module _ (p : Problem) (laws : SegmentLaws) (limits : IsWithinLimits p) (routes : List (List ℕ)) (k : Kind) (f : Chain) (b : ℕ) (c : Cut) (x : ℤ)
+    (plan : IsPlan p routes) (kind : IsEndsKind k) (ne : f.route ≢ b)
     (first : IsFirstCut routes k f c) (least : IsEndSwapBound p (route routes f.route) f.position c (route routes b) x) where
   -- no exchange of ends from a chain on changes the cost by less than the least
-  pub no_end_is_better : (n : Move) (u : ℤ) → kind_of n ≡ k → Starts (f.route ∷ f.position ∷ f.length ∷ []) (numbers n) → Starts (f.route ∷ f.position ∷ f.length ∷ b ∷ []) (numbers n) → HasValue p routes n u → x ≤ℤ u
+  pub no_end_is_better : (n : Move) (u : ℤ) → kind_of n ≡ k → Starts (f.route ∷ f.position ∷ f.length ∷ []) (numbers n)
+      → Starts (f.route ∷ f.position ∷ f.length ∷ b ∷ []) (numbers n) → HasValue p routes n u → x ≤ℤ u
   no_end_is_better n u e t s h =
       let j = get_or (numbers n) 4 0 in
       let second : Chain = record { route = b; position = j; length = get_or (numbers n) 5 0 } in

@@ -1,5 +1,6 @@
 -- The change of cost where two chains of two routes change places, by the arcs round them.
-use Rattle.std.proofs.Common.{◌≡◌, refl, ℕ, ◌+◌, ◌-◌, ◌<◌, ◌≤◌, true, List, [], ◌∷◌, ◌++◌, length, take, drop, get_or, sym, ap, ◌∙◌, arith, append_assoc, append-nil}
+use Rattle.std.proofs.Common.{◌≡◌, refl, ℕ, ◌+◌, ◌-◌, ◌<◌, ◌≤◌, true, List, [], ◌∷◌}
+use Rattle.std.proofs.Common.{◌++◌, length, take, drop, get_or, sym, ap, ◌∙◌, arith, append_assoc, append-nil}
 use Rattle.std.specs.Prelude.{ℤ, pos, ◌+ℤ◌, ◌-ℤ◌}
 use Rattle.std.proofs.lemmas.Int.{ints}
 use Rattle.std.proofs.lemmas.List.{take-append-drop, drop-drop, get_or_past}
@@ -136,7 +137,8 @@ module _ (p : Problem) (routes : List (List ℕ)) (a i l j m : ℕ) (c d : Cut) 
   old_is =
       sym (itself (route routes a) i l) ∙ append_assoc (take i (route routes a)) (part (route routes a) i l) (drop (i + l) (route routes a))
       ∙ ap (λ n. take i (route routes a) ++ (part (route routes a) i l ++ drop n (route routes a))) behind
-      ∙ ap (λ q. take i (route routes a) ++ (part (route routes a) i l ++ q)) (sym (ap (λ q. part (route routes a) j m ++ q) (sym (drop-drop m j (route routes a))) ∙ take-append-drop m (drop j (route routes a))))
+      ∙ ap (λ q. take i (route routes a) ++ (part (route routes a) i l ++ q))
+      (sym (ap (λ q. part (route routes a) j m ++ q) (sym (drop-drop m j (route routes a))) ∙ take-append-drop m (drop j (route routes a))))
 
   new_is : swapped_within r i l j m ≡ take i r ++ (part r j m ++ (part r i l ++ drop (j + m) r))
   new_is = let none : j - (i + l) ≡ 0 = omega arith in rw (none, append-nil (take i r ++ part r j m)) (simp append_assoc refl)
@@ -185,7 +187,8 @@ split_off r n k = sym (ap (λ q. part r n k ++ q) (sym (drop-drop k n r)) ∙ ta
 middle : List ℕ → ℕ → ℕ → ℕ → List ℕ
 middle r i l j = part r (i + l) (j - (i + l))
 
-module _ (p : Problem) (routes : List (List ℕ)) (a i l j m : ℕ) (c d : Cut) (hc : IsCut (route routes a) i l c) (hd : IsCut (route routes a) j m d) (behind : i + l < j) (second : j + m ≤ length (route routes a)) where
+module _ (p : Problem) (routes : List (List ℕ)) (a i l j m : ℕ) (c d : Cut) (hc : IsCut (route routes a) i l c) (hd : IsCut (route routes a) j m d)
+    (behind : i + l < j) (second : j + m ≤ length (route routes a)) where
   to_second : (i + l) + (j - (i + l)) ≡ j
   to_second = omega (arith, behind)
 
@@ -204,7 +207,8 @@ module _ (p : Problem) (routes : List (List ℕ)) (a i l j m : ℕ) (c d : Cut) 
       sym (itself (route routes a) i l) ∙ append_assoc (take i (route routes a)) (part (route routes a) i l) (drop (i + l) (route routes a))
       ∙ ap (λ q. take i (route routes a) ++ (part (route routes a) i l ++ q)) past_first
 
-  new_parts : swapped_within (route routes a) i l j m ≡ take i (route routes a) ++ (part (route routes a) j m ++ ((middle (route routes a) i l j) ++ (part (route routes a) i l ++ drop (j + m) (route routes a))))
+  new_parts : swapped_within (route routes a) i l j m
+      ≡ take i (route routes a) ++ (part (route routes a) j m ++ ((middle (route routes a) i l j) ++ (part (route routes a) i l ++ drop (j + m) (route routes a))))
   unfolding middle
   new_parts = simp append_assoc refl
 
@@ -226,8 +230,10 @@ module _ (p : Problem) (routes : List (List ℕ)) (a i l j m : ℕ) (c d : Cut) 
       let unopened : route_cost p (route routes (length routes)) ≡ route_cost p [] = ap (route_cost p) (get_or_past routes (length routes) [] (omega arith)) in
       let one = sym hc.some ∙ some_c in
       let other = sym hd.some ∙ some_d in
-      let old = ap (route_cost p) old_parts ∙ three_chains p (take i (route routes a)) (part (route routes a) i l) (middle (route routes a) i l j) (part (route routes a) j m) (drop (j + m) (route routes a)) one some_between other in
-      let changed = ap (route_cost p) new_parts ∙ three_chains p (take i (route routes a)) (part (route routes a) j m) (middle (route routes a) i l j) (part (route routes a) i l) (drop (j + m) (route routes a)) other some_between one in
+      let old = ap (route_cost p) old_parts ∙ three_chains p (take i (route routes a)) (part (route routes a) i l) (middle (route routes a) i l j)
+      (part (route routes a) j m) (drop (j + m) (route routes a)) one some_between other in
+      let changed = ap (route_cost p) new_parts ∙ three_chains p (take i (route routes a)) (part (route routes a) j m) (middle (route routes a) i l j)
+      (part (route routes a) i l) (drop (j + m) (route routes a)) other some_between one in
       rw (some_c, some_d, first_behind, second_before, hc.before, hc.first, hc.last, hd.first, hd.last, hd.behind)
       (sums _ _ _ _ _ _ _ _ _ _ _ _ _ _ _ _ _ _ _ v
       (rebuilt_cost p routes a (swapped_within (route routes a) i l j m) (length routes) [] w) unopened old changed (rw is at exact))

@@ -46,7 +46,8 @@ module _ (m : Neighbourhood) where
 
   -- the same by all six numbers
   pub passes_six : (before : Found) (f s : Chain)
-      → ((n : Move) (u : ℤ) → moves_of m n → numbers n ≡ f.route ∷ f.position ∷ f.length ∷ s.route ∷ s.position ∷ s.length ∷ [] → HasValue (instance_of m) (plan_of m) n u → IsNoBetter before n u)
+      → ((n : Move) (u : ℤ) → moves_of m n → numbers n ≡ f.route ∷ f.position ∷ f.length ∷ s.route ∷ s.position ∷ s.length ∷ []
+      → HasValue (instance_of m) (plan_of m) n u → IsNoBetter before n u)
       → SearchesAt m f s before before
   passes_six before f s high = passes (f.route ∷ f.position ∷ f.length ∷ s.route ∷ s.position ∷ s.length ∷ []) before
       (λ n u of t h. high n u of (starts_same (f.route ∷ f.position ∷ f.length ∷ s.route ∷ s.position ∷ s.length ∷ []) (numbers n) (six n) t) h)

@@ -1,5 +1,6 @@
 -- The gaps of routes, one after the other.
-use Rattle.std.proofs.Common.{◌≡◌, refl, sym, ap, subst, ◌∙◌, ℕ, zero, suc, ◌+◌, ◌-◌, ◌<◌, ◌≤◌, Bool, true, false, List, [], ◌∷◌, ◌++◌, length, map, get_or, take, drop, arith, inl, inr}
+use Rattle.std.proofs.Common.{◌≡◌, refl, sym, ap, subst, ◌∙◌, ℕ, zero, suc, ◌+◌, ◌-◌, ◌<◌, ◌≤◌}
+use Rattle.std.proofs.Common.{Bool, true, false, List, [], ◌∷◌, ◌++◌, length, map, get_or, take, drop, arith, inl, inr}
 use Rattle.std.specs.Prelude.{ℤ, pos, ◌≤ℤ◌, Option, Vec}
 use Rattle.std.specs.declared.alloc.Global.{Global}
 use Rattle.std.proofs.lemmas.Bool.{cases_lt}
@@ -126,16 +127,20 @@ skip_if_below true r a h = skip_below r a h
 skip_if_below false r a h = refl
 
 -- the gaps of the routes before those that were replaced stay
-pub gaps_last : (p : Problem) (routes later : List (List ℕ)) (r : Replaced) (n : ℕ) (rows new : List (Vec Gap Global)) → n ≤ r.first → n ≤ r.second → new ≡ take n rows → IsReplaced routes later r
-    → ((a : ℕ) → AreGaps p (route routes a) (get_or (map (λ (v : Vec Gap Global). v.items) rows) a [])) → (a : ℕ) → AreGaps p (route later a) (get_or (map (λ (v : Vec Gap Global). v.items) new) a [])
+pub gaps_last : (p : Problem) (routes later : List (List ℕ)) (r : Replaced) (n : ℕ) (rows new : List (Vec Gap Global)) → n ≤ r.first → n ≤ r.second
+    → new ≡ take n rows → IsReplaced routes later r
+    → ((a : ℕ) → AreGaps p (route routes a) (get_or (map (λ (v : Vec Gap Global). v.items) rows) a [])) → (a : ℕ)
+    → AreGaps p (route later a) (get_or (map (λ (v : Vec Gap Global). v.items) new) a [])
 gaps_last p routes later r n rows new first second is replaced are a =
     let items : Vec Gap Global → List Gap = λ v. v.items in
     let kept : map items new ≡ take n (map items rows) = ap (map items) is ∙ sym (take-map items n rows) in
     subst (λ known. AreGaps p (route later a) (get_or known a [])) (sym kept)
     (elim (cases_lt a n) [
       | inl below ↦
-          let own : origin_of r a ≡ a = ap (skip_if r.second_goes r.second) (skip_if_below r.first_goes r.first a (omega (arith, below, first))) ∙ skip_if_below r.second_goes r.second a (omega (arith, below, second)) in
-          let same : route later a ≡ route routes a = replaced.others a (λ e. absurd (omega (arith, e, own, below, first))) (λ e. absurd (omega (arith, e, own, below, second))) ∙ ap (route routes) own in
+          let own : origin_of r a ≡ a = ap (skip_if r.second_goes r.second) (skip_if_below r.first_goes r.first a (omega (arith, below, first)))
+          ∙ skip_if_below r.second_goes r.second a (omega (arith, below, second)) in
+          let same : route later a ≡ route routes a = replaced.others a (λ e. absurd (omega (arith, e, own, below, first)))
+          (λ e. absurd (omega (arith, e, own, below, second))) ∙ ap (route routes) own in
           subst (AreGaps p (route later a)) (sym (get_or-take n (map items rows) a [] below)) (subst (λ q. AreGaps p q (get_or (map items rows) a [])) (sym same) (are a))
       | inr past ↦ subst (AreGaps p (route later a)) (sym (get_or_past (take n (map items rows)) a [] (omega (arith, past, length-take n (map items rows))))) (no_gaps p (route later a))
     ])

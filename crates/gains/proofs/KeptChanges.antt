@@ -33,14 +33,16 @@ rows_long : (b : PairGains) → length (rows_of b) ≡ length b.rows.items
 rows_long b = length-map b.rows.items (λ (v : Vec Entry Global). v.items)
 
 -- each entry but the one that is forgotten is as it was
-still_known : (now next : PairGains) (a b c d : ℕ) → rows_of next ≡ set (rows_of now) a (set (get_or (rows_of now) a []) b unknown) → ((c ≡ a) → (d ≡ b) → ⊥) → entry_of next c d ≡ entry_of now c d
+still_known : (now next : PairGains) (a b c d : ℕ) → rows_of next ≡ set (rows_of now) a (set (get_or (rows_of now) a []) b unknown)
+    → ((c ≡ a) → (d ≡ b) → ⊥) → entry_of next c d ≡ entry_of now c d
 still_known now next a b c d is apart =
     elim (put_entry (rows_of now) a b unknown c d) [ inl same ↦ ap (λ r. get_or (get_or r c []) d unknown) is ∙ same | inr new ↦ absurd (apart new.0 new.1.0) ]
 
 forgotten_there : (now next : PairGains) (a b : ℕ) → rows_of next ≡ set (rows_of now) a (set (get_or (rows_of now) a []) b unknown) → entry_of next a b ≡ unknown
 forgotten_there now next a b is = ap (λ r. get_or (get_or r a []) b unknown) is ∙ none_put (rows_of now) a b
 
-still_forgotten : (now next : PairGains) (a b c d : ℕ) → rows_of next ≡ set (rows_of now) a (set (get_or (rows_of now) a []) b unknown) → entry_of now c d ≡ unknown → entry_of next c d ≡ unknown
+still_forgotten : (now next : PairGains) (a b c d : ℕ) → rows_of next ≡ set (rows_of now) a (set (get_or (rows_of now) a []) b unknown)
+    → entry_of now c d ≡ unknown → entry_of next c d ≡ unknown
 still_forgotten now next a b c d is none =
     elim (put_entry (rows_of now) a b unknown c d) [
       | inl same ↦ ap (λ r. get_or (get_or r c []) d unknown) is ∙ same ∙ none
@@ -50,7 +52,8 @@ still_forgotten now next a b c d is none =
 pub into_first : (r : ℕ) (old : PairGains) → ForgottenInto r 0 old old
 into_first r old = record { kept = λ a b _. refl; into = λ a h. absurd (omega (arith, h)); long = refl }
 
-pub into_next : (r n : ℕ) (old now next : PairGains) → ForgottenInto r n old now → rows_of next ≡ set (rows_of now) n (set (get_or (rows_of now) n []) r unknown) → ForgottenInto r (n + 1) old next
+pub into_next : (r n : ℕ) (old now next : PairGains) → ForgottenInto r n old now
+    → rows_of next ≡ set (rows_of now) n (set (get_or (rows_of now) n []) r unknown) → ForgottenInto r (n + 1) old next
 into_next r n old now next h is = record {
   kept = λ a b other. still_known now next n r a b is (λ _ same. other same) ∙ h.kept a b other;
   into = λ a less. elim (cases_lt a n) [
@@ -70,18 +73,21 @@ into_last r n old now h all a =
 pub from_first : (r : ℕ) (old : PairGains) → ForgottenFrom r 0 old old
 from_first r old = record { kept = λ a b _. refl; from = λ b h. absurd (omega (arith, h)); long = refl; rows = refl }
 
-pub from_next : (r n : ℕ) (old now next : PairGains) → r < length now.rows.items → ForgottenFrom r n old now → rows_of next ≡ set (rows_of now) r (set (get_or (rows_of now) r []) n unknown) → ForgottenFrom r (n + 1) old next
+pub from_next : (r n : ℕ) (old now next : PairGains) → r < length now.rows.items → ForgottenFrom r n old now
+    → rows_of next ≡ set (rows_of now) r (set (get_or (rows_of now) r []) n unknown) → ForgottenFrom r (n + 1) old next
 from_next r n old now next known h is = record {
   kept = λ a b other. still_known now next r n a b is (λ same _. other same) ∙ h.kept a b other;
   from = λ b less. elim (cases_lt b n) [
     | inl earlier ↦ still_forgotten now next r n r b is (h.from b earlier)
     | inr past ↦ let e : n ≡ b = omega (arith, less, past) in subst (λ i. entry_of next r i ≡ unknown) e (forgotten_there now next r n is)
   ];
-  long = ap (λ rows. length (get_or rows r [])) is ∙ ap length (get_or-set_same (rows_of now) r (set (get_or (rows_of now) r []) n unknown) [] (omega (arith, known, rows_long now))) ∙ length-set (get_or (rows_of now) r []) n unknown ∙ h.long;
+  long = ap (λ rows. length (get_or rows r [])) is ∙ ap length
+      (get_or-set_same (rows_of now) r (set (get_or (rows_of now) r []) n unknown) [] (omega (arith, known, rows_long now))) ∙ length-set (get_or (rows_of now) r []) n unknown ∙ h.long;
   rows = sym (rows_long next) ∙ ap length is ∙ length-set (rows_of now) r (set (get_or (rows_of now) r []) n unknown) ∙ rows_long now ∙ h.rows;
 }
 
-pub from_last : (r n : ℕ) (old now : PairGains) → ForgottenFrom r n old now → (row : Vec Entry Global) → r < length old.rows.items → row ≡ get_or old.rows.items r row → length row.items ≤ n → (b : ℕ) → entry_of now r b ≡ unknown
+pub from_last : (r n : ℕ) (old now : PairGains) → ForgottenFrom r n old now → (row : Vec Entry Global) → r < length old.rows.items
+    → row ≡ get_or old.rows.items r row → length row.items ≤ n → (b : ℕ) → entry_of now r b ≡ unknown
 from_last r n old now h row known is all b =
     elim (cases_lt b n) [
       | inl known ↦ h.from b known

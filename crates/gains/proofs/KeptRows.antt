@@ -1,5 +1,6 @@
 -- Rows of bounds.
-use Rattle.std.proofs.Common.{◌≡◌, ◌≢◌, refl, sym, ap, subst, ◌∙◌, ℕ, zero, suc, ◌<◌, ◌≤◌, List, [], ◌∷◌, ◌++◌, length, map, get_or, set, arith, inl, inr, get_or-set_other}
+use Rattle.std.proofs.Common.{◌≡◌, ◌≢◌, refl, sym, ap, subst, ◌∙◌, ℕ, zero, suc, ◌<◌, ◌≤◌}
+use Rattle.std.proofs.Common.{List, [], ◌∷◌, ◌++◌, length, map, get_or, set, arith, inl, inr, get_or-set_other}
 use Rattle.std.specs.List.{remove}
 use Rattle.std.specs.Prelude.{◌⊎◌, Vec}
 use Rattle.std.specs.declared.alloc.Global.{Global}

@@ -17,7 +17,8 @@ use Rattle.gains.specs.declared.entry.Entry.{Entry}
 use Rattle.gains.specs.declared.pair_gains.PairGains.{PairGains}
 use Rattle.gains.specs.declared.replaced.Replaced.{Replaced}
 use Rattle.gains.specs.Gains.{Found, IsNoBetter, IsFoundAmong, IsBestAmong}
-use Rattle.gains.specs.Kept.{second_route, IsBetween, with_routes, found_between, unknown, known_of, with_found, rows_of, entry_of, IsKept, AreKept, IsForgotten, HasSameEntries, skip, skip_if, origin_of, AreAsMany, IsNotNew, IsNewForgotten, IsOther, Follows, IsReplaced}
+use Rattle.gains.specs.Kept.{second_route, IsBetween, with_routes, found_between, unknown, known_of, with_found, rows_of, entry_of, IsKept, AreKept}
+use Rattle.gains.specs.Kept.{IsForgotten, HasSameEntries, skip, skip_if, origin_of, AreAsMany, IsNotNew, IsNewForgotten, IsOther, Follows, IsReplaced}
 use Rattle.gains.proofs.KeptRows.{put_entry}
 use Rattle.gains.proofs.Renumbering.{Stands, StandsOrIsNew, StandBoth, same_value, kind_with, first_with, second_with, with_twice, with_same, no_better_elsewhere}
 
@@ -26,12 +27,18 @@ same_found p routes k a b None h = refl
 same_found p routes k a b (Some r) h = ap (λ n. Some (n, r.1)) (with_same r.0 a b h.0.first h.0.second)
 
 -- an entry with what was found of a kind keeps it, and the rest stays
-with_known : (p : Problem) (routes : List (List ℕ)) (k : Kind) (a b : ℕ) (found : Found) (e : Entry) → IsKept p routes a b e → IsBestAmong p routes (IsBetween k a b) (found_between found a b) → IsKept p routes a b (with_found k found e)
-with_known p routes kind.Relocate a b found e kept is = elim [ kind.Relocate ↦ is | kind.Exchange ↦ kept kind.Exchange | kind.OrOpt ↦ kept kind.OrOpt | kind.TwoOptStar ↦ kept kind.TwoOptStar | kind.Cross ↦ kept kind.Cross ]
-with_known p routes kind.Exchange a b found e kept is = elim [ kind.Relocate ↦ kept kind.Relocate | kind.Exchange ↦ is | kind.OrOpt ↦ kept kind.OrOpt | kind.TwoOptStar ↦ kept kind.TwoOptStar | kind.Cross ↦ kept kind.Cross ]
-with_known p routes kind.OrOpt a b found e kept is = elim [ kind.Relocate ↦ kept kind.Relocate | kind.Exchange ↦ kept kind.Exchange | kind.OrOpt ↦ is | kind.TwoOptStar ↦ kept kind.TwoOptStar | kind.Cross ↦ kept kind.Cross ]
-with_known p routes kind.TwoOptStar a b found e kept is = elim [ kind.Relocate ↦ kept kind.Relocate | kind.Exchange ↦ kept kind.Exchange | kind.OrOpt ↦ kept kind.OrOpt | kind.TwoOptStar ↦ is | kind.Cross ↦ kept kind.Cross ]
-with_known p routes kind.Cross a b found e kept is = elim [ kind.Relocate ↦ kept kind.Relocate | kind.Exchange ↦ kept kind.Exchange | kind.OrOpt ↦ kept kind.OrOpt | kind.TwoOptStar ↦ kept kind.TwoOptStar | kind.Cross ↦ is ]
+with_known : (p : Problem) (routes : List (List ℕ)) (k : Kind) (a b : ℕ) (found : Found) (e : Entry) → IsKept p routes a b e
+    → IsBestAmong p routes (IsBetween k a b) (found_between found a b) → IsKept p routes a b (with_found k found e)
+with_known p routes kind.Relocate a b found e kept is =
+    elim [ kind.Relocate ↦ is | kind.Exchange ↦ kept kind.Exchange | kind.OrOpt ↦ kept kind.OrOpt | kind.TwoOptStar ↦ kept kind.TwoOptStar | kind.Cross ↦ kept kind.Cross ]
+with_known p routes kind.Exchange a b found e kept is =
+    elim [ kind.Relocate ↦ kept kind.Relocate | kind.Exchange ↦ is | kind.OrOpt ↦ kept kind.OrOpt | kind.TwoOptStar ↦ kept kind.TwoOptStar | kind.Cross ↦ kept kind.Cross ]
+with_known p routes kind.OrOpt a b found e kept is =
+    elim [ kind.Relocate ↦ kept kind.Relocate | kind.Exchange ↦ kept kind.Exchange | kind.OrOpt ↦ is | kind.TwoOptStar ↦ kept kind.TwoOptStar | kind.Cross ↦ kept kind.Cross ]
+with_known p routes kind.TwoOptStar a b found e kept is =
+    elim [ kind.Relocate ↦ kept kind.Relocate | kind.Exchange ↦ kept kind.Exchange | kind.OrOpt ↦ kept kind.OrOpt | kind.TwoOptStar ↦ is | kind.Cross ↦ kept kind.Cross ]
+with_known p routes kind.Cross a b found e kept is =
+    elim [ kind.Relocate ↦ kept kind.Relocate | kind.Exchange ↦ kept kind.Exchange | kind.OrOpt ↦ kept kind.OrOpt | kind.TwoOptStar ↦ kept kind.TwoOptStar | kind.Cross ↦ is ]
 
 abbrev IsOrOptKind : Kind → Type 0
 IsOrOptKind kind.Relocate = ⊥
@@ -41,12 +48,15 @@ IsOrOptKind kind.TwoOptStar = ⊥
 IsOrOptKind kind.Cross = ⊥
 
 -- where no relocation between two routes is a gain no chain of one stop has one
-pub no_single : (p : Problem) (routes : List (List ℕ)) (a b : ℕ) → IsBestAmong p routes (IsBetween kind.Relocate a b) None → (n : Move) (u : ℤ) → IsBetween kind.OrOpt a b n → get_or (numbers n) 2 0 ≡ 1 → HasValue p routes n u → pos 0 ≤ℤ u
+pub no_single : (p : Problem) (routes : List (List ℕ)) (a b : ℕ) → IsBestAmong p routes (IsBetween kind.Relocate a b) None → (n : Move) (u : ℤ)
+    → IsBetween kind.OrOpt a b n → get_or (numbers n) 2 0 ≡ 1 → HasValue p routes n u → pos 0 ≤ℤ u
 no_single p routes a b best (Relocate f t) u of one h = absurd (subst IsOrOptKind (sym of.kind) tt)
 no_single p routes a b best (Exchange f t) u of one h = absurd (subst IsOrOptKind (sym of.kind) tt)
 no_single p routes a b best (OrOpt c t) u of one h =
-    let same : HasValue p routes (OrOpt (record { route = c.route; position = c.position; length = 1 }) t) u = subst (λ l. HasValue p routes (OrOpt (record { route = c.route; position = c.position; length = l }) t) u) one h in
-    best.best (Relocate (record { route = c.route; position = c.position }) t) u (record { kind = refl; first = of.first; second = of.second }) (record { well_formed = same.well_formed; plan = same.plan; exact = same.exact })
+    let same : HasValue p routes (OrOpt (record { route = c.route; position = c.position; length = 1 }) t) u =
+    subst (λ l. HasValue p routes (OrOpt (record { route = c.route; position = c.position; length = l }) t) u) one h in
+    best.best (Relocate (record { route = c.route; position = c.position }) t) u (record { kind = refl; first = of.first; second = of.second })
+    (record { well_formed = same.well_formed; plan = same.plan; exact = same.exact })
 no_single p routes a b best (TwoOptStar f t) u of one h = absurd (subst IsOrOptKind (sym of.kind) tt)
 no_single p routes a b best (Cross c d) u of one h = absurd (subst IsOrOptKind (sym of.kind) tt)
 
@@ -62,7 +72,8 @@ none_known : (p : Problem) (routes : List (List ℕ)) (a b : ℕ) → IsKept p r
 none_known p routes a b = elim [ kind.Relocate ↦ tt | kind.Exchange ↦ tt | kind.OrOpt ↦ tt | kind.TwoOptStar ↦ tt | kind.Cross ↦ tt ]
 
 -- what is found is kept
-pub one_found : (p : Problem) (routes : List (List ℕ)) (k : Kind) (a b : ℕ) (found : Found) (old new : PairGains) → a < length routes → b ≤ length routes → AreKept p routes old → IsBestAmong p routes (IsBetween k a b) found
+pub one_found : (p : Problem) (routes : List (List ℕ)) (k : Kind) (a b : ℕ) (found : Found) (old new : PairGains) → a < length routes
+    → b ≤ length routes → AreKept p routes old → IsBestAmong p routes (IsBetween k a b) found
     → rows_of new ≡ set (rows_of old) a (set (get_or (rows_of old) a []) b (with_found k found (entry_of old a b))) → AreKept p routes new
 one_found p routes k a b found old new known_a known_b kept best is c d known_c known_d =
     let e = with_found k found (entry_of old a b) in
@@ -158,9 +169,24 @@ turned S R a b c d both = record {
     back = both.other.on;
     room = elim both.other.room [ inl k ↦ inl (both.other.back k) | inr e ↦ inr (sym e) ];
   };
-  up = λ less. elim (cases_lt a b) [ inl h ↦ h | inr past ↦ elim (cases_lt b a) [ inl h ↦ absurd (omega (arith, both.down h, less)) | inr other ↦ let e : a ≡ b = omega arith in absurd (omega (arith, both.equal e, less)) ] ];
-  down = λ less. elim (cases_lt b a) [ inl h ↦ h | inr past ↦ elim (cases_lt a b) [ inl h ↦ absurd (omega (arith, both.up h, less)) | inr other ↦ let e : a ≡ b = omega arith in absurd (omega (arith, both.equal e, less)) ] ];
-  equal = λ same. elim (cases_lt a b) [ inl h ↦ absurd (omega (arith, both.up h, same)) | inr past ↦ elim (cases_lt b a) [ inl h ↦ absurd (omega (arith, both.down h, same)) | inr other ↦ omega arith ] ];
+  up = λ less. elim (cases_lt a b) [
+    | inl h ↦ h
+    | inr past ↦ elim (cases_lt b a) [
+      | inl h ↦ absurd (omega (arith, both.down h, less))
+      | inr other ↦ let e : a ≡ b = omega arith in absurd (omega (arith, both.equal e, less))
+    ]
+  ];
+  down = λ less. elim (cases_lt b a) [
+    | inl h ↦ h
+    | inr past ↦ elim (cases_lt a b) [
+      | inl h ↦ absurd (omega (arith, both.up h, less))
+      | inr other ↦ let e : a ≡ b = omega arith in absurd (omega (arith, both.equal e, less))
+    ]
+  ];
+  equal = λ same. elim (cases_lt a b) [
+    | inl h ↦ absurd (omega (arith, both.up h, same))
+    | inr past ↦ elim (cases_lt b a) [ inl h ↦ absurd (omega (arith, both.down h, same)) | inr other ↦ omega arith ]
+  ];
 }
 
 -- the best gain between two routes of S is that between the same two of R
@@ -241,13 +267,15 @@ module _ (p : Problem) (old new : List (List ℕ)) (r : Replaced) (before : IsPl
         let back = turned new old i j (origin_of r i) (origin_of r j) both in
         let e = entry_of b (origin_of r i) (origin_of r j) in
         subst (IsKept p new i j) (sym f.1.1)
-        (λ k. through (known_of k e) (λ f. IsBestAmong p old (IsBetween k (origin_of r i) (origin_of r j)) (found_between f (origin_of r i) (origin_of r j))) (λ f. IsBestAmong p new (IsBetween k i j) (found_between f i j))
+        (λ k. through (known_of k e) (λ f. IsBestAmong p old (IsBetween k (origin_of r i) (origin_of r j))
+        (found_between f (origin_of r i) (origin_of r j))) (λ f. IsBestAmong p new (IsBetween k i j) (found_between f i j))
         (best_there p old new k (origin_of r i) (origin_of r j) i j before after back)
         (kept (origin_of r i) (origin_of r j) both.one.there both.other.there k))
   ]
 
 -- what is kept follows a change of two routes
-pub kept_through : (p : Problem) (old new : List (List ℕ)) (r : Replaced) (first count : ℕ) (g h : PairGains) → IsPlan p old → IsPlan p new → IsReplaced old new r → first ≡ length old → count ≡ length new
+pub kept_through : (p : Problem) (old new : List (List ℕ)) (r : Replaced) (first count : ℕ) (g h : PairGains) → IsPlan p old → IsPlan p new
+    → IsReplaced old new r → first ≡ length old → count ≡ length new
     → Follows r first count g h → AreKept p old g → AreKept p new h
 kept_through p old new r first count g h before after replaced long is follows kept =
     entries_last p old new r before after replaced g h kept (subst (λ n. Follows r n (length new) g h) long (subst (λ n. Follows r first n g h) is follows))

@@ -27,7 +27,8 @@ one_number xs ys i e = ap (λ zs. get_or zs i 0) e
 abbrev pub numbers_of : Chain → Chain → List ℕ
 numbers_of f s = f.route ∷ f.position ∷ f.length ∷ s.route ∷ s.position ∷ s.length ∷ []
 
-by_kind_first : (routes : List (List ℕ)) (n : Move) (f : Chain) → Starts (f.route ∷ f.position ∷ f.length ∷ []) (numbers n) → first_chain_of routes n ≡ taken_chain routes (first_taken (kind_of n)) f
+by_kind_first : (routes : List (List ℕ)) (n : Move) (f : Chain) → Starts (f.route ∷ f.position ∷ f.length ∷ []) (numbers n)
+    → first_chain_of routes n ≡ taken_chain routes (first_taken (kind_of n)) f
 by_kind_first routes (Relocate a b) f h = λ k. record { route = h.0 k; position = h.1.0 k; length = 1 }
 by_kind_first routes (Exchange a b) f h = λ k. record { route = h.0 k; position = h.1.0 k; length = 1 }
 by_kind_first routes (OrOpt a b) f h = λ k. record { route = h.0 k; position = h.1.0 k; length = h.1.1.0 k }
@@ -42,13 +43,16 @@ by_kind_second routes (TwoOptStar a b) f s h =
     let n = one_number (numbers (TwoOptStar a b)) (numbers_of f s) in λ k. record { route = n 3 h k; position = n 4 h k; length = length (route routes (n 3 h k)) - n 4 h k }
 by_kind_second routes (Cross a b) f s h = let n = one_number (numbers (Cross a b)) (numbers_of f s) in λ k. record { route = n 3 h k; position = n 4 h k; length = n 5 h k }
 
-pub chain_by_start : (routes : List (List ℕ)) (k : Kind) (n : Move) (f : Chain) → kind_of n ≡ k → Starts (f.route ∷ f.position ∷ f.length ∷ []) (numbers n) → first_chain_of routes n ≡ taken_chain routes (first_taken k) f
+pub chain_by_start : (routes : List (List ℕ)) (k : Kind) (n : Move) (f : Chain) → kind_of n ≡ k
+    → Starts (f.route ∷ f.position ∷ f.length ∷ []) (numbers n) → first_chain_of routes n ≡ taken_chain routes (first_taken k) f
 chain_by_start routes k n f e h = subst (λ q. first_chain_of routes n ≡ taken_chain routes (first_taken q) f) e (by_kind_first routes n f h)
 
-pub first_chain : (routes : List (List ℕ)) (k : Kind) (n : Move) (f s : Chain) → kind_of n ≡ k → numbers n ≡ numbers_of f s → first_chain_of routes n ≡ taken_chain routes (first_taken k) f
+pub first_chain : (routes : List (List ℕ)) (k : Kind) (n : Move) (f s : Chain) → kind_of n ≡ k → numbers n ≡ numbers_of f s
+    → first_chain_of routes n ≡ taken_chain routes (first_taken k) f
 first_chain routes k n f s e h = chain_by_start routes k n f e (subst (λ z. Starts (f.route ∷ f.position ∷ f.length ∷ []) z) (sym h) (refl, (refl, (refl, tt))))
 
-pub second_chain : (routes : List (List ℕ)) (k : Kind) (n : Move) (f s : Chain) → kind_of n ≡ k → numbers n ≡ numbers_of f s → second_chain_of routes n ≡ taken_chain routes (second_taken k) s
+pub second_chain : (routes : List (List ℕ)) (k : Kind) (n : Move) (f s : Chain) → kind_of n ≡ k → numbers n ≡ numbers_of f s
+    → second_chain_of routes n ≡ taken_chain routes (second_taken k) s
 second_chain routes k n f s e h = subst (λ q. second_chain_of routes n ≡ taken_chain routes (second_taken q) s) e (by_kind_second routes n f s h)
 
 -- the routes of a move between two routes
@@ -74,7 +78,8 @@ first_stands routes (TwoOptStar f t) w = ends_stand f.position (length (route ro
 first_stands routes (Cross f t) w = w.first
 
 -- where the first chain doesn't stand there is no value
-pub start_stands : (p : Problem) (routes : List (List ℕ)) (k : Kind) (n : Move) (f : Chain) (v : ℤ) → kind_of n ≡ k → Starts (f.route ∷ f.position ∷ f.length ∷ []) (numbers n) → HasValue p routes n v
+pub start_stands : (p : Problem) (routes : List (List ℕ)) (k : Kind) (n : Move) (f : Chain) (v : ℤ) → kind_of n ≡ k
+    → Starts (f.route ∷ f.position ∷ f.length ∷ []) (numbers n) → HasValue p routes n v
     → IsChainOf routes (taken_chain routes (first_taken k) f)
 start_stands p routes k n f v e h w = subst (IsChainOf routes) (chain_by_start routes k n f e h) (first_stands routes n w.well_formed)
 
@@ -90,7 +95,8 @@ or_opt_change p routes a i l b j c d v ne w hc hd exact =
       | inl less ↦ exact_apart p routes a i l b j 0 c d _ v less w.to w.chain (omega arith) hc hd (or_opt_later_is routes a i l b j w less) exact
       | inr more ↦
           let order : b < a = grind arith in
-          turned (joint_of p d.before c d.behind) (joint_of p c.before d c.behind) (joint_of p d.before d d.behind) (joint_of p c.before c c.behind) v (exact_apart p routes b j 0 a i l d c _ v order (omega (arith, w.known)) (omega arith) w.chain hd hc (or_opt_earlier_is routes a i l b j w order) exact)
+          turned (joint_of p d.before c d.behind) (joint_of p c.before d c.behind) (joint_of p d.before d d.behind) (joint_of p c.before c c.behind) v
+          (exact_apart p routes b j 0 a i l d c _ v order (omega (arith, w.known)) (omega arith) w.chain hd hc (or_opt_earlier_is routes a i l b j w order) exact)
     ]
 
 -- a move's value is the change of the arcs round its chains
@@ -117,7 +123,8 @@ move_change p routes (Cross f t) c d v ne h hc hd =
     exact_apart p routes f.route f.position f.length t.route t.position t.length c d _ v w.order (omega (arith, w.known)) w.first w.second hc hd
     (cross_is routes f.route f.position f.length t.route t.position t.length w) h.exact
 
-module _ (p : Problem) (routes : List (List ℕ)) (k : Kind) (n : Move) (f s : Chain) (v : ℤ) (e : kind_of n ≡ k) (is : numbers n ≡ numbers_of f s) (ne : f.route ≢ s.route) (h : HasValue p routes n v) where
+module _ (p : Problem) (routes : List (List ℕ)) (k : Kind) (n : Move) (f s : Chain) (v : ℤ) (e : kind_of n ≡ k) (is : numbers n ≡ numbers_of f s)
+    (ne : f.route ≢ s.route) (h : HasValue p routes n v) where
   apart : Apart routes n
   apart = rw (first_chain routes k n f s e is, second_chain routes k n f s e is) ne
 
@@ -133,13 +140,16 @@ module _ (p : Problem) (routes : List (List ℕ)) (k : Kind) (n : Move) (f s : C
 
 -- RELOCATIONS AND OR-OPTS WITHIN A ROUTE
 
-pub back_is : (routes : List (List ℕ)) (a i l b j : ℕ) → a ≡ b → j ≤ i → IsOrOpt routes a i l b j → after_or_opt routes a i l b j ≡ rebuilt routes a (swapped_within (route routes a) j (i - j) i l) (length routes) []
-back_is routes a i l b j same before = subst (λ x. IsOrOpt routes a i l x j → after_or_opt routes a i l x j ≡ rebuilt routes a (swapped_within (route routes a) j (i - j) i l) (length routes) []) same
+pub back_is : (routes : List (List ℕ)) (a i l b j : ℕ) → a ≡ b → j ≤ i → IsOrOpt routes a i l b j
+    → after_or_opt routes a i l b j ≡ rebuilt routes a (swapped_within (route routes a) j (i - j) i l) (length routes) []
+back_is routes a i l b j same before = subst (λ x. IsOrOpt routes a i l x j
+    → after_or_opt routes a i l x j ≡ rebuilt routes a (swapped_within (route routes a) j (i - j) i l) (length routes) []) same
     (λ w. or_opt_back_is routes a i l j w before)
 
 forward_is : (routes : List (List ℕ)) (a i l b j : ℕ) → a ≡ b → i ≤ j → IsOrOpt routes a i l b j
     → after_or_opt routes a i l b j ≡ rebuilt routes a (swapped_within (route routes a) i l (i + l) (j - i)) (length routes) []
-forward_is routes a i l b j same behind = subst (λ x. IsOrOpt routes a i l x j → after_or_opt routes a i l x j ≡ rebuilt routes a (swapped_within (route routes a) i l (i + l) (j - i)) (length routes) []) same
+forward_is routes a i l b j same behind = subst (λ x. IsOrOpt routes a i l x j
+    → after_or_opt routes a i l x j ≡ rebuilt routes a (swapped_within (route routes a) i l (i + l) (j - i)) (length routes) []) same
     (λ w. or_opt_forward_is routes a i l j w behind)
 
 pub or_opt_of : (routes : List (List ℕ)) (n : Move) → IsShiftKind (kind_of n) → IsWellFormed routes n
@@ -190,7 +200,8 @@ exchange_of routes (Exchange f t) k w same = elim w.order [
     same = same;
     known = subst (λ b. b < length routes) (sym same) w.known;
     behind = omega (arith, within.1);
-    is = subst (λ b. IsExchange routes f.route f.position b t.position → after_exchange routes f.route f.position b t.position ≡ rebuilt routes f.route (swapped_within (route routes f.route) f.position 1 t.position 1) (length routes) [])
+    is = subst (λ b. IsExchange routes f.route f.position b t.position
+        → after_exchange routes f.route f.position b t.position ≡ rebuilt routes f.route (swapped_within (route routes f.route) f.position 1 t.position 1) (length routes) [])
         same (λ w. exchange_within_is routes f.route f.position t.position w within.1) w;
   }
 ]

@@ -57,11 +57,13 @@ behind_first : (x y : ℕ) (xs ys xs' ys' : List ℕ) → (AreBefore xs ys → A
 behind_first x y xs ys xs' ys' f h = elim h [ inl less ↦ inl less | inr e ↦ inr (e.0, f e.1) ]
 
 -- a place, behind which a length of 0 is put in
-behind_place : (a b i j : ℕ) (xs ys xs' ys' : List ℕ) → (AreBefore xs ys → AreBefore xs' ys') → AreBefore (a ∷ i ∷ xs) (b ∷ j ∷ ys) → AreBefore (a ∷ i ∷ 0 ∷ xs') (b ∷ j ∷ 0 ∷ ys')
+behind_place : (a b i j : ℕ) (xs ys xs' ys' : List ℕ) → (AreBefore xs ys → AreBefore xs' ys') → AreBefore (a ∷ i ∷ xs) (b ∷ j ∷ ys)
+    → AreBefore (a ∷ i ∷ 0 ∷ xs') (b ∷ j ∷ 0 ∷ ys')
 behind_place a b i j xs ys xs' ys' f h =
     behind_first a b (i ∷ xs) (j ∷ ys) (i ∷ 0 ∷ xs') (j ∷ 0 ∷ ys') (behind_first i j xs ys (0 ∷ xs') (0 ∷ ys') (λ k. inr (refl, f k))) h
 
-behind_places : (a i b j c k d l : ℕ) → AreBefore (a ∷ i ∷ b ∷ j ∷ []) (c ∷ k ∷ d ∷ l ∷ []) → AreBefore (a ∷ i ∷ 0 ∷ b ∷ j ∷ 0 ∷ []) (c ∷ k ∷ 0 ∷ d ∷ l ∷ 0 ∷ [])
+behind_places : (a i b j c k d l : ℕ) → AreBefore (a ∷ i ∷ b ∷ j ∷ []) (c ∷ k ∷ d ∷ l ∷ [])
+    → AreBefore (a ∷ i ∷ 0 ∷ b ∷ j ∷ 0 ∷ []) (c ∷ k ∷ 0 ∷ d ∷ l ∷ 0 ∷ [])
 behind_places a i b j c k d l h = behind_place a c i k (b ∷ j ∷ []) (d ∷ l ∷ []) (b ∷ j ∷ 0 ∷ []) (d ∷ l ∷ 0 ∷ []) (behind_place b d j l [] [] [] [] (λ h. h)) h
 
 -- moves of a kind by all six numbers

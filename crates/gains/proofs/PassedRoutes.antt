@@ -1,5 +1,6 @@
 -- Routes that are passed over by the change of cost alone.
-use Rattle.std.proofs.Common.{◌≡◌, ◌≢◌, refl, sym, subst, ℕ, ◌+◌, ◌-◌, ◌<◌, ◌≤◌, List, [], ◌∷◌, ◌++◌, length, take, drop, get_or, arith, inl, inr, length-append, length-drop}
+use Rattle.std.proofs.Common.{◌≡◌, ◌≢◌, refl, sym, subst, ℕ, ◌+◌, ◌-◌, ◌<◌, ◌≤◌, List, []}
+use Rattle.std.proofs.Common.{◌∷◌, ◌++◌, length, take, drop, get_or, arith, inl, inr, length-append, length-drop}
 use Rattle.std.specs.Prelude.{ℤ, ◌≤ℤ◌}
 use Rattle.std.proofs.lemmas.Bool.{cases_lt}
 use Rattle.std.proofs.lemmas.List.{length-take}
@@ -66,7 +67,8 @@ later_fits p routes a i l b j m new plan order known first second is h =
     (swap_rebuilds routes a i l b j m order known first second) plan (subst (IsPlan p) is h) in
     (parts.0, parts.1)
 
-or_opt_fits : (p : Problem) (routes : List (List ℕ)) (a i l b j : ℕ) → a ≢ b → IsPlan p routes → IsOrOpt routes a i l b j → IsPlan p (after_or_opt routes a i l b j) → AreFitting p routes a i l b j 0
+or_opt_fits : (p : Problem) (routes : List (List ℕ)) (a i l b j : ℕ) → a ≢ b → IsPlan p routes → IsOrOpt routes a i l b j
+    → IsPlan p (after_or_opt routes a i l b j) → AreFitting p routes a i l b j 0
 or_opt_fits p routes a i l b j ne plan w new =
     let h = position_apart_from routes a i l b j w.known w.to ne w.before in
     elim (cases_lt a b) [
@@ -107,10 +109,12 @@ numbers_fit p routes k n f s v plan e is ne h =
     let second = second_chain routes k n f s e is in
     rw (first, second) at (move_fits p routes n v plan (rw (first, second) ne) h)
 
-module _ (p : Problem) (laws : SegmentLaws) (limits : IsWithinLimits p) (routes : List (List ℕ)) (k : Kind) (f : Chain) (b : ℕ) (c : Cut) (low high : ℕ) (x : ℤ) (plan : IsPlan p routes) (ne : f.route ≢ b)
+module _ (p : Problem) (laws : SegmentLaws) (limits : IsWithinLimits p) (routes : List (List ℕ)) (k : Kind) (f : Chain) (b : ℕ) (c : Cut)
+    (low high : ℕ) (x : ℤ) (plan : IsPlan p routes) (ne : f.route ≢ b)
     (takes : TakesBetween k low high) (first : IsFirstCut routes k f c) (least : IsSwapBound p (route routes b) c low high x) where
   -- no move with a chain changes the cost by less than the least swap
-  pub none_is_better : (n : Move) (u : ℤ) → kind_of n ≡ k → Starts (f.route ∷ f.position ∷ f.length ∷ []) (numbers n) → Starts (f.route ∷ f.position ∷ f.length ∷ b ∷ []) (numbers n) → HasValue p routes n u → x ≤ℤ u
+  pub none_is_better : (n : Move) (u : ℤ) → kind_of n ≡ k → Starts (f.route ∷ f.position ∷ f.length ∷ []) (numbers n)
+      → Starts (f.route ∷ f.position ∷ f.length ∷ b ∷ []) (numbers n) → HasValue p routes n u → x ≤ℤ u
   none_is_better n u e t s h =
       let j = get_or (numbers n) 4 0 in
       let second : Chain = record { route = b; position = j; length = get_or (numbers n) 5 0 } in
@@ -121,10 +125,12 @@ module _ (p : Problem) (laws : SegmentLaws) (limits : IsWithinLimits p) (routes 
       let within = subst (λ q. (low ≤ second_taken q second.length (length r - j)) × (second_taken q second.length (length r - j) ≤ high)) e
       (count_within routes n low high (length r - j) (subst (λ q. TakesBetween q low high) (sym e) takes) h.well_formed) in
       let stands = second_stands p routes k n f second u e is ne h in
-      let value : u ≡ change_apart p c (cut_at r j m) = value_apart p routes k n f second u e is ne h c (cut_at r j m) first (record { before = refl; some = refl; first = refl; last = refl; behind = refl }) in
+      let value : u ≡ change_apart p c (cut_at r j m) = value_apart p routes k n f second u e is ne h c (cut_at r j m) first
+      (record { before = refl; some = refl; first = refl; last = refl; behind = refl }) in
       let there : f.position + own.length ≤ length (route routes f.route) = start_stands p routes k n f u e t h in
       let chain = part (route routes f.route) f.position own.length in
-      let stops : 0 < own.length = subst (λ (q : Chain). 0 < q.length) (first_chain routes k n f second e is) (some_first routes n low high (subst (λ q. TakesBetween q low high) (sym e) takes) h.well_formed) in
+      let stops : 0 < own.length = subst (λ (q : Chain). 0 < q.length) (first_chain routes k n f second e is)
+      (some_first routes n low high (subst (λ q. TakesBetween q low high) (sym e) takes) h.well_formed) in
       let some : 0 < length chain = omega (arith, stops, there, length-take own.length (drop f.position (route routes f.route)), length-drop f.position (route routes f.route)) in
       let fits = fitting (take j r) chain (drop (j + m) r) some (numbers_fit p routes k n f second u plan e is ne h).1 in
       subst (λ v. x ≤ℤ v) (sym value)

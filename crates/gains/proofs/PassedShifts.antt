@@ -44,7 +44,8 @@ module _ (p : Problem) (routes : List (List ℕ)) (k : Kind) (f : Chain) (c : Cu
               let fits : q + m + l ≤ length r = omega (arith, sum, stands) in
               let moved = cut_at r q m in
               let value : u ≡ change_within p moved c
-              = value_within p routes n u (record { route = f.route; position = q; length = m }) (taken_chain routes (first_taken k) f) moved c (shifts_back p routes k f second shifts refl earlier n u e is h) h stands
+              = value_within p routes n u (record { route = f.route; position = q; length = m }) (taken_chain routes (first_taken k) f) moved c
+              (shifts_back p routes k f second shifts refl earlier n u e is h) h stands
               (cut_is_at r q m) first (some_position r q m more (omega (arith, fits))) some_c (sym sum) in
               value ∙ goes_back p r q m l c more some fits (subst (λ z. IsCut r z l c) sum first);
           on = λ later.
@@ -53,7 +54,8 @@ module _ (p : Problem) (routes : List (List ℕ)) (k : Kind) (f : Chain) (c : Cu
               let fits : i + l + m ≤ length r = omega (arith, later, there) in
               let passed = cut_at r (i + l) m in
               let value : u ≡ change_within p c passed
-              = value_within p routes n u (taken_chain routes (first_taken k) f) (record { route = f.route; position = i + l; length = m }) c passed (shifts_forward p routes k f second shifts refl later n u e is h) h fits
+              = value_within p routes n u (taken_chain routes (first_taken k) f) (record { route = f.route; position = i + l; length = m }) c passed
+              (shifts_forward p routes k f second shifts refl later n u e is h) h fits
               first (cut_is_at r (i + l) m) some_c (some_position r (i + l) m more fits) refl in
               let sum : i + l + m ≡ q + l = omega (arith, later) in
               subst (λ z. u ≡ change_apart p c (cut_at r z 0)) sum (value ∙ goes_on p r i l m c some more fits first);

@@ -13,7 +13,8 @@ use Rattle.moves.specs.Values.{HasValue, IsWellFormed, after}
 use Rattle.moves.specs.Order.{kind_of, AreBefore}
 use Rattle.moves.specs.Search.{numbers}
 use Rattle.moves.specs.Changes.{Rebuilds, rebuilt, swapped, swapped_within}
-use Rattle.moves.proofs.Swaps.{swap_rebuilds, swap_within_rebuilds, cross_is, two_opt_star_is, exchange_apart_is, exchange_within_is, or_opt_later_is, or_opt_earlier_is, or_opt_forward_is, or_opt_back_is, position_apart_to, position_apart_from, position_within_to, position_within_from}
+use Rattle.moves.proofs.Swaps.{swap_rebuilds, swap_within_rebuilds, cross_is, two_opt_star_is, exchange_apart_is, exchange_within_is, or_opt_later_is}
+use Rattle.moves.proofs.Swaps.{or_opt_earlier_is, or_opt_forward_is, or_opt_back_is, position_apart_to, position_apart_from, position_within_to, position_within_from}
 use Rattle.gains.specs.Gains.{Found, IsNoBetter}
 use Rattle.gains.specs.Kept.{first_route, second_route, with_routes, found_between}
 use Rattle.gains.proofs.TwoRoutes.{two_routes}
@@ -34,10 +35,12 @@ record Alike (S R T U : List (List ℕ)) : Type 0 where
   same_second : route S b ≡ route R d
   room : (y ≡ []) ⊎ ((d < length R) ⊎ (length R ≡ length S))
 
-carried : (p : Problem) (S R : List (List ℕ)) (n o : Move) (v : ℤ) → IsPlan p S → IsPlan p R → Alike S R (after S n) (after R o) → IsWellFormed R o → HasValue p S n v → HasValue p R o v
+carried : (p : Problem) (S R : List (List ℕ)) (n o : Move) (v : ℤ) → IsPlan p S → IsPlan p R → Alike S R (after S n) (after R o) → IsWellFormed R o
+    → HasValue p S n v → HasValue p R o v
 carried p S R n o v plan_s plan_r w formed h =
     let plan : IsPlan p (rebuilt S w.a w.x w.b w.y) = subst (IsPlan p) w.is_old h.plan in
-    let both = two_routes p S R w.x w.y w.a w.b w.c w.d w.old w.new plan_s plan_r w.same_first w.same_second (elim w.room [ inl e ↦ inl e | inr some ↦ inr (elim some [ inl k ↦ inl k | inr same ↦ inr (inr (omega (arith, same))) ]) ]) plan in
+    let both = two_routes p S R w.x w.y w.a w.b w.c w.d w.old w.new plan_s plan_r w.same_first w.same_second
+    (elim w.room [ inl e ↦ inl e | inr some ↦ inr (elim some [ inl k ↦ inl k | inr same ↦ inr (inr (omega (arith, same))) ]) ]) plan in
     record {
       well_formed = formed;
       plan = subst (IsPlan p) (sym w.is_new) both.0;
@@ -45,7 +48,8 @@ carried p S R n o v plan_s plan_r w formed h =
     }
 
 module _ (S R T U : List (List ℕ)) where
-  swap_alike : (a i l b j m c d : ℕ) → a < b → b ≤ length S → i + l ≤ length (route S a) → j + m ≤ length (route S b) → c < d → d ≤ length R → (d < length R) ⊎ (length R ≡ length S)
+  swap_alike : (a i l b j m c d : ℕ) → a < b → b ≤ length S → i + l ≤ length (route S a) → j + m ≤ length (route S b) → c < d → d ≤ length R
+      → (d < length R) ⊎ (length R ≡ length S)
       → route S a ≡ route R c → route S b ≡ route R d
       → T ≡ rebuilt S a (swapped (route S a) i l (route S b) j m) b (swapped (route S b) j m (route S a) i l)
       → U ≡ rebuilt R c (swapped (route R c) i l (route R d) j m) d (swapped (route R d) j m (route R c) i l) → Alike S R T U
@@ -120,7 +124,8 @@ module _ (S R : List (List ℕ)) (a b c d : ℕ) (both : StandBoth S R a b c d) 
         second = omega (arith, w.second, ap length both.other.same);
       } in (
         formed,
-        swap_alike S R _ _ a i l b j m c d w.order (omega (arith, w.known)) w.first w.second formed.order both.other.there both.other.room both.one.same both.other.same (cross_is S a i l b j m w) (cross_is R c i l d j m formed),
+        swap_alike S R _ _ a i l b j m c d w.order (omega (arith, w.known)) w.first w.second formed.order both.other.there both.other.room
+            both.one.same both.other.same (cross_is S a i l b j m w) (cross_is R c i l d j m formed),
       )
 
   two_opt_star_alike : (i j : ℕ) → IsTwoOptStar S a i b j → IsTwoOptStar R c i d j × Alike S R (after_two_opt_star S a i b j) (after_two_opt_star R c i d j)
@@ -132,7 +137,8 @@ module _ (S R : List (List ℕ)) (a b c d : ℕ) (both : StandBoth S R a b c d) 
         second = omega (arith, w.second, ap length both.other.same);
       } in (
         formed,
-        swap_alike S R _ _ a i (length (route S a) - i) b j (length (route S b) - j) c d w.order (omega (arith, w.known)) (omega (arith, w.first)) (omega (arith, w.second)) formed.order both.other.there both.other.room both.one.same both.other.same
+        swap_alike S R _ _ a i (length (route S a) - i) b j (length (route S b) - j) c d w.order (omega (arith, w.known)) (omega (arith, w.first))
+            (omega (arith, w.second)) formed.order both.other.there both.other.room both.one.same both.other.same
             (two_opt_star_is S a i b j w) (rw (both.one.same, both.other.same) (two_opt_star_is R c i d j formed)),
       )
 
@@ -241,7 +247,8 @@ module _ (S R : List (List ℕ)) (a b c d : ℕ) (both : StandBoth S R a b c d) 
             )
           ]
 
-alike : (S R : List (List ℕ)) (c d : ℕ) (n : Move) → StandBoth S R (first_route n) (second_route n) c d → IsWellFormed S n → IsWellFormed R (with_routes n c d) × Alike S R (after S n) (after R (with_routes n c d))
+alike : (S R : List (List ℕ)) (c d : ℕ) (n : Move) → StandBoth S R (first_route n) (second_route n) c d → IsWellFormed S n
+    → IsWellFormed R (with_routes n c d) × Alike S R (after S n) (after R (with_routes n c d))
 alike S R c d (Relocate from to) both w = or_opt_alike S R from.route to.route c d both from.position 1 to.position w
 alike S R c d (Exchange first second) both w = exchange_alike S R first.route second.route c d both first.position second.position w
 alike S R c d (OrOpt chain to) both w = or_opt_alike S R chain.route to.route c d both chain.position chain.length to.position w
@@ -249,7 +256,8 @@ alike S R c d (TwoOptStar first second) both w = two_opt_star_alike S R first.ro
 alike S R c d (Cross first second) both w = cross_alike S R first.route second.route c d both first.position first.length second.position second.length w
 
 -- a move between routes that stand in both plans has its value in both
-pub same_value : (p : Problem) (S R : List (List ℕ)) (c d : ℕ) (n : Move) (v : ℤ) → IsPlan p S → IsPlan p R → StandBoth S R (first_route n) (second_route n) c d → HasValue p S n v → HasValue p R (with_routes n c d) v
+pub same_value : (p : Problem) (S R : List (List ℕ)) (c d : ℕ) (n : Move) (v : ℤ) → IsPlan p S → IsPlan p R
+    → StandBoth S R (first_route n) (second_route n) c d → HasValue p S n v → HasValue p R (with_routes n c d) v
 same_value p S R c d n v plan_s plan_r both h =
     let w = alike S R c d n both h.well_formed in carried p S R n (with_routes n c d) v plan_s plan_r w.1 w.0 h
 

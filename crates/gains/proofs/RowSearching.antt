@@ -14,7 +14,8 @@ use Rattle.gains.specs.Searches.{Searches}
 use Rattle.gains.proofs.Founds.{low_if_found, best_if_any}
 
 -- the second route of a move
-seconds : (routes : List (List ℕ)) (n : Move) → IsWellFormed routes n → (lowest_second (kind_of n) (first_route n) ≤ second_route n) × (second_route n < end_of_seconds (kind_of n) (length routes))
+seconds : (routes : List (List ℕ)) (n : Move) → IsWellFormed routes n → (lowest_second (kind_of n) (first_route n) ≤ second_route n)
+    × (second_route n < end_of_seconds (kind_of n) (length routes))
 seconds routes (Relocate f t) w = let to = w.to in (omega arith, omega arith)
 seconds routes (Exchange f t) w = let known = w.known in elim w.order [ inl less ↦ (omega arith, omega arith) | inr e ↦ let same : f.route ≡ t.route = e.0 in (omega arith, omega arith) ]
 seconds routes (OrOpt c t) w = let to = w.to in (omega arith, omega arith)
@@ -45,7 +46,8 @@ module _ (p : Problem) (routes : List (List ℕ)) (k : Kind) where
     pub row_start : (low : ℕ) → low ≤ lowest_second k a → SearchesRow p routes k a low before before
     row_start low most = record {
       best = λ n u e t h.
-          let lowest : lowest_second k a ≤ second_route n = subst (λ q. lowest_second q a ≤ second_route n) e (subst (λ i. lowest_second (kind_of n) i ≤ second_route n) t.0 (seconds routes n h.well_formed).0) in
+          let lowest : lowest_second k a ≤ second_route n = subst (λ q. lowest_second q a ≤ second_route n) e
+          (subst (λ i. lowest_second (kind_of n) i ≤ second_route n) t.0 (seconds routes n h.well_formed).0) in
           absurd (omega (arith, most, lowest, t.1));
       lower = λ n u e h. h;
       found = λ h. h;

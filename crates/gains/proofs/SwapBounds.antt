@@ -14,7 +14,8 @@ pub cut_is : (r : List ℕ) (i l : ℕ) (c : Cut) → IsCut r i l c → c ≡ cu
 cut_is r i l c h = λ k. record { before = h.before k; some = h.some k; first = h.first k; last = h.last k; behind = h.behind k }
 
 -- one gap more of a route
-pub gap_next : (p : Problem) (r : List ℕ) (c d : Cut) (from n : ℕ) (x y : ℤ) → IsShiftBound p r c from n x → IsCut r n 0 d → y ≤ℤ x → y ≤ℤ change_apart p c d → IsShiftBound p r c from (n + 1) y
+pub gap_next : (p : Problem) (r : List ℕ) (c d : Cut) (from n : ℕ) (x y : ℤ) → IsShiftBound p r c from n x → IsCut r n 0 d → y ≤ℤ x
+    → y ≤ℤ change_apart p c d → IsShiftBound p r c from (n + 1) y
 gap_next p r c d from n x y h is less here i above below fits =
     elim (cases_lt i n) [
       | inl earlier ↦ low_enough y x (change_apart p c (cut_at r i 0)) less (h i above earlier fits)

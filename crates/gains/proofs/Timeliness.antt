@@ -1,5 +1,6 @@
 -- Where a chain may stand in time.
-use Rattle.std.proofs.Common.{◌≡◌, refl, sym, ap, subst, ◌∙◌, ℕ, ◌+◌, ◌*◌, ◌<◌, ◌≤◌, List, [], ◌∷◌, ◌++◌, length, map, take, drop, arith, inl, inr, append_assoc, append-nil, length-append, length-drop}
+use Rattle.std.proofs.Common.{◌≡◌, refl, sym, ap, subst, ◌∙◌, ℕ, ◌+◌, ◌*◌, ◌<◌, ◌≤◌, List, [], ◌∷◌}
+use Rattle.std.proofs.Common.{◌++◌, length, map, take, drop, arith, inl, inr, append_assoc, append-nil, length-append, length-drop}
 use Rattle.std.specs.Prelude.{ℤ, pos, ◌+ℤ◌, ◌≤ℤ◌, int_le, nat_le, Option, Some, None, option_and_then}
 use Rattle.std.specs.Int.{int_max}
 use Rattle.std.proofs.lemmas.Int.{ints, clamps}
@@ -43,7 +44,11 @@ module _ (p : Problem) where
       by_le (follows p a b)
       (λ y. let e : Some (joined p a b) ≡ Some c = rw y at h in
       let is : joined p a b ≡ c = grind arith in
-      rw (sym is) (record { timely = later a.earliest b.latest (distance p a.last b.first) (follows_yes p a b y).timely; latest = omega (arith, ints, clamps); earliest = omega (arith, ints, clamps) }))
+      rw (sym is) (record {
+        timely = later a.earliest b.latest (distance p a.last b.first) (follows_yes p a b y).timely;
+        latest = omega (arith, ints, clamps);
+        earliest = omega (arith, ints, clamps);
+      }))
       (λ n. let e : None ≡ Some c = rw n at h in absurd (grind arith))
 
   -- a list that is left no earlier than its last stop, and reached no later than its first
@@ -79,7 +84,8 @@ module _ (p : Problem) where
         let whole = subst (λ o. IsCostOf p (r ++ q) (option_and_then (closed p) o)) (segment-append r q h k) cost in
         found (segment_of p r) (segment_of p q) refl refl whole
       where
-        last : (a b : Summary) (o : Option Summary) → segment_of p r ≡ Some a → segment_of p q ≡ Some b → join p a b ≡ o → IsCostOf p (r ++ q) (option_and_then (closed p) o) → Parts r q
+        last : (a b : Summary) (o : Option Summary) → segment_of p r ≡ Some a → segment_of p q ≡ Some b → join p a b ≡ o
+            → IsCostOf p (r ++ q) (option_and_then (closed p) o) → Parts r q
         last a b None e f g w = absurd (w fits)
         last a b (Some c) e f g w = record { one = a; other = b; one_is = e; other_is = f; timely = (meets a b c g).timely }
 
@@ -149,7 +155,8 @@ module _ (p : Problem) where
             (λ no. absurd ((rw no at w) fits))
 
     -- the stops before a gap of a route and those behind a gap of another are in time together
-    pub meets_gap : (r : List ℕ) (i : ℕ) (q : List ℕ) (j : ℕ) (g h : Gap) → i ≤ length r → IsGap p r i g → IsGap p q j h → IsEmptyOrFitting p (take i r ++ drop j q) → g.leaves ≤ℤ h.latest
+    pub meets_gap : (r : List ℕ) (i : ℕ) (q : List ℕ) (j : ℕ) (g h : Gap) → i ≤ length r → IsGap p r i g → IsGap p q j h
+        → IsEmptyOrFitting p (take i r ++ drop j q) → g.leaves ≤ℤ h.latest
     meets_gap r i q j g h within own other new = elim (cases_lt 0 i) [
       | inl some ↦
           let front : 0 < length (take i r) = omega (arith, length-take i r, some, within) in

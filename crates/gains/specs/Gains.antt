@@ -127,7 +127,8 @@ pub record IsShift (routes : List (List ℕ)) (n : Move) (front rear : Chain) : 
 -- the moves of the kind with these numbers do so
 abbrev pub AreShifts : Problem → List (List ℕ) → Kind → Chain → Chain → Chain → Chain → Type 0
 AreShifts p routes k first second front rear =
-    (n : Move) (u : ℤ) → kind_of n ≡ k → numbers n ≡ first.route ∷ first.position ∷ first.length ∷ second.route ∷ second.position ∷ second.length ∷ [] → HasValue p routes n u → IsShift routes n front rear
+    (n : Move) (u : ℤ) → kind_of n ≡ k → numbers n ≡ first.route ∷ first.position ∷ first.length ∷ second.route ∷ second.position ∷ second.length ∷ []
+    → HasValue p routes n u → IsShift routes n front rear
 
 -- the first numbers are these
 abbrev pub Starts : List ℕ → List ℕ → Type 0

@@ -95,7 +95,8 @@ impl Neighbourhood<'_, '_> {
     fn change_of_shift(&self, first: &Chain, cut: &Cut, position: u16) -> Option<i64>
         requires plan { IsOfPlan self.now }
         requires cut { IsKnownCut (instance_of self.now) cut.now }
-        ensures { let l = (taken_chain (plan_of self.now) (first_taken self.now.kind) first.now).length
+        ensures { let l =
+            (taken_chain (plan_of self.now) (first_taken self.now.kind) first.now).length
             in MatchOption result (length self.now.stops.now < position + l) (λ v. IsShiftChange
             (instance_of self.now) self.now.stops.now cut.now first.now.position l position v) }
     {

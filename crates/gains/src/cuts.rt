@@ -77,7 +77,8 @@ pub fn cut_of_stops(stops: &[u16], position: usize, count: usize) -> Cut
 #[inline(always)]
 pub fn cut_of(stops: &[u16], chain: Chain) -> Option<Cut>
     ensures { MatchOption result (¬ (chain.position + chain.length ≤ length stops.now))
-        (λ c. (chain.position + chain.length ≤ length stops.now) × IsCut stops.now chain.position chain.length c) }
+        (λ c. (chain.position + chain.length ≤ length stops.now)
+        × IsCut stops.now chain.position chain.length c) }
 {
     let (position, length) = (usize::from(chain.position), usize::from(chain.length));
     if position + length > stops.len() {

@@ -8,7 +8,7 @@ ghost use Rattle.gains.specs.Gaps.{IsSwapBound, IsEndSwapBound};
 ghost use Rattle.gains.specs.Searches.{instance_of, plan_of, IsOfPlan, NoneIsBetter, NoneIsLess};
 
 use crate::comparing::is_shift;
-use crate::cuts::{Cut, NO_FRONT, change_apart, change_of_ends, least_front, shift_bound, lesser};
+use crate::cuts::{Cut, NO_FRONT, change_apart, change_of_ends, least_front, lesser, shift_bound};
 use crate::found::{Found, may_be_better};
 use crate::neighbourhood::Neighbourhood;
 use crate::route_gaps::{Gap, window_of};

@@ -153,7 +153,8 @@ impl RouteGaps {
 
     /// Forgets the gaps of two routes that were replaced, and of all behind the earlier of them.
     pub fn follow(&mut self, replaced: &Replaced)
-        ensures { (p : Problem) (routes later : List (List ℕ)) → IsReplaced routes later replaced.now
+        ensures { (p : Problem) (routes later : List (List ℕ))
+            → IsReplaced routes later replaced.now
             → AreGapsOf p routes self.old → AreGapsOf p later self.new }
     {
         self.rows

@@ -60,7 +60,11 @@ obeys_leaf n v (branched worker leaf a i j x y ∷ past) routes legal =
         )
         | inr unused ↦ (
           unused_number s,
-          record { made = omega arith; whole = elsewhere (unused_number s) leaf (Some (s, a)) (split_of past (unused_number s)) (omega arith) ∙ not_yet n v past (unused_number s) legal.1 (omega arith) },
+          record {
+            made = omega arith;
+            whole = elsewhere (unused_number s) leaf (Some (s, a)) (split_of past (unused_number s)) (omega arith)
+                ∙ not_yet n v past (unused_number s) legal.1 (omega arith);
+          },
           rw (unused_region n v past worker leaf a i j x y (unused_number s) refl) unused,
         )
       ]

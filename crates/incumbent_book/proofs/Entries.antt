@@ -32,7 +32,8 @@ pub taken_out : (k q : Entry) (was is : Bool) → is ≡ cond (eq_by_cmp arc_cmp
 taken_out k q was is e = taken_by k q was is (eq_by_cmp arc_cmp k q) refl e
 
 module _ (old new q : Entry) (was mid is : Bool) where
-  pub with_incumbent : new ≢ old → mid ≡ cond (eq_by_cmp arc_cmp new q) true was → is ≡ cond (eq_by_cmp arc_cmp old q) false mid → (is ≡ true) ↔ ((q ≡ new) ⊎ ((was ≡ true) × (q ≢ old)))
+  pub with_incumbent : new ≢ old → mid ≡ cond (eq_by_cmp arc_cmp new q) true was → is ≡ cond (eq_by_cmp arc_cmp old q) false mid → (is ≡ true)
+      ↔ ((q ≡ new) ⊎ ((was ≡ true) × (q ≢ old)))
   with_incumbent apart f g =
       let p = put_in new q was mid f in
       let t = taken_out old q mid is g in (
@@ -62,7 +63,8 @@ back_by k q true one is true h fresh f g = absurd (fresh (refl, sym (same_from_t
 back_by k q false one is true h fresh f g = g
 back_by k q was one is false h fresh f g = g ∙ f
 
-pub taken_back : (k q : Entry) (was one is : Bool) → ¬ ((was ≡ true) × (q ≡ k)) → one ≡ cond (eq_by_cmp arc_cmp k q) true was → is ≡ cond (eq_by_cmp arc_cmp k q) false one → is ≡ was
+pub taken_back : (k q : Entry) (was one is : Bool) → ¬ ((was ≡ true) × (q ≡ k)) → one ≡ cond (eq_by_cmp arc_cmp k q) true was
+    → is ≡ cond (eq_by_cmp arc_cmp k q) false one → is ≡ was
 taken_back k q was one is fresh f g = back_by k q was one is (eq_by_cmp arc_cmp k q) refl fresh f g
 
 less_first : (a b : ℕ) (o : Ordering) → is_gt (ordering_then (nat_cmp a b) o) ≡ false → a ≤ b

@@ -1,5 +1,6 @@
 -- The nodes of a book are what its history says, after each event.
-use Rattle.std.proofs.Common.{◌≡◌, ℕ, ◌+◌, ◌<◌, ◌≤◌, List, [], ◌∷◌, ◌++◌, Option, Some, None, length, refl, ap, sym, ◌∙◌, arith, inl, inr, length-set, length-append}
+use Rattle.std.proofs.Common.{◌≡◌, ℕ, ◌+◌, ◌<◌, ◌≤◌, List, [], ◌∷◌, ◌++◌, Option, Some}
+use Rattle.std.proofs.Common.{None, length, refl, ap, sym, ◌∙◌, arith, inl, inr, length-set, length-append}
 use Rattle.std.specs.Prelude.{slice_get, slice_set}
 use Rattle.std.proofs.lemmas.Bool.{cases_lt, cases_eq}
 use Rattle.std.proofs.lemmas.Option.{slice_get-get_or, slice_get_past}
@@ -147,7 +148,8 @@ module _ (p : Problem) (k v : ℕ) (past : List Event) (nodes : List Node) (is :
     pricing = pricing;
   }
 
-  unused_at : (j : ℕ) → j ≡ unused_number s → y.problem ≡ p → y.region ≡ unused_child (region_of n past m) (pair arc) → y.neighbours ≡ k → IsPricing y → IsOpenAt p k v new j unused_leaf
+  unused_at : (j : ℕ) → j ≡ unused_number s → y.problem ≡ p → y.region ≡ unused_child (region_of n past m) (pair arc) → y.neighbours ≡ k → IsPricing y
+      → IsOpenAt p k v new j unused_leaf
   unused_at j e problem region neighbours pricing = let made = was_made in record {
     whole = elsewhere j m (Some (s, pair arc)) (split_of past j) (omega arith) ∙ not_yet n v past j legal (omega arith);
     depth = ap (λ d. d + 1) (open_at p k v past nodes is m old was).depth ∙ sym (unused_depth n v past worker m (pair arc) (used_number s) (unused_number s) x.value y.value j e);

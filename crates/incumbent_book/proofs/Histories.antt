@@ -1,11 +1,13 @@
 -- What an event changes in what follows from a history.
-use Rattle.std.proofs.Common.{◌≡◌, ◌≢◌, ℕ, ◌+◌, ◌<◌, ◌≤◌, true, false, cond, List, [], ◌∷◌, Option, Some, None, refl, ap, ◌∙◌, arith, ◌⊎◌, inl, inr, eq-eqb, ne_eqb}
+use Rattle.std.proofs.Common.{◌≡◌, ◌≢◌, ℕ, ◌+◌, ◌<◌, ◌≤◌, true, false, cond, List, [], ◌∷◌}
+use Rattle.std.proofs.Common.{Option, Some, None, refl, ap, ◌∙◌, arith, ◌⊎◌, inl, inr, eq-eqb, ne_eqb}
 use Rattle.std.specs.Prelude.{◌==◌}
 use Rattle.std.proofs.lemmas.Bool.{cases_lt, cases_eq}
 use Rattle.solomon_reader.specs.Plan.{Arc}
 use Rattle.solomon_reader.specs.Region.{used_child, unused_child}
 use Rattle.solomon_reader.specs.AmongLaws.{weaker, among_all}
-use Rattle.solomon_reader.specs.History.{Event, offered, repriced, branched, costs_of, IsBestCost, IsCheaper, split_count, used_number, unused_number, last_number, split_of, region_of, depth_of, value_of, IsLegal}
+use Rattle.solomon_reader.specs.History.{Event, offered, repriced, branched, costs_of, IsBestCost, IsCheaper, split_count}
+use Rattle.solomon_reader.specs.History.{used_number, unused_number, last_number, split_of, region_of, depth_of, value_of, IsLegal}
 
 -- a choice by two numbers
 module _ {X : Type 0} (m : ℕ) where

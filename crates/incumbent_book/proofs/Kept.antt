@@ -74,7 +74,8 @@ module _ (b : Contents) (nodes : List Node) (is : IsConsistent b nodes) where
     prices = is.prices;
   }
 
-  pub kept_replace : (worker : ℕ) (plan : Solution) → length b.past < b.limits.events → IsSolution plan → plan.problem ≡ b.problem → IsCheaper b.past plan.cost → IsConsistent (with_incumbent b worker plan) nodes
+  pub kept_replace : (worker : ℕ) (plan : Solution) → length b.past < b.limits.events → IsSolution plan → plan.problem ≡ b.problem
+      → IsCheaper b.past plan.cost → IsConsistent (with_incumbent b worker plan) nodes
   kept_replace worker plan room solution same cheaper = record {
     legal = (((λ t. cheaper), (λ c. refl)), is.legal);
     limits = is.limits;
@@ -101,7 +102,8 @@ module _ (b : Contents) (nodes : List Node) (is : IsConsistent b nodes) where
       }
 
   pub kept_split : (worker m : ℕ) (arc : Arc) (x y : Pricing) (old : Leaf) → IsAccepted b (split m (pair arc) x y) → IsPricing x → IsPricing y → leaf_at nodes m ≡ Some old
-      → IsConsistent (with_split b worker m (pair arc) x y) (slice_set nodes m (Split arc (length nodes) (length nodes + 1)) ++ Open (new_leaf (old.depth + 1) x) ∷ Open (new_leaf (old.depth + 1) y) ∷ [])
+      → IsConsistent (with_split b worker m (pair arc) x y)
+      (slice_set nodes m (Split arc (length nodes) (length nodes + 1)) ++ Open (new_leaf (old.depth + 1) x) ∷ Open (new_leaf (old.depth + 1) y) ∷ [])
   kept_split worker m arc x y old accepted xv yv was =
       let room = accepted.met JournalFull (omega arith) in
       let leaves = accepted.met LeavesFull (omega arith) in

@@ -176,7 +176,8 @@ apart n v (branched worker l b i j x y ∷ past) m k q a legal e made d =
     ]
 
 -- the leaves below a split are those of its children
-both_below : (n v : ℕ) (past : List Event) (m k : ℕ) (a : Pair) → IsLegal n v past → split_of past m ≡ Some (k, a) → below past m ≡ below past (used_number k) + below past (unused_number k)
+both_below : (n v : ℕ) (past : List Event) (m k : ℕ) (a : Pair) → IsLegal n v past → split_of past m ≡ Some (k, a)
+    → below past m ≡ below past (used_number k) + below past (unused_number k)
 both_below n v [] m k a legal e = absurd (let c : None ≡ Some (k, a) = e in cc)
 both_below n v (offered worker cost better ∷ past) m k a legal e = both_below n v past m k a legal.1 e
 both_below n v (repriced worker l value ∷ past) m k a legal e = both_below n v past m k a legal.1 e

@@ -31,9 +31,25 @@ pub record SplitFacts (n : ℕ) (past : List Event) (m j : ℕ) (a : Pair) : Typ
 pub split_facts : (n v : ℕ) (past : List Event) (m j : ℕ) (a : Pair) → IsLegal n v past → split_of past m ≡ Some (j, a) → SplitFacts n past m j a
 split_facts n v [] m j a legal e = absurd (let c : None ≡ Some (j, a) = e in cc)
 split_facts n v (offered worker cost better ∷ past) m j a legal e =
-    let f = split_facts n v past m j a legal.1 e in record { earlier = f.earlier; forward = f.forward; undecided = f.undecided; used = f.used; unused = f.unused; used_deep = f.used_deep; unused_deep = f.unused_deep }
+    let f = split_facts n v past m j a legal.1 e in record {
+      earlier = f.earlier;
+      forward = f.forward;
+      undecided = f.undecided;
+      used = f.used;
+      unused = f.unused;
+      used_deep = f.used_deep;
+      unused_deep = f.unused_deep;
+    }
 split_facts n v (repriced worker l value ∷ past) m j a legal e =
-    let f = split_facts n v past m j a legal.1 e in record { earlier = f.earlier; forward = f.forward; undecided = f.undecided; used = f.used; unused = f.unused; used_deep = f.used_deep; unused_deep = f.unused_deep }
+    let f = split_facts n v past m j a legal.1 e in record {
+      earlier = f.earlier;
+      forward = f.forward;
+      undecided = f.undecided;
+      used = f.used;
+      unused = f.unused;
+      used_deep = f.used_deep;
+      unused_deep = f.unused_deep;
+    }
 split_facts n v (branched worker l b i k x y ∷ past) m j a legal e = elim (cases_eq m l) [
   | inl same ↦
       (let s = split_count past in

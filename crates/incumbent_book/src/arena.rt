@@ -158,7 +158,9 @@ impl<'i> Arena<'i> {
         ensures numbers { IfOk result (λ made. (made.0 ≡ length self.old) ×
             (made.1 ≡ length self.old + 1)) }
         ensures ok { OnOk result (WithLeaf self.old number (λ leaf. self.new
-            ≡ slice_set self.old number (Split arc (length self.old) (length self.old + 1)) ++ Open (new_leaf (leaf.depth + 1) used.entry) ∷ Open (new_leaf (leaf.depth + 1) unused.entry) ∷ [])) }
+            ≡ slice_set self.old number (Split arc (length self.old) (length self.old + 1))
+            ++ Open (new_leaf (leaf.depth + 1) used.entry)
+            ∷ Open (new_leaf (leaf.depth + 1) unused.entry) ∷ [])) }
         ensures err { IfErr result (λ back. (back.0 ≡ used.entry) × (back.1 ≡ unused.entry) ×
             (self.new ≡ self.old)) }
     {

@@ -52,9 +52,26 @@ impl<'i> Model for Book<'i> {
 
     ghost Value = { Contents };
 
-    ghost view = { λ b. record { problem = b.bounded; neighbours = b.neighbours; root = b.root; limits = limits_of b.limits; incumbent = b.incumbent; past = past_of b.history.items; prices = map prices_of b.arena } };
+    ghost view = { λ b. record {
+      problem = b.bounded;
+      neighbours = b.neighbours;
+      root = b.root;
+      limits = limits_of b.limits;
+      incumbent = b.incumbent;
+      past = past_of b.history.items;
+      prices = map prices_of b.arena;
+    } };
 
-    ghost invariant = { λ b. IsConsistent (record { problem = b.bounded; neighbours = b.neighbours; root = b.root; limits = limits_of b.limits; incumbent = b.incumbent; past = past_of b.history.items; prices = map prices_of b.arena }) b.arena };
+    ghost invariant = { λ b. IsConsistent
+        (record {
+          problem = b.bounded;
+          neighbours = b.neighbours;
+          root = b.root;
+          limits = limits_of b.limits;
+          incumbent = b.incumbent;
+          past = past_of b.history.items;
+          prices = map prices_of b.arena;
+        }) b.arena };
 }
 
 /// A list for the events, with some room.

@@ -10,7 +10,8 @@ use Rattle.std.proofs.lemmas.List.Edits.{length-remove, get_or-remove_below, get
 use Rattle.std.proofs.lemmas.Bool.{cases_lt}
 use Rattle.std.proofs.lemmas.List.FromFn.{get_or-range_with_len, length-range_with_len}
 use Rattle.std.proofs.lemmas.List.Elements.{All-from_recursion}
-use Rattle.std.proofs.lemmas.List.Sorted.{IsPermutation-trans, IsPermutation-remove, IsPermutation-insert, IsPermutation-middle, IsPermutation-append_left, IsPermutation-append_right, All-permutation, length_permutation}
+use Rattle.std.proofs.lemmas.List.Sorted.{IsPermutation-trans, IsPermutation-remove, IsPermutation-insert, IsPermutation-middle}
+use Rattle.std.proofs.lemmas.List.Sorted.{IsPermutation-append_left, IsPermutation-append_right, All-permutation, length_permutation}
 use Rattle.solomon_reader.specs.Problem.{Problem, customers, customer_count, IsCustomer}
 use Rattle.solomon_reader.specs.Plan.{IsFitting, IsPlan}
 use Rattle.solomon_reader.specs.Lists.{lists}
@@ -47,7 +48,8 @@ All-without : (P : ℕ → Type 0) (xs : List ℕ) (i x : ℕ) → i < length xs
 All-without P xs i x h e all = All-left P xs (x ∷ []) (remove xs i) (IsPermutation-remove xs i x h e) all
 
 -- the x at i goes into the route at j
-pub moved_more : (before route left : List ℕ) (i j x : ℕ) → i < length left → x ≡ get_or left i x → IsPermutation before (route ++ left) → IsPermutation before (insert route j x ++ remove left i)
+pub moved_more : (before route left : List ℕ) (i j x : ℕ) → i < length left → x ≡ get_or left i x → IsPermutation before (route ++ left)
+    → IsPermutation before (insert route j x ++ remove left i)
 moved_more before route left i j x h e moved =
     IsPermutation-trans before (route ++ left) (insert route j x ++ remove left i) moved
     (IsPermutation-trans (route ++ left) (route ++ x ∷ remove left i) (insert route j x ++ remove left i)
@@ -65,7 +67,8 @@ pub record Fills (p : Problem) (visits before : List ℕ) (q : Problem) (route l
   pub rising : IsStrictlyIncreasing before → IsStrictlyIncreasing left
 
 -- the x at i goes into the route at j
-pub fills_more : (p : Problem) (visits before : List ℕ) (q : Problem) (route left : List ℕ) (i j x : ℕ) (r : Problem) (longer rest : List ℕ) → Fills p visits before q route left → i < length left → x ≡ get_or left i x → r ≡ q → IsFitting q longer
+pub fills_more : (p : Problem) (visits before : List ℕ) (q : Problem) (route left : List ℕ) (i j x : ℕ) (r : Problem) (longer rest : List ℕ)
+    → Fills p visits before q route left → i < length left → x ≡ get_or left i x → r ≡ q → IsFitting q longer
     → longer ≡ insert route j x → rest ≡ remove left i → Fills p visits before r longer rest
 fills_more p visits before q route left i j x r longer rest filled h e same fits longer_is rest_is = record {
   same = same ∙ filled.same;
@@ -76,7 +79,8 @@ fills_more p visits before q route left i j x r longer rest filled h e same fits
 }
 
 -- the x at i opens a route, which then takes more
-pub taken_first : {E : Type 0} (before : List ℕ) (i x : ℕ) (seed rest : List ℕ) (filled : Result (Vec ℕ Global) E) (left : List ℕ) → i < length before → x ≡ get_or before i x → seed ≡ x ∷ [] → rest ≡ remove before i
+pub taken_first : {E : Type 0} (before : List ℕ) (i x : ℕ) (seed rest : List ℕ) (filled : Result (Vec ℕ Global) E) (left : List ℕ) → i < length before
+    → x ≡ get_or before i x → seed ≡ x ∷ [] → rest ≡ remove before i
     → IfOk filled (λ v. IsPermutation (seed ++ rest) (v.items ++ left)) → OnOk filled (IsStrictlyIncreasing rest → IsStrictlyIncreasing left) → IfOk filled (λ v. Takes before v.items left)
 taken_first before i x seed rest (Ok v) left h e seed_is rest_is moved rising = record {
   moved = IsPermutation-trans before (x ∷ remove before i) (v.items ++ left) (IsPermutation-remove before i x h e) (rw (seed_is, rest_is) at moved);
@@ -85,7 +89,8 @@ taken_first before i x seed rest (Ok v) left h e seed_is rest_is moved rising = 
 taken_first before i x seed rest (Err f) left h e seed_is rest_is moved rising = tt
 
 -- a route more takes its visits
-pub taken_more : (before : List ℕ) (routes : List (List ℕ)) (between : List ℕ) (visits after : List ℕ) → Takes before (flat_map (λ r. r) routes) between → Takes between visits after → Takes before (flat_map (λ r. r) (routes ++ visits ∷ [])) after
+pub taken_more : (before : List ℕ) (routes : List (List ℕ)) (between : List ℕ) (visits after : List ℕ)
+    → Takes before (flat_map (λ r. r) routes) between → Takes between visits after → Takes before (flat_map (λ r. r) (routes ++ visits ∷ [])) after
 taken_more before routes between visits after first next = record {
   moved = rw (flat_map-append (λ (r : List ℕ). r) routes (visits ∷ []), append-nil, append_assoc)
       (IsPermutation-trans before (flat_map (λ r. r) routes ++ between) (flat_map (λ r. r) routes ++ (visits ++ after)) first.moved
@@ -113,7 +118,13 @@ none_left p routes (u ∷ left) routed served =
     absurd (omega (arith, full, total, at_least p routes routed.fitting, served.vehicles))
   where
     total : length (flat_map (λ r. r) routes) + length (u ∷ left) ≡ customer_count p
-    total = omega (arith, length-append (flat_map (λ r. r) routes) (u ∷ left), length_permutation (customers p) (flat_map (λ r. r) routes ++ u ∷ left) routed.taken.moved, length-range_with_len 1 (customer_count p))
+    total = omega (
+      arith,
+      length-append (flat_map (λ r. r) routes) (u ∷ left),
+      length_permutation (customers p) (flat_map (λ r. r) routes ++ u ∷ left)
+          routed.taken.moved,
+      length-range_with_len 1 (customer_count p),
+    )
 
     known : IsCustomer p u
     known = All-left (IsCustomer p) (customers p) (flat_map (λ r. r) routes) (u ∷ left) routed.taken.moved (all_customers p) 0 u (omega arith)
@@ -154,7 +165,8 @@ opening_more p before routes between count route after more opening fits taken e
   taken = rw (e, map-append) (taken_more before (lists routes) between route.items after opening.taken taken);
 }
 
-pub routed : (p : Problem) (before : List ℕ) (routes : List (Vec ℕ Global)) (after : List ℕ) (count : ℕ) → IsOpening p before routes after count → count ≤ p.fleet → (count < p.fleet → All (λ u. ¬ IsAlone p u) after) → IsRouted p before (lists routes) after
+pub routed : (p : Problem) (before : List ℕ) (routes : List (Vec ℕ Global)) (after : List ℕ) (count : ℕ) → IsOpening p before routes after count
+    → count ≤ p.fleet → (count < p.fleet → All (λ u. ¬ IsAlone p u) after) → IsRouted p before (lists routes) after
 routed p before routes after count opening most ended = record {
   fleet = omega (arith, opening.opened);
   fitting = opening.fitting;

@@ -14,7 +14,8 @@ pub record IsServedAlone (p : Problem) : Type 0 where
   pub vehicles : customer_count p ≤ p.fleet
   pub each : (i : ℕ) → IsCustomer p i → IsFitting p (i ∷ [])
 
--- Fitting routes, at most as many as vehicles, and the customers that stand in none, in rising order, serve or list each customer once; some is left. Where a vehicle is left, it can serve none of them alone.
+-- Fitting routes, at most as many as vehicles, and the customers that stand in none, in rising order, serve or list
+-- each customer once; some is left. Where a vehicle is left, it can serve none of them alone.
 pub record IsPart (p : Problem) (routes : List (List ℕ)) (left : List ℕ) : Type 0 where
   pub fleet : length routes ≤ p.fleet
   pub fitting : AllByRecursion (IsFitting p) routes

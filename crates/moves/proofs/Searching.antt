@@ -1,5 +1,6 @@
 -- A search through the moves of a kind by their numbers.
-use Rattle.std.proofs.Common.{◌≡◌, refl, ℕ, ◌+◌, ◌<◌, ◌≤◌, Bool, true, false, List, [], ◌∷◌, ◌++◌, length, get_or, sym, ap, ◌∙◌, arith, subst, ◌⊎◌, inl, inr}
+use Rattle.std.proofs.Common.{◌≡◌, refl, ℕ, ◌+◌, ◌<◌, ◌≤◌, Bool, true, false, List, [], ◌∷◌}
+use Rattle.std.proofs.Common.{◌++◌, length, get_or, sym, ap, ◌∙◌, arith, subst, ◌⊎◌, inl, inr}
 use Rattle.std.specs.Prelude.{ℤ, ◌≤ℤ◌, ◌<ℤ◌, int_lt, Option, Some, None, if◌then◌else◌}
 use Rattle.std.proofs.lemmas.Int.{ints}
 use Rattle.std.proofs.lemmas.Bool.{cases_lt}
@@ -157,7 +158,8 @@ behind_chain a b i j l m xs ys xs' ys' f h =
     (behind_first i j (l ∷ xs) (m ∷ ys) (l ∷ xs') (m ∷ ys') (behind_first l m xs ys xs' ys' f)) h
 
 -- two places
-behind_places : (a i b j c k d l : ℕ) → AreBefore (a ∷ i ∷ 0 ∷ b ∷ j ∷ 0 ∷ []) (c ∷ k ∷ 0 ∷ d ∷ l ∷ 0 ∷ []) → AreBefore (a ∷ i ∷ b ∷ j ∷ []) (c ∷ k ∷ d ∷ l ∷ [])
+behind_places : (a i b j c k d l : ℕ) → AreBefore (a ∷ i ∷ 0 ∷ b ∷ j ∷ 0 ∷ []) (c ∷ k ∷ 0 ∷ d ∷ l ∷ 0 ∷ [])
+    → AreBefore (a ∷ i ∷ b ∷ j ∷ []) (c ∷ k ∷ d ∷ l ∷ [])
 behind_places a i b j c k d l h =
     behind_place a c i k (b ∷ j ∷ 0 ∷ []) (d ∷ l ∷ 0 ∷ []) (b ∷ j ∷ []) (d ∷ l ∷ []) (behind_place b d j l [] [] [] [] (λ h. h)) h
 
@@ -165,7 +167,8 @@ pub before_by_numbers : (m n : Move) → kind_of m ≡ kind_of n → AreBefore (
 before_by_numbers (Relocate f t) (Relocate g u) e h = behind_places f.route f.position t.route t.position g.route g.position u.route u.position h
 before_by_numbers (Exchange f t) (Exchange g u) e h = behind_places f.route f.position t.route t.position g.route g.position u.route u.position h
 before_by_numbers (OrOpt c t) (OrOpt d u) e h =
-    behind_chain c.route d.route c.position d.position c.length d.length (t.route ∷ t.position ∷ 0 ∷ []) (u.route ∷ u.position ∷ 0 ∷ []) (t.route ∷ t.position ∷ []) (u.route ∷ u.position ∷ [])
+    behind_chain c.route d.route c.position d.position c.length d.length (t.route ∷ t.position ∷ 0 ∷ []) (u.route ∷ u.position ∷ 0 ∷ [])
+    (t.route ∷ t.position ∷ []) (u.route ∷ u.position ∷ [])
     (behind_place t.route u.route t.position u.position [] [] [] [] (λ h. h)) h
 before_by_numbers (TwoOptStar f t) (TwoOptStar g u) e h = behind_places f.route f.position t.route t.position g.route g.position u.route u.position h
 before_by_numbers (Cross f t) (Cross g u) e h = h

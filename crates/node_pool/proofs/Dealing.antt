@@ -1,5 +1,6 @@
 -- Each of some ends gives something, one after another.
-use Rattle.std.proofs.Common.{◌≡◌, ◌<◌, ◌≤◌, ◌+◌, ℕ, zero, suc, List, [], ◌∷◌, ◌++◌, length, get_or, set, slice_index_or, subst, sym, refl, ap, ◌∙◌, below_more, length-append, get_or-set_other, get_or-set_same, arith}
+use Rattle.std.proofs.Common.{◌≡◌, ◌<◌, ◌≤◌, ◌+◌, ℕ, zero, suc, List, [], ◌∷◌, ◌++◌, length, get_or, set}
+use Rattle.std.proofs.Common.{slice_index_or, subst, sym, refl, ap, ◌∙◌, below_more, length-append, get_or-set_other, get_or-set_same, arith}
 use Rattle.std.specs.Prelude.{map}
 use Rattle.std.proofs.Math.Seq.{get_or-append_seam}
 use Rattle.std.proofs.lemmas.List.{get_or-map, get_or_append_left}
@@ -43,7 +44,8 @@ module _ {H D P : Type 0} (deque : H → D) (Gave : H → H → Type 0) (Share :
   pub none_dealt : (hs : List H) → Dealt hs hs [] 0
   none_dealt hs = record { long = refl; deques = refl; swept = none_swept Gave hs; fits = λ k d p low. absurd (omega arith) }
 
-  pub one_dealt : (first now : List H) (shares : List P) (i : ℕ) (d new : H) (p : P) → i < length now → Gave (slice_index_or now i d) new → deque new ≡ deque (slice_index_or now i d) → Share (deque new) p → Dealt first now shares i → Dealt first (set now i new) (shares ++ p ∷ []) (i + 1)
+  pub one_dealt : (first now : List H) (shares : List P) (i : ℕ) (d new : H) (p : P) → i < length now → Gave (slice_index_or now i d) new
+      → deque new ≡ deque (slice_index_or now i d) → Share (deque new) p → Dealt first now shares i → Dealt first (set now i new) (shares ++ p ∷ []) (i + 1)
   one_dealt first now shares i d new p inside gave same share was = record {
     long = let l = was.long in omega (arith, length-append shares (p ∷ []));
     deques = same_deques now i (get_or now i d) new (any_default Gave now i d (get_or now i d) inside) same ∙ was.deques;
@@ -61,7 +63,8 @@ module _ {H D P : Type 0} (deque : H → D) (Gave : H → H → Type 0) (Share :
       seam o = sym (subst (λ n. get_or (shares ++ p ∷ []) n o ≡ p) was.long (get_or-append_seam shares p [] o))
 
 -- what a map makes of each, where it makes the same of all
-pub all_made : {A B : Type 0} (f : A → B) (b : B) (xs : List A) → ((k : ℕ) (x : A) → k < length xs → f (slice_index_or xs k x) ≡ b) → (k : ℕ) (d : B) → k < length xs → slice_index_or (map f xs) k d ≡ b
+pub all_made : {A B : Type 0} (f : A → B) (b : B) (xs : List A) → ((k : ℕ) (x : A) → k < length xs → f (slice_index_or xs k x) ≡ b) → (k : ℕ) (d : B)
+    → k < length xs → slice_index_or (map f xs) k d ≡ b
 all_made f b [] all k d low = absurd (omega arith)
 all_made f b (x ∷ xs) all zero d low = all 0 x low
 all_made f b (x ∷ xs) all (suc k) d low = all_made f b xs (λ j y inside. all (suc j) y (omega arith)) k d (omega arith)

@@ -1,5 +1,6 @@
 -- Each move keeps the rule of a deque.
-use Rattle.std.proofs.Common.{◌≡◌, ◌≢◌, ◌+◌, ◌-◌, ◌<◌, ◌≤◌, ℕ, zero, suc, true, false, true≢false, List, [], ◌∷◌, ◌++◌, set, sym, refl, ap, ◌∙◌, subst, ⊎_elim, append_assoc, arith}
+use Rattle.std.proofs.Common.{◌≡◌, ◌≢◌, ◌+◌, ◌-◌, ◌<◌, ◌≤◌, ℕ, zero, suc, true, false, true≢false}
+use Rattle.std.proofs.Common.{List, [], ◌∷◌, ◌++◌, set, sym, refl, ap, ◌∙◌, subst, ⊎_elim, append_assoc, arith}
 use mathlib.Core.Option.{some, some-ne-none, some-injective}
 use lib.ListN.{get_elem?}
 use Rattle.crossbeam_deque.specs.Tasks.{Pushes, Takes, Forks, Merges, Learns}
@@ -15,9 +16,11 @@ taken_by_all h views = weigh h (all_taken (takers views))
 taken_cons : (h : ℕ → ℕ) (v : Known) (vs : List Known) → taken_by_all h (v ∷ vs) ≡ weigh h v.taken + taken_by_all h vs
 taken_cons h v vs = weigh_append h v.taken (all_taken (takers vs))
 
-taken_set : (h : ℕ → ℕ) (views : List Known) (port : ℕ) (v w : Known) → get_elem? views port ≡ some v → taken_by_all h (set views port w) + weigh h v.taken ≡ taken_by_all h views + weigh h w.taken
+taken_set : (h : ℕ → ℕ) (views : List Known) (port : ℕ) (v w : Known) → get_elem? views port ≡ some v
+    → taken_by_all h (set views port w) + weigh h v.taken ≡ taken_by_all h views + weigh h w.taken
 taken_set h [] port v w e = absurd (some-ne-none v (sym e))
-taken_set h (x ∷ xs) zero v w e = let is : weigh h x.taken ≡ weigh h v.taken = ap (λ (y : Known). weigh h y.taken) (some-injective x v e) in omega (arith, is, taken_cons h x xs, taken_cons h w xs)
+taken_set h (x ∷ xs) zero v w e = let is : weigh h x.taken ≡ weigh h v.taken = ap (λ (y : Known). weigh h y.taken) (some-injective x v e) in
+    omega (arith, is, taken_cons h x xs, taken_cons h w xs)
 taken_set h (x ∷ xs) (suc port) v w e = omega (arith, taken_set h xs port v w e, taken_cons h x xs, taken_cons h x (set xs port w))
 
 taken_snoc : (h : ℕ → ℕ) (views : List Known) (v : Known) → taken_by_all h (views ++ v ∷ []) ≡ taken_by_all h views + weigh h v.taken
@@ -126,7 +129,8 @@ deals port v more items views b at =
         order = b.law.order;
         counts = λ h. let t = taken_set h views port v w at in let s = taken_snoc h vs u in let c = b.law.counts h in omega arith;
       };
-      knows = each_snoc (Knows b.owner b.pushed) vs u (λ j p. absurd (true≢false (sym p))) (each_set (Knows b.owner b.pushed) (Knows b.owner b.pushed) views port w (b.knows port v at) (λ j y kept. kept) b.knows);
+      knows = each_snoc (Knows b.owner b.pushed) vs u (λ j p. absurd (true≢false (sym p)))
+          (each_set (Knows b.owner b.pushed) (Knows b.owner b.pushed) views port w (b.knows port v at) (λ j y kept. kept) b.knows);
       parts = let p = parts_set views port v w at in let s = parts_snoc vs u in let q = b.parts in omega arith;
       idle = each_snoc IsIdle vs u (λ j none. refl) (each_set IsIdle IsIdle views port w (λ none. absurd (omega arith)) (λ j y kept. kept) b.idle);
     }
@@ -142,7 +146,8 @@ spends port v items views b at =
         order = b.law.order;
         counts = λ h. let t = taken_set h views port v v at in let s = taken_snoc h vs u in let c = b.law.counts h in omega arith;
       };
-      knows = each_snoc (Knows b.owner b.pushed) vs u (λ j p. absurd (true≢false (sym p))) (each_set (Knows b.owner b.pushed) (Knows b.owner b.pushed) views port v (b.knows port v at) (λ j y kept. kept) b.knows);
+      knows = each_snoc (Knows b.owner b.pushed) vs u (λ j p. absurd (true≢false (sym p)))
+          (each_set (Knows b.owner b.pushed) (Knows b.owner b.pushed) views port v (b.knows port v at) (λ j y kept. kept) b.knows);
       parts = let p = parts_set views port v v at in let s = parts_snoc vs u in let q = b.parts in omega arith;
       idle = each_snoc IsIdle vs u (λ j none. refl) (each_set IsIdle IsIdle views port v (b.idle port v at) (λ j y kept. kept) b.idle);
     }
@@ -164,7 +169,8 @@ merges port v other u items views b at apart there =
         order = b.law.order;
         counts = λ h. let t = taken_set h views port v w at in let s = taken_set h vs other u spent there in let c = b.law.counts h in omega (arith, weigh_append h v.taken u.taken);
       };
-      knows = each_set (Knows b.owner b.pushed) (Knows b.owner b.pushed) vs other spent (λ p. absurd (true≢false (sym p))) (λ j y kept. kept) (each_set (Knows b.owner b.pushed) (Knows b.owner b.pushed) views port w (b.knows port v at) (λ j y kept. kept) b.knows);
+      knows = each_set (Knows b.owner b.pushed) (Knows b.owner b.pushed) vs other spent (λ p. absurd (true≢false (sym p))) (λ j y kept. kept)
+          (each_set (Knows b.owner b.pushed) (Knows b.owner b.pushed) views port w (b.knows port v at) (λ j y kept. kept) b.knows);
       parts = let p = parts_set views port v w at in let s = parts_set vs other u spent there in let q = b.parts in omega arith;
       idle = each_set IsIdle IsIdle vs other spent (λ none. refl) (λ j y kept. kept) (each_set IsIdle IsIdle views port w empty (λ j y kept. kept) b.idle);
     }
@@ -178,7 +184,8 @@ none_left h (x ∷ xs) none idle =
     omega (arith, weigh_append h x.taken (all_taken (takers xs)))
 
 -- who has all parts took all that was taken
-alone : (h : ℕ → ℕ) (views : List Known) (port : ℕ) (v : Known) → get_elem? views port ≡ some v → parts_in views ≡ v.parts → Each IsIdle views → taken_by_all h views ≡ weigh h v.taken
+alone : (h : ℕ → ℕ) (views : List Known) (port : ℕ) (v : Known) → get_elem? views port ≡ some v → parts_in views ≡ v.parts → Each IsIdle views
+    → taken_by_all h views ≡ weigh h v.taken
 alone h [] port v at all idle = absurd (some-ne-none v (sym at))
 alone h (x ∷ xs) zero v at all idle =
     let is : x ≡ v = some-injective x v at in
@@ -186,7 +193,8 @@ alone h (x ∷ xs) zero v at all idle =
     let weight : weigh h x.taken ≡ weigh h v.taken = ap (λ (y : Known). weigh h y.taken) is in
     let rest = none_left h xs (omega arith) (λ j. idle (suc j)) in
     omega (arith, taken_cons h x xs)
-alone h (x ∷ xs) (suc port) v at all idle = let s = part_of xs port v at in let nothing : weigh h x.taken ≡ 0 = ap (weigh h) (idle 0 x refl (omega arith)) in let rest = alone h xs port v at (omega arith) (λ j. idle (suc j)) in omega (arith, taken_cons h x xs)
+alone h (x ∷ xs) (suc port) v at all idle = let s = part_of xs port v at in
+    let nothing : weigh h x.taken ≡ 0 = ap (weigh h) (idle 0 x refl (omega arith)) in let rest = alone h xs port v at (omega arith) (λ j. idle (suc j)) in omega (arith, taken_cons h x xs)
   where
     part_of : (views : List Known) (port : ℕ) (v : Known) → get_elem? views port ≡ some v → v.parts ≤ parts_in views
     part_of [] port v at = absurd (some-ne-none v (sym at))
@@ -214,7 +222,8 @@ module _ (v : Known) (s rest : List ℕ) (w : Known) (is : w ≡ known true all_
   pub none_stands : WasEmpty w → rest ≡ []
   none_stands empty = now_stand [] empty.0 empty.1 empty.2 empty.3
 
-pub took_next : (v w u : Known) (s : List ℕ) (x : ℕ) → w ≡ known true all_parts v.pushed (v.taken ++ s) → u ≡ known true w.parts w.pushed (w.taken ++ x ∷ []) → u ≡ known true all_parts v.pushed (v.taken ++ (s ++ x ∷ []))
+pub took_next : (v w u : Known) (s : List ℕ) (x : ℕ) → w ≡ known true all_parts v.pushed (v.taken ++ s)
+    → u ≡ known true w.parts w.pushed (w.taken ++ x ∷ []) → u ≡ known true all_parts v.pushed (v.taken ++ (s ++ x ∷ []))
 took_next v w u s x is took =
     took
     ∙ ap (λ (k : Known). known true k.parts k.pushed (k.taken ++ x ∷ [])) is

@@ -1,5 +1,6 @@
 -- What a pass knows after one of its shares has changed.
-use Rattle.std.proofs.Common.{◌≡◌, ◌≢◌, ◌<◌, ℕ, false, List, [], ◌+◌, zero, suc, ◌∷◌, ◌++◌, take, append_assoc, length, set, get_or, slice_index_or, sym, refl, ap, ◌∙◌, subst, length-set, get_or-set_other, get_or-set_same, arith}
+use Rattle.std.proofs.Common.{◌≡◌, ◌≢◌, ◌<◌, ℕ, false, List, [], ◌+◌, zero, suc, ◌∷◌, ◌++◌, take, append_assoc, length}
+use Rattle.std.proofs.Common.{set, get_or, slice_index_or, sym, refl, ap, ◌∙◌, subst, length-set, get_or-set_other, get_or-set_same, arith}
 use Rattle.std.specs.Prelude.{map}
 use Rattle.std.proofs.lemmas.List.{get_or-map, take_more}
 use Rattle.crossbeam_deque.specs.Handles.{view}
@@ -35,14 +36,16 @@ pub known_at : (ps : List OnePass) (number : ℕ) (p : OnePass) → number < len
 known_at ps number p inside is = get_or-map view ps number p (known false 0 [] []) inside ∙ ap view (sym is)
 
 -- for other deques nothing has changed
-pub keeps_others : (ps : List OnePass) (number : ℕ) (p : OnePass) (d : Deque) → d.0 ≢ number → (FitsIn d ps → FitsIn d (set ps number p)) × (known_in (set ps number p) d.0 ≡ known_in ps d.0)
+pub keeps_others : (ps : List OnePass) (number : ℕ) (p : OnePass) (d : Deque) → d.0 ≢ number → (FitsIn d ps → FitsIn d (set ps number p))
+    × (known_in (set ps number p) d.0 ≡ known_in ps d.0)
 keeps_others ps number p d apart = (
   (λ fits. (subst (λ n. d.0 < n) (sym (length-set ps number p)) fits.0, λ o. subst (IsShareOf d) (sym (get_or-set_other ps number d.0 p o apart)) (fits.1 o))),
   known_else ps number d.0 p apart,
 )
 
 -- what a call says of its share it says of what is known at its place
-pub said_at : (R : Known → Known → Type 0) (ps : List OnePass) (number : ℕ) (old new : OnePass) → number < length ps → old ≡ slice_index_or ps number old → R (view old) (view new) → R (known_in ps number) (known_in (set ps number new) number)
+pub said_at : (R : Known → Known → Type 0) (ps : List OnePass) (number : ℕ) (old new : OnePass) → number < length ps
+    → old ≡ slice_index_or ps number old → R (view old) (view new) → R (known_in ps number) (known_in (set ps number new) number)
 said_at R ps number old new inside is said = subst (R (known_in ps number)) (sym (known_here ps number new inside)) (subst (λ k. R k (view new)) (sym (known_at ps number old inside is)) said)
 
 -- a pass with one new share of each deque
@@ -73,7 +76,8 @@ front {A = A} n xs ys is = ap (λ m. take m (xs ++ ys)) is ∙ whole xs
     whole (z ∷ zs) = ap (λ l. z ∷ l) (whole zs)
 
 -- what all passes took so far, and one more
-pub taken_more : (d : Deque) (ps : List Pass) (i : ℕ) (p : Pass) (mine all theirs : List ℕ) → i < length ps → p ≡ slice_index_or ps i p → all ≡ mine ++ all_taken (map (taken_by d) (take i ps)) → theirs ≡ taken_by d p
+pub taken_more : (d : Deque) (ps : List Pass) (i : ℕ) (p : Pass) (mine all theirs : List ℕ) → i < length ps → p ≡ slice_index_or ps i p
+    → all ≡ mine ++ all_taken (map (taken_by d) (take i ps)) → theirs ≡ taken_by d p
     → all ++ theirs ≡ mine ++ all_taken (map (taken_by d) (take (i + 1) ps))
 taken_more d ps i p mine all theirs low is so_far this =
     ap (λ l. l ++ theirs) so_far

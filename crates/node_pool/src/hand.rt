@@ -103,7 +103,8 @@ impl Hand {
     /// life as it has room for; then the number comes back, and nothing changes. It waits for nobody.
     pub fn push(&mut self, number: u32) -> Result<(), (u32, PoolFault)>
         ensures rule { MatchResult result
-            (λ _. known_to self.new ≡ known true (known_to self.old).parts ((known_to self.old).pushed ++ number ∷ []) (known_to self.old).taken)
+            (λ _. known_to self.new ≡ known true (known_to self.old).parts
+            ((known_to self.old).pushed ++ number ∷ []) (known_to self.old).taken)
             (λ e. (e ≡ (number, Full)) × (known_to self.new ≡ known_to self.old)) }
         ensures full { MatchResult result
             (λ _. (self.new.pushes ≡ self.old.pushes + 1) × (self.old.pushes < self.old.room))
@@ -126,7 +127,9 @@ impl Hand {
     pub fn pop(&mut self) -> Option<u32>
         ensures rule { MatchOption result
             ((known_to self.new ≡ known_to self.old) × WasEmpty (known_to self.old))
-            (λ x. (known_to self.new ≡ known true (known_to self.old).parts (known_to self.old).pushed ((known_to self.old).taken ++ x ∷ [])) × StoodFirst (known_to self.old) (x ∷ [])) }
+            (λ x. (known_to self.new ≡ known true (known_to self.old).parts
+            (known_to self.old).pushed ((known_to self.old).taken ++ x ∷ []))
+            × StoodFirst (known_to self.old) (x ∷ [])) }
         ensures same { (deque_of self.new ≡ deque_of self.old) ×
             (self.new.others ≡ self.old.others) × (self.new.pushes ≡ self.old.pushes) ×
             (self.new.room ≡ self.old.room) }

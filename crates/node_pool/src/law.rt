@@ -79,7 +79,8 @@ impl Outcome<u32, Known> for Taken {
     ghost use Rattle.std.specs.Prelude.{◌≡◌, ◌++◌};
     ghost use Rattle.node_pool.specs.Law.{known, StoodFirst, WasEmpty};
 
-    ghost then = { λ v xs w. (w ≡ known v.pushes v.parts v.pushed (v.taken ++ xs)) × StoodFirst v xs };
+    ghost then = { λ v xs w. (w ≡ known v.pushes v.parts v.pushed (v.taken ++ xs))
+        × StoodFirst v xs };
 
     ghost empty = { WasEmpty };
 }

@@ -18,5 +18,10 @@ fitting_routes p (v ∷ vs) all (suc k) d h = fitting_routes p vs all.1 k d (ome
 pub one_more : (p : Problem) (routes : List (Vec ℕ Global)) (k : ℕ) (d : Vec ℕ Global) → k < length routes
     → plan_cost p (lists (take (k + 1) routes)) ≡ plan_cost p (lists (take k routes)) + route_cost p (get_or routes k d).items
 one_more p routes k d h =
-    rw (take_more routes k d h, map-append (λ (v : Vec ℕ Global). v.items) (take k routes) (get_or routes k d ∷ []), sum_by-append (route_cost p) (lists (take k routes)) ((get_or routes k d).items ∷ []))
+    rw (
+      take_more routes k d h,
+      map-append (λ (v : Vec ℕ Global). v.items) (take k routes) (get_or routes k d ∷ []),
+      sum_by-append (route_cost p)
+          (lists (take k routes)) ((get_or routes k d).items ∷ []),
+    )
     (omega arith)

@@ -28,7 +28,11 @@ impl<'i> Model for Feasible<'i> {
 
     ghost Value = { Solution };
 
-    ghost view = { λ f. record { problem = f.instance.now; routes = lists f.routes.items; cost = f.cost } };
+    ghost view = { λ f. record {
+      problem = f.instance.now;
+      routes = lists f.routes.items;
+      cost = f.cost;
+    } };
 
     ghost invariant = { λ f. IsSolution (record {
       problem = f.instance.now;

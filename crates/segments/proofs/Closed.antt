@@ -133,7 +133,8 @@ closed_is p (j ∷ q) s h known k =
         let e : true ≡ false = sym both ∙ y in cc
 
     by_leaving : (o : Option ℤ) → left_from p j q (pos (ready p 0 + distance p 0 j)) ≡ o
-        → IsCostOf p (j ∷ q) (option_and_then (λ u. if nat_le s.load p.capacity && int_le (u +ℤ pos (distance p (last_from j q) 0)) (pos (due p 0)) then Some (distance p 0 j + s.cost + distance p (last_from j q) 0) else None) o)
+        → IsCostOf p (j ∷ q) (option_and_then (λ u. if nat_le s.load p.capacity && int_le (u +ℤ pos (distance p (last_from j q) 0)) (pos (due p 0))
+        then Some (distance p 0 j + s.cost + distance p (last_from j q) 0) else None) o)
     by_leaving None left = λ fit. let w = off p j q fit.walk in let e : None ≡ Some (pos w.0) = sym left ∙ w.1 in absurd (grind arith)
     by_leaving (Some u) left =
         by_test u left (nat_le s.load p.capacity && int_le (u +ℤ pos (distance p (last_from j q) 0)) (pos (due p 0))) refl

@@ -41,7 +41,8 @@ remove-all P (y ∷ ys) (suc i) all = (all.0, remove-all P ys i all.1)
 pub routes_pushed : (ts : List (RouteTree Summary)) (t : RouteTree Summary) → map items_of (ts ++ (t ∷ [])) ≡ map items_of ts ++ (items_of t ∷ [])
 routes_pushed ts t = map-append items_of ts (t ∷ [])
 
-pub trees_pushed : (p : Problem) (ts : List (RouteTree Summary)) (t : RouteTree Summary) → AllByRecursion (IsTree (join p)) ts → IsTree (join p) t → AllByRecursion (IsTree (join p)) (ts ++ (t ∷ []))
+pub trees_pushed : (p : Problem) (ts : List (RouteTree Summary)) (t : RouteTree Summary) → AllByRecursion (IsTree (join p)) ts → IsTree (join p) t
+    → AllByRecursion (IsTree (join p)) (ts ++ (t ∷ []))
 trees_pushed p ts t all h = push-all (IsTree (join p)) ts t all h
 
 pub routes_removed : (ts : List (RouteTree Summary)) (r : ℕ) → map items_of (remove ts r) ≡ remove (map items_of ts) r

@@ -32,11 +32,36 @@ impl Model for Segment {
 
     ghost Value = { Summary };
 
-    ghost view = { λ a. record { load = a.load; cost = a.cost; first = a.first; last = a.last; latest = a.latest; duration = a.duration; earliest = a.earliest } };
+    ghost view = { λ a. record {
+      load = a.load;
+      cost = a.cost;
+      first = a.first;
+      last = a.last;
+      latest = a.latest;
+      duration = a.duration;
+      earliest = a.earliest;
+    } };
 
-    ghost invariant = { λ a. IsBounded (record { load = a.load; cost = a.cost; first = a.first; last = a.last; latest = a.latest; duration = a.duration; earliest = a.earliest }) };
+    ghost invariant = { λ a. IsBounded
+        (record {
+          load = a.load;
+          cost = a.cost;
+          first = a.first;
+          last = a.last;
+          latest = a.latest;
+          duration = a.duration;
+          earliest = a.earliest;
+        }) };
 
-    ghost inverse = { λ s. record { load = s.load; cost = s.cost; first = s.first; last = s.last; latest = s.latest; duration = s.duration; earliest = s.earliest } };
+    ghost inverse = { λ s. record {
+      load = s.load;
+      cost = s.cost;
+      first = s.first;
+      last = s.last;
+      latest = s.latest;
+      duration = s.duration;
+      earliest = s.earliest;
+    } };
 }
 
 impl Segment {

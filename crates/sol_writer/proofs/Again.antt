@@ -1,5 +1,6 @@
 -- The text of a solution is read as that solution; so two solutions with one text are one.
-use Rattle.std.proofs.Common.{◌≡◌, ℕ, ◌+◌, ◌≤◌, ◌<◌, ◌^◌, Bool, true, false, List, [], ◌∷◌, ◌++◌, length, map, Ok, refl, sym, ap, ◌∙◌, append_assoc, arith, lit<}
+use Rattle.std.proofs.Common.{◌≡◌, ℕ, ◌+◌, ◌≤◌, ◌<◌, ◌^◌, Bool, true, false, List, []}
+use Rattle.std.proofs.Common.{◌∷◌, ◌++◌, length, map, Ok, refl, sym, ap, ◌∙◌, append_assoc, arith, lit<}
 use Rattle.std.specs.Prelude.{nat_le, nat_lt, ◌&&◌, ◌==◌, codes, decimal}
 use Rattle.std.specs.Int.{IsInRange}
 use Rattle.std.specs.List.{AllByRecursion}
@@ -86,11 +87,13 @@ more_lines : (k : ℕ) (rs : List (List ℕ)) (t : ℕ) → (m : List ℕ) × (p
 more_lines k [] t = (cost_text t, [] ∷ [], refl)
 more_lines k (r ∷ rs) t = (route_text k r, route_list (k + 1) rs ++ (cost_text t ∷ [] ∷ []), refl)
 
-sol_at-route : (k : ℕ) (l : List ℕ) (ps : List (List ℕ)) (r : List ℕ) (u : List (List ℕ) × ℕ) (m : List ℕ) (qs : List (List ℕ)) → ps ≡ m ∷ qs → is_cost k l ≡ false → route_at k l ≡ Ok r → sol_at (k + 1) ps ≡ Ok u → sol_at k (l ∷ ps) ≡ Ok (r ∷ u.0, u.1)
+sol_at-route : (k : ℕ) (l : List ℕ) (ps : List (List ℕ)) (r : List ℕ) (u : List (List ℕ) × ℕ) (m : List ℕ) (qs : List (List ℕ)) → ps ≡ m ∷ qs
+    → is_cost k l ≡ false → route_at k l ≡ Ok r → sol_at (k + 1) ps ≡ Ok u → sol_at k (l ∷ ps) ≡ Ok (r ∷ u.0, u.1)
 unfolding sol_at
 sol_at-route k l ps r u m qs e f g h = let i = rw e at h in rw (e, f, g, i) refl
 
-pub sol_again : (k : ℕ) (rs : List (List ℕ)) (t : ℕ) → 2 ≤ k + length rs → t < 10 ^ 13 → AllByRecursion IsRoute rs → sol_at k (route_list k rs ++ (cost_text t ∷ [] ∷ [])) ≡ Ok (rs, t)
+pub sol_again : (k : ℕ) (rs : List (List ℕ)) (t : ℕ) → 2 ≤ k + length rs → t < 10 ^ 13 → AllByRecursion IsRoute rs
+    → sol_at k (route_list k rs ++ (cost_text t ∷ [] ∷ [])) ≡ Ok (rs, t)
 unfolding sol_at
 sol_again k [] t ge h a = rw (is_cost_again k t (omega arith), cost_again k t h) refl
 sol_again k (r ∷ rs) t ge h a =

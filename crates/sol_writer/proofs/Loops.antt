@@ -1,5 +1,6 @@
 -- Reading words and lines one after the other, as the loops do.
-use Rattle.std.proofs.Common.{◌≡◌, ℕ, suc, ◌+◌, ◌<◌, Bool, true, false, List, [], ◌∷◌, ◌++◌, length, take, drop, Some, None, Result, Ok, Err, refl, sym, ap, ◌∙◌, append_assoc, arith, Vec, nat_eq, ◌&&◌}
+use Rattle.std.proofs.Common.{◌≡◌, ℕ, suc, ◌+◌, ◌<◌, Bool, true, false, List, [], ◌∷◌, ◌++◌, length, take}
+use Rattle.std.proofs.Common.{drop, Some, None, Result, Ok, Err, refl, sym, ap, ◌∙◌, append_assoc, arith, Vec, nat_eq, ◌&&◌}
 use Rattle.std.specs.declared.alloc.Global.{Global}
 use Rattle.std.specs.Str.{bytes_eq}
 use Rattle.std.proofs.lemmas.List.{append-nil}
@@ -33,7 +34,8 @@ with_routes front read = read >>= λ s. Ok (front ++ s.0, s.1)
 
 -- ---- steps of the loops
 
-pub customers_more : (k c : ℕ) (front w : List ℕ) (ws : List (List ℕ)) (total : Result (List ℕ) SolFault) → customer_at k w ≡ Ok c → with_customers front (customers_at k (w ∷ ws)) ≡ total
+pub customers_more : (k c : ℕ) (front w : List ℕ) (ws : List (List ℕ)) (total : Result (List ℕ) SolFault) → customer_at k w ≡ Ok c
+    → with_customers front (customers_at k (w ∷ ws)) ≡ total
     → with_customers (front ++ (c ∷ [])) (customers_at k ws) ≡ total
 unfolding customers_at
 customers_more k c front w ws total h so_far = sym (regroup (customers_at k ws)) ∙ so_far_is
@@ -45,7 +47,8 @@ customers_more k c front w ws total h so_far = sym (regroup (customers_at k ws))
     so_far_is : with_customers front (customers_at k ws >>= λ cs. Ok (c ∷ cs)) ≡ total
     so_far_is = let s = rw h at so_far in s
 
-pub customers_fail : (k : ℕ) (front w : List ℕ) (ws : List (List ℕ)) (e : SolFault) (total : Result (List ℕ) SolFault) → customer_at k w ≡ Err e → with_customers front (customers_at k (w ∷ ws)) ≡ total → total ≡ Err e
+pub customers_fail : (k : ℕ) (front w : List ℕ) (ws : List (List ℕ)) (e : SolFault) (total : Result (List ℕ) SolFault) → customer_at k w ≡ Err e
+    → with_customers front (customers_at k (w ∷ ws)) ≡ total → total ≡ Err e
 unfolding customers_at
 customers_fail k front w ws e total h so_far = sym so_far ∙ rw h refl
 
@@ -73,14 +76,16 @@ step_of k (p ∷ m ∷ ps) l new h = let e : (p, (k + 1, m ∷ ps)) ≡ (l, new)
     record { more = m; others = ps; old_is = ap (λ (x : List ℕ). x ∷ m ∷ ps) f; new_is = sym (ap (λ (x : List ℕ × Left). x.1) e) }
 
 -- no line is ended
-pub no_line : (k : ℕ) (ps : List (List ℕ)) (front : List (List ℕ)) (total : Result (List (List ℕ) × ℕ) SolFault) → line_at (k, ps) ≡ None → with_routes front (sol_at k ps) ≡ total → total ≡ Err Truncated
+pub no_line : (k : ℕ) (ps : List (List ℕ)) (front : List (List ℕ)) (total : Result (List (List ℕ) × ℕ) SolFault) → line_at (k, ps) ≡ None
+    → with_routes front (sol_at k ps) ≡ total → total ≡ Err Truncated
 unfolding sol_at
 no_line k [] front total h so_far = sym so_far
 no_line k (p ∷ []) front total h so_far = sym so_far
 no_line k (p ∷ m ∷ ps) front total h so_far = absurd cc
 
 -- the line that was read, with its number as the code has it
-module _ (k n : ℕ) (ps : List (List ℕ)) (l : List ℕ) (new : Left) (front : List (List ℕ)) (total : Result (List (List ℕ) × ℕ) SolFault) (same : n ≡ k) (step : line_at (k, ps) ≡ Some (l, new)) (so_far : with_routes front (sol_at k ps) ≡ total) where
+module _ (k n : ℕ) (ps : List (List ℕ)) (l : List ℕ) (new : Left) (front : List (List ℕ)) (total : Result (List (List ℕ) × ℕ) SolFault) (same : n ≡ k)
+    (step : line_at (k, ps) ≡ Some (l, new)) (so_far : with_routes front (sol_at k ps) ≡ total) where
   pub route_more : (r : List ℕ) → is_cost n l ≡ false → route_at n l ≡ Ok r → with_routes (front ++ (r ∷ [])) (sol_at new.0 new.1) ≡ total
   unfolding sol_at
   route_more r not_cost h =
@@ -133,14 +138,16 @@ shorter k ps l new step =
 
 -- ---- a colon
 
-pub colon_then : (digits text front back : List ℕ) (r : Bool) → front ≡ take (length digits) text → back ≡ drop (length digits) text → bytes_eq front digits ≡ true → r ≡ bytes_eq back (58 ∷ []) → r ≡ bytes_eq text (digits ++ (58 ∷ []))
+pub colon_then : (digits text front back : List ℕ) (r : Bool) → front ≡ take (length digits) text → back ≡ drop (length digits) text
+    → bytes_eq front digits ≡ true → r ≡ bytes_eq back (58 ∷ []) → r ≡ bytes_eq text (digits ++ (58 ∷ []))
 colon_then digits text front back r f b same e =
     let h = colon_after digits text in
     let s : bytes_eq (take (length digits) text) digits ≡ true = rw (← f) same in
     let g = rw (s, ← b) at h in
     e ∙ g
 
-pub colon_else : (digits text front : List ℕ) (r : Bool) → front ≡ take (length digits) text → r ≡ bytes_eq front digits → bytes_eq front digits ≡ false → r ≡ bytes_eq text (digits ++ (58 ∷ []))
+pub colon_else : (digits text front : List ℕ) (r : Bool) → front ≡ take (length digits) text → r ≡ bytes_eq front digits
+    → bytes_eq front digits ≡ false → r ≡ bytes_eq text (digits ++ (58 ∷ []))
 colon_else digits text front r f e other =
     let h = colon_after digits text in
     let s : bytes_eq (take (length digits) text) digits ≡ false = rw (← f) other in

@@ -1,5 +1,6 @@
 -- What is read has this very text.
-use Rattle.std.proofs.Common.{◌≡◌, ℕ, ◌+◌, ◌≤◌, ◌<◌, ◌^◌, Bool, true, false, cond, List, [], ◌∷◌, ◌++◌, length, map, Option, Some, None, Ok, refl, sym, ap, subst, ◌∙◌, append_assoc, arith, lit≤}
+use Rattle.std.proofs.Common.{◌≡◌, ℕ, ◌+◌, ◌≤◌, ◌<◌, ◌^◌, Bool, true, false, cond, List, [], ◌∷◌, ◌++◌}
+use Rattle.std.proofs.Common.{length, map, Option, Some, None, Ok, refl, sym, ap, subst, ◌∙◌, append_assoc, arith, lit≤}
 use Rattle.std.specs.Prelude.{nat_le, nat_lt, ◌&&◌, codes, decimal}
 use Rattle.std.specs.Int.{IsInRange}
 use Rattle.std.specs.List.{AllByRecursion}
@@ -23,7 +24,8 @@ use Rattle.sol_writer.specs.Reading.{customer_at, customers_at, fixed_at, some_c
 
 -- ---- words
 
-customer_takes : (k : ℕ) (w : List ℕ) (o : Option ℕ) (c : ℕ) → number_of w ≡ o → (value_or (BadLine k) o >>= λ c. check (nat_le 1 c && nat_le c 9999) (BadLine k) c) ≡ Ok c → (w ≡ decimal c) × IsInRange 1 9999 c
+customer_takes : (k : ℕ) (w : List ℕ) (o : Option ℕ) (c : ℕ) → number_of w ≡ o
+    → (value_or (BadLine k) o >>= λ c. check (nat_le 1 c && nat_le c 9999) (BadLine k) c) ≡ Ok c → (w ≡ decimal c) × IsInRange 1 9999 c
 customer_takes k w None c e h = absurd cc
 customer_takes k w (Some m) c e h =
     let t = test_ok (nat_le 1 m && nat_le m 9999) (BadLine k) m c h in
@@ -111,10 +113,12 @@ cost_read k l ps s is h =
     let made : IsRead k (l ∷ ps) ([], a.0) = record { lines = lines; each = tt; within = c.1; some = omega (arith, second k l is) } in
     subst (λ (x : List (List ℕ) × ℕ). IsRead k (l ∷ ps) x) t.1 made
 
-route_read : (k : ℕ) (l : List ℕ) (ps : List (List ℕ)) (s : List (List ℕ) × ℕ) (r : List ℕ) (u : List (List ℕ) × ℕ) → 1 ≤ k → route_at k l ≡ Ok r → IsRead (k + 1) ps u → (r ∷ u.0, u.1) ≡ s → IsRead k (l ∷ ps) s
+route_read : (k : ℕ) (l : List ℕ) (ps : List (List ℕ)) (s : List (List ℕ) × ℕ) (r : List ℕ) (u : List (List ℕ) × ℕ) → 1 ≤ k → route_at k l ≡ Ok r
+    → IsRead (k + 1) ps u → (r ∷ u.0, u.1) ≡ s → IsRead k (l ∷ ps) s
 route_read k l ps s r u ge h i e =
     let t = route_takes k l r h in
-    let lines : (l ∷ ps) ≡ route_text k r ∷ (route_list (k + 1) u.0 ++ (cost_text u.1 ∷ [] ∷ [])) = ap (λ (x : List ℕ). x ∷ ps) t.0 ∙ ap (λ (x : List (List ℕ)). route_text k r ∷ x) i.lines in
+    let lines : (l ∷ ps) ≡ route_text k r ∷ (route_list (k + 1) u.0 ++ (cost_text u.1 ∷ [] ∷ [])) = ap (λ (x : List ℕ). x ∷ ps) t.0
+    ∙ ap (λ (x : List (List ℕ)). route_text k r ∷ x) i.lines in
     let made : IsRead k (l ∷ ps) (r ∷ u.0, u.1) = record { lines = lines; each = (t.1, i.each); within = i.within; some = omega arith } in
     subst (λ (x : List (List ℕ) × ℕ). IsRead k (l ∷ ps) x) e made
 
@@ -135,5 +139,8 @@ sol_takes k (l ∷ m ∷ ps) s ge h = chosen (is_cost k l) refl h (λ u. sol_tak
 pub reading_takes : (text : List ℕ) (s : List (List ℕ) × ℕ) → reading text ≡ Ok s → IsSolution s.0 s.1 × (text ≡ lines_text s.0 s.1)
 reading_takes text s h =
     let i = sol_takes 1 (parts 10 text) s (lit≤ tt) h in
-    let grouped : route_list 1 s.0 ++ (cost_text s.1 ∷ [] ∷ []) ≡ solution_lines s.0 s.1 ++ ([] ∷ []) = sym (append_assoc (route_list 1 s.0) (cost_text s.1 ∷ []) ([] ∷ [])) in
-    (record { some = omega (arith, i.some); each = i.each; within = omega (arith, i.within) }, sym (joined-parts 10 text) ∙ ap (λ (x : List (List ℕ)). joined 10 x) (i.lines ∙ grouped) ∙ joined-lines (solution_lines s.0 s.1))
+    let grouped : route_list 1 s.0 ++ (cost_text s.1 ∷ [] ∷ []) ≡ solution_lines s.0 s.1 ++ ([] ∷ []) = sym (append_assoc (route_list 1 s.0) (cost_text s.1 ∷ []) ([] ∷ [])) in (
+      record { some = omega (arith, i.some); each = i.each; within = omega (arith, i.within) },
+      sym (joined-parts 10 text)
+          ∙ ap (λ (x : List (List ℕ)). joined 10 x) (i.lines ∙ grouped) ∙ joined-lines (solution_lines s.0 s.1),
+    )

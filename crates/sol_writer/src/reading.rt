@@ -145,7 +145,8 @@ pub fn read(alloc: Global, text: &[u8]) -> Result<Sol, SolFault>
     // The text is that of what is read.
     ensures found { IfOk result (λ s. IsSolutionText text.now (lists s.routes.items) s.cost) }
     // Each text of a solution is read, unless memory runs out.
-    ensures only { (routes : List (List ℕ)) (cost : ℕ) → IsSolution routes cost → text.now ≡ solution_text routes cost → Gives view result (Ok (routes, cost)) }
+    ensures only { (routes : List (List ℕ)) (cost : ℕ) → IsSolution routes cost
+        → text.now ≡ solution_text routes cost → Gives view result (Ok (routes, cost)) }
     // Which fault it is, unless memory ran out.
     ensures exact { Gives view result (reading text.now) }
 {

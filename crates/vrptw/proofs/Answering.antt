@@ -37,7 +37,8 @@ module _ (p : Problem) (k : ℕ) (A B : Type 0) (s s' c c' : Held) (why : A → 
 
 -- ---- a run
 
-pub solved : (text : List ℕ) (settings : Settings) (p : Problem) (plan : Option Solution) (bound : ℕ) (s s' c c' : Held) → IsInstance text p → IsWithin settings → (plan ≡ None → ¬ IsServedAlone p)
+pub solved : (text : List ℕ) (settings : Settings) (p : Problem) (plan : Option Solution) (bound : ℕ) (s s' c c' : Held) → IsInstance text p
+    → IsWithin settings → (plan ≡ None → ¬ IsServedAlone p)
     → (r : Result Answer SolveFault) → WritesFound p settings.neighbours plan bound s s' c c' r → Solves text settings s s' c c' r
 solved text settings p plan bound s s' c c' is within why (Ok answer) (answers, of) =
     (p, is, within, answers_why p settings.neighbours (plan ≡ None) (¬ IsServedAlone p) s s' c c' why answer answers)
@@ -46,7 +47,8 @@ solved text settings p plan bound s s' c c' is within why (Err e) (inr (same, br
     rw same (p, is, within, breaks_why p settings.neighbours (plan ≡ None) (¬ IsServedAlone p) s s' c c' why breaks)
 
 -- a run's fault comes before the first write
-pub refused : (text : List ℕ) (settings : Settings) (p : Problem) (s c : Held) → IsInstance text p → (fault : RunFault) (told : SolveFault) → RefusesSettings settings fault → IsFaultOfRun fault told
+pub refused : (text : List ℕ) (settings : Settings) (p : Problem) (s c : Held) → IsInstance text p → (fault : RunFault) (told : SolveFault)
+    → RefusesSettings settings fault → IsFaultOfRun fault told
     → Solves text settings s s c c (Err told)
 refused text settings p s c is run.Memory told within same = rw same (refl, refl)
 refused text settings p s c is run.BadSettings told outside same = rw same ((p, is), outside, refl, refl)

@@ -19,7 +19,8 @@ module _ (b : Contents) (book : IsBook b) (tree : Tree) (is_tree : IsTreeOf b tr
   pub few_neighbours : b.neighbours ≤ MOST_NEIGHBOURS
   few_neighbours = let l = leaf_of b.past b.prices 0 tree is_tree.grows in (book.leaves l.0 l.1).few
 
-  pub outcome_tree : (bound : ℕ) → IsBound b.problem b.root b.past bound → (nodes : List TreeNode) → map node_of nodes ≡ preorder tree → IsListedTree b.problem b.neighbours nodes bound (leaf_count tree)
+  pub outcome_tree : (bound : ℕ) → IsBound b.problem b.root b.past bound → (nodes : List TreeNode) → map node_of nodes ≡ preorder tree
+      → IsListedTree b.problem b.neighbours nodes bound (leaf_count tree)
   outcome_tree bound is_bound nodes same = record {
     tree = tree;
     listed = same;

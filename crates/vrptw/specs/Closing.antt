@@ -51,7 +51,8 @@ NeedsMoreLeaves p k limit = (cost : Option ℕ) × ((bound : ℕ) × ((nodes : L
 
 -- What becomes of the text of an instance that is to be closed: each refusal is the first that holds, and all but the last come before the first write.
 abbrev pub Closes : List ℕ → Settings → ℕ → Held → Held → Held → Held → Result Answer SolveFault → Type 0
-Closes text settings limit s s' c c' (Ok answer) = (p : Problem) × IsInstance text p × AreWithin settings limit × (customer_count p ≤ MOST_CLOSED) × ClosesWith p settings.neighbours s s' c c' answer
+Closes text settings limit s s' c c' (Ok answer) = (p : Problem) × IsInstance text p × AreWithin settings limit × (customer_count p ≤ MOST_CLOSED)
+    × ClosesWith p settings.neighbours s s' c c' answer
 Closes text settings limit s s' c c' (Err fault.Memory) = (s' ≡ s) × (c' ≡ c)
 Closes text settings limit s s' c c' (Err (fault.Instance f)) = (reading (words text) ≡ Err f) × (f ≢ read.Memory) × (s' ≡ s) × (c' ≡ c)
 Closes text settings limit s s' c c' (Err fault.BadSettings) = ((p : Problem) × IsInstance text p) × (¬ AreWithin settings limit) × (s' ≡ s) × (c' ≡ c)
@@ -59,4 +60,5 @@ Closes text settings limit s s' c c' (Err fault.TooLarge) = (p : Problem) × IsI
 Closes text settings limit s s' c c' (Err fault.LeafLimit) = (p : Problem) × IsInstance text p × AreWithin settings limit × NeedsMoreLeaves p settings.neighbours limit × (s' ≡ s) × (c' ≡ c)
 Closes text settings limit s s' c c' (Err fault.LabelLimit) = ⊥
 Closes text settings limit s s' c c' (Err fault.NoThread) = ⊥
-Closes text settings limit s s' c c' (Err fault.Device) = (p : Problem) × IsInstance text p × AreWithin settings limit × (customer_count p ≤ MOST_CLOSED) × Breaks p settings.neighbours (HasNoPlan p) s s' c c'
+Closes text settings limit s s' c c' (Err fault.Device) = (p : Problem) × IsInstance text p × AreWithin settings limit
+    × (customer_count p ≤ MOST_CLOSED) × Breaks p settings.neighbours (HasNoPlan p) s s' c c'

@@ -35,7 +35,8 @@ fn close_instance<'i, X: Sink, Y: Sink>(
     certificate: &mut Y,
 ) -> Result<Answer, SolveFault>
     requires { IfSome start (IsPlanAt instance.now) }
-    ensures closed { (text : List ℕ) → IsInstance text instance.now → Closes text settings.now leaf_limit
+    ensures closed { (text : List ℕ) → IsInstance text instance.now
+        → Closes text settings.now leaf_limit
         (X.held solution.old) (X.held solution.new)
         (Y.held certificate.old) (Y.held certificate.new) result }
     ensures at_most { IfOk result (λ a. IfSome start.entry (λ f. IsAtMost f.cost a)) }

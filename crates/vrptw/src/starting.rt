@@ -78,7 +78,8 @@ pub(crate) fn read_start<'i>(
     text: Option<&[u8]>,
 ) -> Result<Option<Feasible<'i>>, StartFault>
     ensures found { IfOk result (IsStart instance.now (option_map (λ t. t.now) text.entry)) }
-    ensures refused { IfErr result (IsStartFault instance.now (option_map (λ t. t.now) text.entry)) }
+    ensures refused { IfErr result
+        (IsStartFault instance.now (option_map (λ t. t.now) text.entry)) }
 {
     let Some(text) = text else {
         return Ok(None);

@@ -75,7 +75,8 @@ fn write_both<X: Sink, Y: Sink>(
     solution: &mut X,
     certificate: &mut Y,
 ) -> Result<Answer, SolveFault>
-    requires plan { IfSome plan (λ f. (f.problem ≡ instance.now) × IsLocalOptimum f.problem f.routes) }
+    requires plan { IfSome plan (λ f. (f.problem ≡ instance.now)
+        × IsLocalOptimum f.problem f.routes) }
     requires certified { IsCertified instance.now neighbours cert.now }
     ensures { WritesFound instance.now neighbours plan.entry cert.now.bound
         (X.held solution.old) (X.held solution.new)

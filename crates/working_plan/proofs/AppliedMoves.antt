@@ -82,7 +82,8 @@ applied old new routes later m v c cost next r first count g h t plan visits exa
         (short ∙ ap length (sym visits)) (long ∙ ap length (sym is)) follows (subst (λ p. AreKept p (visits_of old) g) (sym same) gains)
 
 -- where none was made the plan is as it was
-pub none_applied : (old new : PlanTrees) (routes later : List (List ℕ)) (cost : ℕ) (g : PairGains) (t : RouteGaps) → AreOfPlan old → visits_of old ≡ routes → cost ≡ plan_cost (problem_of old) routes → AreKept (problem_of old) (visits_of old) g → AreGapsOf (problem_of old) (visits_of old) t
+pub none_applied : (old new : PlanTrees) (routes later : List (List ℕ)) (cost : ℕ) (g : PairGains) (t : RouteGaps) → AreOfPlan old
+    → visits_of old ≡ routes → cost ≡ plan_cost (problem_of old) routes → AreKept (problem_of old) (visits_of old) g → AreGapsOf (problem_of old) (visits_of old) t
     → problem_of new ≡ problem_of old → later ≡ routes → AreTreesOf later new
     → AreOfPlan new × (visits_of new ≡ later) × (cost ≡ plan_cost (problem_of new) later) × AreKept (problem_of new) (visits_of new) g × AreGapsOf (problem_of new) (visits_of new) t
 none_applied old new routes later cost g t plan visits exact gains gaps same e trees = (
@@ -97,7 +98,8 @@ none_applied old new routes later cost g t plan visits exact gains gaps same e t
     is = visits_are new (problem_of new) later trees.stops
 
 -- the routes of a plan visit customers of the same instance
-pub customers_of : (p q : Problem) (visits : List (List ℕ)) (routes : List (Vec ℕ Global)) → IsPlan q visits → visits ≡ lists routes → p ≡ q → All (λ r. All (λ i. IsCustomer p i) r.items) routes
+pub customers_of : (p q : Problem) (visits : List (List ℕ)) (routes : List (Vec ℕ Global)) → IsPlan q visits → visits ≡ lists routes → p ≡ q
+    → All (λ r. All (λ i. IsCustomer p i) r.items) routes
 customers_of p q visits routes plan e same =
     let here : IsPlan p (lists routes) = subst (λ x. IsPlan x (lists routes)) (sym same) (subst (IsPlan q) e plan) in
     known_routes p routes here.fitting

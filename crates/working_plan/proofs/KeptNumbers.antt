@@ -1,5 +1,6 @@
 -- The numbers of the routes that are kept of a plan in which two were replaced.
-use Rattle.std.proofs.Common.{◌≡◌, ◌≢◌, refl, sym, ap, subst, ◌∙◌, ℕ, zero, suc, ◌<◌, ◌≤◌, Bool, true, false, not, List, [], ◌∷◌, ◌++◌, length, get_or, set, arith, inl, inr, get_or-set_other}
+use Rattle.std.proofs.Common.{◌≡◌, ◌≢◌, refl, sym, ap, subst, ◌∙◌, ℕ, zero, suc, ◌<◌, ◌≤◌, Bool, true}
+use Rattle.std.proofs.Common.{false, not, List, [], ◌∷◌, ◌++◌, length, get_or, set, arith, inl, inr, get_or-set_other}
 use Rattle.std.specs.List.{AllByRecursion}
 use Rattle.std.proofs.lemmas.Bool.{cases_lt}
 use Rattle.solomon_reader.specs.Problem.{Problem}
@@ -29,7 +30,8 @@ skip_suc true n c = refl
 skip_suc false n c = refl
 
 -- where one route is replaced
-one : (routes : List (List ℕ)) (b : ℕ) (y : List ℕ) → StandBut routes b → b < length routes → (c : ℕ) → get_or (kept (set routes b y)) c [] ≡ get_or (set routes b y) (skip_if (gone y) b c) []
+one : (routes : List (List ℕ)) (b : ℕ) (y : List ℕ) → StandBut routes b → b < length routes → (c : ℕ)
+    → get_or (kept (set routes b y)) c [] ≡ get_or (set routes b y) (skip_if (gone y) b c) []
 one [] b y s h c = absurd (omega (arith, h))
 one (r ∷ routes) zero [] s h c = ap (λ q. get_or q c []) (kept_all routes s)
 one (r ∷ routes) zero (j ∷ y) s h c = ap (λ q. get_or ((j ∷ y) ∷ q) c []) (kept_all routes s)

@@ -40,9 +40,16 @@ impl<'i> Model for WorkingPlan<'i> {
 
     ghost Value = { Solution };
 
-    ghost view = { λ w. record { problem = problem_of w.trees; routes = lists w.routes.items; cost = w.cost } };
+    ghost view = { λ w. record {
+      problem = problem_of w.trees;
+      routes = lists w.routes.items;
+      cost = w.cost;
+    } };
 
-    ghost invariant = { λ w. AreOfPlan w.trees × (visits_of w.trees ≡ lists w.routes.items) × (w.cost ≡ plan_cost (problem_of w.trees) (lists w.routes.items)) × AreKept (problem_of w.trees) (visits_of w.trees) w.gains × AreGapsOf (problem_of w.trees) (visits_of w.trees) w.gaps };
+    ghost invariant = { λ w. AreOfPlan w.trees × (visits_of w.trees ≡ lists w.routes.items)
+        × (w.cost ≡ plan_cost (problem_of w.trees) (lists w.routes.items))
+        × AreKept (problem_of w.trees) (visits_of w.trees) w.gains
+        × AreGapsOf (problem_of w.trees) (visits_of w.trees) w.gaps };
 }
 
 /// A copy of routes.

@@ -56,4 +56,5 @@ returns c =
     let count : vec_len c.loop-other.others ≡ 0 = search rules in
     let sum = was.4 in
     let far : IsAsFar first (mine ∷ []) (account c.args.seat.me.0 ∷ accounts_of c.args.others.items) = rw empty at was.5 in
-    obeys_as_far first _ _ _ far (ends _ _ c.loop-other.seat.me.0 c.word-cost.result c.word-bound.result _ _ (omega arith) c.close_with-closed.ensures.values.2 c.word-cost.ensures c.word-bound.ensures)
+    obeys_as_far first _ _ _ far (ends _ _ c.loop-other.seat.me.0 c.word-cost.result c.word-bound.result _ _ (omega arith)
+    c.close_with-closed.ensures.values.2 c.word-cost.ensures c.word-bound.ensures)

@@ -18,19 +18,22 @@ pub returns-then-remaining-eq0-clause-exact : goal.returns-then-remaining-eq0-cl
 returns-then-remaining-eq0-clause-exact t c =
     let s = c.args.remaining.now in
     let e = rw c.as_slice.ensures.value at (sym c.is_leaf_of.ensures ∙ c.if-not-is_leaf_of.false) in
-    no_more_leaves s.size c.args.left s.path.items s.leaves s.nodes.now c.in-Some.node.now c.in-Some.rest.now c.in-Some.ensures.cases.0 c.in-Leaf.prices.items (rw c.in-Leaf.is refl) e c.if-remaining-eq0.true
+    no_more_leaves s.size c.args.left s.path.items s.leaves s.nodes.now c.in-Some.node.now c.in-Some.rest.now c.in-Some.ensures.cases.0
+    c.in-Leaf.prices.items (rw c.in-Leaf.is refl) e c.if-remaining-eq0.true
 
 pub returns-then-left-eq0-clause-exact : goal.returns-then-left-eq0-clause-exact
 returns-then-left-eq0-clause-exact t c =
     let s = c.args.remaining.now in
-    too_deep s.size c.args.left s.path.items s.leaves s.nodes.now c.in-Some.node.now c.in-Some.rest.now c.in-Some.ensures.cases.0 (c.in-Split.from, c.in-Split.to) (rw c.in-Split.is refl) c.if-left-eq0.true
+    too_deep s.size c.args.left s.path.items s.leaves s.nodes.now c.in-Some.node.now c.in-Some.rest.now c.in-Some.ensures.cases.0
+    (c.in-Split.from, c.in-Split.to) (rw c.in-Split.is refl) c.if-left-eq0.true
 
 pub returns-then-not-is_open_arc-clause-exact : goal.returns-then-not-is_open_arc-clause-exact
 returns-then-not-is_open_arc-clause-exact t c =
     let s = c.args.remaining.now in
     let some : c.args.left ≡ suc (c.args.left - 1) = omega (arith, c.if-left-eq0.false) in
     let e = rw c.as_slice-in-Split.ensures.value at (sym c.is_open_arc.ensures ∙ c.if-not-is_open_arc.true) in
-    not_open s.size c.args.left s.path.items s.leaves s.nodes.now c.in-Some.node.now c.in-Some.rest.now c.in-Some.ensures.cases.0 (c.in-Split.from, c.in-Split.to) (rw c.in-Split.is refl) (c.args.left - 1) some e
+    not_open s.size c.args.left s.path.items s.leaves s.nodes.now c.in-Some.node.now c.in-Some.rest.now c.in-Some.ensures.cases.0
+    (c.in-Split.from, c.in-Split.to) (rw c.in-Split.is refl) (c.args.left - 1) some e
 
 pub returns-then-not-branch-clause-exact : goal.returns-then-not-branch-clause-exact
 returns-then-not-branch-clause-exact t c =
@@ -38,7 +41,8 @@ returns-then-not-branch-clause-exact t c =
     let some : c.args.left ≡ suc (c.args.left - 1) = omega (arith, c.if-left-eq0.false) in
     let e = rw c.as_slice-in-Split.ensures.value at (sym c.is_open_arc.ensures ∙ c.if-not-is_open_arc.false) in
     let f = rw c.in_ok-push-in-Split.ensures.items at c.in_ok-take_tree-in-Split.ensures.exact in
-    no_first s.size c.args.left s.path.items s.leaves s.nodes.now c.in-Some.node.now c.in-Some.rest.now c.in-Some.ensures.cases.0 (c.in-Split.from, c.in-Split.to) (rw c.in-Split.is refl) (c.args.left - 1) some e
+    no_first s.size c.args.left s.path.items s.leaves s.nodes.now c.in-Some.node.now c.in-Some.rest.now c.in-Some.ensures.cases.0
+    (c.in-Split.from, c.in-Split.to) (rw c.in-Split.is refl) (c.args.left - 1) some e
     (finds_none _ _ _ c.if-not-branch.true f)
 
 pub returns-then-not-branch-2-clause-exact : goal.returns-then-not-branch-2-clause-exact
@@ -50,7 +54,8 @@ returns-then-not-branch-2-clause-exact t c =
     let f = rw c.in_ok-push-in-Split.ensures.items at c.in_ok-take_tree-in-Split.ensures.exact in
     let path = c.in_ok-take_tree-in-Split.ensures.path c.if-not-branch.false ∙ c.in_ok-push-in-Split.ensures.items in
     let g = rw (path, c.in_ok-take_tree-in-Split.ensures.size) at c.in_ok-take_tree-in-Split-2.ensures.exact in
-    no_second s.size c.args.left s.path.items s.leaves s.nodes.now c.in-Some.node.now c.in-Some.rest.now c.in-Some.ensures.cases.0 (c.in-Split.from, c.in-Split.to) (rw c.in-Split.is refl) (c.args.left - 1) some
+    no_second s.size c.args.left s.path.items s.leaves s.nodes.now c.in-Some.node.now c.in-Some.rest.now c.in-Some.ensures.cases.0
+    (c.in-Split.from, c.in-Split.to) (rw c.in-Split.is refl) (c.args.left - 1) some
     (m.leaves, nodes_of m.nodes.now) e (finds_some _ _ _ c.if-not-branch.false f) (finds_none _ _ _ c.if-not-branch-2.true g)
 
 pub returns-else-remaining-eq0-clause-exact : goal.returns-else-remaining-eq0-clause-exact
@@ -70,5 +75,6 @@ returns-else-not-branch-2-clause-exact t c =
     let f = rw c.in_ok-push-in-Split.ensures.items at c.in_ok-take_tree-in-Split.ensures.exact in
     let path = c.in_ok-take_tree-in-Split.ensures.path c.if-not-branch.false ∙ c.in_ok-push-in-Split.ensures.items in
     let g = rw (path, c.in_ok-take_tree-in-Split.ensures.size) at c.in_ok-take_tree-in-Split-2.ensures.exact in
-    both_there s.size c.args.left s.path.items s.leaves s.nodes.now c.in-Some.node.now c.in-Some.rest.now c.in-Some.ensures.cases.0 (c.in-Split.from, c.in-Split.to) (rw c.in-Split.is refl) (c.args.left - 1) some
+    both_there s.size c.args.left s.path.items s.leaves s.nodes.now c.in-Some.node.now c.in-Some.rest.now c.in-Some.ensures.cases.0
+    (c.in-Split.from, c.in-Split.to) (rw c.in-Split.is refl) (c.args.left - 1) some
     (m.leaves, nodes_of m.nodes.now) (d.leaves, nodes_of d.nodes.now) e (finds_some _ _ _ c.if-not-branch.false f) (finds_some _ _ _ c.if-not-branch-2.false g)

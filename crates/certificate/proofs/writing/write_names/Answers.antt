@@ -14,7 +14,8 @@ pieces name size neighbours = codes "INSTANCE " ++ (name ++ (codes "\nCUSTOMERS 
 line_then : (text w rest : List ℕ) → line (text ++ w) ++ rest ≡ text ++ (w ++ (10 ∷ rest))
 line_then text w rest = append_assoc (text ++ w) (10 ∷ []) rest ∙ append_assoc text w (10 ∷ rest)
 
-lines-pieces : (name size neighbours : List ℕ) → line (codes "INSTANCE " ++ name) ++ (line (codes "CUSTOMERS " ++ size) ++ (line (codes "NEIGHBOURS " ++ neighbours) ++ [])) ≡ pieces name size neighbours
+lines-pieces : (name size neighbours : List ℕ)
+    → line (codes "INSTANCE " ++ name) ++ (line (codes "CUSTOMERS " ++ size) ++ (line (codes "NEIGHBOURS " ++ neighbours) ++ [])) ≡ pieces name size neighbours
 unfolding pieces
 lines-pieces name size neighbours =
     let third = line (codes "NEIGHBOURS " ++ neighbours) ++ [] in
@@ -23,7 +24,8 @@ lines-pieces name size neighbours =
     ∙ ap (λ (w : List ℕ). codes "INSTANCE " ++ (name ++ (10 ∷ w)))
     (line_then (codes "CUSTOMERS ") size third ∙ ap (λ (w : List ℕ). codes "CUSTOMERS " ++ (size ++ (10 ∷ w))) (line_then (codes "NEIGHBOURS ") neighbours []))
 
-pieces-are-lines : (x : Content) (name size neighbours : List ℕ) → name ≡ x.name → size ≡ decimal x.size → neighbours ≡ decimal x.neighbours → pieces name size neighbours ≡ flat_map line (name_lines x)
+pieces-are-lines : (x : Content) (name size neighbours : List ℕ) → name ≡ x.name → size ≡ decimal x.size → neighbours ≡ decimal x.neighbours
+    → pieces name size neighbours ≡ flat_map line (name_lines x)
 pieces-are-lines x name size neighbours a b c = rw (a, b, c) (sym (lines-pieces x.name (decimal x.size) (decimal x.neighbours)))
 
 pub returns : goal.returns

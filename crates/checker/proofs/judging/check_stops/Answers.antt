@@ -27,13 +27,16 @@ returns-then-not-serve_all-clause-refused c =
     let missing = rw c.as_slice.ensures.value at c.if-not-serve_all.ensures in
     record {
       holds = missing (stops (lists c.args.routes.now)) c.in_ok-marks.ensures.served;
-      lowest = after_twice _ _ c.if-not-serve_somebody.ensures c.if-not-know_stops.ensures (at_most_once c.args.instance.now c.args.routes.now c.in_ok-marks.marks.items c.in_ok-marks.ensures.served (omega (arith, c.in_ok-marks.ensures.count, c.customer_count.ensures.value)));
+      lowest = after_twice _ _ c.if-not-serve_somebody.ensures c.if-not-know_stops.ensures
+          (at_most_once c.args.instance.now c.args.routes.now c.in_ok-marks.marks.items c.in_ok-marks.ensures.served
+          (omega (arith, c.in_ok-marks.ensures.count, c.customer_count.ensures.value)));
     }
 
 pub returns-then-not-are_light-clause-refused : goal.returns-then-not-are_light-clause-refused
 returns-then-not-are_light-clause-refused c =
     let served = rw c.as_slice.ensures.value at c.if-not-serve_all.ensures in
-    let one : (i : ℕ) → IsCustomer c.args.instance.now i → count_of i (stops (lists c.args.routes.now)) ≡ 1 = λ i h. served (stops (lists c.args.routes.now)) c.in_ok-marks.ensures.served i h in
+    let one : (i : ℕ) → IsCustomer c.args.instance.now i
+    → count_of i (stops (lists c.args.routes.now)) ≡ 1 = λ i h. served (stops (lists c.args.routes.now)) c.in_ok-marks.ensures.served i h in
     record {
       holds = Any-map (λ r. c.args.instance.now.capacity < load_of c.args.instance.now r) (λ (v : Vec ℕ Global). v.items) c.args.routes.now c.if-not-are_light.ensures;
       lowest = after_missing _ _ c.if-not-serve_somebody.ensures c.if-not-know_stops.ensures (λ i h. omega (arith, one i h)) (λ i h. omega (arith, one i h));
@@ -42,5 +45,6 @@ returns-then-not-are_light-clause-refused c =
 pub returns-clause-once : goal.returns-clause-once
 returns-clause-once c =
     let served = rw c.as_slice.ensures.value at c.if-not-serve_all.ensures in
-    let one : (i : ℕ) → IsCustomer c.args.instance.now i → count_of i (stops (lists c.args.routes.now)) ≡ 1 = λ i h. served (stops (lists c.args.routes.now)) c.in_ok-marks.ensures.served i h in
+    let one : (i : ℕ) → IsCustomer c.args.instance.now i
+    → count_of i (stops (lists c.args.routes.now)) ≡ 1 = λ i h. served (stops (lists c.args.routes.now)) c.in_ok-marks.ensures.served i h in
     one

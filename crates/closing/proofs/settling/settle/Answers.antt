@@ -12,7 +12,8 @@ returns-then-len-from-clause-settling c =
 
 pub returns-in-Some-clause-in_range : goal.returns-in-Some-clause-in_range
 returns-in-Some-clause-in_range c =
-    rw c.raise.ensures (raised_range _ _ _ c.in_ok-found.ensures.prices.room (omega (arith, c.in_ok-found.ensures.prices.count, c.in-Some.ensures.customer.0, c.in-Some.ensures.customer.1)) (omega arith))
+    rw c.raise.ensures (raised_range _ _ _ c.in_ok-found.ensures.prices.room
+    (omega (arith, c.in_ok-found.ensures.prices.count, c.in-Some.ensures.customer.0, c.in-Some.ensures.customer.1)) (omega arith))
 
 pub returns-in-Some-clause-settling : goal.returns-in-Some-clause-settling
 returns-in-Some-clause-settling c =
@@ -30,5 +31,6 @@ pub returns-clause-settling : goal.returns-clause-settling
 returns-clause-settling c =
     let there = rw c.as_slice.ensures.value at c.in_default.ensures.none in
     let obeys = served_obeys _ _ c.requires.size c.size-size.ensures.consistent _ c.in_ok-found.ensures.prices.fits there in
-    planned _ _ c.requires.size c.requires.settled _ _ c.in_ok-found.ensures.prices c.known-plan.result (rw (c.known-plan.ensures.problem, c.known-plan.ensures.routes) at c.known-plan.ensures.solution.exact)
+    planned _ _ c.requires.size c.requires.settled _ _ c.in_ok-found.ensures.prices c.known-plan.result
+    (rw (c.known-plan.ensures.problem, c.known-plan.ensures.routes) at c.known-plan.ensures.solution.exact)
     (rw c.known-plan.ensures.routes obeys)

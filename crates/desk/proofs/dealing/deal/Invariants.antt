@@ -5,4 +5,5 @@ use Rattle.desk.proofs.dealing.deal.Given as goal
 
 abbrev pub invariant-loop-worker : goal.invariant-loop-worker
 invariant-loop-worker g l =
-    (vec_len l.shares ≡ l.worker) × (l.shares.items ≡ opening_accounts l.worker l.fn.first.tally l.seen.cost l.seen.bound) × (l.rest.parts + l.worker ≡ l.workers) × (l.rest.tally ≡ each 0) × (l.workers ≤ vec_capacity l.shares)
+    (vec_len l.shares ≡ l.worker) × (l.shares.items ≡ opening_accounts l.worker l.fn.first.tally l.seen.cost l.seen.bound)
+    × (l.rest.parts + l.worker ≡ l.workers) × (l.rest.tally ≡ each 0) × (l.workers ≤ vec_capacity l.shares)

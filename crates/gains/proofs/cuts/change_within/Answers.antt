@@ -21,9 +21,49 @@ returns c =
     let w4 : to_z w64 (of_z w64 a4) ≡ a4 = whole a4 (omega (arith, ints, c.arc-4.ensures.value)) (omega (arith, ints, c.arc-4.ensures.bound)) in
     let w5 : to_z w64 (of_z w64 a5) ≡ a5 = whole a5 (omega (arith, ints, c.arc-5.ensures.value)) (omega (arith, ints, c.arc-5.ensures.bound)) in
     let w6 : to_z w64 (of_z w64 a6) ≡ a6 = whole a6 (omega (arith, ints, c.arc-6.ensures.value)) (omega (arith, ints, c.arc-6.ensures.bound)) in
-    let s1 : to_z w64 (of_z w64 (a1 +ℤ a2)) ≡ (a1 +ℤ a2) = whole (a1 +ℤ a2) (omega (arith, ints, c.arc.ensures.value, c.arc-2.ensures.value)) (omega (arith, ints, c.arc.ensures.value, c.arc.ensures.bound, c.arc-2.ensures.value, c.arc-2.ensures.bound)) in
-    let s2 : to_z w64 (of_z w64 (a1 +ℤ a2 +ℤ a3)) ≡ (a1 +ℤ a2 +ℤ a3) = whole (a1 +ℤ a2 +ℤ a3) (omega (arith, ints, c.arc.ensures.value, c.arc-2.ensures.value, c.arc-3.ensures.value)) (omega (arith, ints, c.arc.ensures.value, c.arc.ensures.bound, c.arc-2.ensures.value, c.arc-2.ensures.bound, c.arc-3.ensures.value, c.arc-3.ensures.bound)) in
-    let s3 : to_z w64 (of_z w64 (a4 +ℤ a5)) ≡ (a4 +ℤ a5) = whole (a4 +ℤ a5) (omega (arith, ints, c.arc-4.ensures.value, c.arc-5.ensures.value)) (omega (arith, ints, c.arc-4.ensures.value, c.arc-4.ensures.bound, c.arc-5.ensures.value, c.arc-5.ensures.bound)) in
-    let s4 : to_z w64 (of_z w64 (a4 +ℤ a5 +ℤ a6)) ≡ (a4 +ℤ a5 +ℤ a6) = whole (a4 +ℤ a5 +ℤ a6) (omega (arith, ints, c.arc-4.ensures.value, c.arc-5.ensures.value, c.arc-6.ensures.value)) (omega (arith, ints, c.arc-4.ensures.value, c.arc-4.ensures.bound, c.arc-5.ensures.value, c.arc-5.ensures.bound, c.arc-6.ensures.value, c.arc-6.ensures.bound)) in
-    let s5 : to_z w64 (of_z w64 ((a1 +ℤ a2 +ℤ a3) -ℤ (a4 +ℤ a5 +ℤ a6))) ≡ ((a1 +ℤ a2 +ℤ a3) -ℤ (a4 +ℤ a5 +ℤ a6)) = whole ((a1 +ℤ a2 +ℤ a3) -ℤ (a4 +ℤ a5 +ℤ a6)) (omega (arith, ints, c.arc.ensures.value, c.arc.ensures.bound, c.arc-2.ensures.value, c.arc-2.ensures.bound, c.arc-3.ensures.value, c.arc-3.ensures.bound, c.arc-4.ensures.value, c.arc-4.ensures.bound, c.arc-5.ensures.value, c.arc-5.ensures.bound, c.arc-6.ensures.value, c.arc-6.ensures.bound)) (omega (arith, ints, c.arc.ensures.value, c.arc.ensures.bound, c.arc-2.ensures.value, c.arc-2.ensures.bound, c.arc-3.ensures.value, c.arc-3.ensures.bound, c.arc-4.ensures.value, c.arc-4.ensures.bound, c.arc-5.ensures.value, c.arc-5.ensures.bound, c.arc-6.ensures.value, c.arc-6.ensures.bound)) in
-    rw (w1, w2, s1, w3, s2, w4, w5, s3, w6, s4, s5) (omega (arith, ints, c.arc.ensures.value, c.arc-2.ensures.value, c.arc-3.ensures.value, c.arc-4.ensures.value, c.arc-5.ensures.value, c.arc-6.ensures.value))
+    let s1 : to_z w64 (of_z w64 (a1 +ℤ a2)) ≡ (a1 +ℤ a2) =
+    whole (a1 +ℤ a2) (omega (arith, ints, c.arc.ensures.value, c.arc-2.ensures.value))
+    (omega (arith, ints, c.arc.ensures.value, c.arc.ensures.bound, c.arc-2.ensures.value, c.arc-2.ensures.bound)) in
+    let s2 : to_z w64 (of_z w64 (a1 +ℤ a2 +ℤ a3)) ≡ (a1 +ℤ a2 +ℤ a3) =
+    whole (a1 +ℤ a2 +ℤ a3) (omega (arith, ints, c.arc.ensures.value, c.arc-2.ensures.value, c.arc-3.ensures.value))
+    (omega (arith, ints, c.arc.ensures.value, c.arc.ensures.bound, c.arc-2.ensures.value, c.arc-2.ensures.bound, c.arc-3.ensures.value, c.arc-3.ensures.bound)) in
+    let s3 : to_z w64 (of_z w64 (a4 +ℤ a5)) ≡ (a4 +ℤ a5) =
+    whole (a4 +ℤ a5) (omega (arith, ints, c.arc-4.ensures.value, c.arc-5.ensures.value))
+    (omega (arith, ints, c.arc-4.ensures.value, c.arc-4.ensures.bound, c.arc-5.ensures.value, c.arc-5.ensures.bound)) in
+    let s4 : to_z w64 (of_z w64 (a4 +ℤ a5 +ℤ a6)) ≡ (a4 +ℤ a5 +ℤ a6) =
+    whole (a4 +ℤ a5 +ℤ a6) (omega (arith, ints, c.arc-4.ensures.value, c.arc-5.ensures.value, c.arc-6.ensures.value))
+    (omega (arith, ints, c.arc-4.ensures.value, c.arc-4.ensures.bound, c.arc-5.ensures.value, c.arc-5.ensures.bound, c.arc-6.ensures.value, c.arc-6.ensures.bound)) in
+    let s5 : to_z w64 (of_z w64 ((a1 +ℤ a2 +ℤ a3) -ℤ (a4 +ℤ a5 +ℤ a6))) ≡ ((a1 +ℤ a2 +ℤ a3) -ℤ (a4 +ℤ a5 +ℤ a6)) =
+    whole ((a1 +ℤ a2 +ℤ a3) -ℤ (a4 +ℤ a5 +ℤ a6)) (omega (
+      arith,
+      ints,
+      c.arc.ensures.value,
+      c.arc.ensures.bound,
+      c.arc-2.ensures.value,
+      c.arc-2.ensures.bound,
+      c.arc-3.ensures.value,
+      c.arc-3.ensures.bound,
+      c.arc-4.ensures.value,
+      c.arc-4.ensures.bound,
+      c.arc-5.ensures.value,
+      c.arc-5.ensures.bound,
+      c.arc-6.ensures.value,
+      c.arc-6.ensures.bound,
+    )) (omega (
+      arith,
+      ints,
+      c.arc.ensures.value,
+      c.arc.ensures.bound,
+      c.arc-2.ensures.value,
+      c.arc-2.ensures.bound,
+      c.arc-3.ensures.value,
+      c.arc-3.ensures.bound,
+      c.arc-4.ensures.value,
+      c.arc-4.ensures.bound,
+      c.arc-5.ensures.value,
+      c.arc-5.ensures.bound,
+      c.arc-6.ensures.value,
+      c.arc-6.ensures.bound,
+    )) in
+    rw (w1, w2, s1, w3, s2, w4, w5, s3, w6, s4, s5) (omega
+    (arith, ints, c.arc.ensures.value, c.arc-2.ensures.value, c.arc-3.ensures.value, c.arc-4.ensures.value, c.arc-5.ensures.value, c.arc-6.ensures.value))

@@ -12,4 +12,5 @@ pub returns-else-is_better-clause-other : goal.returns-else-is_better-clause-oth
 returns-else-is_better-clause-other c = λ n u h.
     let same : to_z w64 (of_z w64 c.in-Some.change) ≡ c.in-Some.change = omega (arith, ints) in
     let is : IsNoBetter (Some (c.in-Some.candidate, c.in-Some.change)) n u = subst (λ o. IsNoBetter o n u) c.in-Some.is h in
-    higher_of c.args.before c.in-Some.candidate n (to_z w64 (of_z w64 c.in-Some.change)) u (c.is_better.ensures.no (search rules)) (subst (λ v. IsNoBetter (Some (c.in-Some.candidate, v)) n u) (sym same) is)
+    higher_of c.args.before c.in-Some.candidate n (to_z w64 (of_z w64 c.in-Some.change)) u (c.is_better.ensures.no (search rules))
+    (subst (λ v. IsNoBetter (Some (c.in-Some.candidate, v)) n u) (sym same) is)

@@ -9,7 +9,8 @@ returns-then-ones-i-clause-before c = λ yes.
     let one = c.numbers_of-ones.ensures in
     let other = c.numbers_of-others.ensures in
     let less : get_or c.numbers_of-ones.result c.loop-i.i 0 < get_or c.numbers_of-others.result c.loop-i.i 0 = grind arith in
-    rw (← one, ← other) (before_at c.numbers_of-ones.result c.numbers_of-others.result c.loop-i.i (omega (arith, ap length one, six c.args.one.now, c.loop-i-test.true)) (omega (arith, ap length other, six c.args.other.now, c.loop-i-test.true)) c.loop-i.invariant less)
+    rw (← one, ← other) (before_at c.numbers_of-ones.result c.numbers_of-others.result c.loop-i.i
+    (omega (arith, ap length one, six c.args.one.now, c.loop-i-test.true)) (omega (arith, ap length other, six c.args.other.now, c.loop-i-test.true)) c.loop-i.invariant less)
 
 pub returns-then-ones-i-clause-not : goal.returns-then-ones-i-clause-not
 returns-then-ones-i-clause-not c = λ no before.
@@ -18,7 +19,9 @@ returns-then-ones-i-clause-not c = λ no before.
     let apart = c.if-ones-i.true in
     let more : get_or c.numbers_of-others.result c.loop-i.i 0 < get_or c.numbers_of-ones.result c.loop-i.i 0 = grind arith in
     asymmetric (numbers c.args.one.now) (numbers c.args.other.now) before
-    (rw (← one, ← other) (before_at c.numbers_of-others.result c.numbers_of-ones.result c.loop-i.i (omega (arith, ap length other, six c.args.other.now, c.loop-i-test.true)) (omega (arith, ap length one, six c.args.one.now, c.loop-i-test.true)) (λ j below. sym (c.loop-i.invariant j below)) more))
+    (rw (← one, ← other) (before_at c.numbers_of-others.result c.numbers_of-ones.result c.loop-i.i
+    (omega (arith, ap length other, six c.args.other.now, c.loop-i-test.true))
+    (omega (arith, ap length one, six c.args.one.now, c.loop-i-test.true)) (λ j below. sym (c.loop-i.invariant j below)) more))
 
 pub returns-clause-not : goal.returns-clause-not
 returns-clause-not c = λ _ before.

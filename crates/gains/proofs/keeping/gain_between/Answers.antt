@@ -16,8 +16,10 @@ returns-clause-kept c =
 pub best_gain-found-requires : goal.best_gain-found-requires
 best_gain-found-requires c =
     let known = c.requires.kept c.args.first c.args.second (omega (arith, c.requires.first)) (omega (arith, c.requires.second)) in
-    let first : c.stops_of.result.now ≡ route (visits_of c.args.trees.now) c.args.first = c.stops_of.ensures ∙ ap (λ q. route q c.from-from.result) c.requires.routes ∙ ap (route (visits_of c.args.trees.now)) c.from-from.ensures in
-    let second : c.stops_of-2.result.now ≡ route (visits_of c.args.trees.now) c.args.second = c.stops_of-2.ensures ∙ ap (λ q. route q c.from-into.result) c.requires.routes ∙ ap (route (visits_of c.args.trees.now)) c.from-into.ensures in
+    let first : c.stops_of.result.now ≡ route (visits_of c.args.trees.now) c.args.first = c.stops_of.ensures
+    ∙ ap (λ q. route q c.from-from.result) c.requires.routes ∙ ap (route (visits_of c.args.trees.now)) c.from-from.ensures in
+    let second : c.stops_of-2.result.now ≡ route (visits_of c.args.trees.now) c.args.second = c.stops_of-2.ensures
+    ∙ ap (λ q. route q c.from-into.result) c.requires.routes ∙ ap (route (visits_of c.args.trees.now)) c.from-into.ensures in
     let there : AreGaps (problem_of c.args.trees.now) (route (visits_of c.args.trees.now) c.args.second) c.of.result.now = rw (c.of.ensures, c.from-into.ensures) (c.requires.gaps c.args.second) in
     let own : AreGaps (problem_of c.args.trees.now) (route (visits_of c.args.trees.now) c.args.first) c.of-2.result.now = rw (c.of-2.ensures, c.from-from.ensures) (c.requires.gaps c.args.first) in
     record {

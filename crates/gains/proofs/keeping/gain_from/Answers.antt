@@ -8,6 +8,7 @@ loop-second-preserved c =
     let better = c.better-best.ensures in
     record {
       kept = c.gain_between-found.ensures.kept;
-      search = row_next (problem_of c.args.trees.now) (visits_of c.args.trees.now) c.args.kind c.args.first c.args.before c.loop-second.second c.loop-second.best c.gain_between-found.result c.better-best.result
+      search = row_next (problem_of c.args.trees.now) (visits_of c.args.trees.now) c.args.kind c.args.first c.args.before c.loop-second.second
+          c.loop-second.best c.gain_between-found.result c.better-best.result
           c.loop-second.invariant.search c.gain_between-found.ensures.best better.one better.other better.is;
     }

@@ -22,4 +22,8 @@ loop-position-preserved c =
     } in
     let one : to_z w64 (of_z w64 c.leaves_at.result) ≡ c.leaves_at.result = omega (arith, ints) in
     let other : to_z w64 (of_z w64 c.latest_at.result) ≡ c.latest_at.result = omega (arith, ints) in
-    rw (c.in_ok-push.ensures.items, one, other) (length_push gaps g ∙ ap (λ n. n + 1) c.loop-position.invariant.0, gaps_next (problem_of c.args.trees.now) r gaps g k c.loop-position.invariant.0 c.loop-position.invariant.1 is)
+    rw (c.in_ok-push.ensures.items, one, other) (
+      length_push gaps g
+          ∙ ap (λ n. n + 1) c.loop-position.invariant.0,
+      gaps_next (problem_of c.args.trees.now) r gaps g k c.loop-position.invariant.0 c.loop-position.invariant.1 is,
+    )

@@ -13,7 +13,8 @@ returns-in-Some c =
     let t = c.args.trees.now in
     let long : c.len-end.result ≡ length (route (visits_of t) c.args.number) = c.len-end.ensures ∙ ap length c.route-tree.ensures.items ∙ same_count (routes_of t) c.args.number in
     let within : c.args.position ≤ c.len-end.result = omega (arith, long, c.requires.position) in
-    let is = back_is t c.args.number c.args.position c.len-end.result c.instance.result.now c.route-tree.result.now.items.items c.span.result c.requires.plan c.instance.ensures c.route-tree.ensures.items long within c.span.ensures in
+    let is = back_is t c.args.number c.args.position c.len-end.result c.instance.result.now c.route-tree.result.now.items.items c.span.result
+    c.requires.plan c.instance.ensures c.route-tree.ensures.items long within c.span.ensures in
     let same : to_z w64 (of_z w64 c.latest.result) ≡ c.latest.result = omega (arith, ints) in
     record {
       end = λ past. absurd (c.if-position-end.false (omega (arith, past, within, long)));
@@ -27,7 +28,8 @@ returns-in-None c =
     let t = c.args.trees.now in
     let long : c.len-end.result ≡ length (route (visits_of t) c.args.number) = c.len-end.ensures ∙ ap length c.route-tree.ensures.items ∙ same_count (routes_of t) c.args.number in
     let within : c.args.position ≤ c.len-end.result = omega (arith, long, c.requires.position) in
-    let is = back_is t c.args.number c.args.position c.len-end.result c.instance.result.now c.route-tree.result.now.items.items c.span.result c.requires.plan c.instance.ensures c.route-tree.ensures.items long within c.span.ensures in
+    let is = back_is t c.args.number c.args.position c.len-end.result c.instance.result.now c.route-tree.result.now.items.items c.span.result
+    c.requires.plan c.instance.ensures c.route-tree.ensures.items long within c.span.ensures in
     record {
       end = λ past. omega (arith, ints);
       back = λ s e. let none = sym (is ∙ c.in-None.is) ∙ e in absurd (grind (arith, none));

@@ -12,7 +12,8 @@ pub loop-length-preserved : goal.loop-length-preserved
 loop-length-preserved c =
     let range = c.first_lengths-lengths in
     let e = c.better-best.ensures in
-    rw e (neighbours (problem_of c.args.trees.now) (visits_of c.args.trees.now) c.args.kind (c.args.route ∷ c.args.position ∷ []) range.result.start c.loop-length.length (c.loop-length.length + 1) c.loop-length.best c.best_of_chain.result
+    rw e (neighbours (problem_of c.args.trees.now) (visits_of c.args.trees.now) c.args.kind (c.args.route ∷ c.args.position ∷ []) range.result.start
+    c.loop-length.length (c.loop-length.length + 1) c.loop-length.best c.best_of_chain.result
     (omega arith) (omega arith) c.loop-length.invariant c.best_of_chain.ensures)
 
 pub returns : goal.returns

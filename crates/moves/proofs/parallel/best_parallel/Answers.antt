@@ -22,7 +22,8 @@ loop-piece-preserved g c =
     let place = c.loop-piece.piece-index in
     let below : place < length pieces = rw c.deref-piece-items.ensures.value at c.loop-piece-test.true in
     let piece = at_place (IsBestFrom p routes c.args.kind) (length routes) pieces place None c.in_ok-pieces.ensures below in
-    rw (c.better-best.ensures, c.deref-piece-items.ensures.value) (neighbours p routes c.args.kind [] 0 place (place + 1) c.loop-piece.best (slice_index_or pieces place None) (omega arith) (omega arith) c.loop-piece.invariant piece)
+    rw (c.better-best.ensures, c.deref-piece-items.ensures.value)
+    (neighbours p routes c.args.kind [] 0 place (place + 1) c.loop-piece.best (slice_index_or pieces place None) (omega arith) (omega arith) c.loop-piece.invariant piece)
 
 pub returns-clause-best : goal.returns-clause-best
 returns-clause-best g c =

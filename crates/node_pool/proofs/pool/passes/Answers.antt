@@ -18,7 +18,8 @@ loop-preserved c =
       search rules,
       c.in_ok-new.ensures.deques ∙ was.1,
       λ capacity all. c.in_ok-new.ensures.empty c.loop.counter capacity (was.2 capacity all),
-      rw c.in_ok-push.ensures.items (All-push (λ p. All (λ d. IsFresh d p) (deques_of c.args.hands.now)) c.loop.passes.items c.in_ok-new.field-0 was.3 (subst (All (λ d. IsFresh d c.in_ok-new.field-0)) was.1 c.in_ok-new.ensures.fresh)),
+      rw c.in_ok-push.ensures.items (All-push (λ p. All (λ d. IsFresh d p) (deques_of c.args.hands.now)) c.loop.passes.items c.in_ok-new.field-0 was.3
+          (subst (All (λ d. IsFresh d c.in_ok-new.field-0)) was.1 c.in_ok-new.ensures.fresh)),
     )
 
 pub returns-clause-empty : goal.returns-clause-empty

@@ -23,7 +23,8 @@ loop-count-preserved g c =
       | else-count-eq0 w ↦
           let some : 0 < n = omega (arith, w.if-count-eq0) in
           let same : length items - n ≡ i + 1 = omega (arith, within) in
-          w.so_far-is ∙ w.join_both-so_far.ensures ∙ ap (both op (Some x)) (inv.3 some ∙ ap (λ k. chain op (drop k items)) same) ∙ sym (chain-earlier op law items i x (omega (arith, within, some)) c.index-items-items.is)
+          w.so_far-is ∙ w.join_both-so_far.ensures ∙ ap (both op (Some x)) (inv.3 some ∙ ap (λ k. chain op (drop k items)) same)
+          ∙ sym (chain-earlier op law items i x (omega (arith, within, some)) c.index-items-items.is)
     ] in (
       omega (arith, within),
       omega (arith, c.in_ok-push.ensures.len, inv.1),

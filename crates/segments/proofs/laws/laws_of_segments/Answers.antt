@@ -5,4 +5,14 @@ use Rattle.segments.proofs.Closed.{closed_is}
 use Rattle.segments.proofs.laws.laws_of_segments.Goals as goal
 
 pub returns : goal.returns
-returns c = record { assoc = join_assoc; single = stop_met; met = join_met; some = join_feasible; none = join_unmet; list = list_joined; list_none = list_unjoined; closing = closed_is; route = cost_joined }
+returns c = record {
+  assoc = join_assoc;
+  single = stop_met;
+  met = join_met;
+  some = join_feasible;
+  none = join_unmet;
+  list = list_joined;
+  list_none = list_unjoined;
+  closing = closed_is;
+  route = cost_joined;
+}

@@ -6,4 +6,5 @@ use Rattle.closing.proofs.growth.Growth.list.Goals as goal
 pub returns-clause-grows : goal.returns-clause-grows
 returns-clause-grows c =
     let same : c.in_ok-prices.prices.items ≡ c.args.leaf.now.prices = search rules in
-    leaf_grows c.args.leaf.now _ _ _ c.lesser-self.ensures.valued c.requires.own (record { instance = refl; limit = refl }) (ap leaf_node same) c.in_ok-push.ensures.items c.requires.low c.lesser-self.ensures.least refl
+    leaf_grows c.args.leaf.now _ _ _ c.lesser-self.ensures.valued c.requires.own (record { instance = refl; limit = refl }) (ap leaf_node same)
+    c.in_ok-push.ensures.items c.requires.low c.lesser-self.ensures.least refl

@@ -25,14 +25,19 @@ invariant_of-self-in-NotBetter g c =
 pub least_cost-least-requires : goal.least_cost-least-requires
 least_cost-least-requires g c =
     let offers = rw c.in-NotBetter.is at c.in_ok-before.ensures.offers in
-    rw c.self.invariant.problem at (kept_of_plan c.self.inside.book c.offer.new.self c.worker-worker.result c.args.plan.cost c.in-NotBetter.best c.in_ok-before.ensures.book offers.1.3 offers.1.0 offers.1.1)
+    rw c.self.invariant.problem at (kept_of_plan c.self.inside.book c.offer.new.self c.worker-worker.result c.args.plan.cost c.in-NotBetter.best
+    c.in_ok-before.ensures.book offers.1.3 offers.1.0 offers.1.1)
 
 pub returns-in-Better : goal.returns-in-Better
 returns-in-Better g c =
     let offers = rw c.in-Better.is at c.in_ok-before.ensures.offers in
     let below = cheaper_below c.self.inside.book.past c.args.plan.cost c.in-Better.before offers.1.0 offers.1.1 in (
       offers.0.met ForeignInstance (omega arith) ∙ c.self.invariant.problem,
-      (below, rw (c.see_cost.ensures, c.count.ensures.counted, c.offer_of.ensures, c.worker-worker.ensures, c.cost-cost.ensures.is) (after_better c.args.mine.now c.args.plan.cost c.in-Better.before below)),
+      (
+        below,
+        rw (c.see_cost.ensures, c.count.ensures.counted, c.offer_of.ensures, c.worker-worker.ensures, c.cost-cost.ensures.is)
+            (after_better c.args.mine.now c.args.plan.cost c.in-Better.before below),
+      ),
     )
 
 pub returns-in-NotBetter : goal.returns-in-NotBetter

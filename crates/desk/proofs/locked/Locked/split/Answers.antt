@@ -6,7 +6,8 @@ use Rattle.desk.proofs.locked.Locked.split.Goals as goal
 pub returns-in_err-made : goal.returns-in_err-made
 returns-in_err-made g c =
     let p = err_from_is_err_and c.from_residual.result c.from_residual.ensures.1 in
-    rw (p.1, p.2) (refused_split _ _ _ _ _ c.self.invariant c.worker-worker.result c.args.leaf _ c.args.used c.args.unused c.in_err-made.field-0.0 c.split.new.self c.args.mine.now c.in_err-made.ensures.splits)
+    rw (p.1, p.2) (refused_split _ _ _ _ _ c.self.invariant c.worker-worker.result c.args.leaf _ c.args.used c.args.unused c.in_err-made.field-0.0
+    c.split.new.self c.args.mine.now c.in_err-made.ensures.splits)
 
 pub invariant_of-self-2 : goal.invariant_of-self-2
 invariant_of-self-2 g c =

@@ -32,7 +32,8 @@ returns-in-Relocate c = λ n u of s h.
     let apart : f.route ≢ m.second = λ e. c.requires.apart (sym c.requires.first ∙ e) in
     let detours : IsSwapBound (instance_of m) (route (plan_of m) m.second) c.args.cut.now 0 0 least = rw c.requires.plan.others at c.detour_bound.ensures in
     let takes : TakesBetween m.kind 0 0 = elim c.in-Relocate.is [ inl e ↦ subst (λ q. TakesBetween q 0 0) (sym e) (refl, refl) | inr e ↦ subst (λ q. TakesBetween q 0 0) (sym e) (refl, refl) ] in
-    rw same (none_is_better (instance_of m) c.laws_of_segments.ensures c.law_of_limits.ensures.limits (plan_of m) m.kind f m.second c.args.cut.now 0 0 least c.requires.plan.trees.plan apart takes c.requires.cut detours
+    rw same (none_is_better (instance_of m) c.laws_of_segments.ensures c.law_of_limits.ensures.limits (plan_of m) m.kind f m.second c.args.cut.now 0 0
+    least c.requires.plan.trees.plan apart takes c.requires.cut detours
     n u of.kind s (with_second n f.route f.position f.length m.second of.second s) h)
 
 pub returns-in-Exchange : goal.returns-in-Exchange
@@ -67,6 +68,8 @@ returns-in-TwoOptStar c = told c.end_swap_bound.result c.end_swap_bound.ensures
         let m = c.args.self.now in
         let f = c.args.first.now in
         let apart : f.route ≢ m.second = λ e. c.requires.apart (sym c.requires.first ∙ e) in
-        let least : IsEndSwapBound (instance_of m) (route (plan_of m) f.route) f.position c.args.cut.now (route (plan_of m) m.second) x = rw (c.requires.plan.stops, c.requires.plan.others, ← c.requires.first) at h in
-        no_end_is_better (instance_of m) c.laws_of_segments.ensures c.law_of_limits.ensures.limits (plan_of m) m.kind f m.second c.args.cut.now x c.requires.plan.trees.plan (subst IsEndsKind (sym c.in-TwoOptStar.is) tt) apart
+        let least : IsEndSwapBound (instance_of m) (route (plan_of m) f.route) f.position c.args.cut.now (route (plan_of m) m.second) x =
+        rw (c.requires.plan.stops, c.requires.plan.others, ← c.requires.first) at h in
+        no_end_is_better (instance_of m) c.laws_of_segments.ensures c.law_of_limits.ensures.limits (plan_of m) m.kind f m.second c.args.cut.now x
+        c.requires.plan.trees.plan (subst IsEndsKind (sym c.in-TwoOptStar.is) tt) apart
         c.requires.cut least n u of.kind s (with_second n f.route f.position f.length m.second of.second s) v

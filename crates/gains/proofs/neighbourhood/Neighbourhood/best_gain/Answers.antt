@@ -16,7 +16,8 @@ pub returns : goal.returns
 returns c =
     let m = c.args.self.now in
     let range = c.first_positions-positions in
-    let whole = range_end m (m.first ∷ []) range.result.start range.result.end c.loop-position.position None c.loop-position.best c.loop-position-test.false range.ensures c.loop-position.invariant in
+    let whole = range_end m (m.first ∷ []) range.result.start range.result.end c.loop-position.position None c.loop-position.best
+    c.loop-position-test.false range.ensures c.loop-position.invariant in
     record {
       found = whole.found tt;
       best = λ n u of h. whole.best n u of (starts_with n m.first of.first) h;

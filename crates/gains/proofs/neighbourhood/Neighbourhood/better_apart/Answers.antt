@@ -20,7 +20,8 @@ returns-in_default c =
     let apart : f.route ≢ s.route = λ e. c.requires.apart (sym c.requires.first ∙ e ∙ c.requires.second) in
     let t = taken_chain routes (second_taken m.kind) s in
     passes_six m c.args.before f s
-    (λ n u of is h. absurd (c.in_default.ensures (rw (c.requires.plan.others, c.second_chain-taken.ensures) (subst (λ a. s.position + t.length ≤ length (route routes a)) c.requires.second (second_stands p routes m.kind n f s u of.kind is apart h)))))
+    (λ n u of is h. absurd (c.in_default.ensures (rw (c.requires.plan.others, c.second_chain-taken.ensures)
+    (subst (λ a. s.position + t.length ≤ length (route routes a)) c.requires.second (second_stands p routes m.kind n f s u of.kind is apart h)))))
 
 pub change_by_call-requires-clause-one : goal.change_by_call-requires-clause-one
 change_by_call-requires-clause-one c =
@@ -45,4 +46,5 @@ returns-then-not-may_be_better c =
     let same : to_z w64 (of_z w64 c.change_by_call.result) ≡ c.change_by_call.result = omega (arith, ints) in
     let high : ¬ MayBeBetter c.args.before c.change_by_call.result = rw same at (c.may_be_better.ensures.no (search rules)) in
     passes_six m c.args.before f s
-    (λ n u of is h. no_better_by c.args.before n c.change_by_call.result u high (same_value _ _ (change ∙ sym (value_apart p routes m.kind n f s u of.kind is apart h c.args.cut.now c.in-Some.other c.requires.cut cut))))
+    (λ n u of is h. no_better_by c.args.before n c.change_by_call.result u high
+    (same_value _ _ (change ∙ sym (value_apart p routes m.kind n f s u of.kind is apart h c.args.cut.now c.in-Some.other c.requires.cut cut))))

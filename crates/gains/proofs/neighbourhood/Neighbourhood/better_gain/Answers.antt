@@ -9,7 +9,12 @@ use Rattle.gains.proofs.neighbourhood.Neighbourhood.better_gain.Goals as goal
 pub returns-in-Some : goal.returns-in-Some
 returns-in-Some c =
     let o = c.candidate_of-candidate in
-    let among : moves_of c.args.self.now o.result = record { kind = o.ensures.kind; first = ap (λ ns. get_or ns 0 0) o.ensures.numbers ∙ c.requires.first; second = ap (λ ns. get_or ns 3 0) o.ensures.numbers ∙ c.requires.second } in
+    let among : moves_of c.args.self.now o.result = record {
+      kind = o.ensures.kind;
+      first = ap (λ ns. get_or ns 0 0) o.ensures.numbers
+          ∙ c.requires.first;
+      second = ap (λ ns. get_or ns 3 0) o.ensures.numbers ∙ c.requires.second;
+    } in
     let same : to_z w64 (of_z w64 c.in-Some.change) ≡ c.in-Some.change = omega (arith, ints) in
     let better : IsBetter c.args.before o.result c.in-Some.change = rw same at (c.is_better.ensures.better c.if-is_better.true) in
     rw same (takes c.args.self.now o.result c.in-Some.change c.args.before c.args.first.now c.args.second.now among o.ensures.numbers c.in-Some.ensures better)

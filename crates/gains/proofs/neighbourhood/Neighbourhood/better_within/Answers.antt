@@ -51,15 +51,19 @@ returns-then-not-may_be_better c =
     ])))
 
 pub change_within-change-requires-clause-one : goal.change_within-change-requires-clause-one
-change_within-change-requires-clause-one c = rw c.instance-instance.ensures (known_cut (instance_of c.args.self.now) (plan_of c.args.self.now) _ _ _ c.args.cut.now c.requires.plan.trees.plan c.requires.cut)
+change_within-change-requires-clause-one c = rw c.instance-instance.ensures
+    (known_cut (instance_of c.args.self.now) (plan_of c.args.self.now) _ _ _ c.args.cut.now c.requires.plan.trees.plan c.requires.cut)
 
 pub change_within-change-requires-clause-other : goal.change_within-change-requires-clause-other
 change_within-change-requires-clause-other c =
-    rw c.instance-instance.ensures (known_cut (instance_of c.args.self.now) (plan_of c.args.self.now) _ _ _ c.in-Exchange-Some.other c.requires.plan.trees.plan (rw c.requires.plan.stops at (rw c.in-Exchange-Some.is-1 at c.cut_of-other.ensures).1))
+    rw c.instance-instance.ensures (known_cut (instance_of c.args.self.now) (plan_of c.args.self.now) _ _ _ c.in-Exchange-Some.other
+    c.requires.plan.trees.plan (rw c.requires.plan.stops at (rw c.in-Exchange-Some.is-1 at c.cut_of-other.ensures).1))
 
 pub change_by_call-change-requires-clause-one : goal.change_by_call-change-requires-clause-one
-change_by_call-change-requires-clause-one c = rw c.instance-instance.ensures (known_cut (instance_of c.args.self.now) (plan_of c.args.self.now) _ _ _ c.args.cut.now c.requires.plan.trees.plan c.requires.cut)
+change_by_call-change-requires-clause-one c = rw c.instance-instance.ensures
+    (known_cut (instance_of c.args.self.now) (plan_of c.args.self.now) _ _ _ c.args.cut.now c.requires.plan.trees.plan c.requires.cut)
 
 pub change_by_call-change-requires-clause-other : goal.change_by_call-change-requires-clause-other
 change_by_call-change-requires-clause-other c =
-    rw c.instance-instance.ensures (known_cut (instance_of c.args.self.now) (plan_of c.args.self.now) _ _ _ c.in-Exchange-Some.other c.requires.plan.trees.plan (rw c.requires.plan.stops at (rw c.in-Exchange-Some.is-1 at c.cut_of-other.ensures).1))
+    rw c.instance-instance.ensures (known_cut (instance_of c.args.self.now) (plan_of c.args.self.now) _ _ _ c.in-Exchange-Some.other
+    c.requires.plan.trees.plan (rw c.requires.plan.stops at (rw c.in-Exchange-Some.is-1 at c.cut_of-other.ensures).1))

@@ -11,7 +11,8 @@ use Rattle.gains.proofs.neighbourhood.Neighbourhood.change_of_shift.Goals as goa
 
 pub change_by_call-requires-clause-other : goal.change_by_call-requires-clause-other
 change_by_call-requires-clause-other c =
-    rw c.instance.ensures (known_cut (instance_of c.args.self.now) (plan_of c.args.self.now) _ _ _ c.cut_of_stops-gap.result c.requires.plan.trees.plan (rw c.requires.plan.stops at c.cut_of_stops-gap.ensures))
+    rw c.instance.ensures (known_cut (instance_of c.args.self.now) (plan_of c.args.self.now) _ _ _ c.cut_of_stops-gap.result
+    c.requires.plan.trees.plan (rw c.requires.plan.stops at c.cut_of_stops-gap.ensures))
 
 pub returns : goal.returns
 returns c =
@@ -34,6 +35,7 @@ returns c =
       ];
       on = λ later. elim c.if-position-first-2.branch [
         | then-position-first-2 w ↦ absurd (omega (arith, later, w.if-position-first-2.true))
-        | else-position-first-2 w ↦ let at : gap ≡ q + taken.length = omega (arith, w.gap-is, c.from.ensures, length_is) in subst (λ z. change ≡ change_apart p c.args.cut.now (cut_at r z 0)) at value
+        | else-position-first-2 w ↦ let at : gap ≡ q + taken.length = omega (arith, w.gap-is, c.from.ensures, length_is) in
+            subst (λ z. change ≡ change_apart p c.args.cut.now (cut_at r z 0)) at value
       ];
     })

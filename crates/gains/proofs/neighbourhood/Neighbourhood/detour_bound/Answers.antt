@@ -39,7 +39,8 @@ loop-gap-preserved c =
           let other : new ≤ℤ w.change_apart.result = rw change at w.lesser-least.ensures.other in
           let here : new ≤ℤ change_apart p chain (gap_cut (slice_index_or m.gaps.now k none)) = rw (w.change_apart.ensures, c.instance-instance.ensures) at other in
           rw (w.least-is, same) (gap_taken p r chain k _ gap (to_z w64 c.loop-gap.least-bits) new c.loop-gap.invariant w.lesser-least.ensures.one here)
-      | else-is_open w ↦ rw w.least-is (gap_passed p r chain k _ gap _ c.loop-gap.invariant (λ a b. let yes : false ≡ true = w.if-is_open.ensures.1 (omega (arith, ints, a, last), omega (arith, ints, b, left)) in grind (arith, yes)))
+      | else-is_open w ↦ rw w.least-is (gap_passed p r chain k _ gap _ c.loop-gap.invariant (λ a b. let yes : false ≡ true =
+          w.if-is_open.ensures.1 (omega (arith, ints, a, last), omega (arith, ints, b, left)) in grind (arith, yes)))
     ]
 
 pub returns : goal.returns

@@ -18,7 +18,8 @@ change_of_ends-change-requires-clause-other c =
     let none : Gap = record { before = 0; behind = 0; leaves = pos 0; latest = pos 0 } in
     let gap = c.requires.plan.gaps c.loop-gap.gap-index none c.loop-gap-test.true in
     let within : c.loop-gap.gap-index ≤ length m.others.now = omega (arith, c.loop-gap-test.true, c.requires.all) in
-    rw (gap.before, gap.behind, c.instance-instance.ensures) (known_gap (instance_of m) m.others.now c.loop-gap.gap-index (rw c.requires.plan.others (known_cuts (instance_of m) (plan_of m) m.second c.requires.plan.trees.plan)) within)
+    rw (gap.before, gap.behind, c.instance-instance.ensures)
+    (known_gap (instance_of m) m.others.now c.loop-gap.gap-index (rw c.requires.plan.others (known_cuts (instance_of m) (plan_of m) m.second c.requires.plan.trees.plan)) within)
 
 pub loop-gap-preserved : goal.loop-gap-preserved
 loop-gap-preserved c = λ j below before behind.

@@ -19,7 +19,8 @@ returns c =
     let f = c.args.first.now in
     let range = c.second_positions-positions in
     from_chain m f.route f.position f.length c.args.before c.loop-position.best
-    (range_end m (f.route ∷ f.position ∷ f.length ∷ m.second ∷ []) range.result.start range.result.end c.loop-position.position c.args.before c.loop-position.best c.loop-position-test.false range.ensures c.loop-position.invariant)
+    (range_end m (f.route ∷ f.position ∷ f.length ∷ m.second ∷ []) range.result.start range.result.end c.loop-position.position c.args.before
+    c.loop-position.best c.loop-position-test.false range.ensures c.loop-position.invariant)
 
 pub returns-then-is_no_better : goal.returns-then-is_no_better
 returns-then-is_no_better c =
@@ -31,4 +32,5 @@ returns-in_default c =
     let m = c.args.self.now in
     let f = c.args.first.now in
     passes m (f.route ∷ f.position ∷ f.length ∷ []) c.args.before
-    (λ n u of s h. absurd (c.in_default.ensures (rw (c.requires.plan.stops, c.first_chain.ensures, c.requires.first) (rw c.requires.first at (start_stands (instance_of m) (plan_of m) m.kind n f u of.kind s h)))))
+    (λ n u of s h. absurd (c.in_default.ensures (rw (c.requires.plan.stops, c.first_chain.ensures, c.requires.first)
+    (rw c.requires.first at (start_stands (instance_of m) (plan_of m) m.kind n f u of.kind s h)))))

@@ -19,7 +19,8 @@ lesser_swap-least-requires-clause-gap c =
     let none : Gap = record { before = 0; behind = 0; leaves = pos 0; latest = pos 0 } in
     let gap = c.requires.plan.gaps c.loop-gap.gap-index none c.loop-gap-test.true in
     let within : c.loop-gap.gap-index ≤ length m.others.now = omega (arith, c.loop-gap-test.true, c.requires.all) in
-    rw (gap.before, gap.behind, c.instance-instance.ensures) (known_gap (instance_of m) m.others.now c.loop-gap.gap-index (rw c.requires.plan.others (known_cuts (instance_of m) (plan_of m) m.second c.requires.plan.trees.plan)) within)
+    rw (gap.before, gap.behind, c.instance-instance.ensures)
+    (known_gap (instance_of m) m.others.now c.loop-gap.gap-index (rw c.requires.plan.others (known_cuts (instance_of m) (plan_of m) m.second c.requires.plan.trees.plan)) within)
 
 pub lesser_swap-least-requires-clause-low : goal.lesser_swap-least-requires-clause-low
 lesser_swap-least-requires-clause-low c =
@@ -33,7 +34,8 @@ front_change-requires-clause-gap c =
     let none : Gap = record { before = 0; behind = 0; leaves = pos 0; latest = pos 0 } in
     let gap = c.requires.plan.gaps c.loop-gap.gap-index none c.loop-gap-test.true in
     let within : c.loop-gap.gap-index ≤ length m.others.now = omega (arith, c.loop-gap-test.true, c.requires.all) in
-    rw (gap.before, gap.behind, c.instance-instance.ensures) (known_gap (instance_of m) m.others.now c.loop-gap.gap-index (rw c.requires.plan.others (known_cuts (instance_of m) (plan_of m) m.second c.requires.plan.trees.plan)) within)
+    rw (gap.before, gap.behind, c.instance-instance.ensures)
+    (known_gap (instance_of m) m.others.now c.loop-gap.gap-index (rw c.requires.plan.others (known_cuts (instance_of m) (plan_of m) m.second c.requires.plan.trees.plan)) within)
 
 pub loop-gap-preserved : goal.loop-gap-preserved
 loop-gap-preserved c =
@@ -63,11 +65,14 @@ loop-gap-preserved c =
           let start : pos 0 ≤ℤ (w.least_front.result +ℤ pos (2 * MOST_DISTANCE)) = front_low _ _ _ _ best.is h.one_low h.two_low h.three_low in
           let whole : to_z w64 (of_z w64 w.least_front.result) ≡ w.least_front.result = omega (arith, ints, start, best.one, h.one_high) in
           let here : y ≤ℤ (w.least_front.result +ℤ rear_change p r chain k) = rw (whole, gap.before, gap.behind, c.instance-instance.ensures) at ends.sum in
-          let low : IsLow c.args.most y c.loop-gap.last.0 c.loop-gap.last.1 c.loop-gap.last.2 (rear_change p r chain k) = low_sum c.args.most y _ _ _ _ w.least_front.result here best.one best.two best.three in
-          rw (w.least-is, same) (so_far_next p r chain c.args.most k x c.loop-gap.last.0 c.loop-gap.last.1 c.loop-gap.last.2 y front.result c.requires.some c.requires.few value front.ensures.low front.ensures.high
+          let low : IsLow c.args.most y c.loop-gap.last.0 c.loop-gap.last.1 c.loop-gap.last.2 (rear_change p r chain k) =
+          low_sum c.args.most y _ _ _ _ w.least_front.result here best.one best.two best.three in
+          rw (w.least-is, same) (so_far_next p r chain c.args.most k x c.loop-gap.last.0 c.loop-gap.last.1 c.loop-gap.last.2 y front.result
+          c.requires.some c.requires.few value front.ensures.low front.ensures.high
           ends.one (λ _. low) h)
       | else-left-gap w ↦
-          rw w.least-is (so_far_next p r chain c.args.most k x c.loop-gap.last.0 c.loop-gap.last.1 c.loop-gap.last.2 x front.result c.requires.some c.requires.few value front.ensures.low front.ensures.high
+          rw w.least-is (so_far_next p r chain c.args.most k x c.loop-gap.last.0 c.loop-gap.last.1 c.loop-gap.last.2 x front.result c.requires.some
+          c.requires.few value front.ensures.low front.ensures.high
           (omega (arith, ints)) (λ precede. absurd (omega (arith, ints, precede _ gap, left, w.if-left-gap.false))) h)
     ])
 

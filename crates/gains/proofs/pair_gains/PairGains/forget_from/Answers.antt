@@ -9,4 +9,5 @@ pub loop-second-preserved : goal.loop-second-preserved
 loop-second-preserved c = from_next c.args.route c.loop-second.second c.args.self.now c.loop-second.self c.put.new.self (search rules) c.loop-second.invariant c.put.ensures
 
 pub returns-after-loop-second-clause-from : goal.returns-after-loop-second-clause-from
-returns-after-loop-second-clause-from c = from_last c.args.route c.loop-second.second c.args.self.now c.loop-second.self c.loop-second.invariant c.index.result.now (search rules) c.index.ensures (search rules)
+returns-after-loop-second-clause-from c = from_last c.args.route c.loop-second.second c.args.self.now c.loop-second.self c.loop-second.invariant
+    c.index.result.now (search rules) c.index.ensures (search rules)

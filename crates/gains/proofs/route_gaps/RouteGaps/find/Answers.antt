@@ -13,5 +13,8 @@ loop-number-preserved c =
     let rows = c.loop-number.self.rows.items in
     let n = c.loop-number.number in
     let same : c.stops_of.result.now ≡ route routes n = c.stops_of.ensures ∙ ap (λ q. route q n) c.requires.routes in
-    rw c.in-Ok-push.ensures.items
-    (length_push rows c.in-Ok.gaps ∙ ap (λ n. n + 1) c.loop-number.invariant.0, rows_next p routes rows c.in-Ok.gaps n c.loop-number.invariant.0 c.loop-number.invariant.1 (rw same at c.in-Ok.ensures))
+    rw c.in-Ok-push.ensures.items (
+      length_push rows c.in-Ok.gaps ∙ ap (λ n. n + 1) c.loop-number.invariant.0,
+      rows_next p routes rows c.in-Ok.gaps n c.loop-number.invariant.0
+          c.loop-number.invariant.1 (rw same at c.in-Ok.ensures),
+    )

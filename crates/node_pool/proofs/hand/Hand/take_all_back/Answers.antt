@@ -15,10 +15,12 @@ loop-pass-preserved c =
     let inside : i < length c.loop-pass.passes = omega arith in
     let low : i < length c.args.passes.now = omega arith in
     let pass = slice_index_or c.loop-pass.passes i c.pass-item.result in
-    let is : pass ≡ slice_index_or c.args.passes.now i pass = any_default (KeepsOthers c.args.self.now.number) c.loop-pass.passes i c.pass-item.result pass inside ∙ was.5.later i pass (omega arith) in
+    let is : pass ≡ slice_index_or c.args.passes.now i pass =
+    any_default (KeepsOthers c.args.self.now.number) c.loop-pass.passes i c.pass-item.result pass inside ∙ was.5.later i pass (omega arith) in
     let number = ap (λ (d : Deque). d.0) was.0 in
     let fits = subst (FitsAt (deque_of c.args.self.now)) (sym is) (c.requires.fits i pass low) in
-    let at = known_at pass.passes.items c.args.self.now.number c.index_mut.result.now fits.0 (c.index_mut.ensures.value ∙ ap (λ n. slice_index_or pass.passes.items n c.index_mut.result.now) number) in
+    let at = known_at pass.passes.items c.args.self.now.number c.index_mut.result.now fits.0 (c.index_mut.ensures.value
+    ∙ ap (λ n. slice_index_or pass.passes.items n c.index_mut.result.now) number) in
     let fewer = c.take_back.ensures.others in
     let before = was.2 in (
       c.take_back.ensures.same.0 ∙ was.0,

@@ -9,7 +9,8 @@ use Rattle.node_pool.proofs.pass.Pass.new.Given as goal
 
 -- a pass more has a share
 abbrev pub Gave : Hand → Hand → Type 0
-Gave old new = (new.others ≡ old.others + 1) × (new.pushes ≡ old.pushes) × (new.room ≡ old.room) × ((known_to new).pushed ≡ (known_to old).pushed) × ((known_to new).taken ≡ (known_to old).taken)
+Gave old new = (new.others ≡ old.others + 1) × (new.pushes ≡ old.pushes) × (new.room ≡ old.room) × ((known_to new).pushed ≡ (known_to old).pushed)
+    × ((known_to new).taken ≡ (known_to old).taken)
 
 abbrev pub Share : Deque → OnePass → Type 0
 Share d p = IsShareOf d p × (view p ≡ known false 1 [] [])

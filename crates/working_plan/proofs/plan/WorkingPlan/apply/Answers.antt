@@ -38,7 +38,8 @@ invariant_of-self-2 c =
     let long : c.len.result ≡ length c.replace.new.routes.items = search rules in
     let count : c.len.result ≡ length (lists c.replace.new.routes.items) = long ∙ sym (lists-length c.replace.new.routes.items) in
     let t = applied c.self.inside.trees c.replace.new.trees (lists c.self.inside.routes.items) (lists c.replace.new.routes.items)
-    c.args.candidate.now c.in-Some.by c.in-Some-change_of.change c.self.inside.cost c.cost_after-cost.result c.replaced_by-replaced.result c.len-before.result c.len.result c.self.inside.gains c.follow.new.self c.self.inside.gaps
+    c.args.candidate.now c.in-Some.by c.in-Some-change_of.change c.self.inside.cost c.cost_after-cost.result c.replaced_by-replaced.result
+    c.len-before.result c.len.result c.self.inside.gains c.follow.new.self c.self.inside.gaps
     c.self.invariant.0 c.self.invariant.1 c.self.invariant.2 c.self.invariant.3 c.self.invariant.4 (rw c.self.invariant.1 at c.in-Some.ensures) (rw c.self.invariant.1 at c.in-Some-change_of.ensures.1)
     c.in_ok-replace.ensures.problem c.in_ok-replace.ensures.routes c.in_ok-replace.ensures.trees (rw same at c.cost_after-cost.ensures)
     c.replaced_by-replaced.ensures before count c.follow.ensures in
