@@ -7,10 +7,10 @@ use Rattle.schedule.specs.Solution.{Solution}
 use Rattle.insertion.specs.Building.{IsServedAlone}
 use Rattle.branching.specs.Nodes.{IsListedTree}
 use Rattle.branching.specs.declared.tree_node.TreeNode.{TreeNode}
-use Rattle.closing.specs.declared.closed.Closed.{Closed}
-use Rattle.closing.specs.declared.closed.CloseAloneFault.{CloseAloneFault}
-use Rattle.closing.specs.declared.closed.CloseAloneFault.TheVariants.{Memory, LeafLimit, TooLarge}
-use Rattle.closing.specs.declared.closed.TheConstants.{MOST_CLOSED}
+use Rattle.closing.specs.declared.found.Found.{Found}
+use Rattle.closing.specs.declared.fault.CloseAloneFault.{CloseAloneFault}
+use Rattle.closing.specs.declared.fault.CloseAloneFault.TheVariants.{Memory, LeafLimit, TooLarge}
+use Rattle.closing.specs.declared.fault.TheConstants.{MOST_CLOSED}
 
 -- the least cost known, or above the ceiling where no plan is
 abbrev pub known_or_above : Problem → Option ℕ → ℕ
@@ -21,7 +21,7 @@ abbrev pub costs : Option Solution → Option ℕ
 costs plan = option_map (λ f. f.cost) plan
 
 -- A plan whose cost is the bound, or no plan and a bound above the ceiling; and a tree with that bound, with no more leaves than the limit.
-pub record IsClosed (p : Problem) (k limit : ℕ) (c : Closed) : Type 0 where
+pub record IsClosed (p : Problem) (k limit : ℕ) (c : Found) : Type 0 where
   pub small : customer_count p ≤ MOST_CLOSED
   pub plan : IfSome c.plan (λ f. f.problem ≡ p)
   pub meets : c.bound ≡ known_or_above p (costs c.plan)

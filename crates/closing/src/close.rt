@@ -4,8 +4,9 @@ ghost use Rattle.std.specs.Prelude.{◌≡◌, ◌≤◌, IfOk, IfErr, IfSome};
 ghost use Rattle.solomon_reader.specs.declared.limits.TheConstants.{MOST_LEAVES, MOST_NEIGHBOURS};
 ghost use Rattle.closing.specs.Closing.{IsClosed, IsLeftOpen};
 
-use crate::closed::{CloseAloneFault, Closed, MOST_CLOSED};
+use crate::fault::{CloseAloneFault, MOST_CLOSED};
 use crate::first::{first_leaf, first_plan};
+use crate::found::Found;
 use crate::growing::grow;
 use crate::growth::Growth;
 use crate::laws::depth_holds;
@@ -28,7 +29,7 @@ pub fn close_alone<'i>(
     instance: &'i Instance,
     neighbours: u32,
     leaf_limit: u32,
-) -> Result<Closed<'i>, CloseAloneFault>
+) -> Result<Found<'i>, CloseAloneFault>
     requires few { neighbours ≤ MOST_NEIGHBOURS }
     requires some { 1 ≤ leaf_limit }
     requires most { leaf_limit ≤ MOST_LEAVES }
@@ -46,7 +47,7 @@ pub fn close_counted<'i>(
     instance: &'i Instance,
     neighbours: u32,
     leaf_limit: u32,
-) -> Result<(Closed<'i>, u64), CloseAloneFault>
+) -> Result<(Found<'i>, u64), CloseAloneFault>
     requires few { neighbours ≤ MOST_NEIGHBOURS }
     requires some { 1 ≤ leaf_limit }
     requires most { leaf_limit ≤ MOST_LEAVES }
@@ -64,7 +65,7 @@ pub fn close_from<'i>(
     neighbours: u32,
     leaf_limit: u32,
     start: Option<Feasible<'i>>,
-) -> Result<(Closed<'i>, u64), CloseAloneFault>
+) -> Result<(Found<'i>, u64), CloseAloneFault>
     requires few { neighbours ≤ MOST_NEIGHBOURS }
     requires some { 1 ≤ leaf_limit }
     requires most { leaf_limit ≤ MOST_LEAVES }

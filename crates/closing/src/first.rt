@@ -64,12 +64,12 @@ fn take_turn<'i, R: Rng + Drop>(searcher: &mut Searcher<'i, R>, made: u32)
     let _ = searcher.turn();
 }
 
-/// The plan that a search comes to from another: a local optimum, where memory suffices.
+/// The plan that a search comes to from another: a local optimum, where memory suffices, since each turn
+/// begins with a descent.
 fn search_from<'i, R: Rng + Drop>(alloc: Global, plan: Feasible<'i>, random: R) -> Feasible<'i>
     ensures { result.problem ≡ plan.entry.problem }
 {
     let mut searcher = Searcher::new(alloc, plan, random);
-    let _ = searcher.descend();
     for made in 0..TURNS {
         take_turn(&mut searcher, made);
     }

@@ -8,10 +8,11 @@ ghost use Rattle.branching.specs.Nodes.{node_of, IsListedTree};
 ghost use Rattle.insertion.specs.Building.{IsServedAlone};
 ghost use Rattle.prices.specs.Pricing.{IsPricing};
 ghost use Rattle.closing.specs.Closing.{IsClosed, IsLeftOpen};
-ghost use Rattle.closing.specs.declared.closed.TheConstants.{MOST_CLOSED};
+ghost use Rattle.closing.specs.declared.fault.TheConstants.{MOST_CLOSED};
 ghost use Rattle.closing.specs.Growing.{Grows, IsGrowth, IsSameTask, IsSameTree, target_of};
 
-use crate::closed::{CloseAloneFault, Closed};
+use crate::fault::CloseAloneFault;
+use crate::found::Found;
 use branching::{Arc, TreeNode};
 use prices::Priced;
 use schedule::Feasible;
@@ -197,7 +198,7 @@ impl<'i> Growth<'i> {
     }
 
     /// What the tree comes to, once it is listed.
-    pub(crate) fn finish(mut self, neighbours: u32) -> Result<Closed<'i>, CloseAloneFault>
+    pub(crate) fn finish(mut self, neighbours: u32) -> Result<Found<'i>, CloseAloneFault>
         requires growth { IsGrowth self }
         requires small { customer_count self.instance.now ≤ MOST_CLOSED }
         requires tree { IsListedTree self.instance.now neighbours
@@ -221,7 +222,7 @@ impl<'i> Growth<'i> {
                 nodes: self.nodes,
             });
         }
-        Ok(Closed {
+        Ok(Found {
             plan: self.best,
             bound,
             nodes: self.nodes,

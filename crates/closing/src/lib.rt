@@ -7,9 +7,10 @@
 mod chain;
 mod cheaper_plan;
 mod close;
-mod closed;
+mod fault;
 mod fee;
 mod first;
+mod found;
 mod gathering;
 mod growing;
 mod growth;
@@ -20,6 +21,7 @@ mod settling;
 
 pub use cheaper_plan::cheaper;
 pub use close::{close_alone, close_counted, close_from};
-pub use closed::{CloseAloneFault, Closed, MOST_CLOSED};
+pub use fault::{CloseAloneFault, MOST_CLOSED};
+pub use found::Found;
 pub use laws::depth_holds;
 pub use leaf::settled_leaf;

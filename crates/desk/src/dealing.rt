@@ -17,8 +17,7 @@ pub(crate) fn count_all<J: Naming>(totals: &mut Totals<J>, mine: &mut Share<J>, 
     ensures totals { totals.new ≡ tally_of (past_of history.now) }
     ensures mine { mine.new ≡ record {
       worker = mine.old.worker;
-      tally = tally_of
-          (past_of history.now);
+      tally = tally_of (past_of history.now);
       cost = mine.old.cost;
       bound = mine.old.bound;
     } }

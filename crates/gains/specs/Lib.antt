@@ -3,4 +3,5 @@ pub mod Gaps
 pub mod Gains
 pub mod TwoRoutes
 pub mod Kept
+pub mod Gapped
 pub mod Searches

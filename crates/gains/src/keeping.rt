@@ -8,10 +8,11 @@ ghost use Rattle.moves.specs.Trees.{visits_of, AreOfPlan};
 ghost use Rattle.gains.specs.Gains.{IsBestGainIfAny, IsBestAmong, IsFoundAmong};
 ghost use Rattle.gains.specs.Gaps.{AreGapsOf};
 ghost use Rattle.gains.specs.Kept.{IsBetween, AreKept, first_route, lowest_second, end_of_seconds};
+ghost use Rattle.gains.specs.Gapped.{IsGapped, instance_in, visits_in};
 ghost use Rattle.gains.specs.Searches.{Searches};
 
 use crate::found::{Found, better, found_between};
-use crate::neighbourhood::Neighbourhood;
+use crate::neighbourhood::{GappedPlan, Neighbourhood};
 use crate::pair_gains::PairGains;
 use crate::route_gaps::{RouteGaps, stops_of};
 use moves::{Kind, Move, route_count};
@@ -38,21 +39,17 @@ fn seconds_of(trees: &PlanTrees<'_>, kind: Kind, first: u16) -> Range<u16>
 #[inline(always)]
 fn gain_between(
     kept: &mut PairGains,
-    gaps: &RouteGaps,
-    trees: &PlanTrees<'_>,
-    routes: &[Vec<u16>],
+    plan: &GappedPlan<'_, '_>,
     kind: Kind,
     first: u16,
     second: u16,
 ) -> Found
-    requires plan { AreOfPlan trees.now }
-    requires routes { lists routes.now ≡ visits_of trees.now }
-    requires gaps { AreGapsOf (problem_of trees.now) (visits_of trees.now) gaps.now }
-    requires kept { AreKept (problem_of trees.now) (visits_of trees.now) kept.old }
-    requires first { first < length (visits_of trees.now) }
-    requires second { second ≤ length (visits_of trees.now) }
-    ensures kept { AreKept (problem_of trees.now) (visits_of trees.now) kept.new }
-    ensures best { IsBestAmong (problem_of trees.now) (visits_of trees.now)
+    requires plan { IsGapped plan.now }
+    requires kept { AreKept (instance_in plan.now) (visits_in plan.now) kept.old }
+    requires first { first < length (visits_in plan.now) }
+    requires second { second ≤ length (visits_in plan.now) }
+    ensures kept { AreKept (instance_in plan.now) (visits_in plan.now) kept.new }
+    ensures best { IsBestAmong (instance_in plan.now) (visits_in plan.now)
         (IsBetween kind first second) result }
 {
     let (from, into) = (usize::from(first), usize::from(second));
@@ -62,15 +59,15 @@ fn gain_between(
         None => {}
     }
     let neighbourhood = Neighbourhood {
-        trees,
+        trees: plan.trees,
         kind,
         first,
         second,
         no_single: kept.at(from, into).has_no_single(kind),
-        stops: stops_of(routes, from),
-        others: stops_of(routes, into),
-        gaps: gaps.of(into),
-        own_gaps: gaps.of(from),
+        stops: stops_of(plan.routes, from),
+        others: stops_of(plan.routes, into),
+        gaps: plan.gaps.of(into),
+        own_gaps: plan.gaps.of(from),
     };
     let found = neighbourhood.best_gain();
     kept.keep(from, into, kind, found);
@@ -81,28 +78,24 @@ fn gain_between(
 #[inline(always)]
 fn gain_from(
     kept: &mut PairGains,
-    gaps: &RouteGaps,
-    trees: &PlanTrees<'_>,
-    routes: &[Vec<u16>],
+    plan: &GappedPlan<'_, '_>,
     kind: Kind,
     first: u16,
     before: Found,
 ) -> Found
-    requires plan { AreOfPlan trees.now }
-    requires routes { lists routes.now ≡ visits_of trees.now }
-    requires gaps { AreGapsOf (problem_of trees.now) (visits_of trees.now) gaps.now }
-    requires kept { AreKept (problem_of trees.now) (visits_of trees.now) kept.old }
-    requires first { first < length (visits_of trees.now) }
-    requires found { IsFoundAmong (problem_of trees.now) (visits_of trees.now)
+    requires plan { IsGapped plan.now }
+    requires kept { AreKept (instance_in plan.now) (visits_in plan.now) kept.old }
+    requires first { first < length (visits_in plan.now) }
+    requires found { IsFoundAmong (instance_in plan.now) (visits_in plan.now)
         (λ n. kind_of n ≡ kind) before }
-    ensures kept { AreKept (problem_of trees.now) (visits_of trees.now) kept.new }
-    ensures search { Searches (problem_of trees.now) (visits_of trees.now) (λ n. kind_of n ≡ kind)
+    ensures kept { AreKept (instance_in plan.now) (visits_in plan.now) kept.new }
+    ensures search { Searches (instance_in plan.now) (visits_in plan.now) (λ n. kind_of n ≡ kind)
         (λ n. first_route n ≡ first) before result }
 {
-    let seconds = seconds_of(trees, kind, first);
+    let seconds = seconds_of(plan.trees, kind, first);
     let mut best = before;
     for second in seconds.start..seconds.end {
-        let found = gain_between(kept, gaps, trees, routes, kind, first, second);
+        let found = gain_between(kept, plan, kind, first, second);
         best = better(best, found);
     }
     best
@@ -126,9 +119,14 @@ pub fn best_gain(
     ensures kept { AreKept (problem_of trees.now) (visits_of trees.now) kept.new }
     ensures best { IsBestGainIfAny (problem_of trees.now) (visits_of trees.now) kind result }
 {
+    let plan = GappedPlan {
+        trees,
+        routes,
+        gaps,
+    };
     let mut best = None;
     for first in 0..route_count(trees) {
-        best = gain_from(kept, gaps, trees, routes, kind, first, best);
+        best = gain_from(kept, &plan, kind, first, best);
     }
     best
 }

@@ -1,6 +1,6 @@
 //! The moves among which a gain is sought.
 
-use crate::route_gaps::Gap;
+use crate::route_gaps::{Gap, RouteGaps};
 use moves::Kind;
 use segments::PlanTrees;
 
@@ -20,4 +20,12 @@ pub struct Neighbourhood<'a, 'i> {
     pub gaps: &'a [Gap],
     /// The gaps of the first, likewise.
     pub own_gaps: &'a [Gap],
+}
+
+/// A plan by its trees and routes, with the gaps of its routes.
+#[derive(Clone, Copy)]
+pub struct GappedPlan<'a, 'i> {
+    pub trees: &'a PlanTrees<'i>,
+    pub routes: &'a [Vec<u16>],
+    pub gaps: &'a RouteGaps,
 }

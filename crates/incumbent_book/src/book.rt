@@ -1,6 +1,6 @@
 //! The book.
 
-ghost use Rattle.std.specs.Prelude.{◌≡◌, ◌+◌, ◌≤◌, ℕ, List, [], option_map, IfOk, map};
+ghost use Rattle.std.specs.Prelude.{◌≡◌, ◌+◌, ◌≤◌, ℕ, List, option_map, IfOk, map};
 ghost use Rattle.branching.specs.Arcs.{pair};
 ghost use Rattle.tenths.specs.declared.value.TheConstants.{MOST_TENTHS};
 ghost use Rattle.branching.specs.Nodes.{node_of};
@@ -22,7 +22,6 @@ use crate::outcome::Outcome;
 use branching::{Arc, TreeNode};
 use prices::Priced;
 use schedule::Feasible;
-use solomon_reader::Instance;
 use std::alloc::{AllocError, Global};
 use std::marker::Model;
 use tenths::Tenths;
@@ -74,13 +73,6 @@ impl<'i> Model for Book<'i> {
         }) b.arena };
 }
 
-/// A list for the events, with some room.
-fn new_history(alloc: Global) -> Result<Vec<Event>, AllocError>
-    ensures { IfOk result (λ v. v.items ≡ []) }
-{
-    Ok(Vec::with_capacity(alloc, FIRST_ROOM)?)
-}
-
 impl<'i> Book<'i> {
     /// A book of these prices at the root, with the greatest limits. `NotRoot` where an arc is
     /// decided, and `Memory`; a refusal gives the prices back.
@@ -110,7 +102,7 @@ impl<'i> Book<'i> {
         let bounded = Bounded::new(root.instance());
         let neighbours = root.neighbours();
         let value = value_of(&root);
-        let Ok(history) = new_history(alloc) else {
+        let Ok(history) = Vec::with_capacity(alloc, FIRST_ROOM) else {
             return Err((root, OpenFault::Memory));
         };
         match Arena::new(alloc, root) {
@@ -238,37 +230,14 @@ impl<'i> Book<'i> {
     pub fn finish(self) -> Outcome<'i>
         ensures { result ≡ self.entry }
     {
-        Outcome::of(self)
+        Outcome { book: self }
     }
 
     /// The laws of a book hold.
-    fn holds(&self)
+    pub(crate) fn holds(&self)
         ensures { IsBook self.now }
     {
         let _ = &self.bounded;
-    }
-
-    /// The incumbent, a plan of the best cost offered, or none if nothing was.
-    pub(crate) fn plan(&self) -> Option<&Feasible<'i>>
-        ensures value { option_map (λ plan. plan.now) result ≡ self.now.incumbent }
-        ensures book { IsBook self.now }
-    {
-        self.holds();
-        self.incumbent.as_ref()
-    }
-
-    /// The instance.
-    pub(crate) fn instance(&self) -> &'i Instance
-        ensures { result.now ≡ self.now.problem }
-    {
-        self.bounded.instance()
-    }
-
-    /// How many neighbours each customer has in relaxed routes.
-    pub(crate) fn neighbours(&self) -> u32
-        ensures { result ≡ self.now.neighbours }
-    {
-        self.neighbours
     }
 
     /// The nodes of the tree, in preorder.

@@ -21,7 +21,7 @@ use tenths::Tenths;
 /// A finished book. Contracts see what the book had.
 #[derive(Drop)]
 pub struct Outcome<'i> {
-    book: Book<'i>,
+    pub(crate) book: Book<'i>,
 }
 
 impl<'i> Model for Outcome<'i> {
@@ -34,19 +34,13 @@ impl<'i> Model for Outcome<'i> {
 }
 
 impl<'i> Outcome<'i> {
-    /// What a book leaves.
-    pub(crate) fn of(book: Book<'i>) -> Outcome<'i>
-        ensures { result ≡ book.entry }
-    {
-        Outcome { book }
-    }
-
     /// The incumbent, a plan of the best cost offered, or none if nothing was.
     pub fn plan(&self) -> Option<&Feasible<'i>>
         ensures value { option_map (λ plan. plan.now) result ≡ self.now.incumbent }
         ensures book { IsBook self.now }
     {
-        self.book.plan()
+        self.book.holds();
+        self.book.incumbent.as_ref()
     }
 
     /// The least of the leaves' values and the ceiling plus one, in tenths, which no plan's cost is
@@ -65,14 +59,14 @@ impl<'i> Outcome<'i> {
     pub fn instance(&self) -> &'i Instance
         ensures { result.now ≡ self.now.problem }
     {
-        self.book.instance()
+        self.book.bounded.instance()
     }
 
     /// How many neighbours each customer has in relaxed routes.
     pub fn neighbours(&self) -> u32
         ensures { result ≡ self.now.neighbours }
     {
-        self.book.neighbours()
+        self.book.neighbours
     }
 
     /// The nodes of the tree in preorder, the child in which an arc is required first. Its bound is
@@ -82,6 +76,24 @@ impl<'i> Outcome<'i> {
             (map node_of v.items ≡ preorder tree)) }
     {
         self.book.nodes(alloc)
+    }
+
+    /// The incumbent, if there is one, the bound of `bound` and the nodes of `nodes`. `AllocError` where memory
+    /// is refused.
+    pub fn into_parts(
+        self,
+        alloc: Global,
+    ) -> Result<(Option<Feasible<'i>>, Tenths, Vec<TreeNode>), AllocError>
+        ensures plan { IfOk result (λ r. r.0 ≡ self.entry.incumbent) }
+        ensures bound { IfOk result (λ r. IsBound self.entry.problem self.entry.root
+            self.entry.past r.1) }
+        ensures nodes { IfOk result (λ r. (tree : Tree) × IsTreeOf self.entry tree
+            × (map node_of r.2.items ≡ preorder tree)) }
+        ensures book { IsBook self.entry }
+    {
+        let bound = self.bound();
+        let nodes = self.nodes(alloc)?;
+        Ok((self.book.incumbent, bound, nodes))
     }
 
     /// The accepted calls, in order.

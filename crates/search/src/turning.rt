@@ -2,6 +2,7 @@
 
 ghost use Rattle.std.specs.Prelude.{◌≡◌, IfOk, IfSome};
 ghost use Rattle.solomon_reader.specs.Moves.{IsLocalOptimum};
+ghost use Rattle.schedule.specs.Solution.{IsSolution};
 ghost use Rattle.search.specs.Turning.{IsDescent, IsOptimumBelow};
 
 use crate::descent::descend;
@@ -37,9 +38,11 @@ impl Pace {
     }
 }
 
-/// The plan that a descent from another comes to.
-pub(crate) fn descended<'i>(alloc: Global, plan: &Feasible<'i>) -> Result<Feasible<'i>, SearchFault>
-    ensures { IfOk result (IsDescent plan.now) }
+/// The plan that a descent from another comes to, as `Searcher::descend` makes it. `Memory` where memory was
+/// refused.
+pub fn descended<'i>(alloc: Global, plan: &Feasible<'i>) -> Result<Feasible<'i>, SearchFault>
+    ensures descent { IfOk result (IsDescent plan.now) }
+    ensures solution { IfOk result IsSolution }
 {
     let mut working = WorkingPlan::new(alloc, plan)?;
     descend(&mut working)?;

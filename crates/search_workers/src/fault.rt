@@ -3,6 +3,7 @@
 ghost use Rattle.std.specs.Prelude.{◌≡◌};
 ghost use Rattle.search_workers.specs.declared.fault.RunFault.TheVariants.{Memory};
 
+use search::SearchFault;
 use std::alloc::AllocError;
 use thiserror::Error;
 
@@ -27,6 +28,14 @@ impl From<AllocError> for RunFault {
     ghost from_gives = { λ _ e. e ≡ Memory };
 
     fn from(_e: AllocError) -> RunFault {
+        RunFault::Memory
+    }
+}
+
+impl From<SearchFault> for RunFault {
+    ghost from_gives = { λ _ e. e ≡ Memory };
+
+    fn from(_e: SearchFault) -> RunFault {
         RunFault::Memory
     }
 }

@@ -8,10 +8,8 @@ mod opening;
 mod post;
 mod running;
 
-pub use closing::{CloseAloneFault, Closed, MOST_CLOSED, close_alone};
 pub use fault::RunFault;
 pub use running::{run, run_from};
 pub use worker_turns::{
-    Gate, GatePoint, Hub, MOST_BOUNDERS, MOST_GAP, MOST_LABELS, MOST_SEARCHERS, MOST_TURNS, NoGate,
-    Nodes, Settings, Worker, bound_worker, generator, search_worker,
+    Gate, GatePoint, Hub, Nodes, Settings, Worker, bound_worker, generator, search_worker,
 };

@@ -18,11 +18,10 @@ use labelling::LabelFault;
 use price_ascent::{start_from, start_without_plan};
 use prices::Priced;
 use schedule::Feasible;
-use search::Searcher;
+use search::descended;
 use solomon_reader::Instance;
 use std::alloc::{AllocError, Global};
-use std::thread::Threads;
-use worker_turns::{Settings, generator, pricing_labels};
+use worker_turns::{Settings, pricing_labels};
 
 /// The worker that offers the first plan.
 const FIRST_WORKER: u16 = 0;
@@ -32,20 +31,6 @@ const FIRST_WORKER: u16 = 0;
 pub(crate) struct Opening<'i> {
     pub(crate) book: Book<'i>,
     pub(crate) plan: Option<Feasible<'i>>,
-}
-
-/// The plan that a descent leads to, or as far as memory lets it come.
-fn descend<'i, R: Threads + Sync>(
-    rt: &R,
-    alloc: Global,
-    plan: Feasible<'i>,
-    seed: u32,
-) -> Feasible<'i>
-    ensures { result.problem ≡ plan.entry.problem }
-{
-    let mut searcher = Searcher::new(alloc, plan, generator(seed, FIRST_WORKER));
-    let _ = searcher.descend_parallel(rt);
-    searcher.into_plan()
 }
 
 /// The root with prices of zero. `LabelLimit` where the labels don't suffice for them, and `Memory`.
@@ -118,12 +103,10 @@ fn offer<'i>(book: &mut Book<'i>, plan: Feasible<'i>) -> Result<(), RunFault>
 
 /// Offers a plan, and what a descent makes of it where that is cheaper; answers the plan to go on
 /// from.
-fn offer_both<'i, R: Threads + Sync>(
-    rt: &R,
+fn offer_both<'i>(
     alloc: Global,
     book: &mut Book<'i>,
     plan: Feasible<'i>,
-    seed: u32,
 ) -> Result<Feasible<'i>, RunFault>
     requires problem { plan.problem ≡ book.old.problem }
     requires room { length book.old.past + 1 < book.old.limits.events }
@@ -133,7 +116,7 @@ fn offer_both<'i, R: Threads + Sync>(
     ensures memory { IfErr result (λ e. e ≡ Memory) }
 {
     let cost = plan.cost();
-    let lower = descend(rt, alloc, plan.try_clone()?, seed);
+    let lower = descended(alloc, &plan)?;
     offer(book, plan)?;
     if lower.cost().get() < cost.get() {
         offer(book, lower.try_clone()?)?;
@@ -144,8 +127,7 @@ fn offer_both<'i, R: Threads + Sync>(
 impl<'i> Opening<'i> {
     /// A book of the root that was offered a first plan and what a descent makes of it, if insertion builds one
     /// or one is given, the cheaper one; else its prices begin where they may show that there is no plan.
-    pub(crate) fn new<R: Threads + Sync>(
-        rt: &R,
+    pub(crate) fn new(
         alloc: Global,
         instance: &'i Instance,
         settings: &Settings,
@@ -167,7 +149,7 @@ impl<'i> Opening<'i> {
         };
         let root = start_from(alloc, root, plan.routes(), labels);
         let mut book = open_book(alloc, root)?;
-        let plan = offer_both(rt, alloc, &mut book, plan, settings.seed)?;
+        let plan = offer_both(alloc, &mut book, plan)?;
         Ok(Opening {
             book,
             plan: Some(plan),

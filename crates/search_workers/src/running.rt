@@ -263,7 +263,7 @@ pub fn run_from<'i, R: Threads + Wait + Sync, G: Gate + Sync>(
     if !settings.is_within() {
         return Err(RunFault::BadSettings);
     }
-    let opening = Opening::new(rt, alloc, instance, settings, start)?;
+    let opening = Opening::new(alloc, instance, settings, start)?;
     let given = Given {
         rt,
         alloc,

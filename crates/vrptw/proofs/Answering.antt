@@ -8,7 +8,7 @@ use Rattle.tenths.specs.Sink.{Held}
 use Rattle.schedule.specs.Solution.{Solution}
 use Rattle.insertion.specs.Building.{IsServedAlone}
 use Rattle.closing.specs.Closing.{IsClosed, known_or_above, costs}
-use Rattle.closing.specs.declared.closed.Closed.{Closed}
+use Rattle.closing.specs.declared.found.Found.{Found}
 use Rattle.search_workers.specs.Running.{RefusesSettings}
 use Rattle.search_workers.specs.declared.fault.RunFault.{RunFault}
 use Rattle.search_workers.specs.declared.fault.RunFault.TheVariants as run
@@ -61,7 +61,7 @@ most_at : (p : Problem) (plan : Option Solution) (bound cost : ℕ) → bound �
 most_at p None bound cost meets most = absurd most
 most_at p (Some f) bound cost meets most = omega (arith, meets, most)
 
-module _ (p : Problem) (k limit : ℕ) (closed : Closed) (is : IsClosed p k limit closed) where
+module _ (p : Problem) (k limit : ℕ) (closed : Found) (is : IsClosed p k limit closed) where
   none_closed : closed.plan ≡ None → HasNoPlan p
   none_closed e routes plan =
       let above = rw e at is.meets in

@@ -1,14 +1,20 @@
 -- The tree of an outcome is one of its instance.
-use Rattle.std.proofs.Common.{◌≡◌, refl, ℕ, ◌≤◌, List, map, arith}
-use Rattle.std.specs.Prelude.{ℤ}
+use Rattle.std.proofs.Common.{◌≡◌, refl, ℕ, ◌≤◌, List, map, Option, Some, None, arith}
+use Rattle.std.specs.Prelude.{ℤ, IfSome}
+use Rattle.solomon_reader.specs.Problem.{Problem}
 use Rattle.solomon_reader.specs.declared.limits.TheConstants.{MOST_NEIGHBOURS}
 use Rattle.solomon_reader.specs.Bound.{Tree, leaf, split, preorder}
 use Rattle.solomon_reader.specs.CertificateText.{leaf_count}
 use Rattle.solomon_reader.specs.History.{Event, IsLeaf, IsBound, used_number}
 use Rattle.branching.specs.Nodes.{node_of, IsListedTree}
 use Rattle.branching.specs.declared.tree_node.TreeNode.{TreeNode}
-use Rattle.incumbent_book.specs.Contents.{Contents, IsBook}
+use Rattle.schedule.specs.Solution.{Solution}
+use Rattle.incumbent_book.specs.Contents.{Contents, IsBook, IsOfProblem}
 use Rattle.incumbent_book.specs.Trees.{GrowsAt, IsTreeOf}
+
+pub own_plan : (p : Problem) (plan : Option Solution) → IsOfProblem p plan → IfSome plan (λ g. g.problem ≡ p)
+own_plan p None is = tt
+own_plan p (Some g) is = is.1
 
 -- a tree has a leaf
 leaf_of : (past : List Event) (prices : List (List ℤ)) (m : ℕ) (tree : Tree) → GrowsAt past prices m tree → (l : ℕ) × IsLeaf past l

@@ -10,9 +10,9 @@ use Rattle.solomon_reader.specs.declared.fault.ReadFault.TheVariants as read
 use Rattle.solomon_reader.specs.declared.limits.TheConstants.{MOST_LEAVES}
 use Rattle.branching.specs.declared.tree_node.TreeNode.{TreeNode}
 use Rattle.closing.specs.Closing.{IsStopped}
-use Rattle.closing.specs.declared.closed.CloseAloneFault.{CloseAloneFault}
-use Rattle.closing.specs.declared.closed.CloseAloneFault.TheVariants as alone
-use Rattle.closing.specs.declared.closed.TheConstants.{MOST_CLOSED}
+use Rattle.closing.specs.declared.fault.CloseAloneFault.{CloseAloneFault}
+use Rattle.closing.specs.declared.fault.CloseAloneFault.TheVariants as alone
+use Rattle.closing.specs.declared.fault.TheConstants.{MOST_CLOSED}
 use Rattle.worker_turns.specs.declared.settings.Settings.{Settings}
 use Rattle.worker_turns.specs.Settings.{IsWithin}
 use Rattle.vrptw.specs.declared.answer.Answer.{Answer}

@@ -7,11 +7,11 @@ use Rattle.solomon_reader.specs.Bound.{ceiling_of}
 use Rattle.solomon_reader.specs.declared.limits.TheConstants.{MOST_NEIGHBOURS}
 use Rattle.schedule.specs.Solution.{Solution, IsSolution}
 use Rattle.branching.specs.Nodes.{IsListedTree}
+use Rattle.closing.specs.declared.found.Found.{Found}
 use Rattle.vrptw.specs.declared.answer.Answer.{Answer}
 use Rattle.vrptw.specs.declared.answer.Answer.TheVariants.{Best, Gap, NoPlan, Open}
 use Rattle.vrptw.specs.declared.answer.SolveFault.{SolveFault}
 use Rattle.vrptw.specs.declared.answer.SolveFault.TheVariants as fault
-use Rattle.vrptw.specs.declared.found.Found.{Found}
 use Rattle.vrptw.specs.Answers.{Answers, Breaks}
 
 -- a plan of the instance, if there is one, and a tree for so many neighbours with its bound

@@ -3,8 +3,9 @@
 ghost use Rattle.std.specs.Prelude.{◌≡◌};
 ghost use Rattle.vrptw.specs.declared.answer.SolveFault.TheVariants as fault;
 
+use closing::CloseAloneFault;
 use search::SearchFault;
-use search_workers::{CloseAloneFault, RunFault};
+use search_workers::RunFault;
 use solomon_reader::ReadFault;
 use std::alloc::AllocError;
 use tenths::Tenths;

@@ -49,6 +49,7 @@ pub(crate) fn certify(
     ensures memory { IfErr result (λ e. e ≡ Memory) }
 {
     instance.law_of_limits();
+    // brings in that tenths have a limit
     let _within = bound.get();
     let parts = CertParts {
         version: Version::Two,

@@ -6,16 +6,14 @@ ghost use Rattle.vrptw.specs.Closing.{AreWithin, Closes};
 ghost use Rattle.vrptw.specs.Starting.{IsAtMost, IsPlanAt, TellsFrom};
 
 use crate::answer::{Answer, SolveFault};
-use crate::found::Found;
-use crate::solving::read_instance;
+use crate::solving::{Given, read_instance};
 use crate::starting::{StartFault, read_start};
 use crate::writing::write_found;
-use closing::Closed;
 use schedule::Feasible;
-use search_workers::Settings;
-use solomon_reader::{Instance, MOST_LEAVES};
+use solomon_reader::MOST_LEAVES;
 use std::alloc::Global;
 use tenths::Sink;
+use worker_turns::Settings;
 
 /// Whether the settings and the number of leaves are within their ranges.
 fn are_within(settings: &Settings, leaf_limit: u32) -> bool
@@ -26,28 +24,29 @@ fn are_within(settings: &Settings, leaf_limit: u32) -> bool
 
 /// Closes an instance, from a plan if there is one, and writes what is found.
 fn close_instance<'i, X: Sink, Y: Sink>(
-    alloc: Global,
-    instance: &'i Instance,
+    given: Given<'_, 'i>,
     start: Option<Feasible<'i>>,
-    settings: &Settings,
     leaf_limit: u32,
     solution: &mut X,
     certificate: &mut Y,
 ) -> Result<Answer, SolveFault>
-    requires { IfSome start (IsPlanAt instance.now) }
-    ensures closed { (text : List ℕ) → IsInstance text instance.now
-        → Closes text settings.now leaf_limit
+    requires { IfSome start (IsPlanAt given.instance.now) }
+    ensures closed { (text : List ℕ) → IsInstance text given.entry.instance.now
+        → Closes text given.entry.settings.now leaf_limit
         (X.held solution.old) (X.held solution.new)
         (Y.held certificate.old) (Y.held certificate.new) result }
     ensures at_most { IfOk result (λ a. IfSome start.entry (λ f. IsAtMost f.cost a)) }
 {
+    let Given {
+        alloc,
+        instance,
+        settings,
+    } = given;
     if !are_within(settings, leaf_limit) {
         return Err(SolveFault::BadSettings);
     }
     let neighbours = settings.neighbours;
-    let (closed, _pricings) = closing::close_from(alloc, instance, neighbours, leaf_limit, start)?;
-    let Closed { plan, bound, nodes } = closed;
-    let found = Found { plan, bound, nodes };
+    let (found, _pricings) = closing::close_from(alloc, instance, neighbours, leaf_limit, start)?;
     write_found(alloc, instance, neighbours, found, solution, certificate)
 }
 
@@ -111,14 +110,11 @@ pub fn close_from<X: Sink, Y: Sink>(
 {
     let instance = &read_instance(alloc, text)?;
     let start = read_start(alloc, instance, start)?;
-    let answer = close_instance(
+    let given = Given {
         alloc,
         instance,
-        start,
         settings,
-        leaf_limit,
-        solution,
-        certificate,
-    )?;
+    };
+    let answer = close_instance(given, start, leaf_limit, solution, certificate)?;
     Ok(answer)
 }

@@ -3,10 +3,10 @@
 ghost use Rattle.std.specs.Prelude.{◌<◌};
 
 use incumbent_book::Gap;
-use search_workers::{Gate, GatePoint, Settings};
 use std::io;
 use std::sync::atomic::{AtomicBool, AtomicU64, Ordering};
 use tenths::Tenths;
+use worker_turns::{Gate, GatePoint, Settings, is_near};
 
 /// A gate that holds nobody, and tells on standard error how far the turns are: at most once for each
 /// hundredth of them, until cost and bound are as near as is enough. It has no lock.
@@ -70,12 +70,6 @@ fn write_progress<R: Eprint>(rt: &R, is_live: bool, stage: Stage, gap: &Gap) -> 
     )
 }
 
-/// Whether a bound is further below a cost than so many tenths of a percent of the cost.
-fn is_apart(cost: u64, bound: u64, enough: u32) -> bool {
-    let apart = cost.saturating_sub(bound).saturating_mul(1_000);
-    apart > cost.saturating_mul(u64::from(enough))
-}
-
 impl<'a, R: Eprint> Progress<'a, R> {
     /// For all turns that the settings ask for.
     pub(crate) fn new(rt: &'a R, settings: &Settings, is_live: bool) -> Progress<'a, R> {
@@ -111,11 +105,7 @@ impl<'a, R: Eprint> Gate for Progress<'a, R> {
         let made = self.made.fetch_add(1, Ordering::SeqCst).saturating_add(1);
         let before = made.saturating_sub(1).saturating_mul(100);
         let percent = before.saturating_add(100) / self.turns;
-        let is_open = match gap.cost {
-            Some(cost) => is_apart(cost.get(), gap.bound.get(), self.enough),
-            None => true,
-        };
-        if is_open && before / self.turns < percent {
+        if !is_near(gap, self.enough) && before / self.turns < percent {
             let leaves = self.splits.load(Ordering::SeqCst).saturating_add(1);
             let stage = Stage {
                 percent,

@@ -6,17 +6,18 @@ ghost use Rattle.vrptw.specs.Answers.{Solves, RefusesText};
 ghost use Rattle.vrptw.specs.Starting.{IsAtMost, IsPlanAt, TellsFrom};
 
 use crate::answer::{Answer, SolveFault};
-use crate::found::{Found, found_by};
+use crate::found::found_by;
 use crate::starting::{StartFault, read_start};
 use crate::writing::write_found;
-use closing::cheaper;
+use closing::{Found, cheaper};
 use schedule::Feasible;
-use search_workers::{Gate, Settings, run_from};
+use search_workers::run_from;
 use solomon_reader::{Instance, ReadFault, read};
 use std::alloc::Global;
 use std::sync::Wait;
 use std::thread::Threads;
 use tenths::Sink;
+use worker_turns::{Gate, Settings};
 
 /// The instance that a text is.
 pub(crate) fn read_instance(alloc: Global, text: &[u8]) -> Result<Instance, SolveFault>
@@ -30,39 +31,45 @@ pub(crate) fn read_instance(alloc: Global, text: &[u8]) -> Result<Instance, Solv
     }
 }
 
+/// What a run or a closing is given.
+#[derive(Clone, Copy)]
+pub(crate) struct Given<'a, 'i> {
+    pub(crate) alloc: Global,
+    pub(crate) instance: &'i Instance,
+    pub(crate) settings: &'a Settings,
+}
+
 /// Solves an instance, from a plan if there is one, and writes what is found.
 fn solve_instance<'i, R: Threads + Wait + Sync, G: Gate + Sync, X: Sink, Y: Sink>(
     rt: &R,
-    alloc: Global,
-    instance: &'i Instance,
+    given: Given<'_, 'i>,
     start: Option<Feasible<'i>>,
-    settings: &Settings,
     gate: &G,
     solution: &mut X,
     certificate: &mut Y,
 ) -> Result<Answer, SolveFault>
-    requires { IfSome start (IsPlanAt instance.now) }
-    ensures solved { (text : List ℕ) → IsInstance text instance.now → Solves text settings.now
+    requires { IfSome start (IsPlanAt given.instance.now) }
+    ensures solved { (text : List ℕ) → IsInstance text given.entry.instance.now
+        → Solves text given.entry.settings.now
         (X.held solution.old) (X.held solution.new)
         (Y.held certificate.old) (Y.held certificate.new) result }
     ensures at_most { IfOk result (λ a. IfSome start.entry (λ f. IsAtMost f.cost a)) }
 {
+    let Given {
+        alloc,
+        instance,
+        settings,
+    } = given;
     let copy = match &start {
         Some(plan) => Some(plan.try_clone()?),
         None => None,
     };
     let outcome = run_from(rt, alloc, instance, settings, gate, copy)?;
-    let Found { plan, bound, nodes } = found_by(alloc, &outcome)?;
+    let Found { plan, bound, nodes } = found_by(alloc, outcome)?;
     let plan = cheaper(start, plan);
     let found = Found { plan, bound, nodes };
-    write_found(
-        alloc,
-        instance,
-        settings.neighbours,
-        found,
-        solution,
-        certificate,
-    )
+    let neighbours = settings.neighbours;
+    write_found(alloc, instance, neighbours, found, solution, certificate)
 }
 
 /// Solves the instance of a text: writes a plan to the first sink, if one was found, and then to
@@ -119,15 +126,11 @@ pub fn solve_from<R: Threads + Wait + Sync, G: Gate + Sync, X: Sink, Y: Sink>(
 {
     let instance = &read_instance(alloc, text)?;
     let start = read_start(alloc, instance, start)?;
-    let answer = solve_instance(
-        rt,
+    let given = Given {
         alloc,
         instance,
-        start,
         settings,
-        gate,
-        solution,
-        certificate,
-    )?;
+    };
+    let answer = solve_instance(rt, given, start, gate, solution, certificate)?;
     Ok(answer)
 }

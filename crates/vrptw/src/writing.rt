@@ -9,11 +9,10 @@ ghost use Rattle.vrptw.specs.declared.answer.SolveFault.TheVariants.{Memory};
 
 use crate::answer::{Answer, SolveFault};
 use crate::certifying::certify;
-use crate::found::Found;
 use certificate::Cert;
+use closing::Found;
 use schedule::Feasible;
-use search::Searcher;
-use search_workers::generator;
+use search::descended;
 use solomon_reader::Instance;
 use std::alloc::Global;
 use tenths::Sink;
@@ -29,11 +28,7 @@ fn descend<'i>(
     let Some(plan) = plan else {
         return Ok(None);
     };
-    // A descent draws no random words.
-    let mut searcher = Searcher::new(alloc, plan, generator(0, 0));
-    searcher.descend()?;
-    let lower = searcher.into_plan();
-    let _cost = lower.cost();
+    let lower = descended(alloc, &plan)?;
     Ok(Some(lower))
 }
 

@@ -20,4 +20,4 @@ pub use pricing::pricing_labels;
 pub use random::generator;
 pub use searching::search_worker;
 pub use settings::{MOST_BOUNDERS, MOST_GAP, MOST_LABELS, MOST_SEARCHERS, MOST_TURNS, Settings};
-pub use worker::Worker;
+pub use worker::{Worker, is_near};

@@ -1,6 +1,6 @@
 //! One worker, and all that it reaches the others by.
 
-ghost use Rattle.std.specs.Prelude.{◌≡◌};
+ghost use Rattle.std.specs.Prelude.{◌≡◌, ◌≤◌, ◌-◌, ◌*◌, ◌↔◌, IsTrue, MatchOption};
 ghost use Rattle.ceiling.specs.Seats.{IsSeatOf};
 
 use crate::gate::{Gate, GatePoint};
@@ -38,10 +38,17 @@ pub struct Worker<'a, 'i, H, G> {
     pub ghost own: { IsSeatOf ceiling.now seat },
 }
 
-/// Whether a bound is no further below a cost than so many tenths of a percent of the cost.
-fn is_near(cost: u64, bound: u64, enough: u32) -> bool {
-    let apart = cost.saturating_sub(bound).saturating_mul(1_000);
-    apart <= cost.saturating_mul(u64::from(enough))
+/// Whether a plan is known and the bound is no further below its cost than so many tenths of a percent of the
+/// cost.
+pub fn is_near(gap: &Gap, enough: u32) -> bool
+    ensures { IsTrue result ↔ MatchOption gap.now.cost ⊥
+        (λ cost. (cost - gap.now.bound) * 1000 ≤ cost * enough) }
+{
+    let Some(cost) = gap.cost else {
+        return false;
+    };
+    let apart = cost.get().saturating_sub(gap.bound.get()) * 1_000;
+    apart <= cost.get().saturating_mul(u64::from(enough))
 }
 
 impl<'i, H: Hub<'i>, G: Gate> Worker<'_, 'i, H, G> {
@@ -75,11 +82,7 @@ impl<'i, H: Hub<'i>, G: Gate> Worker<'_, 'i, H, G> {
         ensures { self.new.ceiling ≡ self.old.ceiling }
     {
         let (target, gap) = (self.target(), self.gap());
-        let bound = gap.bound.get();
-        match gap.cost {
-            Some(cost) => is_near(cost.get(), bound, self.enough),
-            None => target <= bound,
-        }
+        target <= gap.bound.get() || is_near(&gap, self.enough)
     }
 
     /// Ends a turn.

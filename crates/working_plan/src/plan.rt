@@ -3,6 +3,7 @@
 ghost use Rattle.std.specs.Prelude.{◌≡◌, ℤ, pos, ◌+ℤ◌, ◌-ℤ◌, ◌≤ℤ◌, IfOk, IfErr, OnOk, OnErr, IfSome, IfNone};
 ghost use Rattle.tenths.specs.declared.value.TheConstants.{MOST_TENTHS};
 ghost use Rattle.solomon_reader.specs.Lists.{lists};
+ghost use Rattle.schedule.specs.Solution.{IsSolution};
 ghost use Rattle.moves.specs.Values.{after, HasValue};
 ghost use Rattle.moves.specs.declared.fault.MoveFault.TheVariants.{NotFeasible};
 ghost use Rattle.working_plan.specs.Gains.{HasNoGain, IsBestGain};
@@ -96,7 +97,8 @@ impl<'i> WorkingPlan<'i> {
 
     /// The plan. It takes no memory.
     pub fn into_plan(self) -> Feasible<'i>
-        ensures { result ≡ self.entry }
+        ensures is { result ≡ self.entry }
+        ensures solution { IsSolution result }
     {
         Feasible::known(self.trees.instance(), self.routes)
     }

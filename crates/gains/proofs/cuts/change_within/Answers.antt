@@ -15,55 +15,23 @@ returns c =
     let a4 = c.arc-4.result in
     let a5 = c.arc-5.result in
     let a6 = c.arc-6.result in
-    let w1 : to_z w64 (of_z w64 a1) ≡ a1 = whole a1 (omega (arith, ints, c.arc.ensures.value)) (omega (arith, ints, c.arc.ensures.bound)) in
-    let w2 : to_z w64 (of_z w64 a2) ≡ a2 = whole a2 (omega (arith, ints, c.arc-2.ensures.value)) (omega (arith, ints, c.arc-2.ensures.bound)) in
-    let w3 : to_z w64 (of_z w64 a3) ≡ a3 = whole a3 (omega (arith, ints, c.arc-3.ensures.value)) (omega (arith, ints, c.arc-3.ensures.bound)) in
-    let w4 : to_z w64 (of_z w64 a4) ≡ a4 = whole a4 (omega (arith, ints, c.arc-4.ensures.value)) (omega (arith, ints, c.arc-4.ensures.bound)) in
-    let w5 : to_z w64 (of_z w64 a5) ≡ a5 = whole a5 (omega (arith, ints, c.arc-5.ensures.value)) (omega (arith, ints, c.arc-5.ensures.bound)) in
-    let w6 : to_z w64 (of_z w64 a6) ≡ a6 = whole a6 (omega (arith, ints, c.arc-6.ensures.value)) (omega (arith, ints, c.arc-6.ensures.bound)) in
-    let s1 : to_z w64 (of_z w64 (a1 +ℤ a2)) ≡ (a1 +ℤ a2) =
-    whole (a1 +ℤ a2) (omega (arith, ints, c.arc.ensures.value, c.arc-2.ensures.value))
-    (omega (arith, ints, c.arc.ensures.value, c.arc.ensures.bound, c.arc-2.ensures.value, c.arc-2.ensures.bound)) in
-    let s2 : to_z w64 (of_z w64 (a1 +ℤ a2 +ℤ a3)) ≡ (a1 +ℤ a2 +ℤ a3) =
-    whole (a1 +ℤ a2 +ℤ a3) (omega (arith, ints, c.arc.ensures.value, c.arc-2.ensures.value, c.arc-3.ensures.value))
-    (omega (arith, ints, c.arc.ensures.value, c.arc.ensures.bound, c.arc-2.ensures.value, c.arc-2.ensures.bound, c.arc-3.ensures.value, c.arc-3.ensures.bound)) in
-    let s3 : to_z w64 (of_z w64 (a4 +ℤ a5)) ≡ (a4 +ℤ a5) =
-    whole (a4 +ℤ a5) (omega (arith, ints, c.arc-4.ensures.value, c.arc-5.ensures.value))
-    (omega (arith, ints, c.arc-4.ensures.value, c.arc-4.ensures.bound, c.arc-5.ensures.value, c.arc-5.ensures.bound)) in
-    let s4 : to_z w64 (of_z w64 (a4 +ℤ a5 +ℤ a6)) ≡ (a4 +ℤ a5 +ℤ a6) =
-    whole (a4 +ℤ a5 +ℤ a6) (omega (arith, ints, c.arc-4.ensures.value, c.arc-5.ensures.value, c.arc-6.ensures.value))
-    (omega (arith, ints, c.arc-4.ensures.value, c.arc-4.ensures.bound, c.arc-5.ensures.value, c.arc-5.ensures.bound, c.arc-6.ensures.value, c.arc-6.ensures.bound)) in
-    let s5 : to_z w64 (of_z w64 ((a1 +ℤ a2 +ℤ a3) -ℤ (a4 +ℤ a5 +ℤ a6))) ≡ ((a1 +ℤ a2 +ℤ a3) -ℤ (a4 +ℤ a5 +ℤ a6)) =
-    whole ((a1 +ℤ a2 +ℤ a3) -ℤ (a4 +ℤ a5 +ℤ a6)) (omega (
-      arith,
-      ints,
-      c.arc.ensures.value,
-      c.arc.ensures.bound,
-      c.arc-2.ensures.value,
-      c.arc-2.ensures.bound,
-      c.arc-3.ensures.value,
-      c.arc-3.ensures.bound,
-      c.arc-4.ensures.value,
-      c.arc-4.ensures.bound,
-      c.arc-5.ensures.value,
-      c.arc-5.ensures.bound,
-      c.arc-6.ensures.value,
-      c.arc-6.ensures.bound,
-    )) (omega (
-      arith,
-      ints,
-      c.arc.ensures.value,
-      c.arc.ensures.bound,
-      c.arc-2.ensures.value,
-      c.arc-2.ensures.bound,
-      c.arc-3.ensures.value,
-      c.arc-3.ensures.bound,
-      c.arc-4.ensures.value,
-      c.arc-4.ensures.bound,
-      c.arc-5.ensures.value,
-      c.arc-5.ensures.bound,
-      c.arc-6.ensures.value,
-      c.arc-6.ensures.bound,
-    )) in
-    rw (w1, w2, s1, w3, s2, w4, w5, s3, w6, s4, s5) (omega
-    (arith, ints, c.arc.ensures.value, c.arc-2.ensures.value, c.arc-3.ensures.value, c.arc-4.ensures.value, c.arc-5.ensures.value, c.arc-6.ensures.value))
+    let v1 = c.arc.ensures in
+    let v2 = c.arc-2.ensures in
+    let v3 = c.arc-3.ensures in
+    let v4 = c.arc-4.ensures in
+    let v5 = c.arc-5.ensures in
+    let v6 = c.arc-6.ensures in
+    let w1 = whole a1 (omega (arith, ints, v1.value)) (omega (arith, ints, v1.bound)) in
+    let w2 = whole a2 (omega (arith, ints, v2.value)) (omega (arith, ints, v2.bound)) in
+    let w3 = whole a3 (omega (arith, ints, v3.value)) (omega (arith, ints, v3.bound)) in
+    let w4 = whole a4 (omega (arith, ints, v4.value)) (omega (arith, ints, v4.bound)) in
+    let w5 = whole a5 (omega (arith, ints, v5.value)) (omega (arith, ints, v5.bound)) in
+    let w6 = whole a6 (omega (arith, ints, v6.value)) (omega (arith, ints, v6.bound)) in
+    let s1 = whole (a1 +ℤ a2) (omega (arith, ints, v1.value, v2.value)) (omega (arith, ints, v1, v2)) in
+    let s2 = whole (a1 +ℤ a2 +ℤ a3) (omega (arith, ints, v1.value, v2.value, v3.value)) (omega (arith, ints, v1, v2, v3)) in
+    let s3 = whole (a4 +ℤ a5) (omega (arith, ints, v4.value, v5.value)) (omega (arith, ints, v4, v5)) in
+    let s4 = whole (a4 +ℤ a5 +ℤ a6) (omega (arith, ints, v4.value, v5.value, v6.value)) (omega (arith, ints, v4, v5, v6)) in
+    let s5 =
+    whole ((a1 +ℤ a2 +ℤ a3) -ℤ (a4 +ℤ a5 +ℤ a6)) (omega (arith, ints, v1, v2, v3, v4, v5, v6))
+    (omega (arith, ints, v1, v2, v3, v4, v5, v6)) in
+    rw (w1, w2, s1, w3, s2, w4, w5, s3, w6, s4, s5) (omega (arith, ints, v1.value, v2.value, v3.value, v4.value, v5.value, v6.value))

@@ -1,27 +1,15 @@
-//! What it is to close an instance.
+//! Why an instance isn't closed.
 
 ghost use Rattle.std.specs.Prelude.{◌≡◌};
-ghost use Rattle.closing.specs.declared.closed.CloseAloneFault.TheVariants as fault;
+ghost use Rattle.closing.specs.declared.fault.CloseAloneFault.TheVariants as fault;
 
 use branching::TreeNode;
-use schedule::Feasible;
 use std::alloc::AllocError;
 use tenths::Tenths;
 use thiserror::Error;
 
 /// The most customers of an instance that is closed.
 pub const MOST_CLOSED: u16 = 24;
-
-/// What a closed instance comes to: a plan that no plan is cheaper than, or none where there is none.
-#[derive(Debug, Drop)]
-pub struct Closed<'i> {
-    /// A plan whose cost is the bound.
-    pub plan: Option<Feasible<'i>>,
-    /// The least cost of a plan; without a plan the ceiling of plans' costs and one.
-    pub bound: Tenths,
-    /// The tree with that bound, in preorder.
-    pub nodes: Vec<TreeNode>,
-}
 
 /// Why an instance isn't closed.
 #[derive(Debug, Drop, Error)]

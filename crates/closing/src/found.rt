@@ -1,0 +1,16 @@
+//! What is found for an instance.
+
+use branching::TreeNode;
+use schedule::Feasible;
+use tenths::Tenths;
+
+/// A plan, if there is one, and a lower bound of every plan's cost with its tree.
+#[derive(Debug, Drop)]
+pub struct Found<'i> {
+    /// The plan; of a closed instance its cost is the bound.
+    pub plan: Option<Feasible<'i>>,
+    /// The bound, in tenths; of a closed instance without a plan the ceiling of plans' costs and one.
+    pub bound: Tenths,
+    /// The tree with that bound, in preorder.
+    pub nodes: Vec<TreeNode>,
+}
