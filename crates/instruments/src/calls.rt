@@ -12,15 +12,15 @@ use insertion::{Built, Weights, build};
 use labelling::least;
 use moves::{Move, Place, apply};
 use prices::{Priced, improve};
-use row_texts::{DEPOT, IN_LINE, instance_text, plan_at};
 use schedule::Feasible;
 use solomon_reader::{Instance, read};
 use std::alloc::Global;
 use std::fmt::{Debug, Display};
-use std::io;
 use std::sync::Wait;
 use std::thread::Threads;
+use std::{fmt, io};
 use tenths::MemorySink;
+use test_starts::{DEPOT, IN_LINE, instance_text, plan_at};
 use vrptw::{NoGate, Settings, solve_from};
 
 /// Two customers to the right of the depot, and two above it.
@@ -65,17 +65,22 @@ const CANDIDATE: Move = Move::TwoOptStar {
 /// How often each call is made.
 const CALLS: u32 = 2;
 
-/// Prints what became of a call, and a plan.
-fn tell_plan<R: Host>(rt: &R, what: &str, plan: &Feasible<'_>) -> io::Result<()> {
-    let (cost, routes) = (plan.cost().get(), plan.routes());
-    println!(rt; "{what} {cost} {routes:?}")
+/// A plan's cost in tenths, and its routes.
+#[derive(Drop)]
+struct Shown<'a, 'i>(&'a Feasible<'i>);
+
+impl Display for Shown<'_, '_> {
+    fn fmt<W: fmt::Write>(&self, f: &mut fmt::Formatter<W>) -> fmt::Result {
+        let (cost, routes) = (self.0.cost().get(), self.0.routes());
+        write!(f, "{cost} {routes:?}")
+    }
 }
 
 /// Builds a plan, and prints what came of it.
 fn tell_built<R: Host>(rt: &R, instance: &Instance) -> io::Result<()> {
     match build(rt.alloc(), instance, &Weights::plain()) {
         Ok(built) => match &built {
-            Built::Whole(plan) => tell_plan(rt, "Whole", plan),
+            Built::Whole(plan) => println!(rt; "Whole {}", Shown(plan)),
             Built::Part { .. } => println!(rt; "Part"),
         },
         Err(fault) => println!(rt; "{fault}"),
@@ -90,12 +95,11 @@ fn tell_applied<R: Host>(rt: &R, instance: &Instance) -> io::Result<()> {
     for _ in 0..CALLS {
         plan = match apply(rt.alloc(), plan, &CANDIDATE) {
             Ok(after) => {
-                tell_plan(rt, "Ok", &after)?;
+                println!(rt; "Ok {}", Shown(&after))?;
                 other.take().unwrap_or(after)
             }
             Err((same, fault)) => {
-                print!(rt; "{fault} ")?;
-                tell_plan(rt, "back", &same)?;
+                println!(rt; "{fault} back {}", Shown(&same))?;
                 same
             }
         };
@@ -110,11 +114,8 @@ fn tell_descents<R: Host>(rt: &R, instance: &Instance) -> io::Result<()> {
     let mut searcher = searcher_of(rt.alloc(), plan);
     for _ in 0..CALLS {
         match searcher.descend() {
-            Ok(()) => tell_plan(rt, "Ok", searcher.plan())?,
-            Err(fault) => {
-                print!(rt; "{fault} ")?;
-                tell_plan(rt, "held", searcher.plan())?;
-            }
+            Ok(()) => println!(rt; "Ok {}", Shown(searcher.plan()))?,
+            Err(fault) => println!(rt; "{fault} held {}", Shown(searcher.plan()))?,
         }
     }
     Ok(())
@@ -168,27 +169,24 @@ fn tell_outcome<R: Host, T: Debug, E: Display>(rt: &R, outcome: &Result<T, E>) -
     }
 }
 
-/// Prints the texts of sinks in quotes, each behind a blank, and ends the line.
-fn tell_taken<R: Host>(rt: &R, sinks: &[&MemorySink]) -> io::Result<()> {
-    for sink in sinks {
-        let taken = str::from_utf8(sink.as_slice()).unwrap_or("");
-        print!(rt; " {taken:?}")?;
-    }
-    println!(rt; "")
+/// The text that a sink took.
+fn taken(sink: &MemorySink) -> &str {
+    str::from_utf8(sink.as_slice()).unwrap_or("")
 }
 
-/// Writes the certificate, and prints what came of it.
+/// Writes the certificate, and prints what came of it and its text in quotes.
 fn tell_written<R: Host>(rt: &R, cert: &Cert) -> io::Result<()> {
     let mut sink = MemorySink::new(rt.alloc());
-    match certificate::write(cert, &mut sink) {
-        Ok(()) => print!(rt; "Ok")?,
-        Err(fault) => print!(rt; "{fault}")?,
+    let outcome = certificate::write(cert, &mut sink);
+    let text = taken(&sink);
+    match outcome {
+        Ok(()) => println!(rt; "Ok {text:?}"),
+        Err(fault) => println!(rt; "{fault} {text:?}"),
     }
-    tell_taken(rt, &[&sink])
 }
 
 /// Solves an instance by few turns of one worker of each kind, from a plan if there is one, and prints the answer
-/// and both texts.
+/// and both texts in quotes.
 fn tell_solved<R: Host + Threads + Wait>(
     rt: &R,
     text: &[u8],
@@ -196,14 +194,22 @@ fn tell_solved<R: Host + Threads + Wait>(
 ) -> io::Result<()> {
     let (alloc, mut settings) = (rt.alloc(), Settings::default());
     (settings.searchers, settings.bounders, settings.turns) = (1, 1, 2);
-    let (mut plan, mut tree) = (MemorySink::new(alloc), MemorySink::new(alloc));
-    match solve_from(
-        rt, alloc, text, start, &settings, &NoGate, &mut plan, &mut tree,
-    ) {
-        Ok(answer) => print!(rt; "Ok {answer:?}")?,
-        Err(fault) => print!(rt; "{fault}")?,
+    let (mut first, mut second) = (MemorySink::new(alloc), MemorySink::new(alloc));
+    let outcome = solve_from(
+        rt,
+        alloc,
+        text,
+        start,
+        &settings,
+        &NoGate,
+        &mut first,
+        &mut second,
+    );
+    let (plan, tree) = (taken(&first), taken(&second));
+    match outcome {
+        Ok(answer) => println!(rt; "Ok {answer:?} {plan:?} {tree:?}"),
+        Err(fault) => println!(rt; "{fault} {plan:?} {tree:?}"),
     }
-    tell_taken(rt, &[&plan, &tree])
 }
 
 /// Makes a call to which nothing is given back, and prints what came of it.

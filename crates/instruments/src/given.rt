@@ -3,13 +3,14 @@
 
 use crate::starts::{Host, made};
 use branching::{Arc, Region};
-use incumbent_book::{Book, Limits, Offered};
+use incumbent_book::{Book, BookFault, Limits, Offered};
 use prices::Priced;
-use row_texts::{book_of, children_at, plan_at, priced_at};
 use schedule::Feasible;
 use solomon_reader::Instance;
 use std::alloc::Global;
-use std::io;
+use std::fmt::Display;
+use std::{fmt, io};
+use test_starts::{book_of, children_at, plan_at, priced_at};
 
 /// How many events a book has room for at first.
 const FIRST_ROOM: usize = 16;
@@ -36,7 +37,7 @@ fn given_of<'i>(alloc: Global, instance: &'i Instance, name: &str) -> Option<Giv
     let root = Region::root(alloc, 2);
     Some(match name {
         "offer" => Given::Plan(plan_at(alloc, instance, &[&[1, 2]])?),
-        "reprice" => Given::Root(priced_at(alloc, instance, root, 1, &[100_000; 2], None)?),
+        "reprice" => Given::Root(priced_at(alloc, instance, root, 1, &[100_000; 2])?),
         _ => {
             let apart = root.forbidden(ONWARD).ok()?;
             let (used, unused) = children_at(alloc, instance, &apart, 1, BACK, &[0; 2])?;
@@ -60,59 +61,77 @@ fn book_for<'i>(alloc: Global, instance: &'i Instance, name: &str) -> Option<Boo
     Some(book)
 }
 
-/// Prints the reply to an offer.
-fn tell_reply<R: Host>(rt: &R, reply: &Offered<'_>) -> io::Result<()> {
-    match reply {
-        Offered::Better { before } => {
-            let before = before.map_or(0, |cost| cost.get());
-            print!(rt; "Better {before} ")
-        }
-        Offered::NotBetter { best, plan } => {
-            let (best, routes) = (best.get(), plan.routes());
-            print!(rt; "NotBetter {best} {routes:?} ")
+/// What came of a call: its answer, or the fault and what it gave back.
+#[derive(Drop)]
+enum Came<'i> {
+    Offered(Offered<'i>),
+    Repriced,
+    Split(u32, u32),
+    Refused(BookFault, Given<'i>),
+}
+
+impl<'i> Came<'i> {
+    /// What the call gave back, or else other such values.
+    fn back_or(self, other: Given<'i>) -> Given<'i> {
+        match self {
+            Came::Refused(_fault, back) => back,
+            _ => other,
         }
     }
 }
 
-/// Gives a book what its call takes, prints what came of it, and answers what the call gave back, where it
-/// was refused.
-fn give<'i, R: Host>(
-    rt: &R,
-    book: &mut Book<'i>,
-    given: Given<'i>,
-) -> io::Result<Option<Given<'i>>> {
+impl Display for Given<'_> {
+    fn fmt<W: fmt::Write>(&self, f: &mut fmt::Formatter<W>) -> fmt::Result {
+        match self {
+            Given::Plan(plan) => write!(f, "back {} {:?}", plan.cost().get(), plan.routes()),
+            Given::Root(priced) => write!(f, "back {} {:?}", priced.value(), priced.prices()),
+            Given::Children(used, unused) => {
+                write!(f, "back {} {:?} ", used.value(), used.prices())?;
+                write!(f, "back {} {:?}", unused.value(), unused.prices())
+            }
+        }
+    }
+}
+
+impl Display for Came<'_> {
+    fn fmt<W: fmt::Write>(&self, f: &mut fmt::Formatter<W>) -> fmt::Result {
+        match self {
+            Came::Offered(Offered::Better { before }) => {
+                write!(f, "Better {}", before.map_or(0, |cost| cost.get()))
+            }
+            Came::Offered(Offered::NotBetter { best, plan }) => {
+                write!(f, "NotBetter {} {:?}", best.get(), plan.routes())
+            }
+            Came::Repriced => write!(f, "Ok"),
+            Came::Split(used, unused) => write!(f, "Ok {used} {unused}"),
+            Came::Refused(fault, given) => write!(f, "{fault} {given}"),
+        }
+    }
+}
+
+/// Gives a book what its call takes.
+fn give<'i>(book: &mut Book<'i>, given: Given<'i>) -> Came<'i> {
     match given {
         Given::Plan(plan) => match book.offer(0, plan) {
-            Ok(reply) => tell_reply(rt, &reply)?,
-            Err((plan, fault)) => {
-                print!(rt; "{fault} back {} {:?} ", plan.cost().get(), plan.routes())?;
-                return Ok(Some(Given::Plan(plan)));
-            }
+            Ok(reply) => Came::Offered(reply),
+            Err((plan, fault)) => Came::Refused(fault, Given::Plan(plan)),
         },
         Given::Root(priced) => match book.reprice(0, 0, priced) {
-            Ok(()) => print!(rt; "Ok ")?,
-            Err((priced, fault)) => {
-                print!(rt; "{fault} back {} {:?} ", priced.value(), priced.prices())?;
-                return Ok(Some(Given::Root(priced)));
-            }
+            Ok(()) => Came::Repriced,
+            Err((priced, fault)) => Came::Refused(fault, Given::Root(priced)),
         },
         Given::Children(used, unused) => match book.split(0, APART, BACK, used, unused) {
-            Ok((used, unused)) => print!(rt; "Ok {used} {unused} ")?,
-            Err((used, unused, fault)) => {
-                print!(rt; "{fault} back {} {:?} ", used.value(), used.prices())?;
-                print!(rt; "back {} {:?} ", unused.value(), unused.prices())?;
-                return Ok(Some(Given::Children(used, unused)));
-            }
+            Ok((used, unused)) => Came::Split(used, unused),
+            Err((used, unused, fault)) => Came::Refused(fault, Given::Children(used, unused)),
         },
     }
-    Ok(None)
 }
 
-/// Prints how many events a book has, its best cost and its bound, behind what came of a call.
-fn tell_book<R: Host>(rt: &R, book: &Book<'_>) -> io::Result<()> {
+/// Prints what came of a call, and how many events a book has, its best cost and its bound.
+fn tell_came<R: Host>(rt: &R, came: &Came<'_>, book: &Book<'_>) -> io::Result<()> {
     let (events, gap) = (book.history().len(), book.gap());
     let (cost, bound) = (gap.cost.map_or(0, |cost| cost.get()), gap.bound.get());
-    println!(rt; "events {events} cost {cost} bound {bound}")
+    println!(rt; "{came} events {events} cost {cost} bound {bound}")
 }
 
 /// Makes the call of a name twice on a book whose room is full: once more with what came back, or else with
@@ -122,8 +141,8 @@ pub(crate) fn tell_given<R: Host>(rt: &R, instance: &Instance, name: &str) -> io
     let given = made(given_of(rt.alloc(), instance, name))?;
     let other = made(given_of(rt.alloc(), instance, name))?;
     println!(rt; "ready")?;
-    let back = give(rt, &mut book, given)?;
-    tell_book(rt, &book)?;
-    give(rt, &mut book, back.unwrap_or(other))?;
-    tell_book(rt, &book)
+    let came = give(&mut book, given);
+    tell_came(rt, &came, &book)?;
+    let again = give(&mut book, came.back_or(other));
+    tell_came(rt, &again, &book)
 }

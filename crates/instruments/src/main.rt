@@ -1,7 +1,7 @@
 //! Calls and texts for the programs of `outside/`, and measures for the benchmark. Words: `turns` with an
 //! instance's file and the number of turns, or `times` where their times are to be printed, too; `closing`
 //! with an instance's file and the number of neighbours; `echo` with `certificate` or `solution` and a file;
-//! `rows` with `plan` or `program` and the file of a script; `call` with the names of calls. More such words
+//! `rows` with `library` or `program` and the file of a script; `call` with the names of calls. More such words
 //! may follow, but behind `call` all are names. The status is 1 where the words or the files are not such, or
 //! memory was refused.
 #![tactic(auto)]
@@ -24,8 +24,11 @@ use std::{env, fs, io};
 fn tell<R: Host + Threads + Wait>(rt: &R, mode: &str, first: &str, second: &str) -> io::Result<()> {
     match (mode, first) {
         ("echo", _) => tell_echo(rt, first, second),
-        ("rows", "plan") => plan_rows::tell_rows(rt, fs::read_to_string(rt, second)?.as_str()),
-        ("rows", "program") => program_rows::tell_rows(
+        ("rows", "library") => test_library::tell_rows(
+            rt,
+            fs::read_to_string(rt, second)?.as_str(),
+        ),
+        ("rows", "program") => test_program::tell_rows(
             rt,
             fs::read_to_string(rt, second)?.as_str(),
         ),

@@ -1,0 +1,152 @@
+//! Workers over a fake.
+
+ghost use Rattle.std.specs.List.{All};
+ghost use Rattle.node_pool.specs.Deques.{FitsAt};
+ghost use Rattle.node_pool.specs.Ends.{deque_at};
+
+use crate::fake::{Counts, Fake};
+use ceiling::Ceiling;
+use incumbent_book::BookFault;
+use node_pool::{Hand, Pass, Pool, Thief};
+use prices::Priced;
+use search_workers::{Nodes, Settings, Worker, bound_worker, generator, search_worker};
+use solomon_reader::Instance;
+use std::alloc::Global;
+use std::sync::atomic::Ordering;
+
+/// The nodes of the worker at the second of two deques, of which its own or the other has the root.
+fn second_nodes<'p, 'i>(
+    alloc: Global,
+    instance: &'i Instance,
+    mut hands: Vec<Hand>,
+    deques: &'p [Thief],
+    mut passes: Vec<Pass>,
+    is_stolen: bool,
+) -> Option<Nodes<'p, 'i>>
+    requires { All (λ p. All (λ t. FitsAt (deque_at t) p) deques.now) passes.items }
+{
+    let mut own = hands.pop()?;
+    let mut other = hands.pop()?;
+    let pushed = if is_stolen {
+        other.push(0)
+    } else {
+        own.push(0)
+    };
+    let Some(pass) = passes.pop() else {
+        return None;
+    };
+    pushed.ok()?;
+    Nodes::new(alloc, instance, None, own, deques, pass).ok()
+}
+
+/// Turns of a worker at a hub, one that raises the bound where it has nodes, else one that looks for plans without
+/// a first one. The words for cost and bound hold 1000 and this bound at first. Answers the turns made, the hub,
+/// and how often points were passed.
+fn turns_over<'i>(
+    instance: &'i Instance,
+    hub: Fake<'i>,
+    nodes: Option<Nodes<'_, 'i>>,
+    (number, bound): (u16, u64),
+    settings: &Settings,
+    alloc: Global,
+) -> Option<(u32, Fake<'i>, Counts)> {
+    let gate = Counts::default();
+    let Ok((ceiling, mut seats)) = Ceiling::new(alloc, 1, 1000, bound) else {
+        return None;
+    };
+    let Some(seat) = seats.pop() else {
+        return None;
+    };
+    let mut worker = Worker {
+        alloc,
+        instance,
+        hub,
+        gate: &gate,
+        number,
+        ceiling: &ceiling,
+        seat,
+        enough: 0,
+    };
+    let made = match nodes {
+        Some(nodes) => bound_worker(&mut worker, settings, nodes),
+        None => search_worker(&mut worker, None, settings.turns, generator(1, number)),
+    };
+    let Worker { hub, .. } = worker;
+    Some((made, hub, gate))
+}
+
+/// The fault of a name.
+fn fault_of(name: &str) -> Option<BookFault> {
+    Some(match name {
+        "Memory" => BookFault::Memory,
+        "JournalFull" => BookFault::JournalFull,
+        "LeavesFull" => BookFault::LeavesFull,
+        "Lower" => BookFault::Lower,
+        "ForeignInstance" => BookFault::ForeignInstance,
+        _ => return None,
+    })
+}
+
+/// Tells what the worker of a number does that raises the bound of a leaf, at the second of two deques. The first
+/// such worker has the number 2.
+pub(crate) fn tell_bounder<'i>(
+    alloc: Global,
+    told: &mut String,
+    instance: &'i Instance,
+    leaf: Priced<'i>,
+    [number, turns, labels, room, how]: [&str; 5],
+) -> Option<()> {
+    let mut hub = Fake::new(leaf);
+    hub.is_bare = how == "bare";
+    hub.split_refusal = match how {
+        "own" | "stolen" | "bare" => None,
+        fault => Some(fault_of(fault)?),
+    };
+    let mut settings = Settings::default();
+    (settings.turns, settings.labels) = (turns.parse().ok()?, labels.parse().ok()?);
+    let Ok((hands, deques, passes)) = Pool::new(alloc, 2, room.parse().ok()?) else {
+        return None;
+    };
+    let deques = deques.as_slice();
+    let nodes = second_nodes(alloc, instance, hands, deques, passes, how == "stolen")?;
+    let number = (number.parse().ok()?, 0);
+    let (made, hub, gate) = turns_over(instance, hub, Some(nodes), number, &settings, alloc)?;
+    write!(
+        told,
+        "turns {made} raises {} looked {}",
+        hub.raises,
+        gate.looked.load(Ordering::SeqCst)
+    )
+    .ok()?;
+    writeln!(
+        told,
+        " stolen {} ended {}",
+        gate.stolen.load(Ordering::SeqCst),
+        gate.ended.load(Ordering::SeqCst)
+    )
+    .ok()
+}
+
+/// Tells what a worker does in five turns that looks for plans, where from this offer on each is refused so.
+pub(crate) fn tell_searcher<'i>(
+    alloc: Global,
+    told: &mut String,
+    instance: &'i Instance,
+    leaf: Priced<'i>,
+    [first, fault, bound]: [&str; 3],
+) -> Option<()> {
+    let mut hub = Fake::new(leaf);
+    hub.refusal = (first.parse().ok()?, fault_of(fault)?);
+    let mut settings = Settings::default();
+    settings.turns = 5;
+    let number = (0, bound.parse().ok()?);
+    let (made, hub, gate) = turns_over(instance, hub, None, number, &settings, alloc)?;
+    write!(told, "turns {made} offers {} offered", hub.offers).ok()?;
+    writeln!(
+        told,
+        " {} ended {}",
+        gate.offered.load(Ordering::SeqCst),
+        gate.ended.load(Ordering::SeqCst)
+    )
+    .ok()
+}

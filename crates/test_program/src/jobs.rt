@@ -1,0 +1,43 @@
+//! What words ask for.
+
+use std::alloc::{AllocError, Global};
+use vrptw::{Job, job};
+
+/// Tells what the words ask for.
+pub fn tell_job(alloc: Global, told: &mut String, words: &[&str]) -> Result<(), AllocError> {
+    match job(alloc, words) {
+        Ok(
+            Job::Solve {
+                instance,
+                solution,
+                certificate,
+                start,
+                settings,
+                close,
+                leaves,
+                progress,
+                live,
+            },
+        ) => {
+            writeln!(told, "solve {instance} {solution} {certificate}")?;
+            writeln!(told, "{settings:?}")?;
+            write!(
+                told,
+                "close {close} leaves {leaves} progress {progress} live {live}"
+            )?;
+            writeln!(told, " start {start:?}")
+        }
+        Ok(
+            Job::Check {
+                instance,
+                certificate,
+                solution,
+                states,
+            },
+        ) => writeln!(
+            told,
+            "check {instance} {certificate} {solution:?} states {states}"
+        ),
+        Err(_) => writeln!(told, "refused"),
+    }
+}

@@ -1,0 +1,81 @@
+//! Plans, prices and books that rows start from.
+
+use branching::{Arc, Region};
+use incumbent_book::{Book, Limits};
+use prices::Priced;
+use schedule::Feasible;
+use solomon_reader::{Instance, MOST_NEIGHBOURS};
+use std::alloc::Global;
+
+/// The plan of these routes, if they are one and memory suffices.
+/// No clause: the rows show the plan, by what becomes of it.
+pub fn plan_at<'i>(
+    alloc: Global,
+    instance: &'i Instance,
+    routes: &[&[u16]],
+) -> Option<Feasible<'i>> {
+    let mut lists = Vec::new(alloc);
+    for route in routes {
+        lists.push(Vec::from_slice(alloc, route).ok()?).ok()?;
+    }
+    match Feasible::check(instance, lists) {
+        Ok(plan) => Some(plan),
+        Err((_lists, _fault)) => None,
+    }
+}
+
+/// These prices at a region, if they are the customers' and memory suffices.
+/// No clause: the rows show the prices, by what becomes of them.
+pub fn priced_at<'i>(
+    alloc: Global,
+    instance: &'i Instance,
+    region: Region,
+    neighbours: u32,
+    prices: &[i64],
+) -> Option<Priced<'i>> {
+    let count = instance.customer_count();
+    let fit = region.size() == count && prices.len() == usize::from(count);
+    if !fit || neighbours > MOST_NEIGHBOURS {
+        return None;
+    }
+    let prices = Vec::from_slice(alloc, prices).ok()?;
+    match Priced::of(alloc, instance, region, neighbours, prices, None) {
+        Ok(priced) => Some(priced),
+        Err((_region, _prices, _fault)) => None,
+    }
+}
+
+/// These prices at both children of a region by an arc: where it is used, and where it is forbidden.
+/// No clause: the rows show the prices, by what becomes of them.
+pub fn children_at<'i>(
+    alloc: Global,
+    instance: &'i Instance,
+    region: &Region,
+    neighbours: u32,
+    arc: Arc,
+    prices: &[i64],
+) -> Option<(Priced<'i>, Priced<'i>)> {
+    let used = region.used(arc).ok()?;
+    let used = priced_at(alloc, instance, used, neighbours, prices)?;
+    let unused = region.forbidden(arc).ok()?;
+    let unused = priced_at(alloc, instance, unused, neighbours, prices)?;
+    Some((used, unused))
+}
+
+/// A book of the root at prices of 0.
+/// No clause: the rows show the book, by what becomes of it.
+pub fn book_of<'i>(
+    alloc: Global,
+    instance: &'i Instance,
+    neighbours: u32,
+    limits: Limits,
+) -> Option<Book<'i>> {
+    if neighbours > MOST_NEIGHBOURS {
+        return None;
+    }
+    let root = Priced::root(alloc, instance, neighbours, None).ok()?;
+    match Book::with_limits(alloc, root, limits) {
+        Ok(book) => Some(book),
+        Err((_root, _fault)) => None,
+    }
+}

@@ -1,0 +1,13 @@
+//! Tests of what threads share, without a lock and at a desk, and of the workers' random words.
+#![tactic(auto)]
+
+#[cfg(test)]
+mod deques;
+#[cfg(test)]
+mod offers;
+#[cfg(test)]
+mod random;
+#[cfg(test)]
+mod seats;
+#[cfg(test)]
+mod shares;

@@ -1,0 +1,158 @@
+//! Offers, new prices and splits at a desk.
+
+use branching::{Arc, Region};
+use desk::{Desk, LookFault, Naming, Share};
+use incumbent_book::{BookFault, Offered};
+use solomon_reader::Instance;
+use std::process::Abort;
+use std::sync::Wait;
+use tenths::Tenths;
+use test_starts::{children_at, plan_at, priced_at};
+
+/// The arc from the first customer to the second.
+pub const ONWARD: Arc = Arc { from: 1, to: 2 };
+
+/// The arc from the second customer to the first.
+const BACK: Arc = Arc { from: 2, to: 1 };
+
+/// Plans that are offered in turn, of 300, 200, 300 and 200 tenths: the routes, whether the plan is better, and the
+/// best cost that is known before.
+const OFFERED: [(&[&[u16]], bool, Option<u32>); 4] = [
+    (&[&[1], &[2]], true, None),
+    (&[&[1, 2]], true, Some(300)),
+    (&[&[1], &[2]], false, Some(200)),
+    (&[&[1, 2]], false, Some(200)),
+];
+
+/// New prices that are given in turn once the root is split: the leaf, the node whose region they are for, the
+/// prices, and what comes of it.
+const REPRICED: [(u32, u32, [i64; 2], Result<(), BookFault>); 4] = [
+    (2, 2, [100_000, 100_000], Ok(())),
+    (2, 2, [100_000, 100_000], Err(BookFault::NotHigher)),
+    (1, 0, [200_000, 0], Err(BookFault::WrongRegion)),
+    (1, 1, [200_000, 0], Err(BookFault::NotHigher)),
+];
+
+/// A desk over a book of an instance, and the share of one worker.
+#[derive(Drop)]
+struct Place<'a, 'i, R, J: Naming> {
+    rt: &'a R,
+    instance: &'i Instance,
+    desk: &'a Desk<'i, J>,
+    share: Share<J>,
+}
+
+/// Offers a plan: whether it was better, and the best cost that was known.
+fn offer<R: Abort + Wait + AllocGlobal, J: Naming>(
+    place: &mut Place<'_, '_, R, J>,
+    routes: &[&[u16]],
+) -> Result<(bool, Option<Tenths>), BookFault> {
+    let plan = plan_at(place.rt.alloc(), place.instance, routes).expect(place.rt, "a plan");
+    let reply = match place.desk.offer(place.rt, &mut place.share, plan) {
+        Ok(reply) => reply,
+        Err((_, fault)) => return Err(fault),
+    };
+    match &reply {
+        Offered::Better { before } => Ok((true, *before)),
+        Offered::NotBetter { best, .. } => Ok((false, Some(*best))),
+    }
+}
+
+/// Offers plans of 300, 200, 300 and 200 tenths.
+fn offer_plans<R: Abort + Wait + AllocGlobal, J: Naming>(place: &mut Place<'_, '_, R, J>) {
+    for (routes, is_better, cost) in OFFERED {
+        let told = offer(place, routes);
+        assert_eq!(place.rt; told, Ok((is_better, cost.map(|cost| Tenths::from(cost)))));
+    }
+}
+
+/// The region of the root, or of one of its children: 1 uses the arc, and 2 doesn't.
+fn region_of<R: Abort + AllocGlobal>(rt: &R, node: u32) -> Region {
+    let root = Region::root(rt.alloc(), 2);
+    let region = match node {
+        0 => return root,
+        1 => root.used(ONWARD),
+        _ => root.forbidden(ONWARD),
+    };
+    region.ok().expect(rt, "a region")
+}
+
+/// Gives a leaf new prices at the region of a node: what comes of it.
+fn reprice<R: Abort + Wait + AllocGlobal, J: Naming>(
+    place: &mut Place<'_, '_, R, J>,
+    leaf: u32,
+    node: u32,
+    prices: [i64; 2],
+) -> Result<(), BookFault> {
+    let (rt, region) = (place.rt, region_of(place.rt, node));
+    let priced = priced_at(rt.alloc(), place.instance, region, 1, &prices);
+    let priced = priced.expect(rt, "prices");
+    match place.desk.reprice(rt, &mut place.share, leaf, priced) {
+        Ok(()) => Ok(()),
+        Err((_, fault)) => Err(fault),
+    }
+}
+
+/// Splits a leaf, with prices of zero at both children: their numbers, or the fault.
+fn split<R: Abort + Wait + AllocGlobal, J: Naming>(
+    place: &mut Place<'_, '_, R, J>,
+    leaf: u32,
+    arc: Arc,
+) -> Result<(u32, u32), BookFault> {
+    let (rt, region) = (place.rt, region_of(place.rt, leaf));
+    let children = children_at(rt.alloc(), place.instance, &region, 1, arc, &[0, 0]);
+    let (used, unused) = children.expect(rt, "prices");
+    match place
+        .desk
+        .split(rt, &mut place.share, leaf, arc, used, unused)
+    {
+        Ok(made) => Ok(made),
+        Err((_, _, fault)) => Err(fault),
+    }
+}
+
+/// The value of a leaf.
+fn value<R: Wait, J: Naming>(
+    place: &mut Place<'_, '_, R, J>,
+    leaf: u32,
+) -> Result<i128, LookFault> {
+    Ok(place.desk.look(place.rt, &mut place.share, leaf)?.value())
+}
+
+/// Splits the root, and is refused to split it again. Gives the child without the arc a higher value, and is
+/// refused an equal one and a split to lower ones. For the other child it is refused prices of another
+/// region, and as high ones.
+fn branch<R: Abort + Wait + AllocGlobal, J: Naming>(place: &mut Place<'_, '_, R, J>) {
+    let made = (split(place, 0, ONWARD), split(place, 0, ONWARD));
+    assert_eq!(place.rt; made, (Ok((1, 2)), Err(BookFault::NotALeaf)));
+    let values = (value(place, 1), value(place, 2));
+    assert_eq!(place.rt; values, (Ok(200), Ok(100)));
+    for (leaf, node, prices, expected) in REPRICED {
+        let told = reprice(place, leaf, node, prices);
+        assert_eq!(place.rt; told, expected);
+    }
+    let values = (value(place, 2), value(place, 0), split(place, 2, BACK));
+    assert_eq!(place.rt;
+        values,
+        (Ok(200), Err(LookFault::NotALeaf), Err(BookFault::Lower))
+    );
+}
+
+/// Offers plans and branches with a share, which comes back.
+pub fn work<'i, J: Naming, R: Abort + Wait + AllocGlobal>(
+    rt: &R,
+    desk: &Desk<'i, J>,
+    share: Share<J>,
+    instance: &'i Instance,
+) -> Share<J> {
+    let mut place = Place {
+        rt,
+        instance,
+        desk,
+        share,
+    };
+    offer_plans(&mut place);
+    branch(&mut place);
+    let Place { share, .. } = place;
+    share
+}

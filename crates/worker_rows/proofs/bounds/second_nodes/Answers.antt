@@ -1,9 +1,0 @@
-use Rattle.std.proofs.Common.{subst, IfSome}
-use Rattle.std.proofs.lemmas.List.Elements.{All-pop}
-use Rattle.std.specs.List.{All}
-use Rattle.node_pool.specs.Deques.{FitsAt}
-use Rattle.node_pool.specs.Ends.{deque_at}
-use Rattle.worker_rows.proofs.bounds.second_nodes.Goals as goal
-
-pub new-requires : goal.new-requires
-new-requires c = let found = (All-pop (λ p. All (λ t. FitsAt (deque_at t) p) c.args.deques.now) c.args.passes.items c.pop-3.new.self.items c.pop-3.result c.pop-3.ensures.items c.requires).1 in subst (λ r. IfSome r (λ p. All (λ t. FitsAt (deque_at t) p) c.args.deques.now)) c.in-Some.is found
