@@ -8,6 +8,7 @@ mod bounding;
 mod branching;
 mod certificate;
 mod checking;
+mod completions;
 mod fronts;
 mod gains;
 mod insertion;

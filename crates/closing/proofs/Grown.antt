@@ -8,7 +8,7 @@ use Rattle.solomon_reader.specs.Problem.{Problem, customer_count}
 use Rattle.solomon_reader.specs.Region.{Region, used_child, unused_child, root_region}
 use Rattle.closing.specs.Depths.{DepthHolds}
 use Rattle.solomon_reader.specs.Bound.{version_2, Tree, leaf, split, leaf_node, split_node, preorder, HasBound, ceiling_of}
-use Rattle.prices.specs.Pricing.{Pricing, IsPricing}
+use Rattle.prices.specs.ValuedPrices.{ValuedPrices, IsValued}
 use Rattle.branching.specs.Arcs.{pair}
 use Rattle.branching.specs.Nodes.{node_of, IsListedTree}
 use Rattle.branching.specs.declared.tree_node.TreeNode.{TreeNode}
@@ -18,7 +18,7 @@ use Rattle.closing.specs.Growing.{Grows, IsSameTask, IsSameTree, Splits}
 use Rattle.closing.specs.declared.growth.Growth.{Growth}
 
 -- a leaf that was listed has grown
-pub leaf_grows : (f : Pricing) (old new : Growth) (node : TreeNode) → IsPricing f → f.problem ≡ old.instance.now → IsSameTask old new
+pub leaf_grows : (f : ValuedPrices) (old new : Growth) (node : TreeNode) → IsValued f → f.problem ≡ old.instance.now → IsSameTask old new
     → node_of node ≡ leaf_node f.prices → new.nodes.items ≡ old.nodes.items ++ (node ∷ [])
     → old.bound ≤ ceiling_of old.instance.now + 1 → new.bound ≡ min old.bound f.value → new.leaves ≡ old.leaves → Grows f.neighbours f.region old new
 leaf_grows f old new node is own task item e low least leaves = record {
@@ -33,7 +33,8 @@ leaf_grows f old new node is own task item e low least leaves = record {
 }
 
 -- children at raised prices are children of the leaf
-same_children : (f raised : Pricing) (c : Children) → raised.problem ≡ f.problem → raised.region ≡ f.region → raised.neighbours ≡ f.neighbours → AreChildren raised c → AreChildren f c
+same_children : (f raised : ValuedPrices) (c : Children) → raised.problem ≡ f.problem → raised.region ≡ f.region → raised.neighbours ≡ f.neighbours
+    → AreChildren raised c → AreChildren f c
 same_children f raised c problem region neighbours are = record {
   undecided = rw region at are.undecided;
   used = record {
@@ -49,7 +50,7 @@ same_children f raised c problem region neighbours are = record {
 }
 
 -- a split of a leaf at raised prices is a split of the leaf
-raised_split : (f raised : Pricing) (old new : Growth) (c : Children) → raised.problem ≡ f.problem → raised.region ≡ f.region
+raised_split : (f raised : ValuedPrices) (old new : Growth) (c : Children) → raised.problem ≡ f.problem → raised.region ≡ f.region
     → raised.neighbours ≡ f.neighbours → Splits raised old new c → Splits f old new c
 raised_split f raised old new c problem region neighbours adds = record {
   children = same_children f raised c problem region neighbours adds.children;
@@ -60,7 +61,7 @@ raised_split f raised old new c problem region neighbours adds = record {
 }
 
 -- what was split at raised prices, if anything, was split at the leaf
-pub splits_raised : {E : Type 0} (f raised : Pricing) (old new : Growth) (r : Result (Option Children) E) → raised.problem ≡ f.problem
+pub splits_raised : {E : Type 0} (f raised : ValuedPrices) (old new : Growth) (r : Result (Option Children) E) → raised.problem ≡ f.problem
     → raised.region ≡ f.region → raised.neighbours ≡ f.neighbours
     → IfOk r (λ found. IfSome found (Splits raised old new)) → IfOk r (λ found. IfSome found (Splits f old new))
 splits_raised f raised old new (Err e) problem region neighbours h = tt
@@ -68,7 +69,7 @@ splits_raised f raised old new (Ok None) problem region neighbours h = tt
 splits_raised f raised old new (Ok (Some c)) problem region neighbours h = raised_split f raised old new c problem region neighbours h
 
 -- a split that is added after a plan was offered is added to what was there before
-pub same_split : (f : Pricing) (old middle new : Growth) (c : Children) → IsSameTree old middle → Splits f middle new c → Splits f old new c
+pub same_split : (f : ValuedPrices) (old middle new : Growth) (c : Children) → IsSameTree old middle → Splits f middle new c → Splits f old new c
 same_split f old middle new c same adds = record {
   children = adds.children;
   task = record { instance = adds.task.instance ∙ same.task.instance; limit = adds.task.limit ∙ same.task.limit };
@@ -85,7 +86,7 @@ pub record ListsSplit (c : Children) (old new : Growth) : Type 0 where
   pub bound : new.bound ≡ old.bound
 
 -- a split whose children have grown, that which forbids the arc first
-pub split_grows : (f : Pricing) (c : Children) (old begun middle grown new : Growth) → Splits f old begun c
+pub split_grows : (f : ValuedPrices) (c : Children) (old begun middle grown new : Growth) → Splits f old begun c
     → Grows c.unused.neighbours c.unused.region begun middle → Grows c.used.neighbours c.used.region middle grown
     → ListsSplit c grown new → Grows f.neighbours f.region old new
 split_grows f c old begun middle grown new splits first second last =

@@ -4,11 +4,11 @@ use Rattle.std.specs.Prelude.{ℤ, Option, Some, None, MatchOption}
 use Rattle.solomon_reader.specs.Problem.{Problem}
 use Rattle.solomon_reader.specs.Region.{Region}
 use Rattle.solomon_reader.specs.Bound.{version_2, IsLeafValue, ceiling_of}
-use Rattle.prices.specs.Pricing.{Pricing, IsPricing}
+use Rattle.prices.specs.ValuedPrices.{ValuedPrices, IsValued}
 use Rattle.schedule.specs.Solution.{Solution}
 use Rattle.closing.specs.Settling.{IsSettling, IsSettledBy}
 
-module _ (p : Problem) (g : Region) (prices : List ℤ) (f : Pricing) (is : IsPricing f) (problem : f.problem ≡ p) (region : f.region ≡ g) (priced : f.prices ≡ prices) where
+module _ (p : Problem) (g : Region) (prices : List ℤ) (f : ValuedPrices) (is : IsValued f) (problem : f.problem ≡ p) (region : f.region ≡ g) (priced : f.prices ≡ prices) where
   valued : IsLeafValue version_2 p g f.neighbours prices f.value
   valued = rw (problem, region, priced) at is.valued
 

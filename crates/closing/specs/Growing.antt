@@ -4,7 +4,7 @@ use Rattle.solomon_reader.specs.Bound.{version_2, Tree, preorder, HasBound, ceil
 use Rattle.solomon_reader.specs.CertificateText.{IsTreeAt, leaf_count}
 use Rattle.solomon_reader.specs.Region.{Region}
 use Rattle.branching.specs.Nodes.{node_of}
-use Rattle.prices.specs.Pricing.{Pricing}
+use Rattle.prices.specs.ValuedPrices.{ValuedPrices}
 use Rattle.insertion.specs.Building.{IsServedAlone}
 use Rattle.price_ascent.specs.Branching.{AreChildren}
 use Rattle.price_ascent.specs.declared.child.Children.{Children}
@@ -49,7 +49,7 @@ pub record Grows (k : ℕ) (g : Region) (old new : Growth) : Type 0 where
   pub leaves : new.leaves + 1 ≡ old.leaves + leaf_count tree
 
 -- the leaf is split by an arc, and one leaf more counted
-pub record Splits (f : Pricing) (old new : Growth) (c : Children) : Type 0 where
+pub record Splits (f : ValuedPrices) (old new : Growth) (c : Children) : Type 0 where
   pub children : AreChildren f c
   pub task : IsSameTask old new
   pub nodes : new.nodes.items ≡ old.nodes.items

@@ -6,7 +6,7 @@ ghost use Rattle.solomon_reader.specs.Bound.{ceiling_of, split_node};
 ghost use Rattle.branching.specs.Arcs.{pair};
 ghost use Rattle.branching.specs.Nodes.{node_of, IsListedTree};
 ghost use Rattle.insertion.specs.Building.{IsServedAlone};
-ghost use Rattle.prices.specs.Pricing.{IsPricing};
+ghost use Rattle.prices.specs.ValuedPrices.{IsValued};
 ghost use Rattle.closing.specs.Closing.{IsClosed, IsLeftOpen};
 ghost use Rattle.closing.specs.declared.fault.TheConstants.{MOST_CLOSED};
 ghost use Rattle.closing.specs.Growing.{Grows, IsGrowth, IsSameTask, IsSameTree, target_of};
@@ -48,7 +48,7 @@ fn above(instance: &Instance) -> u32
 /// The lesser of a bound and a leaf's value.
 fn lesser(bound: u32, leaf: &Priced<'_>) -> u32
     ensures least { result ≡ min bound leaf.now.value }
-    ensures valued { IsPricing leaf.now }
+    ensures valued { IsValued leaf.now }
 {
     let value = leaf.value();
     if value < i128::from(bound) {

@@ -5,7 +5,7 @@ ghost use Rattle.solomon_reader.specs.Problem.{customer_count};
 ghost use Rattle.solomon_reader.specs.Bound.{ceiling_of};
 ghost use Rattle.solomon_reader.specs.declared.limits.TheConstants.{MOST_NEIGHBOURS};
 ghost use Rattle.branching.specs.Choosing.{IsSettled};
-ghost use Rattle.prices.specs.Pricing.{IsPricing};
+ghost use Rattle.prices.specs.ValuedPrices.{IsValued};
 ghost use Rattle.closing.specs.Settling.{IsSettledBy};
 
 use crate::settling::settle;
@@ -30,7 +30,7 @@ pub fn settled_leaf<'i>(
     ensures problem { IfOk result (λ l. l.0.problem ≡ instance.now) }
     ensures region { IfOk result (λ l. l.0.region ≡ region) }
     ensures neighbours { IfOk result (λ l. l.0.neighbours ≡ neighbours) }
-    ensures priced { IfOk result (λ l. IsPricing l.0) }
+    ensures priced { IfOk result (λ l. IsValued l.0) }
     ensures plan { IfOk result (λ l. IfSome l.1 (λ f. f.problem ≡ instance.now)) }
     ensures value { IfOk result (λ l. MatchOption l.1 (ceiling_of instance.now + 1 ≤ l.0.value)
         (λ f. l.0.value ≡ f.cost)) }

@@ -8,7 +8,7 @@ use Rattle.solomon_reader.specs.Duality.{IsBelowPlans, IsPlanCost}
 use Rattle.solomon_reader.specs.History.{Event, offered, repriced, branched, costs_of, IsBestCost, IsCheaper}
 use Rattle.solomon_reader.specs.Plan.{Arc}
 use Rattle.schedule.specs.Solution.{Solution, IsSolution}
-use Rattle.prices.specs.Pricing.{Pricing}
+use Rattle.prices.specs.ValuedPrices.{ValuedPrices}
 use Rattle.incumbent_book.specs.Contents.{Contents, IsBook, IsOfProblem}
 use Rattle.incumbent_book.specs.Faults.{Call, offer, reprice, split, IsOfInstance, IsAccepted, IsRefusedFor}
 use Rattle.incumbent_book.specs.Replies as book
@@ -102,22 +102,23 @@ module _ (p : Problem) (k : ℕ) (has_plan : Bool) (b : Contents) (before : Tall
       → book.Offers b worker plan (Err refused) new → Offers p mine plan (Err refused) mine
   refused_offer worker plan refused new mine told = (rw is.problem at (tells_foreign b (offer plan) refused.1 told.0), told.1, refl)
 
-  pub refused_reprice : (worker m : ℕ) (f : Pricing) (refused : Pricing × BookFault) (new : Contents) (mine : Account)
+  pub refused_reprice : (worker m : ℕ) (f : ValuedPrices) (refused : ValuedPrices × BookFault) (new : Contents) (mine : Account)
       → book.Reprices b worker m f (Err refused) new → Reprices p k mine m f (Err refused) mine
   refused_reprice worker m f refused new mine told = (rw is.problem at (tells_foreign b (reprice m f) refused.1 told.0), told.1, refl)
 
-  pub refused_split : (worker m : ℕ) (a : Arc) (x y : Pricing) (refused : Pricing × Pricing × BookFault) (new : Contents) (mine : Account) → book.Splits b worker m a x y (Err refused) new
+  pub refused_split : (worker m : ℕ) (a : Arc) (x y : ValuedPrices) (refused : ValuedPrices × ValuedPrices
+      × BookFault) (new : Contents) (mine : Account) → book.Splits b worker m a x y (Err refused) new
       → Splits p k mine m a x y (Err refused) mine
   refused_split worker m a x y refused new mine told = (rw is.problem at (tells_foreign b (split m a x y) refused.2 told.0), told.1, told.2, refl)
 
   -- what is accepted is ours
-  pub accepted_reprice : (m : ℕ) (f : Pricing) → IsAccepted b (reprice m f) → IsPricedFor p k f
+  pub accepted_reprice : (m : ℕ) (f : ValuedPrices) → IsAccepted b (reprice m f) → IsPricedFor p k f
   accepted_reprice m f accepted = record { problem = accepted.met ForeignInstance (omega arith) ∙ is.problem; neighbours = (accepted.met WrongRegion (omega arith)).neighbours ∙ is.neighbours }
 
-  pub accepted_used : (m : ℕ) (a : Arc) (x y : Pricing) → IsAccepted b (split m a x y) → IsPricedFor p k x
+  pub accepted_used : (m : ℕ) (a : Arc) (x y : ValuedPrices) → IsAccepted b (split m a x y) → IsPricedFor p k x
   accepted_used m a x y accepted =
       record { problem = (accepted.met ForeignInstance (omega arith)).0 ∙ is.problem; neighbours = (accepted.met WrongRegion (omega arith)).used.neighbours ∙ is.neighbours }
 
-  pub accepted_unused : (m : ℕ) (a : Arc) (x y : Pricing) → IsAccepted b (split m a x y) → IsPricedFor p k y
+  pub accepted_unused : (m : ℕ) (a : Arc) (x y : ValuedPrices) → IsAccepted b (split m a x y) → IsPricedFor p k y
   accepted_unused m a x y accepted =
       record { problem = (accepted.met ForeignInstance (omega arith)).1 ∙ is.problem; neighbours = (accepted.met WrongRegion (omega arith)).unused.neighbours ∙ is.neighbours }

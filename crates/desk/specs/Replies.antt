@@ -5,7 +5,7 @@ use Rattle.solomon_reader.specs.Plan.{Arc}
 use Rattle.solomon_reader.specs.Duality.{IsBelowPlans, IsPlanCost}
 use Rattle.solomon_reader.specs.History.{offered, repriced, branched}
 use Rattle.schedule.specs.Solution.{Solution}
-use Rattle.prices.specs.Pricing.{Pricing}
+use Rattle.prices.specs.ValuedPrices.{ValuedPrices}
 use Rattle.incumbent_book.specs.declared.offered.Offered.{Offered}
 use Rattle.incumbent_book.specs.declared.offered.Offered.TheVariants.{Better, NotBetter}
 use Rattle.incumbent_book.specs.declared.fault.BookFault.{BookFault}
@@ -26,7 +26,7 @@ TellsForeign ours LeavesFull = ours
 TellsForeign ours TooDeep = ours
 
 -- prices of this instance and number of neighbours
-pub record IsPricedFor (p : Problem) (k : ℕ) (f : Pricing) : Type 0 where
+pub record IsPricedFor (p : Problem) (k : ℕ) (f : ValuedPrices) : Type 0 where
   pub problem : f.problem ≡ p
   pub neighbours : f.neighbours ≡ k
 
@@ -52,12 +52,12 @@ Offers p old plan (Ok reply) new = (plan.problem ≡ p) × Accepts p old plan re
 Offers p old plan (Err (returned, fault)) new = TellsForeign (plan.problem ≡ p) fault × (returned ≡ plan) × (new ≡ old)
 
 -- new prices for a leaf: accepted and counted, or they come back and the share is as it was
-abbrev pub Reprices : Problem → ℕ → Account → ℕ → Pricing → Result (Unit {0}) (Pricing × BookFault) → Account → Type 0
+abbrev pub Reprices : Problem → ℕ → Account → ℕ → ValuedPrices → Result (Unit {0}) (ValuedPrices × BookFault) → Account → Type 0
 Reprices p k old m f (Ok done) new = IsPricedFor p k f × (new ≡ with_event old (repriced old.worker m f.value))
 Reprices p k old m f (Err (returned, fault)) new = TellsForeign (f.problem ≡ p) fault × (returned ≡ f) × (new ≡ old)
 
 -- a split of a leaf by an arc: accepted and counted with the numbers that it made, or both children's prices come back and the share is as it was
-abbrev pub Splits : Problem → ℕ → Account → ℕ → Arc → Pricing → Pricing → Result (ℕ × ℕ) (Pricing × Pricing × BookFault) → Account → Type 0
+abbrev pub Splits : Problem → ℕ → Account → ℕ → Arc → ValuedPrices → ValuedPrices → Result (ℕ × ℕ) (ValuedPrices × ValuedPrices × BookFault) → Account → Type 0
 Splits p k old m a x y (Ok (used, unused)) new =
     IsPricedFor p k x × IsPricedFor p k y × (new ≡ with_event old (branched old.worker m a used unused x.value y.value))
 Splits p k old m a x y (Err (used, unused, fault)) new = TellsForeign ((x.problem ≡ p) × (y.problem ≡ p)) fault × (used ≡ x) × (unused ≡ y) × (new ≡ old)

@@ -1,5 +1,6 @@
 -- What is done to flags, seen as a set.
-use Rattle.std.proofs.Common.{◌≡◌, refl, ℕ, zero, suc, ◌+◌, ◌<◌, ◌≤◌, Bool, true, false, not, ◌&&◌, ◌||◌, eqb, ltb, nat_le, List, length, arith, ap, sym, ◌∙◌, inl, inr}
+use Rattle.std.proofs.Common.{◌≡◌, refl, ℕ, zero, suc, ◌+◌, ◌<◌, ◌≤◌, Bool, true, false, not}
+use Rattle.std.proofs.Common.{◌&&◌, ◌||◌, eqb, ltb, nat_le, List, length, arith, ap, sym, ◌∙◌, inl, inr}
 use Rattle.std.proofs.Math.ListN.{set, replicate}
 use Rattle.std.specs.Ordering.{nat_cmp}
 use Rattle.std.specs.Cmp.{nat_cmp_total, unsigned_tied}
@@ -12,7 +13,8 @@ contains-set_below : (flags : List Bool) (n q : ℕ) → contains (set_below fla
 unfolding set_below
 contains-set_below flags zero q = contains-empty nat_cmp q ∙ rw (le-ltb q 0 (omega arith)) refl
 contains-set_below flags (suc n) q = elim (cases_Bool (has_flag flags n)) [
-  | inl here ↦ rw here (contains-insert nat_cmp_total (set_below flags n) n q ∙ ap (λ b. b || contains (set_below flags n) q) (unsigned_tied q n) ∙ ap (λ b. eqb q n || b) (contains-set_below flags n q) ∙ taken here)
+  | inl here ↦ rw here (contains-insert nat_cmp_total (set_below flags n) n q ∙ ap (λ b. b || contains (set_below flags n) q) (unsigned_tied q n)
+      ∙ ap (λ b. eqb q n || b) (contains-set_below flags n q) ∙ taken here)
   | inr none ↦ rw none (contains-set_below flags n q ∙ left_out none)
 ]
   where
@@ -74,18 +76,25 @@ no_flag n q = elim (cases_lt q n) [
 ]
 
 only : (flags : List Bool) (u q : ℕ) → contains (intersection (set_of flags) (insert empty u)) q ≡ (has_flag flags q && (eqb q u || false))
-only flags u q = contains-intersection nat_cmp_total (set_of flags) (insert empty u) q ∙ rw (contains-set_of flags q, contains-insert nat_cmp_total empty u q, unsigned_tied q u, contains-empty nat_cmp q) refl
+only flags u q = contains-intersection nat_cmp_total (set_of flags) (insert empty u) q
+    ∙ rw (contains-set_of flags q, contains-insert nat_cmp_total empty u q, unsigned_tied q u, contains-empty nat_cmp q) refl
 
 and_true : (a : Bool) → (a && (true || false)) ≡ a
 and_true true = refl
 and_true false = refl
 
-pub flags_kept : (flags : List Bool) (u : ℕ) (kept : Bool) → u < length flags → kept ≡ contains (set_of flags) u → set_of (set (replicate (length flags) false) u kept) ≡ intersection (set_of flags) (insert empty u)
+pub flags_kept : (flags : List Bool) (u : ℕ) (kept : Bool) → u < length flags → kept ≡ contains (set_of flags) u
+    → set_of (set (replicate (length flags) false) u kept) ≡ intersection (set_of flags) (insert empty u)
 flags_kept flags u kept within is = same _ _ (λ q. contains-set_of (set (replicate (length flags) false) u kept) q ∙ at q ∙ sym (only flags u q))
   where
     at : (q : ℕ) → has_flag (set (replicate (length flags) false) u kept) q ≡ (has_flag flags q && (eqb q u || false))
     at q = elim (cases_eq q u) [
-      | inl e ↦ rw (e, get_or-set_same (replicate (length flags) false) u kept false (omega (arith, within, length-replicate (length flags) false)), eq-eqb u u refl) (is ∙ contains-set_of flags u ∙ sym (and_true (has_flag flags u)))
+      | inl e ↦ rw (
+        e,
+        get_or-set_same (replicate (length flags) false) u kept false
+            (omega (arith, within, length-replicate (length flags) false)),
+        eq-eqb u u refl,
+      ) (is ∙ contains-set_of flags u ∙ sym (and_true (has_flag flags u)))
       | inr apart ↦ rw (get_or-set_other (replicate (length flags) false) u q kept false apart, ne_eqb q u apart) (no_flag (length flags) q ∙ sym (and_right (has_flag flags q) false refl))
     ]
 

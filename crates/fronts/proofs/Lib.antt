@@ -3,6 +3,5 @@ pub mod Tabled
 pub mod Narrowing
 pub mod Listed
 pub mod Recalling
-pub mod Following
 pub mod Stepping
 pub mod Opening

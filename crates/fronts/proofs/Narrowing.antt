@@ -1,5 +1,6 @@
 -- Tables of sets from which rows are taken out, arc by arc.
-use Rattle.std.proofs.Common.{◌≡◌, ◌≢◌, refl, ℕ, ◌+◌, ◌<◌, ◌≤◌, Bool, true, false, not, ◌&&◌, ◌||◌, eqb, List, length, get_or, arith, ap, sym, ◌∙◌, ◌⊎◌, inl, inr}
+use Rattle.std.proofs.Common.{◌≡◌, ◌≢◌, refl, ℕ, ◌+◌, ◌<◌, ◌≤◌, Bool, true, false, not, ◌&&◌}
+use Rattle.std.proofs.Common.{◌||◌, eqb, List, length, get_or, arith, ap, sym, ◌∙◌, ◌⊎◌, inl, inr}
 use Rattle.std.proofs.Math.ListN.{set, length-set}
 use Rattle.std.specs.Prelude.{nat_le}
 use Rattle.std.specs.List.{All}
@@ -88,7 +89,8 @@ module _ (P : Pair → Type 0) where
   pub narrowed_none : (xs : List Rows) → ((b : Pair) → P b) → IsNarrowed P xs xs
   narrowed_none xs all = record { count = refl; each = λ i j w. (λ h. (h, all (i, j)), λ h. h.0) }
 
-  pub narrowed_more : (Q R : Pair → Type 0) (xs ys zs : List Rows) → ((b : Pair) → (P b × Q b → R b) × (R b → P b × Q b)) → IsNarrowed P xs ys → IsNarrowed Q ys zs → IsNarrowed R xs zs
+  pub narrowed_more : (Q R : Pair → Type 0) (xs ys zs : List Rows) → ((b : Pair) → (P b × Q b → R b) × (R b → P b × Q b)) → IsNarrowed P xs ys
+      → IsNarrowed Q ys zs → IsNarrowed R xs zs
   narrowed_more Q R xs ys zs is first second = record {
     count = second.count ∙ first.count;
     each = λ i j w. (let f = first.each i j w in let s = second.each i j (rw first.count w) in (
@@ -100,7 +102,8 @@ module _ (P : Pair → Type 0) where
   -- the rows below n were narrowed
   pub record IsNarrowedBelow (n : ℕ) (xs ys : List Rows) : Type 0 where
     pub count : length ys ≡ length xs
-    pub below : (i j : ℕ) → i < length xs → i < n → (Contains (get_or ys i empty) j → Contains (get_or xs i empty) j × P (i, j)) × (Contains (get_or xs i empty) j × P (i, j) → Contains (get_or ys i empty) j)
+    pub below : (i j : ℕ) → i < length xs → i < n → (Contains (get_or ys i empty) j → Contains (get_or xs i empty) j × P (i, j))
+        × (Contains (get_or xs i empty) j × P (i, j) → Contains (get_or ys i empty) j)
     pub above : (i : ℕ) → n ≤ i → get_or ys i empty ≡ get_or xs i empty
 
   pub below_none : (xs : List Rows) → IsNarrowedBelow 0 xs xs
@@ -124,7 +127,9 @@ module _ (P : Pair → Type 0) where
 pub narrowed_set : (a : Arc) (xs : List Rows) → a.from < length xs → IsNarrowed (λ b. pair a ≢ b) xs (set xs a.from (remove (get_or xs a.from empty) a.to))
 narrowed_set a xs within = record { count = length-set xs a.from _; each = each }
   where
-    each : (i j : ℕ) → i < length xs → (Contains (get_or (set xs a.from (remove (get_or xs a.from empty) a.to)) i empty) j → Contains (get_or xs i empty) j × (pair a ≢ (i, j))) × (Contains (get_or xs i empty) j × (pair a ≢ (i, j)) → Contains (get_or (set xs a.from (remove (get_or xs a.from empty) a.to)) i empty) j)
+    each : (i j : ℕ) → i < length xs → (Contains (get_or (set xs a.from (remove (get_or xs a.from empty) a.to)) i empty) j
+        → Contains (get_or xs i empty) j × (pair a ≢ (i, j)))
+        × (Contains (get_or xs i empty) j × (pair a ≢ (i, j)) → Contains (get_or (set xs a.from (remove (get_or xs a.from empty) a.to)) i empty) j)
     each i j w = elim (cases_eq i a.from) [
       | inl same ↦ rw (same, get_or-set_same xs a.from (remove (get_or xs a.from empty) a.to) empty within) (
         λ h. (let at = (remove_is (get_or xs a.from empty) a.to j).0 h in (at.0, λ e. at.1 (ap (λ (b : Pair). b.1) e))),
@@ -149,7 +154,8 @@ Firsts P arcs n = (m : ℕ) (d : Arc) → m < n → P (get_or arcs m d)
 pub firsts_none : (P : Arc → Type 0) (arcs : List Arc) → Firsts P arcs 0
 firsts_none P arcs m d low = absurd (omega (arith, low))
 
-pub firsts_more : (P : Arc → Type 0) (arcs : List Arc) (n : ℕ) (a : Arc) → n < length arcs → a ≡ get_or arcs n (record { from = 0; to = 0 }) → (Firsts P arcs n × P a → Firsts P arcs (n + 1)) × (Firsts P arcs (n + 1) → Firsts P arcs n × P a)
+pub firsts_more : (P : Arc → Type 0) (arcs : List Arc) (n : ℕ) (a : Arc) → n < length arcs → a ≡ get_or arcs n (record { from = 0; to = 0 })
+    → (Firsts P arcs n × P a → Firsts P arcs (n + 1)) × (Firsts P arcs (n + 1) → Firsts P arcs n × P a)
 firsts_more P arcs n a within is = (
   λ h m d low. elim (cases_eq m n) [
     | inl same ↦ rw (same, get_or_default arcs n d (record { from = 0; to = 0 }) within, ← is) h.1
@@ -178,7 +184,8 @@ module _ (g : Region) (required forbidden : List Arc) (is_required : arc_set req
   some : Arc
   some = record { from = 0; to = 0 }
 
-  pub allowed : (a : Arc) → a.from ≤ g.size → a.to ≤ g.size → a.from ≢ a.to → All (λ b. pair b ≢ pair a) forbidden → All (λ b. ¬ Excludes (pair b) (pair a)) required → IsAllowed g (pair a)
+  pub allowed : (a : Arc) → a.from ≤ g.size → a.to ≤ g.size → a.from ≢ a.to → All (λ b. pair b ≢ pair a) forbidden
+      → All (λ b. ¬ Excludes (pair b) (pair a)) required → IsAllowed g (pair a)
   allowed a from to apart free together = rw (← whole) (is_allowed g.size required forbidden a from to apart free together)
 
   module _ (a : Arc) (h : IsAllowed g (pair a)) where
@@ -192,7 +199,8 @@ module _ (g : Region) (required forbidden : List Arc) (is_required : arc_set req
     is_together m d low e = excluded_refuses g.size required forbidden a (m, get_or required m d, low, get_or_default required m _ _ low, e) here
 
 module _ (g : Region) (required forbidden : List Arc) (is_required : arc_set required ≡ g.required) (is_forbidden : arc_set forbidden ≡ g.forbidden) (xs ys zs : List Rows)
-    (others : IsTable (IsOther g.size) (g.size + 1) xs) (first : IsNarrowed (λ b. All (λ a. pair a ≢ b) forbidden) xs ys) (second : IsNarrowed (λ b. All (λ a. ¬ Excludes (pair a) b) required) ys zs) where
+    (others : IsTable (IsOther g.size) (g.size + 1) xs) (first : IsNarrowed (λ b. All (λ a. pair a ≢ b) forbidden) xs ys)
+    (second : IsNarrowed (λ b. All (λ a. ¬ Excludes (pair a) b) required) ys zs) where
   at : (i : ℕ) → i < g.size + 1 → IsAllowedRow g i (get_or zs i empty)
   at i low j = (forward, backward)
     where

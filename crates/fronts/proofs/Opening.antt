@@ -22,7 +22,8 @@ abbrev key : Step → ℕ
 key s = 20 * MOST_TIME - s.latest
 
 -- a step where its customer has a price
-pub step_at_price : (p : Problem) (k v : ℕ) (price : ℕ → ℤ) (s x : Step) (z : ℤ) → IsFreeStep p k v s → x ≡ record s { cost = s.cost -ℤ z } → z ≡ price s.customer → IsStepFrom p k price v x
+pub step_at_price : (p : Problem) (k v : ℕ) (price : ℕ → ℤ) (s x : Step) (z : ℤ) → IsFreeStep p k v s → x ≡ record s { cost = s.cost -ℤ z }
+    → z ≡ price s.customer → IsStepFrom p k price v x
 step_at_price p k v price s x z free is at = rw is (record {
   customer = free.customer;
   reachable = free.reachable;
@@ -117,7 +118,8 @@ module _ (p : Problem) (k : ℕ) (price : ℕ → ℤ) (Q : ℕ → Type 0) (v :
             rw found.1.1 at (h.all found.0 (omega (arith, found.1.0, past)) (rw found.1.1 among))
 
 -- the same customers, told in another way
-pub steps_where : (p : Problem) (k : ℕ) (price : ℕ → ℤ) (P Q : ℕ → Type 0) (v : ℕ) (steps : List Step) → ((j : ℕ) → P j ↔ Q j) → AreStepsFrom p k price P v steps → AreStepsFrom p k price Q v steps
+pub steps_where : (p : Problem) (k : ℕ) (price : ℕ → ℤ) (P Q : ℕ → Type 0) (v : ℕ) (steps : List Step) → ((j : ℕ) → P j ↔ Q j)
+    → AreStepsFrom p k price P v steps → AreStepsFrom p k price Q v steps
 steps_where p k price P Q v steps same are = record {
   each = All-weaker (λ s. IsStepFrom p k price v s × P s.customer) (λ s. IsStepFrom p k price v s × Q s.customer) (λ s h. (h.0, (same s.customer).0 h.1)) steps are.each;
   all = λ j customer reachable among. are.all j customer reachable ((same j).1 among);

@@ -36,7 +36,8 @@ module _ (p : Problem) (k v memory : ℕ) (list : List ℕ) where
       above = λ m low high. is m ∙ so_far.above m low (omega (arith, high));
     }
 
-    pub holds_yes : (next : ℕ) → next < 2 ^ 16 → recalls p k v memory (get_or list i 0) ≡ true → ((m : ℕ) → has_bit next m ≡ (eqb m i || has_bit after m)) → Holds p k v memory list (i + 1) next
+    pub holds_yes : (next : ℕ) → next < 2 ^ 16 → recalls p k v memory (get_or list i 0) ≡ true
+        → ((m : ℕ) → has_bit next m ≡ (eqb m i || has_bit after m)) → Holds p k v memory list (i + 1) next
     holds_yes next small here is = record {
       small = small;
       first = is 0 ∙ rw (ne_eqb 0 i (λ e. omega (arith, e, positive))) so_far.first;

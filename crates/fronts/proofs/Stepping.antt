@@ -11,8 +11,10 @@ use Rattle.std.proofs.lemmas.Bool.Decides.{nat_tests}
 use Rattle.solomon_reader.specs.declared.limits.TheConstants.{MOST_TIME}
 use Rattle.solomon_reader.specs.Distance.{distance}
 use Rattle.solomon_reader.specs.Problem.{Problem, IsCustomer, due}
-use Rattle.solomon_reader.specs.States.{Pricing, State, CanStep}
+use Rattle.solomon_reader.specs.Relaxed.{price_of}
+use Rattle.solomon_reader.specs.States.{Pricing, State, CanStep, IsPriced}
 use Rattle.fronts.specs.declared.step.Step.{Step}
+use Rattle.fronts.specs.Fronts.{IsTask}
 use Rattle.fronts.specs.Steps.{blank, step_at, steps_to, IsReachable, IsFreeStep, AreStepsFrom, IsAmong}
 
 pub to_it : (j : ℕ) (s : Step) → s.customer ≡ j → ◌≡◌ {A = ℕ} (cond (s.customer == j) 1 0) 1
@@ -33,6 +35,10 @@ found_at j (s ∷ steps) h =
 -- whom a step leads to, an empty vehicle may serve as well
 pub can_reach : (q : Pricing) (a : State) (j : ℕ) → CanStep q a j → IsReachable q.problem a.last j
 can_reach q a j can = record { load = omega (arith, can.load); window = omega (arith, can.due); way = omega (arith, can.due) }
+
+-- the price of a customer is small
+pub price_small : (q : Pricing) → IsTask q.problem q.region q.prices → (j : ℕ) → IsCustomer q.problem j → IsPriced (price_of q.prices j)
+price_small q task j c = task.priced (j - 1) (pos 0) (omega (arith, task.count, c.0, c.1))
 
 -- the steps to those of the customers below n that may be reached stand there
 pub record HaveBelow (p : Problem) (k v n : ℕ) (steps : List Step) : Type 0 where
@@ -62,7 +68,8 @@ module _ (p : Problem) (k v : ℕ) where
       ];
     }
 
-  pub steps_sorted : (n : ℕ) (steps sorted : List Step) → ((j : ℕ) → IsCustomer p j → j < n) → HaveBelow p k v n steps → IsPermutation steps sorted → IsNonDecreasingBy (λ s. 20 * MOST_TIME - s.latest) sorted
+  pub steps_sorted : (n : ℕ) (steps sorted : List Step) → ((j : ℕ) → IsCustomer p j → j < n) → HaveBelow p k v n steps → IsPermutation steps sorted
+      → IsNonDecreasingBy (λ s. 20 * MOST_TIME - s.latest) sorted
       → AreStepsFrom p k (λ _. pos 0) (λ _. Unit {0}) v sorted
   steps_sorted n steps sorted within h moved falling = record {
     each = All-permutation (λ s. IsFreeStep p k v s × Unit {0}) steps sorted moved h.each;
@@ -80,7 +87,8 @@ among_more steps i j h = elim (cases_lt h.0 i) [
 ]
 
 -- a customer that may still be reached from t on stands among the first, where that is all of them, or the next has to be left for before t
-pub is_among : (p : Problem) (k : ℕ) (price : ℕ → ℤ) (P : ℕ → Type 0) (v : ℕ) (steps : List Step) (t i : ℕ) → AreStepsFrom p k price P v steps → t ≤ 20 * MOST_TIME → (length steps ≤ i) ⊎ ((step_at steps i).latest < t)
+pub is_among : (p : Problem) (k : ℕ) (price : ℕ → ℤ) (P : ℕ → Type 0) (v : ℕ) (steps : List Step) (t i : ℕ) → AreStepsFrom p k price P v steps
+    → t ≤ 20 * MOST_TIME → (length steps ≤ i) ⊎ ((step_at steps i).latest < t)
     → (j : ℕ) → IsCustomer p j → IsReachable p v j → P j → t + distance p v j ≤ due p j → IsAmong steps i j
 is_among p k price P v steps t i are soon end j customer reachable among timely =
     let found = found_at j steps (are.all j customer reachable among) in

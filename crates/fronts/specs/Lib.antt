@@ -4,4 +4,3 @@ pub mod Memories
 pub mod Tables
 pub mod Steps
 pub mod Tasks
-pub mod Completions

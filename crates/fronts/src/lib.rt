@@ -1,9 +1,7 @@
 //! Where a vehicle stands after the first stops of a relaxed route (the ng-routes of Baldacci, Mingozzi
-//! and Roberti), what it remembers, where it may go, and bounds on what may follow.
+//! and Roberti), what it remembers, and where it may go.
 #![tactic(auto)]
 
-mod bound;
-mod completions;
 mod customer_set;
 mod front;
 mod memory;
@@ -15,13 +13,12 @@ mod step;
 mod tables;
 mod task;
 
-pub use bound::{Bound, RowBound};
-pub use completions::Completions;
 pub use customer_set::CustomerSet;
 pub use front::Front;
 pub use memory::Memory;
 pub use nearness::Nearness;
 pub use neighbours::LIST_SIZE;
+pub use slots::Slots;
 pub use step::Step;
 pub use tables::allowed_rows;
 pub use task::Task;

@@ -30,7 +30,8 @@ impl Memory {
     /// The memory with a further place, if that is kept. It has no branch: mostly none can be foreseen.
     pub fn with_if(self, place: u8, is_kept: bool) -> Memory
         requires { place < 16 }
-        ensures places { (i : ℕ) → has_bit result.bits i ≡ ((is_kept && (i == place)) || has_bit self.bits i) }
+        ensures places { (i : ℕ)
+            → has_bit result.bits i ≡ ((is_kept && (i == place)) || has_bit self.bits i) }
         ensures small { result.bits < 2 ^ 16 }
     {
         Memory {
@@ -47,7 +48,8 @@ impl Memory {
 
     /// Whether the other one holds each place of this one.
     pub fn is_subset(self, other: Memory) -> bool
-        ensures { IsTrue result ↔ ((i : ℕ) → IsTrue (has_bit self.bits i) → IsTrue (has_bit other.bits i)) }
+        ensures { IsTrue result ↔ ((i : ℕ) → IsTrue (has_bit self.bits i)
+            → IsTrue (has_bit other.bits i)) }
     {
         self.bits & other.bits == self.bits
     }

@@ -101,7 +101,8 @@ pub(crate) fn places_from(
 ) -> Result<Vec<u8>, AllocError>
     requires few { k < LIST_SIZE }
     requires v { v < length instance.now.rows }
-    ensures { IfOk result (λ places. HasPlaces instance.now k v (length instance.now.rows) places.items) }
+    ensures { IfOk result (λ places. HasPlaces instance.now k v
+        (length instance.now.rows) places.items) }
 {
     let count = instance.customer_count();
     let mut places = Vec::new(alloc);

@@ -28,7 +28,7 @@ struct RowSlots {
 
 /// Slots of one length, from time 0 on. Each row has a bound for each slot in which a route may leave it.
 #[derive(Drop)]
-pub(crate) struct Slots {
+pub struct Slots {
     /// How long a slot is, in tenths.
     width: u64,
     /// What a time is multiplied by to get its slot in units of 2 to the power of -32, in place of a
@@ -147,17 +147,17 @@ impl Slots {
     }
 
     /// The last slot of all rows.
-    pub(crate) fn last(&self) -> u32 {
+    pub fn last(&self) -> u32 {
         self.last
     }
 
     /// How many bounds there are.
-    pub(crate) fn count(&self) -> usize {
+    pub fn count(&self) -> usize {
         self.count as usize
     }
 
     /// The time from which on the bound of a row in a slot holds, in tenths, if the row has one.
-    pub(crate) fn start(&self, v: u16, slot: u32) -> Option<u32>
+    pub fn start(&self, v: u16, slot: u32) -> Option<u32>
         ensures { IfSome result (λ from. from ≤ 20 * MOST_TIME) }
     {
         let row = self.rows.get(usize::from(v))?;
@@ -168,8 +168,16 @@ impl Slots {
         Some(from.max(row.earliest).min(20 * u64::from(MOST_TIME)) as u32)
     }
 
+    /// The earliest time at which a route may leave a customer, in tenths, if it is one.
+    pub fn earliest(&self, v: u16) -> Option<u32>
+        ensures { IfSome result (λ from. from ≤ 20 * MOST_TIME) }
+    {
+        let row = self.rows.get(usize::from(v))?;
+        Some(row.earliest.min(20 * u64::from(MOST_TIME)) as u32)
+    }
+
     /// The slot of a time. No contract: a bound says itself what it bounds.
-    pub(crate) fn slot(&self, time: u64) -> u32 {
+    pub fn slot(&self, time: u64) -> u32 {
         cut(time.wrapping_mul(self.inverse) >> 32)
     }
 
@@ -182,7 +190,7 @@ impl Slots {
     }
 
     /// The place of the bound of a row at a time.
-    pub(crate) fn place(&self, v: u16, time: u64) -> usize {
+    pub fn place(&self, v: u16, time: u64) -> usize {
         let row = usize::from(v);
         if row >= self.rows.len() {
             return usize::MAX;

@@ -61,7 +61,7 @@ impl Step {
     }
 
     /// The place of the customer's bound in a slot of time. No contract: a bound says itself what it bounds.
-    pub(crate) fn place_at(&self, slot: u32) -> usize {
+    pub fn place_at(&self, slot: u32) -> usize {
         let behind = self.last_slot.saturating_sub(slot);
         self.last_place.wrapping_add(behind) as usize
     }

@@ -22,7 +22,8 @@ pub(crate) fn all_places(
     neighbours: u32,
 ) -> Result<Vec<Vec<u8>>, AllocError>
     requires { neighbours < LIST_SIZE }
-    ensures { IfOk result (λ table. IsTable (ArePlaces instance.now neighbours) (length instance.now.rows) table.items) }
+    ensures { IfOk result (λ table. IsTable (ArePlaces instance.now neighbours)
+        (length instance.now.rows) table.items) }
 {
     let count = instance.customer_count();
     let mut table = Vec::new(alloc);
@@ -40,8 +41,10 @@ pub(crate) fn neighbour_lists(
     places: &[Vec<u8>],
 ) -> Result<Vec<[u16; LIST_SIZE as usize]>, AllocError>
     requires few { neighbours < LIST_SIZE }
-    requires places { IsTable (ArePlaces instance.now neighbours) (length instance.now.rows) places.now }
-    ensures { IfOk result (λ table. IsTable (IsWholeList instance.now neighbours) (length instance.now.rows) table.items) }
+    requires places { IsTable (ArePlaces instance.now neighbours)
+        (length instance.now.rows) places.now }
+    ensures { IfOk result (λ table. IsTable (IsWholeList instance.now neighbours)
+        (length instance.now.rows) table.items) }
 {
     let count = instance.customer_count();
     let mut table = Vec::new(alloc);
@@ -54,7 +57,8 @@ pub(crate) fn neighbour_lists(
 
 /// The rows other than each row.
 fn other_rows(alloc: Global, instance: &Instance) -> Result<Vec<CustomerSet>, AllocError>
-    ensures { IfOk result (λ table. IsTable (IsOther (customer_count instance.now)) (length instance.now.rows) table.items) }
+    ensures { IfOk result (λ table. IsTable (IsOther (customer_count instance.now))
+        (length instance.now.rows) table.items) }
 {
     let count = instance.customer_count();
     let mut table = Vec::new(alloc);
@@ -78,7 +82,8 @@ fn forbid(table: &mut [CustomerSet], arcs: &[Arc])
 
 /// Takes out of the rows that follow row i those that a required arc excludes.
 fn exclude(rows: &mut CustomerSet, i: u16, arc: Arc)
-    ensures { (j : ℕ) → IsTrue (contains rows.new j) ↔ (IsTrue (contains rows.old j) × (¬ Excludes (pair arc) (i, j))) }
+    ensures { (j : ℕ) → IsTrue (contains rows.new j) ↔
+        (IsTrue (contains rows.old j) × (¬ Excludes (pair arc) (i, j))) }
 {
     if i == arc.from {
         if i != 0 {
@@ -126,7 +131,8 @@ pub fn allowed_rows(
     region: &Region,
 ) -> Result<Vec<CustomerSet>, AllocError>
     requires { region.now.size ≡ customer_count instance.now }
-    ensures { IfOk result (λ table. IsTable (IsAllowedRow region.now) (length instance.now.rows) table.items) }
+    ensures { IfOk result (λ table. IsTable (IsAllowedRow region.now)
+        (length instance.now.rows) table.items) }
 {
     instance.law_of_limits();
     let mut table = other_rows(alloc, instance)?;

@@ -32,7 +32,8 @@ pub struct Task<'i> {
     pub neighbours: u32,
     pub places: &'i [Vec<u8>],
     pub neighbour_lists: &'i [[u16; LIST_SIZE as usize]],
-    pub(crate) slots: &'i Slots,
+    /// The slots of time.
+    pub slots: &'i Slots,
     allowed_rows: Vec<CustomerSet>,
     steps: Vec<Vec<Step>>,
     ghost task: { IsTask instance.now region.now prices.now },

@@ -8,7 +8,7 @@ use Rattle.solomon_reader.specs.Problem.{Problem, customer_count}
 use Rattle.solomon_reader.specs.Region.{used_child, unused_child}
 use Rattle.branching.specs.declared.arc.Arc.{Arc}
 use Rattle.branching.specs.Arcs.{pair}
-use Rattle.prices.specs.Pricing.{Pricing, IsPricing}
+use Rattle.prices.specs.ValuedPrices.{ValuedPrices, IsValued}
 use Rattle.solomon_reader.specs.History.{Event, offered, repriced, branched, split_count, used_number, unused_number, last_number, split_of, IsLeaf, region_of, depth_of, value_of, IsLegal}
 use Rattle.incumbent_book.specs.Arena.{open_leaf, leaf_at, new_leaf, IsOpenAt, StandsAt, IsArena}
 use Rattle.incumbent_book.specs.declared.node.Leaf.{Leaf}
@@ -73,14 +73,14 @@ module _ (p : Problem) (k v : ℕ) (past : List Event) (nodes : List Node) (is :
     stand = λ m node e. stands_still p k v past (offered worker cost better ∷ past) m node refl refl refl refl (is.stand m node e);
   }
 
-  module _ (worker m : ℕ) (old : Leaf) (f : Pricing) (was : leaf_at nodes m ≡ Some old) where
+  module _ (worker m : ℕ) (old : Leaf) (f : ValuedPrices) (was : leaf_at nodes m ≡ Some old) where
     abbrev raised_past : List Event
     raised_past = repriced worker m f.value ∷ past
 
     abbrev raised_node : Node
     raised_node = Open (new_leaf old.depth f)
 
-    raised_at : f.problem ≡ p → f.region ≡ region_of (customer_count p) past m → f.neighbours ≡ k → IsPricing f → StandsAt p k v raised_past m raised_node
+    raised_at : f.problem ≡ p → f.region ≡ region_of (customer_count p) past m → f.neighbours ≡ k → IsValued f → StandsAt p k v raised_past m raised_node
     raised_at problem region neighbours pricing = let o = open_at m old was in record {
       whole = o.whole;
       depth = o.depth;
@@ -101,7 +101,7 @@ module _ (p : Problem) (k v : ℕ) (past : List Event) (nodes : List Node) (is :
           stands_still p k v past raised_past j node refl refl refl (elsewhere j m f.value (value_of v past j) d) (is.stand j node (sym (get_set_other nodes m j raised_node d) ∙ e))
     ]
 
-    pub after_prices : f.problem ≡ p → f.region ≡ region_of (customer_count p) past m → f.neighbours ≡ k → IsPricing f
+    pub after_prices : f.problem ≡ p → f.region ≡ region_of (customer_count p) past m → f.neighbours ≡ k → IsValued f
         → IsArena p k v (repriced worker m f.value ∷ past) (slice_set nodes m (Open (new_leaf old.depth f)))
     after_prices problem region neighbours pricing = record {
       count = length-set nodes m raised_node ∙ is.count;
@@ -109,7 +109,7 @@ module _ (p : Problem) (k v : ℕ) (past : List Event) (nodes : List Node) (is :
     }
 
 module _ (p : Problem) (k v : ℕ) (past : List Event) (nodes : List Node) (is : IsArena p k v past nodes) (legal : IsLegal (customer_count p) v past)
-    (worker m : ℕ) (arc : Arc) (old : Leaf) (x y : Pricing) (was : leaf_at nodes m ≡ Some old) where
+    (worker m : ℕ) (arc : Arc) (old : Leaf) (x y : ValuedPrices) (was : leaf_at nodes m ≡ Some old) where
   abbrev n : ℕ
   n = customer_count p
 
@@ -137,7 +137,7 @@ module _ (p : Problem) (k v : ℕ) (past : List Event) (nodes : List Node) (is :
   split_at : StandsAt p k v new m split_node
   split_at = (s, here m m (Some (s, pair arc)) (split_of past m) refl, omega (arith, is.count), omega (arith, is.count))
 
-  used_at : (j : ℕ) → j ≡ used_number s → x.problem ≡ p → x.region ≡ used_child (region_of n past m) (pair arc) → x.neighbours ≡ k → IsPricing x → IsOpenAt p k v new j used_leaf
+  used_at : (j : ℕ) → j ≡ used_number s → x.problem ≡ p → x.region ≡ used_child (region_of n past m) (pair arc) → x.neighbours ≡ k → IsValued x → IsOpenAt p k v new j used_leaf
   used_at j e problem region neighbours pricing = let made = was_made in record {
     whole = elsewhere j m (Some (s, pair arc)) (split_of past j) (omega arith) ∙ not_yet n v past j legal (omega arith);
     depth = ap (λ d. d + 1) (open_at p k v past nodes is m old was).depth ∙ sym (used_depth n v past worker m (pair arc) (used_number s) (unused_number s) x.value y.value j e);
@@ -148,7 +148,7 @@ module _ (p : Problem) (k v : ℕ) (past : List Event) (nodes : List Node) (is :
     pricing = pricing;
   }
 
-  unused_at : (j : ℕ) → j ≡ unused_number s → y.problem ≡ p → y.region ≡ unused_child (region_of n past m) (pair arc) → y.neighbours ≡ k → IsPricing y
+  unused_at : (j : ℕ) → j ≡ unused_number s → y.problem ≡ p → y.region ≡ unused_child (region_of n past m) (pair arc) → y.neighbours ≡ k → IsValued y
       → IsOpenAt p k v new j unused_leaf
   unused_at j e problem region neighbours pricing = let made = was_made in record {
     whole = elsewhere j m (Some (s, pair arc)) (split_of past j) (omega arith) ∙ not_yet n v past j legal (omega arith);
@@ -206,7 +206,7 @@ module _ (p : Problem) (k v : ℕ) (past : List Event) (nodes : List Node) (is :
       ]
 
   pub after_split : x.problem ≡ p → y.problem ≡ p → x.region ≡ used_child (region_of n past m) (pair arc) → y.region ≡ unused_child (region_of n past m) (pair arc)
-      → x.neighbours ≡ k → y.neighbours ≡ k → IsPricing x → IsPricing y → IsArena p k v new nodes_after
+      → x.neighbours ≡ k → y.neighbours ≡ k → IsValued x → IsValued y → IsArena p k v new nodes_after
   after_split xp yp xr yr xk yk xv yv = record {
     count = let len = front_len in omega (arith, length-append front back);
     stand = split_stand (λ j e. used_at j e xp xr xk xv) (λ j e. unused_at j e yp yr yk yv);

@@ -8,7 +8,7 @@ use Rattle.solomon_reader.specs.Problem.{customer_count}
 use Rattle.schedule.specs.Solution.{Solution, IsSolution}
 use Rattle.branching.specs.declared.arc.Arc.{Arc}
 use Rattle.branching.specs.Arcs.{pair}
-use Rattle.prices.specs.Pricing.{Pricing, IsPricing}
+use Rattle.prices.specs.ValuedPrices.{ValuedPrices, IsValued}
 use Rattle.solomon_reader.specs.History.{IsLeaf, IsCheaper, value_of, depth_of, split_count, used_number, unused_number}
 use Rattle.incumbent_book.specs.Contents.{Contents, IsBook, pricing_at}
 use Rattle.incumbent_book.specs.Faults.{IsAccepted, reprice, split}
@@ -44,7 +44,7 @@ module _ (b : Contents) (nodes : List Node) (is : IsConsistent b nodes) where
     count = ap (λ (ps : List (List ℤ)). length ps) is.prices ∙ (length-map nodes prices_of ∙ is.arena.count);
     leaves = λ m at.
         (let l = leaf_there b.problem b.neighbours b.root b.past nodes is.arena m at in
-        subst IsPricing (leaf_pricing m l.0 l.1) (open_at b.problem b.neighbours b.root b.past nodes is.arena m l.0 l.1).pricing);
+        subst IsValued (leaf_pricing m l.0 l.1) (open_at b.problem b.neighbours b.root b.past nodes is.arena m l.0 l.1).pricing);
   }
 
   -- the leaf that the nodes have at a number is that of the book
@@ -86,7 +86,7 @@ module _ (b : Contents) (nodes : List Node) (is : IsConsistent b nodes) where
     prices = is.prices;
   }
 
-  pub kept_raise : (worker m : ℕ) (f : Pricing) (old : Leaf) → IsAccepted b (reprice m f) → IsPricing f → leaf_at nodes m ≡ Some old
+  pub kept_raise : (worker m : ℕ) (f : ValuedPrices) (old : Leaf) → IsAccepted b (reprice m f) → IsValued f → leaf_at nodes m ≡ Some old
       → IsConsistent (with_prices b worker m f) (slice_set nodes m (Open (new_leaf old.depth f)))
   kept_raise worker m f old accepted pricing was =
       let room = accepted.met JournalFull (omega arith) in
@@ -101,7 +101,7 @@ module _ (b : Contents) (nodes : List Node) (is : IsConsistent b nodes) where
         prices = ap (λ (ps : List (List ℤ)). slice_set ps m f.prices) is.prices ∙ sym (map-set prices_of nodes m (Open (new_leaf old.depth f)));
       }
 
-  pub kept_split : (worker m : ℕ) (arc : Arc) (x y : Pricing) (old : Leaf) → IsAccepted b (split m (pair arc) x y) → IsPricing x → IsPricing y → leaf_at nodes m ≡ Some old
+  pub kept_split : (worker m : ℕ) (arc : Arc) (x y : ValuedPrices) (old : Leaf) → IsAccepted b (split m (pair arc) x y) → IsValued x → IsValued y → leaf_at nodes m ≡ Some old
       → IsConsistent (with_split b worker m (pair arc) x y)
       (slice_set nodes m (Split arc (length nodes) (length nodes + 1)) ++ Open (new_leaf (old.depth + 1) x) ∷ Open (new_leaf (old.depth + 1) y) ∷ [])
   kept_split worker m arc x y old accepted xv yv was =

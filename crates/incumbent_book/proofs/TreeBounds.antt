@@ -9,7 +9,7 @@ use Rattle.solomon_reader.specs.Bound.{version_2, ceiling_of, Tree, leaf, split,
 use Rattle.solomon_reader.specs.CertificateText.{IsTreeAt}
 use Rattle.solomon_reader.specs.CertificateText as certificate
 use Rattle.branching.specs.Arcs.{pair}
-use Rattle.prices.specs.Pricing.{Pricing}
+use Rattle.prices.specs.ValuedPrices.{ValuedPrices}
 use Rattle.solomon_reader.specs.History.{Event, offered, repriced, branched, split_count, used_number, unused_number, last_number, split_of, IsLeaf, region_of, depth_of, value_of, IsBound, IsLegal}
 use Rattle.incumbent_book.specs.Contents.{Contents, IsBook}
 use Rattle.incumbent_book.specs.Arena.{open_leaf, leaf_at}
@@ -47,7 +47,7 @@ module _ (b : Contents) (nodes : List Node) (is : IsConsistent b nodes) where
   grows_at : (m : ℕ) (tree : Tree) → GrowsIn nodes m tree → GrowsAt b.past b.prices m tree
   grows_at m (leaf ps) g =
       let at : leaf_at nodes m ≡ Some g.0 = ap open_leaf g.1 in
-      (leaf_is b.problem b.neighbours b.root b.past nodes is.arena m g.0 at, g.2 ∙ ap (λ (f : Pricing). f.prices) (leaf_pricing b nodes is m g.0 at))
+      (leaf_is b.problem b.neighbours b.root b.past nodes is.arena m g.0 at, g.2 ∙ ap (λ (f : ValuedPrices). f.prices) (leaf_pricing b nodes is m g.0 at))
   grows_at m (split a x y) g =
       let arc = g.0 in
       let i = g.1.0 in

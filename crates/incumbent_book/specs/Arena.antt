@@ -4,7 +4,7 @@ use Rattle.solomon_reader.specs.Problem.{Problem, customer_count}
 use Rattle.solomon_reader.specs.Region.{arc_cmp}
 use Rattle.std.specs.BTreeSet.{BTreeSet, contains}
 use Rattle.branching.specs.Arcs.{pair}
-use Rattle.prices.specs.Pricing.{Pricing, IsPricing}
+use Rattle.prices.specs.ValuedPrices.{ValuedPrices, IsValued}
 use Rattle.solomon_reader.specs.History.{Event, split_of, last_number, region_of, depth_of, value_of, used_number, unused_number}
 use Rattle.incumbent_book.specs.declared.node.Leaf.{Leaf}
 use Rattle.incumbent_book.specs.declared.node.Node.{Node}
@@ -37,7 +37,7 @@ stands nodes q = has_value (leaf_at nodes q.1) q.0
 abbrev pub WithLeaf : List Node → ℕ → (Leaf → Type 0) → Type 0
 WithLeaf nodes m P = (leaf : Leaf) × (leaf_at nodes m ≡ Some leaf) × P leaf
 
-abbrev pub new_leaf : ℕ → Pricing → Leaf
+abbrev pub new_leaf : ℕ → ValuedPrices → Leaf
 new_leaf depth f = record { depth = depth; priced = f }
 
 -- the index has the entry
@@ -62,7 +62,7 @@ pub record IsOpenAt (p : Problem) (k v : ℕ) (past : List Event) (m : ℕ) (lea
   pub region : leaf.priced.region ≡ region_of (customer_count p) past m
   pub neighbours : leaf.priced.neighbours ≡ k
   pub value : leaf.priced.value ≡ value_of v past m
-  pub pricing : IsPricing leaf.priced
+  pub pricing : IsValued leaf.priced
 
 abbrev pub StandsAt : Problem → ℕ → ℕ → List Event → ℕ → Node → Type 0
 StandsAt p k v past m (Open leaf) = IsOpenAt p k v past m leaf

@@ -3,7 +3,7 @@ use Rattle.std.specs.Prelude.{◌≡◌, ℕ, ◌+◌, ◌≤◌, List, [], leng
 use Rattle.solomon_reader.specs.declared.limits.TheConstants.{MOST_EVENTS, MOST_LEAVES, MOST_DEPTH}
 use Rattle.solomon_reader.specs.Problem.{Problem, customer_count}
 use Rattle.schedule.specs.Solution.{Solution, IsSolution}
-use Rattle.prices.specs.Pricing.{Pricing, IsPricing}
+use Rattle.prices.specs.ValuedPrices.{ValuedPrices, IsValued}
 use Rattle.branching.specs.Arcs.{pair}
 use Rattle.solomon_reader.specs.History.{Limits, IsWithin, IsLegal, IsBestCost, IsLeaf, last_number, region_of, value_of, offered, repriced, branched}
 use Rattle.solomon_reader.specs.History as history
@@ -36,7 +36,7 @@ pub record Contents : Type 0 where
   pub prices : List (List ℤ)
 
 -- a leaf with its prices: its region and its value follow from the history
-abbrev pub pricing_at : Contents → ℕ → Pricing
+abbrev pub pricing_at : Contents → ℕ → ValuedPrices
 pricing_at b m =
     record { problem = b.problem; region = region_of (customer_count b.problem) b.past m; neighbours = b.neighbours; prices = slice_index_or b.prices m []; value = value_of b.root b.past m }
 
@@ -58,4 +58,4 @@ pub record IsBook (b : Contents) : Type 0 where
   pub plan : IsOfProblem b.problem b.incumbent
   pub best : IsBestCost b.past (option_map (λ s. s.cost) b.incumbent)
   pub count : length b.prices ≡ last_number b.past + 1
-  pub leaves : (m : ℕ) → IsLeaf b.past m → IsPricing (pricing_at b m)
+  pub leaves : (m : ℕ) → IsLeaf b.past m → IsValued (pricing_at b m)

@@ -4,7 +4,7 @@ use Rattle.solomon_reader.specs.Problem.{customer_count}
 use Rattle.solomon_reader.specs.Plan.{Arc}
 use Rattle.solomon_reader.specs.Region.{Region, IsUndecided, used_child, unused_child}
 use Rattle.schedule.specs.Solution.{Solution}
-use Rattle.prices.specs.Pricing.{Pricing}
+use Rattle.prices.specs.ValuedPrices.{ValuedPrices}
 use Rattle.solomon_reader.specs.History.{IsLeaf, leaf_count, region_of, depth_of, value_of}
 use Rattle.incumbent_book.specs.Contents.{Contents}
 use Rattle.incumbent_book.specs.declared.fault.BookFault.{BookFault}
@@ -13,8 +13,8 @@ use Rattle.incumbent_book.specs.declared.fault.BookFault.TheVariants.{Memory, Fo
 -- a plan; a number with new prices; a number with an arc, and prices where it is used and where it isn't
 pub data Call : Type 0 where
   offer : Solution → Call
-  reprice : ℕ → Pricing → Call
-  split : ℕ → Arc → Pricing → Pricing → Call
+  reprice : ℕ → ValuedPrices → Call
+  split : ℕ → Arc → ValuedPrices → ValuedPrices → Call
 
 abbrev pub IsOfInstance : Contents → Call → Type 0
 IsOfInstance b (offer plan) = plan.problem ≡ b.problem
@@ -30,12 +30,12 @@ abbrev pub region_at : Contents → ℕ → Region
 region_at b m = region_of (customer_count b.problem) b.past m
 
 -- prices at this region, with the book's number of neighbours
-pub record IsAt (b : Contents) (g : Region) (f : Pricing) : Type 0 where
+pub record IsAt (b : Contents) (g : Region) (f : ValuedPrices) : Type 0 where
   pub region : f.region ≡ g
   pub neighbours : f.neighbours ≡ b.neighbours
 
 -- the children by an undecided arc
-pub record AreChildren (b : Contents) (g : Region) (a : Arc) (x y : Pricing) : Type 0 where
+pub record AreChildren (b : Contents) (g : Region) (a : Arc) (x y : ValuedPrices) : Type 0 where
   pub undecided : IsUndecided g a
   pub used : IsAt b (used_child g a) x
   pub unused : IsAt b (unused_child g a) y

@@ -3,7 +3,7 @@ use Rattle.std.specs.Prelude.{◌≡◌, ℕ, [], ◌∷◌, ◌++◌, slice_set
 use Rattle.solomon_reader.specs.Plan.{Arc}
 use Rattle.solomon_reader.specs.Problem.{customer_count}
 use Rattle.schedule.specs.Solution.{Solution}
-use Rattle.prices.specs.Pricing.{Pricing}
+use Rattle.prices.specs.ValuedPrices.{ValuedPrices}
 use Rattle.incumbent_book.specs.declared.fault.OpenFault.{OpenFault}
 use Rattle.incumbent_book.specs.declared.fault.OpenFault.TheVariants as fault
 use Rattle.solomon_reader.specs.Region.{root_region}
@@ -16,14 +16,14 @@ use Rattle.incumbent_book.specs.declared.fault.BookFault.{BookFault}
 use Rattle.incumbent_book.specs.declared.gap.Gap.{Gap}
 
 -- a new book
-abbrev pub opened : Pricing → Limits → Contents
+abbrev pub opened : ValuedPrices → Limits → Contents
 opened root limits = record { problem = root.problem; neighbours = root.neighbours; root = root.value; limits = limits; incumbent = None; past = []; prices = root.prices ∷ [] }
 
-abbrev pub IsRoot : Pricing → Type 0
+abbrev pub IsRoot : ValuedPrices → Type 0
 IsRoot root = root.region ≡ root_region (customer_count root.problem)
 
 -- what becomes of an opening: a decided arc comes first, then bad limits
-abbrev pub Opens : Pricing → Limits → Result Contents (Pricing × OpenFault) → Type 0
+abbrev pub Opens : ValuedPrices → Limits → Result Contents (ValuedPrices × OpenFault) → Type 0
 Opens root limits (Ok b) = IsRoot root × AreLimits limits × (b ≡ opened root limits)
 Opens root limits (Err (returned, fault.Memory)) = IsRoot root × AreLimits limits × (returned ≡ root)
 Opens root limits (Err (returned, fault.NotRoot)) = (¬ IsRoot root) × (returned ≡ root)
@@ -38,11 +38,11 @@ abbrev pub with_incumbent : Contents → ℕ → Solution → Contents
 with_incumbent old worker plan = record old { incumbent = Some plan; past = offered worker plan.cost true ∷ old.past }
 
 -- the book after new prices for a leaf
-abbrev pub with_prices : Contents → ℕ → ℕ → Pricing → Contents
+abbrev pub with_prices : Contents → ℕ → ℕ → ValuedPrices → Contents
 with_prices old worker m f = record old { past = repriced worker m f.value ∷ old.past; prices = slice_set old.prices m f.prices }
 
 -- the book after a split of a leaf
-abbrev pub with_split : Contents → ℕ → ℕ → Arc → Pricing → Pricing → Contents
+abbrev pub with_split : Contents → ℕ → ℕ → Arc → ValuedPrices → ValuedPrices → Contents
 with_split old worker m a x y =
     record old {
       past = branched worker m a (used_number (split_count old.past)) (unused_number (split_count old.past)) x.value y.value ∷ old.past;
@@ -60,18 +60,18 @@ Offers old worker plan (Ok reply) new = IsAccepted old (offer plan) × Takes old
 Offers old worker plan (Err (returned, why)) new = IsRefusedFor old (offer plan) why × (returned ≡ plan) × (new ≡ old)
 
 -- what becomes of new prices for a leaf
-abbrev pub Reprices : Contents → ℕ → ℕ → Pricing → Result (Unit {0}) (Pricing × BookFault) → Contents → Type 0
+abbrev pub Reprices : Contents → ℕ → ℕ → ValuedPrices → Result (Unit {0}) (ValuedPrices × BookFault) → Contents → Type 0
 Reprices old worker m f (Ok done) new = IsAccepted old (reprice m f) × (new ≡ with_prices old worker m f)
 Reprices old worker m f (Err (returned, why)) new = IsRefusedFor old (reprice m f) why × (returned ≡ f) × (new ≡ old)
 
 -- what becomes of a split: it makes the next two numbers
-abbrev pub Splits : Contents → ℕ → ℕ → Arc → Pricing → Pricing → Result (ℕ × ℕ) (Pricing × Pricing × BookFault) → Contents → Type 0
+abbrev pub Splits : Contents → ℕ → ℕ → Arc → ValuedPrices → ValuedPrices → Result (ℕ × ℕ) (ValuedPrices × ValuedPrices × BookFault) → Contents → Type 0
 Splits old worker m a x y (Ok (used, unused)) new =
     IsAccepted old (split m a x y) × (used ≡ used_number (split_count old.past)) × (unused ≡ unused_number (split_count old.past)) × (new ≡ with_split old worker m a x y)
 Splits old worker m a x y (Err (used, unused, why)) new = IsRefusedFor old (split m a x y) why × (used ≡ x) × (unused ≡ y) × (new ≡ old)
 
 -- a leaf with its prices, exactly where the number is one
-abbrev pub Shows : Contents → ℕ → Option Pricing → Type 0
+abbrev pub Shows : Contents → ℕ → Option ValuedPrices → Type 0
 Shows b m found = MatchOption found (¬ IsLeaf b.past m) (λ f. IsLeaf b.past m × (f ≡ pricing_at b m))
 
 -- the best cost offered and the bound

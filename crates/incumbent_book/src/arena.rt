@@ -2,7 +2,7 @@
 
 ghost use Rattle.std.specs.Prelude.{◌≡◌, ◌≢◌, ◌+◌, ◌<◌, ◌≤◌, ℕ, ◌/◌, ◌^◌, ◌++◌, ◌∷◌, [], length, map, Some, None, IsSome, IfOk, IfErr, OnOk, OnErr, MatchOption, option_map, slice_set, vec_len};
 ghost use Rattle.std.specs.Vec.{vec_capacity};
-ghost use Rattle.prices.specs.Pricing.{IsPricing};
+ghost use Rattle.prices.specs.ValuedPrices.{IsValued};
 ghost use Rattle.incumbent_book.specs.Arena.{leaf_at, new_leaf, WithLeaf, IsLeastOf};
 ghost use Rattle.branching.specs.Nodes.{node_of};
 ghost use Rattle.incumbent_book.specs.Forward.{IsForward, GrowsIn};
@@ -46,7 +46,7 @@ impl<'i> Model for Arena<'i> {
 /// The value of prices.
 pub(crate) fn value_of(priced: &Priced<'_>) -> u128
     ensures value { result ≡ priced.now.value }
-    ensures valued { IsPricing priced.now }
+    ensures valued { IsValued priced.now }
 {
     priced.value() as u128
 }

@@ -1,5 +1,6 @@
 -- The list of labels grows, labels are dropped and extended, and what was said of it stays.
-use Rattle.std.proofs.Common.{◌≡◌, ◌≢◌, refl, ℕ, zero, suc, ◌+◌, ◌-◌, ◌<◌, ◌≤◌, true, false, List, [], ◌∷◌, ◌++◌, length, length-append, get_or, eqb, arith, ap, sym, ◌∙◌, ◌⊎◌, inl, inr, Option, Some, None, append-nil, append_assoc, reverse, take, drop}
+use Rattle.std.proofs.Common.{◌≡◌, ◌≢◌, refl, ℕ, zero, suc, ◌+◌, ◌-◌, ◌<◌, ◌≤◌, true, false, List, [], ◌∷◌, ◌++◌, length}
+use Rattle.std.proofs.Common.{length-append, get_or, eqb, arith, ap, sym, ◌∙◌, ◌⊎◌, inl, inr, Option, Some, None, append-nil, append_assoc, reverse, take, drop}
 use Rattle.std.specs.Prelude.{ℤ, MatchOption, IsTrue}
 use Rattle.std.proofs.Math.ListN.{set, length-set}
 use Rattle.std.proofs.lemmas.Int.{ints}
@@ -16,8 +17,10 @@ use Rattle.labelling.specs.declared.least_cost.Least.{Least}
 use Rattle.labels.specs.declared.best.Best.{Best}
 use Rattle.labels.specs.declared.label.Label.{Label}
 use Rattle.labelling.specs.Answer.{IsLeastOf}
-use Rattle.labels.specs.Arena.{label_in, state_at, trace, IsLabel, IsArena, IsPending, HasActive, HasPending, IsDominated, inactive, IsPruned, IsExtension, IsAdded, IsSameStop, IsLater, IsGrown, IsMoved, IsMet, TakesStep, TakesSteps, CountsEnd, EndsAt, IsAttained, IsComplete, IsOnward, NonePending, IsAnswer, IsInList, IsFirst, blank}
-use Rattle.labels.specs.Cover.{CoversAll, Carries, IsCounted, IsPassed}
+use Rattle.labels.specs.Arena.{label_in, state_at, trace, IsLabel, IsArena, IsPending, HasActive, HasPending, IsDominated, inactive, IsPruned, IsExtension, IsAdded, IsSameStop, IsLater}
+use Rattle.labels.specs.Arena.{IsGrown, IsMoved, IsMet, TakesStep, TakesSteps, CountsEnd, EndsAt, IsAttained, IsComplete, IsOnward, NonePending, IsAnswer, IsInList, IsFirst, blank}
+use Rattle.solomon_reader.specs.Covering.{IsDear}
+use Rattle.labels.specs.Cover.{CoversAll, Carries, IsPassed}
 use Rattle.fronts.specs.Fronts.{end_cost, IsBounded, IsStart, IsAfter}
 use Rattle.fronts.specs.Steps.{IsReachable}
 use Rattle.fronts.proofs.Stepping.{can_reach}
@@ -32,11 +35,19 @@ use Rattle.labelling.proofs.Ends.{IsReached, least_value, least_route}
 pub label_read : (xs : List Label) (m : ℕ) (r : Label) → m < length xs → r ≡ get_or xs m r → r ≡ label_in xs m
 label_read xs m r within is = get_or_read xs m r within is blank
 
-pub first_is : (p : Problem) (xs : List Label) (l : Label) → xs ≡ l ∷ [] → IsStart p l.front → IsBounded p l.front → l.memory.bits ≡ 0 → l.parent ≡ 0 → l.stops ≡ 0 → IsPending l → IsFirst p xs
+pub first_is : (p : Problem) (xs : List Label) (l : Label) → xs ≡ l ∷ [] → IsStart p l.front → IsBounded p l.front → l.memory.bits ≡ 0 → l.parent ≡ 0
+    → l.stops ≡ 0 → IsPending l → IsFirst p xs
 first_is p xs l one start bounded memory parent stops pending = record {
   label = l;
   one = one;
-  start = λ q same. record { last = start.last; time = rw same start.time; load = start.load; cost = start.cost; memory = λ u. rw (memory, bit_at-zero (place_of q.problem q.neighbours l.front.last u)) refl };
+  start = λ q same. record {
+    last = start.last;
+    time = rw same start.time;
+    load = start.load;
+    cost = start.cost;
+    memory =
+        λ u. rw (memory, bit_at-zero (place_of q.problem q.neighbours l.front.last u)) refl;
+  };
   bounded = bounded;
   parent = parent;
   stops = stops;
@@ -186,8 +197,8 @@ module _ (q : Pricing) where
         remembers : (i : ℕ) → i ≡ j → IsTrue ((step q (state_at q l) j).memory i)
         remembers i same = rw same (or_left (eqb j j) _ (eq-eqb j j refl))
 
-        counted : CanStep q (state_at q l) j → IsCounted q b (step q (state_at q l) j)
-        counted can = passed.each (step q (state_at q l) j) (sym after.last) (omega (arith, after.time)) (omega (arith, ints, after.cost)) (remembers f.last after.last)
+        counted : CanStep q (state_at q l) j → IsDear q b (step q (state_at q l) j)
+        counted can = passed.each (step q (state_at q l) j) (sym after.last) (omega (arith, after.time)) (omega (arith, after.load)) (omega (arith, ints, after.cost)) (remembers f.last after.last)
 
     -- the extension is a label of the longer list
     extension_labelled : (ys : List Label) (x : Label) → IsGrown xs ys → IsExtension q l index j x → CanStep q (state_at q l) j → IsLabel q ys x
@@ -218,7 +229,7 @@ module _ (q : Pricing) where
     -- what may come after the step may come after x, at the same cost
     met_by : (b : Option ℤ) (ys : List Label) (x : Label) → IsExtension q l index j x → IsMet q b ys (state_at q x) → IsMet q b ys (step q (state_at q l) j)
     met_by b ys x extension (inl t) = inl (t.0, (t.1.0, carries_through q _ _ _ t.1.1 (carries_same q _ _ extension.same)))
-    met_by b ys x extension (inr counted) = inr (λ s h. (let on = (carries_same q _ _ extension.same).on s h in at_most_more b _ _ on.1 (counted s on.0)))
+    met_by b ys x extension (inr counted) = inr (record { dear = λ s h. (let on = (carries_same q _ _ extension.same).on s h in at_most_more b _ _ on.1 (counted.dear s on.0)) })
 
     pub step_taken : (b : Option ℤ) (ys : List Label) (x : Label) → IsExtension q l index j x → CanStep q (state_at q l) j → IsAdded q xs ys x → TakesStep q b xs ys l j
     step_taken b ys x extension can (inl same) = rw same.0 (record {
@@ -245,7 +256,8 @@ module _ (q : Pricing) where
   pub steps_none : (b : Option ℤ) (xs : List Label) (l : Label) (P : ℕ → Type 0) → ((j : ℕ) → P j → ⊥) → IsArena q xs → TakesSteps q b xs xs l P
   steps_none b xs l P none labelled = record { moved = moved_none q xs; labelled = labelled; met = λ j among can. absurd (none j among) }
 
-  pub steps_more : (b : Option ℤ) (xs ys zs : List Label) (l : Label) (i : ℕ) (P Q : ℕ → Type 0) → ((j : ℕ) → Q j → P j ⊎ (j ≡ i)) → TakesSteps q b xs ys l P → TakesStep q b ys zs l i → TakesSteps q b xs zs l Q
+  pub steps_more : (b : Option ℤ) (xs ys zs : List Label) (l : Label) (i : ℕ) (P Q : ℕ → Type 0) → ((j : ℕ) → Q j → P j ⊎ (j ≡ i))
+      → TakesSteps q b xs ys l P → TakesStep q b ys zs l i → TakesSteps q b xs zs l Q
   steps_more b xs ys zs l i P Q split steps stepped = record {
     moved = moved_through q xs ys zs steps.moved stepped.moved;
     labelled = stepped.labelled;
@@ -259,10 +271,18 @@ module _ (q : Pricing) where
   }
 
   -- each customer to whom a step may be taken is one of these
-  pub steps_all : (b : Option ℤ) (xs ys : List Label) (l : Label) (P : ℕ → Type 0) → ((j : ℕ) → IsCustomer q.problem j → IsReachable q.problem l.front.last j → IsAllowed q.region (l.front.last, j) → l.front.time + distance q.problem l.front.last j ≤ due q.problem j → P j) → TakesSteps q b xs ys l P → TakesSteps q b xs ys l (IsCustomer q.problem)
-  steps_all b xs ys l P reached steps = record { moved = steps.moved; labelled = steps.labelled; met = λ j customer can. steps.met j (reached j customer (can_reach q (state_at q l) j can) can.allowed (omega (arith, can.due))) can }
+  pub steps_all : (b : Option ℤ) (xs ys : List Label) (l : Label) (P : ℕ → Type 0)
+      → ((j : ℕ) → IsCustomer q.problem j → IsReachable q.problem l.front.last j → IsAllowed q.region (l.front.last, j)
+      → l.front.time + distance q.problem l.front.last j ≤ due q.problem j → P j) → TakesSteps q b xs ys l P → TakesSteps q b xs ys l (IsCustomer q.problem)
+  steps_all b xs ys l P reached steps = record {
+    moved = steps.moved;
+    labelled = steps.labelled;
+    met =
+        λ j customer can. steps.met j (reached j customer (can_reach q (state_at q l) j can) can.allowed (omega (arith, can.due))) can;
+  }
 
-  pub here_still : (b : Option ℤ) (xs ys : List Label) (l : Label) (index : ℕ) (P : ℕ → Type 0) → index < length xs → IsSameStop (label_in xs index) l → TakesSteps q b xs ys l P → IsSameStop (label_in ys index) l
+  pub here_still : (b : Option ℤ) (xs ys : List Label) (l : Label) (index : ℕ) (P : ℕ → Type 0) → index < length xs → IsSameStop (label_in xs index) l
+      → TakesSteps q b xs ys l P → IsSameStop (label_in ys index) l
   here_still b xs ys l index P within here steps =
       let later = (steps.moved.grown.later index within).same in
       record {
@@ -272,13 +292,13 @@ module _ (q : Pricing) where
         stops = here.stops ∙ sym later.stops;
       }
 
-module _ (q : Pricing) (l : Label) (b : Best) (counted : IsCounted q b.value (state_at q l)) where
+module _ (q : Pricing) (l : Label) (b : Best) (counted : IsDear q b.value (state_at q l)) where
   -- nothing after the label costs less than the best: it needs no step
   pub end_passed : (index : ℕ) → CountsEnd q l index b b
-  end_passed index = record { lower = λ y h. h; counted = λ can. counted [] can; from = inl refl }
+  end_passed index = record { lower = λ y h. h; counted = λ can. counted.dear [] can; from = inl refl }
 
   pub steps_passed : (xs : List Label) (P : ℕ → Type 0) → IsArena q xs → TakesSteps q b.value xs xs l P
-  steps_passed xs P labelled = record { moved = moved_none q xs; labelled = labelled; met = λ j among can. inr (λ s h. counted (j ∷ s) (can, h)) }
+  steps_passed xs P labelled = record { moved = moved_none q xs; labelled = labelled; met = λ j among can. inr (record { dear = λ s h. counted.dear (j ∷ s) (can, h) }) }
 
 -- what ended at a label still ends there
 module _ (q : Pricing) (xs ys : List Label) (longer : IsLonger xs ys) where
@@ -404,7 +424,13 @@ module _ (q : Pricing) (xs ys : List Label) (index : ℕ) (b after : Best) (l : 
       (b.0, (active_zs b.0 b.1.0, b.1.1))
 
   complete_zs : IsComplete q zs after
-  complete_zs = record { labelled = arena_longer q ys zs longer_zs count_zs steps.labelled; first = first; covers = covers; attained = attained_by q xs zs xs_longer_zs b after l index within here so_far.attained ending }
+  complete_zs = record {
+    labelled = arena_longer q ys zs longer_zs count_zs steps.labelled;
+    first = first;
+    covers = covers;
+    attained =
+        attained_by q xs zs xs_longer_zs b after l index within here so_far.attained ending;
+  }
 
   onward_zs : IsOnward xs zs index
   onward_zs = record { longer = omega (arith, count_zs, steps.moved.grown.longer); still = still }
@@ -458,7 +484,7 @@ module _ (q : Pricing) where
       rw h.one (record {
         labelled = record { each = λ m w. (let e : m ≡ 0 = omega (arith, w) in rw e reached) };
         first = (state_at q h.label, (record { index = 0; within = omega arith; active = h.unextended.active; is = refl }, carries_same q _ _ (h.start q refl)));
-        covers = λ a active s completes. inr (record { state = a; pending = to_pending a active; rest = s; short = omega arith; completes = completes; low = omega (arith, ints) });
+        covers = λ a active s completes. inr (record { state = a; waits = to_pending a active; rest = s; short = omega arith; completes = completes; low = omega (arith, ints) });
         attained = rw value tt;
       })
     where

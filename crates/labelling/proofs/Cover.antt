@@ -1,28 +1,37 @@
 -- Each relaxed route is covered: by the best so far, or by a pending state, with the stops that come after it.
-use Rattle.std.proofs.Common.{◌≡◌, ℕ, zero, suc, ◌≤◌, List, [], ◌∷◌, length, arith, ◌⊎◌, inl, inr, Option}
+use Rattle.std.proofs.Common.{◌≡◌, ℕ, zero, suc, ◌+◌, ◌≤◌, List, [], ◌∷◌, length, arith, ◌⊎◌, inl, inr, Option}
 use Rattle.std.specs.Prelude.{ℤ, ◌≤ℤ◌}
 use Rattle.std.proofs.lemmas.Int.{ints}
 use Rattle.solomon_reader.specs.Relaxed.{IsRelaxed, reduced_cost}
 use Rattle.solomon_reader.specs.States.{Pricing, State, start, step, CanStep, CanEnd, Completes, value_with, IsAtMost}
-use Rattle.labels.specs.Cover.{IsCovered, CoversAll, Carries, IsCounted}
+use Rattle.solomon_reader.specs.Covering.{IsCovered, IsDear}
+use Rattle.labels.specs.Cover.{CoversAll, Carries}
 use Rattle.solomon_reader.proofs.Completions.{completes_relaxed, value_is, at_most_more}
 
 module _ (q : Pricing) where
-  pub covered_more : (b : Option ℤ) (Pending : State → Type 0) (n m : ℕ) (y z : ℤ) → n ≤ m → y ≤ℤ z → IsCovered q b Pending n y → IsCovered q b Pending m z
+  pub covered_more : (b : Option ℤ) (Pending : State → Type 0) (n m : ℕ) (y z : ℤ) → n ≤ m → y ≤ℤ z
+      → IsCovered q b Pending y n → IsCovered q b Pending z m
   covered_more b Pending n m y z le low (inl h) = inl (at_most_more b y z low h)
-  covered_more b Pending n m y z le low (inr w) = inr (record { state = w.state; pending = w.pending; rest = w.rest; short = omega (arith, w.short); completes = w.completes; low = omega (arith, ints, w.low) })
+  covered_more b Pending n m y z le low (inr w) = inr (record {
+    state = w.state;
+    waits = w.waits;
+    rest = w.rest;
+    short = omega (arith, w.short);
+    completes = w.completes;
+    low = omega (arith, ints, w.low);
+  })
 
   -- for each pending state one that carries it is pending afterwards, and the best hasn't grown
   pub covered_moved : (b c : Option ℤ) (Pending After : State → Type 0) (n : ℕ) (z : ℤ)
       → ((y : ℤ) → IsAtMost b y → IsAtMost c y)
       → ((a : State) → Pending a → (t : State) × (After t × Carries q t a))
-      → IsCovered q b Pending n z → IsCovered q c After n z
+      → IsCovered q b Pending z n → IsCovered q c After z n
   covered_moved b c Pending After n z found moved (inl h) = inl (found z h)
   covered_moved b c Pending After n z found moved (inr w) =
-      let t = moved w.state w.pending in
+      let t = moved w.state w.waits in
       inr (record {
         state = t.0;
-        pending = t.1.0;
+        waits = t.1.0;
         rest = w.rest;
         short = w.short;
         completes = (t.1.1.on w.rest w.completes).0;
@@ -37,50 +46,37 @@ module _ (q : Pricing) where
       → CoversAll q b Pending Active → CoversAll q c After Now
   covers_grown b c Pending Active After Now found moved grown covers a now s h =
       elim (grown a now) [
-        | inl active ↦ covered_moved b c Pending After (length s) _ found moved (covers a active s h)
-        | inr after ↦ inr (record { state = a; pending = after; rest = s; short = omega arith; completes = h; low = omega (arith, ints) })
+        | inl active ↦ covered_moved b c Pending After (length s + 1) _ found moved (covers a active s h)
+        | inr after ↦ inr (record { state = a; waits = after; rest = s; short = omega arith; completes = h; low = omega (arith, ints) })
       ]
 
   -- a state is retired: its own end was counted, and each of its steps active or is beaten by what active
   module _ (b : Option ℤ) (Pending After Active : State → Type 0) (x : State)
       (counted : CanEnd q x → IsAtMost b (value_with q x []))
-      (spread : (j : ℕ) → CanStep q x j → ((t : State) × (Active t × Carries q t (step q x j))) ⊎ IsCounted q b (step q x j))
+      (spread : (j : ℕ) → CanStep q x j → ((t : State) × (Active t × Carries q t (step q x j))) ⊎ IsDear q b (step q x j))
       (others : (a : State) → Pending a → (a ≡ x) ⊎ After a)
       (covers : CoversAll q b Pending Active) where
-    ends_at_x : (n : ℕ) (z : ℤ) → Completes q x [] → value_with q x [] ≤ℤ z → IsCovered q b After n z
-    ends_at_x n z h low = inl (at_most_more b _ z low (counted h))
-
-    goes_on_at_x : (n : ℕ) (z : ℤ) (j : ℕ) (s : List ℕ) → ((y : ℤ) → IsCovered q b Pending n y → IsCovered q b After n y)
-        → length s ≤ n → CanStep q x j → Completes q (step q x j) s → value_with q (step q x j) s ≤ℤ z → IsCovered q b After (suc n) z
-    goes_on_at_x n z j s again short can h low = elim (spread j can) [
-      | inl t ↦ (let on = t.1.1.on s h in
-          let now : IsCovered q b Pending n (value_with q t.0 s) = covered_more b Pending (length s) n _ _ short (omega (arith, ints)) (covers t.0 t.1.0 s on.0) in
+    at_x : (n : ℕ) (z : ℤ) (rest : List ℕ) → ((y : ℤ) → IsCovered q b Pending y n → IsCovered q b After y n)
+        → length rest ≤ n → Completes q x rest → value_with q x rest ≤ℤ z → IsCovered q b After z (suc n)
+    at_x n z [] again short h low = inl (at_most_more b _ z low (counted h))
+    at_x n z (j ∷ s) again short h low = elim (spread j h.0) [
+      | inl t ↦ (let on = t.1.1.on s h.1 in
+          let now : IsCovered q b Pending (value_with q t.0 s) n = covered_more b Pending (length s + 1) n _ _ (omega (arith, short))
+          (omega (arith, ints)) (covers t.0 t.1.0 s on.0) in
           covered_more b After n (suc n) (value_with q t.0 s) z (omega arith) (omega (arith, ints, on.1, low)) (again _ now))
-      | inr counted ↦ inl (at_most_more b _ z low (counted s h))
+      | inr beyond ↦ inl (at_most_more b _ z low (beyond.dear s h.1))
     ]
 
-    at_none : (z : ℤ) (rest : List ℕ) → length rest ≤ 0 → Completes q x rest → value_with q x rest ≤ℤ z → IsCovered q b After 0 z
-    at_none z [] short h low = ends_at_x 0 z h low
-    at_none z (j ∷ s) short h low = absurd (omega (arith, short))
-
-    at_some : (n : ℕ) (z : ℤ) (rest : List ℕ) → ((y : ℤ) → IsCovered q b Pending n y → IsCovered q b After n y)
-        → length rest ≤ suc n → Completes q x rest → value_with q x rest ≤ℤ z → IsCovered q b After (suc n) z
-    at_some n z [] again short h low = ends_at_x (suc n) z h low
-    at_some n z (j ∷ s) again short h low = goes_on_at_x n z j s again (omega (arith, short)) h.0 h.1 low
-
-    retire : (n : ℕ) (z : ℤ) → IsCovered q b Pending n z → IsCovered q b After n z
+    retire : (n : ℕ) (z : ℤ) → IsCovered q b Pending z n → IsCovered q b After z n
     retire n z (inl h) = inl h
-    retire zero z (inr w) = elim (others w.state w.pending) [
-      | inl same ↦ at_none z w.rest w.short (rw same at w.completes) (rw same at w.low)
-      | inr after ↦ inr (record { state = w.state; pending = after; rest = w.rest; short = w.short; completes = w.completes; low = w.low })
-    ]
-    retire (suc n) z (inr w) = elim (others w.state w.pending) [
-      | inl same ↦ at_some n z w.rest (λ y. retire n y) w.short (rw same at w.completes) (rw same at w.low)
-      | inr after ↦ inr (record { state = w.state; pending = after; rest = w.rest; short = w.short; completes = w.completes; low = w.low })
+    retire zero z (inr w) = absurd (omega (arith, w.short))
+    retire (suc n) z (inr w) = elim (others w.state w.waits) [
+      | inl same ↦ at_x n z w.rest (λ y. retire n y) (omega (arith, w.short)) (rw same at w.completes) (rw same at w.low)
+      | inr after ↦ inr (record { state = w.state; waits = after; rest = w.rest; short = w.short; completes = w.completes; low = w.low })
     ]
 
     pub covers_retired : CoversAll q b After Active
-    covers_retired a active s h = retire (length s) _ (covers a active s h)
+    covers_retired a active s h = retire (length s + 1) _ (covers a active s h)
 
   -- nothing is pending any more, and something as good as the start active
   pub least_at_end : (b : Option ℤ) (Pending Active : State → Type 0) → CoversAll q b Pending Active → ((a : State) → ¬ Pending a)
@@ -91,5 +87,5 @@ module _ (q : Pricing) where
       let on = first.1.1.on r from_start in
       elim (covers first.0 first.1.0 r on.0) [
         | inl h ↦ rw (← value_is q r) (at_most_more b _ _ on.1 h)
-        | inr w ↦ absurd (nothing w.state w.pending)
+        | inr w ↦ absurd (nothing w.state w.waits)
       ]

@@ -8,7 +8,7 @@ use Rattle.labelling.specs.declared.labeller.Labeller.{Labeller}
 use Rattle.labels.specs.Arena.{label_in, state_at, IsAdded, IsSameStop, TakesStep, TakesSteps, IsComplete}
 use Rattle.solomon_reader.specs.Problem.{IsCustomer}
 use Rattle.solomon_reader.specs.States.{Pricing, CanEnd, Completes, value_with}
-use Rattle.fronts.specs.Completions.{IsCut}
+use Rattle.completions.specs.Completions.{IsCut}
 use Rattle.fronts.specs.Fronts.{end_cost}
 use Rattle.fronts.specs.Tasks.{pricing_of}
 

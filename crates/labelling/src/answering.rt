@@ -20,8 +20,10 @@ const LOOKS_OF_STEP: u64 = 2;
 /// The stops up to a label, by its parents.
 fn route_to(alloc: Global, labels: &[Label], index: usize) -> Result<Vec<u16>, AllocError>
     requires index { index < length labels.now }
-    requires parents { (m : ℕ) → m < length labels.now → (label_in labels.now m).parent < length labels.now }
-    ensures { IfOk result (λ r. r.items ≡ trace labels.now (label_in labels.now index).stops (label_in labels.now index)) }
+    requires parents { (m : ℕ) → m < length labels.now
+        → (label_in labels.now m).parent < length labels.now }
+    ensures { IfOk result (λ r. r.items ≡ trace labels.now (label_in labels.now index).stops
+        (label_in labels.now index)) }
 {
     let mut route = Vec::new(alloc);
     let mut label = labels[index];
@@ -36,7 +38,8 @@ fn route_to(alloc: Global, labels: &[Label], index: usize) -> Result<Vec<u16>, A
 /// The answer for the best of a search.
 fn answer(alloc: Global, labels: &[Label], best: Best) -> Result<Least, AllocError>
     requires index { IsInList labels.now best }
-    requires parents { (m : ℕ) → m < length labels.now → (label_in labels.now m).parent < length labels.now }
+    requires parents { (m : ℕ) → m < length labels.now
+        → (label_in labels.now m).parent < length labels.now }
     ensures { IfOk result (λ l. IsAnswer labels.now best l.value l.route.items) }
 {
     match best.value {
@@ -101,6 +104,7 @@ impl<'t, 'i> Labeller<'t, 'i> {
         hints.looks = self.looks();
         let Labeller { labels, lookup, .. } = self;
         hints.kept.are_many = labels.len() > few;
+        hints.kept.looks = hints.looks;
         hints.kept.lookup = Some(lookup);
         found
     }

@@ -167,7 +167,8 @@ impl<'t, 'i> Labeller<'t, 'i> {
     pub(crate) fn extend_rest(&mut self) -> Result<(), LabelFault>
         requires { LosesNothing self.old }
         ensures on { GoesOn self.old self.new result }
-        ensures none { OnOk result (NonePending self.new.labels.items (length self.new.labels.items)) }
+        ensures none { OnOk result (NonePending self.new.labels.items
+            (length self.new.labels.items)) }
     {
         for index in 0..usize::MAX {
             if index >= self.labels.len() {

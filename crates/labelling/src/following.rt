@@ -6,8 +6,9 @@ use crate::fault::LabelFault;
 use crate::labeller::Labeller;
 
 impl<'t, 'i> Labeller<'t, 'i> {
-    /// Takes the step from the label at an index to the next stop of a known route, and answers where the
-    /// label that it leads to stands, if it is a new one; nothing where there is no such label or step.
+    /// Takes the step from the label at an index to the next stop of a known route, and answers the index that
+    /// the label after it has where it was added; nothing where there is no such label or step. Where the step
+    /// added none, no label has that index.
     fn follow_to(&mut self, index: usize, j: u16) -> Result<Option<usize>, LabelFault>
         requires { LosesNothing self.old }
         ensures { GoesOn self.old self.new result }

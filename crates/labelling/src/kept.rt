@@ -13,6 +13,8 @@ pub struct Kept<'i> {
     pub(crate) lookup: Option<Lookup>,
     /// Whether its labels were many, so that bounds on what may follow pay from the beginning.
     pub(crate) are_many: bool,
+    /// How much work it was, in looks: where it was much, bounds by load pay, too.
+    pub(crate) looks: u64,
 }
 
 impl<'i> Kept<'i> {
@@ -22,6 +24,7 @@ impl<'i> Kept<'i> {
             nearness: None,
             lookup: None,
             are_many: false,
+            looks: 0,
         }
     }
 
@@ -31,6 +34,7 @@ impl<'i> Kept<'i> {
             nearness: self.nearness.take(),
             lookup: self.lookup.take(),
             are_many: self.are_many,
+            looks: self.looks,
         }
     }
 }

@@ -3,14 +3,16 @@
 ghost use Rattle.std.specs.Prelude.{◌≡◌, ◌≢◌, ◌≤◌, OnOk, IfOk, IsTrue, IsFalse, None, ℤ, ◌≤ℤ◌};
 ghost use Rattle.solomon_reader.specs.States.{IsAtMost};
 ghost use Rattle.labels.specs.Arena.{state_at, IsFirst};
-ghost use Rattle.labels.specs.Cover.{IsCounted, IsPassed};
-ghost use Rattle.fronts.specs.Completions.{IsBound};
+ghost use Rattle.labels.specs.Cover.{IsPassed};
+ghost use Rattle.solomon_reader.specs.Covering.{IsDear};
+ghost use Rattle.completions.specs.Completions.{IsBound};
 ghost use Rattle.fronts.specs.Fronts.{IsBounded};
 ghost use Rattle.labelling.specs.Search.{task_of, pricing_in, KeepsBest, Continues, IsAddedTo, Recalls, AddsAtLeast, LosesNothing};
 
 use crate::fault::LabelFault;
 use crate::route_ends::RouteEnd;
-use fronts::{Bound, Completions, Front, LIST_SIZE, Memory};
+use completions::{Bound, Completions};
+use fronts::{Front, LIST_SIZE, Memory};
 use labels::{Best, Entry, Label, Lookup};
 use solomon_reader::Instance;
 use std::alloc::{AllocError, Global};
@@ -122,13 +124,25 @@ impl<'t, 'i> Labeller<'t, 'i> {
     /// Whether nothing that may come after a front, which this bounds, costs less than the best.
     pub(crate) fn is_passed(&self, front: &Front, bound: &Bound, best: Option<i64>) -> bool
         requires front { IsBounded (pricing_in self.now).problem front.now }
-        requires bound { IsBound (pricing_in self.now) front.now.last front.now.time bound.now }
+        requires bound { let f = front.now in
+            IsBound (pricing_in self.now) f.last f.time f.load bound.now }
         ensures { IsTrue result → IsPassed (pricing_in self.now) best front.now }
     {
         if front.cost + bound.least < self.cut {
             return false;
         }
         is_at_most(best, front.cost + bound.least)
+    }
+
+    /// Whether nothing that may come after a front costs less than the best, as far as bounds by load tell.
+    pub(crate) fn is_passed_by_load(&self, front: &Front, best: Option<i64>) -> bool
+        requires { IsBounded (pricing_in self.now).problem front.now }
+        ensures { IsTrue result → IsPassed (pricing_in self.now) best front.now }
+    {
+        match self.completions.at_load(front.last, front.time, front.load) {
+            Some(bound) => self.is_passed(front, &bound, best),
+            None => false,
+        }
     }
 
     /// Whether a label may not visit a customer next, as far as it remembers it.
@@ -146,32 +160,50 @@ impl<'t, 'i> Labeller<'t, 'i> {
 
     /// The least that what may come after a label adds to its reduced cost, in grains, where it remembers
     /// its last stop: the customer that comes next where the least is added may be one that it remembers.
-    fn least_after(&self, label: &Label) -> i64
+    fn least_after(&self, label: &Label, bound: &Bound) -> i64
         requires bounded { IsBounded (pricing_in self.now).problem label.now.front }
         requires remembered { Recalls (pricing_in self.now) label.now label.now.front.last }
+        requires bound { let f = label.now.front in
+            IsBound (pricing_in self.now) f.last f.time f.load bound.now }
         ensures { AddsAtLeast (pricing_in self.now) label.now result }
     {
-        let bound = self.completions.at(label.front.last, label.front.time);
         if self.recalls(label, bound.next) {
             return bound.other;
         }
         bound.least
     }
 
+    /// Whether nothing that may come after a label, which this bounds and which remembers its last stop, costs less
+    /// than the best so far.
+    fn is_dear(&self, label: &Label, bound: &Bound) -> bool
+        requires bounded { IsBounded (pricing_in self.now).problem label.now.front }
+        requires remembered { Recalls (pricing_in self.now) label.now label.now.front.last }
+        requires bound { let f = label.now.front in
+            IsBound (pricing_in self.now) f.last f.time f.load bound.now }
+        ensures { let q = pricing_in self.now in
+            IsTrue result → IsDear q self.now.best.value (state_at q label.now) }
+    {
+        let value = label.front.cost + self.least_after(label, bound);
+        value >= self.cut && is_at_most(self.best.value, value)
+    }
+
     /// Whether nothing that may come after a label costs less than the best so far.
     pub(crate) fn leads_nowhere(&self, label: &Label) -> bool
         requires { IsBounded (pricing_in self.now).problem label.now.front }
         ensures { let q = pricing_in self.now in
-            IsTrue result → IsCounted q self.now.best.value (state_at q label.now) }
+            IsTrue result → IsDear q self.now.best.value (state_at q label.now) }
     {
         if !self.recalls(label, label.front.last) {
             return false;
         }
-        let value = label.front.cost + self.least_after(label);
-        if value < self.cut {
-            return false;
+        let front = &label.front;
+        if self.is_dear(label, &self.completions.at(front.last, front.time)) {
+            return true;
         }
-        is_at_most(self.best.value, value)
+        match self.completions.at_load(front.last, front.time, front.load) {
+            Some(bound) => self.is_dear(label, &bound),
+            None => false,
+        }
     }
 
     /// Adds a label, after which at most so much may be loaded, and drops those that it dominates, unless

@@ -11,6 +11,7 @@ mod kept;
 mod labeller;
 mod least_cost;
 mod pricing;
+mod pricing_task;
 mod route_ends;
 mod stepping;
 
@@ -19,3 +20,4 @@ pub use hints::Hints;
 pub use kept::Kept;
 pub use least_cost::Least;
 pub use pricing::{least, least_by_hints};
+pub use pricing_task::PricingTask;

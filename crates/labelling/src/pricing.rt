@@ -16,20 +16,24 @@ use crate::fault::LabelFault;
 use crate::hints::Hints;
 use crate::labeller::Labeller;
 use crate::least_cost::Least;
+use crate::pricing_task::PricingTask;
 use branching::Region;
-use fronts::{Completions, Nearness, Task};
+use completions::Completions;
+use fronts::{Nearness, Task};
 use solomon_reader::Instance;
 use std::alloc::{AllocError, Global};
 
-/// The bounds of a task where the labels are many; few labels don't pay for them.
+/// The bounds of a task where the labels are many, after a search that took so many looks; few labels don't pay for
+/// them.
 fn completions_for<'t, 'i>(
     task: &'t Task<'i>,
+    looks: u64,
     are_many: bool,
 ) -> Result<Completions<'t, 'i>, AllocError>
     ensures { IfOk result (λ c. c.task.now ≡ task.now) }
 {
     if are_many {
-        return Completions::new(task);
+        return Completions::new(task, looks);
     }
     Ok(Completions::unknown(task))
 }
@@ -45,7 +49,7 @@ fn least_with_bounds(
     ensures least { IfOk result (IsLeastOf (pricing_of task.now)) }
     ensures unlimited { IfErr result (λ e. e ≡ LabelLimit → limit ≢ None) }
 {
-    let completions = Completions::new(task)?;
+    let completions = Completions::new(task, hints.kept.looks)?;
     let mut labeller = Labeller::new(&completions, limit, hints.kept.lookup.take())?;
     labeller.follow(hints.known.as_slice())?;
     labeller.finish(few, hints)
@@ -68,7 +72,7 @@ fn least_of_task(
     let mut labeller = Labeller::new(&unknown, limit, hints.kept.lookup.take())?;
     labeller.follow(hints.known.as_slice())?;
     labeller.extend_by_time(few)?;
-    let completions = completions_for(task, labeller.labels.len() > few)?;
+    let completions = completions_for(task, hints.kept.looks, labeller.labels.len() > few)?;
     labeller.with(&completions).finish(few, hints)
 }
 
@@ -131,34 +135,41 @@ pub fn least(
     ensures route { IfOk result (λ l. HasItsRoute instance.now region.now neighbours prices.now l) }
     ensures unlimited { IfErr result (λ e. e ≡ LabelLimit → limit ≢ None) }
 {
-    let mut hints = Hints::none(alloc);
-    least_by_hints(
-        alloc, instance, region, prices, neighbours, limit, &mut hints,
-    )
+    let task = PricingTask {
+        instance,
+        region: region.try_clone()?,
+        neighbours,
+        prices: prices.to_vec(alloc)?,
+    };
+    least_by_hints(alloc, &task, limit, &mut Hints::none(alloc))
 }
 
-/// What `least` answers, found sooner where a route of low reduced cost or the tables of an earlier search
-/// are known, with further routes that were met.
+/// What `least` answers for a task, found sooner where a route of low reduced cost or the tables of an earlier
+/// search are known, with further routes that were met.
 pub fn least_by_hints<'i>(
     alloc: Global,
-    instance: &'i Instance,
-    region: &Region,
-    prices: &[i64],
-    neighbours: u32,
+    task: &PricingTask<'i>,
     limit: Option<usize>,
     hints: &mut Hints<'i>,
 ) -> Result<Least, LabelFault>
-    requires size { region.now.size ≡ customer_count instance.now }
-    requires count { length prices.now ≡ customer_count instance.now }
-    requires priced { AllByRecursion IsPrice prices.now }
-    requires few { neighbours ≤ MOST_NEIGHBOURS }
-    ensures value { IfOk result (HasLeastValue instance.now region.now neighbours prices.now) }
-    ensures route { IfOk result (HasItsRoute instance.now region.now neighbours prices.now) }
+    ensures value { let t = task.now in
+        IfOk result (HasLeastValue t.instance.now t.region t.neighbours t.prices.items) }
+    ensures route { let t = task.now in
+        IfOk result (HasItsRoute t.instance.now t.region t.neighbours t.prices.items) }
     ensures unlimited { IfErr result (λ e. e ≡ LabelLimit → limit ≢ None) }
 {
+    let instance = task.instance;
     instance.law_of_limits();
-    let nearness = nearness_for(alloc, instance, neighbours, hints.kept.nearness.take())?;
-    let found = least_near(alloc, &nearness, region, prices, limit, hints);
+    let known = hints.kept.nearness.take();
+    let nearness = nearness_for(alloc, instance, task.neighbours, known)?;
+    let found = least_near(
+        alloc,
+        &nearness,
+        &task.region,
+        task.prices.as_slice(),
+        limit,
+        hints,
+    );
     hints.kept.nearness = Some(nearness);
     found
 }

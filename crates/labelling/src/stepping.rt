@@ -25,7 +25,8 @@ impl<'t, 'i> Labeller<'t, 'i> {
         requires labels { IsArena (pricing_in self.old) self.old.labels.items }
         requires index { StandsAt self.old.labels.items index label.now }
         requires step { IsOpenStep (pricing_in self.old) label.now.front.last step.now }
-        requires can { CanStep (pricing_in self.old) (state_at (pricing_in self.old) label.now) step.now.customer }
+        requires can { CanStep (pricing_in self.old)
+            (state_at (pricing_in self.old) label.now) step.now.customer }
         ensures stepped { OnOk result (TakesStepTo self.old self.new best label.now step.now.customer) }
         ensures kept { KeepsBest self.old self.new result }
     {
@@ -34,6 +35,9 @@ impl<'t, 'i> Labeller<'t, 'i> {
         let front = task.after(&label.front, step);
         let bound = self.completions.at(front.last, front.time);
         if self.is_passed(&front, &bound, best) {
+            return Ok(());
+        }
+        if self.is_passed_by_load(&front, best) {
             return Ok(());
         }
         let newer = label.extend(task, index, front, step.customer);
@@ -118,7 +122,8 @@ impl<'t, 'i> Labeller<'t, 'i> {
     pub(crate) fn is_pending(&self, index: usize) -> bool
         ensures within { IsTrue result → index < length self.now.labels.items }
         ensures yes { IsTrue result → IsPending (label_in self.now.labels.items index) }
-        ensures no { IsFalse result → index < length self.now.labels.items → ¬ IsPending (label_in self.now.labels.items index) }
+        ensures no { IsFalse result → index < length self.now.labels.items
+            → ¬ IsPending (label_in self.now.labels.items index) }
     {
         if index >= self.labels.len() {
             return false;

@@ -1,10 +1,12 @@
 -- Labels in a list that only grows, each with the index of its parent: the label before its last stop.
-use Rattle.std.specs.Prelude.{◌≡◌, ◌≢◌, ℕ, zero, suc, ◌+◌, ◌<◌, ◌≤◌, true, false, List, [], ◌∷◌, ◌++◌, length, slice_index_or, ℤ, pos, Some, ◌⊎◌, Option, MatchOption}
+use Rattle.std.specs.Prelude.{◌≡◌, ◌≢◌, ℕ, zero, suc, ◌+◌, ◌<◌, ◌≤◌, true, false, List, []}
+use Rattle.std.specs.Prelude.{◌∷◌, ◌++◌, length, slice_index_or, ℤ, pos, Some, ◌⊎◌, Option, MatchOption}
 use Rattle.solomon_reader.specs.Problem.{Problem}
 use Rattle.solomon_reader.specs.States.{Pricing, State, start, step, CanStep, CanEnd, IsSameState, Reaches, IsAtMost}
 use Rattle.labels.specs.declared.best.Best.{Best}
 use Rattle.labels.specs.declared.label.Label.{Label}
-use Rattle.labels.specs.Cover.{CoversAll, Carries, IsCounted}
+use Rattle.solomon_reader.specs.Covering.{IsDear}
+use Rattle.labels.specs.Cover.{CoversAll, Carries}
 use Rattle.fronts.specs.Fronts.{end_cost, IsBounded}
 use Rattle.fronts.specs.Memories.{state_with}
 
@@ -100,7 +102,7 @@ pub record IsMoved (q : Pricing) (xs ys : List Label) : Type 0 where
 
 -- all that may come after the state is covered by an active label, or costs no less than the best
 abbrev pub IsMet : Pricing → Option ℤ → List Label → State → Type 0
-IsMet q b xs a = IsDominated q xs a ⊎ IsCounted q b a
+IsMet q b xs a = IsDominated q xs a ⊎ IsDear q b a
 
 -- the step from l to j was taken, if it may be taken and may lead below the best
 pub record TakesStep (q : Pricing) (b : Option ℤ) (xs ys : List Label) (l : Label) (j : ℕ) : Type 0 where

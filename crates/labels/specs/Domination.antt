@@ -1,6 +1,6 @@
 -- Labels that dominate others.
 use Rattle.std.specs.Prelude.{List}
-use Rattle.fronts.specs.declared.completions.Completions.{Completions}
+use Rattle.completions.specs.declared.table.Completions.{Completions}
 use Rattle.fronts.specs.Tasks.{pricing_of}
 use Rattle.labels.specs.declared.label.Label.{Label}
 use Rattle.labels.specs.Arena.{state_at, IsDominated, IsPruned}

@@ -5,7 +5,8 @@ ghost use Rattle.std.specs.Prelude.{IsTrue};
 ghost use Rattle.labels.specs.Domination.{IsDominatedIn, IsPrunedIn};
 
 use crate::label::Label;
-use fronts::{Completions, Memory};
+use completions::Completions;
+use fronts::Memory;
 use std::alloc::{AllocError, Global};
 
 /// So many labels of a group, which stand side by side, count as one look.

@@ -7,7 +7,8 @@ ghost use Rattle.fronts.specs.Tasks.{pricing_of};
 ghost use Rattle.labels.specs.Arena.{state_at, IsExtension};
 ghost use Rattle.labels.specs.Cover.{IsAhead, Carries};
 
-use fronts::{Completions, Front, Memory, Task};
+use completions::Completions;
+use fronts::{Front, Memory, Task};
 
 /// The first stops of a relaxed route. It stands in a list that only grows.
 #[derive(Clone, Copy)]

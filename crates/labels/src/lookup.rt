@@ -6,7 +6,7 @@ ghost use Rattle.labels.specs.Domination.{IsDominatedIn, IsPrunedIn};
 use crate::buckets::Buckets;
 use crate::customer_labels::{CustomerLabels, Entry};
 use crate::label::Label;
-use fronts::Completions;
+use completions::Completions;
 use solomon_reader::Instance;
 use std::alloc::{AllocError, Global};
 

@@ -1,5 +1,6 @@
 -- Which arcs the decisions on a path leave.
-use Rattle.std.proofs.Common.{◌≡◌, ◌≢◌, refl, ℕ, zero, suc, ◌<◌, ◌≤◌, Bool, true, false, not, ◌&&◌, ◌||◌, ◌==◌, List, [], ◌∷◌, length, arith, ap, sym, ◌∙◌, ◌⊎◌, inl, inr, ◌+◌}
+use Rattle.std.proofs.Common.{◌≡◌, ◌≢◌, refl, ℕ, zero, suc, ◌<◌, ◌≤◌, Bool, true, false, not, ◌&&◌, ◌||◌}
+use Rattle.std.proofs.Common.{◌==◌, List, [], ◌∷◌, length, arith, ap, sym, ◌∙◌, ◌⊎◌, inl, inr, ◌+◌}
 use Rattle.std.specs.Ordering.{eq_by_cmp}
 use Rattle.std.specs.FinSet.{insert, contains-insert}
 use Rattle.std.proofs.lemmas.Bool.{cases_Bool, cases_lt, cases_eq, eq-eqb, ne_eqb, eqb-true, or_cases, or_left, or_right, or_from, and_parts, and_from, false_from_ne_true, both_ways, not_from_false}
@@ -83,7 +84,8 @@ module _ (g : Region) (b : Arc) (i j : ℕ) where
     enters = λ nz c s e. elim (inserted g.required b c s) [
       | inl same ↦ same ∙ elim (or_cases _ _ t) [
         | inl one ↦ same_arc b i j one
-        | inr two ↦ absurd (both_ways _ (unnot _ two) (or_right (not (i == 0) && b.0 == i) _ (and_from _ _ (not_from_false _ (ne_eqb j 0 nz)) (eq-eqb b.1 j (ap (λ (a : Arc). a.1) (sym same) ∙ e)))))
+        | inr two ↦ absurd (both_ways _ (unnot _ two) (or_right (not (i == 0) && b.0 == i) _
+            (and_from _ _ (not_from_false _ (ne_eqb j 0 nz)) (eq-eqb b.1 j (ap (λ (a : Arc). a.1) (sym same) ∙ e)))))
       ]
       | inr old ↦ h.enters nz c old e
     ];
@@ -126,7 +128,8 @@ root_allows n i j apart from to = record {
   enters = λ nz c t e. absurd (none_in_empty c t);
 }
 
-pub allowed_from : (n : ℕ) (ds : List Decision) (i j : ℕ) → i ≢ j → i ≤ n → j ≤ n → ((m : ℕ) → m < length ds → admits (decision_in ds m) i j ≡ true) → IsAllowed (region_of n ds) (i, j)
+pub allowed_from : (n : ℕ) (ds : List Decision) (i j : ℕ) → i ≢ j → i ≤ n → j ≤ n → ((m : ℕ) → m < length ds → admits (decision_in ds m) i j ≡ true)
+    → IsAllowed (region_of n ds) (i, j)
 allowed_from n ds i j apart from to each = all_back ds (root_region n) i j (root_allows n i j apart from to) each
 
 pub allowed_admits : (n : ℕ) (ds : List Decision) (i j m : ℕ) → m < length ds → IsAllowed (region_of n ds) (i, j) → admits (decision_in ds m) i j ≡ true

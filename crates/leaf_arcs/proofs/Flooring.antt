@@ -49,7 +49,8 @@ module _ (q : Pricing) where
     pub steps_none : (hs : List AllowedArc) (f : Floor) → f.least ≤ℤ f.other → IsEndFloor q v t f.other → AreStepFloors q v t d hs 0 f
     steps_none hs f ordered ends = record { ordered = ordered; ends = ends; least = λ m w. absurd (omega (arith, w)); other = λ m w. absurd (omega (arith, w)) }
 
-    pub steps_next : (hs : List AllowedArc) (i : ℕ) (f : Floor) (z : ℤ) (out : Floor) → AreStepFloors q v t d hs i f → IsStepFloor q v t d (arc_in hs i).to z → IsJoined f (arc_in hs i).to z out
+    pub steps_next : (hs : List AllowedArc) (i : ℕ) (f : Floor) (z : ℤ) (out : Floor) → AreStepFloors q v t d hs i f
+        → IsStepFloor q v t d (arc_in hs i).to z → IsJoined f (arc_in hs i).to z out
         → AreStepFloors q v t d hs (i + 1) out
     steps_next hs i f z out so_far here joined = record {
       ordered = joined.ordered so_far.ordered;
@@ -86,7 +87,8 @@ module _ (q : Pricing) where
     pub floor_whole : (hs : List AllowedArc) (f : Floor) → ready q.problem v + service q.problem v ≤ t → AreAllowedArcs q v hs → AreStepFloors q v t d hs (length hs) f → IsFloor q v t d f
     floor_whole hs f begun arcs all = record { holds = holds }
       where
-        at : (a : State) (s : List ℕ) (m j : ℕ) → m < length hs → (arc_in hs m).to ≡ j → a.last ≡ v → t ≤ a.time → d ≤ a.load → IsTrue (a.memory v) → CanStep q a j → Completes q (step q a j) s
+        at : (a : State) (s : List ℕ) (m j : ℕ) → m < length hs → (arc_in hs m).to ≡ j → a.last ≡ v → t ≤ a.time → d ≤ a.load → IsTrue (a.memory v)
+            → CanStep q a j → Completes q (step q a j) s
             → Holds q a (j ∷ s) f
         at a s m j w e last later loaded remembered can completes = record {
           least = (subst (λ (n : ℕ). IsStepFloor q v t d n f.least) e (all.least m w)).holds a s last later loaded remembered can completes;
@@ -119,7 +121,8 @@ module _ (q : Pricing) where
       module _ (after : Floor) (h : ℤ) (floor : IsFloor q arc.to (max (t + arc.travel) arc.ready + arc.service) (d + arc.demand) after) where
         on_it : (a : State) (s : List ℕ) → a.last ≡ v → t ≤ a.time → d ≤ a.load → Completes q (step q a arc.to) s → Holds q (step q a arc.to) s after
         on_it a s last later loaded completes =
-            floor.holds (step q a arc.to) s refl (omega (arith, begins_no_later a last later, is.service_is)) (omega (arith, loaded, is.demand_is)) (or_left (eqb arc.to arc.to) _ (eq-eqb arc.to arc.to refl)) completes
+            floor.holds (step q a arc.to) s refl (omega (arith, begins_no_later a last later, is.service_is)) (omega (arith, loaded, is.demand_is))
+            (or_left (eqb arc.to arc.to) _ (eq-eqb arc.to arc.to refl)) completes
 
         pub step_least : h ≤ℤ (arc.value +ℤ after.least) → IsStepFloor q v t d arc.to h
         step_least le = record {

@@ -54,5 +54,6 @@ module _ (q : Pricing) (v : ℕ) where
     pub found_no : ((j : ℕ) → After j → IsAllowed q.region (v, j) → IsInTime q.problem v j → Before j) → AreFound q v After hs
     found_no same = record { each = found.each; allowed = found.allowed; all = λ j sought customer allowed timely. found.all j (same j sought allowed timely) customer allowed timely }
 
-  pub found_all : (Sought : ℕ → Type 0) (hs : List AllowedArc) → AreFound q v Sought hs → ((j : ℕ) → IsCustomer q.problem j → IsAllowed q.region (v, j) → IsInTime q.problem v j → Sought j) → AreAllowedArcs q v hs
+  pub found_all : (Sought : ℕ → Type 0) (hs : List AllowedArc) → AreFound q v Sought hs
+      → ((j : ℕ) → IsCustomer q.problem j → IsAllowed q.region (v, j) → IsInTime q.problem v j → Sought j) → AreAllowedArcs q v hs
   found_all Sought hs found sought = record { each = found.each; allowed = found.allowed; all = λ j customer allowed timely. found.all j (sought j customer allowed timely) customer allowed timely }

@@ -1,5 +1,6 @@
 -- Neighbour lists, and what is remembered after a visit.
-use Rattle.std.proofs.Common.{◌≡◌, ◌≢◌, refl, ℕ, ◌+◌, ◌<◌, ◌≤◌, ◌^◌, Bool, true, false, ◌&&◌, ◌||◌, ◌==◌, List, [], ◌∷◌, ◌++◌, length, length-append, take, arith, ap, sym, ◌∙◌, inl, inr}
+use Rattle.std.proofs.Common.{◌≡◌, ◌≢◌, refl, ℕ, ◌+◌, ◌<◌, ◌≤◌, ◌^◌, Bool, true, false, ◌&&◌, ◌||◌}
+use Rattle.std.proofs.Common.{◌==◌, List, [], ◌∷◌, ◌++◌, length, length-append, take, arith, ap, sym, ◌∙◌, inl, inr}
 use Rattle.std.proofs.lemmas.List.{get_or_append_left, get_or_push, take_more}
 use Rattle.std.proofs.lemmas.List.Folds.{list_any-append}
 use Rattle.std.proofs.lemmas.Nat.Bits.{bit_at_above, bit_at-zero}
@@ -70,7 +71,8 @@ module _ (p : Problem) (k v j memory : ℕ) (few : k ≤ 15) where
     | inr apart ↦ or_from _ _ (ne_eqb _ _ (not_first u apart)) (has_nothing (place_of p k j u)) ∙ sym (or_from (u == j) _ (ne_eqb u j apart) refl)
   ]
 
-  module _ (xs : List Neighbour) (x : Neighbour) (after : ℕ) (small : after < 2 ^ 16) (is_near : near p k j x.customer ≡ true) (bit : x.bit ≡ place_of p k j x.customer) (looked : Recalls xs after) where
+  module _ (xs : List Neighbour) (x : Neighbour) (after : ℕ) (small : after < 2 ^ 16) (is_near : near p k j x.customer ≡ true)
+      (bit : x.bit ≡ place_of p k j x.customer) (looked : Recalls xs after) where
     -- x is u exactly where their bits in the list are one
     same_test : (u : ℕ) → (place_of p k j u == x.bit) ≡ (x.customer == u)
     same_test u = elim (cases_eq x.customer u) [
@@ -95,11 +97,13 @@ module _ (p : Problem) (k v j memory : ℕ) (few : k ≤ 15) where
         nothing_more false = refl
 
     pub recalls_yes : (next : ℕ) → recalls p k v memory x.customer ≡ true → ((i : ℕ) → has_bit next i ≡ ((i == x.bit) || has_bit after i)) → Recalls (xs ++ (x ∷ [])) next
-    recalls_yes next here with_x u = with_x (place_of p k j u) ∙ (ap (λ b. b || has_bit after (place_of p k j u)) (same_test u) ∙ (ap (λ b. (x.customer == u) || b) (looked u) ∙ elim (cases_eq x.customer u) [
-      | inl same ↦ or_left (x.customer == u) _ (eq-eqb _ _ same) ∙ sym (or_right (u == j) _ (and_from _ _ (lists_push xs x u ∙ or_right (lists xs u) _ (or_left (x.customer == u) _ (eq-eqb _ _ same))) (rw same at here)))
-      | inr apart ↦ ap (λ b. b || ((u == j) || (lists xs u && recalls p k v memory u))) (ne_eqb _ _ apart)
-          ∙ ap (λ b. (u == j) || (b && recalls p k v memory u)) (sym (lists_push xs x u ∙ (ap (λ b. lists xs u || (b || false)) (ne_eqb _ _ apart) ∙ nothing_more (lists xs u))))
-    ]))
+    recalls_yes next here with_x u = with_x (place_of p k j u)
+        ∙ (ap (λ b. b || has_bit after (place_of p k j u)) (same_test u) ∙ (ap (λ b. (x.customer == u) || b) (looked u) ∙ elim (cases_eq x.customer u) [
+          | inl same ↦ or_left (x.customer == u) _ (eq-eqb _ _ same)
+              ∙ sym (or_right (u == j) _ (and_from _ _ (lists_push xs x u ∙ or_right (lists xs u) _ (or_left (x.customer == u) _ (eq-eqb _ _ same))) (rw same at here)))
+          | inr apart ↦ ap (λ b. b || ((u == j) || (lists xs u && recalls p k v memory u))) (ne_eqb _ _ apart)
+              ∙ ap (λ b. (u == j) || (b && recalls p k v memory u)) (sym (lists_push xs x u ∙ (ap (λ b. lists xs u || (b || false)) (ne_eqb _ _ apart) ∙ nothing_more (lists xs u))))
+        ]))
       where
         nothing_more : (a : Bool) → (a || (false || false)) ≡ a
         nothing_more true = refl
@@ -129,6 +133,7 @@ module _ (p : Problem) (k v j memory i : ℕ) (few : k ≤ 15) (xs : List Neighb
   recalls_more_no out = rw (take_more xs i (record { customer = 0; bit = 0 }) within)
       (recalls_no p k v j memory few (take i xs) (neighbour_in xs i) after small (list.sound i within).0 (list.sound i within).1.1 looked out)
 
-  pub recalls_more_yes : (next : ℕ) → recalls p k v memory (neighbour_in xs i).customer ≡ true → ((n : ℕ) → has_bit next n ≡ ((n == (neighbour_in xs i).bit) || has_bit after n)) → Recalls p k v j memory few (take (i + 1) xs) next
+  pub recalls_more_yes : (next : ℕ) → recalls p k v memory (neighbour_in xs i).customer ≡ true
+      → ((n : ℕ) → has_bit next n ≡ ((n == (neighbour_in xs i).bit) || has_bit after n)) → Recalls p k v j memory few (take (i + 1) xs) next
   recalls_more_yes next here with_x = rw (take_more xs i (record { customer = 0; bit = 0 }) within)
       (recalls_yes p k v j memory few (take i xs) (neighbour_in xs i) after small (list.sound i within).0 (list.sound i within).1.1 looked next here with_x)

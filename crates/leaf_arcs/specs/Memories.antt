@@ -15,7 +15,8 @@ lists xs u = list_any (λ x. x.customer == u) xs
 
 -- the neighbour list of v below i
 pub record IsNeighbourList (p : Problem) (k v i : ℕ) (xs : List Neighbour) : Type 0 where
-  pub sound : (m : ℕ) → m < length xs → (near p k v (neighbour_in xs m).customer ≡ true) × (((neighbour_in xs m).customer < length p.rows) × ((neighbour_in xs m).bit ≡ place_of p k v (neighbour_in xs m).customer))
+  pub sound : (m : ℕ) → m < length xs → (near p k v (neighbour_in xs m).customer ≡ true)
+      × (((neighbour_in xs m).customer < length p.rows) × ((neighbour_in xs m).bit ≡ place_of p k v (neighbour_in xs m).customer))
   pub complete : (u : ℕ) → u < i → near p k v u ≡ true → lists xs u ≡ true
 
 -- the bits of each row

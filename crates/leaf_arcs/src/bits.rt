@@ -63,7 +63,8 @@ fn bit(instance: &Instance, k: u8, v: u16, u: u16) -> u8
 pub(crate) fn bits(alloc: Global, instance: &Instance, k: u8, v: u16) -> Result<Vec<u8>, AllocError>
     requires few { k ≤ MOST_NEIGHBOURS }
     requires v { v < length instance.now.rows }
-    ensures { IfOk result (λ bits. HasPlaces instance.now k v (length instance.now.rows) bits.items) }
+    ensures { IfOk result (λ bits. HasPlaces instance.now k v
+        (length instance.now.rows) bits.items) }
 {
     let mut bits = Vec::new(alloc);
     for u in 0..instance.customer_count() + 1 {

@@ -12,11 +12,12 @@ use std::alloc::{AllocError, Global};
 fn free_arc(neighbours: &Neighbours<'_>, v: u16, j: u16) -> AllowedArc
     requires v { v < length neighbours.now.instance.now.rows }
     requires j { IsCustomer neighbours.now.instance.now j }
-    ensures arc { let n = neighbours.now in IsAllowedArc (free_pricing n.instance.now n.k) v result }
+    ensures arc { let n = neighbours.now in IsAllowedArc (free_pricing n.instance.now n.k) v
+        result }
     ensures to { result.to ≡ j }
 {
     let instance = neighbours.instance;
-    let _count = instance.customer_count();
+    instance.law_of_limits();
     let travel = instance.distance(v, j).get();
     let grains = 1000 * travel;
     AllowedArc {

@@ -33,7 +33,8 @@ fn neighbour_list(
     requires few { k ≤ MOST_NEIGHBOURS }
     requires v { v < length instance.now.rows }
     requires bits { HasPlaces instance.now k v (length instance.now.rows) bits.now }
-    ensures { IfOk result (λ list. IsNeighbourList instance.now k v (length instance.now.rows) list.items) }
+    ensures { IfOk result (λ list. IsNeighbourList instance.now k v
+        (length instance.now.rows) list.items) }
 {
     let mut list = Vec::new(alloc);
     for u in 0..instance.customer_count() + 1 {
@@ -93,14 +94,16 @@ impl<'i> Neighbours<'i> {
     /// The neighbour list of j.
     fn list(&self, j: u16) -> &[Neighbour]
         requires { j < length self.now.instance.now.rows }
-        ensures { IsNeighbourList self.now.instance.now self.now.k j (length self.now.instance.now.rows) result.now }
+        ensures { IsNeighbourList self.now.instance.now self.now.k j
+            (length self.now.instance.now.rows) result.now }
     {
         self.lists[j as usize].as_slice()
     }
 
     /// Whether a memory of a visit of v has u, where both are rows.
     pub fn recalls(&self, v: u16, memory: u16, u: u16) -> bool
-        ensures { IsTrue result ↔ ((v < length self.now.instance.now.rows) × (u < length self.now.instance.now.rows)
+        ensures { IsTrue result ↔ ((v < length self.now.instance.now.rows)
+            × (u < length self.now.instance.now.rows)
             × (recalls self.now.instance.now self.now.k v memory u ≡ true)) }
     {
         let count = self.instance.customer_count();

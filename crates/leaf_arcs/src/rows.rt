@@ -31,7 +31,8 @@ fn allowed_arcs(
     allowed: &[bool],
 ) -> Result<Vec<AllowedArc>, AllocError>
     requires arcs { AreAllowedArcs (free_of leaf.now) v arcs.now }
-    requires allowed { AreAllowed (customer_count (problem_of leaf.now)) leaf.now.path.now v allowed.now }
+    requires allowed { AreAllowed (customer_count
+        (problem_of leaf.now)) leaf.now.path.now v allowed.now }
     ensures { IfOk result (λ found. AreAllowedArcs (pricing_of leaf.now) v found.items) }
 {
     let mut found = Vec::with_capacity(alloc, arcs.len())?;

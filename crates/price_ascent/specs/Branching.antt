@@ -2,17 +2,17 @@
 use Rattle.std.specs.Prelude.{◌≡◌}
 use Rattle.solomon_reader.specs.Region.{Region, IsUndecided, used_child, unused_child}
 use Rattle.branching.specs.Arcs.{pair}
-use Rattle.prices.specs.Pricing.{Pricing}
+use Rattle.prices.specs.ValuedPrices.{ValuedPrices}
 use Rattle.price_ascent.specs.declared.child.Children.{Children}
 
 -- prices of the same instance and neighbours at this region
-pub record IsPricedAt (g : Region) (f child : Pricing) : Type 0 where
+pub record IsPricedAt (g : Region) (f child : ValuedPrices) : Type 0 where
   pub problem : child.problem ≡ f.problem
   pub region : child.region ≡ g
   pub neighbours : child.neighbours ≡ f.neighbours
 
 -- prices at both children of a leaf's region by an arc that it has not decided
-pub record AreChildren (f : Pricing) (c : Children) : Type 0 where
+pub record AreChildren (f : ValuedPrices) (c : Children) : Type 0 where
   pub undecided : IsUndecided f.region (pair c.arc)
   pub used : IsPricedAt (used_child f.region (pair c.arc)) f c.used
   pub unused : IsPricedAt (unused_child f.region (pair c.arc)) f c.unused

@@ -56,39 +56,12 @@ fn high_prices(alloc: Global, instance: &Instance) -> Result<Vec<i64>, AllocErro
     Ok(prices)
 }
 
-/// A copy of a leaf's prices.
-fn prices_of(alloc: Global, leaf: &Priced<'_>) -> Result<Vec<i64>, AllocError>
-    ensures count { IfOk result (λ v. length v.items ≡ customer_count leaf.now.problem) }
-    ensures in_range { IfOk result (λ v. AllByRecursion IsPrice v.items) }
-{
-    let _value = leaf.value();
-    leaf.prices().to_vec(alloc)
-}
-
 /// The leaf's prices at a region that allows no other arcs, where their value is known to stay.
 fn narrow<'i>(leaf: &Priced<'i>, region: &Region) -> Result<Option<Priced<'i>>, AllocError>
     requires { IsNarrower region.now leaf.now.region }
     ensures { IfOk result (λ found. IfSome found (IsPricedAt region.now leaf.now)) }
 {
     leaf.narrowed(region)
-}
-
-/// The leaf's prices at another region, priced anew.
-fn price_again<'i>(
-    alloc: Global,
-    pool: &mut RoutePool<'i>,
-    leaf: &Priced<'i>,
-    region: Region,
-    labels: Option<usize>,
-) -> Result<Priced<'i>, PriceFault>
-    requires { region.size ≡ leaf.now.region.size }
-    ensures priced { IfOk result (IsPricedAt region leaf.now) }
-    ensures in_range { IfErr result (λ e. e ≢ PriceRange) }
-    ensures unlimited { IfErr result (λ e. e ≡ LabelLimit → labels ≢ None) }
-{
-    let _size = leaf.region();
-    let prices = prices_of(alloc, leaf)?;
-    price(alloc, pool, leaf, region, prices, labels)
 }
 
 /// The leaf's prices at a child's region, priced anew only where the route of the least reduced cost
@@ -98,24 +71,24 @@ fn price_child<'i>(
     alloc: Global,
     pool: &mut RoutePool<'i>,
     leaf: &Priced<'i>,
-    region: Region,
+    region: &Region,
     labels: Option<usize>,
 ) -> Result<Priced<'i>, PriceFault>
-    requires { IsNarrower region leaf.now.region }
-    ensures priced { IfOk result (IsPricedAt region leaf.now) }
+    requires { IsNarrower region.now leaf.now.region }
+    ensures priced { IfOk result (IsPricedAt region.now leaf.now) }
     ensures in_range { IfErr result (λ e. e ≢ PriceRange) }
     ensures unlimited { IfErr result (λ e. e ≡ LabelLimit → labels ≢ None) }
 {
-    let child = match narrow(leaf, &region)? {
+    let child = match narrow(leaf, region)? {
         Some(child) => child,
-        None => price_again(alloc, pool, leaf, region, labels)?,
+        None => price(alloc, pool, leaf.task().at(region)?, labels)?,
     };
     if child.least().value.is_some() {
         return Ok(child);
     }
     let prices = high_prices(alloc, leaf.instance())?;
-    let region = child.region().try_clone()?;
-    price(alloc, pool, leaf, region, prices, labels)
+    let task = child.task().with(prices)?;
+    price(alloc, pool, task, labels)
 }
 
 /// The regions of both children by an arc: that in which it is required, and that in which it is
@@ -191,8 +164,8 @@ pub fn branch<'i>(
     };
     let (used_start, unused_start) = starts_of(pool, arc, tried)?;
     let (used, unused) = child_regions(leaf.region(), arc)?;
-    let used = price_child(alloc, pool, leaf, used, labels);
-    let unused = price_child(alloc, pool, leaf, unused, labels);
+    let used = price_child(alloc, pool, leaf, &used, labels);
+    let unused = price_child(alloc, pool, leaf, &unused, labels);
     match (used, unused) {
         (Ok(used), Ok(unused)) => Ok(Some(Children {
             arc,

@@ -112,7 +112,6 @@ pub(crate) fn is_quick_next<'i>(
         return Ok(false);
     }
     if pool.quick.is_none() {
-        let _value = leaf.value();
         search(alloc, pool, leaf, leaf.prices(), 0, None)?;
     }
     let are_few = exact.saturating_mul(customers / 5) > goal.looks;
@@ -284,12 +283,12 @@ pub(crate) fn quick_round<'i>(
     quick_steps(alloc, pool, ascent, leaf, looks)?;
     let scale = scale_of(alloc, pool, ascent, leaf)?;
     let prices = prices_at(alloc, ascent, leaf, scale.min(WHOLE).saturating_sub(margin))?;
-    let region = leaf.region().try_clone()?;
+    let task = leaf.task().with(prices)?;
     let labels = match goal.labels {
         Some(labels) => Some(labels.saturating_mul(LABELS_OF_ROUND)),
         None => None,
     };
-    let next = match price(alloc, pool, leaf, region, prices, labels) {
+    let next = match price(alloc, pool, task, labels) {
         Ok(next) => Some(next),
         Err(PriceFault::LabelLimit) => None,
         Err(_) => return Err(AllocError),

@@ -20,9 +20,9 @@ fn price_trial<'i>(
 ) -> Result<Priced<'i>, PriceFault>
     ensures { IfOk result (IsPricedAt leaf.now.region leaf.now) }
 {
-    let region = leaf.region().try_clone()?;
     let prices = trial.prices_in_range(alloc, leaf.instance())?;
-    price(alloc, pool, leaf, region, prices, labels)
+    let task = leaf.task().with(prices)?;
+    price(alloc, pool, task, labels)
 }
 
 /// Of two prices of one leaf those of the higher value; of equal values the first.

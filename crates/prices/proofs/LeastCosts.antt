@@ -13,7 +13,7 @@ use Rattle.solomon_reader.specs.Region.{Region}
 use Rattle.solomon_reader.specs.Relaxed.{IsRelaxed, IsLeast, IsLeastOrZero, reduced_cost, price_of, int_sum_by}
 use Rattle.solomon_reader.specs.SumLaws.{up, down}
 use Rattle.solomon_reader.specs.CertificateText.{IsPrice}
-use Rattle.prices.specs.Pricing.{or_zero}
+use Rattle.prices.specs.ValuedPrices.{or_zero}
 use Rattle.prices.proofs.Ranges.{all_at}
 use Rattle.prices.proofs.Values.{abs_low, abs_high, abs_within}
 

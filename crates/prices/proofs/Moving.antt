@@ -31,7 +31,8 @@ module _ (step : ℤ) (count : ℕ) (price : ℤ) (fits_step : FitsSigned w64 st
       let high = abs_high (step *ℤ (pos 1 -ℤ pos count)) 170141183460469231713240559642174554112 product_small in
       let price_low = abs_low price 9223372036854775808 (word_small price fits_price) in
       let price_high = abs_high price 9223372036854775808 (word_small price fits_price) in
-      let small : nat_abs (price +ℤ (step *ℤ (pos 1 -ℤ pos count))) ≤ 170141183460469231722463931679029329920 = abs_within (price +ℤ (step *ℤ (pos 1 -ℤ pos count))) 170141183460469231722463931679029329920 (omega (arith, ints)) (omega (arith, ints)) in
+      let small : nat_abs (price +ℤ (step *ℤ (pos 1 -ℤ pos count))) ≤ 170141183460469231722463931679029329920 =
+      abs_within (price +ℤ (step *ℤ (pos 1 -ℤ pos count))) 170141183460469231722463931679029329920 (omega (arith, ints)) (omega (arith, ints)) in
       fits_signed_from_abs w128 (price +ℤ (step *ℤ (pos 1 -ℤ pos count))) (omega (arith, small))
 
   pub exact_change : (s : ℤ) → s ≡ to_z w64 (of_z w64 step) → to_z w128 (of_z w128 s) *ℤ to_z w128 (of_z w128 (pos 1 -ℤ to_z w128 count)) ≡ step *ℤ (pos 1 -ℤ pos count)

@@ -11,7 +11,7 @@ use Rattle.solomon_reader.specs.AmongLaws.{weaker}
 use Rattle.labelling.specs.declared.least_cost.Least.{Least}
 use Rattle.labelling.specs.Answer.{HasLeastValue, HasItsRoute}
 use Rattle.prices.specs.Narrowing.{IsNarrower, StaysLeast}
-use Rattle.prices.specs.Pricing.{IsPricing}
+use Rattle.prices.specs.ValuedPrices.{IsValued}
 
 equal_leasts : (m n : ℤ) → m ≤ℤ n → n ≤ℤ m → m ≡ n
 equal_leasts m n h k = omega (arith, ints)
@@ -60,13 +60,13 @@ module _ (p : Problem) (g h : Region) (k : ℕ) (prices : List ℤ) (narrower : 
 -- so prices at the wider region are prices with the same value at the narrower one
 pub narrowed_pricing : (p : Problem) (g h : Region) (k : ℕ) (prices : List ℤ) (v : ℕ) (least found : Least) → IsNarrower g h → StaysLeast g least
     → found.value ≡ least.value → found.route.items ≡ least.route.items
-    → IsPricing (record { problem = p; region = h; neighbours = k; prices = prices; value = v })
+    → IsValued (record { problem = p; region = h; neighbours = k; prices = prices; value = v })
     → HasLeastValue p h k prices least → HasItsRoute p h k prices least
-    → IsPricing (record { problem = p; region = g; neighbours = k; prices = prices; value = v }) × HasLeastValue p g k prices found × HasItsRoute p g k prices found
+    → IsValued (record { problem = p; region = g; neighbours = k; prices = prices; value = v }) × HasLeastValue p g k prices found × HasItsRoute p g k prices found
 narrowed_pricing p g h k prices v least found narrower allowed same_value same_route is is_least has_route =
     let still = least_stays p g h k prices narrower least.value least.route.items allowed is_least has_route in
     let routed = route_stays p g h k prices narrower least.value least.route.items allowed has_route in
-    let pricing : IsPricing (record { problem = p; region = g; neighbours = k; prices = prices; value = v }) = record {
+    let pricing : IsValued (record { problem = p; region = g; neighbours = k; prices = prices; value = v }) = record {
       size = narrower.size ∙ is.size;
       few = is.few;
       priced = is.priced;

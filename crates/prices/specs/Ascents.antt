@@ -1,11 +1,11 @@
 -- Ascents: steps one after the other, and the best prices on the way.
 use Rattle.std.specs.Prelude.{◌≡◌, ◌<◌, ◌≤◌, ◌⊎◌, ℤ, unwrap_or}
-use Rattle.prices.specs.Pricing.{Pricing}
+use Rattle.prices.specs.ValuedPrices.{ValuedPrices}
 use Rattle.prices.specs.Steps.{IsNext}
 use Rattle.prices.specs.declared.ascent.Ascent.{Ascent}
 
 -- the prices that an ascent has come to
-abbrev pub last_of : Ascent → Pricing
+abbrev pub last_of : Ascent → ValuedPrices
 last_of a = unwrap_or a.last a.best
 
 -- A step of s grains further, and what it comes to is the best where its value is higher than that of the best before.

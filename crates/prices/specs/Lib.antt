@@ -1,5 +1,6 @@
 pub mod Faults
-pub mod Pricing
+pub mod ValuedPrices
 pub mod Narrowing
 pub mod Steps
 pub mod Ascents
+pub mod Tasks

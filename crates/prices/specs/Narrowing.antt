@@ -4,7 +4,7 @@ use Rattle.std.specs.List.{AllByRecursion}
 use Rattle.solomon_reader.specs.Plan.{Arc, arcs}
 use Rattle.solomon_reader.specs.Region.{Region, IsAllowed}
 use Rattle.labelling.specs.declared.least_cost.Least.{Least}
-use Rattle.prices.specs.Pricing.{Pricing}
+use Rattle.prices.specs.ValuedPrices.{ValuedPrices}
 
 -- each arc that the region g allows is allowed in the region h
 pub record IsNarrower (g h : Region) : Type 0 where
@@ -16,7 +16,7 @@ abbrev pub StaysLeast : Region → Least → Type 0
 StaysLeast g l = MatchOption l.value (Unit {0}) (λ m. AllByRecursion (IsAllowed g) (arcs l.route.items))
 
 -- the same prices with the same value, at another region
-pub record IsSameAt (g : Region) (old new : Pricing) : Type 0 where
+pub record IsSameAt (g : Region) (old new : ValuedPrices) : Type 0 where
   pub problem : new.problem ≡ old.problem
   pub region : new.region ≡ g
   pub neighbours : new.neighbours ≡ old.neighbours

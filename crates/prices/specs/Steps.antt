@@ -7,7 +7,7 @@ use Rattle.solomon_reader.specs.Plan.{count_of}
 use Rattle.solomon_reader.specs.Region.{Region}
 use Rattle.solomon_reader.specs.Relaxed.{IsRelaxed, IsLeast, reduced_cost, price_of}
 use Rattle.solomon_reader.specs.declared.limits.TheConstants.{MOST_PRICE}
-use Rattle.prices.specs.Pricing.{Pricing}
+use Rattle.prices.specs.ValuedPrices.{ValuedPrices}
 
 -- the number of the range of prices that is nearest to z
 abbrev pub cut : ℤ → ℤ
@@ -29,21 +29,21 @@ IsStepped p g k s old new =
     (r : List ℕ) × IsGuide p g k old r × (new ≡ map (λ i. price_after s (count_of i r) (price_of old i)) (customers p))
 
 -- prices with their value after one step, at the same region of the same instance
-pub record IsNext (old : Pricing) (s : ℤ) (new : Pricing) : Type 0 where
+pub record IsNext (old : ValuedPrices) (s : ℤ) (new : ValuedPrices) : Type 0 where
   pub problem : new.problem ≡ old.problem
   pub region : new.region ≡ old.region
   pub neighbours : new.neighbours ≡ old.neighbours
   pub stepped : IsStepped old.problem old.region old.neighbours s old.prices new.prices
 
 -- the prices met on the way, one for each step, each from those that the step before left
-abbrev pub AreNext : Pricing → List ℤ → List Pricing → Type 0
+abbrev pub AreNext : ValuedPrices → List ℤ → List ValuedPrices → Type 0
 AreNext old [] [] = Unit {0}
 AreNext old [] (f ∷ met) = ⊥
 AreNext old (s ∷ steps) [] = ⊥
 AreNext old (s ∷ steps) (f ∷ met) = IsNext old s f × AreNext f steps met
 
 -- At the same region of the same instance: of the old prices and those that the first steps met, the first that have the greatest value.
-pub record Improves (old : Pricing) (steps : List ℤ) (new : Pricing) : Type 0 where
+pub record Improves (old : ValuedPrices) (steps : List ℤ) (new : ValuedPrices) : Type 0 where
   pub problem : new.problem ≡ old.problem
   pub region : new.region ≡ old.region
   pub neighbours : new.neighbours ≡ old.neighbours
@@ -51,10 +51,10 @@ pub record Improves (old : Pricing) (steps : List ℤ) (new : Pricing) : Type 0 
   pub front : List ℤ
   pub back : List ℤ
   pub first_steps : steps ≡ front ++ back
-  pub met : List Pricing
+  pub met : List ValuedPrices
   pub are_next : AreNext old front met
-  pub before : List Pricing
-  pub after : List Pricing
+  pub before : List ValuedPrices
+  pub after : List ValuedPrices
   pub among : old ∷ met ≡ before ++ (new ∷ after)
   pub lower : AllByRecursion (λ f. f.value < new.value) before
   pub not_higher : AllByRecursion (λ f. f.value ≤ new.value) after

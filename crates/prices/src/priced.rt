@@ -7,7 +7,8 @@ ghost use Rattle.solomon_reader.specs.Region.{root_region};
 ghost use Rattle.solomon_reader.specs.CertificateText.{IsPrice};
 ghost use Rattle.solomon_reader.specs.declared.limits.TheConstants.{MOST_NEIGHBOURS};
 ghost use Rattle.labelling.specs.declared.fault.LabelFault.TheVariants as label;
-ghost use Rattle.prices.specs.Pricing.{IsPricing, IsPricedBy};
+ghost use Rattle.prices.specs.ValuedPrices.{IsValued, IsPricedBy};
+ghost use Rattle.prices.specs.Tasks.{valued_at};
 ghost use Rattle.prices.specs.Steps.{IsGuide};
 ghost use Rattle.prices.specs.Narrowing.{IsNarrower, IsSameAt};
 ghost use Rattle.labelling.specs.Answer.{HasLeastValue, HasItsRoute};
@@ -18,7 +19,7 @@ use crate::narrowing::stays_least;
 use crate::range::are_prices;
 use crate::valuing::{least_of, sum_of, value_of};
 use branching::Region;
-use labelling::{Hints, LabelFault, Least, least_by_hints};
+use labelling::{Hints, LabelFault, Least, PricingTask, least_by_hints};
 use solomon_reader::Instance;
 use std::alloc::{AllocError, Global};
 use std::marker::Model;
@@ -28,10 +29,7 @@ use std::marker::Model;
 /// least reduced cost over the relaxed routes, with its route.
 #[derive(Debug, Drop)]
 pub struct Priced<'i> {
-    instance: &'i Instance,
-    region: Region,
-    neighbours: u32,
-    prices: Vec<i64>,
+    task: PricingTask<'i>,
     value: u128,
     least: Least,
 }
@@ -39,50 +37,43 @@ pub struct Priced<'i> {
 impl<'i> Model for Priced<'i> {
     ghost use Rattle.std.specs.Coded.{codes};
     ghost use Rattle.solomon_reader.specs.Region.{region_code};
-    ghost use Rattle.prices.specs.Pricing.{Pricing, IsPricing};
+    ghost use Rattle.prices.specs.ValuedPrices.{ValuedPrices, IsValued};
+    ghost use Rattle.prices.specs.Tasks.{valued_at};
     ghost use Rattle.labelling.specs.Answer.{HasLeastValue, HasItsRoute};
 
-    ghost Value = { Pricing };
+    ghost Value = { ValuedPrices };
 
     ghost coded = { Prim.hlevel (codes, region_code) };
 
-    ghost view = { λ f. record { problem = f.instance.now; region = f.region; neighbours = f.neighbours; prices = f.prices.items; value = f.value } };
+    ghost view = { λ f. valued_at f.task f.value };
 
-    ghost invariant = { λ f. IsPricing (record {
-      problem = f.instance.now;
-      region = f.region;
-      neighbours = f.neighbours;
-      prices = f.prices.items;
-      value = f.value;
-    }) × HasLeastValue f.instance.now f.region f.neighbours f.prices.items f.least
-        × HasItsRoute f.instance.now f.region f.neighbours f.prices.items f.least };
+    ghost invariant = { λ f. IsValued (valued_at f.task f.value)
+        × HasLeastValue f.task.instance.now f.task.region f.task.neighbours f.task.prices.items f.least
+        × HasItsRoute f.task.instance.now f.task.region f.task.neighbours f.task.prices.items f.least };
 }
 
 /// The value of the prices in tenths, and the least reduced cost that gives it.
 fn evaluate<'i>(
     alloc: Global,
-    instance: &'i Instance,
-    region: &Region,
-    neighbours: u32,
-    prices: &[i64],
+    task: &PricingTask<'i>,
     limit: Option<usize>,
     hints: &mut Hints<'i>,
 ) -> Result<(u128, Least), LabelFault>
-    requires size { region.now.size ≡ customer_count instance.now }
-    requires count { length prices.now ≡ customer_count instance.now }
-    requires priced { AllByRecursion IsPrice prices.now }
-    requires few { neighbours ≤ MOST_NEIGHBOURS }
-    ensures value { IfOk result (λ v. IsPricing (record { problem = instance.now; region = region.now; neighbours = neighbours; prices = prices.now; value = v.0 })) }
-    ensures least { IfOk result (λ v. HasLeastValue instance.now region.now neighbours prices.now v.1) }
-    ensures route { IfOk result (λ v. HasItsRoute instance.now region.now neighbours prices.now v.1) }
+    ensures value { let t = task.now in
+        IfOk result (λ v. IsValued (valued_at t v.0)) }
+    ensures least { let t = task.now in
+        IfOk result (λ v. HasLeastValue t.instance.now t.region t.neighbours t.prices.items v.1) }
+    ensures route { let t = task.now in
+        IfOk result (λ v. HasItsRoute t.instance.now t.region t.neighbours t.prices.items v.1) }
     ensures unlimited { IfErr result (λ e. e ≡ label.LabelLimit → limit ≢ None) }
 {
+    let instance = task.instance;
     instance.law_of_limits();
-    let found = least_by_hints(alloc, instance, region, prices, neighbours, limit, hints)?;
+    let found = least_by_hints(alloc, task, limit, hints)?;
     let value = value_of(
         instance.fleet(),
         instance.fewest_routes(),
-        sum_of(prices),
+        sum_of(task.prices.as_slice()),
         least_of(found.value),
     );
     Ok((value, found))
@@ -129,9 +120,10 @@ impl<'i> Priced<'i> {
         ensures region { IfOk result (λ f. f.region ≡ region) }
         ensures neighbours { IfOk result (λ f. f.neighbours ≡ neighbours) }
         ensures prices { IfOk result (λ f. f.prices ≡ prices.items) }
-        ensures valued { IfOk result (λ f. IsPricing f) }
+        ensures valued { IfOk result (λ f. IsValued f) }
         ensures in_range { IfOk result (λ f. AllByRecursion IsPrice prices.items) }
-        ensures out_of_range { IfErr result (λ e. e.2 ≡ PriceRange ↔ (¬ AllByRecursion IsPrice prices.items)) }
+        ensures out_of_range { IfErr result
+            (λ e. e.2 ≡ PriceRange ↔ (¬ AllByRecursion IsPrice prices.items)) }
         ensures unlimited { IfErr result (λ e. e.2 ≡ LabelLimit → limit ≢ None) }
         ensures region_back { IfErr result (λ e. e.0 ≡ region) }
         ensures prices_back { IfErr result (λ e. e.1 ≡ prices) }
@@ -139,53 +131,34 @@ impl<'i> Priced<'i> {
         if !are_prices(prices.as_slice()) {
             return Err((region, prices, PriceFault::PriceRange));
         }
-        let mut hints = Hints::none(alloc);
-        match Priced::by_hints(
-            alloc, instance, region, neighbours, prices, limit, &mut hints,
-        ) {
+        let task = PricingTask {
+            instance,
+            region,
+            neighbours,
+            prices,
+        };
+        match Priced::by_hints(alloc, task, limit, &mut Hints::none(alloc)) {
             Ok(priced) => Ok(priced),
-            Err((region, prices, fault)) => Err((region, prices, PriceFault::from(fault))),
+            Err((task, fault)) => Err((task.region, task.prices, PriceFault::from(fault))),
         }
     }
 
-    /// What `of` answers for prices in their range, found sooner where a route of low reduced cost or the
-    /// tables of an earlier search are known, with further routes that were met.
+    /// What `of` answers for a task, found sooner where a route of low reduced cost or the tables of an
+    /// earlier search are known, with further routes that were met.
     pub fn by_hints(
         alloc: Global,
-        instance: &'i Instance,
-        region: Region,
-        neighbours: u32,
-        prices: Vec<i64>,
+        task: PricingTask<'i>,
         limit: Option<usize>,
         hints: &mut Hints<'i>,
-    ) -> Result<Priced<'i>, (Region, Vec<i64>, LabelFault)>
-        requires size { region.size ≡ customer_count instance.now }
-        requires count { length prices.items ≡ customer_count instance.now }
-        requires in_range { AllByRecursion IsPrice prices.items }
-        requires few { neighbours ≤ MOST_NEIGHBOURS }
-        ensures priced { IfOk result (IsPricedBy instance.now region neighbours prices.items) }
-        ensures unlimited { IfErr result (λ e. e.2 ≡ label.LabelLimit → limit ≢ None) }
-        ensures region_back { IfErr result (λ e. e.0 ≡ region) }
-        ensures prices_back { IfErr result (λ e. e.1 ≡ prices) }
+    ) -> Result<Priced<'i>, (PricingTask<'i>, LabelFault)>
+        ensures priced { let t = task.entry in
+            IfOk result (IsPricedBy t.instance.now t.region t.neighbours t.prices.items) }
+        ensures unlimited { IfErr result (λ e. e.1 ≡ label.LabelLimit → limit ≢ None) }
+        ensures back { IfErr result (λ e. e.0 ≡ task.entry) }
     {
-        match evaluate(
-            alloc,
-            instance,
-            &region,
-            neighbours,
-            prices.as_slice(),
-            limit,
-            hints,
-        ) {
-            Ok((value, least)) => Ok(Priced {
-                instance,
-                region,
-                neighbours,
-                prices,
-                value,
-                least,
-            }),
-            Err(fault) => Err((region, prices, fault)),
+        match evaluate(alloc, &task, limit, hints) {
+            Ok((value, least)) => Ok(Priced { task, value, least }),
+            Err(fault) => Err((task, fault)),
         }
     }
 
@@ -202,25 +175,36 @@ impl<'i> Priced<'i> {
         ensures region { IfOk result (λ f. f.region ≡ root_region (customer_count instance.now)) }
         ensures neighbours { IfOk result (λ f. f.neighbours ≡ neighbours) }
         ensures prices { IfOk result (λ f. AllByRecursion (λ z. z ≡ pos 0) f.prices) }
-        ensures valued { IfOk result (λ f. IsPricing f) }
+        ensures valued { IfOk result (λ f. IsValued f) }
         ensures unlimited { IfErr result (λ e. e ≡ label.LabelLimit → limit ≢ None) }
     {
-        let prices = no_prices(alloc, instance)?;
-        let region = Region::root(alloc, instance.customer_count());
-        let mut hints = Hints::none(alloc);
-        match Priced::by_hints(
-            alloc, instance, region, neighbours, prices, limit, &mut hints,
-        ) {
+        let task = PricingTask {
+            instance,
+            region: Region::root(alloc, instance.customer_count()),
+            neighbours,
+            prices: no_prices(alloc, instance)?,
+        };
+        match Priced::by_hints(alloc, task, limit, &mut Hints::none(alloc)) {
             Ok(priced) => Ok(priced),
-            Err((_, _, fault)) => Err(fault),
+            Err((_task, fault)) => Err(fault),
         }
+    }
+
+    /// What was priced.
+    pub fn task(&self) -> &PricingTask<'i>
+        ensures instance { result.now.instance.now ≡ self.now.problem }
+        ensures region { result.now.region ≡ self.now.region }
+        ensures neighbours { result.now.neighbours ≡ self.now.neighbours }
+        ensures prices { result.now.prices.items ≡ self.now.prices }
+    {
+        &self.task
     }
 
     /// The instance.
     pub fn instance(&self) -> &'i Instance
         ensures { result.now ≡ self.now.problem }
     {
-        self.instance
+        self.task.instance
     }
 
     /// The region.
@@ -228,7 +212,7 @@ impl<'i> Priced<'i> {
         ensures value { result.now ≡ self.now.region }
         ensures size { self.now.region.size ≡ customer_count self.now.problem }
     {
-        &self.region
+        &self.task.region
     }
 
     /// How many neighbours each customer has in relaxed routes.
@@ -236,15 +220,16 @@ impl<'i> Priced<'i> {
         ensures value { result ≡ self.now.neighbours }
         ensures bound { result ≤ MOST_NEIGHBOURS }
     {
-        self.neighbours
+        self.task.neighbours
     }
 
     /// The prices in grains; that of customer i stands at i - 1.
     pub fn prices(&self) -> &[i64]
         ensures value { result.now ≡ self.now.prices }
         ensures count { length self.now.prices ≡ customer_count self.now.problem }
+        ensures in_range { AllByRecursion IsPrice self.now.prices }
     {
-        self.prices.as_slice()
+        self.task.prices.as_slice()
     }
 
     /// The value in tenths: the prices, less what each vehicle may take back where the least reduced
@@ -252,7 +237,7 @@ impl<'i> Priced<'i> {
     /// rounded up, and not below zero.
     pub fn value(&self) -> i128
         ensures is { result ≡ pos self.now.value }
-        ensures valued { IsPricing self.now }
+        ensures valued { IsValued self.now }
     {
         self.value as i128
     }
@@ -276,14 +261,10 @@ impl<'i> Priced<'i> {
         if !stays_least(region, &self.least) {
             return Ok(None);
         }
-        let region = region.try_clone()?;
-        let prices = self.prices.clone()?;
+        let task = self.task.at(region)?;
         let least = copy_of(&self.least)?;
         Ok(Some(Priced {
-            instance: self.instance,
-            region,
-            neighbours: self.neighbours,
-            prices,
+            task,
             value: self.value,
             least,
         }))
@@ -292,7 +273,8 @@ impl<'i> Priced<'i> {
     /// The route that a step goes by: one of the least reduced cost where that is below zero, else the
     /// empty one.
     pub(crate) fn guide(&self) -> &[u16]
-        ensures { IsGuide self.now.problem self.now.region self.now.neighbours self.now.prices result.now }
+        ensures { IsGuide self.now.problem self.now.region self.now.neighbours self.now.prices
+            result.now }
     {
         let least = self.least();
         match least.value {
@@ -305,14 +287,10 @@ impl<'i> Priced<'i> {
     pub fn try_clone(&self) -> Result<Priced<'i>, AllocError>
         ensures { IfOk result (λ f. f ≡ self.now) }
     {
-        let region = self.region.try_clone()?;
-        let prices = self.prices.clone()?;
+        let task = self.task.at(&self.task.region)?;
         let least = copy_of(&self.least)?;
         Ok(Priced {
-            instance: self.instance,
-            region,
-            neighbours: self.neighbours,
-            prices,
+            task,
             value: self.value,
             least,
         })

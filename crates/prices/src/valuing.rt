@@ -7,7 +7,7 @@ ghost use Rattle.solomon_reader.specs.Bound.{IsRoundedUp};
 ghost use Rattle.solomon_reader.specs.SumLaws.{up, down};
 ghost use Rattle.solomon_reader.specs.CertificateText.{IsPrice};
 ghost use Rattle.solomon_reader.specs.declared.limits.TheConstants.{MOST_CUSTOMERS, MOST_DEMAND, MOST_FLEET, MOST_PRICE};
-ghost use Rattle.prices.specs.Pricing.{or_zero, MOST_LEAST, MOST_VALUE};
+ghost use Rattle.prices.specs.ValuedPrices.{or_zero, MOST_LEAST, MOST_VALUE};
 
 /// The grains of a tenth.
 const GRAINS_OF_TENTH: u128 = 1_000;
@@ -68,7 +68,8 @@ pub(crate) fn value_of(fleet: u16, routes: u32, sum: Grains, least: Grains) -> u
     requires sum_below { sum.below ≤ MOST_CUSTOMERS * MOST_PRICE }
     requires least_above { least.above ≤ MOST_LEAST }
     requires least_below { least.below ≤ MOST_LEAST }
-    ensures value { IsRoundedUp (pos (sum.above + routes * least.above) -ℤ pos (sum.below + fleet * least.below)) result }
+    ensures value { IsRoundedUp (pos (sum.above + routes * least.above) -ℤ pos
+        (sum.below + fleet * least.below)) result }
     ensures bound { result < MOST_VALUE }
 {
     let above = sum.above + u128::from(routes) * least.above;

@@ -48,7 +48,7 @@ pub(crate) fn distance_in(distances: &[i32], to: u16) -> i32 {
 fn visit_of(instance: &Instance, row: u16) -> Visit
     requires { row < length instance.now.rows }
 {
-    let _rows = instance.customer_count();
+    instance.law_of_limits();
     let there = instance.distance(0, row).get() as i32;
     let mut visit = Visit {
         demand: i32::from(instance.demand(row)),

@@ -1,5 +1,6 @@
 -- The relaxed routes are the completions of the start.
-use Rattle.std.proofs.Common.{◌≡◌, refl, ℕ, ◌+◌, ◌*◌, ◌≤◌, ◌&&◌, ◌||◌, eqb, true, false, List, [], ◌∷◌, ◌++◌, Option, Some, None, arith, append_assoc, ◌∙◌}
+use Rattle.std.proofs.Common.{◌≡◌, refl, ℕ, ◌+◌, ◌*◌, ◌≤◌, ◌&&◌, ◌||◌, eqb, true, false}
+use Rattle.std.proofs.Common.{List, [], ◌∷◌, ◌++◌, Option, Some, None, arith, append_assoc, ◌∙◌}
 use Rattle.std.specs.Prelude.{◌↔◌, ℤ, pos, ◌+ℤ◌, ◌-ℤ◌, ◌≤ℤ◌, IsTrue}
 use Rattle.std.specs.List.{AllByRecursion, sum_by}
 use Rattle.std.proofs.lemmas.Int.{ints}

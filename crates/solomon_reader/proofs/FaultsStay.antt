@@ -9,7 +9,8 @@ use Rattle.solomon_reader.specs.declared.fault.ReadFault.TheVariants.{Truncated,
 use Rattle.solomon_reader.specs.Words.{Token, Word, Foreign}
 use Rattle.solomon_reader.specs.Layout.{is_number, vehicle_words, customer_words}
 use Rattle.solomon_reader.specs.Laws.{IsEnd}
-use Rattle.solomon_reader.specs.Reading.{◌>>=◌, check, fixed_at, all_fixed_at, number_at, within_at, order_at, demand_at, due_at, service_at, head_at, window_at, row_at, rows_at, end_before, name_at, fleet_at, header_at, reading}
+use Rattle.solomon_reader.specs.Reading.{◌>>=◌, check, fixed_at, all_fixed_at, number_at, within_at, order_at, demand_at, due_at}
+use Rattle.solomon_reader.specs.Reading.{service_at, head_at, window_at, row_at, rows_at, end_before, name_at, fleet_at, header_at, reading}
 
 -- what is left may be longer
 abbrev Longer : Type 0 → Type 0
@@ -132,7 +133,8 @@ row_stays k = then words_longer pair_longer pair_longer (head_at k) _ (head_stay
     (on pair_longer (λ demand ts. window_at ts >>= λ window. service_at k window.1 >>= λ service.
     Ok (record { x = place.0; y = place.1; demand = demand; ready = window.0.0; due = window.0.1; service = service.0 }, service.1)) (λ demand.
     then words_longer pair_longer pair_longer window_at _ window_stays
-    (on pair_longer (λ window ts. service_at k ts >>= λ service. Ok (record { x = place.0; y = place.1; demand = demand; ready = window.0; due = window.1; service = service.0 }, service.1)) (λ window.
+    (on pair_longer (λ window ts. service_at k ts >>= λ service. Ok
+    (record { x = place.0; y = place.1; demand = demand; ready = window.0; due = window.1; service = service.0 }, service.1)) (λ window.
     then words_longer pair_longer pair_longer (service_at k) _ (service_stays k) (record { told = λ service more. inr refl })))))))
 
 name_stays : Stays words_longer pair_longer name_at
@@ -186,7 +188,8 @@ abbrev failed : {C : Type 0} → ReadFault → Result C ReadFault
 failed e = Err e
 
 -- the rows of what was read make no fault of their own
-only_made : {C D : Type 0} (make : C → D) (r r' : Result C ReadFault) (e : ReadFault) → (r >>= λ c. Ok (make c)) ≡ Err e → (r ≡ Err e → IsEnd e ⊎ (r' ≡ Err e)) → IsEnd e ⊎ ((r' >>= λ c. Ok (make c)) ≡ Err e)
+only_made : {C D : Type 0} (make : C → D) (r r' : Result C ReadFault) (e : ReadFault) → (r >>= λ c. Ok (make c)) ≡ Err e
+    → (r ≡ Err e → IsEnd e ⊎ (r' ≡ Err e)) → IsEnd e ⊎ ((r' >>= λ c. Ok (make c)) ≡ Err e)
 only_made make (Ok c) r' e is h = absurd cc
 only_made make (Err d) r' e is h = let same : d ≡ e = cc in elim (h (ap (λ f. failed f) same)) [ inl end ↦ inl end | inr s ↦ inr (rw s refl) ]
 
@@ -222,6 +225,7 @@ reading_stays front back e is not_end =
         Ok (record { name = header.0; fleet = header.1.0; capacity = header.1.1; rows = rows })) (λ header.
         faults_then words_longer words_longer (all_fixed_at customer_words) _ (all_fixed_stays customer_words)
         (record {
-          told = λ ts more e is. only_made (λ rows. record { name = header.0; fleet = header.1.0; capacity = header.1.1; rows = rows }) (rows_at (MOST_CUSTOMERS + 1) 0 ts) (rows_at (MOST_CUSTOMERS + 1) 0 (ts ++ more)) e is
+          told = λ ts more e is. only_made (λ rows. record { name = header.0; fleet = header.1.0; capacity = header.1.1; rows = rows })
+              (rows_at (MOST_CUSTOMERS + 1) 0 ts) (rows_at (MOST_CUSTOMERS + 1) 0 (ts ++ more)) e is
               (λ is. (rows_stay (MOST_CUSTOMERS + 1) 0).told ts more e is);
         })))

@@ -23,7 +23,14 @@ pub good_back : (a b : State) → IsSameState a b → IsAsGood b a
 good_back a b h = record { last = sym h.last; time = omega (arith, h.time); load = omega (arith, h.load); cost = rw h.cost (omega (arith, ints)); memory = λ u t. h.memory u ∙ t }
 
 pub good_through : (a b c : State) → IsAsGood a b → IsAsGood b c → IsAsGood a c
-good_through a b c h e = record { last = h.last ∙ e.last; time = omega (arith, h.time, e.time); load = omega (arith, h.load, e.load); cost = omega (arith, ints, h.cost, e.cost); memory = λ u t. e.memory u (h.memory u t) }
+good_through a b c h e = record {
+  last = h.last ∙ e.last;
+  time = omega (arith, h.time, e.time);
+  load = omega (arith, h.load, e.load);
+  cost =
+      omega (arith, ints, h.cost, e.cost);
+  memory = λ u t. e.memory u (h.memory u t);
+}
 
 module _ (q : Pricing) where
   begins_sooner : (a b : State) (j : ℕ) → IsAsGood a b → begins q.problem a j ≤ begins q.problem b j

@@ -130,7 +130,8 @@ module _ (p : Problem) (routes : List (Vec ℕ Global)) (some : All (λ v. 0 < l
             pub after_late : IsClearBelow p (lists routes) 6
             after_late = clear_more p (lists routes) late after_overload (no_late p routes fitting)
 
-pub same_lists : (R : Vec ℕ Global → Vec ℕ Global → Type 0) → ((v w : Vec ℕ Global) → R v w → w.items ≡ v.items) → (xs ys : List (Vec ℕ Global)) → AllZip R xs ys → lists ys ≡ lists xs
+pub same_lists : (R : Vec ℕ Global → Vec ℕ Global → Type 0) → ((v w : Vec ℕ Global) → R v w → w.items ≡ v.items) → (xs ys : List (Vec ℕ Global))
+    → AllZip R xs ys → lists ys ≡ lists xs
 same_lists R f [] [] h = refl
 same_lists R f [] (y ∷ ys) h = absurd h
 same_lists R f (x ∷ xs) [] h = absurd h

@@ -34,7 +34,8 @@ module _ (routes : List (Vec ℕ Global)) where
       ∙ ap (λ (vs : List (Vec ℕ Global)). stops (lists vs)) (take-append-drop n routes)
 
   -- a customer that stands twice in the first routes does so in all
-  pub twice_in_all : (n : ℕ) (route : Vec ℕ Global) → n < length routes → route ≡ get_or routes n route → (i : ℕ) × (2 ≤ count_of i (stops (lists (take n routes)) ++ route.items)) → (i : ℕ) × (2 ≤ count_of i (stops (lists routes)))
+  pub twice_in_all : (n : ℕ) (route : Vec ℕ Global) → n < length routes → route ≡ get_or routes n route → (i : ℕ)
+      × (2 ≤ count_of i (stops (lists (take n routes)) ++ route.items)) → (i : ℕ) × (2 ≤ count_of i (stops (lists routes)))
   twice_in_all n route h is twice =
       let i = twice.0 in
       let e = ap (count_of i) (stops_more n route h is) in

@@ -13,7 +13,8 @@ use tenths::Tenths;
 #[tactic(auto, using(crate::proofs::Longest::greatest_more))]
 fn longest_from(instance: &Instance, i: u16) -> u32
     requires { i < length instance.now.rows }
-    ensures value { result ≡ greatest_of (map (λ j. distance instance.now i j) (range_with_len 0 (length instance.now.rows))) }
+    ensures value { result ≡ greatest_of
+        (map (λ j. distance instance.now i j) (range_with_len 0 (length instance.now.rows))) }
     ensures bound { result ≤ MOST_DISTANCE }
 {
     let mut longest = 0;

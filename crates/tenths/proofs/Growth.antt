@@ -23,7 +23,8 @@ onto-grow : (x : List ℕ) (rest : List (List ℕ)) (b : ℕ) (ps : List (List �
 onto-grow x rest b ps p [] e = rw e refl
 onto-grow x rest b ps p (q ∷ qs) e = rw e refl
 
-parts-cons : (s b : ℕ) (front back x : List ℕ) (rest : List (List ℕ)) (t : Bool) → (b == s) ≡ t → parts s (front ++ back) ≡ grow x rest (parts s front) → parts s (b ∷ (front ++ back)) ≡ grow x rest (parts s (b ∷ front))
+parts-cons : (s b : ℕ) (front back x : List ℕ) (rest : List (List ℕ)) (t : Bool) → (b == s) ≡ t
+    → parts s (front ++ back) ≡ grow x rest (parts s front) → parts s (b ∷ (front ++ back)) ≡ grow x rest (parts s (b ∷ front))
 unfolding parts
 parts-cons s b front back x rest true e h =
     let p = parts-some s front in
@@ -61,11 +62,13 @@ abbrev pub FaultStays : {E C D : Type 0} → E → Result C E → Result D E →
 FaultStays {E} end r r' = (e : E) → r ≡ Err e → (e ≡ end) ⊎ (r' ≡ Err e)
 
 module _ {E : Type 0} (end : E) where
-  bound : {C D : Type 0} (after : C → C) (last : D → D) (k : C → Result D E) (r r' : Result C E) → r' ≡ grown after r → Stays end after last k → ((r >>= k) ≡ Err end) ⊎ ((r' >>= k) ≡ grown last (r >>= k))
+  bound : {C D : Type 0} (after : C → C) (last : D → D) (k : C → Result D E) (r r' : Result C E) → r' ≡ grown after r → Stays end after last k
+      → ((r >>= k) ≡ Err end) ⊎ ((r' >>= k) ≡ grown last (r >>= k))
   bound after last k (Ok c) r' e h = rw e (h c)
   bound after last k (Err d) r' e h = inr (rw e refl)
 
-  pub then : {C D : Type 0} (after : C → C) (last : D → D) (k : C → Result D E) (r r' : Result C E) → (r ≡ Err end) ⊎ (r' ≡ grown after r) → Stays end after last k → ((r >>= k) ≡ Err end) ⊎ ((r' >>= k) ≡ grown last (r >>= k))
+  pub then : {C D : Type 0} (after : C → C) (last : D → D) (k : C → Result D E) (r r' : Result C E) → (r ≡ Err end) ⊎ (r' ≡ grown after r)
+      → Stays end after last k → ((r >>= k) ≡ Err end) ⊎ ((r' >>= k) ≡ grown last (r >>= k))
   then after last k r r' (inl e) h = inl (ap (λ r. r >>= k) e)
   then after last k r r' (inr e) h = bound after last k r r' e h
 
@@ -79,7 +82,8 @@ module _ {E : Type 0} (end : E) where
   kept last make (Ok c) = refl
   kept last make (Err e) = refl
 
-  pub fault_bound : {C D : Type 0} (after : C → C) (k : C → Result D E) (r r' : Result C E) → (r ≡ Err end) ⊎ (r' ≡ grown after r) → ((c : C) → FaultStays end (k c) (k (after c))) → FaultStays end (r >>= k) (r' >>= k)
+  pub fault_bound : {C D : Type 0} (after : C → C) (k : C → Result D E) (r r' : Result C E) → (r ≡ Err end) ⊎ (r' ≡ grown after r)
+      → ((c : C) → FaultStays end (k c) (k (after c))) → FaultStays end (r >>= k) (r' >>= k)
   fault_bound after k r r' (inl e) h d f = let same : end ≡ d = cc (ap (λ r. r >>= k) e) in inl (sym same)
   fault_bound after k (Ok c) r' (inr e) h d f = rw e (h c d f)
   fault_bound after k (Err b) r' (inr e) h d f = inr (rw e f)

@@ -44,4 +44,5 @@ joined-lines (l ∷ m ∷ ls) = ap (λ (x : List ℕ). l ++ (10 ∷ x)) (joined-
 
 pub parts-lines : (ls : List (List ℕ)) → AllLack 10 ls → parts 10 (flat_map line ls) ≡ ls ++ ([] ∷ [])
 parts-lines [] q = parts-one 10 [] tt
-parts-lines (l ∷ ls) q = ap (λ (x : List ℕ). parts 10 x) (append_assoc l (10 ∷ []) (flat_map line ls)) ∙ parts-more 10 l (flat_map line ls) q.0 ∙ ap (λ (x : List (List ℕ)). l ∷ x) (parts-lines ls q.1)
+parts-lines (l ∷ ls) q = ap (λ (x : List ℕ). parts 10 x) (append_assoc l (10 ∷ []) (flat_map line ls)) ∙ parts-more 10 l (flat_map line ls) q.0
+    ∙ ap (λ (x : List (List ℕ)). l ∷ x) (parts-lines ls q.1)

@@ -1,5 +1,6 @@
 -- Tenths and their texts.
-use Rattle.std.proofs.Common.{◌≡◌, ◌≢◌, ℕ, zero, suc, ◌+◌, ◌*◌, ◌/◌, ◌%◌, ◌^◌, ◌<◌, ◌≤◌, Bool, true, false, cond, List, [], ◌∷◌, ◌++◌, length, Option, Some, None, refl, sym, ap, ◌∙◌, append_assoc, arith, lit<, lit≤}
+use Rattle.std.proofs.Common.{◌≡◌, ◌≢◌, ℕ, zero, suc, ◌+◌, ◌*◌, ◌/◌, ◌%◌, ◌^◌, ◌<◌, ◌≤◌, Bool, true, false, cond}
+use Rattle.std.proofs.Common.{List, [], ◌∷◌, ◌++◌, length, Option, Some, None, refl, sym, ap, ◌∙◌, append_assoc, arith, lit<, lit≤}
 use Rattle.std.specs.Prelude.{◌↔◌, ◌==◌, nat_lt, option_and_then, codes, decimal, IsSome, IfSome, MatchOption}
 use Rattle.std.specs.Fmt.{digits, digits_onto, digit_glyph}
 use Rattle.tenths.specs.declared.value.TheConstants.{MOST_TENTHS}
@@ -52,7 +53,8 @@ parted whole digit t h =
     one : (n : ℕ) → (n == 1) ≡ true → n ≡ 1
     one n e = grind (arith, nat_tests)
 
-pub tenths_from_again : (whole digit : List ℕ) (w d : ℕ) → length whole ≤ 12 → length digit ≡ 1 → number_of whole ≡ Some w → number_of digit ≡ Some d → tenths_from whole digit ≡ Some (w * 10 + d)
+pub tenths_from_again : (whole digit : List ℕ) (w d : ℕ) → length whole ≤ 12 → length digit ≡ 1 → number_of whole ≡ Some w → number_of digit ≡ Some d
+    → tenths_from whole digit ≡ Some (w * 10 + d)
 unfolding tenths_from
 tenths_from_again whole digit w d le one a b = rw (long (length whole) le, one, a, b) refl
   where
@@ -60,7 +62,8 @@ tenths_from_again whole digit w d le one a b = rw (long (length whole) le, one, 
     long n e = grind (arith, nat_tests)
 
 -- as the code finds it
-pub from_parts_is : (whole digit : List ℕ) (v d : ℕ) (o : Option ℕ) → Some v ≡ option_map capped (number_of whole) → Some d ≡ option_map capped (number_of digit) → length whole ≤ 12 → length digit ≡ 1
+pub from_parts_is : (whole digit : List ℕ) (v d : ℕ) (o : Option ℕ) → Some v ≡ option_map capped (number_of whole)
+    → Some d ≡ option_map capped (number_of digit) → length whole ≤ 12 → length digit ≡ 1
     → (IsSome o ↔ (v * 10 + d ≤ 9999999999999)) → IfSome o (λ t. t ≡ v * 10 + d) → o ≡ tenths_from whole digit
 from_parts_is whole digit v d o a b le one within value =
     let x = told 12 whole v a le (lit≤ tt) in
@@ -99,7 +102,8 @@ decimal_lacks s n lt = onto_lacks s 64 n [] lt tt
 pub tenths_lack : (s t : ℕ) → s < 46 → Lacks s (tenths_text t)
 tenths_lack s t lt =
     let digits : s < 48 = omega arith in
-    Lacks-append s (decimal (t / 10) ++ codes ".") (decimal (t % 10)) (Lacks-append s (decimal (t / 10)) (codes ".") (decimal_lacks s (t / 10) digits) (other 46 lt, tt)) (decimal_lacks s (t % 10) digits)
+    Lacks-append s (decimal (t / 10) ++ codes ".") (decimal (t % 10))
+    (Lacks-append s (decimal (t / 10)) (codes ".") (decimal_lacks s (t / 10) digits) (other 46 lt, tt)) (decimal_lacks s (t % 10) digits)
   where
     other : (b : ℕ) → s < b → (b == s) ≡ false
     other b h = grind (arith, nat_tests)

@@ -1,5 +1,6 @@
 -- Signed numbers and their texts.
-use Rattle.std.proofs.Common.{◌≡◌, ◌≢◌, ℕ, zero, suc, ◌+◌, ◌-◌, ◌^◌, ◌<◌, ◌≤◌, Bool, true, false, cond, List, [], ◌∷◌, length, Option, Some, None, sym, ap, subst, ◌∙◌, arith, refl}
+use Rattle.std.proofs.Common.{◌≡◌, ◌≢◌, ℕ, zero, suc, ◌+◌, ◌-◌, ◌^◌, ◌<◌, ◌≤◌, Bool, true, false}
+use Rattle.std.proofs.Common.{cond, List, [], ◌∷◌, length, Option, Some, None, sym, ap, subst, ◌∙◌, arith, refl}
 use Rattle.std.specs.Prelude.{◌==◌, decimal, ℤ, pos, negsuc, nat_abs, option_and_then, MatchOption}
 use Rattle.std.specs.Fmt.{signed_decimal}
 use Rattle.std.specs.List.{list_all}
@@ -113,7 +114,8 @@ clamped_some None z e = absurd cc
 clamped_some (Some y) z e = (y, refl, cc)
 
 -- both ways, for any result
-pub signed_told : (w : List ℕ) (r : Option ℤ) → r ≡ option_map clamped (signed_of w) → MatchOption r ((z : ℤ) → nat_abs z < 2 ^ 64 → w ≢ signed_decimal z) (λ z. nat_abs z < NUMBER_CAP → w ≡ signed_decimal z)
+pub signed_told : (w : List ℕ) (r : Option ℤ) → r ≡ option_map clamped (signed_of w)
+    → MatchOption r ((z : ℤ) → nat_abs z < 2 ^ 64 → w ≢ signed_decimal z) (λ z. nat_abs z < NUMBER_CAP → w ≡ signed_decimal z)
 signed_told w None e = λ z lt same. let a = signed_again z lt in let b = rw (← same) at a in let c = clamped_none (signed_of w) e in absurd cc
 signed_told w (Some z) e = λ lt.
     let s = clamped_some (signed_of w) z e in

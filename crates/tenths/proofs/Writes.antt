@@ -1,5 +1,6 @@
 -- How writes add up.
-use Rattle.std.proofs.Common.{◌≡◌, ℕ, zero, suc, get_or, length, ◌<◌, List, [], ◌∷◌, ◌++◌, take, drop, Option, Some, None, Result, Ok, Err, refl, sym, ap, ◌∙◌, append_assoc, arith}
+use Rattle.std.proofs.Common.{◌≡◌, ℕ, zero, suc, get_or, length, ◌<◌, List, [], ◌∷◌, ◌++◌, take}
+use Rattle.std.proofs.Common.{drop, Option, Some, None, Result, Ok, Err, refl, sym, ap, ◌∙◌, append_assoc, arith}
 use Rattle.std.specs.Prelude.{IsErr}
 use Rattle.std.specs.List.{flat_map}
 use Rattle.std.specs.Io.KnownBytes.{Appends, Keeps}
@@ -47,8 +48,12 @@ IsLeft r s text rest = (front : List ℕ) × (text ≡ front ++ rest) × Takes r
 
 -- the loop's next turn
 pub goes_on : (r s t : Held) (text rest : List ℕ) (n : ℕ) → IsLeft r s text rest → Takes s t (take n rest) → IsLeft r t text (drop n rest)
-goes_on r s t text rest n (front, parts, p) q =
-    (front ++ take n rest, parts ∙ ap (λ (w : List ℕ). front ++ w) (sym (take-append-drop n rest)) ∙ sym (append_assoc front (take n rest) (drop n rest)), takes_then r s t front (take n rest) p q)
+goes_on r s t text rest n (front, parts, p) q = (
+  front ++ take n rest,
+  parts ∙ ap (λ (w : List ℕ). front ++ w) (sym (take-append-drop n rest))
+      ∙ sym (append_assoc front (take n rest) (drop n rest)),
+  takes_then r s t front (take n rest) p q,
+)
 
 -- the texts of a list's items, cut at one of them
 pub flat_map-cut : {X : Type 0} (f : X → List ℕ) (xs : List X) (i : ℕ) (d : X) → i < length xs

@@ -1,5 +1,6 @@
 -- Canonical numbers: `0`, or digits without a leading zero; and `-` before a number that isn't zero.
-use Rattle.std.specs.Prelude.{ℕ, ◌+◌, ◌-◌, ◌*◌, Bool, nat_lt, nat_le, ◌==◌, ◌&&◌, ◌||◌, Option, Some, None, option_and_then, if◌then◌else◌, List, [], ◌∷◌, length, slice_index, min, ℤ, pos, negsuc}
+use Rattle.std.specs.Prelude.{ℕ, ◌+◌, ◌-◌, ◌*◌, Bool, nat_lt, nat_le, ◌==◌, ◌&&◌, ◌||◌, Option, Some, None}
+use Rattle.std.specs.Prelude.{option_and_then, if◌then◌else◌, List, [], ◌∷◌, length, slice_index, min, ℤ, pos, negsuc}
 use Rattle.std.specs.List.{list_all}
 use Rattle.std.specs.Option.{option_map}
 use Rattle.std.specs.Str.Parse.{digits_value}

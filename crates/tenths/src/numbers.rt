@@ -47,7 +47,8 @@ fn capped_value(word: &[u8]) -> u64
 pub fn number(word: &[u8]) -> Option<u64>
     ensures exact { result ≡ option_map capped (number_of word.now) }
     // A word that is refused is no number's text, and below the cap the word is the text of the number.
-    ensures told { MatchOption result ((n : ℕ) → n < 2 ^ 64 → word.now ≢ decimal n) (λ v. v < NUMBER_CAP → word.now ≡ decimal v) }
+    ensures told { MatchOption result ((n : ℕ) → n < 2 ^ 64 → word.now ≢ decimal n)
+        (λ v. v < NUMBER_CAP → word.now ≡ decimal v) }
 {
     if !is_number(word) {
         return None;
@@ -113,7 +114,8 @@ fn tenths(text: &[u8]) -> Option<Tenths>
 /// without leading zeros, a point and one digit; `None` for every other text.
 pub fn read_tenths(text: &[u8]) -> Option<Tenths>
     ensures exact { result ≡ tenths_of text.now }
-    ensures told { MatchOption result ((t : ℕ) → t ≤ MOST_TENTHS → text.now ≢ tenths_text t) (λ t. text.now ≡ tenths_text t) }
+    ensures told { MatchOption result ((t : ℕ) → t ≤ MOST_TENTHS → text.now ≢ tenths_text t)
+        (λ t. text.now ≡ tenths_text t) }
 {
     tenths(text)
 }

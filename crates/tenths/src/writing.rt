@@ -31,7 +31,8 @@ pub fn write_text<W: Sink>(text: &[u8], sink: &mut W) -> Result<(), Device>
 
 /// Writes the pieces of a text, one after another. `Device` as for `write_text`.
 pub fn write_pieces<W: Sink>(pieces: &[&[u8]], sink: &mut W) -> Result<(), Device>
-    ensures { Writes (W.held sink.old) (W.held sink.new) result (flat_map (λ piece. piece.now) pieces.now) }
+    ensures { Writes (W.held sink.old) (W.held sink.new)
+        result (flat_map (λ piece. piece.now) pieces.now) }
 {
     for piece in pieces {
         write_text(piece, sink)?;
@@ -41,7 +42,8 @@ pub fn write_pieces<W: Sink>(pieces: &[&[u8]], sink: &mut W) -> Result<(), Devic
 
 /// Writes each number after a space. `Device` as for `write_text`.
 fn write_numbers<N: Integer, W: Sink>(numbers: &[N], sink: &mut W) -> Result<(), Device>
-    ensures { Writes (W.held sink.old) (W.held sink.new) result (flat_map (λ n. spaced (N.text n)) numbers.now) }
+    ensures { Writes (W.held sink.old) (W.held sink.new)
+        result (flat_map (λ n. spaced (N.text n)) numbers.now) }
 {
     for number in numbers {
         let mut buffer = Buffer::new();
@@ -58,7 +60,8 @@ pub fn write_number_line<N: Integer, W: Sink>(
     sink: &mut W,
 ) -> Result<(), Device>
     ensures { Writes (W.held sink.old) (W.held sink.new) result
-        (line (flat_map (λ piece. piece.now) front.now ++ flat_map (λ n. spaced (N.text n)) numbers.now)) }
+        (line (flat_map (λ piece. piece.now) front.now ++ flat_map
+        (λ n. spaced (N.text n)) numbers.now)) }
 {
     write_pieces(front, sink)?;
     write_numbers(numbers, sink)?;
@@ -84,7 +87,8 @@ pub fn write_tenths<W: Sink>(tenths: Tenths, sink: &mut W) -> Result<(), Device>
 
 /// Writes a line: its front, and then a number of tenths. `Device` as for `write_text`.
 pub fn write_tenths_line<W: Sink>(front: &[u8], tenths: Tenths, sink: &mut W) -> Result<(), Device>
-    ensures { Writes (W.held sink.old) (W.held sink.new) result (line (front.now ++ tenths_text tenths)) }
+    ensures { Writes (W.held sink.old) (W.held sink.new)
+        result (line (front.now ++ tenths_text tenths)) }
 {
     write_text(front, sink)?;
     write_tenths(tenths, sink)?;

@@ -1,5 +1,6 @@
 -- One number after the other is written behind the first list.
-use Rattle.std.proofs.Common.{◌≡◌, ℕ, zero, suc, ◌+◌, ◌≤◌, ◌<◌, true, List, [], ◌∷◌, ◌++◌, length, take, set, get_or, Some, refl, sym, ap, ◌∙◌, arith, length-take, length-append, append_assoc}
+use Rattle.std.proofs.Common.{◌≡◌, ℕ, zero, suc, ◌+◌, ◌≤◌, ◌<◌, true, List, [], ◌∷◌, ◌++◌, length}
+use Rattle.std.proofs.Common.{take, set, get_or, Some, refl, sym, ap, ◌∙◌, arith, length-take, length-append, append_assoc}
 use Rattle.std.specs.Prelude.{nat_le}
 use Rattle.std.proofs.lemmas.Bool.Decides.{nat_tests}
 use Rattle.test_library.specs.Few.{filled, IsFilled, joined_end_to_end}
@@ -31,7 +32,8 @@ module _ (xs ys items : List ℕ) (alen blen : ℕ) (a : IsFilled xs alen) (b : 
     pub front : take (alen + blen) items ≡ take alen xs ++ take blen ys
     front =
         let len : length (take alen xs ++ take blen ys) ≡ alen + blen = so_far blen (omega arith) in
-        let cut : take (length (take alen xs ++ take blen ys)) (filled 8 (take alen xs ++ take blen ys)) ≡ take alen xs ++ take blen ys = take-filled 8 (take alen xs ++ take blen ys) (omega arith) in
+        let cut : take (length (take alen xs ++ take blen ys)) (filled 8 (take alen xs ++ take blen ys)) ≡ take alen xs ++ take blen ys =
+        take-filled 8 (take alen xs ++ take blen ys) (omega arith) in
         rw whole (rw len at cut)
 
     pub is_filled : IsFilled items (alen + blen)

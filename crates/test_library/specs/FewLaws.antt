@@ -1,5 +1,6 @@
 -- What is filled up keeps its list.
-use Rattle.std.proofs.Common.{◌≡◌, ℕ, zero, suc, ◌+◌, ◌≤◌, ◌<◌, true, false, List, [], ◌∷◌, ◌++◌, length, take, set, Some, None, refl, sym, ap, ◌∙◌, arith, inl, inr, length-take, length-append, append_assoc}
+use Rattle.std.proofs.Common.{◌≡◌, ℕ, zero, suc, ◌+◌, ◌≤◌, ◌<◌, true, false, List, [], ◌∷◌, ◌++◌, length}
+use Rattle.std.proofs.Common.{take, set, Some, None, refl, sym, ap, ◌∙◌, arith, inl, inr, length-take, length-append, append_assoc}
 use Rattle.std.specs.Prelude.{nat_le, option_and_then}
 use Rattle.std.proofs.lemmas.Bool.{cases_lt}
 use Rattle.std.proofs.lemmas.Bool.Decides.{nat_tests}
@@ -33,7 +34,13 @@ too_many n h = grind (arith, nat_tests)
 together : (x y z : List ℕ) → length x + length y + length z ≤ 8
     → option_and_then (λ xy. joined_end_to_end xy z) (joined_end_to_end x y) ≡ option_and_then (λ yz. joined_end_to_end x yz) (joined_end_to_end y z)
 together x y z h =
-    rw (fits (length x + length y) (omega arith), fits (length y + length z) (omega arith), fits (length (x ++ y) + length z) (omega (arith, length-append x y)), fits (length x + length (y ++ z)) (omega (arith, length-append y z)))
+    rw (
+      fits (length x + length y) (omega arith),
+      fits (length y + length z) (omega arith),
+      fits (length (x ++ y) + length z)
+          (omega (arith, length-append x y)),
+      fits (length x + length (y ++ z)) (omega (arith, length-append y z)),
+    )
     (ap (λ (l : List ℕ). Some l) (append_assoc x y z))
 
 none_left : (x y z : List ℕ) → 8 < length x + length y + length z → option_and_then (λ xy. joined_end_to_end xy z) (joined_end_to_end x y) ≡ None

@@ -63,7 +63,6 @@ fn tell_value(told: &mut String, leaf: &Priced<'_>) -> Option<()> {
 
 /// Tells the least reduced cost at a leaf, found with a limit of labels.
 fn tell_least(alloc: Global, told: &mut String, leaf: &Priced<'_>, limit: usize) -> Option<()> {
-    let _value = leaf.value();
     let (instance, region, prices) = (leaf.instance(), leaf.region(), leaf.prices());
     let (neighbours, limit) = (leaf.neighbours(), Some(limit));
     match least(alloc, instance, region, prices, neighbours, limit) {
@@ -86,13 +85,9 @@ fn reduced_cost(instance: &Instance, prices: &[i64], stops: &[u16]) -> Option<i6
 /// Tells the least reduced cost at a leaf where a route is known, and the reduced costs of the further routes that
 /// were met.
 fn tell_met(alloc: Global, told: &mut String, leaf: &Priced<'_>, route: &str) -> Option<()> {
-    let _value = leaf.value();
     let mut hints = Hints::of(alloc, list_of(alloc, route)?, Kept::nothing());
-    let (instance, region, prices) = (leaf.instance(), leaf.region(), leaf.prices());
-    let neighbours = leaf.neighbours();
-    let found = least_by_hints(
-        alloc, instance, region, prices, neighbours, None, &mut hints,
-    );
+    let (instance, prices) = (leaf.instance(), leaf.prices());
+    let found = least_by_hints(alloc, leaf.task(), None, &mut hints);
     write!(told, "least {} met", OrNone(found.ok()?.value)).ok()?;
     let mut costs = Vec::new(alloc);
     for route in &hints.met {

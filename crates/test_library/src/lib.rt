@@ -53,7 +53,7 @@ use std::io;
 use std::rt::Runtime;
 use std::thread::Threads;
 use tenths::{Point, distance, root};
-use test_starts::{Caller, behind, bytes_meant};
+use test_starts::{Rows, behind, bytes_meant};
 
 /// The instance and the routes to which calls refer, and the instance that was read before.
 #[derive(Drop)]
@@ -169,22 +169,19 @@ fn tell_call<R: AllocGlobal + Threads + Sync>(
     }
 }
 
-/// What later calls of a script refer to, beside what runs them.
-#[derive(Drop)]
-struct Library<'a, R> {
-    rt: &'a R,
-    state: State,
-}
-
-impl<R: AllocGlobal + Threads + Sync> Caller for Library<'_, R> {
-    fn call(&mut self, line: &str, told: &mut String) -> io::Result<()> {
-        let words: Vec<&str> = line.split_whitespace().collect(self.rt.alloc())?;
-        if tell_call(self.rt, told, &mut self.state, line, words.as_slice()).is_none() {
-            told.clear();
-            writeln!(told, "not understood")?;
-        }
-        Ok(())
+/// Makes the call of a line, and writes what comes of it, or that it isn't understood.
+fn call<R: AllocGlobal + Threads + Sync>(
+    rt: &R,
+    told: &mut String,
+    state: &mut State,
+    line: &str,
+) -> io::Result<()> {
+    let words: Vec<&str> = line.split_whitespace().collect(rt.alloc())?;
+    if tell_call(rt, told, state, line, words.as_slice()).is_none() {
+        told.clear();
+        writeln!(told, "not understood")?;
     }
+    Ok(())
 }
 
 /// Makes the calls of a script, and prints the rows that don't hold and how many do.
@@ -192,10 +189,16 @@ pub fn tell_rows<R: Runtime + AllocGlobal + Threads + Sync>(
     rt: &R,
     script: &str,
 ) -> io::Result<()> {
-    let state = State {
+    let mut state = State {
         instance: None,
         earlier: None,
         routes: Vec::new(rt.alloc()),
     };
-    test_starts::tell_rows(rt, "test_library", script, &mut Library { rt, state })
+    let mut rows = Rows::new(rt.alloc());
+    for line in script.lines() {
+        if rows.take(rt, line)? {
+            call(rt, &mut rows.told, &mut state, line)?;
+        }
+    }
+    rows.end(rt, "test_library")
 }

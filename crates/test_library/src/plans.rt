@@ -59,14 +59,13 @@ pub(crate) fn descend<R: AllocGlobal + Threads + Sync>(
     Vec::from_clones(rt.alloc(), searcher.plan().routes()).ok()
 }
 
-/// Tells the routes behind so many moves of a shake by random words, or else behind a turn by them.
-pub(crate) fn tell_drawn(
+/// The routes behind so many moves of a shake by random words, or else behind a turn by them.
+fn drawn(
     alloc: Global,
-    told: &mut String,
     plan: Feasible<'_>,
     count: Option<u32>,
     draws: &str,
-) -> Option<()> {
+) -> Option<Vec<Vec<u16>>> {
     let draws = list_of(alloc, draws)?;
     let words = draws.as_slice();
     let mut searcher = Searcher::new(alloc, plan, Script { words });
@@ -74,5 +73,17 @@ pub(crate) fn tell_drawn(
         Some(count) => searcher.shake(count).ok()?,
         None => searcher.turn().ok()?,
     }
-    writeln!(told, "routes{}", Routes(searcher.plan().routes())).ok()
+    Vec::from_clones(alloc, searcher.plan().routes()).ok()
+}
+
+/// Tells them.
+pub(crate) fn tell_drawn(
+    alloc: Global,
+    told: &mut String,
+    plan: Feasible<'_>,
+    count: Option<u32>,
+    draws: &str,
+) -> Option<()> {
+    let routes = drawn(alloc, plan, count, draws)?;
+    writeln!(told, "routes{}", Routes(routes.as_slice())).ok()
 }

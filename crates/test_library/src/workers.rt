@@ -39,9 +39,20 @@ fn second_nodes<'p, 'i>(
     Nodes::new(alloc, instance, None, own, deques, pass).ok()
 }
 
+/// What a worker did: its turns, its offers, its reprices and splits, and how often points were passed.
+#[derive(Clone, Copy)]
+struct Done {
+    turns: u32,
+    offers: u32,
+    raises: u32,
+    offered: usize,
+    looked: usize,
+    stolen: usize,
+    ended: usize,
+}
+
 /// Turns of a worker at a hub, one that raises the bound where it has nodes, else one that looks for plans without
-/// a first one. The words for cost and bound hold 1000 and this bound at first. Answers the turns made, the hub,
-/// and how often points were passed.
+/// a first one. The words for cost and bound hold 1000 and this bound at first.
 fn turns_over<'i>(
     instance: &'i Instance,
     hub: Fake<'i>,
@@ -49,7 +60,7 @@ fn turns_over<'i>(
     (number, bound): (u16, u64),
     settings: &Settings,
     alloc: Global,
-) -> Option<(u32, Fake<'i>, Counts)> {
+) -> Option<Done> {
     let gate = Counts::default();
     let Ok((ceiling, mut seats)) = Ceiling::new(alloc, 1, 1000, bound) else {
         return None;
@@ -67,12 +78,19 @@ fn turns_over<'i>(
         seat,
         enough: 0,
     };
-    let made = match nodes {
+    let turns = match nodes {
         Some(nodes) => bound_worker(&mut worker, settings, nodes),
         None => search_worker(&mut worker, None, settings.turns, generator(1, number)),
     };
-    let Worker { hub, .. } = worker;
-    Some((made, hub, gate))
+    Some(Done {
+        turns,
+        offers: worker.hub.offers,
+        raises: worker.hub.raises,
+        offered: gate.offered.load(Ordering::SeqCst),
+        looked: gate.looked.load(Ordering::SeqCst),
+        stolen: gate.stolen.load(Ordering::SeqCst),
+        ended: gate.ended.load(Ordering::SeqCst),
+    })
 }
 
 /// The fault of a name.
@@ -110,21 +128,10 @@ pub(crate) fn tell_bounder<'i>(
     let deques = deques.as_slice();
     let nodes = second_nodes(alloc, instance, hands, deques, passes, how == "stolen")?;
     let number = (number.parse().ok()?, 0);
-    let (made, hub, gate) = turns_over(instance, hub, Some(nodes), number, &settings, alloc)?;
-    write!(
-        told,
-        "turns {made} raises {} looked {}",
-        hub.raises,
-        gate.looked.load(Ordering::SeqCst)
-    )
-    .ok()?;
-    writeln!(
-        told,
-        " stolen {} ended {}",
-        gate.stolen.load(Ordering::SeqCst),
-        gate.ended.load(Ordering::SeqCst)
-    )
-    .ok()
+    let done = turns_over(instance, hub, Some(nodes), number, &settings, alloc)?;
+    let (turns, raises, looked) = (done.turns, done.raises, done.looked);
+    write!(told, "turns {turns} raises {raises} looked {looked}").ok()?;
+    writeln!(told, " stolen {} ended {}", done.stolen, done.ended).ok()
 }
 
 /// Tells what a worker does in five turns that looks for plans, where from this offer on each is refused so.
@@ -140,13 +147,12 @@ pub(crate) fn tell_searcher<'i>(
     let mut settings = Settings::default();
     settings.turns = 5;
     let number = (0, bound.parse().ok()?);
-    let (made, hub, gate) = turns_over(instance, hub, None, number, &settings, alloc)?;
-    write!(told, "turns {made} offers {} offered", hub.offers).ok()?;
+    let done = turns_over(instance, hub, None, number, &settings, alloc)?;
+    let (turns, offers, offered) = (done.turns, done.offers, done.offered);
     writeln!(
         told,
-        " {} ended {}",
-        gate.offered.load(Ordering::SeqCst),
-        gate.ended.load(Ordering::SeqCst)
+        "turns {turns} offers {offers} offered {offered} ended {}",
+        done.ended
     )
     .ok()
 }

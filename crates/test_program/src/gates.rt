@@ -2,6 +2,7 @@
 //! accepted by the checker.
 
 use checker::{Verdict, check};
+use std::alloc::Global;
 use std::rt::Runtime;
 use std::sync::Wait;
 use std::sync::atomic::{AtomicBool, AtomicUsize, Ordering};
@@ -106,6 +107,20 @@ impl<'a, R: Clock> Gate for Holds<'a, R> {
     }
 }
 
+/// The cost in tenths of a plan whose text the checker accepts with a certificate's.
+fn accepted_cost(
+    alloc: Global,
+    text: &[u8],
+    plan: &MemorySink,
+    certificate: &MemorySink,
+) -> Option<u64> {
+    let (plan, certificate) = (Some(plan.as_slice()), certificate.as_slice());
+    match check(alloc, text, certificate, plan, STATES).ok()? {
+        Verdict::Best { cost } | Verdict::Gap { cost, .. } => Some(cost.get()),
+        _ => None,
+    }
+}
+
 /// Solves while workers are held, each in so many turns, and has both texts checked: the cost in tenths, or none
 /// where they aren't accepted, and whether one looked in vain.
 fn cost_held<R: Runtime + AllocGlobal + Threads + Wait + Sync>(
@@ -124,14 +139,10 @@ fn cost_held<R: Runtime + AllocGlobal + Threads + Wait + Sync>(
     let (mut first, mut second) = (MemorySink::new(alloc), MemorySink::new(alloc));
     let answer = solve(rt, alloc, text, &settings, &gate, &mut first, &mut second);
     let was_alone = gate.was_alone.load(Ordering::SeqCst);
-    let (plan, certificate) = (Some(first.as_slice()), second.as_slice());
-    let cost = match check(alloc, text, certificate, plan, STATES) {
-        Ok(Verdict::Best { cost } | Verdict::Gap { cost, .. }) if answer.is_ok() => {
-            Some(cost.get())
-        }
-        _ => None,
-    };
-    (cost, was_alone)
+    match answer {
+        Ok(_answer) => (accepted_cost(alloc, text, &first, &second), was_alone),
+        Err(_fault) => (None, was_alone),
+    }
 }
 
 /// Solves the instance of a file while a worker is held at each of the points until all others have ended all their

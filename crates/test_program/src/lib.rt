@@ -40,7 +40,7 @@ use std::io;
 use std::rt::Runtime;
 use std::sync::Wait;
 use std::thread::Threads;
-use test_starts::Caller;
+use test_starts::Rows;
 
 /// Does what a call asks for, if it is understood.
 fn obey<R: Runtime + AllocGlobal + Threads + Wait + Sync>(
@@ -74,23 +74,27 @@ fn obey<R: Runtime + AllocGlobal + Threads + Wait + Sync>(
     }
 }
 
-/// What runs the calls of a script. Files are written into the folder that the program runs in.
-#[derive(Drop)]
-struct Program<'a, R> {
-    rt: &'a R,
+/// Makes the call of a line, and writes what comes of it.
+fn call<R: Runtime + AllocGlobal + Threads + Wait + Sync>(
+    rt: &R,
+    told: &mut String,
+    line: &str,
+) -> io::Result<()> {
+    let words: Vec<&str> = line.split_whitespace().collect(rt.alloc())?;
+    obey(rt, told, line, words.as_slice())
 }
 
-impl<R: Runtime + AllocGlobal + Threads + Wait + Sync> Caller for Program<'_, R> {
-    fn call(&mut self, line: &str, told: &mut String) -> io::Result<()> {
-        let words: Vec<&str> = line.split_whitespace().collect(self.rt.alloc())?;
-        obey(self.rt, told, line, words.as_slice())
-    }
-}
-
-/// Makes the calls of a script, and prints the rows that don't hold and how many do.
+/// Makes the calls of a script, and prints the rows that don't hold and how many do. Files are written into the
+/// folder that the program runs in.
 pub fn tell_rows<R: Runtime + AllocGlobal + Threads + Wait + Sync>(
     rt: &R,
     script: &str,
 ) -> io::Result<()> {
-    test_starts::tell_rows(rt, "test_program", script, &mut Program { rt })
+    let mut rows = Rows::new(rt.alloc());
+    for line in script.lines() {
+        if rows.take(rt, line)? {
+            call(rt, &mut rows.told, line)?;
+        }
+    }
+    rows.end(rt, "test_program")
 }

@@ -1,5 +1,6 @@
 -- The nodes of a tree, read in preorder.
-use Rattle.std.proofs.Common.{◌≡◌, refl, ℕ, zero, suc, ◌+◌, ◌<◌, ◌≤◌, min, Bool, true, false, List, [], ◌∷◌, ◌++◌, length, length-append, length-drop, drop, take, get_or, arith, ap, sym, ◌∙◌, append_assoc, append-nil}
+use Rattle.std.proofs.Common.{◌≡◌, refl, ℕ, zero, suc, ◌+◌, ◌<◌, ◌≤◌, min, Bool, true, false, List, [], ◌∷◌, ◌++◌}
+use Rattle.std.proofs.Common.{length, length-append, length-drop, drop, take, get_or, arith, ap, sym, ◌∙◌, append_assoc, append-nil}
 use Rattle.std.specs.Prelude.{ℤ}
 use Rattle.std.proofs.lemmas.List.{length-map}
 use Rattle.std.proofs.Math.Seq.{take-append_seam}
@@ -67,7 +68,8 @@ module _ (version : Version) (p : Problem) (k : ℕ) (g : Region) where
   pub leaf_shaped : (prices : List ℤ) (more : List Node) → Begins g (leaf_node prices ∷ more) → (length prices ≡ g.size) × AllByRecursion IsPrice prices
   leaf_shaped prices more h = let b = leaf_begun prices more h.tree h.rest h.is h.shaped in let e = b.0 in rw e at h.shaped
 
-  pub leaf_bounded : (prices : List ℤ) (more : List Node) (most b : ℕ) → most ≤ ceiling_of p + 1 → IsLesserValue version p g k prices most b → IsBoundOf version p k g (leaf_node prices ∷ more) most b more
+  pub leaf_bounded : (prices : List ℤ) (more : List Node) (most b : ℕ) → most ≤ ceiling_of p + 1 → IsLesserValue version p g k prices most b
+      → IsBoundOf version p k g (leaf_node prices ∷ more) most b more
   leaf_bounded prices more most b low h tree rest is shaped =
       let s = leaf_begun prices more tree rest is shaped in
       let e = s.0 in
@@ -106,7 +108,8 @@ module _ (version : Version) (p : Problem) (k : ℕ) (g : Region) where
   pub used_begins : (a : Arc) (more : List Node) → Begins g (split_node a ∷ more) → Begins (used_child g a) more
   used_begins a more h = let b = split_begun a more h.tree h.rest h.is h.shaped in record { tree = b.used; rest = preorder b.unused ++ h.rest; is = b.nodes; shaped = b.used_shaped }
 
-  pub unused_begins : (a : Arc) (more left : List Node) (most x : ℕ) → Begins g (split_node a ∷ more) → IsBoundOf version p k (used_child g a) more most x left → Begins (unused_child g a) left
+  pub unused_begins : (a : Arc) (more left : List Node) (most x : ℕ) → Begins g (split_node a ∷ more)
+      → IsBoundOf version p k (used_child g a) more most x left → Begins (unused_child g a) left
   unused_begins a more left most x h bound =
       let b = split_begun a more h.tree h.rest h.is h.shaped in
       record { tree = b.unused; rest = h.rest; is = (bound b.used (preorder b.unused ++ h.rest) b.nodes b.used_shaped).1; shaped = b.unused_shaped }
@@ -153,11 +156,13 @@ module _ (version : Version) (p : Problem) (k : ℕ) (ds : List Decision) (nodes
 
     module _ (most x next : ℕ) (first : IsBoundOf version p k (region_of (customer_count p) (decided true)) (drop (at + 1) (nodes_of nodes)) most x (drop next (nodes_of nodes))) where
       pub unused_at : Begins (region_of (customer_count p) (decided false)) (drop next (nodes_of nodes))
-      unused_at = rw unused_region (unused_begins version p k (region_of (customer_count p) ds) (from, to) (drop (at + 1) (nodes_of nodes)) (drop next (nodes_of nodes)) most x (rw here at begins) (rw used_region at first))
+      unused_at = rw unused_region (unused_begins version p k (region_of (customer_count p) ds) (from, to) (drop (at + 1) (nodes_of nodes))
+          (drop next (nodes_of nodes)) most x (rw here at begins) (rw used_region at first))
 
       pub split_at : (y last : ℕ) → IsBoundOf version p k (region_of (customer_count p) (decided false)) (drop next (nodes_of nodes)) x y (drop last (nodes_of nodes))
           → IsBoundOf version p k (region_of (customer_count p) ds) (drop at (nodes_of nodes)) most y (drop last (nodes_of nodes))
-      split_at y last second = rw here (split_bounded version p k (region_of (customer_count p) ds) (from, to) (drop (at + 1) (nodes_of nodes)) (drop next (nodes_of nodes)) (drop last (nodes_of nodes)) most x y
+      split_at y last second = rw here (split_bounded version p k (region_of (customer_count p) ds) (from, to) (drop (at + 1) (nodes_of nodes))
+          (drop next (nodes_of nodes)) (drop last (nodes_of nodes)) most x y
           (rw used_region at first) (rw unused_region at second))
 
 -- what was found and is left is that of the tree that comes first: no other tree has these nodes in front
@@ -210,7 +215,8 @@ module _ (x : Content) (text : HasText x) (p : Problem) (size : x.size ≡ custo
   pub whole_bound : (most b : ℕ) (left : List Node) → most ≡ ceiling_of p + 1 → IsBoundOf x.version p x.neighbours (root_region (customer_count p)) nodes most b left
       → (tree : Tree) → preorder tree ≡ x.nodes → IsTreeBound x.version p x.neighbours tree b
   whole_bound most b left most_is bound tree nodes_are =
-      let same : tree ≡ text.certificate.tree = (one_tree tree text.certificate.tree [] [] (append-nil (preorder tree) ∙ (nodes_are ∙ (listed_nodes ∙ sym (append-nil (preorder text.certificate.tree)))))).0 in
+      let same : tree ≡ text.certificate.tree = (one_tree tree text.certificate.tree [] [] (append-nil (preorder tree)
+      ∙ (nodes_are ∙ (listed_nodes ∙ sym (append-nil (preorder text.certificate.tree)))))).0 in
       let found = (bound tree [] (is ∙ (sym nodes_are ∙ sym (append-nil (preorder tree)))) (rw same shaped)).0 in
       let e : b ≡ found.0 = omega (arith, found.1.1, most_is, never_above x.version p x.neighbours (root_region (customer_count p)) tree found.0 found.1.0) in
       rw e found.1.0

@@ -5,7 +5,7 @@ use Rattle.std.proofs.lemmas.Int.{ints}
 use Rattle.std.proofs.lemmas.Bool.{cases_lt, cases_eq}
 use Rattle.std.proofs.lemmas.List.{get_or_append_left, get_or_push, get_or-set_same, get_or-set_other}
 use Rattle.tree_bound.specs.declared.label.Label.{Label}
-use Rattle.tree_bound.specs.Labels.{blank, label_in, Dominates, IsDominated, IsThinned, IsPut, IsKept}
+use Rattle.tree_bound.specs.Labels.{blank, label_in, Dominates, IsDominated, IsThinned, IsPut, IsEntered}
 
 pub dominates_itself : (x : Label) → Dominates x x
 dominates_itself x = record { customer = refl; memory = λ i t. t; time = omega arith; cost = omega (arith, ints) }
@@ -58,7 +58,7 @@ put_within xs index x within hole = record {
   ];
 }
 
-pub kept_of : (xs zs ys : List Label) (x : Label) → x.active ≡ true → IsThinned xs zs x → IsPut zs ys x → IsKept xs ys x
+pub kept_of : (xs zs ys : List Label) (x : Label) → x.active ≡ true → IsThinned xs zs x → IsPut zs ys x → IsEntered xs ys x
 kept_of xs zs ys x active thinned put = record { new = new; old = old; others = others }
   where
     at_place : (y : Label) → Dominates x y → IsDominated ys y
@@ -84,5 +84,5 @@ kept_of xs zs ys x active thinned put = record { new = new; old = old; others = 
       ])
     ]
 
-pub first_kept : (x : Label) → x.active ≡ true → IsKept [] (x ∷ []) x
+pub first_kept : (x : Label) → x.active ≡ true → IsEntered [] (x ∷ []) x
 first_kept x active = kept_of [] [] (x ∷ []) x active (thinned_none [] x) (put_behind [] x)

@@ -5,7 +5,8 @@ use Rattle.std.proofs.lemmas.Int.{ints}
 use Rattle.solomon_reader.specs.Relaxed.{IsRelaxed, reduced_cost}
 use Rattle.solomon_reader.specs.States.{Pricing, State, step, CanStep, CanEnd, Completes, value_with, IsAsGood, IsAtMost}
 use Rattle.solomon_reader.proofs.Completions.{completes_relaxed, relaxed_completes, value_is, at_most_more}
-use Rattle.tree_bound.specs.Cover.{Witness, IsCovered, CoversAfter, CoversAll, IsFound, IsDear, IsLeastBelow}
+use Rattle.solomon_reader.specs.Covering.{Witness, IsCovered, CoversAfter, IsDear}
+use Rattle.tree_bound.specs.Cover.{CoversStart, IsFound, IsLeastBelow}
 use Rattle.solomon_reader.proofs.Goodness.{completes_too, value_no_greater}
 
 module _ (q : Pricing) where
@@ -111,13 +112,13 @@ module _ (q : Pricing) where
 
   -- nothing waits any more
   module _ (Waits : State → Type 0) (none : (a : State) → ¬ Waits a) where
-    at_most_each : (b : Option ℤ) → CoversAll q b Waits → (r : List ℕ) → IsRelaxed q.problem q.region q.neighbours r → IsAtMost b (reduced_cost q.problem q.prices r)
+    at_most_each : (b : Option ℤ) → CoversStart q b Waits → (r : List ℕ) → IsRelaxed q.problem q.region q.neighbours r → IsAtMost b (reduced_cost q.problem q.prices r)
     at_most_each b covers r relaxed = elim (covers r (completes_relaxed q r relaxed)) [
       | inl h ↦ rw (← value_is q r) h
       | inr w ↦ absurd (none w.state w.waits)
     ]
 
-    pub least_at_end : (limit b : Option ℤ) → CoversAll q b Waits → IsFound q limit b → IsLeastBelow q limit b
+    pub least_at_end : (limit b : Option ℤ) → CoversStart q b Waits → IsFound q limit b → IsLeastBelow q limit b
     least_at_end limit b covers found = record { low = at_most_each b covers; found = by found }
       where
         by : IsFound q limit b → (b ≡ limit) ⊎ ((r : List ℕ) × (IsRelaxed q.problem q.region q.neighbours r × (b ≡ Some (reduced_cost q.problem q.prices r))))

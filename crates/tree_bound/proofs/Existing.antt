@@ -41,7 +41,8 @@ module _ (q : Pricing) where
       order : (x z : ℤ) → (x ≤ℤ z) ⊎ (z ≤ℤ x)
       order x z = by_lt_z {P = (x ≤ℤ z) ⊎ (z ≤ℤ x)} x z (λ h. inl (omega (arith, ints, h))) (λ h. inr h)
 
-  module _ (decide : (i j : ℕ) → i < length q.problem.rows → j < length q.problem.rows → Decides (IsAllowed q.region (i, j))) (carried : (i : ℕ) → IsCustomer q.problem i → 1 ≤ demand q.problem i) where
+  module _ (decide : (i j : ℕ) → i < length q.problem.rows → j < length q.problem.rows → Decides (IsAllowed q.region (i, j))) (carried : (i : ℕ)
+      → IsCustomer q.problem i → 1 ≤ demand q.problem i) where
     can_step : (a : State) (j : ℕ) → a.last < length q.problem.rows → IsCustomer q.problem j → Decides (CanStep q a j)
     can_step a j last customer = elim (decide a.last j last (omega (arith, customer.0, customer.1))) [
       | inr closed ↦ inr (λ can. closed can.allowed)

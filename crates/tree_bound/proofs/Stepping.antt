@@ -12,7 +12,7 @@ use Rattle.solomon_reader.specs.Memories.{place_of}
 use Rattle.tree_bound.specs.Labels.{label_in, labels_at, state_of, Dominates, IsDominated, IsAdded, IsLabel, IsTable, IsMet, IsMoved}
 use Rattle.leaf_arcs.specs.Arcs.{arc_in}
 use Rattle.tree_bound.specs.Steps.{CanExtend, IsExtension, IsCared, TakesStep, TakesSteps}
-use Rattle.tree_bound.specs.Cover.{IsDear}
+use Rattle.solomon_reader.specs.Covering.{IsDear}
 use Rattle.solomon_reader.proofs.Goodness.{good_itself, good_same, good_through, reaches_same}
 
 pub dominating_good : (q : Pricing) (d r : ℕ) → d ≤ r → (a b : Label) → Dominates a b → IsAsGood (state_of q d a) (state_of q r b)
@@ -52,7 +52,8 @@ module _ (q : Pricing) (b : Option ℤ) where
   step_dear bs d x j table dear = record { moved = moved_none q bs (d + 1); table = table; met = λ can. inr dear }
 
   -- the label after a step is one
-  pub label_extended : (d : ℕ) (x : Label) (load j : ℕ) (y : Label) → IsLabel q d x → IsCustomer q.problem j → IsAllowed q.region (x.customer, j) → CanExtend q d x j → IsExtension q d x load j y → IsLabel q load y
+  pub label_extended : (d : ℕ) (x : Label) (load j : ℕ) (y : Label) → IsLabel q d x → IsCustomer q.problem j → IsAllowed q.region (x.customer, j)
+      → CanExtend q d x j → IsExtension q d x load j y → IsLabel q load y
   label_extended d x load j y pair customer allowed can extension = record {
     bounded = extension.bounded;
     reached = (pair.reached.0 ++ (j ∷ []), reaches_same q _ _ _ extension.same (reaches_more q pair.reached.0 (state_of q d x) j pair.reached.1 (can_step d x j customer allowed can)));

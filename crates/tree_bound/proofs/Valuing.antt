@@ -1,5 +1,6 @@
 -- The value of a leaf from its parts.
-use Rattle.std.proofs.Common.{◌≡◌, refl, ℕ, zero, suc, ◌+◌, ◌*◌, ◌/◌, ◌≤◌, min, List, [], ◌∷◌, length, get_or, subst, arith, ap, sym, ◌∙◌, ◌⊎◌, inl, inr, Option, Some, None}
+use Rattle.std.proofs.Common.{◌≡◌, refl, ℕ, zero, suc, ◌+◌, ◌*◌, ◌/◌, ◌≤◌, min, List, [], ◌∷◌}
+use Rattle.std.proofs.Common.{length, get_or, subst, arith, ap, sym, ◌∙◌, ◌⊎◌, inl, inr, Option, Some, None}
 use Rattle.std.specs.Prelude.{ℤ, pos, negsuc, ◌+ℤ◌, ◌-ℤ◌, ◌*ℤ◌, ◌≤ℤ◌, ◌<ℤ◌, neg_ℤ, nat_abs, IfSome}
 use Rattle.std.specs.List.{AllByRecursion}
 use Rattle.std.specs.Int.{int_min, int_max}
@@ -94,7 +95,8 @@ module _ (version : Version) (q : Pricing) where
       let more : routes_counted version q.problem * up l ≤ routes_counted version q.problem * up m = mul-le-mul_left (routes_counted version q.problem) (up_grows l m le) in
       let at_l = grains_are q.problem.fleet (routes_counted version q.problem) (up (int_sum q.prices)) (down (int_sum q.prices)) (int_sum q.prices) l (sides (int_sum q.prices)) in
       let at_m = grains_are q.problem.fleet (routes_counted version q.problem) (up (int_sum q.prices)) (down (int_sum q.prices)) (int_sum q.prices) m (sides (int_sum q.prices)) in
-      subst (λ (z : ℤ). z ≤ℤ grains_of version q.problem q.prices m) at_l (subst (λ (z : ℤ). (pos (up (int_sum q.prices) + routes_counted version q.problem * up l) -ℤ pos (down (int_sum q.prices) + q.problem.fleet * down l)) ≤ℤ z) at_m
+      subst (λ (z : ℤ). z ≤ℤ grains_of version q.problem q.prices m) at_l
+      (subst (λ (z : ℤ). (pos (up (int_sum q.prices) + routes_counted version q.problem * up l) -ℤ pos (down (int_sum q.prices) + q.problem.fleet * down l)) ≤ℤ z) at_m
       (omega (arith, ints, less, more)))
 
   value_grows : (l m : ℤ) (v w : ℕ) → l ≤ℤ m → IsRoundedUp (grains_of version q.problem q.prices l) v → IsRoundedUp (grains_of version q.problem q.prices m) w → v ≤ w
@@ -104,7 +106,8 @@ module _ (version : Version) (q : Pricing) where
   same_value l v w first second = omega (arith, first.least w second.covers, second.least v first.covers)
 
   -- where no routes are counted on, no leaf is worth more than one without relaxed routes
-  routeless_most : (l : ℤ) (v routeless : ℕ) → routes_counted version q.problem ≡ 0 → IsRoundedUp (grains_of version q.problem q.prices l) v → IsRoundedUp (grains_of version q.problem q.prices (pos 0)) routeless → v ≤ routeless
+  routeless_most : (l : ℤ) (v routeless : ℕ) → routes_counted version q.problem ≡ 0 → IsRoundedUp (grains_of version q.problem q.prices l) v
+      → IsRoundedUp (grains_of version q.problem q.prices (pos 0)) routeless → v ≤ routeless
   routeless_most (negsuc n) v routeless none is routeless_is = value_grows (negsuc n) (pos 0) v routeless (omega (arith, ints)) is routeless_is
   routeless_most (pos n) v routeless none is routeless_is = omega (arith, same_value (pos 0) v routeless (subst (λ (z : ℤ). IsRoundedUp z v) same is) routeless_is)
     where
@@ -148,7 +151,9 @@ module _ (version : Version) (q : Pricing) where
     lowered_same known most kept v route (inr low) is = omega (arith, low.lesser, known_high known v low.value route low.why is low.rounded)
 
     -- where it is as low as a limit, the leaf is worth the number or more
-    limit_high : (t : ℤ) (known : Option ℤ) (kept v : ℕ) → ((r : List ℕ) → IsRelaxed q.problem q.region q.neighbours r → t ≤ℤ reduced_cost q.problem q.prices r) → IfSome known (IsRouteCost q) → IsWorth version q.problem q.prices t kept
+    limit_high : (t : ℤ) (known : Option ℤ) (kept v : ℕ)
+        → ((r : List ℕ) → IsRelaxed q.problem q.region q.neighbours r → t ≤ℤ reduced_cost q.problem q.prices r) → IfSome known (IsRouteCost q)
+        → IsWorth version q.problem q.prices t kept
         → (known ≡ None → IsWorth version q.problem q.prices (pos 0) kept) → IsRoundedUp (grains_of version q.problem q.prices (or_zero b)) v → kept ≤ v
     limit_high t known kept v low route worth routeless is = elim is_cost [
       | inr h ↦ omega (arith, worth.high, value_grows t (or_zero b) worth.value v (omega (arith, ints, low h.0 h.1.0, h.1.1)) worth.rounded is)
@@ -177,10 +182,19 @@ module _ (version : Version) (q : Pricing) where
         at_route : (r : List ℕ) → IsRelaxed q.problem q.region q.neighbours r → found ≡ Some (reduced_cost q.problem q.prices r) → min kept w ≡ min kept v
         at_route r relaxed e = elim is_cost [
           | inl none ↦ absurd (never_some (reduced_cost q.problem q.prices r) none (r, (relaxed, refl)))
-          | inr h ↦ equal (omega (arith, ints, ap or_zero e, at_cost (reduced_cost q.problem q.prices r) (r, (relaxed, refl)), at_most found (reduced_cost q.problem q.prices r) _ e (below.low h.0 h.1.0), h.1.1))
+          | inr h ↦ equal (omega (
+            arith,
+            ints,
+            ap or_zero e,
+            at_cost (reduced_cost q.problem q.prices r) (r, (relaxed, refl)),
+            at_most found
+                (reduced_cost q.problem q.prices r) _ e (below.low h.0 h.1.0),
+            h.1.1,
+          ))
         ]
 
-        by : (limit : Option ℤ) → found ≡ limit → IfSome limit (λ t. IsWorth version q.problem q.prices t kept) → IfSome limit (λ t. known ≡ None → IsWorth version q.problem q.prices (pos 0) kept) → min kept w ≡ min kept v
+        by : (limit : Option ℤ) → found ≡ limit → IfSome limit (λ t. IsWorth version q.problem q.prices t kept)
+            → IfSome limit (λ t. known ≡ None → IsWorth version q.problem q.prices (pos 0) kept) → min kept w ≡ min kept v
         by None same worth routeless = elim is_cost [
           | inl none ↦ equal (ap or_zero same ∙ sym (ap or_zero none))
           | inr h ↦ absurd (let low = below.low h.0 h.1.0 in rw same at low)
@@ -190,15 +204,18 @@ module _ (version : Version) (q : Pricing) where
             let there = rw same at at in
             omega (arith, high, worth.high, same_value t worth.value w worth.rounded there)
 
-    module _ (most kept : ℕ) (known : Option ℤ) (count : length q.prices ≡ customer_count q.problem) (route : IfSome known (IsRouteCost q)) (low : (kept ≡ most) ⊎ IsLowered version q.problem q.prices known most kept) where
-      pub is_lesser : (x : ℕ) → ((v : ℕ) → IsRoundedUp (grains_of version q.problem q.prices (or_zero b)) v → x ≡ min kept v) → IsLesserValue version q.problem q.region q.neighbours q.prices most x
+    module _ (most kept : ℕ) (known : Option ℤ) (count : length q.prices ≡ customer_count q.problem) (route : IfSome known (IsRouteCost q))
+        (low : (kept ≡ most) ⊎ IsLowered version q.problem q.prices known most kept) where
+      pub is_lesser : (x : ℕ) → ((v : ℕ) → IsRoundedUp (grains_of version q.problem q.prices (or_zero b)) v → x ≡ min kept v)
+          → IsLesserValue version q.problem q.region q.neighbours q.prices most x
       is_lesser x is = (let v = rounded (grains_of version q.problem q.prices (or_zero b)) in record {
         value = v.0;
         is_value = record { priced = count; least = or_zero b; is_least = exact q None b least (λ e. refl); rounded = v.1 };
         lesser = is v.0 v.1 ∙ lowered_same known most kept v.0 route low v.1;
       })
 
-      pub lesser_found : (limit found : Option ℤ) (w : ℕ) → IsLeastBelow q limit found → IfSome limit (λ t. IsWorth version q.problem q.prices t kept) → IfSome limit (λ t. known ≡ None → IsWorth version q.problem q.prices (pos 0) kept)
+      pub lesser_found : (limit found : Option ℤ) (w : ℕ) → IsLeastBelow q limit found → IfSome limit (λ t. IsWorth version q.problem q.prices t kept)
+          → IfSome limit (λ t. known ≡ None → IsWorth version q.problem q.prices (pos 0) kept)
           → IsRoundedUp (grains_of version q.problem q.prices (or_zero found)) w → IsLesserValue version q.problem q.region q.neighbours q.prices most (min kept w)
       lesser_found limit found w below worth routeless at = is_lesser (min kept w) (λ v is. found_same limit found known kept v w below route worth routeless is at)
 

@@ -1,5 +1,6 @@
 -- Loads are worked, the lowest first.
-use Rattle.std.proofs.Common.{◌≡◌, refl, ℕ, ◌+◌, ◌*◌, ◌<◌, ◌≤◌, true, false, List, [], ◌++◌, length, subst, arith, ap, sym, ◌∙◌, ◌⊎◌, inl, inr, Option, Some, None, replicate, ◌∷◌}
+use Rattle.std.proofs.Common.{◌≡◌, refl, ℕ, ◌+◌, ◌*◌, ◌<◌, ◌≤◌, true, false, List, [], ◌++◌, length}
+use Rattle.std.proofs.Common.{subst, arith, ap, sym, ◌∙◌, ◌⊎◌, inl, inr, Option, Some, None, replicate, ◌∷◌}
 use Rattle.std.specs.Prelude.{ℤ, pos, slice_index_or, IfSome}
 use Rattle.std.specs.List.{AllByRecursion}
 use Rattle.std.proofs.Math.ListN.{set, length-set}
@@ -16,9 +17,10 @@ use Rattle.solomon_reader.proofs.BoundedRows.{customer_row}
 use Rattle.solomon_reader.proofs.Completions.{reaches_none, relaxed_completes, value_is}
 use Rattle.leaf_arcs.specs.declared.arcs.AllowedArc.{AllowedArc}
 use Rattle.tree_bound.specs.declared.label.Label.{Label}
-use Rattle.tree_bound.specs.Cover.{IsFound, IsDear, IsRouteCost, IsLeastBelow}
+use Rattle.solomon_reader.specs.Covering.{IsDear}
+use Rattle.tree_bound.specs.Cover.{IsFound, IsRouteCost, IsLeastBelow}
 use Rattle.solomon_reader.specs.Memories.{place_of}
-use Rattle.tree_bound.specs.Labels.{label_in, labels_at, state_of, IsBounded, IsLabel, IsTable, AreLabels, IsDominated, IsKept, Waits, IsMet}
+use Rattle.tree_bound.specs.Labels.{label_in, labels_at, state_of, IsBounded, IsLabel, IsTable, AreLabels, IsDominated, IsEntered, Waits, IsMet}
 use Rattle.leaf_arcs.specs.Arcs.{IsPricing, AreAllowedArcs, IsInTime, arc_in}
 use Rattle.tree_bound.specs.Steps.{IsCared, TakesSteps, ClosesRoute, IsDone, IsSettled, AreSettled, Remains, IsPassed, IsWorked, IsSwept, route_value}
 use Rattle.solomon_reader.proofs.Goodness.{good_itself, good_same, reaches_same, completes_too, value_no_greater}
@@ -36,7 +38,8 @@ module _ (q : Pricing) where
     closes = closes;
     moved = steps.moved;
     table = steps.table;
-    met = λ j can. (let timely : IsInTime q.problem x.customer j = omega (arith, bounded.begun, can.due) in let m = leads_index hs j (arcs.all j can.customer can.allowed timely) in at m.0 j m.1.0 m.1.1 can);
+    met = λ j can. (let timely : IsInTime q.problem x.customer j = omega (arith, bounded.begun, can.due) in
+        let m = leads_index hs j (arcs.all j can.customer can.allowed timely) in at m.0 j m.1.0 m.1.1 can);
   }
     where
       at : (m j : ℕ) → m < length hs → (arc_in hs m).to ≡ j → CanStep q (state_of q d x) j → IsCared q c cs (d + 1) (step q (state_of q d x) j)
@@ -160,7 +163,7 @@ module _ (q : Pricing) (limit : Option ℤ) where
     worked_passed (inr (inr dear)) = worked_dear dear
 
     pub worked_more : (cs : List (List Label)) (es : List Label) (c : Option ℤ) → IsLabel q d (label_in xs i) → IsDone q bs cs d (label_in xs i) b c
-        → IsKept ds es (label_in xs i) → IsWorked q limit cs es d xs (i + 1) c
+        → IsEntered ds es (label_in xs i) → IsWorked q limit cs es d xs (i + 1) c
     worked_more cs es c pair done kept = record {
       table = done.table;
       covers = covers_worked q b c (Remains q bs d xs i) (Remains q cs d xs (i + 1)) x done.closes.lower done.closes.counted spread (remains_behind cs done.moved) _ 1 so_far.covers;
@@ -223,7 +226,8 @@ module _ (q : Pricing) (limit : Option ℤ) where
               record { load = w.load; late = omega (arith, w.late, apart); index = w.index; within = rw e w.within; active = rw e w.active; is = rw e w.is })
         ]
 
-  pub swept_more : (bs : List (List Label)) (ds : List Label) (d : ℕ) (xs : List Label) (i : ℕ) (b : Option ℤ) → length xs ≤ i → IsWorked q limit bs ds d xs i b → IsSwept q limit bs ds (d + 1) b
+  pub swept_more : (bs : List (List Label)) (ds : List Label) (d : ℕ) (xs : List Label) (i : ℕ) (b : Option ℤ) → length xs ≤ i
+      → IsWorked q limit bs ds d xs i b → IsSwept q limit bs ds (d + 1) b
   swept_more bs ds d xs i b all h = record {
     table = h.table;
     covers = covers_moved q b b (Remains q bs d xs i) (Waits q bs (d + 1)) (λ y h. h) (λ a h. (a, (on a h, good_itself a))) _ 1 h.covers;

@@ -45,7 +45,7 @@ pub record IsPut (xs ys : List Label) (x : Label) : Type 0 where
   pub others : (m : ℕ) → m < length ys → (label_in ys m ≡ x) ⊎ ((m < length xs) × (label_in ys m ≡ label_in xs m))
 
 -- x stands or is dominated, and so with all that stood before
-pub record IsKept (xs ys : List Label) (x : Label) : Type 0 where
+pub record IsEntered (xs ys : List Label) (x : Label) : Type 0 where
   pub new : IsDominated ys x
   pub old : (m : ℕ) → m < length xs → (label_in xs m).active ≡ true → IsDominated ys (label_in xs m)
   pub others : (m : ℕ) → m < length ys → (label_in ys m).active ≡ true → (label_in ys m ≡ x) ⊎ ((m < length xs) × (label_in ys m ≡ label_in xs m))
@@ -58,7 +58,7 @@ labels_at bs d = slice_index_or bs d []
 pub record IsAdded (bs cs : List (List Label)) (load : ℕ) (x : Label) : Type 0 where
   pub same : length cs ≡ length bs
   pub others : (d : ℕ) → d ≢ load → labels_at cs d ≡ labels_at bs d
-  pub here : IsKept (labels_at bs load) (labels_at cs load) x
+  pub here : IsEntered (labels_at bs load) (labels_at cs load) x
 
 -- the numbers of a label are small; the reduced cost by its load, since each customer has a demand
 pub record IsBounded (p : Problem) (d : ℕ) (x : Label) : Type 0 where

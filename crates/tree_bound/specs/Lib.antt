@@ -4,3 +4,4 @@ pub mod Steps
 pub mod Leaves
 pub mod Grains
 pub mod Nodes
+pub mod Settings

@@ -7,7 +7,8 @@ use Rattle.leaf_arcs.specs.declared.arcs.AllowedArc.{AllowedArc}
 use Rattle.leaf_arcs.specs.Arcs.{arc_in}
 use Rattle.solomon_reader.specs.Memories.{recalls}
 use Rattle.tree_bound.specs.declared.label.Label.{Label}
-use Rattle.tree_bound.specs.Cover.{IsFound, CoversAfter, CoversAll, IsDear}
+use Rattle.solomon_reader.specs.Covering.{CoversAfter, IsDear}
+use Rattle.tree_bound.specs.Cover.{IsFound, CoversStart}
 use Rattle.tree_bound.specs.Labels.{label_in, state_of, IsBounded, IsTable, IsMoved, IsMet, IsDominated, Waits, StandsFrom}
 
 -- load, window and memory leave the step from x to j
@@ -64,14 +65,14 @@ Remains q bs d xs i a = Waits q bs (d + 1) a ⊎ StandsFrom q xs d i a
 -- the labels of the list below i were worked or passed over, and all at loads below d
 pub record IsWorked (q : Pricing) (limit : Option ℤ) (bs : List (List Label)) (ds : List Label) (d : ℕ) (xs : List Label) (i : ℕ) (b : Option ℤ) : Type 0 where
   pub table : IsTable q bs (d + 1)
-  pub covers : CoversAll q b (Remains q bs d xs i)
+  pub covers : CoversStart q b (Remains q bs d xs i)
   pub settled : AreSettled q b (Remains q bs d xs i) d ds
   pub found : IsFound q limit b
 
 -- all loads below d were worked
 pub record IsSwept (q : Pricing) (limit : Option ℤ) (bs : List (List Label)) (ds : List Label) (d : ℕ) (b : Option ℤ) : Type 0 where
   pub table : IsTable q bs d
-  pub covers : CoversAll q b (Waits q bs d)
+  pub covers : CoversStart q b (Waits q bs d)
   pub settled : AreSettled q b (Waits q bs d) d ds
   pub found : IsFound q limit b
 

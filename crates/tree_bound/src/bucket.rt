@@ -1,7 +1,7 @@
 //! The labels of one load.
 
 ghost use Rattle.std.specs.Prelude.{◌≡◌, ◌<◌, ◌≤◌, length, [], true, IfOk, IsTrue, IsFalse};
-ghost use Rattle.tree_bound.specs.Labels.{IsDominated, IsThinned, IsPut, IsKept};
+ghost use Rattle.tree_bound.specs.Labels.{IsDominated, IsThinned, IsPut, IsEntered};
 
 use crate::label::Label;
 use leaf_arcs::is_subset;
@@ -232,7 +232,7 @@ impl Bucket {
     /// Puts a label in, drops those that it dominates, and says how many.
     pub(crate) fn keep(&mut self, alloc: Global, label: &Label) -> Result<usize, AllocError>
         requires active { label.now.active ≡ true }
-        ensures { IfOk result (λ _. IsKept self.old self.new label.now) }
+        ensures { IfOk result (λ _. IsEntered self.old self.new label.now) }
     {
         let place = place_of(self.groups.as_slice(), label.customer);
         let dropped = self.drop_dominated(place, label);

@@ -8,7 +8,8 @@ ghost use Rattle.solomon_reader.specs.States.{begins, step, IsAtMost};
 ghost use Rattle.leaf_arcs.specs.Arcs.{IsAllowedArc, AreAllowedArcs, IsArcRow};
 ghost use Rattle.leaf_arcs.specs.Floors.{IsFloor};
 ghost use Rattle.leaf_arcs.specs.Leaves.{problem_of, region_in, pricing_of};
-ghost use Rattle.tree_bound.specs.Cover.{Adds, IsDear};
+ghost use Rattle.solomon_reader.specs.Covering.{IsDear};
+ghost use Rattle.tree_bound.specs.Cover.{Adds};
 ghost use Rattle.tree_bound.specs.Labels.{state_of, IsBounded, IsLabel, IsTable};
 ghost use Rattle.tree_bound.specs.Steps.{route_value, CanExtend, IsExtension, TakesStep, TakesSteps, ClosesRoute};
 

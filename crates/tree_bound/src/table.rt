@@ -1,7 +1,7 @@
 //! The table: a bucket of labels for each load.
 
 ghost use Rattle.std.specs.Prelude.{◌≡◌, ◌+◌, ◌<◌, length, [], replicate, true, IfOk};
-ghost use Rattle.tree_bound.specs.Labels.{IsKept, IsAdded};
+ghost use Rattle.tree_bound.specs.Labels.{IsEntered, IsAdded};
 
 use crate::bucket::Bucket;
 use crate::fault::BoundFault;
@@ -64,7 +64,7 @@ pub(crate) fn settle(
 ) -> Result<(), BoundFault>
     requires active { label.now.active ≡ true }
     ensures table { table.new.buckets.items ≡ table.old.buckets.items }
-    ensures kept { IfOk result (λ _. IsKept settled.old settled.new label.now) }
+    ensures kept { IfOk result (λ _. IsEntered settled.old settled.new label.now) }
 {
     let dropped = settled.keep(table.alloc, label)?;
     table.standing = table.standing.saturating_sub(dropped);

@@ -1,5 +1,6 @@
 //! The bound of a tree.
 
+ghost use Rattle.tree_bound.specs.Settings.{neighbours_in, problem_in};
 ghost use Rattle.std.specs.Prelude.{◌≡◌, ◌+◌, ◌<◌, ◌≤◌, length, drop, min, IfOk};
 ghost use Rattle.std.specs.List.{AllByRecursion};
 ghost use Rattle.solomon_reader.specs.Problem.{customer_count};
@@ -41,11 +42,15 @@ fn bound_at(
 ) -> Result<Subtree, BoundFault>
     requires most { most ≤ setting.now.most }
     requires within { at < length nodes.now }
-    requires begins { Begins (region_of (customer_count setting.now.network.neighbours.instance.now) path.old.items) (drop at (nodes_of nodes.now)) }
+    requires begins { Begins (region_of (customer_count (problem_in setting.now)) path.old.items)
+        (drop at (nodes_of nodes.now)) }
     ensures path { IfOk result (λ _. path.new.items ≡ path.old.items) }
     ensures onward { IfOk result (λ t. at < t.next) }
     ensures less { IfOk result (λ t. t.bound ≤ most) }
-    ensures bound { IfOk result (λ t. IsBoundOf (version_of setting.now.version) setting.now.network.neighbours.instance.now setting.now.network.neighbours.k (region_of (customer_count setting.now.network.neighbours.instance.now) path.old.items) (drop at (nodes_of nodes.now)) most t.bound (drop t.next (nodes_of nodes.now))) }
+    ensures bound { IfOk result (λ t. IsBoundOf
+        (version_of setting.now.version) (problem_in setting.now) (neighbours_in setting.now)
+        (region_of (customer_count (problem_in setting.now)) path.old.items)
+        (drop at (nodes_of nodes.now)) most t.bound (drop t.next (nodes_of nodes.now))) }
 {
     match &nodes[at] {
         CertNode::Leaf(prices) => {
@@ -106,7 +111,8 @@ pub fn bound(
     state_limit: usize,
 ) -> Result<Tenths, BoundFault>
     requires size { cert.now.size ≡ customer_count instance.now }
-    ensures bound { IfOk result (λ b. (tree : Tree) → preorder tree ≡ cert.now.nodes → IsTreeBound cert.now.version instance.now cert.now.neighbours tree b) }
+    ensures bound { IfOk result (λ b. (tree : Tree) → preorder tree ≡ cert.now.nodes
+        → IsTreeBound cert.now.version instance.now cert.now.neighbours tree b) }
 {
     let setting = Setting::new(alloc, instance, cert, state_limit)?;
     let nodes = cert.parts().nodes.as_slice();

@@ -1,5 +1,6 @@
 //! The value of a leaf.
 
+ghost use Rattle.tree_bound.specs.Settings.{neighbours_in, problem_in};
 ghost use Rattle.std.specs.Prelude.{◌≡◌, ◌+◌, ◌*◌, ◌<◌, ◌≤◌, ◌^◌, ◌⊎◌, length, None, IfOk, IfSome, pos, ◌-ℤ◌};
 ghost use Rattle.std.specs.List.{AllByRecursion};
 ghost use Rattle.solomon_reader.specs.Problem.{customer_count};
@@ -74,7 +75,8 @@ fn times(count: u32, grains: u64) -> u128
 
 /// The value in tenths, rounded up; 0 where the grains are below 0.
 fn round_up(sum: Difference, fleet: u16, routes: u32, least: Difference) -> u128
-    ensures { IsRoundedUp (pos (sum.above + routes * least.above) -ℤ pos (sum.below + fleet * least.below)) result }
+    ensures { IsRoundedUp (pos (sum.above + routes * least.above) -ℤ pos
+        (sum.below + fleet * least.below)) result }
 {
     let above = u128::from(sum.above) + times(routes, least.above);
     let below = u128::from(sum.below) + times(u32::from(fleet), least.below);
@@ -83,9 +85,10 @@ fn round_up(sum: Difference, fleet: u16, routes: u32, least: Difference) -> u128
 
 /// The value of a leaf with these prices, in tenths, if this is its least reduced cost; `None` stands for 0.
 fn value_at(setting: &Setting<'_>, prices: &[i64], least: Option<i64>) -> u128
-    requires count { length prices.now ≡ customer_count setting.now.network.neighbours.instance.now }
+    requires count { length prices.now ≡ customer_count (problem_in setting.now) }
     requires priced { AllByRecursion IsPrice prices.now }
-    ensures { IsRoundedUp (grains_of (version_of setting.now.version) setting.now.network.neighbours.instance.now prices.now (or_zero least)) result }
+    ensures { IsRoundedUp (grains_of (version_of setting.now.version)
+        (problem_in setting.now) prices.now (or_zero least)) result }
 {
     let instance = setting.network.neighbours.instance;
     instance.law_of_limits();
@@ -95,7 +98,7 @@ fn value_at(setting: &Setting<'_>, prices: &[i64], least: Option<i64>) -> u128
 
 /// About the least reduced cost with which a leaf's value is so many tenths: nothing is said of it.
 fn guess_limit(setting: &Setting<'_>, prices: &[i64], most: u32) -> i64
-    requires count { length prices.now ≡ customer_count setting.now.network.neighbours.instance.now }
+    requires count { length prices.now ≡ customer_count (problem_in setting.now) }
     requires priced { AllByRecursion IsPrice prices.now }
 {
     let instance = setting.network.neighbours.instance;
@@ -114,10 +117,13 @@ fn guess_limit(setting: &Setting<'_>, prices: &[i64], most: u32) -> i64
 /// A reduced cost with which a leaf's value is so many tenths or more; `None` where no relaxed route is known
 /// and the value without any is less.
 fn limit_of(setting: &Setting<'_>, prices: &[i64], most: u32, known: Option<i64>) -> Option<i64>
-    requires count { length prices.now ≡ customer_count setting.now.network.neighbours.instance.now }
+    requires count { length prices.now ≡ customer_count (problem_in setting.now) }
     requires priced { AllByRecursion IsPrice prices.now }
-    ensures worth { IfSome result (λ t. IsWorth (version_of setting.now.version) setting.now.network.neighbours.instance.now prices.now t most) }
-    ensures routeless { IfSome result (λ _. known ≡ None → IsWorth (version_of setting.now.version) setting.now.network.neighbours.instance.now prices.now (pos 0) most) }
+    ensures worth { IfSome result (λ t. IsWorth
+        (version_of setting.now.version) (problem_in setting.now) prices.now t most) }
+    ensures routeless { IfSome result (λ _. known ≡ None
+        → IsWorth (version_of setting.now.version) (problem_in setting.now) prices.now
+        (pos 0) most) }
 {
     if known.is_none() && value_at(setting, prices, None) < u128::from(most) {
         return None;
@@ -132,9 +138,10 @@ fn limit_of(setting: &Setting<'_>, prices: &[i64], most: u32, known: Option<i64>
 /// A number of tenths, or less where the leaf's value is known to be less: by the reduced cost of a relaxed
 /// route, or, where no routes are counted on, as one without relaxed routes.
 fn lowered(setting: &Setting<'_>, prices: &[i64], most: u32, known: Option<i64>) -> u32
-    requires count { length prices.now ≡ customer_count setting.now.network.neighbours.instance.now }
+    requires count { length prices.now ≡ customer_count (problem_in setting.now) }
     requires priced { AllByRecursion IsPrice prices.now }
-    ensures { (result ≡ most) ⊎ IsLowered (version_of setting.now.version) setting.now.network.neighbours.instance.now prices.now known most result }
+    ensures { (result ≡ most) ⊎ IsLowered
+        (version_of setting.now.version) (problem_in setting.now) prices.now known most result }
 {
     if known.is_none() && setting.routes > 0 {
         return most;
@@ -159,9 +166,12 @@ pub(crate) fn lesser_value(
     most: u32,
     level: usize,
 ) -> Result<Lesser, BoundFault>
-    requires count { length prices.now ≡ customer_count setting.now.network.neighbours.instance.now }
+    requires count { length prices.now ≡ customer_count (problem_in setting.now) }
     requires priced { AllByRecursion IsPrice prices.now }
-    ensures { IfOk result (λ b. IsLesserValue (version_of setting.now.version) setting.now.network.neighbours.instance.now (region_of (customer_count setting.now.network.neighbours.instance.now) path.now) setting.now.network.neighbours.k prices.now most b.bound) }
+    ensures { IfOk result (λ b. IsLesserValue
+        (version_of setting.now.version) (problem_in setting.now)
+        (region_of (customer_count (problem_in setting.now)) path.now)
+        (neighbours_in setting.now) prices.now most b.bound) }
 {
     let network = &setting.network;
     network.neighbours.instance.law_of_limits();

@@ -102,7 +102,8 @@ fn work_load(
 ) -> Result<Option<i64>, BoundFault>
     requires load { load < length table.old.buckets.items }
     requires swept { IsSweptIn task.now table.old.buckets.items settled.old load best }
-    ensures { IfOk result (λ after. IsSweptIn task.now table.new.buckets.items settled.new (load + 1) after) }
+    ensures { IfOk result (λ after. IsSweptIn task.now table.new.buckets.items settled.new
+        (load + 1) after) }
 {
     let bucket = mem::replace(&mut table.buckets[load], Bucket::new(table.alloc));
     let after = work_labels(task, table, settled, load, bucket.labels(), best)?;
@@ -132,7 +133,8 @@ fn sweep(
 ) -> Result<Option<i64>, BoundFault>
     requires { IsSweptIn task.old table.old.buckets.items [] 1 best }
     ensures { let all = table.new.buckets.items in
-        IfOk result (λ after. (settled : List Label) × IsSweptIn task.old all settled (length all) after) }
+        IfOk result (λ after. (settled : List Label)
+        × IsSweptIn task.old all settled (length all) after) }
 {
     let mut settled = Bucket::new(table.alloc);
     let mut best = best;
@@ -152,8 +154,7 @@ pub(crate) fn beginning(leaf: &Leaf<'_, '_>) -> Label
 {
     let network = leaf.network;
     let instance = network.neighbours.instance;
-    let _count = instance.customer_count();
-    let _capacity = instance.capacity();
+    instance.law_of_limits();
     Label {
         customer: 0,
         memory: 0,

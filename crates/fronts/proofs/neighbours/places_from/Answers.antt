@@ -10,6 +10,7 @@ loop-u-init c =
       | then-v-eq0 w ↦ w.push-is ∙ sym (depot_first c.args.instance.now c.args.v c.args.k w.if-v-eq0.true)
       | else-v-eq0 w ↦ w.push-is ∙ sym (depot_far c.args.instance.now c.args.v c.args.k w.if-v-eq0.false)
     ] in record {
-      places = rw (c.in_ok-push.ensures.items, c.new-places.ensures.items) (places_more c.args.instance.now c.args.v c.args.k 0 [] c.if-v-eq0.push (places_none c.args.instance.now c.args.v c.args.k) first);
+      places = rw (c.in_ok-push.ensures.items, c.new-places.ensures.items)
+          (places_more c.args.instance.now c.args.v c.args.k 0 [] c.if-v-eq0.push (places_none c.args.instance.now c.args.v c.args.k) first);
       far = tt;
     }

@@ -11,7 +11,8 @@ use Rattle.fronts.proofs.open_steps.open_steps_from.Goals as goal
 use Rattle.fronts.proofs.open_steps.open_steps_from.Goals.{then-contains+in_ok-push, else-contains}
 
 -- the steps that were read for v
-steps_read : (near : Nearness) (v i : ℕ) (row : Vec Step Global) (steps : List Step) → v < length near.instance.now.rows → i ≡ v → row ≡ get_or near.steps.items i row → steps ≡ row.items
+steps_read : (near : Nearness) (v i : ℕ) (row : Vec Step Global) (steps : List Step) → v < length near.instance.now.rows → i ≡ v
+    → row ≡ get_or near.steps.items i row → steps ≡ row.items
     → AreStepsFrom near.instance.now near.neighbours (λ _. pos 0) (λ _. Unit {0}) v steps
 steps_read near v i row steps within at is items = rw (items, is, at) (near.stepped.each v row within)
 
@@ -48,7 +49,8 @@ loop-step-preserved c =
     elim c.if-contains.branch [
       | then-contains+in_ok-push w ↦ (let customer = ap (λ (s : Step). s.customer) w.at.ensures in
           let price = ap (λ (n : ℕ). price_of prices n) w.from-then-contains.ensures in
-          let priced : IsPriced (price_of prices w.from-then-contains.result) = c.requires.priced (w.from-then-contains.result - 1) (pos 0) (omega (arith, step.customer.0, step.customer.1, w.from-then-contains.ensures)) in
+          let priced : IsPriced (price_of prices w.from-then-contains.result) =
+          c.requires.priced (w.from-then-contains.result - 1) (pos 0) (omega (arith, step.customer.0, step.customer.1, w.from-then-contains.ensures)) in
           rw (w.chosen-is, w.in_ok-push.ensures.items) (opened_more _ _ _ _ _ _ _ _ c.loop-step.invariant w.at.result are c.loop-step-test.true
           (step_at_price near.instance.now near.neighbours c.args.v (price_of prices) _ w.at.result _ step w.at.ensures (omega (arith, ints, price, priced.low, priced.high)))
           (rw customer (sym c.contains.ensures ∙ w.if-contains.true)) customer (ap (λ (s : Step). s.latest) w.at.ensures)))

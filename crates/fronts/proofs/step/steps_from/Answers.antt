@@ -17,5 +17,6 @@ loop-customer-preserved c =
 
 pub returns : goal.returns
 returns c =
-    steps_sorted c.args.instance.now c.args.neighbours c.args.v c.loop-customer.customer c.loop-customer.steps.items _ (λ j customer. omega (arith, customer.1)) c.loop-customer.invariant c.sort_by_key.ensures.permutation
+    steps_sorted c.args.instance.now c.args.neighbours c.args.v c.loop-customer.customer c.loop-customer.steps.items _
+    (λ j customer. omega (arith, customer.1)) c.loop-customer.invariant c.sort_by_key.ensures.permutation
     (IsNonDecreasingBy-from_sort_by_key (λ s. 20 * MOST_TIME - s.latest) _ c.in_ok-sort_by_key.ensures.sorted (λ a r q k. search rules))

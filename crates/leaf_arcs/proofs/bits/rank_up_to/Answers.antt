@@ -7,11 +7,13 @@ use Rattle.leaf_arcs.proofs.bits.rank_up_to.Goals.{then-is_ahead, else-is_ahead}
 pub loop-w-preserved : goal.loop-w-preserved
 loop-w-preserved c = elim c.if-is_ahead.branch [
   | then-is_ahead w ↦ record {
-    counted = rw w.found-is (counted_yes (ahead c.args.instance.now c.args.v c.args.u) c.loop-w.w c.loop-w.found c.loop-w.auto.w c.loop-w.invariant.counted (sym c.is_ahead.ensures ∙ w.if-is_ahead.true));
+    counted = rw w.found-is (counted_yes (ahead c.args.instance.now c.args.v c.args.u) c.loop-w.w c.loop-w.found c.loop-w.auto.w
+        c.loop-w.invariant.counted (sym c.is_ahead.ensures ∙ w.if-is_ahead.true));
     few = omega arith;
   }
   | else-is_ahead w ↦ record {
-    counted = rw w.found-is (counted_no (ahead c.args.instance.now c.args.v c.args.u) c.loop-w.w c.loop-w.found c.loop-w.auto.w c.loop-w.invariant.counted (sym c.is_ahead.ensures ∙ w.if-is_ahead.false));
+    counted = rw w.found-is (counted_no (ahead c.args.instance.now c.args.v c.args.u) c.loop-w.w c.loop-w.found c.loop-w.auto.w
+        c.loop-w.invariant.counted (sym c.is_ahead.ensures ∙ w.if-is_ahead.false));
     few = omega arith;
   }
 ]

@@ -7,5 +7,6 @@ use Rattle.leaf_arcs.proofs.free_arcs.all_free_arcs.Goals as goal
 
 pub loop-v-preserved : goal.loop-v-preserved
 loop-v-preserved c =
-    rw c.in_ok-push.ensures.items (each_more (λ (v : ℕ) (arcs : Vec AllowedArc Global). AreAllowedArcs (free_pricing c.args.neighbours.now.instance.now c.args.neighbours.now.k) v arcs.items) c.loop-v.v c.loop-v.all.items
+    rw c.in_ok-push.ensures.items (each_more (λ (v : ℕ) (arcs : Vec AllowedArc Global). AreAllowedArcs
+    (free_pricing c.args.neighbours.now.instance.now c.args.neighbours.now.k) v arcs.items) c.loop-v.v c.loop-v.all.items
     c.in_ok-free_arcs.field-0 c.loop-v.invariant c.in_ok-free_arcs.ensures)

@@ -18,7 +18,9 @@ loop-j-preserved c =
     elim c.if-j-v.branch [
       | then-j-v+then-arrival-due+in_ok-push w ↦ (let apart : v ≢ i = λ e. w.if-j-v.true (sym e) in
           rw (w.arcs-is, w.in_ok-push.ensures.items) (found_yes _ _ (λ j. j < i) (λ j. j < i + 1) c.loop-j.arcs.items c.loop-j.invariant w.free_arc.result w.free_arc.ensures.arc
-          (rw w.free_arc.ensures.to (root_allows (customer_count p) v i apart (omega (arith, c.requires, c.customer_count-j-end.ensures.rows, c.customer_count-j-end.ensures.value)) (omega (arith, c.loop-j-test.true, c.customer_count-j-end.ensures.value))))
+          (rw w.free_arc.ensures.to (root_allows (customer_count p) v i apart
+          (omega (arith, c.requires, c.customer_count-j-end.ensures.rows, c.customer_count-j-end.ensures.value))
+          (omega (arith, c.loop-j-test.true, c.customer_count-j-end.ensures.value))))
           (λ j below. elim (cases_lt j i) [ inl old ↦ inl old | inr new ↦ inr (omega (arith, w.free_arc.ensures.to, below, new)) ])))
       | else-j-v w ↦ rw w.arcs-is (found_no _ _ (λ j. j < i) (λ j. j < i + 1) c.loop-j.arcs.items c.loop-j.invariant (λ j below allowed timely. elim (cases_lt j i) [
         | inl old ↦ old
@@ -31,4 +33,5 @@ loop-j-preserved c =
     ]
 
 pub returns : goal.returns
-returns c = found_all _ _ (λ j. j < c.loop-j.j) c.loop-j.arcs.items c.loop-j.invariant (λ j customer allowed timely. omega (arith, customer.1, c.loop-j-test.false, c.customer_count-j-end.ensures.value))
+returns c = found_all _ _ (λ j. j < c.loop-j.j) c.loop-j.arcs.items c.loop-j.invariant
+    (λ j customer allowed timely. omega (arith, customer.1, c.loop-j-test.false, c.customer_count-j-end.ensures.value))

@@ -13,7 +13,8 @@ loop-u-preserved c =
     let place = c.requires.bits.each c.loop-u.u within in
     elim c.if-bit-lt-NO_BIT.branch [
       | then-bit-lt-NO_BIT+in_ok-push w ↦ rw (w.list-is, w.in_ok-push.ensures.items)
-          (near_yes c.args.instance.now c.args.k c.args.v c.loop-u.u c.loop-u.list.items c.loop-u.invariant _ refl place within (near_at c.args.instance.now c.args.v c.args.k c.loop-u.u (omega (arith, place, w.if-bit-lt-NO_BIT.true))))
+          (near_yes c.args.instance.now c.args.k c.args.v c.loop-u.u c.loop-u.list.items c.loop-u.invariant _ refl place within
+          (near_at c.args.instance.now c.args.v c.args.k c.loop-u.u (omega (arith, place, w.if-bit-lt-NO_BIT.true))))
       | else-bit-lt-NO_BIT w ↦ rw w.list-is (near_no c.args.instance.now c.args.k c.args.v c.loop-u.u c.loop-u.list.items c.loop-u.invariant
           (not_near c.args.instance.now c.args.v c.args.k (omega (arith, c.requires.few)) c.loop-u.u (omega (arith, place, w.if-bit-lt-NO_BIT.false))))
     ]

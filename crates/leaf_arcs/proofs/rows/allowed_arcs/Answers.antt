@@ -18,7 +18,8 @@ loop-arc-preserved c =
     let here = c.requires.arcs.each i c.loop-arc-test.true in
     let exactly = c.requires.allowed.each (arc_in arcs i).to here.customer.1 in
     elim c.if-allowed-arc.branch [
-      | then-allowed-arc+in_ok-push w ↦ rw (w.found-is, w.in_ok-push.ensures.items) (found_yes _ _ (Passed arcs i) (Passed arcs (i + 1)) c.loop-arc.found.items c.loop-arc.invariant w.priced.result w.priced.ensures.arc
+      | then-allowed-arc+in_ok-push w ↦ rw (w.found-is, w.in_ok-push.ensures.items)
+          (found_yes _ _ (Passed arcs i) (Passed arcs (i + 1)) c.loop-arc.found.items c.loop-arc.invariant w.priced.result w.priced.ensures.arc
           (rw w.priced.ensures.to (exactly.0 w.if-allowed-arc.true))
           (λ j passed. elim (cases_lt passed.0 i) [
             | inl old ↦ inl (passed.0, (old, passed.1.1))

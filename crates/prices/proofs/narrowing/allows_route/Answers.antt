@@ -13,4 +13,5 @@ loop-stop-preserved c = λ rest.
 
 pub returns : goal.returns
 returns c = λ yes.
-    c.loop-stop.invariant (subst (λ (r : List ℕ). AllByRecursion (IsAllowed c.args.region.now) (arcs_from c.loop-stop.from r)) (sym (drop_all c.loop-stop.stop-index c.args.stops.now c.loop-stop-test.false)) (c.allows-2.ensures.0 yes, tt))
+    c.loop-stop.invariant (subst (λ (r : List ℕ). AllByRecursion (IsAllowed c.args.region.now) (arcs_from c.loop-stop.from r))
+    (sym (drop_all c.loop-stop.stop-index c.args.stops.now c.loop-stop-test.false)) (c.allows-2.ensures.0 yes, tt))

@@ -2,32 +2,43 @@ use Rattle.std.proofs.Common.{subst, arith}
 use Rattle.std.specs.Prelude.{ℤ}
 use Rattle.solomon_reader.specs.Bound.{IsRoundedUp}
 use Rattle.solomon_reader.specs.Relaxed.{int_sum}
-use Rattle.prices.specs.Pricing.{or_zero}
+use Rattle.prices.specs.ValuedPrices.{or_zero}
 use Rattle.prices.proofs.LeastCosts.{least_above, least_below, least_or_zero}
 use Rattle.prices.proofs.Values.{grains_are}
 use Rattle.prices.proofs.priced.evaluate.Goals as goal
 
 pub value_of-value-requires-clause-least_above : goal.value_of-value-requires-clause-least_above
 value_of-value-requires-clause-least_above c =
-    omega (arith, c.least_of.ensures.above, least_above c.args.prices.now c.requires.priced c.args.instance.now c.law_of_limits.ensures.limits c.args.region.now c.args.neighbours c.in_ok-found.found.value c.in_ok-found.ensures.value)
+    omega (
+      arith,
+      c.least_of.ensures.above,
+      least_above c.args.task.now.prices.items c.args.task.now.priced c.args.task.now.instance.now c.law_of_limits.ensures.limits
+          c.args.task.now.region c.args.task.now.neighbours c.in_ok-found.found.value c.in_ok-found.ensures.value,
+    )
 
 pub value_of-value-requires-clause-least_below : goal.value_of-value-requires-clause-least_below
 value_of-value-requires-clause-least_below c =
-    omega (arith, c.least_of.ensures.below, least_below c.args.prices.now c.requires.priced c.args.instance.now c.law_of_limits.ensures.limits c.args.region.now c.args.neighbours c.in_ok-found.found.value c.in_ok-found.ensures.value)
+    omega (
+      arith,
+      c.least_of.ensures.below,
+      least_below c.args.task.now.prices.items c.args.task.now.priced c.args.task.now.instance.now c.law_of_limits.ensures.limits
+          c.args.task.now.region c.args.task.now.neighbours c.in_ok-found.found.value c.in_ok-found.ensures.value,
+    )
 
 pub returns-clause-value : goal.returns-clause-value
 returns-clause-value c =
-    let same = grains_are c.fleet.result c.fewest_routes.result c.sum_of.result.above c.sum_of.result.below (int_sum c.args.prices.now) (or_zero c.in_ok-found.found.value) c.sum_of.ensures.value in
+    let same = grains_are c.fleet.result c.fewest_routes.result c.sum_of.result.above c.sum_of.result.below (int_sum c.args.task.now.prices.items)
+    (or_zero c.in_ok-found.found.value) (rw c.as_slice.ensures.value at c.sum_of.ensures.value) in
     let whole = rw (c.least_of.ensures.above, c.least_of.ensures.below) at c.value_of-value.ensures.value in
     let rounded = subst (λ (z : ℤ). IsRoundedUp z c.value_of-value.result) same whole in
     record {
-      size = c.requires.size;
-      few = c.requires.few;
-      priced = c.requires.priced;
+      size = c.args.task.now.size;
+      few = c.args.task.now.few;
+      priced = c.args.task.now.priced;
       valued = record {
-        priced = c.requires.count;
+        priced = c.args.task.now.count;
         least = or_zero c.in_ok-found.found.value;
-        is_least = least_or_zero c.args.instance.now c.args.region.now c.args.neighbours c.args.prices.now c.in_ok-found.found.value c.in_ok-found.ensures.value;
+        is_least = least_or_zero c.args.task.now.instance.now c.args.task.now.region c.args.task.now.neighbours c.args.task.now.prices.items c.in_ok-found.found.value c.in_ok-found.ensures.value;
         rounded = rw (← c.fewest_routes.ensures.value, ← c.fleet.ensures.value) rounded;
       };
       bound = c.value_of-value.ensures.bound;

@@ -14,12 +14,19 @@ loop-customer-preserved c =
     let fits_old : FitsSigned w64 (get_or c.prices-old.result.now (c.from.result - 1) (pos 0)) = search rules in
     let fits_new : FitsSigned w64 c.price_after.result = search rules in
     let pushed = rw (to_z-of_z w64 c.price_after.result fits_new) at c.in_ok-push.ensures.items in
-    let value = rw (to_z-of_z w64 c.args.step c.ranges.step, to_z-of_z w64 (get_or c.prices-old.result.now (c.from.result - 1) (pos 0)) fits_old, c.count_of-count.ensures, c.from.ensures) at c.price_after.ensures.value in
+    let value = rw (
+      to_z-of_z w64 c.args.step c.ranges.step,
+      to_z-of_z w64 (get_or c.prices-old.result.now (c.from.result - 1) (pos 0))
+          fits_old,
+      c.count_of-count.ensures,
+      c.from.ensures,
+    ) at c.price_after.ensures.value in
     let so_far = rw (to_z-of_z w64 c.args.step c.ranges.step) at c.loop-customer.invariant.stepped in
     record {
       in_range = rw pushed (all_pushed IsPrice c.loop-customer.prices.items c.price_after.result c.loop-customer.invariant.in_range c.price_after.ensures.in_range);
       stepped = rw (to_z-of_z w64 c.args.step c.ranges.step)
-          (stepped_pushed c.args.step c.guide-route.result.now c.prices-old.result.now c.loop-customer.customer c.loop-customer.prices.items c.push.new.self.items c.price_after.result (omega arith) so_far value pushed);
+          (stepped_pushed c.args.step c.guide-route.result.now c.prices-old.result.now c.loop-customer.customer c.loop-customer.prices.items
+          c.push.new.self.items c.price_after.result (omega arith) so_far value pushed);
     }
 
 pub returns-clause-count : goal.returns-clause-count

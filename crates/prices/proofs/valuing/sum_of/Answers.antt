@@ -20,8 +20,18 @@ loop-price-preserved c =
     elim c.if-price-lt0.branch [
       | then-price-lt0 w ↦ (let low : price <ℤ pos 0 = omega (arith, ints, w.if-price-lt0.true) in
           let is = abs_below price low in
-          record { value = omega (arith, ints, w.above-is, w.below-is, size_is, c.unsigned_abs.ensures, is, more, round); above = omega (arith, w.above-is); below = omega (arith, w.below-is, size_is, c.unsigned_abs.ensures, small, round) })
+          record {
+            value = omega (arith, ints, w.above-is, w.below-is, size_is, c.unsigned_abs.ensures, is, more, round);
+            above =
+                omega (arith, w.above-is);
+            below = omega (arith, w.below-is, size_is, c.unsigned_abs.ensures, small, round);
+          })
       | else-price-lt0 w ↦ (let high : pos 0 ≤ℤ price = omega (arith, ints, w.if-price-lt0.false) in
           let is = abs_above price high in
-          record { value = omega (arith, ints, w.above-is, w.below-is, size_is, c.unsigned_abs.ensures, is, more, round); above = omega (arith, w.above-is, size_is, c.unsigned_abs.ensures, small, round); below = omega (arith, w.below-is) })
+          record {
+            value = omega (arith, ints, w.above-is, w.below-is, size_is, c.unsigned_abs.ensures, is, more, round);
+            above =
+                omega (arith, w.above-is, size_is, c.unsigned_abs.ensures, small, round);
+            below = omega (arith, w.below-is);
+          })
     ]

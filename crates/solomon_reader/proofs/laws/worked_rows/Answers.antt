@@ -63,7 +63,15 @@ returns c = record {
       load = omega arith;
       walk = (1200, record { times = 550 ∷ 600 ∷ 650 ∷ []; walks = (refl, omega arith, (refl, omega arith, (refl, omega arith, refl))); closing = omega arith });
     };
-    allowed = (arc_of 2 0 2 (omega arith) (omega arith) (omega arith), (arc_of 2 2 1 (omega arith) (omega arith) (omega arith), (arc_of 2 1 2 (omega arith) (omega arith) (omega arith), (arc_of 2 2 0 (omega arith) (omega arith) (omega arith), tt))));
+    allowed = (
+      arc_of 2 0 2 (omega arith) (omega arith)
+          (omega arith),
+      (
+        arc_of 2 2 1 (omega arith) (omega arith)
+            (omega arith),
+        (arc_of 2 1 2 (omega arith) (omega arith) (omega arith), (arc_of 2 2 0 (omega arith) (omega arith) (omega arith), tt)),
+      ),
+    );
     forgets = row_forgets;
   };
   solution = refl;

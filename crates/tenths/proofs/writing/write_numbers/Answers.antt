@@ -8,4 +8,5 @@ pub returns-in_err-write_pieces : goal.returns-in_err-write_pieces
 returns-in_err-write_pieces g c =
     let one : Fails (g.W.Sink.held c.loop-number.sink) (g.W.Sink.held c.write_pieces.new.sink) (spaced (g.N.Integer.text c.number-item.result)) = search rules in
     writes_err c.from_residual.result _ _ _ c.from_residual.ensures.0
-    (loop_fails (λ n. spaced (g.N.Integer.text n)) c.args.numbers.now c.loop-number.number-index c.number-item.result _ _ _ c.loop-number-test.true c.loop-number.invariant (rw c.number-item.is at one))
+    (loop_fails (λ n. spaced (g.N.Integer.text n)) c.args.numbers.now c.loop-number.number-index c.number-item.result _ _ _ c.loop-number-test.true
+    c.loop-number.invariant (rw c.number-item.is at one))

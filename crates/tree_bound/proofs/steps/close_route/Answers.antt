@@ -13,5 +13,12 @@ returns-in_default c =
     record {
       lower = λ y h. (let before : c.in-Some.least ≤ℤ y = rw c.in-Some.is at h in omega (arith, ints, before, c.if-least-value.false));
       counted = λ can. omega (arith, ints, value);
-      from = inr (record { allowed = c.requires.row.ends.0 c.if-not-row.false; closing = omega (arith, c.if-label-row.false, c.requires.row.back_is, c.due-closing.ensures.value) }, ap (λ (z : ℤ). Some z) value);
+      from = inr (
+        record {
+          allowed = c.requires.row.ends.0 c.if-not-row.false;
+          closing =
+              omega (arith, c.if-label-row.false, c.requires.row.back_is, c.due-closing.ensures.value);
+        },
+        ap (λ (z : ℤ). Some z) value,
+      );
     }

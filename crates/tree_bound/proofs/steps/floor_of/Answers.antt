@@ -13,5 +13,6 @@ returns-then-recalls c = record {
 
 pub returns : goal.returns
 returns c = record {
-  adds = λ s completes. (let h = (rw c.in_ok-floor.was at c.requires).holds _ s refl (omega arith) (omega arith) ((c.recalls.ensures.0 c.if-not-recalls.false).2) completes in omega (arith, ints, h.least));
+  adds = λ s completes. (let h = (rw c.in_ok-floor.was at c.requires).holds _ s refl (omega arith) (omega arith)
+      ((c.recalls.ensures.0 c.if-not-recalls.false).2) completes in omega (arith, ints, h.least));
 }

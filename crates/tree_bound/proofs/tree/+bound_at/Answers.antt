@@ -3,47 +3,64 @@ use Rattle.certificate.specs.Text.{version_of}
 use Rattle.certificate.specs.Tree.{node_of}
 use Rattle.leaf_arcs.specs.declared.decision.Decision.{Decision}
 use Rattle.tree_bound.proofs.Bounding.{restored, begins_some, leaf_at, leaf_bound_at, used_at, unused_at, split_at}
+use Rattle.tree_bound.specs.Settings.{neighbours_in, problem_in}
 use Rattle.tree_bound.proofs.tree.+bound_at.Goals as goal
 
 pub lesser_value-requires-clause-count : goal.lesser_value-requires-clause-count
 lesser_value-requires-clause-count t c = rw c.as_slice-in-Leaf.ensures.value
-    ((leaf_at (version_of c.args.setting.now.version) c.args.setting.now.network.neighbours.instance.now c.args.setting.now.network.neighbours.k c.args.path.now.items c.args.nodes.now c.args.at c.index-nodes-at.result c.requires.within c.index-nodes-at.is c.requires.begins c.in-Leaf.prices.items (ap node_of c.in-Leaf.is)).0)
+    ((leaf_at (version_of c.args.setting.now.version) (problem_in c.args.setting.now) (neighbours_in c.args.setting.now)
+    c.args.path.now.items c.args.nodes.now c.args.at c.index-nodes-at.result c.requires.within c.index-nodes-at.is c.requires.begins c.in-Leaf.prices.items (ap node_of c.in-Leaf.is)).0)
 
 pub lesser_value-requires-clause-priced : goal.lesser_value-requires-clause-priced
 lesser_value-requires-clause-priced t c = rw c.as_slice-in-Leaf.ensures.value
-    ((leaf_at (version_of c.args.setting.now.version) c.args.setting.now.network.neighbours.instance.now c.args.setting.now.network.neighbours.k c.args.path.now.items c.args.nodes.now c.args.at c.index-nodes-at.result c.requires.within c.index-nodes-at.is c.requires.begins c.in-Leaf.prices.items (ap node_of c.in-Leaf.is)).1)
+    ((leaf_at (version_of c.args.setting.now.version) (problem_in c.args.setting.now) (neighbours_in c.args.setting.now)
+    c.args.path.now.items c.args.nodes.now c.args.at c.index-nodes-at.result c.requires.within c.index-nodes-at.is c.requires.begins c.in-Leaf.prices.items (ap node_of c.in-Leaf.is)).1)
 
 pub returns-in_ok-found-in-Leaf-clause-bound : goal.returns-in_ok-found-in-Leaf-clause-bound
 returns-in_ok-found-in-Leaf-clause-bound t c =
-    leaf_bound_at (version_of c.args.setting.now.version) c.args.setting.now.network.neighbours.instance.now c.args.setting.now.network.neighbours.k c.args.path.now.items c.args.nodes.now c.args.at c.index-nodes-at.result c.requires.within c.index-nodes-at.is c.requires.begins c.in-Leaf.prices.items
-    c.args.most c.in_ok-found-in-Leaf.found.bound (ap node_of c.in-Leaf.is) (omega (arith, c.requires.most, c.args.setting.now.most_is)) (rw (c.as_slice.ensures.value, c.as_slice-in-Leaf.ensures.value) at c.in_ok-found-in-Leaf.ensures)
+    leaf_bound_at (version_of c.args.setting.now.version) (problem_in c.args.setting.now) (neighbours_in c.args.setting.now)
+    c.args.path.now.items c.args.nodes.now c.args.at c.index-nodes-at.result c.requires.within c.index-nodes-at.is c.requires.begins c.in-Leaf.prices.items
+    c.args.most c.in_ok-found-in-Leaf.found.bound (ap node_of c.in-Leaf.is) (omega (arith, c.requires.most, c.args.setting.now.most_is))
+    (rw (c.as_slice.ensures.value, c.as_slice-in-Leaf.ensures.value) at c.in_ok-found-in-Leaf.ensures)
 
 pub bound_at-requires : goal.bound_at-requires
 bound_at-requires t c =
-    let begins = used_at (version_of c.args.setting.now.version) c.args.setting.now.network.neighbours.instance.now c.args.setting.now.network.neighbours.k c.args.path.now.items c.args.nodes.now c.args.at c.index-nodes-at.result c.requires.within c.index-nodes-at.is c.requires.begins c.in-Split.from c.in-Split.to (ap node_of c.in-Split.is) in
+    let begins = used_at (version_of c.args.setting.now.version) (problem_in c.args.setting.now)
+    (neighbours_in c.args.setting.now) c.args.path.now.items c.args.nodes.now c.args.at c.index-nodes-at.result c.requires.within
+    c.index-nodes-at.is c.requires.begins c.in-Split.from c.in-Split.to (ap node_of c.in-Split.is) in
     (omega arith, (c.requires.most, (begins_some _ c.args.nodes.now (c.args.at + 1) begins, rw c.in_ok-push-in-Split.ensures.items begins)))
 
 pub bound_at-requires-in-Split : goal.bound_at-requires-in-Split
 bound_at-requires-in-Split t c =
     let count : c.len-depth.result ≡ length c.args.path.now.items = omega arith in
-    let back = restored c.args.path.now.items c.bound_at.new.path.items c.truncate.new.self.items c.len-depth.result _ count (c.in_ok-used-in-Split.ensures.path ∙ c.in_ok-push-in-Split.ensures.items) c.truncate.ensures.items in
-    let begins = unused_at (version_of c.args.setting.now.version) c.args.setting.now.network.neighbours.instance.now c.args.setting.now.network.neighbours.k c.args.path.now.items c.args.nodes.now c.args.at c.index-nodes-at.result c.requires.within c.index-nodes-at.is c.requires.begins c.in-Split.from c.in-Split.to (ap node_of c.in-Split.is)
+    let back = restored c.args.path.now.items c.bound_at.new.path.items c.truncate.new.self.items c.len-depth.result _ count
+    (c.in_ok-used-in-Split.ensures.path ∙ c.in_ok-push-in-Split.ensures.items) c.truncate.ensures.items in
+    let begins = unused_at (version_of c.args.setting.now.version) (problem_in c.args.setting.now)
+    (neighbours_in c.args.setting.now) c.args.path.now.items c.args.nodes.now c.args.at c.index-nodes-at.result c.requires.within
+    c.index-nodes-at.is c.requires.begins c.in-Split.from c.in-Split.to (ap node_of c.in-Split.is)
     c.args.most c.in_ok-used-in-Split.used.bound c.in_ok-used-in-Split.used.next (rw c.in_ok-push-in-Split.ensures.items at c.in_ok-used-in-Split.ensures.bound) in
-    let within : c.in_ok-used-in-Split.used.next < length c.args.nodes.now = begins_some _ c.args.nodes.now c.in_ok-used-in-Split.used.next begins in
-    (omega (arith, within, c.in_ok-used-in-Split.ensures.onward), (omega (arith, c.requires.most, c.in_ok-used-in-Split.ensures.less), (within, rw (c.in_ok-push-in-Split-2.ensures.items, back) begins)))
+    let within : c.in_ok-used-in-Split.used.next < length c.args.nodes.now = begins_some _ c.args.nodes.now c.in_ok-used-in-Split.used.next begins in (
+      omega (arith, within, c.in_ok-used-in-Split.ensures.onward),
+      (omega (arith, c.requires.most, c.in_ok-used-in-Split.ensures.less), (within, rw (c.in_ok-push-in-Split-2.ensures.items, back) begins)),
+    )
 
 pub returns-in_ok-unused-in-Split-clause-path : goal.returns-in_ok-unused-in-Split-clause-path
 returns-in_ok-unused-in-Split-clause-path t c =
     let count : c.len-depth.result ≡ length c.args.path.now.items = omega arith in
-    let back = restored c.args.path.now.items c.bound_at.new.path.items c.truncate.new.self.items c.len-depth.result _ count (c.in_ok-used-in-Split.ensures.path ∙ c.in_ok-push-in-Split.ensures.items) c.truncate.ensures.items in
+    let back = restored c.args.path.now.items c.bound_at.new.path.items c.truncate.new.self.items c.len-depth.result _ count
+    (c.in_ok-used-in-Split.ensures.path ∙ c.in_ok-push-in-Split.ensures.items) c.truncate.ensures.items in
     restored c.args.path.now.items c.bound_at-in-Split.new.path.items c.truncate-in-Split.new.self.items c.len-depth.result _ count
-    (c.in_ok-unused-in-Split.ensures.path ∙ (c.in_ok-push-in-Split-2.ensures.items ∙ ap (λ (ds : List Decision). ds ++ (record { from = c.in-Split.from; to = c.in-Split.to; required = false } ∷ [])) back)) c.truncate-in-Split.ensures.items
+    (c.in_ok-unused-in-Split.ensures.path ∙ (c.in_ok-push-in-Split-2.ensures.items
+    ∙ ap (λ (ds : List Decision). ds ++ (record { from = c.in-Split.from; to = c.in-Split.to; required = false } ∷ [])) back)) c.truncate-in-Split.ensures.items
 
 pub returns-in_ok-unused-in-Split-clause-bound : goal.returns-in_ok-unused-in-Split-clause-bound
 returns-in_ok-unused-in-Split-clause-bound t c =
     let count : c.len-depth.result ≡ length c.args.path.now.items = omega arith in
-    let back = restored c.args.path.now.items c.bound_at.new.path.items c.truncate.new.self.items c.len-depth.result _ count (c.in_ok-used-in-Split.ensures.path ∙ c.in_ok-push-in-Split.ensures.items) c.truncate.ensures.items in
-    (split_at (version_of c.args.setting.now.version) c.args.setting.now.network.neighbours.instance.now c.args.setting.now.network.neighbours.k c.args.path.now.items c.args.nodes.now c.args.at c.index-nodes-at.result c.requires.within c.index-nodes-at.is c.requires.begins c.in-Split.from c.in-Split.to (ap node_of c.in-Split.is)
+    let back = restored c.args.path.now.items c.bound_at.new.path.items c.truncate.new.self.items c.len-depth.result _ count
+    (c.in_ok-used-in-Split.ensures.path ∙ c.in_ok-push-in-Split.ensures.items) c.truncate.ensures.items in
+    (split_at (version_of c.args.setting.now.version) (problem_in c.args.setting.now) (neighbours_in c.args.setting.now)
+    c.args.path.now.items c.args.nodes.now c.args.at c.index-nodes-at.result c.requires.within c.index-nodes-at.is c.requires.begins
+    c.in-Split.from c.in-Split.to (ap node_of c.in-Split.is)
     c.args.most c.in_ok-used-in-Split.used.bound c.in_ok-used-in-Split.used.next
     (rw c.in_ok-push-in-Split.ensures.items at c.in_ok-used-in-Split.ensures.bound) c.in_ok-unused-in-Split.unused.bound c.in_ok-unused-in-Split.unused.next
     (rw (c.in_ok-push-in-Split-2.ensures.items, back) at c.in_ok-unused-in-Split.ensures.bound))

@@ -6,12 +6,13 @@ use Rattle.leaf_arcs.proofs.Deciding.{decided}
 use Rattle.tree_bound.proofs.Existing.{least_exists}
 use Rattle.tree_bound.proofs.Working.{found_cost, is_pricing}
 use Rattle.tree_bound.proofs.Valuing.{lesser_found, lesser_none}
+use Rattle.tree_bound.specs.Settings.{neighbours_in, problem_in}
 use Rattle.tree_bound.proofs.value.lesser_value.Goals as goal
 
 pub returns-then-most-eq0 : goal.returns-then-most-eq0
 returns-then-most-eq0 c =
-    let p = c.args.setting.now.network.neighbours.instance.now in
-    let q = pricing p (region_of (customer_count p) c.args.path.now) c.args.setting.now.network.neighbours.k c.args.prices.now in
+    let p = (problem_in c.args.setting.now) in
+    let q = pricing p (region_of (customer_count p) c.args.path.now) (neighbours_in c.args.setting.now) c.args.prices.now in
     let least = least_exists q (λ i j from to. decided _ c.args.path.now i j (omega (arith, from, c.law_of_limits.ensures.rows)) (omega (arith, to, c.law_of_limits.ensures.rows)))
     (is_pricing p c.args.prices.now c.law_of_limits.ensures.limits c.requires.count c.requires.priced).carried (omega (arith, c.law_of_limits.ensures.rows)) in
     let known = found_cost q c.dive-known.result (rw c.in_ok-task.ensures.leaf at c.dive-known.ensures) in
@@ -19,11 +20,15 @@ returns-then-most-eq0 c =
 
 pub returns : goal.returns
 returns c =
-    let p = c.args.setting.now.network.neighbours.instance.now in
-    let q = pricing p (region_of (customer_count p) c.args.path.now) c.args.setting.now.network.neighbours.k c.args.prices.now in
+    let p = (problem_in c.args.setting.now) in
+    let q = pricing p (region_of (customer_count p) c.args.path.now) (neighbours_in c.args.setting.now) c.args.prices.now in
     let least = least_exists q (λ i j from to. decided _ c.args.path.now i j (omega (arith, from, c.law_of_limits.ensures.rows)) (omega (arith, to, c.law_of_limits.ensures.rows)))
     (is_pricing p c.args.prices.now c.law_of_limits.ensures.limits c.requires.count c.requires.priced).carried (omega (arith, c.law_of_limits.ensures.rows)) in
     let known = found_cost q c.dive-known.result (rw c.in_ok-task.ensures.leaf at c.dive-known.ensures) in
     rw (c.min.ensures, c.from.ensures)
     (lesser_found _ q least.0 least.1 c.args.most c.lowered-most.result c.dive-known.result c.requires.count known c.lowered-most.ensures c.limit_of-task.result
-    c.in_ok-found.found.cost c.value_at.result (rw (c.in_ok-add_floors.ensures.leaf, c.in_ok-add_floors.ensures.limit, c.in_ok-task.ensures.leaf) at c.in_ok-found.ensures) c.limit_of-task.ensures.worth c.limit_of-task.ensures.routeless c.value_at.ensures)
+    c.in_ok-found.found.cost c.value_at.result (rw (
+      c.in_ok-add_floors.ensures.leaf,
+      c.in_ok-add_floors.ensures.limit,
+      c.in_ok-task.ensures.leaf,
+    ) at c.in_ok-found.ensures) c.limit_of-task.ensures.worth c.limit_of-task.ensures.routeless c.value_at.ensures)

@@ -12,6 +12,20 @@ returns c =
     let same = start_same (pricing_of c.args.leaf.now) x refl c.ready.ensures.value refl refl in
     record {
       same = same;
-      label = start_label _ x same (record { last = omega arith; begun = omega (arith, c.ready.ensures.value, depot_service c.args.leaf.now.network.now.neighbours.instance.now (c.customer_count-count.ensures.limits)); time = omega arith; load = omega arith; held = omega arith; low = omega (arith, ints); high = omega (arith, ints) });
+      label = start_label _ x same (record {
+        last = omega arith;
+        begun =
+            omega (
+              arith,
+              c.ready.ensures.value,
+              depot_service c.args.leaf.now.network.now.neighbours.instance.now
+                  (c.law_of_limits.ensures.limits),
+            );
+        time = omega arith;
+        load = omega arith;
+        held = omega arith;
+        low = omega (arith, ints);
+        high = omega (arith, ints);
+      });
       active = refl;
     }

@@ -1,7 +1,7 @@
 use Rattle.std.proofs.Common.{arith}
 use Rattle.std.proofs.lemmas.Int.{ints}
 use Rattle.solomon_reader.specs.States.{pricing}
-use Rattle.fronts.proofs.Following.{price_small}
+use Rattle.fronts.proofs.Stepping.{price_small}
 use Rattle.fronts.proofs.task.Task.after.Goals as goal
 
 pub returns-clause-bounded : goal.returns-clause-bounded

@@ -27,7 +27,8 @@ contains-requires c =
     let task = c.args.self.now in
     let placed = placed_at task c.args.v c.from.result c.index-self-from.result c.as_slice-places.result.now c.requires.v c.from.ensures c.as_slice-places.ensures.value in
     let listed = listed_at task c.args.j c.from-2.result c.requires.j c.from-2.ensures in
-    let row = row_at task c.args.j c.loop-place.place c.from-in-loop-place.result c.from-in-loop-place-2.result (get_or c.args.self.now.neighbour_lists.now c.from-2.result []) listed (omega (arith, c.loop-place-test.true)) c.from-in-loop-place.ensures c.from-in-loop-place-2.ensures in
+    let row = row_at task c.args.j c.loop-place.place c.from-in-loop-place.result c.from-in-loop-place-2.result
+    (get_or c.args.self.now.neighbour_lists.now c.from-2.result []) listed (omega (arith, c.loop-place-test.true)) c.from-in-loop-place.ensures c.from-in-loop-place-2.ensures in
     omega (arith, placed.each c.from-in-loop-place-2.result row, place_bound task.instance.now c.args.v task.neighbours task.few c.from-in-loop-place-2.result)
 
 pub loop-place-preserved : goal.loop-place-preserved
@@ -41,9 +42,11 @@ loop-place-preserved c =
     let place = c.loop-place.place in
     let placed = placed_at task v c.from.result c.index-self-from.result c.as_slice-places.result.now c.requires.v c.from.ensures c.as_slice-places.ensures.value in
     let listed = listed_at task c.args.j c.from-2.result c.requires.j c.from-2.ensures in
-    let row = row_at task c.args.j place c.from-in-loop-place.result c.from-in-loop-place-2.result list listed (omega (arith, c.loop-place-test.true)) c.from-in-loop-place.ensures c.from-in-loop-place-2.ensures in
+    let row = row_at task c.args.j place c.from-in-loop-place.result c.from-in-loop-place-2.result list listed (omega (arith, c.loop-place-test.true))
+    c.from-in-loop-place.ensures c.from-in-loop-place-2.ensures in
     let at : c.from-in-loop-place-2.result ≡ get_or list place 0 = rw (← c.from-in-loop-place.ensures) c.from-in-loop-place-2.ensures in
-    let is : c.contains.result ≡ recalls p k v memory (get_or list place 0) = c.contains.ensures ∙ ap (has_bit memory) (placed.each c.from-in-loop-place-2.result row) ∙ ap (recalls p k v memory) at in
+    let is : c.contains.result ≡ recalls p k v memory (get_or list place 0) = c.contains.ensures
+    ∙ ap (has_bit memory) (placed.each c.from-in-loop-place-2.result row) ∙ ap (recalls p k v memory) at in
     elim (cases_Bool c.contains.result) [
       | inl kept ↦ holds_yes p k v memory list place c.loop-place.after.bits c.loop-place.auto.place c.loop-place.invariant
           c.with_if-after-in-loop-place.result.bits c.with_if-after-in-loop-place.ensures.small (sym is ∙ kept) (rw kept at c.with_if-after-in-loop-place.ensures.places)

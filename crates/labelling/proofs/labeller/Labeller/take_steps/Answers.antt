@@ -20,10 +20,12 @@ pub returns-then-is_late-clause-stepped : goal.returns-then-is_late-clause-stepp
 returns-then-is_late-clause-stepped c =
     let soon : c.args.label.now.front.time ≤ 20 * MOST_TIME = rw c.requires.index.here.front (c.requires.labels.each c.args.index c.requires.index.within).bounded.time in
     steps_all _ _ _ _ c.args.label.now _
-    (is_among _ _ _ _ c.args.label.now.front.last c.steps_from-step-items.result.now c.args.label.now.front.time c.loop-step.step-index c.steps_from-step-items.ensures soon (inr (c.is_late.ensures.0 c.if-is_late.true))) c.loop-step.invariant.stepped
+    (is_among _ _ _ _ c.args.label.now.front.last c.steps_from-step-items.result.now c.args.label.now.front.time c.loop-step.step-index
+    c.steps_from-step-items.ensures soon (inr (c.is_late.ensures.0 c.if-is_late.true))) c.loop-step.invariant.stepped
 
 pub returns-clause-stepped : goal.returns-clause-stepped
 returns-clause-stepped c =
     let soon : c.args.label.now.front.time ≤ 20 * MOST_TIME = rw c.requires.index.here.front (c.requires.labels.each c.args.index c.requires.index.within).bounded.time in
     steps_all _ _ _ _ c.args.label.now _
-    (is_among _ _ _ _ c.args.label.now.front.last c.steps_from-step-items.result.now c.args.label.now.front.time c.loop-step.step-index c.steps_from-step-items.ensures soon (inl (omega arith))) c.loop-step.invariant.stepped
+    (is_among _ _ _ _ c.args.label.now.front.last c.steps_from-step-items.result.now c.args.label.now.front.time c.loop-step.step-index
+    c.steps_from-step-items.ensures soon (inl (omega arith))) c.loop-step.invariant.stepped

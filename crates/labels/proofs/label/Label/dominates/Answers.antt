@@ -1,4 +1,5 @@
 use Rattle.std.proofs.Common.{arith, refl, sym, ◌∙◌}
+use Rattle.completions.specs.Completions.{IsFrom}
 use Rattle.fronts.specs.Tasks.{pricing_of}
 use Rattle.labels.specs.Arena.{state_at}
 use Rattle.labels.proofs.Carrying.{carries_ahead, carries_light, remembers_last}
@@ -13,5 +14,7 @@ pub returns : goal.returns
 returns c =
     let q = pricing_of c.args.completions.now.task.now in
     let other = c.args.other.now in
+    let remembered = remembers_last q other (sym c.contains.ensures ∙ c.if-not-contains.false) in
+    let from : IsFrom other.front.last other.front.time other.front.load (state_at q other) = record { last = refl; later = omega arith; heavier = omega arith; remembered = remembered } in
     λ fits. carries_light q (state_at q c.args.self.now) (state_at q other) (c.is_ahead.ensures c.if-not-is_ahead.false)
-    (λ s h. omega (arith, (c.at-bound.ensures.holds (state_at q other) s refl (omega arith) (remembers_last q other (sym c.contains.ensures ∙ c.if-not-contains.false)) h).room, c.fits.ensures.0 fits))
+    (λ s h. omega (arith, ((c.at-bound.ensures other.front.load).holds (state_at q other) s from h).room, c.fits.ensures.0 fits))

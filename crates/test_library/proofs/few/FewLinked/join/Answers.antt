@@ -13,4 +13,5 @@ invariant_of-result c =
 pub returns : goal.returns
 returns c =
     let end : c.loop-i.i ≡ c.b.inside.len = omega arith in
-    rw (← c.a.view_is, ← c.b.view_is) (answered c.a.inside.items c.b.inside.items c.loop-i.items c.a.inside.len c.b.inside.len c.a.invariant c.b.invariant (omega arith) (rw end at c.loop-i.invariant))
+    rw (← c.a.view_is, ← c.b.view_is) (answered c.a.inside.items c.b.inside.items c.loop-i.items c.a.inside.len c.b.inside.len c.a.invariant
+    c.b.invariant (omega arith) (rw end at c.loop-i.invariant))

@@ -1,0 +1,9 @@
+//! Bounds on what may follow on the first stops of a relaxed route.
+#![tactic(auto)]
+
+mod bound;
+mod grid;
+mod table;
+
+pub use bound::{Bound, RowBound};
+pub use table::Completions;

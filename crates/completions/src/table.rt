@@ -1,0 +1,400 @@
+//! Bounds on the completions of routes, by a table from the latest time back, and one from the greatest load down
+//! (the completion bounds of Christofides, Mingozzi and Toth 1981). Of what is remembered a bound sees only that
+//! a route doesn't come back to a customer at once.
+
+ghost use Rattle.std.specs.Prelude.{◌≡◌, ◌+◌, ◌*◌, ◌<◌, ◌≤◌, ℕ, length, IfOk, IsFalse, pos, ◌+ℤ◌, ℤ, ◌≤ℤ◌, ◌⊎◌, IfSome};
+ghost use Rattle.std.specs.List.{All};
+ghost use Rattle.solomon_reader.specs.declared.limits.TheConstants.{MOST_TIME, MOST_CAPACITY};
+ghost use Rattle.solomon_reader.specs.States.{CanEnd, most_grains};
+ghost use Rattle.completions.specs.Completions.{most_paid, IsCut, IsSmall, IsBound, IsEndBound, IsBoundWith, IsRowBound, IsOnward, IsBelowStep, IsJoined};
+ghost use Rattle.fronts.specs.Fronts.{bare_state, IsBounded};
+ghost use Rattle.fronts.specs.Steps.{IsOpenStep};
+ghost use Rattle.fronts.specs.Tables.{IsAllowedRow};
+ghost use Rattle.fronts.specs.Tasks.{pricing_of};
+
+use crate::bound::{Bound, RowBound};
+use crate::grid::{Corner, Grid, Loads};
+use fronts::{CustomerSet, Front, Step, Task};
+use solomon_reader::{MOST_CAPACITY, MOST_PRICE, MOST_TIME};
+use std::alloc::AllocError;
+
+/// All prices of the customers of one vehicle together, in grains.
+const MOST_PAID: i64 = MOST_PRICE as i64 * MOST_CAPACITY as i64;
+
+/// With room for more stops than so many loads say little.
+const MOST_LOADS: u32 = 80;
+
+/// What bounds all that may follow from any row at any time, with any load.
+fn unknown(task: &Task<'_>) -> Bound
+    ensures { (v t d : ℕ) → IsBound (pricing_of task.now) v t d result }
+{
+    Bound {
+        room: task.instance.capacity(),
+        next: 0,
+        least: -MOST_PAID,
+        other: -MOST_PAID,
+    }
+}
+
+/// What bounds all that may follow from a row at a time with a load, as far as the bounds at a place tell.
+#[inline(always)]
+fn bound_in(
+    task: &Task<'_>,
+    bounds: &[RowBound],
+    place: usize,
+    v: u16,
+    time: u64,
+    load: u32,
+) -> Bound
+    requires { All (IsRowBound (pricing_of task.now)) bounds.now }
+    ensures { IsBound (pricing_of task.now) v time load result }
+{
+    if place >= bounds.len() {
+        return unknown(task);
+    }
+    let found = &bounds[place];
+    if found.row != v || u64::from(found.from) > time || u32::from(found.load) > load {
+        return unknown(task);
+    }
+    found.bound
+}
+
+/// The lesser of two numbers.
+fn lesser(a: i64, b: i64) -> i64
+    ensures first { result ≤ℤ a }
+    ensures second { result ≤ℤ b }
+    ensures one { (result ≡ a) ⊎ (result ≡ b) }
+{
+    if a <= b { a } else { b }
+}
+
+/// The greater of two numbers.
+fn greater(a: i64, b: i64) -> i64
+    ensures first { a ≤ℤ result }
+    ensures second { b ≤ℤ result }
+    ensures one { (result ≡ a) ⊎ (result ≡ b) }
+{
+    if a <= b { b } else { a }
+}
+
+/// What a step of this cost and what follows on it add, no less than all prices together.
+fn added(cost: i64, least: i64) -> i64
+    requires low { pos 0 ≤ℤ (cost +ℤ pos (most_grains * MOST_CAPACITY)) }
+    requires high { cost ≤ℤ pos (most_grains * MOST_CAPACITY) }
+    requires least { IsCut least }
+    ensures low { pos 0 ≤ℤ (result +ℤ pos most_paid) }
+    ensures high { result ≤ℤ pos (3 * most_paid) }
+    ensures least { IsBelowStep cost least result }
+{
+    let sum = cost + least;
+    if sum >= -MOST_PAID { sum } else { -MOST_PAID }
+}
+
+/// The least that follows on a step from v, where these bounds hold from there on. A route that comes from v
+/// goes back there at once only where the customer's neighbour list doesn't hold v. The task is named by the
+/// contract alone.
+fn least_onward(_task: &Task<'_>, on: Bound, v: u16, step: &Step, time: u64, load: u32) -> i64
+    requires on { IsBound (pricing_of _task.now) step.now.customer time load on }
+    requires step { IsOpenStep (pricing_of _task.now) v step.now }
+    ensures { IsOnward (pricing_of _task.now) v step.now.customer time load result }
+{
+    if on.next == v && step.is_recalled {
+        return on.other;
+    }
+    on.least
+}
+
+/// The customer that comes next where the least is added: j where a step there adds less than the bound says.
+fn next_of(bound: &Bound, j: u16, value: i64) -> u16
+    ensures { let b = bound.now in
+        ((result ≡ j) × (value ≤ℤ b.least)) ⊎ ((result ≡ b.next) × (b.least ≤ℤ value)) }
+{
+    if value < bound.least { j } else { bound.next }
+}
+
+/// What bounds both what a bound does, and a step to customer j of this load and cost with what follows
+/// on it. It has no branch: mostly none can be foreseen.
+fn joined(bound: Bound, j: u16, next: &Front, room: u16, least: i64) -> Bound
+    requires bound { IsSmall bound }
+    requires room { room ≤ MOST_CAPACITY }
+    requires least { IsCut least }
+    requires load { next.now.load ≤ MOST_CAPACITY }
+    requires low { pos 0 ≤ℤ (next.now.cost +ℤ pos (most_grains * MOST_CAPACITY)) }
+    requires high { next.now.cost ≤ℤ pos (most_grains * MOST_CAPACITY) }
+    ensures { IsJoined bound j next.now.load next.now.cost room least result }
+{
+    let room = (next.load + u32::from(room)).min(u32::from(MOST_CAPACITY)) as u16;
+    let value = added(next.cost, least);
+    Bound {
+        room: bound.room.max(room),
+        next: next_of(&bound, j, value),
+        least: lesser(bound.least, value),
+        other: lesser(bound.other, greater(bound.least, value)),
+    }
+}
+
+/// Whether a front may end, whatever is remembered.
+fn can_end(task: &Task<'_>, front: &Front, rows: &CustomerSet) -> bool
+    requires rows { IsAllowedRow task.now.region.now front.now.last rows.now }
+    requires bounded { IsBounded task.now.instance.now front.now }
+    ensures no { IsFalse result → ¬ CanEnd (pricing_of task.now) (bare_state front.now) }
+{
+    rows.contains(0) && front.is_back_in_time(task.instance)
+}
+
+/// What bounds the end at a front, with any load.
+fn end_bound(task: &Task<'_>, front: &Front, rows: &CustomerSet) -> Bound
+    requires rows { IsAllowedRow task.now.region.now front.now.last rows.now }
+    requires bounded { IsBounded task.now.instance.now front.now }
+    requires load { front.now.load ≡ 0 }
+    requires cost { front.now.cost ≡ pos 0 }
+    ensures { (d : ℕ) → IsEndBound (pricing_of task.now) front.now.last front.now.time d result }
+{
+    let mut least = MOST_PAID;
+    if can_end(task, front, rows) {
+        least = lesser(front.end_cost(task.instance), MOST_PAID);
+    }
+    Bound {
+        room: 0,
+        next: 0,
+        least,
+        other: least,
+    }
+}
+
+/// What bounds a step, too, for which a front is in time, where it has at least this load.
+#[inline(always)]
+fn with_step(
+    task: &Task<'_>,
+    grid: Grid<'_>,
+    bounds: &[RowBound],
+    front: &Front,
+    load: u32,
+    step: &Step,
+    bound: Bound,
+) -> Bound
+    requires bounds { All (IsRowBound (pricing_of task.now)) bounds.now }
+    requires bounded { IsBounded task.now.instance.now front.now }
+    requires empty { front.now.load ≡ 0 }
+    requires cost { front.now.cost ≡ pos 0 }
+    requires load { load ≤ MOST_CAPACITY }
+    requires step { IsOpenStep (pricing_of task.now) front.now.last step.now }
+    requires soon { front.now.time ≤ step.now.latest }
+    requires small { IsSmall bound }
+    ensures { let f = front.now in
+        IsBoundWith (pricing_of task.now) f.last f.time load step.now.customer bound result }
+{
+    let load = load + u32::from(step.demand);
+    if load > u32::from(task.instance.capacity()) {
+        return bound;
+    }
+    let next = task.after(front, step);
+    let place = grid.place_after(step, next.time, load);
+    let on = bound_in(task, bounds, place, step.customer, next.time, load);
+    let least = least_onward(task, on, front.last, step, next.time, load);
+    joined(bound, step.customer, &next, on.room, least)
+}
+
+/// What bounds all that may follow from a row from there on, and how many customers were looked at.
+fn bound_from(
+    task: &Task<'_>,
+    grid: Grid<'_>,
+    bounds: &[RowBound],
+    v: u16,
+    corner: Corner,
+) -> (Bound, u64)
+    requires bounds { All (IsRowBound (pricing_of task.now)) bounds.now }
+    requires v { v < length task.now.instance.now.rows }
+    requires from { corner.from ≤ 20 * MOST_TIME }
+    requires load { corner.load ≤ MOST_CAPACITY }
+    ensures { IsBound (pricing_of task.now) v corner.from corner.load result.0 }
+{
+    task.instance.law_of_limits();
+    let rows = task.rows_from(v);
+    let front = Front {
+        last: v,
+        time: u64::from(corner.from),
+        load: 0,
+        cost: 0,
+    };
+    let load = u32::from(corner.load);
+    let mut bound = end_bound(task, &front, rows);
+    let mut looks: u64 = 0;
+    for step in task.steps_from(v) {
+        if step.is_late(front.time) {
+            return (bound, looks);
+        }
+        bound = with_step(task, grid, bounds, &front, load, step, bound);
+        looks = looks.saturating_add(1);
+    }
+    (bound, looks)
+}
+
+/// Puts in the bounds of a customer in a slot, if it has some, and says how many customers were looked at.
+fn fill_at(task: &Task<'_>, grid: Grid<'_>, bounds: &mut [RowBound], v: u16, slot: u32) -> u64
+    requires bounds { All (IsRowBound (pricing_of task.now)) bounds.old }
+    requires v { v < length task.now.instance.now.rows }
+    ensures { All (IsRowBound (pricing_of task.now)) bounds.new }
+{
+    let Some(corner) = grid.corner(v, slot) else {
+        return 0;
+    };
+    let (bound, looks) = bound_from(task, grid, bounds, v, corner);
+    let place = grid.place(v, u64::from(corner.from), u32::from(corner.load));
+    if place < bounds.len() {
+        bounds[place] = RowBound {
+            bound,
+            from: corner.from,
+            row: v,
+            load: corner.load,
+        };
+    }
+    looks
+}
+
+/// Puts in the bounds of all customers in a slot, and says how many customers were looked at.
+fn fill_slot(task: &Task<'_>, grid: Grid<'_>, bounds: &mut [RowBound], slot: u32) -> u64
+    requires { All (IsRowBound (pricing_of task.now)) bounds.old }
+    ensures { All (IsRowBound (pricing_of task.now)) bounds.new }
+{
+    let mut looks: u64 = 0;
+    for v in 1..task.instance.customer_count() + 1 {
+        looks = looks.saturating_add(fill_at(task, grid, bounds, v, slot));
+    }
+    looks
+}
+
+/// Puts in all bounds, those of the last slot first, and says how many customers were looked at.
+fn fill(task: &Task<'_>, grid: Grid<'_>, bounds: &mut [RowBound]) -> u64
+    requires { All (IsRowBound (pricing_of task.now)) bounds.old }
+    ensures { All (IsRowBound (pricing_of task.now)) bounds.new }
+{
+    let last = grid.last();
+    let mut looks: u64 = 0;
+    for past in 0..last.saturating_add(1) {
+        let slot = last.saturating_sub(past);
+        looks = looks.saturating_add(fill_slot(task, grid, bounds, slot));
+    }
+    looks
+}
+
+/// The bounds of a grid, and how many customers were looked at for them.
+fn bounds_of(task: &Task<'_>, grid: Grid<'_>) -> Result<(Vec<RowBound>, u64), AllocError>
+    ensures { IfOk result (λ b. All (IsRowBound (pricing_of task.now)) b.0.items) }
+{
+    let nothing = RowBound {
+        bound: unknown(task),
+        from: 0,
+        row: 0,
+        load: 0,
+    };
+    let mut bounds = vec![in task.alloc; nothing; grid.count(task.instance)]?;
+    let looks = fill(task, grid, bounds.as_mut_slice());
+    Ok((bounds, looks))
+}
+
+/// The slots of load of a task, if bounds for them pay: where a search without them took so many looks, and few
+/// customers fit a vehicle.
+fn loads_for(task: &Task<'_>, looks: u64) -> Option<Loads> {
+    let loads = Loads::new(task.instance);
+    let customers = u64::from(task.instance.customer_count());
+    let filling = customers
+        .saturating_mul(customers)
+        .saturating_mul(u64::from(loads.count()));
+    (loads.count() <= MOST_LOADS && looks > filling.saturating_mul(3)).then_some(loads)
+}
+
+/// Bounds on what may follow from each row at each time, and where those pay, with each load.
+#[derive(Drop)]
+pub struct Completions<'t, 'i> {
+    /// What they are the bounds of.
+    pub task: &'t Task<'i>,
+    by_time: Vec<RowBound>,
+    by_load: Vec<RowBound>,
+    loads: Option<Loads>,
+    looks: u64,
+    ghost at_times: { All (IsRowBound (pricing_of task.now)) by_time.items },
+    ghost at_loads: { All (IsRowBound (pricing_of task.now)) by_load.items },
+}
+
+impl<'t, 'i> Completions<'t, 'i> {
+    /// Bounds that hold of anything.
+    pub fn unknown(task: &'t Task<'i>) -> Completions<'t, 'i>
+        ensures { result.task.now ≡ task.now }
+    {
+        Completions {
+            task,
+            by_time: Vec::new(task.alloc),
+            by_load: Vec::new(task.alloc),
+            loads: None,
+            looks: 0,
+        }
+    }
+
+    /// The bounds of a task, after a search that took so many looks.
+    pub fn new(task: &'t Task<'i>, looks: u64) -> Result<Completions<'t, 'i>, AllocError>
+        ensures { IfOk result (λ c. c.task.now ≡ task.now) }
+    {
+        let (by_time, time_looks) = bounds_of(task, Grid::Times(task.slots))?;
+        let loads = loads_for(task, looks);
+        let (by_load, load_looks) = match loads {
+            Some(loads) => bounds_of(task, Grid::Loads(task.slots, loads))?,
+            None => (Vec::new(task.alloc), 0),
+        };
+        Ok(Completions {
+            task,
+            by_time,
+            by_load,
+            loads,
+            looks: time_looks.saturating_add(load_looks),
+        })
+    }
+
+    /// How many customers were looked at for them. No contract: it only measures.
+    pub fn looks(&self) -> u64 {
+        self.looks
+    }
+
+    /// What bounds all that may follow from a row at a time, in tenths, with any load.
+    pub fn at(&self, v: u16, time: u64) -> Bound
+        ensures { (d : ℕ) → IsBound (pricing_of self.now.task.now) v time d result }
+    {
+        let place = self.task.slots.place(v, time);
+        bound_in(self.task, self.by_time.as_slice(), place, v, time, 0)
+    }
+
+    /// What bounds all that may follow from a row at a time, in tenths, with a load, if there are bounds by load.
+    pub fn at_load(&self, v: u16, time: u64, load: u32) -> Option<Bound>
+        ensures { IfSome result (IsBound (pricing_of self.now.task.now) v time load) }
+    {
+        let loads = self.loads?;
+        let place = Grid::Loads(self.task.slots, loads).place(v, time, load);
+        Some(bound_in(self.task, self.by_load.as_slice(), place, v, time, load))
+    }
+}
+
+#[cfg(test)]
+mod tests {
+    use super::*;
+    use branching::Region;
+    use fronts::Nearness;
+    use solomon_reader::read;
+    use std::test::Fail;
+
+    /// Two customers, from one to the other 2 with the service there, and the depot open for 600.
+    const NEAR: &str =
+        "near VEHICLE NUMBER CAPACITY 2 10 CUSTOMER CUST NO. XCOORD. YCOORD. DEMAND READY TIME DUE DATE SERVICE TIME 0 0 0 0 0 600 0 1 5 0 1 0 600 1 2 6 0 1 0 600 1";
+
+    #[test]
+    fn a_short_step_leads_into_a_later_slot(rt: HostRuntime) -> Result<(), Fail> {
+        let alloc = rt.alloc();
+        let instance = read(alloc, NEAR.as_bytes())?;
+        let nearness = Nearness::new(alloc, &instance, 0)?;
+        let region = Region::root(alloc, instance.customer_count());
+        let prices = vec![in alloc; 0; usize::from(instance.customer_count())]?;
+        let task = Task::new(alloc, &nearness, &region, prices.as_slice())?;
+        let completions = Completions::new(&task, 0)?;
+        assert_eq!(rt; completions.at(1, 60).least, 50_000);
+        Ok(())
+    }
+}

@@ -1,9 +1,0 @@
-use Rattle.std.proofs.lemmas.List.Elements.{All-set}
-use Rattle.fronts.specs.Completions.{IsRowBound}
-use Rattle.fronts.specs.Tasks.{pricing_of}
-use Rattle.fronts.proofs.completions.fill_at.Goals as goal
-
-pub returns-then-place-bounds : goal.returns-then-place-bounds
-returns-then-place-bounds c =
-    let task = c.args.task.now in
-    All-set (IsRowBound (pricing_of task)) c.args.bounds.now c.place-place.result (record { bound = c.bound_from-looks.result.0; from = c.in-Some.from; row = c.args.v }) (rw c.from.ensures at c.bound_from-looks.ensures) c.requires.bounds

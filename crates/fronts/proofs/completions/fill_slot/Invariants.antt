@@ -1,7 +1,0 @@
-use Rattle.std.specs.List.{All}
-use Rattle.fronts.specs.Completions.{IsRowBound}
-use Rattle.fronts.specs.Tasks.{pricing_of}
-use Rattle.fronts.proofs.completions.fill_slot.Given as goal
-
-abbrev pub invariant-loop-v : goal.invariant-loop-v
-invariant-loop-v l = All (IsRowBound (pricing_of l.task)) l.bounds

@@ -1,0 +1,63 @@
+//! What is to be priced.
+
+ghost use Rattle.std.specs.Prelude.{◌≡◌, ◌≤◌, length, IfOk};
+ghost use Rattle.std.proofs.Props.{props};
+ghost use Rattle.std.specs.List.{AllByRecursion};
+ghost use Rattle.solomon_reader.specs.Problem.{customer_count};
+ghost use Rattle.solomon_reader.specs.CertificateText.{IsPrice};
+ghost use Rattle.solomon_reader.specs.declared.limits.TheConstants.{MOST_NEIGHBOURS};
+
+use branching::Region;
+use solomon_reader::Instance;
+use std::alloc::AllocError;
+
+/// Prices at a region of an instance, of which the least reduced cost is asked.
+#[derive(Debug, Drop)]
+pub struct PricingTask<'i> {
+    /// The instance.
+    pub instance: &'i Instance,
+    /// The region whose relaxed routes count.
+    pub region: Region,
+    /// How many neighbours each customer has in relaxed routes, at most 15.
+    pub neighbours: u32,
+    /// The prices in grains; that of customer i stands at i - 1.
+    pub prices: Vec<i64>,
+    ghost size: { region.size ≡ customer_count instance.now },
+    ghost count: { length prices.items ≡ customer_count instance.now },
+    ghost priced: { AllByRecursion IsPrice prices.items } by { Prim.hlevel props },
+    ghost few: { neighbours ≤ MOST_NEIGHBOURS },
+}
+
+impl<'i> PricingTask<'i> {
+    /// The same prices at another region of the instance, unless memory runs out.
+    pub fn at(&self, region: &Region) -> Result<PricingTask<'i>, AllocError>
+        requires { region.now.size ≡ self.now.region.size }
+        ensures instance { IfOk result (λ t. t.instance.now ≡ self.now.instance.now) }
+        ensures region { IfOk result (λ t. t.region ≡ region.now) }
+        ensures neighbours { IfOk result (λ t. t.neighbours ≡ self.now.neighbours) }
+        ensures prices { IfOk result (λ t. t.prices.items ≡ self.now.prices.items) }
+    {
+        Ok(PricingTask {
+            instance: self.instance,
+            region: region.try_clone()?,
+            neighbours: self.neighbours,
+            prices: self.prices.clone()?,
+        })
+    }
+
+    /// Other prices at the same region, in grains, unless memory runs out.
+    pub fn with(&self, prices: Vec<i64>) -> Result<PricingTask<'i>, AllocError>
+        requires count { length prices.items ≡ customer_count self.now.instance.now }
+        requires in_range { AllByRecursion IsPrice prices.items }
+        ensures instance { IfOk result (λ t. t.instance.now ≡ self.now.instance.now) }
+        ensures region { IfOk result (λ t. t.region ≡ self.now.region) }
+        ensures neighbours { IfOk result (λ t. t.neighbours ≡ self.now.neighbours) }
+    {
+        Ok(PricingTask {
+            instance: self.instance,
+            region: self.region.try_clone()?,
+            neighbours: self.neighbours,
+            prices,
+        })
+    }
+}

@@ -1,0 +1,45 @@
+-- A leaf with prices, and the value that they give it.
+use Rattle.std.specs.Prelude.{◌≡◌, ℕ, ◌<◌, ◌≤◌, List, ℤ, pos, Option, Some, None}
+use Rattle.std.specs.List.{AllByRecursion}
+use Rattle.solomon_reader.specs.Problem.{Problem, customer_count}
+use Rattle.solomon_reader.specs.Region.{Region}
+use Rattle.solomon_reader.specs.Bound.{version_2, IsLeafValue}
+use Rattle.solomon_reader.specs.CertificateText.{IsPrice}
+use Rattle.solomon_reader.specs.declared.limits.TheConstants.{MOST_NEIGHBOURS}
+
+-- prices at a region, and a value in tenths
+pub record ValuedPrices : Type 0 where
+  pub problem : Problem
+  pub region : Region
+  pub neighbours : ℕ
+  pub prices : List ℤ
+  pub value : ℕ
+
+-- no value reaches this
+abbrev pub MOST_VALUE : ℕ
+MOST_VALUE = 100000000000000000000
+
+-- nor is a least reduced cost farther from 0 than this, in grains
+abbrev pub MOST_LEAST : ℕ
+MOST_LEAST = 20000000000000000
+
+-- the value is that of a leaf at the region with these prices
+pub record IsValued (f : ValuedPrices) : Type 0 where
+  pub size : f.region.size ≡ customer_count f.problem
+  pub few : f.neighbours ≤ MOST_NEIGHBOURS
+  pub priced : AllByRecursion IsPrice f.prices
+  pub valued : IsLeafValue version_2 f.problem f.region f.neighbours f.prices f.value
+  pub bound : f.value < MOST_VALUE
+
+-- these prices at this region of the instance, with their value
+pub record IsPricedBy (p : Problem) (g : Region) (k : ℕ) (ps : List ℤ) (f : ValuedPrices) : Type 0 where
+  pub problem : f.problem ≡ p
+  pub region : f.region ≡ g
+  pub neighbours : f.neighbours ≡ k
+  pub prices : f.prices ≡ ps
+  pub valued : IsValued f
+
+-- the least reduced cost, or 0 where there is none
+abbrev pub or_zero : Option ℤ → ℤ
+or_zero None = pos 0
+or_zero (Some m) = m
