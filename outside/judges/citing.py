@@ -3,7 +3,7 @@ import glob
 import os
 import re
 
-DOCUMENTS = ("*.md", "docs/*.md", "bench/README.md", "bench/instances/README.md", "outside/README.md",
+DOCUMENTS = ("*.md", "docs/*.md", "docs/*/*.md", "bench/README.md", "bench/instances/README.md", "outside/README.md",
              "outside/*/README.md", "release/README.md", "examples/README.md")
 
 # What a document cites and the sources don't have, with the reason.
@@ -17,7 +17,7 @@ EXCEPTIONS = {
 EXCEPTED = {
     r"(.*/)?out/.*": "made by builds and runs",
     r"/dev/.*": "the system's",
-    r"(c|r|rc)[12](_\d+)?": "the files and classes of docs/measures.md, most of which aren't in the repository",
+    r"(c|r|rc)[12](_\d+)?": "the files and classes of docs/lab/measures.md, most of which aren't in the repository",
     r"(?=.*\d)[0-9a-f]{7}": "commits",
     r"\./plan|(instance|plan|certificate|yesterday|today|start)\.txt": "a user's own files",
 }
@@ -25,7 +25,7 @@ EXCEPTED = {
 # Where files stand that a document names without a folder: what it is about.
 HOMES = {
     "docs/definitions.md": ("crates/solomon_reader/specs", "crates/instruments/data"),
-    "docs/runs.md": ("outside",),
+    "docs/lab/runs.md": ("outside",),
     "outside/README.md": ("outside/reference", "outside/tools", "outside/cases", "outside/judges"),
     "outside/judges/README.md": ("outside",),
     "CONTRIBUTING.md": ("crates/instruments/data",),
@@ -205,10 +205,13 @@ class Document:
             self.crate = name if name in self.sources.crates and self.path == "docs/theorems.md" else None
 
     def bases(self, text):
-        """The folders that a path of this line may begin in: those that the line names are among them."""
+        """The folders that a path of this line may begin in: those that the line names, and those of the crates that
+        it names, are among them."""
         bases = ["", self.folder, "crates", "crates/*", *HOMES.get(self.path, ())]
         for span in SPAN.findall(text):
             for word in expanded(span).split():
+                if word in self.sources.crates:
+                    bases.append("crates/%s/src" % word)
                 if "/" in word:
                     word = ANY.sub("*", word)
                     bases.append(word if self.sources.has_path(word + "/.", ("",)) else os.path.dirname(word))
