@@ -68,9 +68,6 @@ module _ (t : Texts) (p : Problem) (c : Certificate) (s : Option Spelled) (are :
   right_bound : HasBound p c c.bound
   right_bound = subst (λ (q : Problem). HasBound q c c.bound) same_problem (subst (λ (x : Certificate). HasBound right.problem x x.bound) same_certificate right.accepted.is_bound)
 
-  right_solution : IsRightSolution p t.solution
-  right_solution = subst (λ (q : Problem). IsRightSolution q t.solution) same_problem right.solution
-
   bound_wrong : (e : CheckFault) → RefusesBound p c e → IsLimit e
   bound_wrong fault.Memory h = tt
   bound_wrong fault.StateLimit h = tt

@@ -8,11 +8,11 @@ use Rattle.solomon_reader.specs.declared.limits.TheConstants.{MOST_PRICE, MOST_C
 use Rattle.solomon_reader.specs.Distance.{distance}
 use Rattle.solomon_reader.specs.Plan.{load_of}
 use Rattle.solomon_reader.specs.Problem.{IsCustomer, demand, due}
-use Rattle.solomon_reader.specs.States.{Pricing, State, begins, step, CanEnd, Completes, value_with}
+use Rattle.solomon_reader.specs.States.{Pricing, State, begins, step, Completes, value_with}
 use Rattle.fronts.specs.declared.front.Front.{Front}
 use Rattle.completions.specs.declared.bound.Bound.{Bound}
-use Rattle.completions.specs.Completions.{most_paid, IsSmall, Holds, IsFrom, IsBound, StartsIn, IsBoundAmong, IsEndBound, IsBoundWith, IsOnward, IsBelowStep, IsJoined}
-use Rattle.fronts.specs.Fronts.{bare_state, end_cost, IsTask, IsAfter}
+use Rattle.completions.specs.Completions.{most_paid, Holds, IsFrom, IsBound, StartsIn, IsBoundAmong, IsBoundWith, IsOnward, IsBelowStep, IsJoined}
+use Rattle.fronts.specs.Fronts.{bare_state, IsTask, IsAfter}
 use Rattle.solomon_reader.specs.Memories.{place_of}
 use Rattle.solomon_reader.proofs.Places.{near_at}
 use Rattle.solomon_reader.specs.Region.{IsAllowed}
@@ -57,28 +57,6 @@ module _ (q : Pricing) (task : IsTask q.problem q.region q.prices) (held : q.pro
   module _ (f : Front) (v t d : ℕ) (last_is : f.last ≡ v) (time_is : f.time ≡ t) (load : f.load ≡ 0) (cost : f.cost ≡ pos 0) where
     begins_no_later : (a : State) (j : ℕ) → a.last ≡ v → t ≤ a.time → begins q.problem (bare_state f) j ≤ begins q.problem a j
     begins_no_later a j last later = omega (arith, later, time_is, ap (λ (i : ℕ). distance q.problem i j) last, ap (λ (i : ℕ). distance q.problem i j) last_is)
-
-    can_end_sooner : (a : State) → a.last ≡ v → t ≤ a.time → CanEnd q a → CanEnd q (bare_state f)
-    can_end_sooner a last later can = record {
-      allowed = rw last_is (rw last at can.allowed);
-      closing = omega (arith, later, time_is, can.closing, ap (λ (i : ℕ). distance q.problem i 0) last, ap (λ (i : ℕ). distance q.problem i 0) last_is);
-    }
-
-    pub bound_none : (b : Bound) → IsSmall b → b.other ≡ b.least → (CanEnd q (bare_state f) → ⊥) ⊎ (b.least ≤ℤ end_cost q.problem f) → IsEndBound q v t d b
-    bound_none b small same end = record { small = small; holds = holds }
-      where
-        ends : (a : State) → a.last ≡ v → t ≤ a.time → CanEnd q a → b.least ≤ℤ end_cost q.problem f
-        ends a last later can = elim end [
-          | inl never ↦ absurd (never (can_end_sooner a last later can))
-          | inr low ↦ low
-        ]
-
-        holds : (a : State) (s : List ℕ) → IsFrom v t d a → StartsIn (λ _. ⊥) s → Completes q a s → Holds q a s b
-        holds a [] from below h =
-            let low : (a.cost +ℤ b.least) ≤ℤ value_with q a [] =
-            omega (arith, ints, ends a from.last from.later h, cost, ap (λ (i : ℕ). distance q.problem i 0) from.last, ap (λ (i : ℕ). distance q.problem i 0) last_is) in
-            record { room = omega arith; least = low; other = λ _. omega (arith, ints, same, low) }
-        holds a (j ∷ s) from below h = absurd below
 
     module _ (j e : ℕ) (sum : e ≡ d + demand q.problem j) (b : Bound) (next : Front) (on : Bound) (least z : ℤ) (is : z ≡ least) (out : Bound) (after : IsAfter q.problem q.prices f j next)
         (bound : IsBound q j next.time e on) (onward : IsOnward q v j next.time e least) (joined_z : IsJoined b j next.load next.cost on.room z out) where
@@ -163,19 +141,6 @@ module _ (q : Pricing) (task : IsTask q.problem q.region q.prices) (held : q.pro
           so_far.holds a (i ∷ s) from (reached i h.0.customer (rw from.last at (can_reach q a i h.0)) (rw from.last at h.0.allowed) soon) h
 
 module _ (q : Pricing) where
-  -- a bound of an earlier time and a lower load holds later and with more
-  pub bound_later : (v t d w u e : ℕ) (b : Bound) → v ≡ w → t ≤ u → d ≤ e → IsBound q v t d b → IsBound q w u e b
-  bound_later v t d w u e b same le few h =
-      let later : IsBound q v u e b = record {
-        small = h.small;
-        holds = λ a s from c. h.holds a s (record { last = from.last; later = omega (arith, le, from.later); heavier = omega (arith, few, from.heavier); remembered = from.remembered }) c;
-      } in
-      rw same at later
-
-  -- after a step to j that comes from v
-  pub onward_least : (v j t d : ℕ) (on : Bound) (z : ℤ) → z ≡ on.least → IsBound q j t d on → IsOnward q v j t d z
-  onward_least v j t d on z is h = rw is (record { cut = h.small.least; least = λ a s last remembered from can c. (h.holds (step q a j) s from c).least })
-
   pub onward_other : (v j t d : ℕ) (on : Bound) (z : ℤ) → z ≡ on.other → on.next ≡ v → place_of q.problem q.neighbours j v < 16 → IsBound q j t d on → IsOnward q v j t d z
   onward_other v j t d on z is next low h = rw is (record {
     cut = h.small.other;

@@ -86,9 +86,6 @@ swapped a b c i = record {
   made = swap_one a.made b.made c.made i;
 }
 
-none_one : (b : ℕ) → 0 + b ≡ b
-none_one b = omega arith
-
 pub tally_by-none : {X : Type 0} (f : X → Tally) → tally_by f [] ≡ each 0
 unfolding tally_by each
 tally_by-none f = refl

@@ -106,9 +106,6 @@ module _ (P : Pair → Type 0) where
         × (Contains (get_or xs i empty) j × P (i, j) → Contains (get_or ys i empty) j)
     pub above : (i : ℕ) → n ≤ i → get_or ys i empty ≡ get_or xs i empty
 
-  pub below_none : (xs : List Rows) → IsNarrowedBelow 0 xs xs
-  below_none xs = record { count = refl; below = λ i j w low. absurd (omega (arith, low)); above = λ i h. refl }
-
   pub below_more : (n : ℕ) (xs ys : List Rows) (s : Rows) → n < length xs → IsNarrowedBelow n xs ys
       → ((j : ℕ) → (Contains s j → Contains (get_or ys n empty) j × P (n, j)) × (Contains (get_or ys n empty) j × P (n, j) → Contains s j)) → IsNarrowedBelow (n + 1) xs (set ys n s)
   below_more n xs ys s within so_far here = record {
@@ -119,9 +116,6 @@ module _ (P : Pair → Type 0) where
     ];
     above = λ i past. get_or-set_other ys n i s empty (λ e. omega (arith, e, past)) ∙ so_far.above i (omega arith);
   }
-
-  pub below_all : (n : ℕ) (xs ys : List Rows) → length xs ≤ n → IsNarrowedBelow n xs ys → IsNarrowed P xs ys
-  below_all n xs ys past h = record { count = h.count; each = λ i j w. h.below i j w (omega arith) }
 
 -- one arc is taken out
 pub narrowed_set : (a : Arc) (xs : List Rows) → a.from < length xs → IsNarrowed (λ b. pair a ≢ b) xs (set xs a.from (remove (get_or xs a.from empty) a.to))

@@ -8,7 +8,7 @@ use Rattle.std.specs.List.Sorted.{IsNonDecreasingBy}
 use Rattle.std.proofs.lemmas.Bool.{cases_lt}
 use Rattle.std.proofs.lemmas.Int.{ints}
 use Rattle.std.proofs.lemmas.List.{get_or_read, get_or_append_left, get_or_push}
-use Rattle.std.proofs.lemmas.List.Elements.{All-nil, All-push, All-weaker}
+use Rattle.std.proofs.lemmas.List.Elements.{All-push, All-weaker}
 use Rattle.std.proofs.lemmas.List.Sums.{sum_by_push}
 use Rattle.solomon_reader.specs.declared.limits.TheConstants.{MOST_TIME}
 use Rattle.solomon_reader.specs.Problem.{Problem, IsCustomer}
@@ -48,14 +48,6 @@ pub record IsOpened (p : Problem) (k : ℕ) (price : ℕ → ℤ) (Q : ℕ → T
   pub ahead : (m n : ℕ) (d : Step) → m < length chosen → i ≤ n → n < length steps → key (get_or chosen m d) ≤ key (step_at steps n)
 
 module _ (p : Problem) (k : ℕ) (price : ℕ → ℤ) (Q : ℕ → Type 0) (v : ℕ) (steps : List Step) where
-  pub opened_none : IsOpened p k price Q v steps 0 []
-  opened_none = record {
-    each = All-nil _;
-    all = λ m low among. absurd (omega (arith, low));
-    falling = λ i j d le low. absurd (omega (arith, low));
-    ahead = λ m n d low from high. absurd (omega (arith, low));
-  }
-
   module _ (i : ℕ) (chosen : List Step) (h : IsOpened p k price Q v steps i chosen) where
     pub opened_same : ¬ Q (step_at steps i).customer → IsOpened p k price Q v steps (i + 1) chosen
     opened_same out = record {

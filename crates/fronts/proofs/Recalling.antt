@@ -1,6 +1,6 @@
 -- What a visit leaves of a memory.
 use Rattle.std.proofs.Common.{◌≡◌, refl, ℕ, ◌+◌, ◌<◌, ◌≤◌, ◌^◌, Bool, true, false, ◌&&◌, ◌||◌, eqb, List, length, get_or, arith, ap, sym, ◌∙◌, inl, inr}
-use Rattle.std.proofs.lemmas.Nat.Bits.{bit_at_above, bit_at-zero}
+use Rattle.std.proofs.lemmas.Nat.Bits.{bit_at_above}
 use Rattle.std.proofs.lemmas.Bool.{cases_Bool, cases_eq, eq-eqb, ne_eqb, or_left, false_from_ne_true, both_ways}
 use Rattle.solomon_reader.specs.Problem.{Problem}
 use Rattle.solomon_reader.specs.Remembering.{near}
@@ -16,14 +16,6 @@ pub record Holds (p : Problem) (k v memory : ℕ) (list : List ℕ) (i after : �
   pub above : (m : ℕ) → 1 ≤ m → i ≤ m → has_bit after m ≡ false
 
 module _ (p : Problem) (k v memory : ℕ) (list : List ℕ) where
-  pub holds_first : (after : ℕ) → after < 2 ^ 16 → ((m : ℕ) → has_bit after m ≡ ((true && eqb m 0) || has_bit 0 m)) → Holds p k v memory list 1 after
-  holds_first after small is = record {
-    small = small;
-    first = is 0;
-    below = λ m low high. absurd (omega (arith, low, high));
-    above = λ m low high. is m ∙ rw (ne_eqb m 0 (λ e. omega (arith, e, low)), bit_at-zero m) refl;
-  }
-
   module _ (i after : ℕ) (positive : 1 ≤ i) (so_far : Holds p k v memory list i after) where
     pub holds_no : (next : ℕ) → next < 2 ^ 16 → recalls p k v memory (get_or list i 0) ≡ false → ((m : ℕ) → has_bit next m ≡ has_bit after m) → Holds p k v memory list (i + 1) next
     holds_no next small out is = record {

@@ -3,7 +3,7 @@ use Rattle.std.proofs.Common.{◌≡◌, ℕ, suc, ◌+◌, ◌*◌, ◌-◌, �
 use Rattle.std.specs.Prelude.{◌==◌, ℤ, pos}
 use Rattle.std.specs.List.{All}
 use Rattle.std.specs.List.Sorted.{IsPermutation, IsNonDecreasingBy}
-use Rattle.std.proofs.lemmas.List.Elements.{All-nil, All-push}
+use Rattle.std.proofs.lemmas.List.Elements.{All-push}
 use Rattle.std.proofs.lemmas.List.Sums.{sum_by-cons, sum_by_push}
 use Rattle.std.proofs.lemmas.List.Sorted.{sum_by-IsPermutation, All-permutation}
 use Rattle.std.proofs.lemmas.Bool.{cases_lt, cases_eq}
@@ -46,9 +46,6 @@ pub record HaveBelow (p : Problem) (k v n : ℕ) (steps : List Step) : Type 0 wh
   pub all : (j : ℕ) → IsCustomer p j → IsReachable p v j → j < n → 1 ≤ steps_to j steps
 
 module _ (p : Problem) (k v : ℕ) where
-  pub have_none : (n : ℕ) → n ≡ 1 → HaveBelow p k v n []
-  have_none n one = record { each = All-nil _; all = λ j customer reachable low. absurd (omega (arith, customer.0, low, one)) }
-
   module _ (n : ℕ) (steps : List Step) (h : HaveBelow p k v n steps) where
     pub have_same : ¬ IsReachable p v n → HaveBelow p k v (n + 1) steps
     have_same never = record {

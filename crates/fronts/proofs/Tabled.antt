@@ -1,5 +1,5 @@
 -- Tables that grow.
-use Rattle.std.proofs.Common.{◌≡◌, refl, ℕ, ◌+◌, List, [], ◌∷◌, ◌++◌, length-append, arith, inl, inr}
+use Rattle.std.proofs.Common.{◌≡◌, ℕ, ◌+◌, List, [], ◌∷◌, ◌++◌, length-append, arith, inl, inr}
 use Rattle.std.proofs.lemmas.Bool.{cases_lt}
 use Rattle.std.proofs.lemmas.List.{get_or_append_left, get_or_push}
 use Rattle.fronts.specs.Tables.{IsTable}
@@ -13,9 +13,3 @@ module _ {X : Type 0} (T : ℕ → X → Type 0) where
       | inr more ↦ (let same : m ≡ i = omega arith in rw (same, get_or_push table x d i h.count) here)
     ];
   }
-
-  pub table_none : IsTable T 0 []
-  table_none = record { count = refl; each = λ m d below. absurd (omega arith) }
-
-  pub table_all : (i n : ℕ) (table : List X) → i ≡ n → IsTable T i table → IsTable T n table
-  table_all i n table same h = rw (← same) h

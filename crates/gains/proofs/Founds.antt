@@ -39,9 +39,6 @@ same_less v u x h k = omega (arith, ints)
 weaken : (v u : ℤ) → v <ℤ u → v ≤ℤ u
 weaken v u h = omega (arith, ints)
 
-irreflexive : (v : ℤ) → v <ℤ v → ⊥
-irreflexive v h = omega (arith, ints)
-
 above : (v u : ℤ) → ¬ (u ≤ℤ v) → v <ℤ u
 above v u h = grind (arith, ints)
 

@@ -1,5 +1,5 @@
 -- A search for the best gain between two routes, through the moves by their numbers.
-use Rattle.std.proofs.Common.{◌≡◌, refl, ℕ, ◌+◌, ◌<◌, ◌≤◌, List, [], ◌∷◌, ◌++◌, length, get_or, sym, subst, ◌∙◌, arith, ◌⊎◌, inl, inr}
+use Rattle.std.proofs.Common.{◌≡◌, refl, ℕ, ◌+◌, ◌<◌, ◌≤◌, List, [], ◌∷◌, ◌++◌, length, sym, subst, ◌∙◌, arith, ◌⊎◌, inl, inr}
 use Rattle.std.specs.Prelude.{ℤ, Some}
 use Rattle.std.proofs.lemmas.Bool.{cases_lt}
 use Rattle.moves.specs.declared.candidate.Chain.{Chain}
@@ -92,12 +92,6 @@ module _ (m : Neighbourhood) where
     lower = r.lower;
     found = r.found;
   }
-
-third_is : (a i l : ℕ) (ns : List ℕ) → Starts (a ∷ i ∷ l ∷ []) ns → get_or ns 2 0 ≡ l
-third_is a i l [] s = absurd s
-third_is a i l (x ∷ []) s = absurd s.1
-third_is a i l (x ∷ y ∷ []) s = absurd s.1.1
-third_is a i l (x ∷ y ∷ z ∷ ns) s = s.1.1.0
 
 -- the first numbers of a move, with its second route behind them
 pub with_second : (n : Move) (a i l b : ℕ) → second_route n ≡ b → Starts (a ∷ i ∷ l ∷ []) (numbers n) → Starts (a ∷ i ∷ l ∷ b ∷ []) (numbers n)

@@ -87,10 +87,6 @@ one_found p routes k a b found old new known_a known_b kept best is c d known_c 
           (with_known p routes k a b found (entry_of old a b) (kept a b known_a known_b) (subst (IsBestAmong p routes (IsBetween k a b)) (sym (same_found p routes k a b found best.found)) best))))
     ]
 
--- a copy keeps the same
-pub same_kept : (p : Problem) (routes : List (List ℕ)) (old new : PairGains) → rows_of new ≡ rows_of old → AreKept p routes old → AreKept p routes new
-same_kept p routes old new same kept a b known_a known_b = subst (IsKept p routes a b) (sym (ap (λ r. get_or (get_or r a []) b unknown) same)) (kept a b known_a known_b)
-
 -- AFTER TWO ROUTES WERE REPLACED
 
 module _ (r : Replaced) (before count : ℕ) (old b1 b2 b3 b4 b5 new : PairGains) (first : IsForgotten r.first old b1) (second : IsForgotten r.second b1 b2)

@@ -131,13 +131,6 @@ module _ (b : Contents) (book : IsBook b) where
   abbrev Grows : ℕ → Tree → Type 0
   Grows m tree = GrowsAt b.past b.prices m tree
 
-  -- the children's numbers
-  left_is : (m : ℕ) (j : ℕ) (a : Pair) → split_of b.past m ≡ Some (j, a) → used_of (split_of b.past m) ≡ used_number j
-  left_is m j a e = ap used_of e
-
-  right_is : (m : ℕ) (j : ℕ) (a : Pair) → split_of b.past m ≡ Some (j, a) → unused_of (split_of b.past m) ≡ unused_number j
-  right_is m j a e = ap unused_of e
-
   has_bound : (m : ℕ) (tree : Tree) → Grows m tree → HasBound version_2 b.problem b.neighbours (region_of n b.past m) tree (at m tree)
   has_bound m (leaf ps) g = (value_of b.root b.past m, rw g.1 (book.leaves m g.0).valued, refl)
   has_bound m (split a x y) g =

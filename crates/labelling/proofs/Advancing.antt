@@ -281,17 +281,6 @@ module _ (q : Pricing) where
         λ j customer can. steps.met j (reached j customer (can_reach q (state_at q l) j can) can.allowed (omega (arith, can.due))) can;
   }
 
-  pub here_still : (b : Option ℤ) (xs ys : List Label) (l : Label) (index : ℕ) (P : ℕ → Type 0) → index < length xs → IsSameStop (label_in xs index) l
-      → TakesSteps q b xs ys l P → IsSameStop (label_in ys index) l
-  here_still b xs ys l index P within here steps =
-      let later = (steps.moved.grown.later index within).same in
-      record {
-        front = here.front ∙ sym later.front;
-        memory = here.memory ∙ sym later.memory;
-        parent = here.parent ∙ sym later.parent;
-        stops = here.stops ∙ sym later.stops;
-      }
-
 module _ (q : Pricing) (l : Label) (b : Best) (counted : IsDear q b.value (state_at q l)) where
   -- nothing after the label costs less than the best: it needs no step
   pub end_passed : (index : ℕ) → CountsEnd q l index b b

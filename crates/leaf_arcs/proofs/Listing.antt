@@ -1,5 +1,5 @@
 -- What stands at each row, row by row.
-use Rattle.std.proofs.Common.{◌≡◌, refl, ℕ, ◌+◌, ◌<◌, List, [], ◌∷◌, ◌++◌, length, length-append, get_or, arith, inl, inr}
+use Rattle.std.proofs.Common.{◌≡◌, ℕ, ◌+◌, ◌<◌, List, [], ◌∷◌, ◌++◌, length, length-append, get_or, arith, inl, inr}
 use Rattle.std.proofs.lemmas.List.{get_or_append_left, get_or_push}
 use Rattle.std.proofs.lemmas.Bool.{cases_lt}
 
@@ -8,9 +8,6 @@ module _ {X : Type 0} (P : ℕ → X → Type 0) where
   pub record Each (i : ℕ) (all : List X) : Type 0 where
     pub count : length all ≡ i
     pub each : (v : ℕ) (d : X) → v < i → P v (get_or all v d)
-
-  pub each_none : Each 0 []
-  each_none = record { count = refl; each = λ v d below. absurd (omega (arith, below)) }
 
   pub each_more : (i : ℕ) (all : List X) (x : X) → Each i all → P i x → Each (i + 1) (all ++ (x ∷ []))
   each_more i all x h here = record {

@@ -82,10 +82,6 @@ module _ (q : Pricing) where
             (w.0, w.1.0, λ n. both_ways _ w.1.1 (near_is q.problem q.neighbours w.0 v n)));
       }
 
-  -- a list is a relaxed route exactly where it completes the start; the empty one is neither
-  pub relaxed_exactly : (r : List ℕ) → IsRelaxed q.problem q.region q.neighbours r ↔ Completes q (start q) r
-  relaxed_exactly r = (completes_relaxed r, relaxed_completes r)
-
   value_from : (r : List ℕ) (a : State)
       → value_with q a r ≡ a.cost +ℤ (pos (1000 * sum_by (arc_cost q.problem) (arcs_from a.last r)) -ℤ int_sum_by (price_of q.prices) r)
   value_from [] a = omega (arith, ints, sum_by-cons (arc_cost q.problem) (a.last, 0) [])

@@ -99,9 +99,6 @@ module _ (p : Problem) (visits : List ℕ) (n at time cost load : ℕ) (so_far :
       let w = so_far.back (time + distance p at 0) (rw rest_is (record { times = []; walks = refl })) in
       record { times = w.times; walks = w.walks; closing = timely }
 
-  pub cost_at_end : route_cost p visits ≡ cost + distance p at 0
-  cost_at_end = omega (arith, so_far.cost_is, ap (λ (r : List ℕ). sum_by (arc_cost p) (arcs_from at r)) rest_is)
-
   pub load_at_end : load ≡ load_of p visits
   load_at_end = so_far.load_is ∙ ap (load_of p) whole
 

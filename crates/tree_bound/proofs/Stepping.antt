@@ -39,14 +39,8 @@ module _ (q : Pricing) (b : Option ℤ) where
   cared_through bs cs low a moved (inl met) = inl (met_through q bs cs low a moved met)
   cared_through bs cs low a moved (inr dear) = inr dear
 
-  can_extend : (d : ℕ) (x : Label) (j : ℕ) → CanStep q (state_of q d x) j → CanExtend q d x j
-  can_extend d x j h = record { load = h.load; due = h.due; fresh = h.fresh }
-
   pub can_step : (d : ℕ) (x : Label) (j : ℕ) → IsCustomer q.problem j → IsAllowed q.region (x.customer, j) → CanExtend q d x j → CanStep q (state_of q d x) j
   can_step d x j customer allowed h = record { customer = customer; allowed = allowed; load = h.load; due = h.due; fresh = h.fresh }
-
-  pub step_no : (bs : List (List Label)) (d : ℕ) (x : Label) (j : ℕ) → IsTable q bs (d + 1) → ¬ CanExtend q d x j → TakesStep q b bs bs d x j
-  step_no bs d x j table cannot = record { moved = moved_none q bs (d + 1); table = table; met = λ can. absurd (cannot (can_extend d x j can)) }
 
   pub step_dear : (bs : List (List Label)) (d : ℕ) (x : Label) (j : ℕ) → IsTable q bs (d + 1) → IsDear q b (step q (state_of q d x) j) → TakesStep q b bs bs d x j
   step_dear bs d x j table dear = record { moved = moved_none q bs (d + 1); table = table; met = λ can. inr dear }

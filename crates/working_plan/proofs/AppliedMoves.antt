@@ -1,8 +1,6 @@
 -- A plan after a move that was made in place, or wasn't.
 use Rattle.std.proofs.Common.{◌≡◌, refl, ℕ, ◌≤◌, List, length, sym, ap, subst, ◌∙◌, arith, inl, inr}
 use Rattle.std.specs.Prelude.{ℤ, pos, ◌+ℤ◌, ◌≤ℤ◌}
-use Rattle.std.specs.Prelude.{Vec}
-use Rattle.std.specs.declared.alloc.Global.{Global}
 use Rattle.std.specs.List.{All}
 use Rattle.std.proofs.lemmas.Int.{ints}
 use Rattle.std.proofs.lemmas.List.Elements.{All-from_recursion}
@@ -12,8 +10,6 @@ use Rattle.solomon_reader.specs.Problem.{Problem, IsCustomer, customer_count}
 use Rattle.solomon_reader.specs.Layout.{IsWithinLimits}
 use Rattle.solomon_reader.specs.Plan.{IsPlan, plan_cost}
 use Rattle.solomon_reader.specs.Moves.{kept}
-use Rattle.solomon_reader.specs.Lists.{lists}
-use Rattle.segments.proofs.KnownRoutes.{known_routes}
 use Rattle.segments.specs.PlanTrees.{problem_of}
 use Rattle.segments.specs.declared.plan_trees.PlanTrees.{PlanTrees}
 use Rattle.moves.specs.declared.candidate.Move.{Move}
@@ -96,13 +92,6 @@ none_applied old new routes later cost g t plan visits exact gains gaps same e t
   where
     is : visits_of new ≡ later
     is = visits_are new (problem_of new) later trees.stops
-
--- the routes of a plan visit customers of the same instance
-pub customers_of : (p q : Problem) (visits : List (List ℕ)) (routes : List (Vec ℕ Global)) → IsPlan q visits → visits ≡ lists routes → p ≡ q
-    → All (λ r. All (λ i. IsCustomer p i) r.items) routes
-customers_of p q visits routes plan e same =
-    let here : IsPlan p (lists routes) = subst (λ x. IsPlan x (lists routes)) (sym same) (subst (IsPlan q) e plan) in
-    known_routes p routes here.fitting
 
 -- the cost after a move is within the limit of costs
 pub cost_fits : (p : Problem) (routes : List (List ℕ)) (m : Move) (v : ℤ) (cost : ℕ) → IsWithinLimits p → customer_count p ≤ MOST_CUSTOMERS
