@@ -106,64 +106,51 @@ fn step_value(leaf: &Leaf<'_, '_>, arc: &AllowedArc, after: &Floor, floor: &Floo
     Some(value)
 }
 
-/// A floor that says of a step to a customer, too, that it adds at least so much.
-fn joined(floor: Floor, to: u16, value: i64) -> Floor
-    ensures place { IsAt floor.row floor.from floor.loaded result }
-    ensures joined { IsJoined floor to value result }
+/// Lets a floor say of a step to a customer, too, that it adds at least so much.
+fn join(floor: &mut Floor, to: u16, value: i64)
+    ensures place { IsAt floor.old.row floor.old.from floor.old.loaded floor.new }
+    ensures joined { IsJoined floor.old to value floor.new }
 {
     if value < floor.least {
-        return Floor {
-            row: floor.row,
-            from: floor.from,
-            loaded: floor.loaded,
-            least: value,
-            next: to,
-            other: floor.least,
-        };
-    }
-    if value >= floor.other {
-        return floor;
-    }
-    Floor {
-        row: floor.row,
-        from: floor.from,
-        loaded: floor.loaded,
-        least: floor.least,
-        next: floor.next,
-        other: value,
+        floor.other = floor.least;
+        floor.least = value;
+        floor.next = to;
+    } else if value < floor.other {
+        floor.other = value;
     }
 }
 
-/// A floor that holds for a step over an arc, too.
-fn with_step(
+/// Lets a floor hold for a step over an arc, too.
+fn join_step(
     leaf: &Leaf<'_, '_>,
     slots: &Slots,
     floors: &[Option<Floor>],
     arc: &AllowedArc,
-    floor: Floor,
-) -> Option<Floor>
+    floor: &mut Floor,
+) -> Option<()>
     requires floors { All (IsKnown (pricing_of leaf.now)) floors.now }
-    requires row { floor.row < length (problem_of leaf.now).rows }
-    requires from { floor.from ≤ 20 * MOST_TIME }
-    requires load { floor.loaded ≤ MOST_CAPACITY }
-    requires arc { IsAllowedArc (pricing_of leaf.now) floor.row arc.now }
-    ensures place { IfSome result (IsAt floor.row floor.from floor.loaded) }
-    ensures joined { IfSome result (IsJoinedIn (pricing_of leaf.now) floor arc.now.to) }
+    requires row { floor.old.row < length (problem_of leaf.now).rows }
+    requires from { floor.old.from ≤ 20 * MOST_TIME }
+    requires load { floor.old.loaded ≤ MOST_CAPACITY }
+    requires arc { IsAllowedArc (pricing_of leaf.now) floor.old.row arc.now }
+    ensures place { IfSome result (λ _. IsAt floor.old.row floor.old.from floor.old.loaded floor.new) }
+    ensures joined { IfSome result (λ _. IsJoinedIn (pricing_of leaf.now) floor.old arc.now.to floor.new) }
 {
     let begins = (u64::from(floor.from) + arc.travel).max(arc.ready);
     if begins > arc.due {
-        return Some(floor);
+        return Some(());
     }
     let network = leaf.network;
     let load = usize::from(floor.loaded) + usize::from(arc.demand);
     if load > usize::from(network.neighbours.instance.capacity()) {
-        return Some(floor);
+        return Some(());
     }
     let time = begins + arc.service;
     let place = slots.place(arc.to, time, load);
     let after = floor_at(leaf, floors, place, arc.to, time, load)?;
-    let value = step_value(leaf, arc, &after, &floor)?;
-    Some(joined(floor, arc.to, value))
+    let value = step_value(leaf, arc, &after, floor)?;
+    join(floor, arc.to, value);
+    Some(())
 }
 
 /// The floor of a row from a start on, where those of later slots are known.
@@ -184,7 +171,7 @@ fn floor_from(
 {
     let mut floor = end_floor(leaf, arcs, start);
     for arc in arcs.arcs.as_slice() {
-        floor = with_step(leaf, slots, floors, arc, floor)?;
+        join_step(leaf, slots, floors, arc, &mut floor)?;
     }
     Some(floor)
 }
@@ -235,7 +222,7 @@ pub(crate) fn floors_of(
     requires { AreArcRows (pricing_of leaf.now) rows.now }
     ensures { IfOk result (λ floors. All (IsKnown (pricing_of leaf.now)) floors.items) }
 {
-    let mut floors = vec![in alloc; None; slots.starts.len()]?;
+    let mut floors = vec![in alloc; None; slots.places]?;
     fill(leaf, rows, slots, floors.as_mut_slice());
     Ok(floors)
 }

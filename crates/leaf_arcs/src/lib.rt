@@ -5,6 +5,7 @@
 mod arcs;
 mod bits;
 mod decision;
+mod departures;
 mod floor;
 mod free_arcs;
 mod leaf;

@@ -25,8 +25,9 @@ fn grids(alloc: Global, instance: &Instance, time_slots: &Slots) -> Result<Vec<S
     if !time_slots.starts.is_empty() && u32::from(instance.customer_count()) > most {
         return Ok(grids);
     }
+    let mut departures = Vec::new(alloc);
     for mean in MEANS {
-        let slots = Slots::of_both(alloc, instance, mean)?;
+        let slots = Slots::of_both(alloc, instance, mean, &mut departures)?;
         if !slots.starts.is_empty() {
             grids.push(slots)?;
         }

@@ -3,6 +3,7 @@
 
 ghost use Rattle.std.specs.Prelude.{◌<◌, ◌≤◌, length, IfSome};
 
+use crate::departures::departures;
 use solomon_reader::Instance;
 use std::alloc::{AllocError, Global};
 
@@ -68,7 +69,8 @@ struct RowSlots {
     loads: u64,
 }
 
-/// Slots from 0 on. Each customer has one for each in which a vehicle may leave it.
+/// Slots from 0 on. Each customer has one for each in which a vehicle may leave it, and, where that is known, may
+/// have come to it with such a load.
 #[derive(Drop)]
 pub(crate) struct Slots {
     /// A slot of time is 2 to the power of this in tenths.
@@ -76,6 +78,8 @@ pub(crate) struct Slots {
     /// 2 to the power of 32 over the length of a slot of load, rounded up.
     load_factor: u64,
     rows: Vec<RowSlots>,
+    /// How many places there are, those between the slots counted.
+    pub(crate) places: usize,
     /// Each step leads from the beginning of a slot into one that stands before it.
     pub(crate) starts: Vec<Start>,
     ghost by_time: { time_shift < 64 },
@@ -103,15 +107,6 @@ fn shortest(instance: &Instance) -> u64 {
     shortest
 }
 
-/// The least demand.
-fn least_demand(instance: &Instance) -> u64 {
-    let mut least = u64::MAX;
-    for i in 1..instance.customer_count() + 1 {
-        least = least.min(u64::from(instance.demand(i)));
-    }
-    least
-}
-
 /// The greatest common divisor of two numbers; 1 where they have none.
 fn common(a: u64, b: u64) -> u64
     ensures { 1 ≤ result }
@@ -131,14 +126,15 @@ fn common(a: u64, b: u64) -> u64
 fn load_length(instance: &Instance) -> u64
     ensures { 1 ≤ result }
 {
-    let mut divisor = 0;
+    let (mut divisor, mut least) = (0, u64::MAX);
     for i in 1..instance.customer_count() + 1 {
-        divisor = common(divisor, u64::from(instance.demand(i)));
+        let demand = u64::from(instance.demand(i));
+        (divisor, least) = (common(divisor, demand), demand.min(least));
     }
     let divisor = divisor.max(1);
     let slots = u64::from(instance.capacity()) / divisor;
     let times = (slots / LOAD_SLOTS).saturating_add(1);
-    divisor.saturating_mul(times.min(least_demand(instance) / divisor).max(1))
+    divisor.saturating_mul(times.min(least / divisor).max(1))
 }
 
 /// The first and the last slots in which a vehicle may leave a customer.
@@ -234,39 +230,44 @@ fn row_slots(
     Ok(rows)
 }
 
-/// Adds the slots of a customer at a load.
+/// Adds the slots of a customer at a load, from when on it may be left so.
 fn add_times(
     instance: &Instance,
     lengths: Lengths,
-    v: u16,
-    loaded: usize,
+    earliest: Start,
     starts: &mut Vec<Start>,
 ) -> Result<(), AllocError>
-    requires v { v < length instance.now.rows }
+    requires v { earliest.row < length instance.now.rows }
 {
-    let ends = ends_of(instance, lengths, v);
-    let earliest = instance.ready(v).saturating_add(instance.service(v));
-    for slot in ends.first_time..ends.last_time.saturating_add(1) {
+    let v = earliest.row;
+    let last = ends_of(instance, lengths, v).last_time;
+    let ready = instance.ready(v).saturating_add(instance.service(v));
+    let earliest_time = earliest.from.max(ready);
+    for slot in earliest_time >> lengths.time_shift..last.saturating_add(1) {
         starts.push(Start {
-            loaded,
-            from: (slot << lengths.time_shift).max(earliest),
+            loaded: earliest.loaded,
+            from: (slot << lengths.time_shift).max(earliest_time),
             row: v,
         })?;
     }
     Ok(())
 }
 
-/// Adds the slots at a load.
+/// Adds the slots at a load. Departures are empty where they aren't known.
 fn add_load(
     instance: &Instance,
     lengths: Lengths,
+    departures: &[u64],
     slot: u64,
     starts: &mut Vec<Start>,
 ) -> Result<(), AllocError> {
     let loaded = slot.saturating_mul(lengths.load) as usize;
-    for v in 1..instance.customer_count() + 1 {
-        if ends_of(instance, lengths, v).first_load <= slot {
-            add_times(instance, lengths, v, loaded, starts)?;
+    let before = slot.saturating_mul(u64::from(instance.customer_count()) + 1);
+    for row in 1..instance.customer_count() + 1 {
+        if ends_of(instance, lengths, row).first_load <= slot {
+            let place = before.saturating_add(u64::from(row)) as usize;
+            let from = departures.get(place).copied().unwrap_or(0);
+            add_times(instance, lengths, Start { loaded, from, row }, starts)?;
         }
     }
     Ok(())
@@ -279,6 +280,7 @@ impl Slots {
             time_shift: ONE_SLOT,
             load_factor: 0,
             rows: Vec::new(alloc),
+            places: 0,
             starts: Vec::new(alloc),
         }
     }
@@ -287,20 +289,20 @@ impl Slots {
     fn of_lengths(
         alloc: Global,
         instance: &Instance,
-        lengths: Option<Lengths>,
+        lengths: Lengths,
+        departures: &[u64],
     ) -> Result<Slots, AllocError> {
-        let Some(lengths) = lengths else {
-            return Ok(Slots::none(alloc));
-        };
         let last = u64::from(instance.capacity()) / lengths.load;
         let mut starts = Vec::new(alloc);
         for lower in 0..last.saturating_add(1) {
-            add_load(instance, lengths, last.saturating_sub(lower), &mut starts)?;
+            let slot = last.saturating_sub(lower);
+            add_load(instance, lengths, departures, slot, &mut starts)?;
         }
         Ok(Slots {
             time_shift: lengths.time_shift,
             load_factor: (1_u64 << 32).div_ceil(lengths.load),
             rows: row_slots(alloc, instance, lengths)?,
+            places: count_at(instance, lengths) as usize,
             starts,
         })
     }
@@ -315,20 +317,30 @@ impl Slots {
     ) -> Result<Slots, AllocError> {
         let shared = SHARED_SLOTS / (leaves as u64).max(1);
         let mean = shared.max(FEW_SLOTS).min(MANY_SLOTS);
-        let mut slots = Slots::of_lengths(alloc, instance, time_lengths(instance, mean))?;
+        let Some(lengths) = time_lengths(instance, mean) else {
+            return Ok(Slots::none(alloc));
+        };
+        let mut slots = Slots::of_lengths(alloc, instance, lengths, &[])?;
         slots.starts.sort()?;
         slots.starts.reverse();
         Ok(slots)
     }
 
     /// Slots of time and load of which a customer has so many in the mean, or fewer; none where a time alone
-    /// has more. Each step adds a slot of load or more.
+    /// has more. Each step adds a slot of load or more. When customers may be left is found where it isn't known.
     pub(crate) fn of_both(
         alloc: Global,
         instance: &Instance,
         mean: u64,
+        known: &mut Vec<u64>,
     ) -> Result<Slots, AllocError> {
-        Slots::of_lengths(alloc, instance, both_lengths(instance, mean))
+        let Some(lengths) = both_lengths(instance, mean) else {
+            return Ok(Slots::none(alloc));
+        };
+        if known.is_empty() {
+            *known = departures(alloc, instance, lengths.load)?;
+        }
+        Slots::of_lengths(alloc, instance, lengths, known.as_slice())
     }
 
     /// The place of the floor of a row at a time and a load.

@@ -5,15 +5,15 @@ use Rattle.leaf_arcs.proofs.floor.floor_from.Goals as goal
 pub loop-arc-preserved : goal.loop-arc-preserved
 loop-arc-preserved c =
     let so_far = c.loop-arc.invariant in
-    let joined = c.in_ok-floor.ensures.joined in
+    let joined = c.in_ok-join_step.ensures.joined in
     record {
       place = record {
-        row = c.in_ok-floor.ensures.place.row ∙ so_far.place.row;
-        from = c.in_ok-floor.ensures.place.from
+        row = c.in_ok-join_step.ensures.place.row ∙ so_far.place.row;
+        from = c.in_ok-join_step.ensures.place.from
             ∙ so_far.place.from;
-        loaded = c.in_ok-floor.ensures.place.loaded ∙ so_far.place.loaded;
+        loaded = c.in_ok-join_step.ensures.place.loaded ∙ so_far.place.loaded;
       };
-      steps = steps_next _ c.args.start.now.row c.args.start.now.from c.args.start.now.loaded c.args.arcs.now.arcs.items c.loop-arc.arc-index c.loop-arc.floor joined.0 c.in_ok-floor.floor so_far.steps
+      steps = steps_next _ c.args.start.now.row c.args.start.now.from c.args.start.now.loaded c.args.arcs.now.arcs.items c.loop-arc.arc-index c.loop-arc.floor joined.0 c.join_step.new.floor so_far.steps
           (rw (so_far.place.row, so_far.place.from, so_far.place.loaded, c.as_slice-arc-items.ensures.value) at joined.1.0) (rw c.as_slice-arc-items.ensures.value at joined.1.1);
     }
 
