@@ -3,7 +3,7 @@
 ghost use Rattle.std.specs.Prelude.{◌≤◌, ◌*◌, IfSome};
 ghost use Rattle.solomon_reader.specs.declared.limits.TheConstants.{MOST_TIME, MOST_CAPACITY};
 
-use fronts::{Front, Slots, Step, Task};
+use fronts::{Slots, Step};
 use solomon_reader::{Instance, MOST_CAPACITY};
 
 /// From which time and load on the bound of a row holds.
@@ -21,6 +21,8 @@ pub(crate) struct Corner {
 pub(crate) struct Loads {
     /// How long a slot is.
     width: u32,
+    /// What a load is multiplied by to get its slot in units of 2 to the power of -32, in place of a division.
+    inverse: u64,
     /// How many slots there are.
     count: u32,
 }
@@ -41,7 +43,12 @@ impl Loads {
     pub(crate) fn new(instance: &Instance) -> Loads {
         let width = least_demand(instance);
         let count = u32::from(instance.capacity()) / width + 1;
-        Loads { width, count }
+        let inverse = (1u64 << 32) / u64::from(width.max(1)) + 1;
+        Loads {
+            width,
+            inverse,
+            count,
+        }
     }
 
     /// How many there are.
@@ -51,7 +58,7 @@ impl Loads {
 
     /// The place of a row's bound at a load. No contract: a bound says itself what it bounds.
     fn place(self, v: u16, load: u32) -> usize {
-        let slot = load / self.width.max(1);
+        let slot = (u64::from(load).wrapping_mul(self.inverse) >> 32) as u32;
         let before = u32::from(v).saturating_mul(self.count);
         before.saturating_add(slot) as usize
     }

@@ -32,7 +32,8 @@ pub struct Slots {
     /// How long a slot is, in tenths.
     width: u64,
     /// What a time is multiplied by to get its slot in units of 2 to the power of -32, in place of a
-    /// division.
+    /// division: somewhat more than the quotient, so that a time at the very beginning of a slot counts for
+    /// it. One at the very end of a late slot may count for the next one, whose bound doesn't hold then.
     inverse: u64,
     /// The last slot of all rows.
     last: u32,
@@ -80,14 +81,6 @@ fn width_of(instance: &Instance) -> u64 {
         .min(longest)
 }
 
-/// 2 to the power of 32 divided by the length of a slot, without the rest, and 1: more than the exact
-/// quotient, so that a time at the very beginning of a slot counts for it. Where a time times that length
-/// reaches 2 to the power of 32, a time at the very end of a slot may count for the next one, whose bound
-/// doesn't hold then.
-fn inverse_of(width: u64) -> u64 {
-    (1u64 << 32) / width.max(1) + 1
-}
-
 /// The slots of a customer, whose bounds stand from a place on: for all times at which a route may leave it until
 /// the depot closes, even where it is too late to get back, so that the bounds at those times are known.
 fn row_slots(instance: &Instance, width: u64, place: u32, v: u16) -> RowSlots
@@ -126,7 +119,7 @@ impl Slots {
         let width = width_of(instance);
         let mut slots = Slots {
             width,
-            inverse: inverse_of(width),
+            inverse: (1u64 << 32) / width.max(1) + 1,
             last: 0,
             count: 0,
             rows: Vec::new(alloc),
@@ -146,12 +139,12 @@ impl Slots {
         Ok(slots)
     }
 
-    /// The last slot of all rows.
+    /// The last slot of all rows. No contract: a bound says itself what it bounds.
     pub fn last(&self) -> u32 {
         self.last
     }
 
-    /// How many bounds there are.
+    /// How many bounds there are. No contract: a bound says itself what it bounds.
     pub fn count(&self) -> usize {
         self.count as usize
     }
@@ -189,7 +182,7 @@ impl Slots {
         }
     }
 
-    /// The place of the bound of a row at a time.
+    /// The place of the bound of a row at a time. No contract: a bound says itself what it bounds.
     pub fn place(&self, v: u16, time: u64) -> usize {
         let row = usize::from(v);
         if row >= self.rows.len() {

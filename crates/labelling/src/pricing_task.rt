@@ -52,6 +52,7 @@ impl<'i> PricingTask<'i> {
         ensures instance { IfOk result (λ t. t.instance.now ≡ self.now.instance.now) }
         ensures region { IfOk result (λ t. t.region ≡ self.now.region) }
         ensures neighbours { IfOk result (λ t. t.neighbours ≡ self.now.neighbours) }
+        ensures prices { IfOk result (λ t. t.prices ≡ prices) }
     {
         Ok(PricingTask {
             instance: self.instance,

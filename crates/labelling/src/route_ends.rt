@@ -18,17 +18,12 @@ pub(crate) struct RouteEnd {
     pub(crate) index: usize,
 }
 
-/// Whether an end is one more than may be told of its last customer.
-fn is_one_more(chosen: &[RouteEnd], end: &RouteEnd) -> bool {
-    let same = chosen.iter().filter(|other| other.last == end.last);
-    same.count() >= MOST_OF_CUSTOMER
-}
-
 /// The ends to be told: the cheapest, which stand first.
 pub(crate) fn cheapest(alloc: Global, ends: &[RouteEnd]) -> Result<Vec<RouteEnd>, AllocError> {
-    let mut chosen = Vec::new(alloc);
+    let mut chosen: Vec<RouteEnd> = Vec::new(alloc);
     for end in ends {
-        if chosen.len() < MOST_ROUTES && !is_one_more(chosen.as_slice(), end) {
+        let same = chosen.iter().filter(|other| other.last == end.last);
+        if chosen.len() < MOST_ROUTES && same.count() < MOST_OF_CUSTOMER {
             chosen.push(*end)?;
         }
     }

@@ -283,22 +283,19 @@ impl CustomerLabels {
         dropped
     }
 
-    /// The group of an entry, still without it: a spare one, if there is one.
-    fn new_group(&mut self, alloc: Global, entry: &Entry) -> MemoryGroup {
-        let Some(mut group) = self.spare.pop() else {
-            return MemoryGroup::new(alloc, entry);
-        };
-        group.begin(entry);
-        group
-    }
-
     /// Adds an entry.
     pub(crate) fn add(&mut self, alloc: Global, entry: &Entry) -> Result<(), AllocError> {
         let memory = entry.memory;
         if let Some(m) = self.groups.iter().position(|g| g.memory.is_same(memory)) {
             return self.groups[m].add(entry);
         }
-        let mut group = self.new_group(alloc, entry);
+        let mut group = match self.spare.pop() {
+            Some(mut spare) => {
+                spare.begin(entry);
+                spare
+            }
+            None => MemoryGroup::new(alloc, entry),
+        };
         group.add(entry)?;
         self.groups.push(group)?;
         Ok(())

@@ -19,6 +19,7 @@ pub(crate) fn price<'i>(
     ensures problem { IfOk result (λ f. f.problem ≡ task.entry.instance.now) }
     ensures region { IfOk result (λ f. f.region ≡ task.entry.region) }
     ensures neighbours { IfOk result (λ f. f.neighbours ≡ task.entry.neighbours) }
+    ensures prices { IfOk result (λ f. f.prices ≡ task.entry.prices.items) }
     ensures in_range { IfErr result (λ e. e ≢ PriceRange) }
     ensures unlimited { IfErr result (λ e. e ≡ LabelLimit → labels ≢ None) }
 {

@@ -11,7 +11,7 @@ use crate::pricing::price;
 use branching::Region;
 use fronts::{Nearness, Task};
 use pooled_routes::{Floor, Trial};
-use price_way::{Ascent, Goal, QuickWay, RoutePool, WHOLE, widest};
+use price_way::{Ascent, Goal, QuickWay, RoutePool, WHOLE, WIDEST};
 use prices::{PriceFault, Priced};
 use quick_routes::{QuickRoutes, Width, quick_routes};
 use std::alloc::{AllocError, Global};
@@ -223,7 +223,7 @@ fn scale_of<'i>(
     let mut scale = pool.scale_at(ascent.centre.prices.as_slice())?;
     for _ in 0..SCALINGS {
         let prices = prices_at(alloc, ascent, leaf, scale)?;
-        search(alloc, pool, leaf, prices.as_slice(), 0, Some(widest()))?;
+        search(alloc, pool, leaf, prices.as_slice(), 0, Some(WIDEST))?;
         let next = pool.scale_at(ascent.centre.prices.as_slice())?;
         let is_found = next.saturating_add(LEAST_FALL) >= scale;
         scale = next;

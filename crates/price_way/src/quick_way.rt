@@ -4,7 +4,7 @@ use fronts::Task;
 use quick_routes::{Likely, Width};
 use std::alloc::AllocError;
 
-/// How widely searches look, from the narrowest on; and that before an exact pricing.
+/// How widely searches look, from the narrowest on.
 const WIDTHS: [Width; 3] = [
     Width {
         steps: 20,
@@ -23,7 +23,8 @@ const WIDTHS: [Width; 3] = [
     },
 ];
 
-const WIDEST: Width = Width {
+/// How widely the widest search looks.
+pub const WIDEST: Width = Width {
     steps: 100,
     nearest: 20,
     labels: 8,
@@ -116,10 +117,4 @@ impl QuickWay {
     pub fn hold_back(&mut self, lack: i64) {
         self.margin = self.margin.saturating_add(lack).max(0).saturating_mul(3) / 5;
     }
-}
-
-/// The widest search.
-/// No contract: a rule of search; any prices are sound.
-pub fn widest() -> Width {
-    WIDEST
 }

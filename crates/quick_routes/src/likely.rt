@@ -42,11 +42,6 @@ impl LikelyStep {
         arrival.max(self.ready).saturating_add(self.service)
     }
 
-    /// How far the customer is where it has this price, in grains.
-    fn far_at(&self, prices: &[i64]) -> i64 {
-        self.far.saturating_sub(price_of(prices, self.customer))
-    }
-
     /// The step at these prices.
     fn at(self, prices: &[i64]) -> LikelyStep {
         let way = grains(self.way);
@@ -125,7 +120,7 @@ fn choose_of(
         let others = &mut steps.as_mut_slice()[nearest..];
         let _ = others.select_nth_unstable_by_key(
             width.steps - nearest,
-            |step| step.far_at(prices),
+            |step| step.far.saturating_sub(price_of(prices, step.customer)),
         );
     }
     steps.truncate(width.steps);

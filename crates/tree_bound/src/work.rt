@@ -164,15 +164,6 @@ pub(crate) fn beginning(leaf: &Leaf<'_, '_>) -> Label
     }
 }
 
-/// How fine floors of the next leaf are to be, where so many labels stood in the end.
-fn next_level(task: &Task<'_, '_>, labels: usize) -> usize {
-    let network = task.leaf.network;
-    if labels < network.slot_count(task.level) / SLOTS_A_FEW {
-        return task.level.saturating_sub(1);
-    }
-    task.level
-}
-
 /// The least reduced cost over all relaxed routes of a task in grains; its limit, if there is one, where no
 /// route costs less.
 pub(crate) fn least(
@@ -188,6 +179,7 @@ pub(crate) fn least(
     let start = beginning(&task.leaf);
     let best = work_label(task, &mut table, 0, &start, task.limit)?;
     let cost = sweep(task, &mut table, best)?;
-    let level = next_level(task, table.standing);
+    let are_few = table.standing < network.slot_count(task.level) / SLOTS_A_FEW;
+    let level = task.level.saturating_sub(usize::from(are_few));
     Ok(LeastCost { cost, level })
 }
