@@ -14,7 +14,6 @@ use moves::{Move, Place, apply};
 use prices::{Priced, improve};
 use schedule::Feasible;
 use solomon_reader::{Instance, read};
-use std::alloc::Global;
 use std::fmt::{Debug, Display};
 use std::sync::Wait;
 use std::thread::Threads;
@@ -34,18 +33,6 @@ const NEAR: &str = "1 30 40 1 0 1000 0\n2 33 44 1 0 1000 0\n";
 const NEAR_DEPOT: &str = "0 0 1 0 0 1000 0\n";
 
 const APART: &str = "1 100 1 1 0 1000 0\n2 100 2 1 0 1000 0\n3 100 0 1 0 1000 0\n";
-
-/// The text of the instance that a call of this name needs.
-fn text_of(alloc: Global, name: &str) -> Option<String> {
-    let (fleet, capacity, depot, customers) = match name {
-        "build" | "apply" | "descend" => (2, 4, DEPOT, CROSSED),
-        "least" | "improve" => (1, 3, DEPOT, NEAR),
-        "check" | "solve_three" | "solve_from" => (2, 2, NEAR_DEPOT, APART),
-        "solve_two" => (2, 1, DEPOT, IN_LINE),
-        _ => (2, 2, DEPOT, IN_LINE),
-    };
-    instance_text(alloc, fleet, capacity, depot, customers).ok()
-}
 
 /// Routes of them that cross.
 const ROUTES: [&[u16]; 2] = [&[1, 4], &[3, 2]];
@@ -174,17 +161,6 @@ fn taken(sink: &MemorySink) -> &str {
     str::from_utf8(sink.as_slice()).unwrap_or("")
 }
 
-/// Writes the certificate, and prints what came of it and its text in quotes.
-fn tell_written<R: Host>(rt: &R, cert: &Cert) -> io::Result<()> {
-    let mut sink = MemorySink::new(rt.alloc());
-    let outcome = certificate::write(cert, &mut sink);
-    let text = taken(&sink);
-    match outcome {
-        Ok(()) => println!(rt; "Ok {text:?}"),
-        Err(fault) => println!(rt; "{fault} {text:?}"),
-    }
-}
-
 /// Solves an instance by few turns of one worker of each kind, from a plan if there is one, and prints the answer
 /// and both texts in quotes.
 fn tell_solved<R: Host + Threads + Wait>(
@@ -212,7 +188,8 @@ fn tell_solved<R: Host + Threads + Wait>(
     }
 }
 
-/// Makes a call to which nothing is given back, and prints what came of it.
+/// Makes a call to which nothing is given back, and prints what came of it; of a certificate that is written also
+/// its text in quotes.
 fn tell_once<R: Host + Threads + Wait>(
     rt: &R,
     name: &str,
@@ -225,7 +202,15 @@ fn tell_once<R: Host + Threads + Wait>(
         "build" => tell_built(rt, instance),
         "least" => tell_least(rt, instance),
         "read" => tell_outcome(rt, &certificate::read(alloc, CERTIFICATE)),
-        "write" => tell_written(rt, cert),
+        "write" => {
+            let mut sink = MemorySink::new(alloc);
+            let outcome = certificate::write(cert, &mut sink);
+            let text = taken(&sink);
+            match outcome {
+                Ok(()) => println!(rt; "Ok {text:?}"),
+                Err(fault) => println!(rt; "{fault} {text:?}"),
+            }
+        }
         "check" => tell_outcome(rt, &check(alloc, text, CERTIFICATE, solution, STATES)),
         "solve_two" | "solve_three" => tell_solved(rt, text, None),
         "solve_from" => tell_solved(rt, text, solution),
@@ -233,9 +218,17 @@ fn tell_once<R: Host + Threads + Wait>(
     }
 }
 
-/// Makes the call of a name twice.
+/// Makes the call of a name twice, for the instance that it needs.
 fn tell<R: Host + Threads + Wait>(rt: &R, name: &str) -> io::Result<()> {
-    let text = made(text_of(rt.alloc(), name))?;
+    let (fleet, capacity, depot, customers) = match name {
+        "build" | "apply" | "descend" => (2, 4, DEPOT, CROSSED),
+        "least" | "improve" => (1, 3, DEPOT, NEAR),
+        "check" | "solve_three" | "solve_from" => (2, 2, NEAR_DEPOT, APART),
+        "solve_two" => (2, 1, DEPOT, IN_LINE),
+        _ => (2, 2, DEPOT, IN_LINE),
+    };
+    let text = instance_text(rt.alloc(), fleet, capacity, depot, customers);
+    let text = made(text.ok())?;
     let instance = made(read(rt.alloc(), text.as_bytes()).ok())?;
     match name {
         "apply" => return tell_applied(rt, &instance),

@@ -7,7 +7,7 @@ use solomon_reader::{Instance, read};
 use std::alloc::Global;
 use test_starts::{DEPOT, behind, bytes_meant, instance_text};
 
-/// Tells the name, the sizes and the last row of an instance.
+/// Tells the name, the sizes and the last row of an instance: its place, its demand, its window and the service.
 pub(crate) fn tell_instance(told: &mut String, instance: &Instance) -> Option<()> {
     let name = str::from_utf8(instance.name()).ok()?;
     let (fleet, capacity) = (instance.fleet(), instance.capacity());
@@ -18,13 +18,8 @@ pub(crate) fn tell_instance(told: &mut String, instance: &Instance) -> Option<()
     )
     .ok()?;
     let row = instance.rows().last()?;
-    write!(told, " last_x {} y {} demand {}", row.x, row.y, row.demand).ok()?;
-    writeln!(
-        told,
-        " ready {} due {} service {}",
-        row.ready, row.due, row.service
-    )
-    .ok()
+    write!(told, " last {},{},{}", row.x, row.y, row.demand).ok()?;
+    writeln!(told, ",{},{},{}", row.ready, row.due, row.service).ok()
 }
 
 /// The rows of the depot and so many customers from (X,Y) on, each a step to the right of the one before.

@@ -169,22 +169,7 @@ fn tell_call<R: AllocGlobal + Threads + Sync>(
     }
 }
 
-/// Makes the call of a line, and writes what comes of it, or that it isn't understood.
-fn call<R: AllocGlobal + Threads + Sync>(
-    rt: &R,
-    told: &mut String,
-    state: &mut State,
-    line: &str,
-) -> io::Result<()> {
-    let words: Vec<&str> = line.split_whitespace().collect(rt.alloc())?;
-    if tell_call(rt, told, state, line, words.as_slice()).is_none() {
-        told.clear();
-        writeln!(told, "not understood")?;
-    }
-    Ok(())
-}
-
-/// Makes the calls of a script, and prints the rows that don't hold and how many do.
+/// Makes the calls of a script, and prints the rows that don't hold and how many do. No contract: it only prints.
 pub fn tell_rows<R: Runtime + AllocGlobal + Threads + Sync>(
     rt: &R,
     script: &str,
@@ -197,7 +182,12 @@ pub fn tell_rows<R: Runtime + AllocGlobal + Threads + Sync>(
     let mut rows = Rows::new(rt.alloc());
     for line in script.lines() {
         if rows.take(rt, line)? {
-            call(rt, &mut rows.told, &mut state, line)?;
+            let words: Vec<&str> = line.split_whitespace().collect(rt.alloc())?;
+            let told = &mut rows.told;
+            if tell_call(rt, told, &mut state, line, words.as_slice()).is_none() {
+                told.clear();
+                writeln!(told, "not understood")?;
+            }
         }
     }
     rows.end(rt, "test_library")

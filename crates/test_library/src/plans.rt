@@ -59,24 +59,7 @@ pub(crate) fn descend<R: AllocGlobal + Threads + Sync>(
     Vec::from_clones(rt.alloc(), searcher.plan().routes()).ok()
 }
 
-/// The routes behind so many moves of a shake by random words, or else behind a turn by them.
-fn drawn(
-    alloc: Global,
-    plan: Feasible<'_>,
-    count: Option<u32>,
-    draws: &str,
-) -> Option<Vec<Vec<u16>>> {
-    let draws = list_of(alloc, draws)?;
-    let words = draws.as_slice();
-    let mut searcher = Searcher::new(alloc, plan, Script { words });
-    match count {
-        Some(count) => searcher.shake(count).ok()?,
-        None => searcher.turn().ok()?,
-    }
-    Vec::from_clones(alloc, searcher.plan().routes()).ok()
-}
-
-/// Tells them.
+/// Tells the routes behind so many moves of a shake by random words, or else behind a turn by them.
 pub(crate) fn tell_drawn(
     alloc: Global,
     told: &mut String,
@@ -84,6 +67,13 @@ pub(crate) fn tell_drawn(
     count: Option<u32>,
     draws: &str,
 ) -> Option<()> {
-    let routes = drawn(alloc, plan, count, draws)?;
+    let draws = list_of(alloc, draws)?;
+    let words = draws.as_slice();
+    let mut searcher = Searcher::new(alloc, plan, Script { words });
+    match count {
+        Some(count) => searcher.shake(count).ok()?,
+        None => searcher.turn().ok()?,
+    }
+    let routes = Vec::from_clones(alloc, searcher.plan().routes()).ok()?;
     writeln!(told, "routes{}", Routes(routes.as_slice())).ok()
 }

@@ -67,7 +67,7 @@ fn tell_holding<R: Runtime + AllocGlobal + Threads + Wait + Sync>(
 }
 
 /// Solves the instance of a file, with the options behind it, and tells both texts and what comes of it.
-pub fn tell_solving<R: Runtime + AllocGlobal + Threads + Wait + Sync>(
+pub(crate) fn tell_solving<R: Runtime + AllocGlobal + Threads + Wait + Sync>(
     rt: &R,
     told: &mut String,
     path: &str,

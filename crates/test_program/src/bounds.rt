@@ -12,17 +12,17 @@ fn parts_of(text: &[u8]) -> (&str, &str) {
 }
 
 /// The bound of a certificate, as its text has it.
-pub fn bound_of(text: &[u8]) -> &str {
+pub(crate) fn bound_of(text: &[u8]) -> &str {
     parts_of(text).1.lines().next().unwrap_or("")
 }
 
 /// Tells how a text begins that may be a certificate.
-pub fn tell_head(told: &mut String, text: &[u8]) -> io::Result<()> {
+pub(crate) fn tell_head(told: &mut String, text: &[u8]) -> io::Result<()> {
     tell_text(told, "certificate", parts_of(text).0.as_bytes())
 }
 
 /// Tells the bound of a file and its leaves, of which a number may tell only that they are so many at most.
-pub fn tell_bound<R: Runtime + AllocGlobal>(
+pub(crate) fn tell_bound<R: Runtime + AllocGlobal>(
     rt: &R,
     told: &mut String,
     path: &str,

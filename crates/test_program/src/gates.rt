@@ -147,7 +147,7 @@ fn cost_held<R: Runtime + AllocGlobal + Threads + Wait + Sync>(
 
 /// Solves the instance of a file while a worker is held at each of the points until all others have ended all their
 /// turns, and tells the costs in tenths.
-pub fn tell_held<R: Runtime + AllocGlobal + Threads + Wait + Sync>(
+pub(crate) fn tell_held<R: Runtime + AllocGlobal + Threads + Wait + Sync>(
     rt: &R,
     told: &mut String,
     path: &str,
@@ -168,7 +168,7 @@ pub fn tell_held<R: Runtime + AllocGlobal + Threads + Wait + Sync>(
 /// Solves the instance of a file while worker 0 is held at its start until worker 1 has offered, and worker 1 at its
 /// end until worker 0 has started, so that both have to run at once. Tells the cost in tenths, and whether one of
 /// them was alone.
-pub fn tell_meeting<R: Runtime + AllocGlobal + Threads + Wait + Sync>(
+pub(crate) fn tell_meeting<R: Runtime + AllocGlobal + Threads + Wait + Sync>(
     rt: &R,
     told: &mut String,
     path: &str,

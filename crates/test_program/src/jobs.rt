@@ -4,7 +4,7 @@ use std::alloc::{AllocError, Global};
 use vrptw::{Job, job};
 
 /// Tells what the words ask for.
-pub fn tell_job(alloc: Global, told: &mut String, words: &[&str]) -> Result<(), AllocError> {
+pub(crate) fn tell_job(alloc: Global, told: &mut String, words: &[&str]) -> Result<(), AllocError> {
     match job(alloc, words) {
         Ok(
             Job::Solve {

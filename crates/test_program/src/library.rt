@@ -12,7 +12,7 @@ use vrptw::{NoGate, Settings, close, solve};
 /// Calls the library for the instance of a file with the number of one option: `leaves` closes the instance,
 /// and another one is a setting of the solver. Tells how the certificate begins, or why there is none, and
 /// then both texts.
-pub fn tell_library<R: Runtime + AllocGlobal + Threads + Wait + Sync>(
+pub(crate) fn tell_library<R: Runtime + AllocGlobal + Threads + Wait + Sync>(
     rt: &R,
     told: &mut String,
     [path, option, number]: [&str; 3],

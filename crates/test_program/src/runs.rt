@@ -10,14 +10,17 @@ use vrptw::{run_words, words_fault};
 
 /// What a run prints, and the status that it ends with.
 #[derive(Drop)]
-pub struct Printed {
-    pub out: MemorySink,
-    pub errors: MemorySink,
-    pub status: u8,
+pub(crate) struct Printed {
+    pub(crate) out: MemorySink,
+    pub(crate) errors: MemorySink,
+    pub(crate) status: u8,
 }
 
 /// Runs the program with these words.
-pub fn run<R: Runtime + AllocGlobal + Threads + Wait + Sync>(rt: &R, words: &[&str]) -> Printed {
+pub(crate) fn run<R: Runtime + AllocGlobal + Threads + Wait + Sync>(
+    rt: &R,
+    words: &[&str],
+) -> Printed {
     let mut out = MemorySink::new(rt.alloc());
     let mut errors = MemorySink::new(rt.alloc());
     let status = run_words(rt, rt.alloc(), words, &mut out, &mut errors);
@@ -29,7 +32,7 @@ pub fn run<R: Runtime + AllocGlobal + Threads + Wait + Sync>(rt: &R, words: &[&s
 }
 
 /// Tells the status of a run and both streams, or of these only whether they stayed empty.
-pub fn tell_printed(told: &mut String, printed: &Printed, is_whole: bool) -> io::Result<()> {
+pub(crate) fn tell_printed(told: &mut String, printed: &Printed, is_whole: bool) -> io::Result<()> {
     writeln!(told, "status {}", printed.status)?;
     for (name, sink) in [("out", &printed.out), ("errors", &printed.errors)] {
         let text = sink.as_slice();
@@ -40,7 +43,11 @@ pub fn tell_printed(told: &mut String, printed: &Printed, is_whole: bool) -> io:
 }
 
 /// Tells the status where the words can't be had for a fault of this kind, and how what is said begins.
-pub fn tell_unheard<R: AllocGlobal>(rt: &R, told: &mut String, word: &str) -> io::Result<()> {
+pub(crate) fn tell_unheard<R: AllocGlobal>(
+    rt: &R,
+    told: &mut String,
+    word: &str,
+) -> io::Result<()> {
     let kind = match word {
         "InvalidData" => io::ErrorKind::InvalidData,
         "OutOfMemory" => io::ErrorKind::OutOfMemory,

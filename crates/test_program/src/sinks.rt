@@ -115,7 +115,7 @@ fn fails_well<R: Runtime + AllocGlobal + Threads + Wait + Sync>(
 
 /// Tells whether the first sink or the second, as a word says, or dripping ones, which take one byte at a time,
 /// do as they should, where the instance of a file is solved.
-pub fn tell_sinks<R: Runtime + AllocGlobal + Threads + Wait + Sync>(
+pub(crate) fn tell_sinks<R: Runtime + AllocGlobal + Threads + Wait + Sync>(
     rt: &R,
     told: &mut String,
     which: &str,

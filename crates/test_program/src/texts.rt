@@ -5,10 +5,10 @@ use std::{fs, io};
 use test_starts::{behind, bytes_meant, instance_text};
 
 /// The byte that a tilde stands for, mostly.
-pub const LOW: u8 = 1;
+pub(crate) const LOW: u8 = 1;
 
 /// Tells a text after its name, as a script's words would have it, so that it stands on one line.
-pub fn tell_text(told: &mut String, name: &str, text: &[u8]) -> io::Result<()> {
+pub(crate) fn tell_text(told: &mut String, name: &str, text: &[u8]) -> io::Result<()> {
     write!(
         told,
         "{name} {}",
@@ -26,7 +26,7 @@ pub fn tell_text(told: &mut String, name: &str, text: &[u8]) -> io::Result<()> {
 }
 
 /// Tells what a file holds.
-pub fn tell_file<R: Runtime>(rt: &R, told: &mut String, path: &str) -> io::Result<()> {
+pub(crate) fn tell_file<R: Runtime>(rt: &R, told: &mut String, path: &str) -> io::Result<()> {
     match fs::read(rt, path) {
         Ok(text) => tell_text(told, "text", text.as_slice()),
         Err(_) => Ok(writeln!(told, "no file")?),
@@ -34,7 +34,7 @@ pub fn tell_file<R: Runtime>(rt: &R, told: &mut String, path: &str) -> io::Resul
 }
 
 /// Writes an instance with the lines of a call.
-pub fn write_file<R: Runtime + AllocGlobal>(
+pub(crate) fn write_file<R: Runtime + AllocGlobal>(
     rt: &R,
     line: &str,
     [path, fleet, capacity]: [&str; 3],
@@ -46,7 +46,7 @@ pub fn write_file<R: Runtime + AllocGlobal>(
 }
 
 /// Writes the text of a call, in which a tilde stands for this byte.
-pub fn write_text<R: Runtime + AllocGlobal>(
+pub(crate) fn write_text<R: Runtime + AllocGlobal>(
     rt: &R,
     line: &str,
     path: &str,

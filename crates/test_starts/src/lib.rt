@@ -16,7 +16,7 @@ pub const DEPOT: &str = "0 0 0 0 0 1000 0\n";
 /// Two customers on a line from the depot.
 pub const IN_LINE: &str = "1 3 4 1 0 1000 0\n2 6 8 1 0 1000 0\n";
 
-/// The text of an instance named `T`. No clause: the rows show the text, by what becomes of it.
+/// The text of an instance named `T`. No contract: the rows show the text, by what becomes of it.
 pub fn instance_text<N: Display + Copy>(
     alloc: Global,
     fleet: N,
@@ -29,7 +29,7 @@ pub fn instance_text<N: Display + Copy>(
     )
 }
 
-/// What stands behind so many words of a line.
+/// What stands behind so many words of a line. No contract: the rows show it, by what becomes of it.
 pub fn behind(line: &str, count: u8) -> &str {
     let mut rest = line;
     for _ in 0..count {
@@ -39,7 +39,7 @@ pub fn behind(line: &str, count: u8) -> &str {
 }
 
 /// The bytes that a script's text stands for: a bar is a line feed, and a tilde this byte.
-/// No clause: the rows show the bytes, by what becomes of them.
+/// No contract: the rows show the bytes, by what becomes of them.
 pub fn bytes_meant(alloc: Global, shown: &str, tilde: u8) -> Result<Vec<u8>, AllocError> {
     let mut bytes = Vec::new(alloc);
     for byte in shown.as_bytes() {

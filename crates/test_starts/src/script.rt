@@ -22,7 +22,7 @@ pub struct Rows {
 }
 
 impl Rows {
-    /// Nothing was read yet.
+    /// Nothing was read yet. No contract: what is printed shows it.
     pub fn new(alloc: Global) -> Rows {
         Rows {
             told: String::new(alloc),
@@ -58,7 +58,7 @@ impl Rows {
     }
 
     /// Takes a line: a part of the outcome below a call, or a line that begins the next row. Answers whether it is a
-    /// call, which an empty line or one that begins with `#` isn't.
+    /// call, which an empty line or one that begins with `#` isn't. No contract: what is printed shows it.
     pub fn take<R: Runtime>(&mut self, rt: &R, line: &str) -> io::Result<bool> {
         if let Some(text) = line.strip_prefix(BLANKS) {
             writeln!(self.expected, "{text}")?;
@@ -69,7 +69,7 @@ impl Rows {
         Ok(!line.is_empty() && !line.starts_with('#'))
     }
 
-    /// Ends the last row, and prints how many rows hold, and how many don't, if any. No clause: it only prints.
+    /// Ends the last row, and prints how many rows hold, and how many don't, if any. No contract: it only prints.
     pub fn end<R: Runtime>(&mut self, rt: &R, name: &str) -> io::Result<()> {
         self.count(rt)?;
         let (holding, differing, bare) = (self.holding, self.differing, self.bare);

@@ -8,7 +8,7 @@ use solomon_reader::{Instance, MOST_NEIGHBOURS};
 use std::alloc::Global;
 
 /// The plan of these routes, if they are one and memory suffices.
-/// No clause: the rows show the plan, by what becomes of it.
+/// No contract: the rows show the plan, by what becomes of it.
 pub fn plan_at<'i>(
     alloc: Global,
     instance: &'i Instance,
@@ -25,7 +25,7 @@ pub fn plan_at<'i>(
 }
 
 /// These prices at a region, if they are the customers' and memory suffices.
-/// No clause: the rows show the prices, by what becomes of them.
+/// No contract: the rows show the prices, by what becomes of them.
 pub fn priced_at<'i>(
     alloc: Global,
     instance: &'i Instance,
@@ -46,7 +46,7 @@ pub fn priced_at<'i>(
 }
 
 /// These prices at both children of a region by an arc: where it is used, and where it is forbidden.
-/// No clause: the rows show the prices, by what becomes of them.
+/// No contract: the rows show the prices, by what becomes of them.
 pub fn children_at<'i>(
     alloc: Global,
     instance: &'i Instance,
@@ -63,7 +63,7 @@ pub fn children_at<'i>(
 }
 
 /// A book of the root at prices of 0.
-/// No clause: the rows show the book, by what becomes of it.
+/// No contract: the rows show the book, by what becomes of it.
 pub fn book_of<'i>(
     alloc: Global,
     instance: &'i Instance,

@@ -4,7 +4,8 @@ ghost use Rattle.std.specs.Prelude.{◌≡◌, IfOk};
 ghost use Rattle.node_pool.specs.Deques.{FitsAt};
 ghost use Rattle.node_pool.specs.Ends.{deque_at, deque_of};
 
-use node_pool::{Hand, Pass, Pool, PoolFault, Stolen, Thief};
+use crate::ends::ends;
+use node_pool::{Hand, Pass, PoolFault, Stolen, Thief};
 use std::alloc::Global;
 use std::sync::Wait;
 use std::test::Fail;
@@ -13,28 +14,6 @@ use std::thread::Threads;
 
 /// How often a thread tries to steal.
 const TRIES: u32 = 1_000_000;
-
-/// The ends of one deque of a pool for two workers, and the passes of both.
-fn ends(alloc: Global) -> Result<(Hand, Thief, Pass, Pass), Fail>
-    ensures thief { IfOk result (λ r. deque_at r.1 ≡ deque_of r.0) }
-    ensures first { IfOk result (λ r. FitsAt (deque_of r.0) r.2) }
-    ensures second { IfOk result (λ r. FitsAt (deque_of r.0) r.3) }
-{
-    let (mut hands, mut thieves, mut passes) = Pool::new(alloc, 2, 3)?;
-    let Some(hand) = hands.pop() else {
-        return Err(Fail::from("no hand"));
-    };
-    let Some(thief) = thieves.pop() else {
-        return Err(Fail::from("no thief"));
-    };
-    let Some(second) = passes.pop() else {
-        return Err(Fail::from("no pass"));
-    };
-    let Some(first) = passes.pop() else {
-        return Err(Fail::from("one pass"));
-    };
-    Ok((hand, thief, first, second))
-}
 
 /// Tries until a number is stolen, or too often.
 fn steal_one(thief: &Thief, mut pass: Pass) -> (Pass, Option<u32>)

@@ -3,6 +3,7 @@
 
 #[cfg(test)]
 mod deques;
+pub mod ends;
 #[cfg(test)]
 mod offers;
 #[cfg(test)]

@@ -10,7 +10,7 @@ use tenths::Tenths;
 use test_starts::{children_at, plan_at, priced_at};
 
 /// The arc from the first customer to the second.
-pub const ONWARD: Arc = Arc { from: 1, to: 2 };
+pub(crate) const ONWARD: Arc = Arc { from: 1, to: 2 };
 
 /// The arc from the second customer to the first.
 const BACK: Arc = Arc { from: 2, to: 1 };
@@ -55,14 +55,6 @@ fn offer<R: Abort + Wait + AllocGlobal, J: Naming>(
     match &reply {
         Offered::Better { before } => Ok((true, *before)),
         Offered::NotBetter { best, .. } => Ok((false, Some(*best))),
-    }
-}
-
-/// Offers plans of 300, 200, 300 and 200 tenths.
-fn offer_plans<R: Abort + Wait + AllocGlobal, J: Naming>(place: &mut Place<'_, '_, R, J>) {
-    for (routes, is_better, cost) in OFFERED {
-        let told = offer(place, routes);
-        assert_eq!(place.rt; told, Ok((is_better, cost.map(|cost| Tenths::from(cost)))));
     }
 }
 
@@ -139,7 +131,7 @@ fn branch<R: Abort + Wait + AllocGlobal, J: Naming>(place: &mut Place<'_, '_, R,
 }
 
 /// Offers plans and branches with a share, which comes back.
-pub fn work<'i, J: Naming, R: Abort + Wait + AllocGlobal>(
+pub(crate) fn work<'i, J: Naming, R: Abort + Wait + AllocGlobal>(
     rt: &R,
     desk: &Desk<'i, J>,
     share: Share<J>,
@@ -151,7 +143,10 @@ pub fn work<'i, J: Naming, R: Abort + Wait + AllocGlobal>(
         desk,
         share,
     };
-    offer_plans(&mut place);
+    for (routes, is_better, cost) in OFFERED {
+        let told = offer(&mut place, routes);
+        assert_eq!(rt; told, Ok((is_better, cost.map(|cost| Tenths::from(cost)))));
+    }
     branch(&mut place);
     let Place { share, .. } = place;
     share

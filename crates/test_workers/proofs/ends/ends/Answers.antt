@@ -5,7 +5,7 @@ use Rattle.node_pool.specs.declared.pass.Pass.{Pass}
 use Rattle.node_pool.specs.Deques.{IsFresh}
 use Rattle.node_pool.specs.Ends.{deques_of}
 use Rattle.test_workers.proofs.Last.{fits_last, last_deque}
-use Rattle.test_workers.proofs.deques.ends.Goals as goal
+use Rattle.test_workers.proofs.ends.ends.Goals as goal
 
 pub returns-clause-thief : goal.returns-clause-thief
 returns-clause-thief c = last_deque _ _ _ _ _ _ c.in-Some.ensures.items c.in-Some-pop.ensures.items c.in_ok-hands.ensures.thieves
