@@ -6,7 +6,7 @@ use Rattle.solomon_reader.specs.ArcOrder.{inserted, none_in_empty}
 use Rattle.branching.specs.declared.arc.Arc.{Arc}
 use Rattle.branching.specs.Arcs.{pair, decided}
 use Rattle.branching.specs.Consistent.{IsConsistent}
-use Rattle.branching.proofs.SameArcs.{pushed}
+use Rattle.branching.proofs.Listed.{pushed}
 
 pub root_consistent : (n : ℕ) → IsConsistent (root_region n)
 root_consistent n = record {

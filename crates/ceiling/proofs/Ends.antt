@@ -9,8 +9,7 @@ use Rattle.ceiling.specs.declared.law.Opening.{Opening}
 use Rattle.ceiling.specs.declared.seat.CeilingSeat.{CeilingSeat}
 use Rattle.ceiling.specs.Hands.{opening, account, IsLawful, parts_of, greatest_word, together}
 use Rattle.ceiling.specs.Seats.{account_of, accounts_of}
-use Rattle.ceiling.proofs.Extremes.{put_cost, told_cost, put_bound, told_bound, least_by, greatest_by, least_at, greatest_at, least_below, greatest_above, parts_at}
-use Rattle.ceiling.proofs.Moves.{Idles}
+use Rattle.ceiling.proofs.Moves.{put_cost, told_cost, put_bound, told_bound, least_by, greatest_by, least_at, greatest_at, least_below, greatest_above, parts_at, Idles}
 
 -- both lists have the same least costs and greatest bounds
 pub record IsAsFar (o : Moment) (xs ys : List SeatAccount) : Type 0 where

@@ -1,3 +1,2 @@
-mod Extremes
 mod Moves
 mod Ends

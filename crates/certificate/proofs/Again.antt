@@ -1,39 +1,95 @@
--- The text of a certificate is read as that certificate.
-use Rattle.std.proofs.Common.{◌≡◌, ◌≢◌, ℕ, suc, ◌+◌, ◌-◌, ◌≤◌, ◌<◌, ◌^◌, Bool, true, false, List}
-use Rattle.std.proofs.Common.{[], ◌∷◌, ◌++◌, length, map, Ok, refl, sym, ap, ◌∙◌, append_assoc, arith, lit<, inl, inr}
-use Rattle.std.specs.Prelude.{nat_le, ◌||◌, ◌==◌, codes, decimal, ℤ, pos, negsuc, nat_abs}
+-- The text of a certificate is its lines, and is read as that certificate; so two certificates with one text are one.
+use Rattle.std.proofs.Common.{◌≡◌, refl, ℕ, List, [], ◌∷◌, ◌++◌, map, ap, sym, ◌∙◌, append_assoc, ◌≢◌, suc, ◌+◌, ◌-◌, ◌≤◌, ◌<◌, ◌^◌, Bool, true, false, length, Ok, arith, lit<, inl, inr}
+use Rattle.std.specs.Prelude.{codes, decimal, nat_le, ◌||◌, ◌==◌, ℤ, pos, negsuc, nat_abs}
 use Rattle.std.specs.Fmt.{signed_decimal}
-use Rattle.std.specs.List.{AllByRecursion, list_all}
+use Rattle.std.specs.List.{flat_map, AllByRecursion, list_all}
+use Rattle.std.proofs.lemmas.List.{append-nil, map-append}
+use Rattle.std.proofs.lemmas.List.Folds.{flat_map-map}
+use Rattle.std.proofs.lemmas.Grind.{flat_map-append}
 use Rattle.std.specs.Option.{option_map}
 use Rattle.std.proofs.lemmas.Bool.Decides.{nat_tests}
-use Rattle.std.proofs.lemmas.List.{append-nil, map-append}
-use Rattle.tenths.specs.Text.{tenths_text, spaced}
+use Rattle.tenths.specs.Text.{tenths_text, spaced, line}
+use Rattle.solomon_reader.specs.Bound.{Tree, leaf, split, split_node, preorder, Version, version_1, version_2, Node, leaf_node}
+use Rattle.solomon_reader.specs.CertificateText.{Certificate, node_lines, first_line, certificate_text, Content, listed, version_text, leaf_count, IsPrice, IsCertificate}
 use Rattle.tenths.specs.Parts.{parts}
 use Rattle.tenths.specs.Lines.{Left}
 use Rattle.tenths.specs.Numbers.{number_of, signed_of, capped, clamped}
-use Rattle.tenths.proofs.Cuts.{Lacks}
-use Rattle.tenths.proofs.Joins.{AllLack, Lacks-append, Lacks-spaced, parts-spaced, parts-lines, same_word}
-use Rattle.tenths.proofs.Signs.{signed_again, clamped_same}
-use Rattle.tenths.proofs.Digits.{number_again, both}
-use Rattle.tenths.proofs.Points.{tenths_again, tenths_lack, decimal_lacks}
+use Rattle.tenths.proofs.Cuts.{Lacks, AllLack, Lacks-append, Lacks-spaced, parts-spaced, parts-lines, same_word}
+use Rattle.tenths.proofs.Digits.{signed_again, clamped_same, number_again, both, tenths_again, tenths_lack, decimal_lacks}
 use Rattle.solomon_reader.specs.declared.limits.TheConstants.{MOST_NAME, MOST_CUSTOMERS, MOST_NEIGHBOURS, MOST_PRICE, MOST_LEAVES, MOST_DEPTH}
 use Rattle.solomon_reader.specs.Layout.{IsName}
 use Rattle.solomon_reader.specs.Plan.{Arc}
 use Rattle.solomon_reader.specs.Region.{IsArc, Among, root_region}
-use Rattle.solomon_reader.specs.Bound.{Version, version_1, version_2, Tree, leaf, split, Node, leaf_node, split_node, preorder}
-use Rattle.solomon_reader.specs.CertificateText.{version_text, leaf_count, IsPrice, Certificate, IsCertificate, certificate_text, listed}
-use Rattle.certificate.proofs.Paths.{IsNodeOn, IsTreeOn}
-use Rattle.certificate.specs.Text.{node_text, text_lines}
-use Rattle.certificate.specs.declared.fault.CertFault.TheVariants.{BadLine}
-use Rattle.certificate.specs.Reading.{next_at, signed_at, is_price, prices_at, pair_at, is_arc, arc_eq, is_decided, arc_at, node_in, node_at, one_leaf, tree_at, fixed_at, second}
-use Rattle.certificate.specs.Reading.{field_at, is_name, name_at, within_from, within_at, bound_at, Head, sizes_at, version_in, version_at, title_at, head_at, nodes_at, reading}
 use Rattle.tenths.specs.Reading.{value_or}
 use Rattle.solomon_reader.specs.Words.{is_letter}
-use Rattle.certificate.proofs.Steps.{children_at, tree_at-leaf, tree_at-split}
-use Rattle.certificate.proofs.Paths.{decides_root, on_from_at}
-use Rattle.certificate.proofs.Spelling.{text_is}
+use Rattle.tenths.proofs.Steps.{ok_is}
+use Rattle.certificate.specs.declared.node.CertNode.{CertNode}
+use Rattle.certificate.specs.declared.parts.CertParts.{CertParts}
+use Rattle.certificate.specs.Tree.{node_of, nodes_of}
+use Rattle.certificate.specs.Text.{content_of, node_text, name_lines, head_lines, content_text, text_lines}
+use Rattle.certificate.specs.declared.fault.CertFault.TheVariants.{BadLine}
+use Rattle.certificate.specs.Reading.{next_at, signed_at, is_price, prices_at, pair_at, is_arc, arc_eq, is_decided, arc_at, node_in, node_at, one_leaf, tree_at, fixed_at, second, field_at}
+use Rattle.certificate.specs.Reading.{is_name, name_at, within_from, within_at, bound_at, Head, sizes_at, version_in, version_at, title_at, head_at, nodes_at, reading}
+use Rattle.certificate.specs.Laws.{OneTextEach}
+use Rattle.certificate.proofs.Steps.{IsNodeOn, IsTreeOn, decides_root, on_from_at, children_at, tree_at-leaf, tree_at-split, one_tree}
+use Rattle.solomon_reader.specs.CertificateText as shared
+
+tree_lines : (tree : Tree) → flat_map line (map node_text (preorder tree)) ≡ node_lines tree
+tree_lines (leaf prices) = append-nil _ ∙ ap (λ (w : List ℕ). line (codes "P" ++ w)) (flat_map-map spaced signed_decimal prices)
+tree_lines (split a used unused) =
+    let one : line (node_text (split_node a)) ≡ shared.split_line a = ap (λ (w : List ℕ). line (codes "S" ++ (spaced (decimal a.0) ++ w))) (append-nil (spaced (decimal a.1))) in
+    let both : flat_map line (map node_text (preorder used ++ preorder unused)) ≡ node_lines used ++ node_lines unused =
+    ap (λ (w : List (List ℕ)). flat_map line w) (map-append node_text (preorder used) (preorder unused)) ∙ flat_map-append line (map node_text (preorder used)) (map node_text (preorder unused))
+    ∙ ap (λ (w : List ℕ). w ++ flat_map line (map node_text (preorder unused))) (tree_lines used) ∙ ap (λ (w : List ℕ). node_lines used ++ w) (tree_lines unused) in
+    ap (λ (w : List ℕ). w ++ flat_map line (map node_text (preorder used ++ preorder unused))) one
+    ∙ ap (λ (w : List ℕ). shared.split_line a ++ w) both ∙ sym (append_assoc (shared.split_line a) (node_lines used) (node_lines unused))
+
+six : (a b c d e f : List ℕ) → a ++ (b ++ (c ++ (d ++ (e ++ f)))) ≡ ((((a ++ b) ++ c) ++ d) ++ e) ++ f
+six a b c d e f = simp append_assoc
+
+head_text : (c : Certificate) → flat_map line (head_lines (listed c)) ≡ shared.head_lines c
+head_text c =
+    six (first_line c.version) (line (codes "INSTANCE " ++ c.name)) (line (codes "CUSTOMERS " ++ decimal c.size))
+    (line (codes "NEIGHBOURS " ++ decimal c.neighbours)) (line (codes "BOUND " ++ tenths_text c.bound)) (line (codes "TREE"))
+
+pub text_is : (c : Certificate) → content_text (listed c) ≡ certificate_text c
+text_is c =
+    let nodes = map node_text (preorder c.tree) in
+    let back : flat_map line (nodes ++ (codes "END" ∷ [])) ≡ node_lines c.tree ++ line (codes "END") =
+    flat_map-append line nodes (codes "END" ∷ []) ∙ ap (λ (w : List ℕ). w ++ flat_map line (codes "END" ∷ [])) (tree_lines c.tree) in
+    flat_map-append line (head_lines (listed c)) (nodes ++ (codes "END" ∷ []))
+    ∙ ap (λ (w : List ℕ). w ++ flat_map line (nodes ++ (codes "END" ∷ []))) (head_text c) ∙ ap (λ (w : List ℕ). shared.head_lines c ++ w) back
+    ∙ sym (append_assoc (shared.head_lines c) (node_lines c.tree) (line (codes "END")))
+
+-- ---- the text in the parts in which it is written
+
+-- the lines before the nodes are those before the bound, the bound's and the tree's
+pub head_parts : (x : Content) → flat_map line (head_lines x) ≡ ((first_line x.version ++ flat_map line (name_lines x)) ++ line (codes "BOUND " ++ tenths_text x.bound)) ++ codes "TREE\n"
+head_parts x =
+    let first = first_line x.version in
+    let names = flat_map line (name_lines x) in
+    let bound = line (codes "BOUND " ++ tenths_text x.bound) in
+    ap (λ (w : List ℕ). first ++ w) (flat_map-append line (name_lines x) ((codes "BOUND" ++ spaced (tenths_text x.bound)) ∷ codes "TREE" ∷ []))
+    ∙ four first names bound (codes "TREE\n")
+  where
+    four : (a b c d : List ℕ) → a ++ (b ++ (c ++ d)) ≡ ((a ++ b) ++ c) ++ d
+    four a b c d = simp append_assoc
+
+nodes_lined : (ns : List CertNode) → flat_map line (map node_text (nodes_of ns)) ≡ flat_map (λ x. line (node_text (node_of x))) ns
+nodes_lined [] = refl
+nodes_lined (n ∷ ns) = ap (λ (w : List ℕ). line (node_text (node_of n)) ++ w) (nodes_lined ns)
+
+pub text_parts : (c : CertParts) → content_text (content_of c) ≡ (flat_map line (head_lines (content_of c)) ++ flat_map (λ x. line (node_text (node_of x))) c.nodes.items) ++ codes "END\n"
+text_parts c =
+    let nodes = map node_text (nodes_of c.nodes.items) in
+    let head = flat_map line (head_lines (content_of c)) in
+    flat_map-append line (head_lines (content_of c)) (nodes ++ (codes "END" ∷ []))
+    ∙ ap (λ (w : List ℕ). head ++ w) (flat_map-append line nodes (codes "END" ∷ []) ∙ ap (λ (w : List ℕ). w ++ codes "END\n") (nodes_lined c.nodes.items))
+    ∙ sym (append_assoc head (flat_map (λ x. line (node_text (node_of x))) c.nodes.items) (codes "END\n"))
 
 -- ---- numbers
+
+-- ---- The text of a certificate is read as that certificate.
 
 price_again : (k : ℕ) (z : ℤ) → IsPrice z → value_or (BadLine k) (option_map clamped (signed_of (signed_decimal z))) ≡ Ok z
 price_again k z p = let lt : nat_abs z < 2 ^ 64 = omega (arith, p) in rw (signed_again z lt, clamped_same z (omega (arith, p))) refl
@@ -356,3 +412,18 @@ reading_again c is =
     let lt : c.size < 1000000 = omega (arith, is.size.1) in
     let t = nodes_again c.size lt c.tree 6 tree is.leaves in
     rw (lines_again c is, head_again c behind (codes "TREE", map node_text (preorder c.tree) ++ (codes "END" ∷ [] ∷ []), refl) is, t.1) refl
+
+-- ---- Two certificates with one text are one.
+
+same_parts : (c d : Certificate) → c.version ≡ d.version → c.name ≡ d.name → c.size ≡ d.size → c.neighbours ≡ d.neighbours → c.bound ≡ d.bound → c.tree ≡ d.tree → c ≡ d
+same_parts c d v n s k b t = λ i. record { version = v i; name = n i; size = s i; neighbours = k i; bound = b i; tree = t i }
+
+pub listed_apart : (c d : Certificate) → listed c ≡ listed d → c ≡ d
+listed_apart c d e =
+    let nodes : preorder c.tree ≡ preorder d.tree = ap (λ (x : Content). x.nodes) e in
+    let tree = one_tree c.tree d.tree [] [] (ap (λ (w : List Node). w ++ []) nodes) in
+    same_parts c d (ap (λ (x : Content). x.version) e) (ap (λ (x : Content). x.name) e) (ap (λ (x : Content). x.size) e)
+    (ap (λ (x : Content). x.neighbours) e) (ap (λ (x : Content). x.bound) e) tree.0
+
+pub one_text_each : OneTextEach
+one_text_each c d p q e = listed_apart c d (ok_is (listed c) (listed d) (sym (reading_again c p) ∙ ap reading e ∙ reading_again d q))

@@ -14,13 +14,11 @@ use Rattle.solomon_reader.specs.Bound.{Tree, leaf, split, Node, leaf_node, split
 use Rattle.solomon_reader.specs.CertificateText.{leaf_count, IsPrice, Certificate, Content, listed, HasText}
 use Rattle.certificate.specs.declared.node.CertNode.{CertNode}
 use Rattle.certificate.specs.Tree.{node_of, nodes_of}
-use Rattle.certificate.proofs.Paths.{IsTreeOn}
+use Rattle.certificate.proofs.Steps.{IsTreeOn, decides_root, at_from_on, on_from_at}
 use Rattle.certificate.specs.Reading.{is_arc, is_decided, is_price, is_name}
 use Rattle.certificate.specs.Shape.{Rest, is_leaf, without_leaf, is_open, behind_tree, Finds, is_all, is_head, is_one_tree}
-use Rattle.certificate.proofs.Takes.{tests_arc, Among_is}
-use Rattle.certificate.proofs.Found.{name_is}
+use Rattle.certificate.proofs.Found.{tests_arc, Among_is, name_is}
 use Rattle.certificate.proofs.Again.{arc_test, not_decided, are_prices, is_name_again}
-use Rattle.certificate.proofs.Paths.{decides_root, at_from_on, on_from_at}
 
 -- ---- one node
 

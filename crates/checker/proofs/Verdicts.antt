@@ -1,27 +1,94 @@
--- What verdicts and refusals say of the texts, and of every plan.
-use Rattle.std.proofs.Common.{◌≡◌, refl, ℕ, List, arith, ap, subst, sym, ◌∙◌, inl, inr}
-use Rattle.std.specs.Prelude.{◌⊎◌, Option, None, Some, Result, Ok, Err, IfOk, IfErr}
+-- What verdicts and refusals say of the texts, and of every plan: why routes are refused, and the verdict on three texts from what was found of each.
+use Rattle.std.proofs.Common.{◌≡◌, ℕ, ◌+◌, ◌<◌, ◌≤◌, Bool, true, false, cond, List, length, arith, refl, ap, subst, inl, inr, sym, ◌∙◌}
+use Rattle.std.specs.Prelude.{Vec, slice_index_or, Option, None, Some, option_map, option_copied, Result, Ok, Err, IfOk, IfErr, ◌⊎◌}
+use Rattle.std.specs.declared.alloc.Global.{Global}
+use Rattle.std.specs.List.{All}
 use Rattle.std.proofs.lemmas.Bool.{cases_lt}
-use Rattle.solomon_reader.specs.Words.{words}
-use Rattle.solomon_reader.specs.Problem.{Problem, customer_count}
+use Rattle.solomon_reader.specs.Problem.{Problem, IsCustomer, customer_count}
+use Rattle.solomon_reader.specs.Plan.{count_of, IsPlan, plan_cost}
+use Rattle.solomon_reader.specs.PlanDefects.{stops}
+use Rattle.solomon_reader.specs.Lists.{lists}
+use Rattle.solomon_reader.proofs.Planning.{after_unknown, no_plan}
+use denote.Bor.{Bor}
+use Rattle.sol_writer.specs.declared.sol.Sol.{Sol}
+use Rattle.sol_writer.specs.Text.{view}
 use Rattle.solomon_reader.specs.Layout.{IsInstance}
-use Rattle.solomon_reader.specs.Plan.{IsPlan, plan_cost}
+use Rattle.solomon_reader.specs.CertificateText.{Certificate, Content, IsCertificateText, listed}
+use Rattle.solomon_reader.specs.Words.{words}
 use Rattle.solomon_reader.specs.DualityLaws.{tree_bound_holds, no_plan_above}
-use Rattle.solomon_reader.specs.CertificateText.{Certificate}
-use Rattle.solomon_reader.proofs.Again.{reading_again}
+use Rattle.solomon_reader.proofs.Takes.{reading_again}
 use Rattle.solomon_reader.proofs.Bounds.{one_tree_bound}
-use Rattle.solomon_reader.proofs.Planning.{no_plan}
+use Rattle.checker.specs.Served.{AreServed}
+use Rattle.checker.specs.declared.fault.CheckFault.{CheckFault}
+use Rattle.checker.specs.declared.fault.PlanWhy.TheVariants.{EmptyRoute, UnknownCustomer, Twice, Missing, OverCapacity, Late, FleetExceeded}
+use Rattle.checker.specs.Plans.{RefusesRoutes, TellsTwice, defect_of}
+use Rattle.checker.specs.declared.verdict.Verdict.{Verdict}
+use Rattle.checker.specs.Checking.{Texts, Spelled, IsSolutionOf, AreTextsOf, IsFor, HasBound, Judges, RefusesBound, RefusesSolution, Refuses, Checks, IsRight, IsRightSolution, Means}
+use Rattle.checker.specs.Checking.{RefusesInstance, RefusesCertificate, RefusesSolutionText, RefusesTexts, RefusesPlan, RefusesContents}
+use Rattle.checker.specs.declared.verdict.Verdict.TheVariants.{Best, Gap, NoPlan, BoundOnly}
+use Rattle.checker.specs.declared.fault.CheckFault.TheVariants as fault
 use Rattle.certificate.specs.Reading as certificate_reading
 use Rattle.certificate.proofs.Again as certificate
-use Rattle.certificate.proofs.Apart as certificate_texts
 use Rattle.sol_writer.proofs.Again as solution
-use Rattle.checker.specs.declared.fault.CheckFault.{CheckFault}
-use Rattle.checker.specs.declared.fault.CheckFault.TheVariants as fault
-use Rattle.checker.specs.declared.verdict.Verdict.{Verdict}
-use Rattle.checker.specs.declared.verdict.Verdict.TheVariants.{Best, Gap, NoPlan, BoundOnly}
-use Rattle.checker.specs.Plans.{defect_of}
-use Rattle.checker.specs.Checking.{Texts, Spelled, IsRight, IsRightSolution, Means, IsSolutionOf, AreTextsOf, HasBound, Judges, RefusesInstance, RefusesCertificate}
-use Rattle.checker.specs.Checking.{RefusesSolutionText, RefusesTexts, RefusesBound, RefusesSolution, RefusesPlan, RefusesContents, Refuses, Checks}
+
+at_most_one : (b : Bool) → cond b 1 0 ≤ 1
+at_most_one true = omega arith
+at_most_one false = omega arith
+
+-- where the stops are marked, no customer stands twice
+pub at_most_once : (p : Problem) (routes : List (Vec ℕ Global)) (marks : List Bool) → AreServed (stops (lists routes)) marks → length marks ≡ customer_count p + 1
+    → (i : ℕ) → IsCustomer p i → count_of i (stops (lists routes)) ≤ 1
+at_most_once p routes marks served count i customer = omega (arith, served.each i (omega (arith, count, customer.1)), at_most_one (slice_index_or marks i false))
+
+-- a customer that stands twice is the first defect of routes that serve somebody and know their stops
+pub twice_refused : (p : Problem) (routes : List (Vec ℕ Global)) → All (λ v. 0 < length v.items) routes → All (λ v. All (λ i. IsCustomer p i) v.items) routes
+    → (e : CheckFault) → TellsTwice (lists routes) e → RefusesRoutes p (lists routes) e
+twice_refused p routes some known fault.Memory h = h
+twice_refused p routes some known (fault.PlanRefused Twice) h = record { holds = h; lowest = after_unknown p routes some known }
+twice_refused p routes some known (fault.PlanRefused EmptyRoute) h = absurd h
+twice_refused p routes some known (fault.PlanRefused UnknownCustomer) h = absurd h
+twice_refused p routes some known (fault.PlanRefused Missing) h = absurd h
+twice_refused p routes some known (fault.PlanRefused OverCapacity) h = absurd h
+twice_refused p routes some known (fault.PlanRefused Late) h = absurd h
+twice_refused p routes some known (fault.PlanRefused FleetExceeded) h = absurd h
+twice_refused p routes some known (fault.Instance f) h = absurd h
+twice_refused p routes some known (fault.Certificate f) h = absurd h
+twice_refused p routes some known (fault.Solution f) h = absurd h
+twice_refused p routes some known fault.OtherName h = absurd h
+twice_refused p routes some known fault.OtherSize h = absurd h
+twice_refused p routes some known (fault.BoundDiffers x y) h = absurd h
+twice_refused p routes some known (fault.CostDiffers x y) h = absurd h
+twice_refused p routes some known fault.StateLimit h = absurd h
+
+-- ---- The verdict on three texts, from what was found of each.
+
+module _ (t : Texts) (p : Problem) (x : Content) (s : Option Spelled) (instance : IsInstance t.instance p) (text : IsCertificateText t.certificate x) (is_solution : IsSolutionOf t.solution s) where
+  are_texts : AreTextsOf t p text.certificate s
+  are_texts = record { instance = instance; shaped = text.shaped; spelled = text.spelled; solution = is_solution }
+
+  -- the certificate is refused
+  pub bound_refused : (e : CheckFault) → ((c : Certificate) → x ≡ listed c → RefusesBound p c e) → Refuses t e
+  bound_refused e h = inr (record { problem = p; contents = text.certificate; solution = s; are = are_texts; refused = inl (h text.certificate text.is) })
+
+  module _ (accepted : (c : Certificate) → x ≡ listed c → IsFor p c × HasBound p c c.bound) where
+    -- the certificate is accepted, and the solution judged
+    pub judged : (r : Result Verdict CheckFault) → IfOk r (Judges p x.bound s) → IfErr r (RefusesSolution p s) → Checks t r
+    judged (Ok v) ok err =
+        let good = accepted text.certificate text.is in
+        (p, text.certificate, s, are_texts, good.0, good.1, subst (λ (b : ℕ). Judges p b s v) (ap (λ (y : Content). y.bound) text.is) ok)
+    judged (Err e) ok err =
+        let good = accepted text.certificate text.is in
+        inr (record { problem = p; contents = text.certificate; solution = s; are = are_texts; refused = inr (record { fits = good.0; bound = good.1; refused = err }) })
+
+-- what is lent of a solution is what is had
+pub lent : (r : Option (Bor Sol)) (o : Option Sol) → option_copied r ≡ o → option_map (λ s. view s.now) r ≡ option_map view o
+lent r o e = subst (λ (x : Option Sol). option_map (λ s. view s.now) r ≡ option_map view x) e (each r)
+  where
+    each : (r : Option (Bor Sol)) → option_map (λ s. view s.now) r ≡ option_map view (option_copied r)
+    each None = refl
+    each (Some s) = refl
+
+-- ---- What verdicts and refusals say of the texts, and of every plan.
 
 -- memory or the states don't suffice
 abbrev IsLimit : CheckFault → Type 0
@@ -57,7 +124,7 @@ module _ (t : Texts) (p : Problem) (c : Certificate) (s : Option Spelled) (are :
   same_problem = one_problem t.instance right.problem p right.instance are.instance
 
   same_certificate : right.accepted.certificate ≡ c
-  same_certificate = certificate_texts.one_text_each right.accepted.certificate c right.accepted.shaped are.shaped (sym right.accepted.spelled ∙ are.spelled)
+  same_certificate = certificate.one_text_each right.accepted.certificate c right.accepted.shaped are.shaped (sym right.accepted.spelled ∙ are.spelled)
 
   right_name : c.name ≡ p.name
   right_name = sym (ap (λ (x : Certificate). x.name) same_certificate) ∙ right.accepted.name ∙ ap (λ (q : Problem). q.name) same_problem

@@ -1,11 +1,12 @@
--- Routes and prices, a customer at a time.
-use Rattle.std.proofs.Common.{◌≡◌, refl, ℕ, zero, suc, ◌+◌, ◌*◌, ◌-◌, ◌<◌, ◌≤◌, List, []}
-use Rattle.std.proofs.Common.{◌∷◌, ◌++◌, length, get_or, arith, length-append, ap, sym, ◌∙◌, inl, inr}
-use Rattle.std.specs.Prelude.{ℤ, pos, ◌+ℤ◌}
+-- Routes and prices that are taken up, a customer at a time, and customers that stand in the routes.
+use Rattle.std.proofs.Common.{◌≡◌, refl, ℕ, zero, suc, ◌+◌, ◌*◌, ◌-◌, ◌<◌, ◌≤◌, List, [], ◌∷◌, ◌++◌, length, get_or, arith, length-append, ap, sym, ◌∙◌, inl, inr}
+use Rattle.std.specs.Prelude.{ℤ, pos, ◌+ℤ◌, Vec}
 use Rattle.std.specs.List.{AllByRecursion}
 use Rattle.std.proofs.lemmas.Int.{ints}
 use Rattle.std.proofs.lemmas.Bool.{cases_eq}
 use Rattle.std.proofs.lemmas.List.Sums.{sum_by-append, sum_by-cons}
+use Rattle.std.specs.declared.alloc.Global.{Global}
+use Rattle.std.proofs.lemmas.List.{map-append}
 use Rattle.solomon_reader.specs.Problem.{Problem}
 use Rattle.solomon_reader.specs.Plan.{route_cost, plan_cost}
 use Rattle.solomon_reader.specs.Region.{Region}
@@ -13,7 +14,10 @@ use Rattle.solomon_reader.specs.Relaxed.{int_sum, price_of}
 use Rattle.solomon_reader.specs.SumLaws.{int_sum-append}
 use Rattle.solomon_reader.specs.AmongLaws.{among_append_left, among_append_right}
 use Rattle.solomon_reader.specs.CountLaws.{mark, mark-same, mark-other}
+use Rattle.solomon_reader.specs.Lists.{lists}
+use Rattle.solomon_reader.specs.declared.limits.TheConstants.{MOST_TIME}
 use Rattle.closing.specs.Gathering.{FitsIn, IsOnly, IsGathered, HasRoom, begins, head_of}
+use Rattle.closing.specs.declared.fee.TheConstants.{MOST_FEE}
 
 all_last : {X : Type 0} (P : X → Type 0) (xs : List X) (x : X) → AllByRecursion P xs → P x → AllByRecursion P (xs ++ (x ∷ []))
 all_last P [] x all h = (h, tt)
@@ -115,3 +119,19 @@ module _ (p : Problem) (g : Region) (fee : ℕ) where
           | inr d ↦ old_price z v low (omega arith) ∙ all.unpaid v low (omega arith) h
         ];
       }
+
+-- ---- A route and its price are taken up.
+
+room_beside : (cost fee : ℕ) (z : ℤ) → z ≡ pos (1000 * cost + fee) → cost ≤ 10 * MOST_TIME → fee ≤ MOST_FEE → HasRoom z
+room_beside cost fee z e h k = rw e (omega arith)
+
+module _ (p : Problem) (g : Region) (c fee : ℕ) (prices : List ℤ) (routes : List (Vec ℕ Global)) (all : IsGathered p g c fee prices (lists routes)) where
+  pub pushed : (r : Vec ℕ Global) (cost : ℕ) (z : ℤ) (longer : List ℤ) (more : List (Vec ℕ Global)) → IsOnly p g c r.items
+      → cost ≡ route_cost p r.items → cost ≤ 10 * MOST_TIME → fee ≤ MOST_FEE
+      → z ≡ pos (1000 * cost + fee) → longer ≡ prices ++ (z ∷ []) → more ≡ routes ++ (r ∷ []) → IsGathered p g (c + 1) fee longer (lists more)
+  pushed r cost z longer more one is low few price e f =
+      rw (e, f, map-append) (gathered_route p g fee c prices (lists routes) all r.items z one (rw is at price) (room_beside cost fee z price low few))
+
+  pub skipped : (z : ℤ) (longer : List ℤ) (more : List (Vec ℕ Global)) → ((q : List ℕ) → ¬ FitsIn p g (c ∷ q)) → z ≡ pos 0
+      → longer ≡ prices ++ (z ∷ []) → more ≡ routes → IsGathered p g (c + 1) fee longer (lists more)
+  skipped z longer more none price e f = rw (e, f, price) (gathered_none p g fee c prices (lists routes) all none)

@@ -1,11 +1,4 @@
-pub mod Following
-pub mod Counting
 pub mod Gathered
-pub mod Pushed
-pub mod Uniform
-pub mod Once
 pub mod Obeying
 pub mod Settles
-pub mod Undecided
-pub mod LeafValues
 pub mod Grown

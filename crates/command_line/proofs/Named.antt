@@ -1,5 +1,5 @@
 -- Rows that don't give a job, and rows that give one job alone.
-use Rattle.std.proofs.Common.{◌≡◌, ◌∙◌, ℕ, ◌≤◌, Bool, IsTrue, true, false, List, Option, Some, None, slice_index, ap, ap₂, arith, codes, refl, sym}
+use Rattle.std.proofs.Common.{◌≡◌, ◌∙◌, ℕ, Bool, IsTrue, true, false, List, Option, Some, None, slice_index, ap, ap₂, arith, codes, refl, sym}
 use Rattle.std.specs.Str.Parse.{digits_value, without_leading_plus}
 use Rattle.clap.specs.Words.{Row, Text}
 use Rattle.command_line.specs.Commands.{HasFlag, HasNumber, IsNumberIf}

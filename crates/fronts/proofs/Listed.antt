@@ -1,13 +1,14 @@
--- A neighbour list that is filled row by row.
-use Rattle.std.proofs.Common.{◌≡◌, ℕ, ◌+◌, ◌<◌, ◌≤◌, true, List, length, get_or, arith, ◌∙◌, inl, inr}
+-- Lists and tables that are filled row by row.
+use Rattle.std.proofs.Common.{◌≡◌, ℕ, ◌+◌, ◌<◌, ◌≤◌, true, List, length, get_or, arith, ◌∙◌, inl, inr, [], ◌∷◌, ◌++◌, length-append}
 use Rattle.std.proofs.Math.ListN.{set, length-set}
-use Rattle.std.proofs.lemmas.List.{get_or-set_same, get_or-set_other}
-use Rattle.std.proofs.lemmas.Bool.{cases_eq, both_ways}
+use Rattle.std.proofs.lemmas.List.{get_or-set_same, get_or-set_other, get_or_append_left, get_or_push}
+use Rattle.std.proofs.lemmas.Bool.{cases_eq, both_ways, cases_lt}
 use Rattle.solomon_reader.specs.Problem.{Problem}
 use Rattle.solomon_reader.specs.Remembering.{near}
 use Rattle.solomon_reader.specs.Memories.{place_of}
-use Rattle.fronts.specs.Memories.{IsNeighbourList}
 use Rattle.solomon_reader.proofs.Places.{same_place, near_at, not_near}
+use Rattle.fronts.specs.Memories.{IsNeighbourList}
+use Rattle.fronts.specs.Tables.{IsTable}
 
 module _ (p : Problem) (v k : ℕ) where
   -- the list without rows has the depot everywhere
@@ -43,3 +44,15 @@ module _ (p : Problem) (v k : ℕ) where
           | inr apart ↦ get_or-set_other list place (place_of p k v u) i 0
               (λ e. apart (same_place p v k u i h (near_at p v k i (omega (arith, low, is))) (e ∙ is))) ∙ so_far.listed u (omega arith) h
         ]
+
+-- ---- Tables that grow.
+
+module _ {X : Type 0} (T : ℕ → X → Type 0) where
+  pub table_more : (i : ℕ) (x : X) (table : List X) → IsTable T i table → T i x → IsTable T (i + 1) (table ++ (x ∷ []))
+  table_more i x table h here = record {
+    count = omega (arith, h.count, length-append table (x ∷ []));
+    each = λ m d below. elim (cases_lt m i) [
+      | inl less ↦ rw (get_or_append_left table (x ∷ []) d m (omega (arith, h.count, less))) (h.each m d less)
+      | inr more ↦ (let same : m ≡ i = omega arith in rw (same, get_or_push table x d i h.count) here)
+    ];
+  }

@@ -1,13 +1,17 @@
--- The steps from a row, in the order of when it has to be left for them.
-use Rattle.std.proofs.Common.{◌≡◌, ℕ, suc, ◌+◌, ◌*◌, ◌-◌, ◌<◌, ◌≤◌, cond, List, [], ◌∷◌, ◌++◌, length, arith, sym, inl, inr, ◌⊎◌}
-use Rattle.std.specs.Prelude.{◌==◌, ℤ, pos}
+-- The steps from a row, in the order of when it has to be left for them, and those of them that a region allows, with their reduced costs.
+use Rattle.std.proofs.Common.{◌≡◌, ℕ, suc, ◌+◌, ◌*◌, ◌-◌, ◌<◌, ◌≤◌, cond, List, [], ◌∷◌, ◌++◌, length, arith, sym, inl, inr, ◌⊎◌, ◌↔◌, length-append, get_or}
+use Rattle.std.specs.Prelude.{◌==◌, ℤ, pos, ◌-ℤ◌, IsTrue, Vec}
 use Rattle.std.specs.List.{All}
 use Rattle.std.specs.List.Sorted.{IsPermutation, IsNonDecreasingBy}
-use Rattle.std.proofs.lemmas.List.Elements.{All-push}
+use Rattle.std.proofs.lemmas.List.Elements.{All-push, All-weaker}
 use Rattle.std.proofs.lemmas.List.Sums.{sum_by-cons, sum_by_push}
 use Rattle.std.proofs.lemmas.List.Sorted.{sum_by-IsPermutation, All-permutation}
 use Rattle.std.proofs.lemmas.Bool.{cases_lt, cases_eq}
 use Rattle.std.proofs.lemmas.Bool.Decides.{nat_tests}
+use Rattle.std.specs.declared.alloc.Global.{Global}
+use Rattle.std.specs.FinSet.{contains, empty}
+use Rattle.std.proofs.lemmas.Int.{ints}
+use Rattle.std.proofs.lemmas.List.{get_or_read, get_or_append_left, get_or_push}
 use Rattle.solomon_reader.specs.declared.limits.TheConstants.{MOST_TIME}
 use Rattle.solomon_reader.specs.Distance.{distance}
 use Rattle.solomon_reader.specs.Problem.{Problem, IsCustomer, due}
@@ -15,7 +19,8 @@ use Rattle.solomon_reader.specs.Relaxed.{price_of}
 use Rattle.solomon_reader.specs.States.{Pricing, State, CanStep, IsPriced}
 use Rattle.fronts.specs.declared.step.Step.{Step}
 use Rattle.fronts.specs.Fronts.{IsTask}
-use Rattle.fronts.specs.Steps.{blank, step_at, steps_to, IsReachable, IsFreeStep, AreStepsFrom, IsAmong}
+use Rattle.fronts.specs.Steps.{blank, step_at, steps_to, IsReachable, IsFreeStep, AreStepsFrom, IsAmong, IsStepFrom, IsOpenList}
+use Rattle.fronts.specs.Tables.{Rows}
 
 pub to_it : (j : ℕ) (s : Step) → s.customer ≡ j → ◌≡◌ {A = ℕ} (cond (s.customer == j) 1 0) 1
 to_it j s h = grind (arith, nat_tests, h)
@@ -99,3 +104,112 @@ is_among p k price P v steps t i are soon end j customer reachable among timely 
         | inr early ↦ absurd (omega (arith, early, late, soon, are.falling i m blank more found.1.0))
       ]
     ]
+
+-- ---- The steps that a region allows, with their reduced costs.
+
+abbrev key : Step → ℕ
+key s = 20 * MOST_TIME - s.latest
+
+-- a step where its customer has a price
+pub step_at_price : (p : Problem) (k v : ℕ) (price : ℕ → ℤ) (s x : Step) (z : ℤ) → IsFreeStep p k v s → x ≡ record s { cost = s.cost -ℤ z }
+    → z ≡ price s.customer → IsStepFrom p k price v x
+step_at_price p k v price s x z free is at = rw is (record {
+  customer = free.customer;
+  reachable = free.reachable;
+  way = free.way;
+  latest = free.latest;
+  ready = free.ready;
+  service = free.service;
+  demand = free.demand;
+  cost = omega (arith, ints, free.cost, at);
+  place = free.place;
+  recalled = free.recalled;
+  near = free.near;
+  soon = free.soon;
+  short = free.short;
+})
+
+-- those of the first i steps whose customer is one of these
+pub record IsOpened (p : Problem) (k : ℕ) (price : ℕ → ℤ) (Q : ℕ → Type 0) (v : ℕ) (steps : List Step) (i : ℕ) (chosen : List Step) : Type 0 where
+  pub each : All (λ s. IsStepFrom p k price v s × Q s.customer) chosen
+  pub all : (m : ℕ) → m < i → Q (step_at steps m).customer → 1 ≤ steps_to (step_at steps m).customer chosen
+  pub falling : IsNonDecreasingBy key chosen
+  pub ahead : (m n : ℕ) (d : Step) → m < length chosen → i ≤ n → n < length steps → key (get_or chosen m d) ≤ key (step_at steps n)
+
+module _ (p : Problem) (k : ℕ) (price : ℕ → ℤ) (Q : ℕ → Type 0) (v : ℕ) (steps : List Step) where
+  module _ (i : ℕ) (chosen : List Step) (h : IsOpened p k price Q v steps i chosen) where
+    pub opened_same : ¬ Q (step_at steps i).customer → IsOpened p k price Q v steps (i + 1) chosen
+    opened_same out = record {
+      each = h.each;
+      all = λ m low among. elim (cases_lt m i) [
+        | inl less ↦ h.all m less among
+        | inr more ↦ (let same : m ≡ i = omega (arith, low, more) in absurd (out (rw same at among)))
+      ];
+      falling = h.falling;
+      ahead = λ m n d low from high. h.ahead m n d low (omega (arith, from)) high;
+    }
+
+    module _ (x : Step) (free : AreStepsFrom p k (λ _. pos 0) (λ _. Unit {0}) v steps) (within : i < length steps) (step : IsStepFrom p k price v x) (among : Q x.customer)
+        (customer_is : x.customer ≡ (step_at steps i).customer) (latest_is : x.latest ≡ (step_at steps i).latest) where
+      old_at : (m : ℕ) (d : Step) → m < length chosen → get_or (chosen ++ (x ∷ [])) m d ≡ get_or chosen m d
+      old_at m d low = get_or_append_left chosen (x ∷ []) d m low
+
+      new_at : (m : ℕ) (d : Step) → m ≡ length chosen → get_or (chosen ++ (x ∷ [])) m d ≡ x
+      new_at m d same = get_or_push chosen x d m (sym same)
+
+      more : (m : ℕ) → m < length (chosen ++ (x ∷ [])) → m < length chosen + 1
+      more m low = omega (arith, low, length-append chosen (x ∷ []))
+
+      falling : IsNonDecreasingBy key (chosen ++ (x ∷ []))
+      falling a b d le low = elim (cases_lt b (length chosen)) [
+        | inl less ↦ rw (old_at b d less, old_at a d (omega (arith, le, less))) (h.falling a b d le less)
+        | inr past ↦ (let last : b ≡ length chosen = omega (arith, past, more b low) in elim (cases_lt a (length chosen)) [
+          | inl less ↦ rw (new_at b d last, old_at a d less) (omega (arith, latest_is, h.ahead a i d less (omega arith) within))
+          | inr same ↦ rw (new_at b d last, new_at a d (omega (arith, le, same, last))) (omega arith)
+        ])
+      ]
+
+      ahead : (m n : ℕ) (d : Step) → m < length (chosen ++ (x ∷ [])) → i + 1 ≤ n → n < length steps → key (get_or (chosen ++ (x ∷ [])) m d) ≤ key (step_at steps n)
+      ahead m n d low from high = elim (cases_lt m (length chosen)) [
+        | inl less ↦ rw (old_at m d less) (h.ahead m n d less (omega (arith, from)) high)
+        | inr past ↦ rw (new_at m d (omega (arith, past, more m low))) (omega (arith, latest_is, free.falling i n blank (omega (arith, from)) high))
+      ]
+
+      all : (m : ℕ) → m < i + 1 → Q (step_at steps m).customer → 1 ≤ steps_to (step_at steps m).customer (chosen ++ (x ∷ []))
+      all m low q = elim (cases_lt m i) [
+        | inl less ↦ omega (arith, h.all m less q, sum_by_push (λ s. cond (s.customer == (step_at steps m).customer) 1 0) chosen x)
+        | inr past ↦ (let same : m ≡ i = omega (arith, low, past) in
+            omega (arith, sum_by_push (λ s. cond (s.customer == (step_at steps m).customer) 1 0) chosen x, to_it (step_at steps m).customer x (rw same customer_is)))
+      ]
+
+      pub opened_more : IsOpened p k price Q v steps (i + 1) (chosen ++ (x ∷ []))
+      opened_more = record {
+        each = All-push (λ s. IsStepFrom p k price v s × Q s.customer) chosen x h.each (step, among);
+        all = all;
+        falling = falling;
+        ahead = ahead;
+      }
+
+    pub opened_all : AreStepsFrom p k (λ _. pos 0) (λ _. Unit {0}) v steps → length steps ≤ i → AreStepsFrom p k price Q v chosen
+    opened_all free past = record { each = h.each; all = all_of; falling = h.falling }
+      where
+        all_of : (j : ℕ) → IsCustomer p j → IsReachable p v j → Q j → 1 ≤ steps_to j chosen
+        all_of j customer reachable among =
+            let found = found_at j steps (free.all j customer reachable tt) in
+            rw found.1.1 at (h.all found.0 (omega (arith, found.1.0, past)) (rw found.1.1 among))
+
+-- the same customers, told in another way
+pub steps_where : (p : Problem) (k : ℕ) (price : ℕ → ℤ) (P Q : ℕ → Type 0) (v : ℕ) (steps : List Step) → ((j : ℕ) → P j ↔ Q j)
+    → AreStepsFrom p k price P v steps → AreStepsFrom p k price Q v steps
+steps_where p k price P Q v steps same are = record {
+  each = All-weaker (λ s. IsStepFrom p k price v s × P s.customer) (λ s. IsStepFrom p k price v s × Q s.customer) (λ s h. (h.0, (same s.customer).0 h.1)) steps are.each;
+  all = λ j customer reachable among. are.all j customer reachable ((same j).1 among);
+  falling = are.falling;
+}
+
+-- the steps to the rows of a set that was read from a table
+pub open_list : (p : Problem) (k : ℕ) (prices : List ℤ) (table : List Rows) (v i : ℕ) (r : Rows) (steps : Vec Step Global) → i ≡ v → i < length table → r ≡ get_or table i r
+    → AreStepsFrom p k (price_of prices) (λ j. IsTrue (contains r j)) v steps.items → IsOpenList p k prices table v steps
+open_list p k prices table v i r steps same within is h =
+    let at : r ≡ get_or table v empty = rw same at (get_or_read table i r within is empty) in
+    rw at at h

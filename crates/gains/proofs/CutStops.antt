@@ -1,8 +1,7 @@
 -- The stops round a chain, by their positions.
-use Rattle.std.proofs.Common.{◌≡◌, refl, ℕ, zero, suc, ◌+◌, ◌-◌, ◌<◌, ◌≤◌, true, false, List}
-use Rattle.std.proofs.Common.{[], ◌∷◌, length, get_or, take, drop, ap, ◌∙◌, subst, arith, length-drop}
+use Rattle.std.proofs.Common.{◌≡◌, refl, ℕ, zero, suc, ◌+◌, ◌-◌, ◌<◌, ◌≤◌, true, false, List, [], ◌∷◌, length, get_or, take, drop, ap, ◌∙◌, subst, arith, length-drop}
 use Rattle.std.specs.List.{AllByRecursion}
-use Rattle.std.proofs.lemmas.List.{get_or_past, get_or-drop}
+use Rattle.std.proofs.lemmas.List.{get_or-drop}
 use Rattle.solomon_reader.specs.Problem.{Problem, IsCustomer, customer_count}
 use Rattle.solomon_reader.specs.Plan.{IsPlan, IsFitting}
 use Rattle.solomon_reader.specs.Moves.{route, has_stop, part}
@@ -68,11 +67,6 @@ known_gap p r k known fits =
     let cut = known k 0 (omega (arith, fits)) in
     let none : k + 0 ≡ k = omega arith in
     (cut.before, subst (λ i. first_of (drop i r) ≤ customer_count p) none cut.behind)
-
-known_at : (p : Problem) (r : List ℕ) → AllByRecursion (IsCustomer p) r → (k : ℕ) → get_or r k 0 ≤ customer_count p
-known_at p [] all k = let h : 0 ≤ k = omega arith in let e : get_or {A = ℕ} [] k 0 ≡ 0 = get_or_past {X = ℕ} [] k 0 h in omega (arith, e)
-known_at p (j ∷ r) all zero = all.0.1
-known_at p (j ∷ r) all (suc k) = known_at p r all.1 k
 
 fitting_known : (p : Problem) (routes : List (List ℕ)) → AllByRecursion (IsFitting p) routes → (a : ℕ) → AllByRecursion (IsCustomer p) (route routes a)
 fitting_known p [] all a = tt

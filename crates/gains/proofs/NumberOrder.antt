@@ -5,6 +5,7 @@ use Rattle.moves.specs.declared.candidate.Move.{Move}
 use Rattle.moves.specs.declared.candidate.Move.TheVariants.{Relocate, Exchange, OrOpt, TwoOptStar, Cross}
 use Rattle.moves.specs.Order.{kind_of, AreBefore, IsBefore}
 use Rattle.moves.specs.Search.{numbers}
+use Rattle.moves.proofs.Searching.{behind_first}
 
 -- the first number that differs decides
 pub before_at : (xs ys : List ℕ) (i : ℕ) → i < length xs → i < length ys → ((j : ℕ) → j < i → get_or xs j 0 ≡ get_or ys j 0) → get_or xs i 0 < get_or ys i 0 → AreBefore xs ys
@@ -52,9 +53,6 @@ compared (x ∷ xs) (y ∷ ys) e =
             ]
       ]
     ]
-
-behind_first : (x y : ℕ) (xs ys xs' ys' : List ℕ) → (AreBefore xs ys → AreBefore xs' ys') → AreBefore (x ∷ xs) (y ∷ ys) → AreBefore (x ∷ xs') (y ∷ ys')
-behind_first x y xs ys xs' ys' f h = elim h [ inl less ↦ inl less | inr e ↦ inr (e.0, f e.1) ]
 
 -- a place, behind which a length of 0 is put in
 behind_place : (a b i j : ℕ) (xs ys xs' ys' : List ℕ) → (AreBefore xs ys → AreBefore xs' ys') → AreBefore (a ∷ i ∷ xs) (b ∷ j ∷ ys)

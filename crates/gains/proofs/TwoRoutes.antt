@@ -6,7 +6,7 @@ use Rattle.solomon_reader.specs.Plan.{IsFitting, route_cost}
 use Rattle.solomon_reader.specs.Moves.{route}
 use Rattle.moves.specs.Changes.{stands}
 use Rattle.gains.specs.TwoRoutes.{DependsOnTwoRoutes}
-use Rattle.moves.proofs.Rebuilding.{rebuilt_plan, rebuilt_parts, rebuilt_cost}
+use Rattle.moves.proofs.Swaps.{rebuilt_plan, rebuilt_parts, rebuilt_cost}
 
 at_most_one : (r : List ℕ) → stands r ≤ 1
 at_most_one [] = omega arith

@@ -1,6 +1,5 @@
 -- The best gains between two routes that are kept while a plan changes.
-use Rattle.std.specs.Prelude.{◌≡◌, ℕ, ◌<◌, ◌≤◌, List, [], length, map, slice_index_or, ◌≢◌, ◌⊎◌}
-use Rattle.std.specs.Prelude.{Bool, false, zero, suc, if◌then◌else◌, ◌+◌, Option, None, Some, IfSome, Vec}
+use Rattle.std.specs.Prelude.{◌≡◌, ℕ, ◌<◌, ◌≤◌, List, [], length, map, slice_index_or, ◌≢◌, ◌⊎◌, Bool, false, zero, suc, if◌then◌else◌, ◌+◌, Option, None, Some, IfSome, Vec}
 use Rattle.std.specs.declared.alloc.Global.{Global}
 use Rattle.solomon_reader.specs.Problem.{Problem}
 use Rattle.moves.specs.declared.candidate.Move.{Move}

@@ -1,4 +1,4 @@
--- A book stays a book when an event is added.
+-- A book stays a book when an event is added. Which demands a call meets, one after the other.
 use Rattle.std.proofs.Common.{◌≡◌, ℕ, ◌+◌, ◌<◌, true, false, List, [], ◌∷◌, ◌++◌, Option, Some, None, length, refl, ap, sym, subst, ◌∙◌, arith, inl, inr}
 use Rattle.std.specs.Prelude.{slice_get, slice_set, option_map, ℤ}
 use Rattle.std.proofs.lemmas.Option.{slice_get-map, get_or_from_slice_get}
@@ -11,16 +11,17 @@ use Rattle.branching.specs.Arcs.{pair}
 use Rattle.prices.specs.ValuedPrices.{ValuedPrices, IsValued}
 use Rattle.solomon_reader.specs.History.{IsLeaf, IsCheaper, value_of, depth_of, split_count, used_number, unused_number}
 use Rattle.incumbent_book.specs.Contents.{Contents, IsBook, pricing_at}
-use Rattle.incumbent_book.specs.Faults.{IsAccepted, reprice, split}
+use Rattle.incumbent_book.specs.Faults.{IsAccepted, reprice, split, Call, MeetsBelow, IsLowestFault, IsRefusedFor, IsFirstFault}
 use Rattle.incumbent_book.specs.Replies.{with_offer, with_incumbent, with_prices, with_split}
 use Rattle.incumbent_book.specs.Arena.{leaf_at, new_leaf, prices_of}
 use Rattle.incumbent_book.specs.Keeping.{IsConsistent, IsLeafOf}
-use Rattle.incumbent_book.specs.declared.fault.BookFault.TheVariants.{ForeignInstance, JournalFull, NotALeaf, WrongRegion, NotHigher, Lower, LeavesFull, TooDeep}
+use Rattle.incumbent_book.specs.declared.fault.BookFault.TheVariants.{ForeignInstance, JournalFull, NotALeaf, WrongRegion, NotHigher, Lower, LeavesFull, TooDeep, Memory}
 use Rattle.incumbent_book.specs.declared.node.Leaf.{Leaf}
 use Rattle.incumbent_book.specs.declared.node.Node.{Node}
 use Rattle.incumbent_book.specs.declared.node.Node.TheVariants.{Open, Split}
+use Rattle.incumbent_book.specs.declared.fault.BookFault.{BookFault}
 use Rattle.incumbent_book.proofs.Histories.{best-better, best-kept, which_number, same_depth, used_depth, unused_depth}
-use Rattle.incumbent_book.proofs.Growing.{open_node, open_at, leaf_is, leaf_there, no_leaf, after_offer, after_prices, after_split}
+use Rattle.incumbent_book.proofs.Trees.{open_node, open_at, leaf_is, leaf_there, no_leaf, after_offer, after_prices, after_split}
 
 module _ (b : Contents) (nodes : List Node) (is : IsConsistent b nodes) where
   abbrev n : ℕ
@@ -145,3 +146,21 @@ module _ (b : Contents) (nodes : List Node) (is : IsConsistent b nodes) where
             ∙ sym (map-append prices_of (slice_set nodes m (Split arc (length nodes) (length nodes + 1))) (Open (new_leaf (old.depth + 1) x) ∷ Open (new_leaf (old.depth + 1) y) ∷ [])
             ∙ ap (λ (ps : List (List ℤ)). ps ++ x.prices ∷ y.prices ∷ []) (map-set prices_of nodes m (Split arc (length nodes) (length nodes + 1))));
       }
+
+-- ---- Which demands a call meets, one after the other.
+
+-- a fault that isn't want of memory is what is told
+pub told : (b : Contents) (call : Call) (f : BookFault) → IsLowestFault b call f → IsRefusedFor b call f
+told b call Memory low = absurd (low.0 tt)
+told b call ForeignInstance low = low
+told b call JournalFull low = low
+told b call NotALeaf low = low
+told b call WrongRegion low = low
+told b call NotHigher low = low
+told b call Lower low = low
+told b call LeavesFull low = low
+told b call TooDeep low = low
+
+pub none_told : (b : Contents) (call : Call) (r : Option BookFault) → IsFirstFault b call r → ((f : BookFault) → r ≡ Some f → ⊥) → MeetsBelow b call 10
+none_told b call None is none = is
+none_told b call (Some f) is none = absurd (none f refl)

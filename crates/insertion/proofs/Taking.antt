@@ -13,7 +13,7 @@ use Rattle.std.proofs.lemmas.List.Elements.{All-from_recursion}
 use Rattle.std.proofs.lemmas.List.Sorted.{IsPermutation-trans, IsPermutation-remove, IsPermutation-insert, IsPermutation-middle}
 use Rattle.std.proofs.lemmas.List.Sorted.{IsPermutation-append_left, IsPermutation-append_right, All-permutation, length_permutation}
 use Rattle.solomon_reader.specs.Problem.{Problem, customers, customer_count, IsCustomer}
-use Rattle.solomon_reader.specs.Plan.{IsFitting, IsPlan}
+use Rattle.solomon_reader.specs.Plan.{IsFitting}
 use Rattle.solomon_reader.specs.Lists.{lists}
 use Rattle.insertion.specs.Routing.{IsAlone, Takes, IsRouted}
 use Rattle.insertion.specs.Building.{IsServedAlone, IsPart}
@@ -128,14 +128,6 @@ none_left p routes (u ∷ left) routed served =
 
     known : IsCustomer p u
     known = All-left (IsCustomer p) (customers p) (flat_map (λ r. r) routes) (u ∷ left) routed.taken.moved (all_customers p) 0 u (omega arith)
-
-pub plan : (p : Problem) (routes : List (List ℕ)) (left : List ℕ) → IsRouted p (customers p) routes left → length left ≡ 0 → IsPlan p routes
-plan p routes [] routed none = record {
-  fleet = routed.fleet;
-  fitting = routed.fitting;
-  each_once = rw append-nil at routed.taken.moved;
-}
-plan p routes (u ∷ left) routed none = absurd (omega arith)
 
 pub part : (p : Problem) (routes : List (List ℕ)) (left : List ℕ) → IsRouted p (customers p) routes left → 0 < length left → IsPart p routes left
 part p routes left routed some = record {

@@ -1,35 +1,58 @@
 -- The list of labels grows, labels are dropped and extended, and what was said of it stays.
-use Rattle.std.proofs.Common.{◌≡◌, ◌≢◌, refl, ℕ, zero, suc, ◌+◌, ◌-◌, ◌<◌, ◌≤◌, true, false, List, [], ◌∷◌, ◌++◌, length}
-use Rattle.std.proofs.Common.{length-append, get_or, eqb, arith, ap, sym, ◌∙◌, ◌⊎◌, inl, inr, Option, Some, None, append-nil, append_assoc, reverse, take, drop}
-use Rattle.std.specs.Prelude.{ℤ, MatchOption, IsTrue}
-use Rattle.std.proofs.Math.ListN.{set, length-set}
+use Rattle.std.proofs.Common.{◌≡◌, ℕ, List, [], arith, sym, ◌∙◌, ◌≢◌, refl, zero, suc, ◌+◌, ◌-◌, ◌<◌, ◌≤◌, true, false, ◌∷◌, ◌++◌, length-append, get_or, eqb, ap, ◌⊎◌, inl, inr, append-nil}
+use Rattle.std.proofs.Common.{append_assoc, reverse, take, drop}
+use Rattle.std.specs.Prelude.{ℤ, Option, Some, None, MatchOption, length, IsTrue}
 use Rattle.std.proofs.lemmas.Int.{ints}
+use Rattle.std.proofs.Math.ListN.{set, length-set}
 use Rattle.std.proofs.lemmas.Bool.{cases_lt, cases_eq, eq-eqb, or_left}
 use Rattle.std.proofs.lemmas.List.{reverse-append, length-reverse, take_all, drop_all, get_or_read, get_or_append_left, get_or_push, get_or-set_same, get_or-set_other}
 use Rattle.std.proofs.lemmas.Nat.Bits.{bit_at-zero}
-use Rattle.solomon_reader.specs.Distance.{distance}
 use Rattle.solomon_reader.specs.Problem.{Problem, IsCustomer, due}
-use Rattle.solomon_reader.specs.Relaxed.{IsRelaxed, reduced_cost}
 use Rattle.solomon_reader.specs.Region.{IsAllowed}
-use Rattle.solomon_reader.specs.States.{Pricing, State, start, step, CanStep, CanEnd, IsAtMost}
-use Rattle.solomon_reader.proofs.Completions.{reaches_none, reaches_more, at_most_more}
-use Rattle.labelling.specs.declared.least_cost.Least.{Least}
+use Rattle.solomon_reader.specs.Relaxed.{IsRelaxed, IsLeast, reduced_cost}
+use Rattle.solomon_reader.specs.States.{Pricing, start, Completes, value_with, IsAtMost, State, step, CanStep, CanEnd}
+use Rattle.solomon_reader.proofs.Completions.{relaxed_completes, value_is, reaches_none, reaches_more, at_most_more, reaches_same}
+use Rattle.fronts.specs.Fronts.{end_cost, IsBounded, IsStart, IsAfter}
+use Rattle.solomon_reader.specs.Distance.{distance}
 use Rattle.labels.specs.declared.best.Best.{Best}
 use Rattle.labels.specs.declared.label.Label.{Label}
-use Rattle.labelling.specs.Answer.{IsLeastOf}
 use Rattle.labels.specs.Arena.{label_in, state_at, trace, IsLabel, IsArena, IsPending, HasActive, HasPending, IsDominated, inactive, IsPruned, IsExtension, IsAdded, IsSameStop, IsLater}
 use Rattle.labels.specs.Arena.{IsGrown, IsMoved, IsMet, TakesStep, TakesSteps, CountsEnd, EndsAt, IsAttained, IsComplete, IsOnward, NonePending, IsAnswer, IsInList, IsFirst, blank}
 use Rattle.solomon_reader.specs.Covering.{IsDear}
 use Rattle.labels.specs.Cover.{CoversAll, Carries, IsPassed}
-use Rattle.fronts.specs.Fronts.{end_cost, IsBounded, IsStart, IsAfter}
 use Rattle.fronts.specs.Steps.{IsReachable}
 use Rattle.fronts.proofs.Stepping.{can_reach}
 use Rattle.fronts.specs.declared.front.Front.{Front}
 use Rattle.solomon_reader.specs.Memories.{place_of}
-use Rattle.solomon_reader.proofs.Goodness.{reaches_same}
 use Rattle.labels.proofs.Carrying.{carries_itself, carries_same, carries_through}
+use Rattle.labelling.specs.declared.least_cost.Least.{Least}
+use Rattle.labelling.specs.Answer.{HasLeastValue, HasItsRoute, IsLeastOf}
 use Rattle.labelling.proofs.Cover.{covers_grown, covers_retired, least_at_end}
-use Rattle.labelling.proofs.Ends.{IsReached, least_value, least_route}
+
+-- the best is that of a completion of the start, and at most what each relaxed route costs
+module _ (q : Pricing) where
+  abbrev pub IsReached : Option ℤ → List ℕ → Type 0
+  IsReached value route = MatchOption value (route ≡ []) (λ z. Completes q (start q) route × (value_with q (start q) route ≡ z))
+
+  value_by : (o : Option ℤ) (route : List ℕ) → IsReached o route → ((r : List ℕ) → IsRelaxed q.problem q.region q.neighbours r → IsAtMost o (reduced_cost q.problem q.prices r))
+      → MatchOption o ((r : List ℕ) → ¬ IsRelaxed q.problem q.region q.neighbours r) (λ z. IsLeast q.problem q.region q.neighbours q.prices z)
+  value_by None route found each = λ r relaxed. each r relaxed
+  value_by (Some z) route found each =
+      record { reached = (route, relaxed_completes q route found.0, sym (value_is q route) ∙ found.1); least = each }
+
+  route_by : (o : Option ℤ) (route : List ℕ) → IsReached o route
+      → MatchOption o (route ≡ []) (λ z. IsRelaxed q.problem q.region q.neighbours route × (reduced_cost q.problem q.prices route ≡ z))
+  route_by None route found = found
+  route_by (Some z) route found = (relaxed_completes q route found.0, sym (value_is q route) ∙ found.1)
+
+  pub least_value : (l : Least) → IsReached l.value l.route.items → ((r : List ℕ) → IsRelaxed q.problem q.region q.neighbours r → IsAtMost l.value (reduced_cost q.problem q.prices r))
+      → HasLeastValue q.problem q.region q.neighbours q.prices l
+  least_value l found each = value_by l.value l.route.items found each
+
+  pub least_route : (l : Least) → IsReached l.value l.route.items → HasItsRoute q.problem q.region q.neighbours q.prices l
+  least_route l found = route_by l.value l.route.items found
+
+-- ---- The list of labels grows, labels are dropped and extended, and what was said of it stays.
 
 -- a label that was read is the label of the list
 pub label_read : (xs : List Label) (m : ℕ) (r : Label) → m < length xs → r ≡ get_or xs m r → r ≡ label_in xs m

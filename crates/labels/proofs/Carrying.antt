@@ -6,7 +6,7 @@ use Rattle.std.proofs.lemmas.List.Sums.{sum_by-cons}
 use Rattle.solomon_reader.specs.Problem.{demand}
 use Rattle.solomon_reader.specs.Plan.{load_of}
 use Rattle.solomon_reader.specs.States.{Pricing, State, step, Completes, value_with, IsAsGood, IsSameState}
-use Rattle.solomon_reader.proofs.Goodness.{good_itself, good_same, completes_too, value_no_greater}
+use Rattle.solomon_reader.proofs.Completions.{good_itself, good_same, completes_too, value_no_greater}
 use Rattle.solomon_reader.specs.Memories.{has_bit}
 use Rattle.solomon_reader.proofs.Places.{place_first}
 use Rattle.labels.specs.declared.label.Label.{Label}

@@ -1,6 +1,5 @@
 -- Labels in a list that only grows, each with the index of its parent: the label before its last stop.
-use Rattle.std.specs.Prelude.{◌≡◌, ◌≢◌, ℕ, zero, suc, ◌+◌, ◌<◌, ◌≤◌, true, false, List, []}
-use Rattle.std.specs.Prelude.{◌∷◌, ◌++◌, length, slice_index_or, ℤ, pos, Some, ◌⊎◌, Option, MatchOption}
+use Rattle.std.specs.Prelude.{◌≡◌, ◌≢◌, ℕ, zero, suc, ◌+◌, ◌<◌, ◌≤◌, true, false, List, [], ◌∷◌, ◌++◌, length, slice_index_or, ℤ, pos, Some, ◌⊎◌, Option, MatchOption}
 use Rattle.solomon_reader.specs.Problem.{Problem}
 use Rattle.solomon_reader.specs.States.{Pricing, State, start, step, CanStep, CanEnd, IsSameState, Reaches, IsAtMost}
 use Rattle.labels.specs.declared.best.Best.{Best}

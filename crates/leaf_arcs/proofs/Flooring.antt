@@ -1,20 +1,38 @@
--- Floors from those of what comes after.
-use Rattle.std.proofs.Common.{◌≡◌, refl, ℕ, ◌+◌, ◌<◌, ◌≤◌, eqb, List, [], ◌∷◌, length, max, subst, arith, ap, sym, ◌∙◌, ◌⊎◌, inl, inr, Option, Some, None}
+-- Floors from those of what comes after, row by row.
+use Rattle.std.proofs.Common.{◌≡◌, ℕ, ◌+◌, ◌<◌, List, [], ◌∷◌, ◌++◌, length, length-append, get_or, arith, inl, inr, refl, ◌≤◌, eqb, max, subst, ap, sym, ◌∙◌, ◌⊎◌, Option, Some, None}
 use Rattle.std.specs.Prelude.{ℤ, ◌+ℤ◌, ◌≤ℤ◌, IfSome, IsTrue}
+use Rattle.std.proofs.lemmas.List.{get_or_append_left, get_or_push}
+use Rattle.std.proofs.lemmas.Bool.{cases_lt, eq-eqb, or_left}
 use Rattle.std.specs.Int.{int_max}
 use Rattle.std.proofs.lemmas.Int.{ints, clamps}
-use Rattle.std.proofs.lemmas.Bool.{cases_lt, eq-eqb, or_left}
 use Rattle.solomon_reader.specs.Problem.{ready, service}
 use Rattle.solomon_reader.specs.Distance.{distance}
 use Rattle.solomon_reader.specs.States.{Pricing, State, step, CanStep, Completes, value_with, begins}
+use Rattle.solomon_reader.specs.Memories.{place_of}
+use Rattle.solomon_reader.proofs.Places.{near_at}
+use Rattle.solomon_reader.proofs.Completions.{never_back}
 use Rattle.leaf_arcs.specs.declared.arcs.AllowedArc.{AllowedArc}
 use Rattle.leaf_arcs.specs.declared.floor.Floor.{Floor}
 use Rattle.leaf_arcs.specs.Arcs.{IsAllowedArc, AreAllowedArcs, IsInTime, arc_in}
 use Rattle.leaf_arcs.specs.Floors.{Holds, IsFloor, IsKnown, IsEndFloor, IsStepFloor, AreStepFloors, IsJoined}
-use Rattle.solomon_reader.specs.Memories.{place_of}
-use Rattle.leaf_arcs.proofs.Leading.{leads_index}
-use Rattle.solomon_reader.proofs.Places.{near_at}
-use Rattle.solomon_reader.proofs.Completions.{never_back}
+use Rattle.leaf_arcs.proofs.Deciding.{leads_index}
+
+-- the bits, or the lists, of the rows below i
+module _ {X : Type 0} (P : ℕ → X → Type 0) where
+  pub record Each (i : ℕ) (all : List X) : Type 0 where
+    pub count : length all ≡ i
+    pub each : (v : ℕ) (d : X) → v < i → P v (get_or all v d)
+
+  pub each_more : (i : ℕ) (all : List X) (x : X) → Each i all → P i x → Each (i + 1) (all ++ (x ∷ []))
+  each_more i all x h here = record {
+    count = omega (arith, h.count, length-append all (x ∷ []));
+    each = λ v d below. elim (cases_lt v i) [
+      | inl less ↦ rw (get_or_append_left all (x ∷ []) d v (omega (arith, h.count, less))) (h.each v d less)
+      | inr more ↦ (let same : v ≡ i = omega arith in rw (same, get_or_push all x d i h.count) here)
+    ];
+  }
+
+-- ---- Floors from those of what comes after.
 
 module _ (q : Pricing) where
   pub known : (o : Option Floor) → IfSome o (λ f. IsFloor q f.row f.from f.loaded f) → IsKnown q o

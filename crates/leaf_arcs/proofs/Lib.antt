@@ -1,5 +1,3 @@
 pub mod Deciding
-pub mod Leading
-pub mod Listing
 pub mod Remembered
 pub mod Flooring

@@ -1,9 +1,4 @@
-pub mod RouteLengths
 pub mod Searching
-pub mod RoutePieces
-pub mod Rebuilding
 pub mod Swaps
-pub mod ChangedRoutes
 pub mod JoinedStops
 pub mod ExactValues
-pub mod PlanStops

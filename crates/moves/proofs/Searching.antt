@@ -1,7 +1,7 @@
--- A search through the moves of a kind by their numbers.
-use Rattle.std.proofs.Common.{◌≡◌, refl, ℕ, ◌+◌, ◌<◌, ◌≤◌, Bool, true, false, List, [], ◌∷◌}
-use Rattle.std.proofs.Common.{◌++◌, length, get_or, sym, ap, ◌∙◌, arith, subst, ◌⊎◌, inl, inr}
+-- A search through the moves of a kind by their numbers, by what is known of each number of a range and of its result.
+use Rattle.std.proofs.Common.{◌≡◌, ℕ, ◌+◌, ◌<◌, zero, suc, List, [], ◌∷◌, length, slice_index_or, refl, ap, subst, arith, ◌≤◌, Bool, true, false, ◌++◌, get_or, sym, ◌∙◌, ◌⊎◌, inl, inr}
 use Rattle.std.specs.Prelude.{ℤ, ◌≤ℤ◌, ◌<ℤ◌, int_lt, Option, Some, None, if◌then◌else◌}
+use Rattle.std.specs.List.{AllZip, range_with_len}
 use Rattle.std.proofs.lemmas.Int.{ints}
 use Rattle.std.proofs.lemmas.Bool.{cases_lt}
 use Rattle.solomon_reader.specs.Problem.{Problem}
@@ -11,6 +11,27 @@ use Rattle.moves.specs.declared.candidate.Kind.{Kind}
 use Rattle.moves.specs.Values.{HasValue, IsWellFormed}
 use Rattle.moves.specs.Order.{kind_of, fields_of, AreBefore, IsBefore, IsBestBy, IsBestOf, IsBest}
 use Rattle.moves.specs.Search.{numbers, IsNextWithin, IsInRange, TakesIn, IsBestInRange, better}
+
+module _ {X : Type 0} (R : ℕ → X → Type 0) where
+  pub as_many : (a n : ℕ) (ys : List X) → AllZip R (range_with_len a n) ys → length ys ≡ n
+  as_many a zero [] h = refl
+  as_many a zero (y ∷ ys) h = absurd h
+  as_many a (suc n) [] h = absurd h
+  as_many a (suc n) (y ∷ ys) h = ap suc (as_many (a + 1) n ys h.1)
+
+  behind : (a n : ℕ) (ys : List X) (k : ℕ) (d : X) → AllZip R (range_with_len a n) ys → k < length ys → R (a + k) (slice_index_or ys k d)
+  behind a zero [] k d h less = absurd (omega arith)
+  behind a zero (y ∷ ys) k d h less = absurd h
+  behind a (suc n) [] k d h less = absurd h
+  behind a (suc n) (y ∷ ys) zero d h less = let e : a ≡ a + 0 = omega arith in subst (λ i. R i y) e h.0
+  behind a (suc n) (y ∷ ys) (suc k) d h less =
+      let e : (a + 1) + k ≡ a + suc k = omega arith in
+      subst (λ i. R i (slice_index_or ys k d)) e (behind (a + 1) n ys k d h.1 (omega arith))
+
+  pub at_place : (n : ℕ) (ys : List X) (k : ℕ) (d : X) → AllZip R (range_with_len 0 n) ys → k < length ys → R k (slice_index_or ys k d)
+  at_place n ys k d h less = let e : 0 + k ≡ k = omega arith in subst (λ i. R i (slice_index_or ys k d)) e (behind 0 n ys k d h less)
+
+-- ---- A search through the moves of a kind by their numbers.
 
 -- THE BEST OF TWO SETS
 module _ {M : Type 0} (Before : M → M → Type 0) (Values : M → ℤ → Type 0) where
@@ -140,7 +161,7 @@ without_first : (x : ℕ) (xs ys : List ℕ) → AreBefore (x ∷ xs) (x ∷ ys)
 without_first x xs ys h = elim h [ inl less ↦ absurd (omega arith) | inr e ↦ e.1 ]
 
 -- what is known behind a first number
-behind_first : (x y : ℕ) (xs ys xs' ys' : List ℕ) → (AreBefore xs ys → AreBefore xs' ys') → AreBefore (x ∷ xs) (y ∷ ys) → AreBefore (x ∷ xs') (y ∷ ys')
+pub behind_first : (x y : ℕ) (xs ys xs' ys' : List ℕ) → (AreBefore xs ys → AreBefore xs' ys') → AreBefore (x ∷ xs) (y ∷ ys) → AreBefore (x ∷ xs') (y ∷ ys')
 behind_first x y xs ys xs' ys' f h = elim h [ inl less ↦ inl less | inr e ↦ inr (e.0, f e.1) ]
 
 -- a route and a place, and no length
@@ -174,7 +195,7 @@ before_by_numbers (TwoOptStar f t) (TwoOptStar g u) e h = behind_places f.route 
 before_by_numbers (Cross f t) (Cross g u) e h = h
 before_by_numbers m n e h = absurd (grind arith)
 
-one_number : (xs ys : List ℕ) (i : ℕ) → xs ≡ ys → get_or xs i 0 ≡ get_or ys i 0
+pub one_number : (xs ys : List ℕ) (i : ℕ) → xs ≡ ys → get_or xs i 0 ≡ get_or ys i 0
 one_number xs ys i e = ap (λ zs. get_or zs i 0) e
 
 pub same_move : (m n : Move) → kind_of m ≡ kind_of n → numbers m ≡ numbers n → m ≡ n

@@ -1,4 +1,2 @@
-mod Weights
 mod Moves
 mod Shares
-mod Dealing

@@ -1,6 +1,5 @@
 -- Each move keeps the rule of a deque.
-use Rattle.std.proofs.Common.{◌≡◌, ◌≢◌, ◌+◌, ◌-◌, ◌<◌, ◌≤◌, ℕ, zero, suc, true, false, true≢false}
-use Rattle.std.proofs.Common.{List, [], ◌∷◌, ◌++◌, set, sym, refl, ap, ◌∙◌, subst, ⊎_elim, append_assoc, arith}
+use Rattle.std.proofs.Common.{◌≡◌, ◌≢◌, ◌+◌, ◌-◌, ◌<◌, ◌≤◌, ℕ, zero, suc, true, false, true≢false, List, [], ◌∷◌, ◌++◌, set, sym, refl, ap, ◌∙◌, subst, ⊎_elim, append_assoc, arith}
 use mathlib.Core.Option.{some, some-ne-none, some-injective}
 use lib.ListN.{get_elem?}
 use Rattle.crossbeam_deque.specs.Tasks.{Pushes, Takes, Forks, Merges, Learns}
@@ -8,7 +7,7 @@ use Rattle.crossbeam_deque.proofs.Lists.{at_set, at_snoc}
 use Rattle.solomon_reader.specs.DequeLaw.{all_taken, weigh}
 use Rattle.node_pool.specs.declared.law.Known.{Known}
 use Rattle.node_pool.specs.Law.{Balanced, Stand, StoodFirst, WasEmpty, all_parts, known, parts_in, takers}
-use Rattle.node_pool.proofs.Weights.{left_standing, weigh_append}
+use Rattle.node_pool.proofs.Shares.{left_standing, weigh_append}
 
 abbrev taken_by_all : (ℕ → ℕ) → List Known → ℕ
 taken_by_all h views = weigh h (all_taken (takers views))

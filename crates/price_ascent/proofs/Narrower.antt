@@ -1,15 +1,9 @@
 -- Both children of a region by an arc allow no other arcs than the region.
-use Rattle.std.proofs.Common.{refl, ◌∙◌}
-use Rattle.std.specs.Ordering.{eq_by_cmp}
-use Rattle.std.specs.FinSet.{insert, contains-insert}
-use Rattle.std.proofs.lemmas.Bool.{or_right}
+use Rattle.std.proofs.Common.{refl}
 use Rattle.solomon_reader.specs.Plan.{Arc}
-use Rattle.solomon_reader.specs.Region.{Region, Holds, ArcSet, arc_cmp, used_child, unused_child}
-use Rattle.solomon_reader.specs.ArcOrder.{arc_cmp_total}
+use Rattle.solomon_reader.specs.Region.{Region, used_child, unused_child}
+use Rattle.solomon_reader.specs.ArcOrder.{holds_old}
 use Rattle.prices.specs.Narrowing.{IsNarrower}
-
-holds_old : (s : ArcSet) (a b : Arc) → Holds s b → Holds (insert s a) b
-holds_old s a b h = contains-insert arc_cmp_total s a b ∙ or_right (eq_by_cmp arc_cmp b a) _ h
 
 pub used_is_narrower : (g : Region) (a : Arc) → IsNarrower (used_child g a) g
 used_is_narrower g a = record {

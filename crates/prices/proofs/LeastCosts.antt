@@ -1,6 +1,6 @@
--- The least reduced cost: how far it may be from 0, and the route that a step goes by.
-use Rattle.std.proofs.Common.{refl, ℕ, zero, suc, ◌+◌, ◌-◌, ◌*◌, ◌≤◌, List, [], ◌∷◌, length, get_or, inl, inr, arith, subst}
-use Rattle.std.specs.Prelude.{ℤ, pos, negsuc, ◌+ℤ◌, ◌-ℤ◌, ◌≤ℤ◌, ◌<ℤ◌, nat_abs, Option, Some, None, MatchOption, slice_index_or}
+-- The least reduced cost: how far it may be from 0, and the route that a step goes by. At a region that allows fewer arcs it stays where its route is allowed there.
+use Rattle.std.proofs.Common.{refl, ℕ, zero, suc, ◌+◌, ◌-◌, ◌*◌, ◌≤◌, List, [], ◌∷◌, length, inl, inr, arith, subst, ◌≡◌, ◌∙◌}
+use Rattle.std.specs.Prelude.{ℤ, pos, negsuc, ◌-ℤ◌, ◌≤ℤ◌, nat_abs, Option, Some, None, MatchOption, slice_index_or}
 use Rattle.std.specs.List.{AllByRecursion, sum_by}
 use Rattle.std.proofs.lemmas.Int.{ints}
 use Rattle.std.proofs.lemmas.List.Sums.{sum_by-cons}
@@ -8,14 +8,18 @@ use Rattle.solomon_reader.specs.declared.row.Row.{Row}
 use Rattle.solomon_reader.specs.Distance.{distance}
 use Rattle.solomon_reader.specs.Problem.{Problem, IsCustomer, demand, ready, service}
 use Rattle.solomon_reader.specs.Layout.{IsWithinLimits, AreRows, IsCustomerRow}
-use Rattle.solomon_reader.specs.Plan.{IsFitting, Walks, arcs_from, load_of, route_cost}
-use Rattle.solomon_reader.specs.Region.{Region}
+use Rattle.solomon_reader.specs.Plan.{IsFitting, Walks, arcs_from, load_of, route_cost, arcs}
+use Rattle.solomon_reader.specs.Region.{Region, IsAllowed}
 use Rattle.solomon_reader.specs.Relaxed.{IsRelaxed, IsLeast, IsLeastOrZero, reduced_cost, price_of, int_sum_by}
 use Rattle.solomon_reader.specs.SumLaws.{up, down}
 use Rattle.solomon_reader.specs.CertificateText.{IsPrice}
-use Rattle.prices.specs.ValuedPrices.{or_zero}
-use Rattle.prices.proofs.Ranges.{all_at}
-use Rattle.prices.proofs.Values.{abs_low, abs_high, abs_within}
+use Rattle.solomon_reader.specs.AmongLaws.{weaker}
+use Rattle.labelling.specs.declared.least_cost.Least.{Least}
+use Rattle.labelling.specs.Answer.{HasLeastValue, HasItsRoute}
+use Rattle.prices.specs.ValuedPrices.{or_zero, IsValued}
+use Rattle.prices.specs.Narrowing.{IsNarrower, StaysLeast}
+use Rattle.solomon_reader.proofs.Grains.{price_small}
+use Rattle.prices.proofs.Values.{all_at, abs_low, abs_high, abs_within}
 
 some_demand : (rows : List Row) (i : ℕ) (d : Row) → AreRows rows → 1 ≤ i → i ≤ length rows - 1 → 1 ≤ (slice_index_or rows i d).demand
 some_demand [] i d rows low high = absurd rows
@@ -49,11 +53,6 @@ module _ (p : Problem) (limits : IsWithinLimits p) where
       let walk = fitting.walk in
       let last = closes p.rows (record { x = 0; y = 0; demand = 0; ready = 0; due = 0; service = 0 }) limits.rows in
       omega (arith, walk_costs p 0 (ready p 0) r walk.1.times walk.0 walk.1.walks, walk.1.closing, last)
-
-price_small : (prices : List ℤ) (k : ℕ) → AllByRecursion IsPrice prices → nat_abs (get_or prices k (pos 0)) ≤ 1000000000000
-price_small [] k all = omega arith
-price_small (z ∷ prices) zero all = all.0
-price_small (z ∷ prices) (suc k) all = price_small prices k all.1
 
 module _ (prices : List ℤ) (priced : AllByRecursion IsPrice prices) where
   prices_high : (r : List ℕ) → int_sum_by (price_of prices) r ≤ℤ pos (1000000000000 * length r)
@@ -106,8 +105,71 @@ pub least_or_zero : (p : Problem) (g : Region) (k : ℕ) (prices : List ℤ) (le
 least_or_zero p g k prices None is = inr (is, refl)
 least_or_zero p g k prices (Some m) is = inl is
 
-one_more : (z : ℤ) → z <ℤ pos 0 → (z +ℤ pos 1) ≤ℤ pos 0
-one_more z h = omega (arith, ints)
+-- ---- At a region that allows fewer arcs the least reduced cost stays where its route is allowed there.
 
-at_least : (m c : ℤ) → pos 0 ≤ℤ m → m ≤ℤ c → pos 0 ≤ℤ c
-at_least m c h k = omega (arith, ints)
+equal_leasts : (m n : ℤ) → m ≤ℤ n → n ≤ℤ m → m ≡ n
+equal_leasts m n h k = omega (arith, ints)
+
+module _ (p : Problem) (g h : Region) (k : ℕ) (prices : List ℤ) (narrower : IsNarrower g h) where
+  -- a relaxed route of the narrower region is one of the wider
+  wider : (r : List ℕ) → IsRelaxed p g k r → IsRelaxed p h k r
+  wider r is = record {
+    fitting = is.fitting;
+    allowed = weaker (IsAllowed g) (IsAllowed h) narrower.allowed (arcs r) is.allowed;
+    forgets = is.forgets;
+  }
+
+  -- a relaxed route of the wider region that the narrower one allows
+  stays : (r : List ℕ) → IsRelaxed p h k r → AllByRecursion (IsAllowed g) (arcs r) → IsRelaxed p g k r
+  stays r is allowed = record { fitting = is.fitting; allowed = allowed; forgets = is.forgets }
+
+  pub least_stays : (value : Option ℤ) (route : List ℕ) → MatchOption value (Unit {0}) (λ m. AllByRecursion (IsAllowed g) (arcs route))
+      → MatchOption value ((r : List ℕ) → ¬ IsRelaxed p h k r) (λ m. IsLeast p h k prices m)
+      → MatchOption value (route ≡ []) (λ m. IsRelaxed p h k route × (reduced_cost p prices route ≡ m))
+      → MatchOption value ((r : List ℕ) → ¬ IsRelaxed p g k r) (λ m. IsLeast p g k prices m)
+  least_stays None route allowed none has = λ r is. none r (wider r is)
+  least_stays (Some m) route allowed is has = record {
+    reached = (route, stays route has.0 allowed, has.1);
+    least = λ r relaxed. is.least r (wider r relaxed);
+  }
+
+  pub route_stays : (value : Option ℤ) (route : List ℕ) → MatchOption value (Unit {0}) (λ m. AllByRecursion (IsAllowed g) (arcs route))
+      → MatchOption value (route ≡ []) (λ m. IsRelaxed p h k route × (reduced_cost p prices route ≡ m))
+      → MatchOption value (route ≡ []) (λ m. IsRelaxed p g k route × (reduced_cost p prices route ≡ m))
+  route_stays None route allowed has = has
+  route_stays (Some m) route allowed has = (stays route has.0 allowed, has.1)
+
+  same_least : (value : Option ℤ) (m : ℤ)
+      → MatchOption value ((r : List ℕ) → ¬ IsRelaxed p h k r) (λ l. IsLeast p h k prices l)
+      → MatchOption value ((r : List ℕ) → ¬ IsRelaxed p g k r) (λ l. IsLeast p g k prices l)
+      → IsLeastOrZero p h k prices m → IsLeastOrZero p g k prices m
+  same_least None m none still (inl is) = absurd (none is.reached.0 is.reached.1)
+  same_least None m none still (inr nought) = inr (still, nought.1)
+  same_least (Some l) m is still (inl other) =
+      let below : l ≤ℤ m = subst (λ (z : ℤ). l ≤ℤ z) other.reached.2 (is.least other.reached.0 other.reached.1) in
+      let above : m ≤ℤ l = subst (λ (z : ℤ). m ≤ℤ z) is.reached.2 (other.least is.reached.0 is.reached.1) in
+      inl (subst (λ (z : ℤ). IsLeast p g k prices z) (equal_leasts l m below above) still)
+  same_least (Some l) m is still (inr nought) = absurd (nought.0 is.reached.0 is.reached.1)
+
+-- so prices at the wider region are prices with the same value at the narrower one
+pub narrowed_pricing : (p : Problem) (g h : Region) (k : ℕ) (prices : List ℤ) (v : ℕ) (least found : Least) → IsNarrower g h → StaysLeast g least
+    → found.value ≡ least.value → found.route.items ≡ least.route.items
+    → IsValued (record { problem = p; region = h; neighbours = k; prices = prices; value = v })
+    → HasLeastValue p h k prices least → HasItsRoute p h k prices least
+    → IsValued (record { problem = p; region = g; neighbours = k; prices = prices; value = v }) × HasLeastValue p g k prices found × HasItsRoute p g k prices found
+narrowed_pricing p g h k prices v least found narrower allowed same_value same_route is is_least has_route =
+    let still = least_stays p g h k prices narrower least.value least.route.items allowed is_least has_route in
+    let routed = route_stays p g h k prices narrower least.value least.route.items allowed has_route in
+    let pricing : IsValued (record { problem = p; region = g; neighbours = k; prices = prices; value = v }) = record {
+      size = narrower.size ∙ is.size;
+      few = is.few;
+      priced = is.priced;
+      valued = record {
+        priced = is.valued.priced;
+        least = is.valued.least;
+        is_least = same_least p g h k prices narrower least.value is.valued.least is_least still is.valued.is_least;
+        rounded = is.valued.rounded;
+      };
+      bound = is.bound;
+    } in
+    (pricing, rw (same_value) still, rw (same_value, same_route) routed)

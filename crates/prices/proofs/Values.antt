@@ -1,9 +1,19 @@
--- Numbers of grains, and the value that they give.
-use Rattle.std.proofs.Common.{◌≡◌, refl, ℕ, ◌+◌, ◌*◌, ◌≤◌, arith}
-use Rattle.std.specs.Prelude.{ℤ, pos, negsuc, ◌+ℤ◌, ◌-ℤ◌, ◌*ℤ◌, ◌≤ℤ◌, ◌<ℤ◌, nat_abs, neg_ℤ}
-use Rattle.std.specs.Int.{int_min, int_max}
+-- Numbers of grains, and the value that they give: all of a list, by index and by recursion.
+use Rattle.std.proofs.Common.{ℕ, zero, suc, ◌<◌, List, [], ◌∷◌, ◌++◌, length, get_or, arith, ◌+◌, ◌≤◌}
+use Rattle.std.specs.Prelude.{ℤ, pos, negsuc, ◌-ℤ◌, ◌≤ℤ◌, nat_abs}
+use Rattle.std.specs.List.{AllByRecursion}
 use Rattle.std.proofs.lemmas.Int.{ints}
-use Rattle.solomon_reader.specs.SumLaws.{up, down, times_down, times_up}
+
+pub all_at : {X : Type 0} (P : X → Type 0) (xs : List X) (k : ℕ) (d : X) → AllByRecursion P xs → k < length xs → P (get_or xs k d)
+all_at P [] k d all within = absurd (omega arith)
+all_at P (x ∷ xs) zero d all within = all.0
+all_at P (x ∷ xs) (suc k) d all within = all_at P xs k d all.1 (omega arith)
+
+pub all_pushed : {X : Type 0} (P : X → Type 0) (xs : List X) (x : X) → AllByRecursion P xs → P x → AllByRecursion P (xs ++ x ∷ [])
+all_pushed P [] x all here = (here, tt)
+all_pushed P (y ∷ xs) x all here = (all.0, all_pushed P xs x all.1 here)
+
+-- ---- Numbers of grains, and the value that they give.
 
 pub abs_low : (z : ℤ) (n : ℕ) → nat_abs z ≤ n → (pos 0 -ℤ pos n) ≤ℤ z
 abs_low (pos k) n h = omega (arith, ints)
@@ -16,16 +26,3 @@ abs_high (negsuc k) n h = omega (arith, ints)
 pub abs_within : (z : ℤ) (n : ℕ) → (pos 0 -ℤ pos n) ≤ℤ z → z ≤ℤ pos n → nat_abs z ≤ n
 abs_within (pos k) n low high = omega (arith, ints)
 abs_within (negsuc k) n low high = omega (arith, ints)
-
-pub abs_above : (z : ℤ) → pos 0 ≤ℤ z → z ≡ pos (nat_abs z)
-abs_above (pos n) h = refl
-abs_above (negsuc n) h = absurd (omega (arith, ints))
-
-pub abs_below : (z : ℤ) → z <ℤ pos 0 → z ≡ neg_ℤ (pos (nat_abs z))
-abs_below (pos n) h = absurd (omega (arith, ints))
-abs_below (negsuc n) h = refl
-
--- the two parts of the grains
-pub grains_are : (fleet routes above below : ℕ) (s m : ℤ) → pos above -ℤ pos below ≡ s
-    → pos (above + routes * up m) -ℤ pos (below + fleet * down m) ≡ (s +ℤ (pos fleet *ℤ int_min (pos 0) m)) +ℤ (pos routes *ℤ int_max (pos 0) m)
-grains_are fleet routes above below s m e = rw (times_down fleet m, times_up routes m) (omega (arith, ints, e))

@@ -1,39 +1,24 @@
--- Descents from one plan end at one plan.
-use Rattle.std.proofs.Common.{◌≡◌, ℕ, ◌<◌, ◌≤◌, zero, suc, List, [], ◌∷◌, length, get_or, refl, sym, ap, subst, ◌∙◌, arith, ◌⊎◌, inl, inr}
-use Rattle.std.specs.Prelude.{ℤ, pos, ◌+ℤ◌, ◌≤ℤ◌, ◌<ℤ◌}
+-- Descents from one plan end at one plan. Moves that make a plan cheaper, and kinds that have none.
+use Rattle.std.proofs.Common.{◌≡◌, ℕ, ◌<◌, ◌≤◌, zero, suc, List, [], ◌∷◌, length, get_or, refl, sym, ap, subst, ◌∙◌, arith, inl, inr}
+use Rattle.std.specs.Prelude.{ℤ, pos, ◌+ℤ◌, ◌≤ℤ◌, ◌<ℤ◌, ◌-ℤ◌}
 use Rattle.std.proofs.lemmas.Int.{ints}
 use Rattle.std.proofs.lemmas.Bool.{cases_lt}
 use Rattle.solomon_reader.specs.Problem.{Problem}
-use Rattle.solomon_reader.specs.Moves.{IsLocalOptimum}
+use Rattle.solomon_reader.specs.Moves.{IsLocalOptimum, IsNoCheaper}
 use Rattle.moves.specs.declared.candidate.Move.{Move}
 use Rattle.moves.specs.declared.candidate.Move.TheVariants.{Relocate, Exchange, OrOpt, TwoOptStar, Cross}
 use Rattle.moves.specs.declared.candidate.Kind.{Kind}
-use Rattle.moves.specs.declared.candidate.Kind.TheVariants as kind
-use Rattle.moves.specs.Values.{after}
-use Rattle.moves.specs.Order.{kind_of, fields_of, AreBefore, IsFirstLeast}
+use Rattle.moves.specs.Values.{after, IsWellFormed}
+use Rattle.moves.specs.Order.{kind_of, fields_of, IsFirstLeast}
 use Rattle.gains.specs.Gains.{IsGain}
-use Rattle.working_plan.specs.Gains.{IsBestGain}
+use Rattle.working_plan.specs.Gains.{IsBestGain, HasNoGain}
+use Rattle.solomon_reader.specs.Plan.{plan_cost}
 use Rattle.search.specs.Searching.{rank_of, IsFirstGain, IsDescended, Descends}
+use Rattle.moves.specs.declared.candidate.Kind.TheVariants as kind
+use Rattle.gains.proofs.NumberOrder.{compared}
+use Rattle.moves.proofs.Searching.{one_number}
 
 -- MOVES OF A KIND ARE IN ONE ORDER
-
-in_order : (xs ys : List ℕ) → length xs ≡ length ys → AreBefore xs ys ⊎ ((xs ≡ ys) ⊎ AreBefore ys xs)
-in_order [] [] e = inr (inl refl)
-in_order [] (y ∷ ys) e = absurd (omega arith)
-in_order (x ∷ xs) [] e = absurd (omega arith)
-in_order (x ∷ xs) (y ∷ ys) e =
-    elim (cases_lt x y) [
-      | inl less ↦ inl (inl less)
-      | inr least ↦ elim (cases_lt y x) [
-        | inl more ↦ inr (inr (inl more))
-        | inr most ↦ let same : x ≡ y = omega arith in behind same (in_order xs ys (omega arith))
-      ]
-    ]
-  where
-    behind : x ≡ y → AreBefore xs ys ⊎ ((xs ≡ ys) ⊎ AreBefore ys xs) → AreBefore (x ∷ xs) (y ∷ ys) ⊎ ((x ∷ xs ≡ y ∷ ys) ⊎ AreBefore (y ∷ ys) (x ∷ xs))
-    behind same (inl before) = inl (inr (same, before))
-    behind same (inr (inl equal)) = inr (inl (λ i. same i ∷ equal i))
-    behind same (inr (inr later)) = inr (inr (inr (sym same, later)))
 
 as_many_fields : (m n : Move) → kind_of m ≡ kind_of n → length (fields_of m) ≡ length (fields_of n)
 as_many_fields (Relocate f t) (Relocate g u) e = refl
@@ -43,24 +28,21 @@ as_many_fields (TwoOptStar f t) (TwoOptStar g u) e = refl
 as_many_fields (Cross f t) (Cross g u) e = refl
 as_many_fields m n e = absurd (grind arith)
 
-field_at : (xs ys : List ℕ) (i : ℕ) → xs ≡ ys → get_or xs i 0 ≡ get_or ys i 0
-field_at xs ys i e = ap (λ zs. get_or zs i 0) e
-
 same_move : (m n : Move) → kind_of m ≡ kind_of n → fields_of m ≡ fields_of n → m ≡ n
 same_move (Relocate f t) (Relocate g u) e h =
-    let n = field_at (fields_of (Relocate f t)) (fields_of (Relocate g u)) in
+    let n = one_number (fields_of (Relocate f t)) (fields_of (Relocate g u)) in
     λ k. Relocate (record { route = n 0 h k; position = n 1 h k }) (record { route = n 2 h k; position = n 3 h k })
 same_move (Exchange f t) (Exchange g u) e h =
-    let n = field_at (fields_of (Exchange f t)) (fields_of (Exchange g u)) in
+    let n = one_number (fields_of (Exchange f t)) (fields_of (Exchange g u)) in
     λ k. Exchange (record { route = n 0 h k; position = n 1 h k }) (record { route = n 2 h k; position = n 3 h k })
 same_move (OrOpt c t) (OrOpt d u) e h =
-    let n = field_at (fields_of (OrOpt c t)) (fields_of (OrOpt d u)) in
+    let n = one_number (fields_of (OrOpt c t)) (fields_of (OrOpt d u)) in
     λ k. OrOpt (record { route = n 0 h k; position = n 1 h k; length = n 2 h k }) (record { route = n 3 h k; position = n 4 h k })
 same_move (TwoOptStar f t) (TwoOptStar g u) e h =
-    let n = field_at (fields_of (TwoOptStar f t)) (fields_of (TwoOptStar g u)) in
+    let n = one_number (fields_of (TwoOptStar f t)) (fields_of (TwoOptStar g u)) in
     λ k. TwoOptStar (record { route = n 0 h k; position = n 1 h k }) (record { route = n 2 h k; position = n 3 h k })
 same_move (Cross f t) (Cross g u) e h =
-    let n = field_at (fields_of (Cross f t)) (fields_of (Cross g u)) in
+    let n = one_number (fields_of (Cross f t)) (fields_of (Cross g u)) in
     λ k. Cross (record { route = n 0 h k; position = n 1 h k; length = n 2 h k }) (record { route = n 3 h k; position = n 4 h k; length = n 5 h k })
 same_move m n e h = absurd (grind arith)
 
@@ -84,7 +66,7 @@ module _ (p : Problem) where
   same_least : (routes : List (List ℕ)) (k : Kind) (m n : Move) (v u : ℤ) → IsFirstLeast p routes (λ o. kind_of o ≡ k) m v → IsFirstLeast p routes (λ o. kind_of o ≡ k) n u → m ≡ n
   same_least routes k m n v u h g =
       let e : kind_of m ≡ kind_of n = h.taken ∙ sym g.taken in
-      elim (in_order (fields_of m) (fields_of n) (as_many_fields m n e)) [
+      elim (compared (fields_of m) (fields_of n) (as_many_fields m n e)) [
         | inl before ↦ absurd (below_itself v u (h.least n u g.taken g.value) (g.first m v h.taken h.value before))
         | inr rest ↦ elim rest [
           | inl equal ↦ same_move m n e equal
@@ -163,3 +145,67 @@ one_end p old x y h at_x g at_y =
             same_after p h.0 old x y h.1 (subst (λ (s : ℕ). IsDescended p s old y) e g.1)
       ]
     ]
+
+-- ---- Moves that make a plan cheaper, and kinds that have none.
+
+negative : (new old : ℕ) → new < old → (pos new -ℤ pos old) <ℤ pos 0
+negative new old h = omega (arith, ints)
+
+difference : (new old : ℕ) → pos new ≡ pos old +ℤ (pos new -ℤ pos old)
+difference new old = omega (arith, ints)
+
+no_cheaper : (p : Problem) (routes : List (List ℕ)) (m : Move) → HasNoGain p routes (kind_of m) → IsWellFormed routes m → IsNoCheaper p routes (after routes m)
+no_cheaper p routes m none formed plan =
+    let new = plan_cost p (after routes m) in
+    let old = plan_cost p routes in
+    elim (cases_lt new old) [
+      | inl below ↦ absurd (none.none m refl ((pos new -ℤ pos old), record { well_formed = formed; plan = plan; exact = difference new old }, negative new old below))
+      | inr above ↦ above
+    ]
+
+local_optimum : (p : Problem) (routes : List (List ℕ)) → ((k : Kind) → HasNoGain p routes k) → IsLocalOptimum p routes
+local_optimum p routes none = record {
+  relocate = λ a i b j formed. no_cheaper p routes (Relocate (record { route = a; position = i }) (record { route = b; position = j })) (none kind.Relocate) formed;
+  exchange = λ a i b j formed. no_cheaper p routes (Exchange (record { route = a; position = i }) (record { route = b; position = j })) (none kind.Exchange) formed;
+  or_opt = λ a i l b j formed. no_cheaper p routes (OrOpt (record { route = a; position = i; length = l }) (record { route = b; position = j })) (none kind.OrOpt) formed;
+  two_opt_star = λ a i b j formed. no_cheaper p routes (TwoOptStar (record { route = a; position = i }) (record { route = b; position = j })) (none kind.TwoOptStar) formed;
+  cross = λ a i l b j m formed. no_cheaper p routes (Cross (record { route = a; position = i; length = l }) (record { route = b; position = j; length = m })) (none kind.Cross) formed;
+}
+
+-- the kinds in the order in which they are tried
+abbrev pub kinds : List Kind
+kinds = kind.Relocate ∷ kind.Exchange ∷ kind.OrOpt ∷ kind.TwoOptStar ∷ kind.Cross ∷ []
+
+kind_at : (k : Kind) → get_or kinds (rank_of k) kind.Relocate ≡ k
+kind_at kind.Relocate = refl
+kind_at kind.Exchange = refl
+kind_at kind.OrOpt = refl
+kind_at kind.TwoOptStar = refl
+kind_at kind.Cross = refl
+
+rank_at : (i : ℕ) → i < 5 → rank_of (get_or kinds i kind.Relocate) ≡ i
+rank_at zero h = refl
+rank_at (suc zero) h = refl
+rank_at (suc (suc zero)) h = refl
+rank_at (suc (suc (suc zero))) h = refl
+rank_at (suc (suc (suc (suc zero)))) h = refl
+rank_at (suc (suc (suc (suc (suc i))))) h = absurd (omega arith)
+
+pub first_at : (p : Problem) (routes : List (List ℕ)) (i : ℕ) (m : Move) → i < 5 → IsBestGain p routes (get_or kinds i kind.Relocate) m
+    → ((j : ℕ) → j < i → HasNoGain p routes (get_or kinds j kind.Relocate)) → IsFirstGain p routes m
+first_at p routes i m h gain none =
+    let same = gain.1.taken in
+    let rank : rank_of (kind_of m) ≡ i = ap rank_of same ∙ rank_at i h in
+    record {
+      best = subst (λ (k : Kind). IsBestGain p routes k m) (sym same) gain;
+      first = λ k below. subst (λ (l : Kind). HasNoGain p routes l) (kind_at k) (none (rank_of k) (rw rank at below));
+    }
+
+pub none_at : (p : Problem) (routes : List (List ℕ)) → ((j : ℕ) → j < 5 → HasNoGain p routes (get_or kinds j kind.Relocate)) → IsLocalOptimum p routes
+none_at p routes none = local_optimum p routes (elim [
+  | kind.Relocate ↦ none 0 (omega arith)
+  | kind.Exchange ↦ none 1 (omega arith)
+  | kind.OrOpt ↦ none 2 (omega arith)
+  | kind.TwoOptStar ↦ none 3 (omega arith)
+  | kind.Cross ↦ none 4 (omega arith)
+])

@@ -1,18 +1,26 @@
--- A join is the segment of the joined lists.
-use Rattle.std.proofs.Common.{◌≡◌, refl, ℕ, ◌+◌, ◌<◌, ◌≤◌, length, true, false, List, [], ◌∷◌, ◌++◌, ap, sym, ◌∙◌, arith}
+-- A join is the segment of the joined lists, and a route fits where its segment does.
+use Rattle.std.proofs.Common.{◌≡◌, refl, ℕ, ◌+◌, ◌<◌, ◌≤◌, length, true, false, List, [], ◌∷◌, ◌++◌, ap, sym, ◌∙◌, arith, max, Bool, ◌&&◌, zero, suc, take, drop, get_or, inl, inr}
 use Rattle.std.specs.Prelude.{nat_le, int_le, ℤ, pos, ◌+ℤ◌, ◌-ℤ◌, ◌≤ℤ◌, ◌<ℤ◌, Option, Some, None, option_and_then, if◌then◌else◌}
 use Rattle.std.specs.Int.{int_min, int_max}
 use Rattle.std.proofs.lemmas.Int.{ints, clamps}
 use Rattle.std.proofs.lemmas.Bool.Decides.{nat_tests}
-use Rattle.std.proofs.lemmas.List.Sums.{sum_by-append}
+use Rattle.std.proofs.lemmas.List.Sums.{sum_by-append, sum_by-cons}
+use Rattle.std.specs.List.{AllByRecursion, sum_by}
+use Rattle.std.proofs.lemmas.Bool.{cases_lt}
 use Rattle.solomon_reader.specs.declared.limits.TheConstants.{MOST_DEMAND}
-use Rattle.solomon_reader.specs.Problem.{Problem, customer_count, demand, ready, due, service}
+use Rattle.solomon_reader.specs.Problem.{Problem, customer_count, demand, ready, due, service, IsCustomer}
 use Rattle.solomon_reader.specs.Distance.{distance}
 use Rattle.solomon_reader.specs.Layout.{IsWithinLimits}
 use Rattle.solomon_reader.specs.Segments.{leaving, left_from, left_after, inner_cost, inner_from, capped}
 use Rattle.solomon_reader.proofs.BoundedRows.{row_bounded}
-use Rattle.segments.specs.Segments.{Summary, IsSegment, NoneFeasible, SomeFeasible, join, joined, follows, leaves, stop, first_of, last_of, last_from}
-use Rattle.segments.specs.Joining.{by_le, le_yes, le_no, yes_le, no_le, follows_yes}
+use Rattle.solomon_reader.specs.Plan.{HasWalk, Walks, arcs_from, Arc}
+use Rattle.segments.specs.Segments.{Summary, IsSegment, NoneFeasible, SomeFeasible, join, joined, follows, leaves, stop, first_of, last_of, last_from, IsBounded}
+use Rattle.segments.specs.Joining.{by_le, le_yes, le_no, yes_le, no_le, follows_yes, yes_follows, same_summary}
+use Rattle.segments.specs.Closing.{closed, IsCostOf}
+use Rattle.segments.specs.Linked.{chain}
+use Rattle.segments.specs.Ends.{AreFronts, AreBacks}
+use Rattle.segments.proofs.TreeLevels.{pushed-before, pushed-last}
+use Rattle.tenths.proofs.Digits.{both}
 
 -- the two meanings, composed
 composed : (l d e m f g u t : ℤ) → (e +ℤ u) ≤ℤ m
@@ -172,3 +180,182 @@ segment_feasible p r s h =
 
 pub join_feasible : (p : Problem) (r q : List ℕ) (a b c : Summary) → IsSegment p r a → IsSegment p q b → join p a b ≡ Some c → SomeFeasible p (r ++ q)
 join_feasible p r q a b c h k j = segment_feasible p (r ++ q) c (join_met p r q a b c h k j)
+
+-- ---- A join by its parts.
+
+-- a join by its parts
+pub made : (p : Problem) (a b : Summary) (load cost : ℕ) (latest duration earliest : ℤ) → a.last ≤ customer_count p → b.first ≤ customer_count p
+    → (a.earliest +ℤ pos (distance p a.last b.first)) ≤ℤ b.latest
+    → load ≡ (joined p a b).load → cost ≡ (joined p a b).cost → latest ≡ (joined p a b).latest → duration ≡ (joined p a b).duration → earliest ≡ (joined p a b).earliest
+    → Some (record { load = load; cost = cost; first = a.first; last = b.last; latest = latest; duration = duration; earliest = earliest }) ≡ join p a b
+made p a b load cost latest duration earliest l f h e1 e2 e3 e4 e5 =
+    let x : nat_le a.last (customer_count p) ≡ true = grind (arith, nat_tests) in
+    let y : nat_le b.first (customer_count p) ≡ true = grind (arith, nat_tests) in
+    let z : follows p a b ≡ true = yes_follows p a b (record { known = rw (x, y) refl; timely = h }) in
+    rw z (ap Some (same_summary _ _ _ _ a.first b.last _ _ _ _ _ _ e1 e2 e3 e4 e5))
+
+pub made_bounded : (p : Problem) (a b : Summary) (s : Summary) → IsBounded a → IsBounded b → (a.earliest +ℤ pos (distance p a.last b.first)) ≤ℤ b.latest
+    → s.load ≡ (joined p a b).load → s.cost ≡ (joined p a b).cost → s.latest ≡ (joined p a b).latest → s.duration ≡ (joined p a b).duration → s.earliest ≡ (joined p a b).earliest
+    → IsBounded s
+made_bounded p a b s h k t e1 e2 e3 e4 e5 =
+    let h1 = h.cost in let h2 = h.duration in let h3 = h.earliest in let h4 = h.low in let h5 = h.high in
+    let k1 = k.cost in let k2 = k.duration in let k3 = k.earliest in let k4 = k.low in let k5 = k.high in
+    record {
+      load = omega arith;
+      cost = omega (arith, ints, clamps);
+      duration = omega (arith, ints, clamps);
+      earliest = omega (arith, ints, clamps);
+      low = omega (arith, ints, clamps);
+      high = omega (arith, ints, clamps);
+    }
+
+-- ---- A route fits where its segment does.
+
+-- service begins at b
+after_yes : (p : Problem) (j x b : ℕ) → b ≡ max x (ready p j) → b ≤ due p j → left_after p j (pos x) ≡ Some (pos (b + service p j))
+after_yes p j x b e h = begins x (ready p j) (due p j) (service p j) b e h
+  where
+    begins : (x r u s b : ℕ) → b ≡ max x r → b ≤ u → (if int_le (int_max (pos x) (pos r)) (pos u) then Some (int_max (pos x) (pos r) +ℤ pos s) else None) ≡ Some (pos (b + s))
+    begins x r u s b e h =
+        let z : int_le (int_max (pos x) (pos r)) (pos u) ≡ true = yes_le (int_max (pos x) (pos r)) (pos u) (omega (arith, ints, clamps)) in
+        let v : int_max (pos x) (pos r) +ℤ pos s ≡ pos (b + s) = omega (arith, ints, clamps) in
+        rw z (ap Some v)
+
+after_no : (p : Problem) (j x : ℕ) → due p j < max x (ready p j) → left_after p j (pos x) ≡ None
+after_no p j x h = misses x (ready p j) (due p j) (service p j) h
+  where
+    misses : (x r u s : ℕ) → u < max x r → (if int_le (int_max (pos x) (pos r)) (pos u) then Some (int_max (pos x) (pos r) +ℤ pos s) else None) ≡ None
+    misses x r u s h =
+        let z : int_le (int_max (pos x) (pos r)) (pos u) ≡ false = no_le (int_max (pos x) (pos r)) (pos u) (omega (arith, ints, clamps)) in
+        rw z refl
+
+-- the times of a walk are those of the list's function
+pub walk_off : (p : Problem) (i t j : ℕ) (r bs : List ℕ) (f : ℕ) → Walks p i t (j ∷ r) bs f
+    → (u : ℕ) × (left_from p j r (pos (t + distance p i j)) ≡ Some (pos u)) × (f ≡ u + distance p (last_from j r) 0)
+walk_off p i t j r [] f w = absurd w
+walk_off p i t j [] (b ∷ []) f w = (b + service p j, after_yes p j (t + distance p i j) b w.0 w.1, w.2)
+walk_off p i t j [] (b ∷ (d ∷ bs)) f w = absurd w.2
+walk_off p i t j (k ∷ r) (b ∷ bs) f w =
+    let on = walk_off p j (b + service p j) k r bs f w.2 in
+    (on.0, ap (option_and_then (λ u. left_from p k r (u +ℤ pos (distance p j k)))) (after_yes p j (t + distance p i j) b w.0 w.1) ∙ on.1, on.2)
+
+pub walk_on : (p : Problem) (i t j : ℕ) (r : List ℕ) (u : ℤ) → left_from p j r (pos (t + distance p i j)) ≡ Some u
+    → (n : ℕ) × (u ≡ pos n) × ((bs : List ℕ) × Walks p i t (j ∷ r) bs (n + distance p (last_from j r) 0))
+walk_on p i t j [] u h =
+    by_timely (nat_le (max (t + distance p i j) (ready p j)) (due p j)) refl
+  where
+    b : ℕ
+    b = max (t + distance p i j) (ready p j)
+
+    by_timely : (v : Bool) → nat_le (max (t + distance p i j) (ready p j)) (due p j) ≡ v
+        → (n : ℕ) × (u ≡ pos n) × ((bs : List ℕ) × Walks p i t (j ∷ []) bs (n + distance p j 0))
+    by_timely true y =
+        let b = max (t + distance p i j) (ready p j) in
+        let timely : b ≤ due p j = grind (arith, nat_tests) in
+        let e : Some (pos (b + service p j)) ≡ Some u = sym (after_yes p j (t + distance p i j) b refl timely) ∙ h in
+        (b + service p j, (let z : u ≡ pos (b + service p j) = grind arith in z), (b ∷ [], (refl, timely, refl)))
+    by_timely false y =
+        let late : due p j < max (t + distance p i j) (ready p j) = grind (arith, nat_tests) in
+        let e : None ≡ Some u = sym (after_no p j (t + distance p i j) late) ∙ h in
+        absurd (grind arith)
+walk_on p i t j (k ∷ r) u h =
+    by_timely (nat_le (max (t + distance p i j) (ready p j)) (due p j)) refl
+    (λ e. walk_on p j (max (t + distance p i j) (ready p j) + service p j) k r u e)
+  where
+    by_timely : (v : Bool) → nat_le (max (t + distance p i j) (ready p j)) (due p j) ≡ v
+        → (left_from p k r (pos (max (t + distance p i j) (ready p j) + service p j + distance p j k)) ≡ Some u
+        → (n : ℕ) × (u ≡ pos n) × ((bs : List ℕ) × Walks p j (max (t + distance p i j) (ready p j) + service p j) (k ∷ r) bs (n + distance p (last_from k r) 0)))
+        → (n : ℕ) × (u ≡ pos n) × ((bs : List ℕ) × Walks p i t (j ∷ (k ∷ r)) bs (n + distance p (last_from k r) 0))
+    by_timely true y rest =
+        let b = max (t + distance p i j) (ready p j) in
+        let timely : b ≤ due p j = grind (arith, nat_tests) in
+        let e : left_from p k r (pos (b + service p j + distance p j k)) ≡ Some u =
+        sym (ap (option_and_then (λ u. left_from p k r (u +ℤ pos (distance p j k)))) (after_yes p j (t + distance p i j) b refl timely)) ∙ h in
+        let on = rest e in
+        (on.0, on.1, (b ∷ on.2.0, (refl, timely, on.2.1)))
+    by_timely false y rest =
+        let late : due p j < max (t + distance p i j) (ready p j) = grind (arith, nat_tests) in
+        let e : None ≡ Some u = sym (ap (option_and_then (λ u. left_from p k r (u +ℤ pos (distance p j k)))) (after_no p j (t + distance p i j) late)) ∙ h in
+        absurd (grind arith)
+
+-- the cost of a route by its inner arcs
+arcs-from : (p : Problem) (i j : ℕ) (r : List ℕ) → sum_by (λ a. distance p a.0 a.1) (arcs_from i (j ∷ r)) ≡ distance p i j + inner_from p j r + distance p (last_from j r) 0
+arcs-from p i j [] = omega (arith, sum_by-cons (λ (a : Arc). distance p a.0 a.1) (i, j) ((j, 0) ∷ []), sum_by-cons (λ (a : Arc). distance p a.0 a.1) (j, 0) [])
+arcs-from p i j (k ∷ r) = omega (arith, sum_by-cons (λ (a : Arc). distance p a.0 a.1) (i, j) (arcs_from j (k ∷ r)), arcs-from p j k r)
+
+some_same : (u v : ℤ) → Some u ≡ Some v → u ≡ v
+some_same u v h = grind arith
+
+-- the walk of a fitting route, by the list's function
+pub off : (p : Problem) (j : ℕ) (q : List ℕ) → HasWalk p (j ∷ q)
+    → (u : ℕ) × (left_from p j q (pos (ready p 0 + distance p 0 j)) ≡ Some (pos u)) × (u + distance p (last_from j q) 0 ≤ due p 0)
+off p j q w =
+    let on = walk_off p 0 (ready p 0) j q w.1.times w.0 w.1.walks in
+    (on.0, on.1, omega (arith, on.2, w.1.closing))
+
+pub closed_is : (p : Problem) (r : List ℕ) (s : Summary) → IsWithinLimits p → AllByRecursion (IsCustomer p) r → IsSegment p r s → IsCostOf p r (closed p s)
+closed_is p [] s h known k = absurd (omega (arith, k.some))
+closed_is p (j ∷ q) s h known k =
+    rw (k.first, k.last) (by_leaving (leaves s (pos (ready p 0 + distance p 0 j))) (k.times (pos (ready p 0 + distance p 0 j))))
+  where
+    by_test : (u : ℤ) → left_from p j q (pos (ready p 0 + distance p 0 j)) ≡ Some u → (v : Bool)
+        → (nat_le s.load p.capacity && int_le (u +ℤ pos (distance p (last_from j q) 0)) (pos (due p 0))) ≡ v
+        → IsCostOf p (j ∷ q) (if v then Some (distance p 0 j + s.cost + distance p (last_from j q) 0) else None)
+    by_test u left true y =
+        let parts = both (nat_le s.load p.capacity) (int_le (u +ℤ pos (distance p (last_from j q) 0)) (pos (due p 0))) y in
+        let light : s.load ≤ p.capacity = let z = parts.0 in grind (arith, nat_tests) in
+        let on = walk_on p 0 (ready p 0) j q u left in
+        let t = le_yes (u +ℤ pos (distance p (last_from j q) 0)) (pos (due p 0)) parts.1 in
+        let timely : on.0 + distance p (last_from j q) 0 ≤ due p 0 = let z = on.1 in omega (arith, ints) in (
+          record {
+            some = omega arith;
+            known = known;
+            load = omega (arith, k.load, light, h.capacity.1);
+            walk = (on.0 + distance p (last_from j q) 0, record { times = on.2.0; walks = on.2.1; closing = timely });
+          },
+          rw k.cost (sym (arcs-from p 0 j q)),
+        )
+    by_test u left false y = λ fit.
+        let w = off p j q fit.walk in
+        let same : u ≡ pos w.0 = some_same u (pos w.0) (sym left ∙ w.1) in
+        let light : nat_le s.load p.capacity ≡ true = let z = fit.load in let l = k.load in grind (arith, nat_tests) in
+        let timely : int_le (u +ℤ pos (distance p (last_from j q) 0)) (pos (due p 0)) ≡ true =
+        yes_le (u +ℤ pos (distance p (last_from j q) 0)) (pos (due p 0)) (let z = w.2 in omega (arith, ints)) in
+        let both : (nat_le s.load p.capacity && int_le (u +ℤ pos (distance p (last_from j q) 0)) (pos (due p 0))) ≡ true = rw (light, timely) refl in
+        let e : true ≡ false = sym both ∙ y in cc
+
+    by_leaving : (o : Option ℤ) → left_from p j q (pos (ready p 0 + distance p 0 j)) ≡ o
+        → IsCostOf p (j ∷ q) (option_and_then (λ u. if nat_le s.load p.capacity && int_le (u +ℤ pos (distance p (last_from j q) 0)) (pos (due p 0))
+        then Some (distance p 0 j + s.cost + distance p (last_from j q) 0) else None) o)
+    by_leaving None left = λ fit. let w = off p j q fit.walk in let e : None ≡ Some (pos w.0) = sym left ∙ w.1 in absurd (grind arith)
+    by_leaving (Some u) left =
+        by_test u left (nat_le s.load p.capacity && int_le (u +ℤ pos (distance p (last_from j q) 0)) (pos (due p 0))) refl
+
+-- ---- The joins of first and of last items, one by one.
+
+-- one more of the values of a function
+pub one_pushed : {X : Type 0} (f : ℕ → X) (vs more : List X) (v : X) (k : ℕ) → more ≡ vs ++ (v ∷ []) → length vs ≡ k
+    → ((j : ℕ) (d : X) → j < k → get_or vs j d ≡ f j) → v ≡ f k → (j : ℕ) (d : X) → j < k + 1 → get_or more j d ≡ f j
+one_pushed f vs more v k e n all top j d h = elim (cases_lt j k) [
+  | inl less ↦ rw e (pushed-before vs v j d (omega arith) ∙ all j d less)
+  | inr last ↦
+      let same : k ≡ j = omega arith in
+      rw e (pushed-last vs v j d (omega arith) ∙ top ∙ ap f same)
+]
+
+module _ {L : Type 0} (op : L → L → Option L) where
+  pub first_alone : (xs : List L) (x : L) → 0 < length xs → x ≡ get_or xs 0 x → Some x ≡ chain op (take 1 xs)
+  first_alone [] x h e = absurd (omega arith)
+  first_alone (y ∷ xs) x h e = ap Some e
+
+  pub last_alone : (xs : List L) (n : ℕ) (x : L) → n + 1 ≡ length xs → x ≡ get_or xs n x → Some x ≡ chain op (drop n xs)
+  last_alone [] n x h e = absurd (omega arith)
+  last_alone (y ∷ []) zero x h e = ap Some e
+  last_alone (y ∷ (z ∷ xs)) zero x h e = absurd (omega arith)
+  last_alone (y ∷ xs) (suc n) x h e = last_alone xs n x (omega arith) e
+
+  pub no_fronts : AreFronts op [] []
+  no_fronts = record { count = refl; each = λ k d h. absurd (omega arith) }
+
+  pub no_backs : AreBacks op [] []
+  no_backs = record { count = refl; each = λ k d h. absurd (omega arith) }

@@ -1,10 +1,3 @@
 pub mod JoinedLists
-pub mod JoinedParts
-pub mod Closed
-pub mod Pairs
-pub mod Heights
 pub mod TreeLevels
-pub mod EndJoins
-pub mod Stops
-pub mod KnownRoutes
 pub mod RouteChanges

@@ -1,6 +1,5 @@
 -- Levels of joins, each of which joins its neighbours in the one below two by two.
-use Rattle.std.specs.Prelude.{◌≡◌, refl, ℕ, zero, suc, ◌+◌, ◌-◌, ◌*◌, ◌/◌, ◌^◌, ◌<◌}
-use Rattle.std.specs.Prelude.{◌≤◌, List, [], ◌∷◌, length, map, slice_index_or, Option, Some, None, Vec}
+use Rattle.std.specs.Prelude.{◌≡◌, refl, ℕ, zero, suc, ◌+◌, ◌-◌, ◌*◌, ◌/◌, ◌^◌, ◌<◌, ◌≤◌, List, [], ◌∷◌, length, map, slice_index_or, Option, Some, None, Vec}
 use Rattle.std.specs.declared.alloc.Global.{Global}
 use Rattle.segments.specs.Linked.{both}
 

@@ -1,17 +1,68 @@
--- Reading words and lines one after the other, as the loops do.
-use Rattle.std.proofs.Common.{◌≡◌, ℕ, suc, ◌+◌, ◌<◌, Bool, true, false, List, [], ◌∷◌, ◌++◌, length, take}
-use Rattle.std.proofs.Common.{drop, Some, None, Result, Ok, Err, refl, sym, ap, ◌∙◌, append_assoc, arith, Vec, nat_eq, ◌&&◌}
+-- Reading words and lines one after the other, as the loops do. A fault of the lines that isn't their end stays, however the text goes on.
+use Rattle.std.proofs.Common.{◌≡◌, ℕ, zero, suc, ◌+◌, ◌<◌, List, [], ◌∷◌, ◌++◌, map, take, get_or, length, add-one, refl, sym, ap, ◌∙◌, append_assoc, arith, Bool, true, false, drop, Some}
+use Rattle.std.proofs.Common.{None, Result, Ok, Err, Vec, nat_eq, ◌&&◌, cond, inl, inr}
+use Rattle.std.proofs.lemmas.List.{append-nil}
 use Rattle.std.specs.declared.alloc.Global.{Global}
 use Rattle.std.specs.Str.{bytes_eq}
-use Rattle.std.proofs.lemmas.List.{append-nil}
+use Rattle.tenths.specs.Sink.{Held, Takes, Fails}
+use Rattle.tenths.proofs.Writes.{takes_then, fails_then, fails_first}
+use Rattle.solomon_reader.specs.SolutionText.{route_line, route_lines}
 use Rattle.tenths.specs.Lines.{Left, line_at, is_end}
+use Rattle.tenths.specs.Reading.{◌>>=◌}
+use Rattle.solomon_reader.specs.Lists.{lists}
+use Rattle.tenths.specs.Parts.{parts}
+use Rattle.tenths.proofs.Cuts.{parts-some, grow, grow-some, parts-grow, FaultStays, fault_after, fault_made, fault_if, end_stays}
 use Rattle.sol_writer.specs.declared.fault.SolFault.{SolFault}
 use Rattle.sol_writer.specs.declared.fault.SolFault.TheVariants.{Truncated, Extra}
-use Rattle.tenths.specs.Reading.{◌>>=◌}
-use Rattle.sol_writer.specs.Reading.{customer_at, customers_at, route_at, cost_at, is_cost, sol_at}
-use Rattle.solomon_reader.specs.Lists.{lists}
+use Rattle.sol_writer.specs.Reading.{customer_at, customers_at, route_at, cost_at, is_cost, sol_at, end_at}
+use Rattle.sol_writer.specs.Laws.{FirstFaultStays}
+
+-- the lines of the first routes, and of one more
+pub route_lines-take : {X : Type 0} (f : X → List ℕ) (xs : List X) (first i number : ℕ) (d : X) → i < length xs → number ≡ first + i
+    → route_lines first (map f (take (suc i) xs)) ≡ route_lines first (map f (take i xs)) ++ route_line number (f (get_or xs i d))
+route_lines-take f [] first i number d h e = absurd (omega arith)
+route_lines-take f (x ∷ xs) first zero number d h e =
+    let same : number ≡ first = omega arith in
+    rw same (append-nil (route_line first (f x)))
+route_lines-take f (x ∷ xs) first (suc i) number d h e =
+    ap (λ (w : List ℕ). route_line first (f x) ++ w) (route_lines-take f xs (first + 1) i number d (omega arith) (omega arith))
+    ∙ sym (append_assoc (route_line first (f x)) (route_lines (first + 1) (map f (take i xs))) (route_line number (f (get_or xs i d))))
+
+-- the lines, cut after one of them
+pub route_lines-cut : {X : Type 0} (f : X → List ℕ) (xs : List X) (first i number : ℕ) (d : X) → i < length xs → number ≡ first + i
+    → (rest : List ℕ) × (route_lines first (map f xs) ≡ (route_lines first (map f (take i xs)) ++ route_line number (f (get_or xs i d))) ++ rest)
+route_lines-cut f [] first i number d h e = absurd (omega arith)
+route_lines-cut f (x ∷ xs) first zero number d h e =
+    let same : number ≡ first = omega arith in
+    (route_lines (first + 1) (map f xs), rw same refl)
+route_lines-cut f (x ∷ xs) first (suc i) number d h e =
+    let (rest, parts) = route_lines-cut f xs (first + 1) i number d (omega arith) (omega arith) in (
+      rest,
+      ap (λ (w : List ℕ). route_line first (f x) ++ w) parts
+          ∙ sym (append_assoc (route_line first (f x)) (route_lines (first + 1) (map f (take i xs)) ++ route_line number (f (get_or xs i d))) rest)
+          ∙ ap (λ (w : List ℕ). w ++ rest) (sym (append_assoc (route_line first (f x)) (route_lines (first + 1) (map f (take i xs))) (route_line number (f (get_or xs i d))))),
+    )
+
+-- a loop that writes the lines went on
+pub lines_go_on : {X : Type 0} (f : X → List ℕ) (xs : List X) (first i number : ℕ) (d : X) (route : List ℕ) (r s t : Held)
+    → i < length xs → number ≡ first + i → route ≡ f (get_or xs i d)
+    → Takes r s (route_lines first (map f (take i xs))) → Takes s t (route_line number route) → Takes r t (route_lines first (map f (take (i + 1) xs)))
+lines_go_on f xs first i number d route r s t h e same p q =
+    rw (add-one i) (rw (route_lines-take f xs first i number d h e)
+    (takes_then r s t (route_lines first (map f (take i xs))) (route_line number (f (get_or xs i d))) p (rw same at q)))
+
+-- a loop that writes the lines failed at one of them
+pub lines_fail : {X : Type 0} (f : X → List ℕ) (xs : List X) (first i number : ℕ) (d : X) (route : List ℕ) (r s t : Held)
+    → i < length xs → number ≡ first + i → route ≡ f (get_or xs i d)
+    → Takes r s (route_lines first (map f (take i xs))) → Fails s t (route_line number route) → Fails r t (route_lines first (map f xs))
+lines_fail f xs first i number d route r s t h e same p q =
+    let (rest, parts) = route_lines-cut f xs first i number d h e in
+    rw parts (fails_first r t (route_lines first (map f (take i xs)) ++ route_line number (f (get_or xs i d))) rest
+    (fails_then r s t (route_lines first (map f (take i xs))) (route_line number (f (get_or xs i d))) p (rw same at q)))
 
 -- ---- a label
+
+-- ---- Reading words and lines one after the other, as the loops do.
 
 and_assoc : (a b c : Bool) → ((a && b) && c) ≡ (a && (b && c))
 and_assoc true b c = refl
@@ -157,3 +208,33 @@ colon_else digits text front r f e other =
 pub lists-push : (routes : List (Vec ℕ Global)) (r : Vec ℕ Global) → lists (routes ++ (r ∷ [])) ≡ lists routes ++ (r.items ∷ [])
 lists-push [] r = refl
 lists-push (v ∷ routes) r = ap (λ (x : List (List ℕ)). v.items ∷ x) (lists-push routes r)
+
+-- ---- A fault of the lines that isn't their end stays, however the text goes on.
+
+sol_at-line : (k : ℕ) (l : List ℕ) (ps : List (List ℕ)) (p : List ℕ) (qs : List (List ℕ)) → ps ≡ p ∷ qs
+    → sol_at k (l ∷ ps) ≡ cond (is_cost k l) (cost_at k l >>= λ c. end_at ([], c) ps) (route_at k l >>= λ r. sol_at (k + 1) ps >>= λ s. Ok (r ∷ s.0, s.1))
+unfolding sol_at
+sol_at-line k l ps p qs e = rw e refl
+
+module _ (x : List ℕ) (rest : List (List ℕ)) where
+  sol_stays : (k : ℕ) (ps : List (List ℕ)) → FaultStays Truncated (sol_at k ps) (sol_at k (grow x rest ps))
+  unfolding sol_at
+  sol_stays k [] d f = let same : Truncated ≡ d = cc in inl (sym same)
+  sol_stays k (p ∷ []) d f = let same : Truncated ≡ d = cc in inl (sym same)
+  sol_stays k (l ∷ m ∷ ps) d f =
+      let more = grow x rest (m ∷ ps) in
+      let some = grow-some x rest m ps in
+      let both = fault_if Truncated (is_cost k l) _ _ (cost_at k l >>= λ c. end_at ([], c) more) (route_at k l >>= λ r. sol_at (k + 1) more >>= λ s. Ok (r ∷ s.0, s.1))
+      (fault_after Truncated (cost_at k l) (λ c. end_at ([], c) (m ∷ ps)) (λ c. end_at ([], c) more) (λ c. end_stays Truncated Extra ([], c) ([], c) x rest (m ∷ ps)))
+      (fault_after Truncated (route_at k l) (λ r. sol_at (k + 1) (m ∷ ps) >>= λ s. Ok (r ∷ s.0, s.1)) (λ r. sol_at (k + 1) more >>= λ s. Ok (r ∷ s.0, s.1))
+      (λ r. fault_made Truncated (sol_at (k + 1) (m ∷ ps)) (sol_at (k + 1) more) (λ s. (r ∷ s.0, s.1)) (sol_stays (k + 1) (m ∷ ps)))) in
+      rw (sol_at-line k l more some.0 some.1 some.2) (both d f)
+
+pub reading_stays : FirstFaultStays
+reading_stays front back d f other =
+    let b = parts-some 10 back in
+    let stays = sol_stays b.0 b.1 1 (parts 10 front) d f in
+    elim stays [
+      | inl e ↦ absurd (other e)
+      | inr e ↦ ap (λ ps. sol_at 1 ps) (parts-grow 10 front back b.0 b.1 b.2) ∙ e
+    ]

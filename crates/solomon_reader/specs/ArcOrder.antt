@@ -4,9 +4,10 @@ use Rattle.std.specs.Ordering.{nat_cmp, ordering_then, ordering_reverse, is_eq, 
 use Rattle.std.specs.declared.cmp.Ordering.{Ordering}
 use Rattle.std.specs.declared.cmp.Ordering.TheVariants.{Less, Equal, Greater}
 use Rattle.std.specs.Cmp.{IsTotalOrder, nat_cmp_total, tied_itself}
-use Rattle.std.specs.FinSet.{FinSet, empty, IsAntisymmetric, contains, insert, contains-insert, contains-empty, same_set, nat_cmp-IsAntisymmetric}
+use Rattle.std.specs.FinSet.{FinSet, empty, IsAntisymmetric, contains, insert, contains-insert, contains-empty, nat_cmp-IsAntisymmetric}
+use Rattle.std.proofs.lemmas.Bool.{or_left, or_right}
 use Rattle.solomon_reader.specs.Plan.{Arc}
-use Rattle.solomon_reader.specs.Region.{arc_cmp}
+use Rattle.solomon_reader.specs.Region.{arc_cmp, ArcSet, Holds}
 
 reverse_then : (a b : Ordering) → ordering_reverse (ordering_then a b) ≡ ordering_then (ordering_reverse a) (ordering_reverse b)
 reverse_then Less b = refl
@@ -67,18 +68,6 @@ inserted s a b h =
       | inr k ↦ inr k
     ]
 
-swapped : (a b c : Bool) → (b || (a || c)) ≡ (a || (b || c))
-swapped true true c = refl
-swapped true false c = refl
-swapped false true c = refl
-swapped false false c = refl
-
-pub insert_order : (s : FinSet arc_cmp) (a b : Arc) → insert (insert s a) b ≡ insert (insert s b) a
-insert_order s a b = same_set arc_cmp_total arc_cmp-IsAntisymmetric _ _ (λ q.
-    contains-insert arc_cmp_total (insert s a) b q ∙ ap (λ c. eq_by_cmp arc_cmp q b || c) (contains-insert arc_cmp_total s a q)
-    ∙ swapped (eq_by_cmp arc_cmp q a) (eq_by_cmp arc_cmp q b) (contains s q)
-    ∙ sym (contains-insert arc_cmp_total (insert s b) a q ∙ ap (λ c. eq_by_cmp arc_cmp q a || c) (contains-insert arc_cmp_total s b q)))
-
 pub none_in_empty : (a : Arc) → ¬ (contains (empty {R = arc_cmp}) a ≡ true)
 none_in_empty a h = let e = contains-empty arc_cmp a in cc
 
@@ -87,3 +76,10 @@ same_from_test a b h = arc_cmp-IsAntisymmetric a b (is_equal _ h)
 
 pub test_itself : (a : Arc) → eq_by_cmp arc_cmp a a ≡ true
 test_itself a = ap is_eq (tied_itself arc_cmp_total a)
+
+-- an insertion holds what it inserts, and what was there
+pub holds_new : (s : ArcSet) (a : Arc) → Holds (insert s a) a
+holds_new s a = contains-insert arc_cmp_total s a a ∙ or_left _ _ (test_itself a)
+
+pub holds_old : (s : ArcSet) (a b : Arc) → Holds s b → Holds (insert s a) b
+holds_old s a b h = contains-insert arc_cmp_total s a b ∙ or_right (eq_by_cmp arc_cmp b a) _ h

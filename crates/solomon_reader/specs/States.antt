@@ -1,6 +1,5 @@
 -- Where a vehicle stands after a front of a route, and what may come after it.
-use Rattle.std.specs.Prelude.{◌≡◌, ℕ, ◌+◌, ◌*◌, ◌≤◌, max, Bool, false, List, [], ◌∷◌, ◌++◌}
-use Rattle.std.specs.Prelude.{IsTrue, IsFalse, Option, Some, None, ℤ, pos, ◌+ℤ◌, ◌-ℤ◌, ◌≤ℤ◌}
+use Rattle.std.specs.Prelude.{◌≡◌, ℕ, ◌+◌, ◌*◌, ◌≤◌, max, Bool, false, List, [], ◌∷◌, ◌++◌, IsTrue, IsFalse, Option, Some, None, ℤ, pos, ◌+ℤ◌, ◌-ℤ◌, ◌≤ℤ◌}
 use Rattle.solomon_reader.specs.declared.limits.TheConstants.{MOST_PRICE, MOST_DISTANCE}
 use Rattle.solomon_reader.specs.Problem.{Problem, IsCustomer, demand, ready, due, service}
 use Rattle.solomon_reader.specs.Distance.{distance}

@@ -1,10 +1,9 @@
 -- How writes add up.
-use Rattle.std.proofs.Common.{◌≡◌, ℕ, zero, suc, get_or, length, ◌<◌, List, [], ◌∷◌, ◌++◌, take}
-use Rattle.std.proofs.Common.{drop, Option, Some, None, Result, Ok, Err, refl, sym, ap, ◌∙◌, append_assoc, arith}
+use Rattle.std.proofs.Common.{◌≡◌, ℕ, zero, suc, get_or, length, ◌<◌, List, [], ◌∷◌, ◌++◌, take, drop, Option, Some, None, Result, Ok, Err, refl, sym, ap, ◌∙◌, append_assoc, arith}
 use Rattle.std.specs.Prelude.{IsErr}
 use Rattle.std.specs.List.{flat_map}
-use Rattle.std.specs.Io.KnownBytes.{Appends, Keeps}
-use Rattle.std.proofs.lemmas.List.{take-append-drop, append-nil}
+use Rattle.std.specs.Io.KnownBytes.{Appends}
+use Rattle.std.proofs.lemmas.List.{take-append-drop}
 use Rattle.tenths.specs.Sink.{Held, Takes, Fails, Writes}
 
 Appends-then : (r s t : Option (List ℕ)) (a b : List ℕ) → Appends r s a → Appends s t b → Appends r t (a ++ b)

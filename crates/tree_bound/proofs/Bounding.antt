@@ -14,6 +14,7 @@ use Rattle.leaf_arcs.specs.declared.decision.Decision.{Decision}
 use Rattle.certificate.specs.declared.node.CertNode.{CertNode}
 use Rattle.certificate.specs.Tree.{node_of, nodes_of}
 use Rattle.leaf_arcs.specs.Decisions.{child, region_after, region_of}
+use Rattle.certificate.proofs.Steps.{one_tree}
 use Rattle.tree_bound.specs.Grains.{IsLesserValue}
 use Rattle.tree_bound.specs.Nodes.{Begins, IsBoundOf}
 
@@ -164,37 +165,6 @@ module _ (version : Version) (p : Problem) (k : ℕ) (ds : List Decision) (nodes
       split_at y last second = rw here (split_bounded version p k (region_of (customer_count p) ds) (from, to) (drop (at + 1) (nodes_of nodes))
           (drop next (nodes_of nodes)) (drop last (nodes_of nodes)) most x y
           (rw used_region at first) (rw unused_region at second))
-
--- what was found and is left is that of the tree that comes first: no other tree has these nodes in front
-same_leaf : (xs ys : List ℤ) (more rest : List Node) → leaf_node xs ∷ more ≡ leaf_node ys ∷ rest → (xs ≡ ys) × (more ≡ rest)
-same_leaf xs ys more rest e = (prices e, others e)
-  where
-    prices : leaf_node xs ∷ more ≡ leaf_node ys ∷ rest → xs ≡ ys
-    prices e = cc
-
-    others : leaf_node xs ∷ more ≡ leaf_node ys ∷ rest → more ≡ rest
-    others e = cc
-
-same_split : (a b : Arc) (more rest : List Node) → split_node a ∷ more ≡ split_node b ∷ rest → (a ≡ b) × (more ≡ rest)
-same_split a b more rest e = (arcs e, others e)
-  where
-    arcs : split_node a ∷ more ≡ split_node b ∷ rest → a ≡ b
-    arcs e = cc
-
-    others : split_node a ∷ more ≡ split_node b ∷ rest → more ≡ rest
-    others e = cc
-
--- no two trees have the same nodes in front
-pub one_tree : (t u : Tree) (more rest : List Node) → preorder t ++ more ≡ preorder u ++ rest → (t ≡ u) × (more ≡ rest)
-one_tree (leaf xs) (leaf ys) more rest e = let h = same_leaf xs ys more rest e in (ap leaf h.0, h.1)
-one_tree (leaf xs) (split b v w) more rest e = cc
-one_tree (split a t u) (leaf ys) more rest e = cc
-one_tree (split a t u) (split b v w) more rest e =
-    let h = same_split a b ((preorder t ++ preorder u) ++ more) ((preorder v ++ preorder w) ++ rest) e in
-    let first = one_tree t v (preorder u ++ more) (preorder w ++ rest) (sym (append_assoc (preorder t) (preorder u) more) ∙ (h.1 ∙ append_assoc (preorder v) (preorder w) rest)) in
-    let second = one_tree u w more rest first.1 in
-    let x = h.0 in let y = first.0 in let z = second.0 in
-    (rw (x, y, z) refl, second.1)
 
 -- no bound is above the ceiling plus one
 never_above : (version : Version) (p : Problem) (k : ℕ) (g : Region) (tree : Tree) (b : ℕ) → HasBound version p k g tree b → b ≤ ceiling_of p + 1

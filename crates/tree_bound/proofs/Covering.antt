@@ -4,10 +4,9 @@ use Rattle.std.specs.Prelude.{ℤ, ◌≤ℤ◌}
 use Rattle.std.proofs.lemmas.Int.{ints}
 use Rattle.solomon_reader.specs.Relaxed.{IsRelaxed, reduced_cost}
 use Rattle.solomon_reader.specs.States.{Pricing, State, step, CanStep, CanEnd, Completes, value_with, IsAsGood, IsAtMost}
-use Rattle.solomon_reader.proofs.Completions.{completes_relaxed, relaxed_completes, value_is, at_most_more}
+use Rattle.solomon_reader.proofs.Completions.{completes_relaxed, relaxed_completes, value_is, at_most_more, completes_too, value_no_greater}
 use Rattle.solomon_reader.specs.Covering.{Witness, IsCovered, CoversAfter, IsDear}
 use Rattle.tree_bound.specs.Cover.{CoversStart, IsFound, IsLeastBelow}
-use Rattle.solomon_reader.proofs.Goodness.{completes_too, value_no_greater}
 
 module _ (q : Pricing) where
   -- what may come after y may come after x, which is as good

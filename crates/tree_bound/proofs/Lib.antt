@@ -1,5 +1,3 @@
-pub mod Buckets
-pub mod Stepping
 pub mod Working
 pub mod Valuing
 pub mod Bounding

@@ -1,34 +1,213 @@
--- Loads are worked, the lowest first.
-use Rattle.std.proofs.Common.{◌≡◌, refl, ℕ, ◌+◌, ◌*◌, ◌<◌, ◌≤◌, true, false, List, [], ◌++◌, length}
-use Rattle.std.proofs.Common.{subst, arith, ap, sym, ◌∙◌, ◌⊎◌, inl, inr, Option, Some, None, replicate, ◌∷◌}
+-- The steps from a label, and how loads are worked, the lowest first.
+use Rattle.std.proofs.Common.{◌≡◌, refl, ℕ, ◌+◌, ◌<◌, ◌≤◌, true, List, [], ◌∷◌, ◌++◌, length, arith, ◌∙◌, inl, inr, Option, false, length-append, ◌⊎◌, ◌*◌, subst, ap, sym, Some, None}
+use Rattle.std.proofs.Common.{replicate}
 use Rattle.std.specs.Prelude.{ℤ, pos, slice_index_or, IfSome}
-use Rattle.std.specs.List.{AllByRecursion}
+use Rattle.std.proofs.lemmas.Bool.{cases_lt, cases_eq}
 use Rattle.std.proofs.Math.ListN.{set, length-set}
 use Rattle.std.proofs.lemmas.Int.{ints}
-use Rattle.std.proofs.lemmas.Bool.{cases_lt, cases_eq}
-use Rattle.std.proofs.lemmas.List.{get_or_past, get_or-set_other, get_or-replicate, length-replicate}
+use Rattle.std.proofs.lemmas.List.{get_or_append_left, get_or_push, get_or-set_same, get_or-set_other, get_or_past, get_or-replicate, length-replicate}
+use Rattle.std.specs.List.{AllByRecursion}
 use Rattle.std.proofs.lemmas.List.Elements.{All-from_recursion, All-weaker}
+use Rattle.solomon_reader.specs.Problem.{IsCustomer, Problem, customer_count, ready, service}
+use Rattle.solomon_reader.specs.Region.{IsAllowed}
+use Rattle.solomon_reader.specs.States.{Pricing, State, step, CanStep, IsAsGood, start, CanEnd, IsSameState, IsPriced, IsAtMost}
+use Rattle.solomon_reader.proofs.Completions.{reaches_more, reaches_none, relaxed_completes, value_is, good_itself, good_same, good_through, reaches_same, completes_too, value_no_greater}
+use Rattle.leaf_arcs.specs.declared.arcs.AllowedArc.{AllowedArc}
+use Rattle.solomon_reader.specs.Memories.{place_of}
+use Rattle.leaf_arcs.specs.Arcs.{arc_in, IsPricing, AreAllowedArcs, IsInTime}
+use Rattle.solomon_reader.specs.Covering.{IsDear}
 use Rattle.solomon_reader.specs.declared.row.Row.{Row}
-use Rattle.solomon_reader.specs.Problem.{Problem, customer_count, ready, service}
 use Rattle.solomon_reader.specs.Layout.{IsWithinLimits, AreRows}
-use Rattle.solomon_reader.specs.States.{Pricing, State, start, step, CanStep, CanEnd, IsAsGood, IsSameState, IsPriced, IsAtMost}
 use Rattle.solomon_reader.specs.CertificateText.{IsPrice}
 use Rattle.solomon_reader.proofs.BoundedRows.{customer_row}
-use Rattle.solomon_reader.proofs.Completions.{reaches_none, relaxed_completes, value_is}
-use Rattle.leaf_arcs.specs.declared.arcs.AllowedArc.{AllowedArc}
-use Rattle.tree_bound.specs.declared.label.Label.{Label}
-use Rattle.solomon_reader.specs.Covering.{IsDear}
-use Rattle.tree_bound.specs.Cover.{IsFound, IsRouteCost, IsLeastBelow}
-use Rattle.solomon_reader.specs.Memories.{place_of}
-use Rattle.tree_bound.specs.Labels.{label_in, labels_at, state_of, IsBounded, IsLabel, IsTable, AreLabels, IsDominated, IsEntered, Waits, IsMet}
-use Rattle.leaf_arcs.specs.Arcs.{IsPricing, AreAllowedArcs, IsInTime, arc_in}
-use Rattle.tree_bound.specs.Steps.{IsCared, TakesSteps, ClosesRoute, IsDone, IsSettled, AreSettled, Remains, IsPassed, IsWorked, IsSwept, route_value}
-use Rattle.solomon_reader.proofs.Goodness.{good_itself, good_same, reaches_same, completes_too, value_no_greater}
-use Rattle.tree_bound.proofs.Buckets.{first_kept}
-use Rattle.tree_bound.proofs.Covering.{covers_moved, covers_itself, covers_worked, covers_passed, covers_dear, least_at_end}
-use Rattle.tree_bound.proofs.Stepping.{dominating_good}
-use Rattle.leaf_arcs.proofs.Leading.{leads_index}
+use Rattle.leaf_arcs.proofs.Deciding.{leads_index}
 use Rattle.leaf_arcs.proofs.Remembered.{has_nothing}
+use Rattle.tree_bound.specs.declared.label.Label.{Label}
+use Rattle.tree_bound.specs.Labels.{label_in, labels_at, state_of, Dominates, IsDominated, IsAdded, IsLabel, IsTable, IsMet, IsMoved, blank, IsThinned, IsPut, IsEntered, IsBounded}
+use Rattle.tree_bound.specs.Labels.{AreLabels, Waits}
+use Rattle.tree_bound.specs.Steps.{CanExtend, IsExtension, IsCared, TakesStep, TakesSteps, ClosesRoute, IsDone, IsSettled, AreSettled, Remains, IsPassed, IsWorked, IsSwept, route_value}
+use Rattle.tree_bound.specs.Cover.{IsFound, IsRouteCost, IsLeastBelow}
+use Rattle.tree_bound.proofs.Covering.{covers_moved, covers_itself, covers_worked, covers_passed, covers_dear, least_at_end}
+
+pub dominating_good : (q : Pricing) (d r : ℕ) → d ≤ r → (a b : Label) → Dominates a b → IsAsGood (state_of q d a) (state_of q r b)
+dominating_good q d r low a b h = record { last = h.customer; time = h.time; load = low; cost = h.cost; memory = λ u t. h.memory (place_of q.problem q.neighbours b.customer u) (rw h.customer at t) }
+
+-- what stands at a load waits there
+pub dominated_met : (q : Pricing) (bs : List (List Label)) (low load : ℕ) (x : Label) → low ≤ load → IsDominated (labels_at bs load) x → IsMet q bs low (state_of q load x)
+dominated_met q bs low load x late h = (
+  state_of q load (label_in (labels_at bs load) h.index),
+  (record { load = load; late = late; index = h.index; within = h.within; active = h.active; is = refl }, dominating_good q load load (omega arith) _ x h.good),
+)
+
+pub moved_none : (q : Pricing) (bs : List (List Label)) (low : ℕ) → IsMoved q bs bs low
+moved_none q bs low a h = (a, (h, good_itself a))
+
+pub met_through : (q : Pricing) (bs cs : List (List Label)) (low : ℕ) (a : State) → IsMoved q bs cs low → IsMet q bs low a → IsMet q cs low a
+met_through q bs cs low a moved (t, h) = let on = moved t h.0 in (on.0, (on.1.0, good_through _ _ _ on.1.1 h.1))
+
+pub moved_through : (q : Pricing) (bs cs ds : List (List Label)) (low : ℕ) → IsMoved q bs cs low → IsMoved q cs ds low → IsMoved q bs ds low
+moved_through q bs cs ds low h e a w = met_through q cs ds low a e (h a w)
+
+module _ (q : Pricing) (b : Option ℤ) where
+  cared_through : (bs cs : List (List Label)) (low : ℕ) (a : State) → IsMoved q bs cs low → IsCared q b bs low a → IsCared q b cs low a
+  cared_through bs cs low a moved (inl met) = inl (met_through q bs cs low a moved met)
+  cared_through bs cs low a moved (inr dear) = inr dear
+
+  pub can_step : (d : ℕ) (x : Label) (j : ℕ) → IsCustomer q.problem j → IsAllowed q.region (x.customer, j) → CanExtend q d x j → CanStep q (state_of q d x) j
+  can_step d x j customer allowed h = record { customer = customer; allowed = allowed; load = h.load; due = h.due; fresh = h.fresh }
+
+  pub step_dear : (bs : List (List Label)) (d : ℕ) (x : Label) (j : ℕ) → IsTable q bs (d + 1) → IsDear q b (step q (state_of q d x) j) → TakesStep q b bs bs d x j
+  step_dear bs d x j table dear = record { moved = moved_none q bs (d + 1); table = table; met = λ can. inr dear }
+
+  -- the label after a step is one
+  pub label_extended : (d : ℕ) (x : Label) (load j : ℕ) (y : Label) → IsLabel q d x → IsCustomer q.problem j → IsAllowed q.region (x.customer, j)
+      → CanExtend q d x j → IsExtension q d x load j y → IsLabel q load y
+  label_extended d x load j y pair customer allowed can extension = record {
+    bounded = extension.bounded;
+    reached = (pair.reached.0 ++ (j ∷ []), reaches_same q _ _ _ extension.same (reaches_more q pair.reached.0 (state_of q d x) j pair.reached.1 (can_step d x j customer allowed can)));
+  }
+
+  -- y was kept at its load
+  module _ (bs cs : List (List Label)) (d : ℕ) (x : Label) (load j : ℕ) (y : Label) (later : d + 1 ≤ load) (added : IsAdded bs cs load y) where
+    moved_added : IsMoved q bs cs (d + 1)
+    moved_added a w = elim (cases_eq w.load load) [
+      | inl same ↦ (let dominated = added.here.old w.index (rw same at w.within) (rw same at w.active) in
+          let met = dominated_met q cs (d + 1) load (label_in (labels_at bs load) w.index) later dominated in
+          let e : state_of q load (label_in (labels_at bs load) w.index) ≡ a = rw same at w.is in
+          (met.0, (met.1.0, rw e at met.1.1)))
+      | inr apart ↦ (
+        a,
+        (
+          record {
+            load = w.load;
+            late = w.late;
+            index = w.index;
+            within = rw (added.others w.load apart) w.within;
+            active = rw (added.others w.load apart) w.active;
+            is = rw (added.others w.load apart) w.is;
+          },
+          good_itself a,
+        ),
+      )
+    ]
+
+    table_added : IsTable q bs (d + 1) → IsLabel q load y → IsTable q cs (d + 1)
+    table_added table pair = record { count = added.same ∙ table.count; each = each }
+      where
+        each : (n m : ℕ) → d + 1 ≤ n → m < length (labels_at cs n) → (label_in (labels_at cs n) m).active ≡ true → IsLabel q n (label_in (labels_at cs n) m)
+        each n m late within active = elim (cases_eq n load) [
+          | inl same ↦ elim (added.here.others m (rw same at within) (rw same at active)) [
+            | inl new ↦ rw (same, new) pair
+            | inr old ↦ rw (same, old.1) (table.each load m later old.0 (rw (← old.1) (rw same at active)))
+          ]
+          | inr apart ↦ rw (added.others n apart) (table.each n m late (rw (added.others n apart) at within) (rw (added.others n apart) at active))
+        ]
+
+    pub step_yes : IsTable q bs (d + 1) → IsLabel q d x → IsCustomer q.problem j → IsAllowed q.region (x.customer, j) → CanExtend q d x j → IsExtension q d x load j y
+        → TakesStep q b bs cs d x j
+    step_yes table pair customer allowed can extension = record {
+      moved = moved_added;
+      table = table_added table (label_extended d x load j y pair customer allowed can extension);
+      met = λ _. inl (let met = dominated_met q cs (d + 1) load y later added.here.new in (met.0, (met.1.0, good_through _ _ _ met.1.1 (good_same _ _ extension.same))));
+    }
+
+  pub steps_none : (bs : List (List Label)) (d : ℕ) (x : Label) (hs : List AllowedArc) → IsTable q bs (d + 1) → TakesSteps q b bs bs d x hs 0
+  steps_none bs d x hs table = record { moved = moved_none q bs (d + 1); table = table; met = λ m w can. absurd (omega (arith, w)) }
+
+  pub steps_more : (bs cs ds : List (List Label)) (d : ℕ) (x : Label) (hs : List AllowedArc) (i : ℕ) → TakesSteps q b bs cs d x hs i → TakesStep q b cs ds d x (arc_in hs i).to
+      → TakesSteps q b bs ds d x hs (i + 1)
+  steps_more bs cs ds d x hs i spread stepped = record {
+    moved = moved_through q bs cs ds (d + 1) spread.moved stepped.moved;
+    table = stepped.table;
+    met = λ m below can. elim (cases_lt m i) [
+      | inl less ↦ cared_through cs ds (d + 1) _ stepped.moved (spread.met m less can)
+      | inr more ↦ (let same : m ≡ i = omega (arith, below, more) in rw same (stepped.met (rw same at can)))
+    ];
+  }
+
+-- ---- The labels of a load, after one was kept.
+
+pub dominates_itself : (x : Label) → Dominates x x
+dominates_itself x = record { customer = refl; memory = λ i t. t; time = omega arith; cost = omega (arith, ints) }
+
+pub thinned_none : (xs : List Label) (x : Label) → IsThinned xs xs x
+thinned_none xs x = record { same = refl; each = λ m w. inl refl }
+
+pub thinned_through : (xs ys zs : List Label) (x : Label) → IsThinned xs ys x → IsThinned ys zs x → IsThinned xs zs x
+thinned_through xs ys zs x h e = record {
+  same = e.same ∙ h.same;
+  each = λ m w. elim (h.each m w) [
+    | inl same ↦ elim (e.each m (omega (arith, w, h.same))) [
+      | inl again ↦ inl (again ∙ same)
+      | inr past ↦ inr (rw same at past.0, past.1)
+    ]
+    | inr past ↦ elim (e.each m (omega (arith, w, h.same))) [
+      | inl again ↦ inr (past.0, rw again past.1)
+      | inr twice ↦ inr (past.0, twice.1)
+    ]
+  ];
+}
+
+pub put_behind : (xs : List Label) (x : Label) → IsPut xs (xs ++ (x ∷ [])) x
+put_behind xs x = record {
+  index = length xs;
+  within = omega (arith, length-append xs (x ∷ []));
+  here = get_or_push xs x blank (length xs) refl;
+  still = λ m w active. (omega (arith, w, length-append xs (x ∷ [])), get_or_append_left xs (x ∷ []) blank m w);
+  others = λ m w. elim (cases_lt m (length xs)) [
+    | inl old ↦ inr (old, get_or_append_left xs (x ∷ []) blank m old)
+    | inr new ↦ inl (let e : m ≡ length xs = omega (arith, w, new, length-append xs (x ∷ [])) in rw e (get_or_push xs x blank (length xs) refl))
+  ];
+}
+
+pub put_within : (xs : List Label) (index : ℕ) (x : Label) → index < length xs → (label_in xs index).active ≡ false → IsPut xs (set xs index x) x
+put_within xs index x within hole = record {
+  index = index;
+  within = omega (arith, within, length-set xs index x);
+  here = get_or-set_same xs index x blank within;
+  still = λ m w active. (
+    omega (arith, w, length-set xs index x),
+    elim (cases_eq m index) [
+      | inl same ↦ absurd (let e = rw same at active in cc)
+      | inr apart ↦ get_or-set_other xs index m x blank apart
+    ],
+  );
+  others = λ m w. elim (cases_eq m index) [
+    | inl same ↦ inl (rw same (get_or-set_same xs index x blank within))
+    | inr apart ↦ inr (omega (arith, w, length-set xs index x), get_or-set_other xs index m x blank apart)
+  ];
+}
+
+pub kept_of : (xs zs ys : List Label) (x : Label) → x.active ≡ true → IsThinned xs zs x → IsPut zs ys x → IsEntered xs ys x
+kept_of xs zs ys x active thinned put = record { new = new; old = old; others = others }
+  where
+    at_place : (y : Label) → Dominates x y → IsDominated ys y
+    at_place y good = record { index = put.index; within = put.within; active = rw put.here active; good = rw put.here good }
+
+    new : IsDominated ys x
+    new = at_place x (dominates_itself x)
+
+    old : (m : ℕ) → m < length xs → (label_in xs m).active ≡ true → IsDominated ys (label_in xs m)
+    old m w stands = elim (thinned.each m w) [
+      | inl same ↦ (let on = put.still m (omega (arith, w, thinned.same)) (rw same stands) in
+          let e = on.1 ∙ same in
+          record { index = m; within = on.0; active = rw e stands; good = rw e (dominates_itself (label_in xs m)) })
+      | inr past ↦ at_place (label_in xs m) past.0
+    ]
+
+    others : (m : ℕ) → m < length ys → (label_in ys m).active ≡ true → (label_in ys m ≡ x) ⊎ ((m < length xs) × (label_in ys m ≡ label_in xs m))
+    others m w stands = elim (put.others m w) [
+      | inl new ↦ inl new
+      | inr old ↦ (let low : m < length xs = omega (arith, old.0, thinned.same) in elim (thinned.each m low) [
+        | inl same ↦ inr (low, old.1 ∙ same)
+        | inr past ↦ absurd (let e = rw old.1 at stands in let d = past.1 in cc)
+      ])
+    ]
+
+pub first_kept : (x : Label) → x.active ≡ true → IsEntered [] (x ∷ []) x
+first_kept x active = kept_of [] [] (x ∷ []) x active (thinned_none [] x) (put_behind [] x)
+
+-- ---- Loads are worked, the lowest first.
 
 module _ (q : Pricing) where
   -- all steps of a row were taken

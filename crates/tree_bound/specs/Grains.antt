@@ -1,18 +1,9 @@
 -- The value of a leaf as a number of grains.
-use Rattle.std.specs.Prelude.{◌≡◌, ℕ, suc, ◌≤◌, min, List, ℤ, pos, negsuc, Option, None}
+use Rattle.std.specs.Prelude.{◌≡◌, ℕ, ◌≤◌, min, List, ℤ, Option, None}
 use Rattle.solomon_reader.specs.Problem.{Problem}
 use Rattle.solomon_reader.specs.Region.{Region}
 use Rattle.solomon_reader.specs.Bound.{Version, grains_of, routes_counted, IsRoundedUp, IsLeafValue}
 use Rattle.tree_bound.specs.Cover.{or_zero}
-
--- the two sides of an integer
-abbrev pub up : ℤ → ℕ
-up (pos n) = n
-up (negsuc n) = 0
-
-abbrev pub down : ℤ → ℕ
-down (pos n) = 0
-down (negsuc n) = suc n
 
 -- a leaf whose least reduced cost is t has a value of at least so much
 pub record IsWorth (version : Version) (p : Problem) (prices : List ℤ) (t : ℤ) (most : ℕ) : Type 0 where

@@ -11,7 +11,8 @@ ghost use Rattle.solomon_reader.specs.declared.limits.TheConstants.{MOST_CUSTOME
 ghost use Rattle.certificate.specs.Text.{version_of};
 ghost use Rattle.tree_bound.specs.Cover.{or_zero};
 ghost use Rattle.leaf_arcs.specs.Decisions.{region_of};
-ghost use Rattle.tree_bound.specs.Grains.{up, down, IsWorth, IsLowered, IsLesserValue};
+ghost use Rattle.solomon_reader.specs.SumLaws.{up, down};
+ghost use Rattle.tree_bound.specs.Grains.{IsWorth, IsLowered, IsLesserValue};
 
 use crate::dive::dive;
 use crate::fault::BoundFault;

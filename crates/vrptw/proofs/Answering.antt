@@ -1,27 +1,32 @@
--- From what becomes of what was found to what the solver says.
-use Rattle.std.proofs.Common.{◌≡◌, List, Option, Some, None, MatchOption, Result, Ok, Err, ℕ, ◌+◌, ◌≤◌, ◌⊎◌, inl, inr, refl, arith}
+-- From what becomes of what was found to what the solver says: the cheaper of two plans.
+use Rattle.std.proofs.Common.{◌≡◌, ◌∙◌, Option, Some, None, inl, inr, refl, sym, List, MatchOption, Result, Ok, Err, ℕ, ◌≤◌, arith}
+use Rattle.schedule.specs.Solution.{Solution}
+use Rattle.closing.specs.Cheaper.{IsCheaper}
 use Rattle.solomon_reader.specs.Problem.{Problem}
 use Rattle.solomon_reader.specs.Layout.{IsInstance}
 use Rattle.solomon_reader.specs.Bound.{version_2}
 use Rattle.solomon_reader.specs.DualityLaws.{tree_bound_holds, ceiling_holds}
 use Rattle.tenths.specs.Sink.{Held}
-use Rattle.schedule.specs.Solution.{Solution}
 use Rattle.insertion.specs.Building.{IsServedAlone}
 use Rattle.closing.specs.Closing.{IsClosed, known_or_above, costs}
 use Rattle.closing.specs.declared.found.Found.{Found}
-use Rattle.search_workers.specs.Running.{RefusesSettings}
-use Rattle.search_workers.specs.declared.fault.RunFault.{RunFault}
-use Rattle.search_workers.specs.declared.fault.RunFault.TheVariants as run
 use Rattle.worker_turns.specs.declared.settings.Settings.{Settings}
 use Rattle.worker_turns.specs.Settings.{IsWithin}
 use Rattle.vrptw.specs.declared.answer.Answer.{Answer}
 use Rattle.vrptw.specs.declared.answer.Answer.TheVariants.{Best, Gap, NoPlan, Open}
 use Rattle.vrptw.specs.declared.answer.SolveFault.{SolveFault}
-use Rattle.vrptw.specs.Answers.{Answers, Breaks, IsFaultOfRun, Solves}
+use Rattle.vrptw.specs.Answers.{Answers, Breaks, Solves}
 use Rattle.vrptw.specs.Found.{IsOf, WritesFound}
 use Rattle.vrptw.specs.Closing.{AreWithin, HasNoPlan, ClosesWith, Closes}
 
--- ---- why no plan was found
+-- where there is none, neither is there a second plan
+pub cheaper_none : (f g r : Option Solution) → IsCheaper f g r → r ≡ None → g ≡ None
+cheaper_none f None r is e = refl
+cheaper_none None (Some g) r is e = sym is ∙ e
+cheaper_none (Some f) (Some g) r (inl (is, less)) e = let bad : Some f ≡ None = sym is ∙ e in cc
+cheaper_none (Some f) (Some g) r (inr (is, less)) e = sym is ∙ e
+
+-- ---- From what becomes of what was found to what the solver says: why no plan was found.
 
 module _ (p : Problem) (k : ℕ) (A B : Type 0) (s s' c c' : Held) (why : A → B) where
   answers_why : (answer : Answer) → Answers p k A s s' c c' answer → Answers p k B s s' c c' answer
@@ -45,15 +50,6 @@ solved text settings p plan bound s s' c c' is within why (Ok answer) (answers, 
 solved text settings p plan bound s s' c c' is within why (Err e) (inl (same, first, second)) = rw same (first, second)
 solved text settings p plan bound s s' c c' is within why (Err e) (inr (same, breaks)) =
     rw same (p, is, within, breaks_why p settings.neighbours (plan ≡ None) (¬ IsServedAlone p) s s' c c' why breaks)
-
--- a run's fault comes before the first write
-pub refused : (text : List ℕ) (settings : Settings) (p : Problem) (s c : Held) → IsInstance text p → (fault : RunFault) (told : SolveFault)
-    → RefusesSettings settings fault → IsFaultOfRun fault told
-    → Solves text settings s s c c (Err told)
-refused text settings p s c is run.Memory told within same = rw same (refl, refl)
-refused text settings p s c is run.BadSettings told outside same = rw same ((p, is), outside, refl, refl)
-refused text settings p s c is run.LabelLimit told within same = rw same ((p, is), within, refl, refl)
-refused text settings p s c is run.NoThread told within same = rw same ((p, is), within, refl, refl)
 
 -- ---- a closing
 

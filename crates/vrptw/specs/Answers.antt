@@ -1,5 +1,5 @@
 -- What the solver answers, and what both sinks hold then.
-use Rattle.std.specs.Prelude.{◌≡◌, ◌≢◌, ℕ, ◌+◌, ◌<◌, ◌≤◌, List, Option, Result, Ok, Err, ◌⊎◌}
+use Rattle.std.specs.Prelude.{◌≡◌, ◌≢◌, ℕ, ◌+◌, ◌≤◌, List, Result, Ok, Err, ◌⊎◌}
 use Rattle.tenths.specs.Sink.{Held, Takes, Fails}
 use Rattle.solomon_reader.specs.Words.{words}
 use Rattle.solomon_reader.specs.Problem.{Problem}

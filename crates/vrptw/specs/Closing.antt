@@ -1,5 +1,5 @@
 -- What the closing of an instance answers, and what both sinks hold then.
-use Rattle.std.specs.Prelude.{◌≡◌, ◌≢◌, ℕ, ◌+◌, ◌<◌, ◌≤◌, List, Option, Result, Ok, Err}
+use Rattle.std.specs.Prelude.{◌≡◌, ◌≢◌, ℕ, ◌<◌, ◌≤◌, List, Option, Result, Ok, Err}
 use Rattle.tenths.specs.Sink.{Held}
 use Rattle.solomon_reader.specs.Words.{words}
 use Rattle.solomon_reader.specs.Problem.{Problem, customer_count}

@@ -1,5 +1,2 @@
-pub mod TreeChanges
 pub mod KeptRoutes
 pub mod AppliedMoves
-pub mod KeptNumbers
-pub mod PlanCosts

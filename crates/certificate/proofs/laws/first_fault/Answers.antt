@@ -1,4 +1,4 @@
-use Rattle.certificate.proofs.FaultsStay.{reading_stays}
+use Rattle.certificate.proofs.Loops.{reading_stays}
 use Rattle.certificate.proofs.laws.first_fault.Goals as goal
 
 pub returns : goal.returns

@@ -3,7 +3,7 @@ use Rattle.std.specs.List.{flat_map}
 use Rattle.tenths.specs.Text.{tenths_text, line}
 use Rattle.solomon_reader.specs.CertificateText.{first_line}
 use Rattle.certificate.specs.Text.{version_of, content_of, name_lines}
-use Rattle.certificate.proofs.Spelling.{head_parts}
+use Rattle.certificate.proofs.Again.{head_parts}
 use Rattle.tenths.proofs.Writes.{writes_err, writes_then, takes_then, fails_then, fails_first}
 use Rattle.certificate.proofs.writing.write_head.Goals as goal
 

@@ -3,7 +3,7 @@ use Rattle.std.proofs.Common.{ap}
 use Rattle.std.specs.Prelude.{option_map}
 use Rattle.sol_writer.specs.Text.{view}
 use Rattle.solomon_reader.specs.CertificateText.{Content}
-use Rattle.checker.proofs.Composing.{bound_refused, lent, judged}
+use Rattle.checker.proofs.Verdicts.{bound_refused, lent, judged}
 use Rattle.checker.proofs.checking.check_texts.Goals as goal
 
 pub returns-in_err-check_bound : goal.returns-in_err-check_bound

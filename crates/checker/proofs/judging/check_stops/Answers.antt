@@ -8,7 +8,7 @@ use Rattle.solomon_reader.specs.Plan.{count_of, load_of}
 use Rattle.solomon_reader.specs.PlanDefects.{stops}
 use Rattle.std.specs.List.{Any}
 use Rattle.solomon_reader.proofs.Planning.{Any-map, after_empty, after_twice, after_missing}
-use Rattle.checker.proofs.Refusing.{twice_refused, at_most_once}
+use Rattle.checker.proofs.Verdicts.{twice_refused, at_most_once}
 use Rattle.checker.proofs.judging.check_stops.Goals as goal
 
 pub returns-then-not-know_stops-clause-refused : goal.returns-then-not-know_stops-clause-refused

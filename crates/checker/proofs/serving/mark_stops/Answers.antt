@@ -1,5 +1,5 @@
 use Rattle.std.proofs.Common.{refl}
-use Rattle.solomon_reader.proofs.Stops.{stands_again}
+use Rattle.solomon_reader.proofs.StepLemmas.{stands_again}
 use Rattle.checker.proofs.serving.mark_stops.Goals as goal
 
 pub returns-then-not-mark-clause-marked : goal.returns-then-not-mark-clause-marked

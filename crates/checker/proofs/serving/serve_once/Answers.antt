@@ -1,5 +1,5 @@
 use Rattle.std.proofs.Common.{◌∙◌}
-use Rattle.solomon_reader.proofs.Stops.{stops_more, twice_in_all}
+use Rattle.solomon_reader.proofs.StepLemmas.{stops_more, twice_in_all}
 use Rattle.checker.proofs.serving.serve_once.Goals as goal
 
 pub returns-then-not-mark_stops-clause-refused : goal.returns-then-not-mark_stops-clause-refused

@@ -1,5 +1,5 @@
 use Rattle.std.proofs.Common.{◌≡◌, ◌∷◌, [], ◌++◌, arith, length-append, ap, ◌∙◌}
-use Rattle.closing.proofs.Following.{followed_start, followed_more, ended, stuck, too_long}
+use Rattle.closing.proofs.Obeying.{followed_start, followed_more, ended, stuck, too_long}
 use Rattle.closing.proofs.chain.follow.Goals as goal
 
 pub loop-step-init : goal.loop-step-init

@@ -1,4 +1,4 @@
-use Rattle.closing.proofs.LeafValues.{settled_value, settled_plans}
+use Rattle.closing.proofs.Settles.{settled_value, settled_plans}
 use Rattle.closing.proofs.leaf.settled_leaf.Goals as goal
 
 pub returns-in-Ok-clause-value : goal.returns-in-Ok-clause-value

@@ -1,8 +1,7 @@
 use Rattle.std.proofs.Common.{arith}
 use Rattle.std.proofs.Math.ListN.{length-map}
 use Rattle.closing.proofs.Obeying.{served_obeys}
-use Rattle.closing.proofs.Once.{gathered_plan}
-use Rattle.closing.proofs.Settles.{in_range, raised_range, too_many, planned, unserved_above}
+use Rattle.closing.proofs.Settles.{gathered_plan, in_range, raised_range, too_many, planned, unserved_above}
 use Rattle.closing.proofs.settling.settle.Goals as goal
 
 pub returns-then-len-from-clause-settling : goal.returns-then-len-from-clause-settling

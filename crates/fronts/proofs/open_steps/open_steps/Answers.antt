@@ -1,7 +1,7 @@
 use Rattle.std.proofs.Common.{arith}
 use Rattle.fronts.specs.Steps.{IsOpenList}
-use Rattle.fronts.proofs.Opening.{open_list}
-use Rattle.fronts.proofs.Tabled.{table_more}
+use Rattle.fronts.proofs.Stepping.{open_list}
+use Rattle.fronts.proofs.Listed.{table_more}
 use Rattle.fronts.proofs.open_steps.open_steps.Goals as goal
 
 pub loop-v-preserved : goal.loop-v-preserved

@@ -6,7 +6,7 @@ use Rattle.solomon_reader.specs.States.{IsPriced}
 use Rattle.fronts.specs.Steps.{blank, AreStepsFrom}
 use Rattle.fronts.specs.declared.nearness.Nearness.{Nearness}
 use Rattle.fronts.specs.declared.step.Step.{Step}
-use Rattle.fronts.proofs.Opening.{step_at_price, opened_same, opened_more, opened_all}
+use Rattle.fronts.proofs.Stepping.{step_at_price, opened_same, opened_more, opened_all}
 use Rattle.fronts.proofs.open_steps.open_steps_from.Goals as goal
 use Rattle.fronts.proofs.open_steps.open_steps_from.Goals.{then-contains+in_ok-push, else-contains}
 

@@ -1,7 +1,7 @@
 use Rattle.std.specs.Prelude.{IsTrue}
 use Rattle.std.specs.FinSet.{contains}
 use Rattle.solomon_reader.specs.Relaxed.{price_of}
-use Rattle.fronts.proofs.Opening.{IsOpened}
+use Rattle.fronts.proofs.Stepping.{IsOpened}
 use Rattle.fronts.proofs.open_steps.open_steps_from.Given as goal
 
 abbrev pub invariant-loop-step : goal.invariant-loop-step

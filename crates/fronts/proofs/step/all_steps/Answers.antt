@@ -1,5 +1,5 @@
 use Rattle.fronts.specs.Steps.{IsStepList}
-use Rattle.fronts.proofs.Tabled.{table_more}
+use Rattle.fronts.proofs.Listed.{table_more}
 use Rattle.fronts.proofs.step.all_steps.Goals as goal
 
 pub loop-v-preserved : goal.loop-v-preserved

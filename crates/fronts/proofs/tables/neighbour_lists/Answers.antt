@@ -1,5 +1,5 @@
 use Rattle.fronts.specs.Memories.{IsWholeList}
-use Rattle.fronts.proofs.Tabled.{table_more}
+use Rattle.fronts.proofs.Listed.{table_more}
 use Rattle.fronts.proofs.tables.neighbour_lists.Goals as goal
 
 pub loop-v-preserved : goal.loop-v-preserved

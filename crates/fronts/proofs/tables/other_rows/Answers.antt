@@ -1,6 +1,6 @@
 use Rattle.solomon_reader.specs.Problem.{customer_count}
 use Rattle.fronts.specs.Tables.{IsOther}
-use Rattle.fronts.proofs.Tabled.{table_more}
+use Rattle.fronts.proofs.Listed.{table_more}
 use Rattle.fronts.proofs.Narrowing.{other_is}
 use Rattle.fronts.proofs.tables.other_rows.Goals as goal
 

@@ -2,7 +2,7 @@ use Rattle.std.proofs.Common.{◌≡◌, subst, sym, arith, rules, to_z, of_z, w
 use Rattle.std.proofs.lemmas.Int.{ints}
 use Rattle.std.specs.Prelude.{Some}
 use Rattle.gains.specs.Gains.{IsNoBetter}
-use Rattle.gains.proofs.Founds.{lower_of, higher_of}
+use Rattle.gains.proofs.GainSearching.{lower_of, higher_of}
 use Rattle.gains.proofs.found.better.Goals as goal
 
 pub returns-then-is_better-clause-one : goal.returns-then-is_better-clause-one

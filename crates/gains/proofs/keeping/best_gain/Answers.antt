@@ -1,7 +1,7 @@
 use Rattle.std.proofs.Common.{◌≤◌, length, arith}
 use Rattle.segments.specs.PlanTrees.{problem_of}
 use Rattle.moves.specs.Trees.{visits_of}
-use Rattle.gains.proofs.RowSearching.{rows_end}
+use Rattle.gains.proofs.GainSearching.{rows_end}
 use Rattle.gains.proofs.keeping.best_gain.Goals as goal
 
 pub returns-clause-best : goal.returns-clause-best

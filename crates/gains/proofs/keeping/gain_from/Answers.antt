@@ -1,5 +1,5 @@
 use Rattle.gains.specs.Gapped.{instance_in, visits_in}
-use Rattle.gains.proofs.RowSearching.{row_next}
+use Rattle.gains.proofs.GainSearching.{row_next}
 use Rattle.gains.proofs.keeping.gain_from.Goals as goal
 
 pub loop-second-preserved : goal.loop-second-preserved

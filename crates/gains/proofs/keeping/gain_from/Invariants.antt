@@ -1,6 +1,6 @@
 use Rattle.gains.specs.Gapped.{instance_in, visits_in}
 use Rattle.gains.specs.Kept.{AreKept}
-use Rattle.gains.proofs.RowSearching.{SearchesRow}
+use Rattle.gains.proofs.GainSearching.{SearchesRow}
 use Rattle.gains.proofs.keeping.gain_from.Given as goal
 
 abbrev pub invariant-loop-second : goal.invariant-loop-second

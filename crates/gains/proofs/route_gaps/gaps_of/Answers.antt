@@ -5,7 +5,7 @@ use Rattle.segments.specs.PlanTrees.{problem_of}
 use Rattle.gains.specs.declared.route_gaps.Gap.{Gap}
 use Rattle.gains.specs.Gaps.{IsGap}
 use Rattle.gains.proofs.CutStops.{first_dropped}
-use Rattle.gains.proofs.GapRows.{gaps_next}
+use Rattle.gains.proofs.Timeliness.{gaps_next}
 use Rattle.gains.proofs.route_gaps.gaps_of.Goals as goal
 
 pub loop-position-preserved : goal.loop-position-preserved

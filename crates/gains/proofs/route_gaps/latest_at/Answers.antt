@@ -4,8 +4,8 @@ use Rattle.std.proofs.lemmas.Int.{ints}
 use Rattle.segments.specs.PlanTrees.{routes_of}
 use Rattle.solomon_reader.specs.Moves.{route}
 use Rattle.moves.specs.Trees.{visits_of}
-use Rattle.moves.proofs.RouteLengths.{same_count}
-use Rattle.gains.proofs.GapRows.{back_is}
+use Rattle.moves.proofs.JoinedStops.{same_count}
+use Rattle.gains.proofs.Timeliness.{back_is}
 use Rattle.gains.proofs.route_gaps.latest_at.Goals as goal
 
 pub returns-in-Some : goal.returns-in-Some

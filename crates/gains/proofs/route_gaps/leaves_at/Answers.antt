@@ -1,7 +1,7 @@
 use Rattle.std.proofs.Common.{◌≡◌, sym, ◌∙◌, arith, to_z, of_z, w64}
 use Rattle.std.specs.Prelude.{Some}
 use Rattle.std.proofs.lemmas.Int.{ints}
-use Rattle.gains.proofs.GapRows.{front_is}
+use Rattle.gains.proofs.Timeliness.{front_is}
 use Rattle.gains.proofs.route_gaps.leaves_at.Goals as goal
 
 pub returns-in-Some : goal.returns-in-Some

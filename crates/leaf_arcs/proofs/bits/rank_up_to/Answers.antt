@@ -1,6 +1,6 @@
 use Rattle.std.proofs.Common.{arith, sym, ◌∙◌}
 use Rattle.solomon_reader.specs.Remembering.{ahead}
-use Rattle.solomon_reader.proofs.Ranks.{counted_yes, counted_no, ranked_far, ranked_whole}
+use Rattle.solomon_reader.proofs.Places.{counted_yes, counted_no, ranked_far, ranked_whole}
 use Rattle.leaf_arcs.proofs.bits.rank_up_to.Goals as goal
 use Rattle.leaf_arcs.proofs.bits.rank_up_to.Goals.{then-is_ahead, else-is_ahead}
 

@@ -13,7 +13,8 @@ loop-arc-preserved c =
             ∙ so_far.place.from;
         loaded = c.in_ok-join_step.ensures.place.loaded ∙ so_far.place.loaded;
       };
-      steps = steps_next _ c.args.start.now.row c.args.start.now.from c.args.start.now.loaded c.args.arcs.now.arcs.items c.loop-arc.arc-index c.loop-arc.floor joined.0 c.join_step.new.floor so_far.steps
+      steps = steps_next _ c.args.start.now.row c.args.start.now.from c.args.start.now.loaded c.args.arcs.now.arcs.items c.loop-arc.arc-index
+          c.loop-arc.floor joined.0 c.join_step.new.floor so_far.steps
           (rw (so_far.place.row, so_far.place.from, so_far.place.loaded, c.as_slice-arc-items.ensures.value) at joined.1.0) (rw c.as_slice-arc-items.ensures.value at joined.1.1);
     }
 

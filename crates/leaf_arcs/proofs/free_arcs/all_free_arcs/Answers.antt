@@ -2,7 +2,7 @@ use Rattle.std.proofs.Common.{ℕ, Vec}
 use Rattle.std.specs.declared.alloc.Global.{Global}
 use Rattle.leaf_arcs.specs.declared.arcs.AllowedArc.{AllowedArc}
 use Rattle.leaf_arcs.specs.Arcs.{AreAllowedArcs, free_pricing}
-use Rattle.leaf_arcs.proofs.Listing.{each_more}
+use Rattle.leaf_arcs.proofs.Flooring.{each_more}
 use Rattle.leaf_arcs.proofs.free_arcs.all_free_arcs.Goals as goal
 
 pub loop-v-preserved : goal.loop-v-preserved

@@ -2,8 +2,7 @@ use Rattle.std.proofs.Common.{◌≡◌, ◌≢◌, ◌+◌, ◌<◌, arith, inl
 use Rattle.std.proofs.lemmas.Bool.{cases_lt}
 use Rattle.solomon_reader.specs.Problem.{customer_count}
 use Rattle.leaf_arcs.specs.Arcs.{IsInTime}
-use Rattle.leaf_arcs.proofs.Deciding.{root_allows}
-use Rattle.leaf_arcs.proofs.Leading.{found_none, found_yes, found_no, found_all}
+use Rattle.leaf_arcs.proofs.Deciding.{root_allows, found_none, found_yes, found_no, found_all}
 use Rattle.leaf_arcs.proofs.free_arcs.free_arcs.Goals as goal
 use Rattle.leaf_arcs.proofs.free_arcs.free_arcs.Goals.{then-j-v+then-arrival-due+in_ok-push, else-j-v, else-j-v-via-then-j-v+else-arrival-due, else-j-v-via-else-j-v}
 

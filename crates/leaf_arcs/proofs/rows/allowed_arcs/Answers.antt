@@ -3,8 +3,7 @@ use Rattle.std.proofs.lemmas.Bool.{cases_lt, both_ways}
 use Rattle.solomon_reader.specs.Problem.{customer_count}
 use Rattle.leaf_arcs.specs.Arcs.{arc_in}
 use Rattle.leaf_arcs.specs.Leaves.{problem_of}
-use Rattle.leaf_arcs.proofs.Deciding.{allowed_arc, root_allows}
-use Rattle.leaf_arcs.proofs.Leading.{Passed, found_none, found_yes, found_no, found_all, leads_index}
+use Rattle.leaf_arcs.proofs.Deciding.{allowed_arc, root_allows, Passed, found_none, found_yes, found_no, found_all, leads_index}
 use Rattle.leaf_arcs.proofs.rows.allowed_arcs.Goals as goal
 use Rattle.leaf_arcs.proofs.rows.allowed_arcs.Goals.{then-allowed-arc+in_ok-push, else-allowed-arc}
 

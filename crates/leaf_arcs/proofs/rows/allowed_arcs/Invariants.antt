@@ -1,5 +1,5 @@
 use Rattle.leaf_arcs.specs.Leaves.{pricing_of}
-use Rattle.leaf_arcs.proofs.Leading.{AreFound, Passed}
+use Rattle.leaf_arcs.proofs.Deciding.{AreFound, Passed}
 use Rattle.leaf_arcs.proofs.rows.allowed_arcs.Given as goal
 
 abbrev pub invariant-loop-arc : goal.invariant-loop-arc

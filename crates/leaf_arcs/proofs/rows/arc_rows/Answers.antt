@@ -1,6 +1,6 @@
 use Rattle.leaf_arcs.specs.Arcs.{IsArcRow}
 use Rattle.leaf_arcs.specs.Leaves.{pricing_of}
-use Rattle.leaf_arcs.proofs.Listing.{each_more}
+use Rattle.leaf_arcs.proofs.Flooring.{each_more}
 use Rattle.leaf_arcs.proofs.rows.arc_rows.Goals as goal
 
 pub loop-v-preserved : goal.loop-v-preserved

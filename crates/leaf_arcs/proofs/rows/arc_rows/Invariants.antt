@@ -1,6 +1,6 @@
 use Rattle.leaf_arcs.specs.Arcs.{IsArcRow}
 use Rattle.leaf_arcs.specs.Leaves.{pricing_of}
-use Rattle.leaf_arcs.proofs.Listing.{Each}
+use Rattle.leaf_arcs.proofs.Flooring.{Each}
 use Rattle.leaf_arcs.proofs.rows.arc_rows.Given as goal
 
 abbrev pub invariant-loop-v : goal.invariant-loop-v

@@ -6,8 +6,7 @@ use Rattle.moves.specs.declared.candidate.Move.{Move}
 use Rattle.moves.specs.declared.candidate.Kind.{Kind}
 use Rattle.moves.specs.Trees.{visits_of}
 use Rattle.moves.specs.Search.{IsBestInRange}
-use Rattle.moves.proofs.RoutePieces.{as_many, at_place}
-use Rattle.moves.proofs.Searching.{neighbours, at_last}
+use Rattle.moves.proofs.Searching.{as_many, at_place, neighbours, at_last}
 use Rattle.moves.proofs.parallel.best_parallel.Goals as goal
 
 -- the best of the moves of a kind with the first route a

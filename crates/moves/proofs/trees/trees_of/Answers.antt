@@ -1,4 +1,4 @@
-use Rattle.moves.proofs.PlanStops.{visits_are, are_of_plan}
+use Rattle.moves.proofs.JoinedStops.{visits_are, are_of_plan}
 use Rattle.moves.proofs.trees.trees_of.Goals as goal
 
 pub returns-clause-routes : goal.returns-clause-routes

@@ -4,7 +4,7 @@ use Rattle.solomon_reader.specs.Bound.{IsRoundedUp}
 use Rattle.solomon_reader.specs.Relaxed.{int_sum}
 use Rattle.prices.specs.ValuedPrices.{or_zero}
 use Rattle.prices.proofs.LeastCosts.{least_above, least_below, least_or_zero}
-use Rattle.prices.proofs.Values.{grains_are}
+use Rattle.solomon_reader.proofs.Grains.{grains_are}
 use Rattle.prices.proofs.priced.evaluate.Goals as goal
 
 pub value_of-value-requires-clause-least_above : goal.value_of-value-requires-clause-least_above

@@ -5,8 +5,8 @@ use Rattle.std.proofs.lemmas.Int.{ints, to_z-of_z, fits_signed_from_abs}
 use Rattle.std.proofs.lemmas.List.{at_drop_more}
 use Rattle.solomon_reader.specs.Relaxed.{int_sum}
 use Rattle.solomon_reader.specs.CertificateText.{IsPrice}
-use Rattle.prices.proofs.Ranges.{all_at}
-use Rattle.prices.proofs.Values.{abs_above, abs_below}
+use Rattle.solomon_reader.proofs.Grains.{abs_above, abs_below}
+use Rattle.prices.proofs.Values.{all_at}
 use Rattle.prices.proofs.valuing.sum_of.Goals as goal
 use Rattle.prices.proofs.valuing.sum_of.Goals.{then-price-lt0, else-price-lt0}
 

@@ -1,5 +1,5 @@
 use Rattle.std.proofs.Common.{refl}
-use Rattle.solomon_reader.proofs.Stops.{stands_again}
+use Rattle.solomon_reader.proofs.StepLemmas.{stands_again}
 use Rattle.schedule.proofs.marks.mark_route.Goals as goal
 
 pub returns-then-not-insert-clause-again : goal.returns-then-not-insert-clause-again

@@ -1,5 +1,5 @@
 use Rattle.std.proofs.Common.{refl}
-use Rattle.solomon_reader.proofs.Stops.{stops_more, twice_in_all}
+use Rattle.solomon_reader.proofs.StepLemmas.{stops_more, twice_in_all}
 use Rattle.schedule.proofs.marks.marks_of.Goals as goal
 
 pub returns-then-not-mark_route-clause-twice : goal.returns-then-not-mark_route-clause-twice

@@ -2,7 +2,7 @@ use Rattle.std.proofs.Common.{◌≡◌, ◌+◌, ◌<◌, length, take, get_or,
 use Rattle.std.specs.Prelude.{Some}
 use Rattle.segments.specs.Linked.{chain, both}
 use Rattle.segments.specs.Chains.{chain-more}
-use Rattle.segments.proofs.EndJoins.{one_pushed, first_alone}
+use Rattle.segments.proofs.JoinedLists.{one_pushed, first_alone}
 use Rattle.segments.proofs.ends.joins_from_left.Goals as goal
 use Rattle.segments.proofs.ends.joins_from_left.Goals.{then-i-eq0, else-i-eq0}
 

@@ -2,7 +2,7 @@ use Rattle.std.proofs.Common.{◌≡◌, ◌+◌, ◌-◌, ◌<◌, length, drop
 use Rattle.std.specs.Prelude.{Some}
 use Rattle.segments.specs.Linked.{chain, both}
 use Rattle.segments.specs.Chains.{chain-earlier}
-use Rattle.segments.proofs.EndJoins.{one_pushed, last_alone}
+use Rattle.segments.proofs.JoinedLists.{one_pushed, last_alone}
 use Rattle.segments.proofs.ends.joins_from_right.Goals as goal
 use Rattle.segments.proofs.ends.joins_from_right.Goals.{then-count-eq0, else-count-eq0}
 

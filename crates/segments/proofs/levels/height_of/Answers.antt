@@ -1,6 +1,6 @@
 use Rattle.std.proofs.Common.{◌-◌, ◌^◌, ◌<◌, arith}
 use Rattle.std.proofs.lemmas.Nat.{leading_length}
-use Rattle.segments.proofs.Heights.{height-met}
+use Rattle.segments.proofs.TreeLevels.{height-met}
 use Rattle.segments.proofs.levels.height_of.Goals as goal
 
 pub returns-clause-height : goal.returns-clause-height

@@ -1,5 +1,5 @@
 use Rattle.std.proofs.Common.{refl, ◌*◌, ap, ◌∙◌, arith, add-one, get_or}
-use Rattle.segments.proofs.Pairs.{pairs-more, pairs-last}
+use Rattle.segments.proofs.TreeLevels.{pairs-more, pairs-last}
 use Rattle.segments.proofs.levels.join_pair.Goals as goal
 
 pub returns-then-i-count : goal.returns-then-i-count

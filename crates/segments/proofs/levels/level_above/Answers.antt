@@ -1,7 +1,7 @@
 use Rattle.std.proofs.Common.{◌≤◌, length, ◌∙◌, arith}
 use Rattle.std.proofs.lemmas.List.{take_all}
 use Rattle.segments.specs.Levels.{pairs}
-use Rattle.segments.proofs.Pairs.{length-pairs}
+use Rattle.segments.proofs.TreeLevels.{length-pairs}
 use Rattle.segments.proofs.levels.level_above.Goals as goal
 
 pub returns : goal.returns

@@ -1,4 +1,4 @@
-use Rattle.sol_writer.proofs.FaultsStay.{reading_stays}
+use Rattle.sol_writer.proofs.Loops.{reading_stays}
 use Rattle.sol_writer.proofs.laws.first_fault.Goals as goal
 
 pub returns : goal.returns

@@ -1,8 +1,7 @@
 use Rattle.std.proofs.Common.{subst}
 use Rattle.sol_writer.specs.Reading.{Gives}
 use Rattle.sol_writer.specs.Text.{view}
-use Rattle.sol_writer.proofs.Spelling.{read_found}
-use Rattle.sol_writer.proofs.Again.{reading_again}
+use Rattle.sol_writer.proofs.Again.{read_found, reading_again}
 use Rattle.sol_writer.proofs.reading.read.Goals as goal
 
 pub returns-clause-found : goal.returns-clause-found

@@ -1,4 +1,4 @@
-use Rattle.tenths.proofs.Points.{one_text_each}
+use Rattle.tenths.proofs.Digits.{one_text_each}
 use Rattle.tenths.proofs.laws.one_text_each.Goals as goal
 
 pub returns : goal.returns

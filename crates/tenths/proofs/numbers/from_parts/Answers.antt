@@ -1,4 +1,4 @@
-use Rattle.tenths.proofs.Points.{from_parts_is}
+use Rattle.tenths.proofs.Digits.{from_parts_is}
 use Rattle.tenths.proofs.numbers.from_parts.Goals as goal
 
 pub returns : goal.returns

@@ -1,4 +1,4 @@
-use Rattle.tenths.proofs.Points.{tenths_told}
+use Rattle.tenths.proofs.Digits.{tenths_told}
 use Rattle.tenths.proofs.numbers.read_tenths.Goals as goal
 
 pub returns-clause-told : goal.returns-clause-told

@@ -1,4 +1,4 @@
-use Rattle.tenths.proofs.Signs.{signed_told}
+use Rattle.tenths.proofs.Digits.{signed_told}
 use Rattle.tenths.proofs.numbers.signed.Goals as goal
 
 pub returns-clause-told : goal.returns-clause-told

@@ -1,5 +1,5 @@
 use Rattle.std.proofs.Common.{arith}
-use Rattle.tree_bound.proofs.Buckets.{thinned_through}
+use Rattle.tree_bound.proofs.Working.{thinned_through}
 use Rattle.tree_bound.proofs.bucket.drop_from.Goals as goal
 use Rattle.tree_bound.proofs.bucket.drop_from.Goals.{then-not-is_subset, else-not-is_subset+then-drop_at, else-not-is_subset+else-drop_at}
 

@@ -1,5 +1,5 @@
 use Rattle.std.proofs.Common.{arith}
-use Rattle.tree_bound.proofs.Buckets.{put_within}
+use Rattle.tree_bound.proofs.Working.{put_within}
 use Rattle.tree_bound.proofs.bucket.put_at.Goals as goal
 
 pub returns-clause-put : goal.returns-clause-put

@@ -3,8 +3,7 @@ use Rattle.leaf_arcs.specs.declared.arcs.AllowedArc.{AllowedArc}
 use Rattle.leaf_arcs.specs.Arcs.{arc_in, AreAllowedArcs, IsArcRow}
 use Rattle.leaf_arcs.specs.Leaves.{pricing_of}
 use Rattle.tree_bound.specs.Labels.{IsLabel}
-use Rattle.tree_bound.proofs.Stepping.{label_extended}
-use Rattle.tree_bound.proofs.Working.{found_closed}
+use Rattle.tree_bound.proofs.Working.{label_extended, found_closed}
 use Rattle.tree_bound.proofs.dive.dive.Goals as goal
 
 pub loop-stop-preserved : goal.loop-stop-preserved

@@ -1,7 +1,7 @@
 use Rattle.std.proofs.Common.{◌+◌, arith}
-use Rattle.solomon_reader.proofs.Goodness.{good_same}
+use Rattle.solomon_reader.proofs.Completions.{good_same}
 use Rattle.tree_bound.proofs.Covering.{dear_good}
-use Rattle.tree_bound.proofs.Stepping.{step_yes, step_dear}
+use Rattle.tree_bound.proofs.Working.{step_yes, step_dear}
 use Rattle.tree_bound.proofs.steps.take_step.Goals as goal
 
 pub returns : goal.returns

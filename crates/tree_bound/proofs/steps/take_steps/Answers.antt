@@ -1,4 +1,4 @@
-use Rattle.tree_bound.proofs.Stepping.{steps_more}
+use Rattle.tree_bound.proofs.Working.{steps_more}
 use Rattle.tree_bound.proofs.steps.take_steps.Goals as goal
 
 pub loop-arc-preserved : goal.loop-arc-preserved

@@ -4,7 +4,7 @@ use Rattle.std.specs.Prelude.{pos, ◌≤ℤ◌, ◌<ℤ◌, nat_abs}
 use Rattle.std.proofs.lemmas.Int.{ints, to_z-of_z, fits_signed_from_abs}
 use Rattle.std.proofs.lemmas.List.{at_drop_more}
 use Rattle.solomon_reader.specs.Relaxed.{int_sum}
-use Rattle.tree_bound.proofs.Valuing.{price_small, abs_above, abs_below}
+use Rattle.solomon_reader.proofs.Grains.{price_small, abs_above, abs_below}
 use Rattle.tree_bound.proofs.value.sum_of.Goals as goal
 use Rattle.tree_bound.proofs.value.sum_of.Goals.{then-price-lt0, else-price-lt0}
 

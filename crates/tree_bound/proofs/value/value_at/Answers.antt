@@ -3,7 +3,7 @@ use Rattle.std.specs.Prelude.{ℤ}
 use Rattle.solomon_reader.specs.Bound.{IsRoundedUp}
 use Rattle.solomon_reader.specs.Relaxed.{int_sum}
 use Rattle.tree_bound.specs.Cover.{or_zero}
-use Rattle.tree_bound.proofs.Valuing.{grains_are}
+use Rattle.solomon_reader.proofs.Grains.{grains_are}
 use Rattle.tree_bound.proofs.value.value_at.Goals as goal
 
 pub returns : goal.returns

@@ -1,5 +1,5 @@
 use Rattle.solomon_reader.specs.CertificateText.{leaf_count}
-use Rattle.vrptw.proofs.OutcomeTrees.{few_neighbours, outcome_tree, own_plan}
+use Rattle.vrptw.proofs.TreeTexts.{few_neighbours, outcome_tree, own_plan}
 use Rattle.vrptw.proofs.found.found_by.Goals as goal
 
 pub returns-clause-found : goal.returns-clause-found

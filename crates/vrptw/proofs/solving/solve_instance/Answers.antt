@@ -1,5 +1,4 @@
-use Rattle.vrptw.proofs.Answering.{solved}
-use Rattle.vrptw.proofs.Cheaper.{cheaper_none}
+use Rattle.vrptw.proofs.Answering.{solved, cheaper_none}
 use Rattle.vrptw.proofs.solving.solve_instance.Goals as goal
 
 -- where neither the run nor the start has a plan, not every customer can be served alone

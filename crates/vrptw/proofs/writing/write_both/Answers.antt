@@ -1,7 +1,7 @@
 use Rattle.std.proofs.Common.{◌<◌, refl, ap}
 use Rattle.solomon_reader.specs.Bound.{ceiling_of}
 use Rattle.solomon_reader.specs.CertificateText.{Content}
-use Rattle.vrptw.proofs.BoundTexts.{no_plan}
+use Rattle.vrptw.proofs.TreeTexts.{no_plan}
 use Rattle.vrptw.proofs.writing.write_both.Goals as goal
 
 pub returns-then-get : goal.returns-then-get

@@ -1,6 +1,6 @@
 use Rattle.std.proofs.Common.{refl}
 use Rattle.solomon_reader.specs.CertificateText.{certificate_text}
-use Rattle.vrptw.proofs.BoundTexts.{bound_text}
+use Rattle.vrptw.proofs.TreeTexts.{bound_text}
 use Rattle.vrptw.proofs.writing.write_bound.Goals as goal
 
 pub returns-in-Ok : goal.returns-in-Ok

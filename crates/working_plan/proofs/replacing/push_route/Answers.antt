@@ -1,5 +1,5 @@
 use Rattle.solomon_reader.specs.Lists.{lists}
-use Rattle.working_plan.proofs.TreeChanges.{lists-push, one_pushed}
+use Rattle.working_plan.proofs.AppliedMoves.{lists-push, one_pushed}
 use Rattle.working_plan.proofs.replacing.push_route.Goals as goal
 
 pub returns-clause-trees : goal.returns-clause-trees

@@ -1,6 +1,6 @@
 use Rattle.std.proofs.Common.{◌≡◌, ◌<◌, length, ◌∙◌, arith}
 use Rattle.solomon_reader.specs.Lists.{lists}
-use Rattle.working_plan.proofs.TreeChanges.{lists-length}
+use Rattle.working_plan.proofs.AppliedMoves.{lists-length}
 use Rattle.working_plan.proofs.KeptRoutes.{known, pushed, as_they_were}
 use Rattle.working_plan.proofs.replacing.put_or_push.Goals as goal
 

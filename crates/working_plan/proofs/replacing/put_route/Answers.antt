@@ -1,5 +1,5 @@
 use Rattle.solomon_reader.specs.Lists.{lists}
-use Rattle.working_plan.proofs.TreeChanges.{lists-set, one_replaced}
+use Rattle.working_plan.proofs.AppliedMoves.{lists-set, one_replaced}
 use Rattle.working_plan.proofs.replacing.put_route.Goals as goal
 
 pub returns-clause-routes : goal.returns-clause-routes

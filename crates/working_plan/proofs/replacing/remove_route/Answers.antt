@@ -1,5 +1,5 @@
 use Rattle.solomon_reader.specs.Lists.{lists}
-use Rattle.working_plan.proofs.TreeChanges.{lists-remove, one_removed}
+use Rattle.working_plan.proofs.AppliedMoves.{lists-remove, one_removed}
 use Rattle.working_plan.proofs.replacing.remove_route.Goals as goal
 
 pub returns-clause-routes : goal.returns-clause-routes

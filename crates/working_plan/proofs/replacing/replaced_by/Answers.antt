@@ -3,7 +3,7 @@ use Rattle.solomon_reader.specs.Moves.{has_stop}
 use Rattle.segments.specs.PlanTrees.{problem_of}
 use Rattle.moves.specs.Trees.{visits_of}
 use Rattle.moves.specs.Changes.{joined}
-use Rattle.working_plan.proofs.KeptNumbers.{is_replaced}
+use Rattle.working_plan.proofs.KeptRoutes.{is_replaced}
 use Rattle.working_plan.proofs.replacing.replaced_by.Goals as goal
 
 pub returns : goal.returns

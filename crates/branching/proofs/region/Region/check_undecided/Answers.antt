@@ -1,6 +1,6 @@
 use Rattle.std.proofs.Common.{arith, inl, inr, ap}
 use Rattle.solomon_reader.specs.Region.{Region}
-use Rattle.branching.proofs.SameArcs.{lists_holds, lacks_holds}
+use Rattle.branching.proofs.Listed.{lists_holds, lacks_holds}
 use Rattle.branching.proofs.region.Region.check_undecided.Goals as goal
 use Rattle.branching.proofs.region.Region.check_undecided.Goals.{then-contains-via-then-contains, then-contains-via-else-contains+then-contains-2}
 

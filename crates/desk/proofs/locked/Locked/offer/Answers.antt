@@ -1,8 +1,7 @@
 use Rattle.std.proofs.Common.{◌∙◌, ◌≤◌, arith, refl}
 use Rattle.std.proofs.lemmas.Result.{err_from_is_err_and}
 use Rattle.incumbent_book.specs.declared.fault.BookFault.TheVariants.{ForeignInstance}
-use Rattle.desk.proofs.Told.{counted_call, refused_offer, kept_of_plan, best_at_most, cheaper_below}
-use Rattle.desk.proofs.Seen.{after_better, after_kept}
+use Rattle.desk.proofs.Told.{counted_call, refused_offer, kept_of_plan, best_at_most, cheaper_below, after_better, after_kept}
 use Rattle.desk.proofs.locked.Locked.offer.Goals as goal
 
 pub returns-in_err-before : goal.returns-in_err-before

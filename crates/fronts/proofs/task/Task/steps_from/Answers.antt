@@ -1,7 +1,7 @@
 use Rattle.std.specs.FinSet.{contains, empty}
 use Rattle.std.specs.Prelude.{slice_index_or, IsTrue}
 use Rattle.solomon_reader.specs.Region.{IsAllowed}
-use Rattle.fronts.proofs.Opening.{steps_where}
+use Rattle.fronts.proofs.Stepping.{steps_where}
 use Rattle.fronts.proofs.task.Task.steps_from.Goals as goal
 
 pub returns : goal.returns

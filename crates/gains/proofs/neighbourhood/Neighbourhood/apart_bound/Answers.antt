@@ -6,9 +6,8 @@ use Rattle.gains.specs.Gaps.{IsSwapBound, IsEndSwapBound}
 use Rattle.gains.specs.Gains.{IsEndsKind, TakesBetween}
 use Rattle.gains.specs.Searches.{instance_of, plan_of, NoneIsLess}
 use Rattle.gains.proofs.CutStops.{known_cut}
-use Rattle.gains.proofs.EndSwaps.{no_end_is_better}
+use Rattle.gains.proofs.PassedMoves.{no_end_is_better, none_is_better}
 use Rattle.gains.proofs.GainSearching.{with_second}
-use Rattle.gains.proofs.PassedRoutes.{none_is_better}
 use Rattle.gains.proofs.neighbourhood.Neighbourhood.apart_bound.Goals as goal
 
 pub detour_bound-requires-clause-chain : goal.detour_bound-requires-clause-chain

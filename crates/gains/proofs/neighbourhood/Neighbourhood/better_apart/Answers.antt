@@ -6,8 +6,7 @@ use Rattle.gains.specs.Gains.{MayBeBetter, taken_chain, second_taken}
 use Rattle.gains.specs.Searches.{instance_of, plan_of}
 use Rattle.gains.proofs.CutStops.{known_cut}
 use Rattle.gains.proofs.MoveChanges.{second_stands, value_apart}
-use Rattle.gains.proofs.Founds.{no_better_by, same_value}
-use Rattle.gains.proofs.GainSearching.{passes_six}
+use Rattle.gains.proofs.GainSearching.{no_better_by, same_value, passes_six}
 use Rattle.gains.proofs.neighbourhood.Neighbourhood.better_apart.Goals as goal
 
 pub returns-in_default : goal.returns-in_default

@@ -2,8 +2,7 @@ use Rattle.std.proofs.Common.{◌≡◌, ◌∙◌, ap, subst, get_or, to_z, of_
 use Rattle.std.proofs.lemmas.Int.{ints}
 use Rattle.gains.specs.Gains.{IsNoBetter, IsBetter}
 use Rattle.gains.specs.Searches.{instance_of, plan_of, moves_of}
-use Rattle.gains.proofs.Founds.{one_value}
-use Rattle.gains.proofs.GainSearching.{passes_one, takes}
+use Rattle.gains.proofs.GainSearching.{one_value, passes_one, takes}
 use Rattle.gains.proofs.neighbourhood.Neighbourhood.better_gain.Goals as goal
 
 pub returns-in-Some : goal.returns-in-Some

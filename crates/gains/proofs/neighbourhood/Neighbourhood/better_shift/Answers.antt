@@ -3,9 +3,8 @@ use Rattle.std.proofs.lemmas.Int.{ints}
 use Rattle.gains.specs.Gains.{MayBeBetter}
 use Rattle.gains.specs.Searches.{instance_of, plan_of}
 use Rattle.gains.proofs.CutStops.{known_cut}
-use Rattle.gains.proofs.Founds.{no_better_by, same_value}
-use Rattle.gains.proofs.GainSearching.{passes_six}
-use Rattle.gains.proofs.PassedShifts.{shift_change, one_change}
+use Rattle.gains.proofs.GainSearching.{no_better_by, same_value, passes_six}
+use Rattle.gains.proofs.PassedMoves.{shift_change, one_change}
 use Rattle.gains.proofs.neighbourhood.Neighbourhood.better_shift.Goals as goal
 
 pub change_of_shift-requires-clause-cut : goal.change_of_shift-requires-clause-cut

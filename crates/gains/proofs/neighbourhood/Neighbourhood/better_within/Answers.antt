@@ -6,8 +6,7 @@ use Rattle.gains.specs.Cuts.{IsCut, change_apart, change_within}
 use Rattle.gains.specs.Gains.{IsExchangeKind, MayBeBetter, taken_chain, first_taken, second_taken}
 use Rattle.gains.specs.Searches.{instance_of, plan_of}
 use Rattle.gains.proofs.CutStops.{known_cut, some_position}
-use Rattle.gains.proofs.Founds.{no_better_by, same_value}
-use Rattle.gains.proofs.GainSearching.{passes_six}
+use Rattle.gains.proofs.GainSearching.{no_better_by, same_value, passes_six}
 use Rattle.gains.proofs.MoveChanges.{exchanges, value_within, value_between}
 use Rattle.gains.proofs.neighbourhood.Neighbourhood.better_within.Goals.{then-from, else-from}
 use Rattle.gains.proofs.neighbourhood.Neighbourhood.better_within.Goals as goal

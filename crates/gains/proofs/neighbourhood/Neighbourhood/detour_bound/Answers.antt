@@ -6,8 +6,8 @@ use Rattle.gains.specs.Cuts.{change_apart}
 use Rattle.gains.specs.declared.route_gaps.Gap.{Gap}
 use Rattle.gains.specs.Searches.{instance_of, plan_of}
 use Rattle.gains.proofs.CutStops.{known_gap}
-use Rattle.gains.proofs.PassedRoutes.{known_cuts}
-use Rattle.gains.proofs.GapRows.{gap_cut, gap_taken, gap_passed, all_gaps}
+use Rattle.gains.proofs.PassedMoves.{known_cuts}
+use Rattle.gains.proofs.Timeliness.{gap_cut, gap_taken, gap_passed, all_gaps}
 use Rattle.gains.proofs.neighbourhood.Neighbourhood.detour_bound.Goals.{then-is_open, else-is_open}
 use Rattle.gains.proofs.neighbourhood.Neighbourhood.detour_bound.Goals as goal
 

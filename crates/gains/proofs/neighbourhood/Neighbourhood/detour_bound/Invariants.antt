@@ -1,5 +1,5 @@
 use Rattle.gains.specs.Searches.{instance_of}
-use Rattle.gains.proofs.GapRows.{LeastBefore}
+use Rattle.gains.proofs.Timeliness.{LeastBefore}
 use Rattle.gains.proofs.neighbourhood.Neighbourhood.detour_bound.Given as goal
 
 abbrev pub invariant-loop-gap : goal.invariant-loop-gap

@@ -8,7 +8,7 @@ use Rattle.gains.specs.Gaps.{IsGap}
 use Rattle.gains.specs.Searches.{instance_of, plan_of}
 use Rattle.gains.proofs.CutStops.{known_gap}
 use Rattle.gains.proofs.SwapBounds.{low_enough}
-use Rattle.gains.proofs.PassedRoutes.{known_cuts}
+use Rattle.gains.proofs.PassedMoves.{known_cuts}
 use Rattle.gains.proofs.neighbourhood.Neighbourhood.end_swap_bound.Goals.{then-meets, else-meets}
 use Rattle.gains.proofs.neighbourhood.Neighbourhood.end_swap_bound.Goals as goal
 

@@ -1,7 +1,7 @@
 use Rattle.std.proofs.Common.{◌≡◌, arith, rules, to_z, of_z, w64}
 use Rattle.std.proofs.lemmas.Int.{ints}
 use Rattle.gains.specs.Gains.{MayBeBetter}
-use Rattle.gains.proofs.Founds.{no_better_by}
+use Rattle.gains.proofs.GainSearching.{no_better_by}
 use Rattle.gains.proofs.neighbourhood.Neighbourhood.is_no_better.Goals as goal
 
 pub returns-in-Some : goal.returns-in-Some

@@ -7,11 +7,9 @@ use Rattle.moves.specs.Search.{numbers}
 use Rattle.gains.specs.Gains.{MayBeBetter, Starts, taken_chain, first_taken}
 use Rattle.gains.specs.Searches.{instance_of, plan_of}
 use Rattle.gains.proofs.CutStops.{known_cut}
-use Rattle.gains.proofs.Founds.{no_better_by}
-use Rattle.gains.proofs.GainSearching.{with_second}
-use Rattle.gains.proofs.PassedRoutes.{known_cuts}
+use Rattle.gains.proofs.GainSearching.{no_better_by, with_second}
+use Rattle.gains.proofs.PassedMoves.{known_cuts, no_shift_is_better}
 use Rattle.gains.proofs.SwapBounds.{low_enough}
-use Rattle.gains.proofs.PassedShifts.{no_shift_is_better}
 use Rattle.gains.proofs.neighbourhood.Neighbourhood.is_no_better_within.Goals as goal
 
 pub shift_bound-least-requires-clause-chain : goal.shift_bound-least-requires-clause-chain

@@ -8,8 +8,7 @@ use Rattle.gains.specs.declared.route_gaps.Gap.{Gap}
 use Rattle.gains.specs.Gaps.{MayFollow}
 use Rattle.gains.specs.Searches.{instance_of, plan_of}
 use Rattle.gains.proofs.CutStops.{known_gap}
-use Rattle.gains.proofs.EndChanges.{IsLow, so_far_next, low_sum, front_low}
-use Rattle.gains.proofs.PassedRoutes.{known_cuts}
+use Rattle.gains.proofs.PassedMoves.{IsLow, so_far_next, low_sum, front_low, known_cuts}
 use Rattle.gains.proofs.neighbourhood.Neighbourhood.swap_bound.Goals.{then-left-gap, else-left-gap}
 use Rattle.gains.proofs.neighbourhood.Neighbourhood.swap_bound.Goals as goal
 

@@ -1,5 +1,5 @@
 use Rattle.gains.specs.Searches.{instance_of}
-use Rattle.gains.proofs.EndChanges.{LeastSoFar}
+use Rattle.gains.proofs.PassedMoves.{LeastSoFar}
 use Rattle.gains.proofs.neighbourhood.Neighbourhood.swap_bound.Given as goal
 
 abbrev pub invariant-loop-gap : goal.invariant-loop-gap

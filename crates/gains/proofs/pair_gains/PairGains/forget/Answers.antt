@@ -1,4 +1,4 @@
-use Rattle.gains.proofs.KeptChanges.{forgotten}
+use Rattle.gains.proofs.KeptRows.{forgotten}
 use Rattle.gains.proofs.pair_gains.PairGains.forget.Goals as goal
 
 pub returns : goal.returns

@@ -1,5 +1,5 @@
 use Rattle.std.proofs.Common.{rules}
-use Rattle.gains.proofs.KeptChanges.{from_first, from_next, from_last}
+use Rattle.gains.proofs.KeptRows.{from_first, from_next, from_last}
 use Rattle.gains.proofs.pair_gains.PairGains.forget_from.Goals as goal
 
 pub loop-second-init : goal.loop-second-init

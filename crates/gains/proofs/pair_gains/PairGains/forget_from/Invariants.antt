@@ -1,4 +1,4 @@
-use Rattle.gains.proofs.KeptChanges.{ForgottenFrom}
+use Rattle.gains.proofs.KeptRows.{ForgottenFrom}
 use Rattle.gains.proofs.pair_gains.PairGains.forget_from.Given as goal
 
 abbrev pub invariant-loop-second : goal.invariant-loop-second

@@ -1,5 +1,5 @@
 use Rattle.std.proofs.Common.{rules}
-use Rattle.gains.proofs.KeptChanges.{into_first, into_next, into_last}
+use Rattle.gains.proofs.KeptRows.{into_first, into_next, into_last}
 use Rattle.gains.proofs.pair_gains.PairGains.forget_into.Goals as goal
 
 pub loop-first-init : goal.loop-first-init

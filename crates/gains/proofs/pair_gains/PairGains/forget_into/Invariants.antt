@@ -1,4 +1,4 @@
-use Rattle.gains.proofs.KeptChanges.{ForgottenInto}
+use Rattle.gains.proofs.KeptRows.{ForgottenInto}
 use Rattle.gains.proofs.pair_gains.PairGains.forget_into.Given as goal
 
 abbrev pub invariant-loop-first : goal.invariant-loop-first

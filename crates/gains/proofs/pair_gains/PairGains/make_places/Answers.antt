@@ -1,6 +1,5 @@
-use Rattle.std.proofs.Common.{rules}
+use Rattle.std.proofs.Common.{rules, ◌∙◌}
 use Rattle.gains.proofs.KeptRows.{row_kept}
-use Rattle.std.proofs.Common.{◌∙◌}
 use Rattle.gains.proofs.pair_gains.PairGains.make_places.Goals as goal
 
 pub loop-first-preserved : goal.loop-first-preserved

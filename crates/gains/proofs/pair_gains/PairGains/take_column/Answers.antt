@@ -1,5 +1,5 @@
 use Rattle.std.proofs.Common.{refl, rules}
-use Rattle.gains.proofs.KeptChanges.{taken_first, taken_next, taken_last}
+use Rattle.gains.proofs.KeptRows.{taken_first, taken_next, taken_last}
 use Rattle.gains.proofs.pair_gains.PairGains.take_column.Goals as goal
 
 pub loop-first-init : goal.loop-first-init

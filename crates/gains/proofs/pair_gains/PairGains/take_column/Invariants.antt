@@ -1,4 +1,4 @@
-use Rattle.gains.proofs.KeptChanges.{TakenOut}
+use Rattle.gains.proofs.KeptRows.{TakenOut}
 use Rattle.gains.proofs.pair_gains.PairGains.take_column.Given as goal
 
 abbrev pub invariant-loop-first : goal.invariant-loop-first

@@ -1,5 +1,5 @@
 use Rattle.std.proofs.Common.{rules}
-use Rattle.gains.proofs.KeptChanges.{row_out, no_row}
+use Rattle.gains.proofs.KeptRows.{row_out, no_row}
 use Rattle.gains.proofs.pair_gains.PairGains.take_row.Goals as goal
 
 pub returns-then-route-len : goal.returns-then-route-len

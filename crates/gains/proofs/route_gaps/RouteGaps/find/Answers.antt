@@ -3,7 +3,7 @@ use Rattle.std.proofs.lemmas.List.{length_push}
 use Rattle.solomon_reader.specs.Moves.{route}
 use Rattle.segments.specs.PlanTrees.{problem_of}
 use Rattle.moves.specs.Trees.{visits_of}
-use Rattle.gains.proofs.GapRows.{rows_next}
+use Rattle.gains.proofs.Timeliness.{rows_next}
 use Rattle.gains.proofs.route_gaps.RouteGaps.find.Goals as goal
 
 pub loop-number-preserved : goal.loop-number-preserved

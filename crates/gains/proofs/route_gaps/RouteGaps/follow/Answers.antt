@@ -1,5 +1,5 @@
 use Rattle.std.proofs.Common.{◌≤◌, arith}
-use Rattle.gains.proofs.GapRows.{gaps_last}
+use Rattle.gains.proofs.Timeliness.{gaps_last}
 use Rattle.gains.proofs.route_gaps.RouteGaps.follow.Goals as goal
 
 pub returns : goal.returns

@@ -1,7 +1,7 @@
 use Rattle.std.proofs.Common.{refl, arith}
 use Rattle.incumbent_book.specs.declared.fault.BookFault.TheVariants.{ForeignInstance, JournalFull}
 use Rattle.incumbent_book.proofs.Histories.{not-cheaper}
-use Rattle.incumbent_book.proofs.Told.{none_told}
+use Rattle.incumbent_book.proofs.Kept.{none_told}
 use Rattle.incumbent_book.proofs.book.Book.answer.Goals as goal
 
 pub keep-requires-clause-room : goal.keep-requires-clause-room

@@ -1,7 +1,7 @@
 use Rattle.std.proofs.Common.{length}
 use Rattle.solomon_reader.specs.Memories.{HasPlaces}
 use Rattle.leaf_arcs.specs.Memories.{IsNeighbourList}
-use Rattle.leaf_arcs.proofs.Listing.{each_more}
+use Rattle.leaf_arcs.proofs.Flooring.{each_more}
 use Rattle.leaf_arcs.proofs.neighbours.Neighbours.new.Goals as goal
 
 pub loop-v-preserved : goal.loop-v-preserved

@@ -1,6 +1,6 @@
 use Rattle.solomon_reader.specs.Memories.{HasPlaces}
 use Rattle.leaf_arcs.specs.Memories.{IsNeighbourList}
-use Rattle.leaf_arcs.proofs.Listing.{Each}
+use Rattle.leaf_arcs.proofs.Flooring.{Each}
 use Rattle.std.proofs.Common.{length}
 use Rattle.leaf_arcs.proofs.neighbours.Neighbours.new.Given as goal
 

@@ -2,8 +2,7 @@ use Rattle.std.proofs.Common.{◌≡◌, ◌∙◌, ◌<◌, ap, sym, subst, len
 use Rattle.node_pool.specs.declared.law.Known.{Known}
 use Rattle.node_pool.specs.Deques.{Deque, FitsAt, KeepsOthers}
 use Rattle.node_pool.specs.Ends.{deque_of}
-use Rattle.node_pool.proofs.Dealing.{any_default, one_swept}
-use Rattle.node_pool.proofs.Shares.{keeps_others, known_at, taken_more}
+use Rattle.node_pool.proofs.Shares.{any_default, one_swept, keeps_others, known_at, taken_more}
 use Rattle.node_pool.proofs.hand.Hand.take_all_back.Goals as goal
 
 pub loop-pass-preserved : goal.loop-pass-preserved

@@ -2,7 +2,7 @@ use Rattle.std.specs.Prelude.{◌≡◌, ◌+◌, ◌++◌, map, take}
 use Rattle.solomon_reader.specs.DequeLaw.{all_taken}
 use Rattle.node_pool.specs.Deques.{KeepsOthers, taken_by}
 use Rattle.node_pool.specs.Ends.{deque_of, known_to}
-use Rattle.node_pool.proofs.Dealing.{Swept}
+use Rattle.node_pool.proofs.Shares.{Swept}
 use Rattle.node_pool.proofs.hand.Hand.take_all_back.Given as goal
 
 abbrev pub invariant-loop-pass : goal.invariant-loop-pass

@@ -1,8 +1,7 @@
 use Rattle.std.proofs.Common.{◌+◌, ap, ◌∙◌, arith}
 use Rattle.node_pool.specs.declared.law.Known.{Known}
 use Rattle.node_pool.proofs.pass.Pass.new.Invariants.{Gave, Share}
-use Rattle.node_pool.proofs.Dealing.{none_dealt, one_dealt}
-use Rattle.node_pool.proofs.Shares.{all_fresh, long_map}
+use Rattle.node_pool.proofs.Shares.{none_dealt, one_dealt, all_fresh, long_map}
 use Rattle.node_pool.specs.Ends.{deque_of, deques_of}
 use Rattle.node_pool.proofs.pass.Pass.new.Goals as goal
 

@@ -4,7 +4,7 @@ use Rattle.node_pool.specs.Deques.{Deque, IsShareOf, OnePass}
 use Rattle.node_pool.specs.Ends.{deque_of, known_to}
 use Rattle.node_pool.specs.Law.{known}
 use Rattle.node_pool.specs.declared.hand.Hand.{Hand}
-use Rattle.node_pool.proofs.Dealing.{Dealt}
+use Rattle.node_pool.proofs.Shares.{Dealt}
 use Rattle.node_pool.proofs.pass.Pass.new.Given as goal
 
 -- a pass more has a share

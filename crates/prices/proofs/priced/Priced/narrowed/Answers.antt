@@ -1,7 +1,7 @@
 use Rattle.std.proofs.Common.{◌∙◌, subst, sym}
 use Rattle.prices.specs.ValuedPrices.{ValuedPrices}
 use Rattle.prices.specs.Narrowing.{IsNarrower}
-use Rattle.prices.proofs.Narrowed.{narrowed_pricing}
+use Rattle.prices.proofs.LeastCosts.{narrowed_pricing}
 use Rattle.prices.proofs.priced.Priced.narrowed.Goals as goal
 
 pub invariant_of-result : goal.invariant_of-result

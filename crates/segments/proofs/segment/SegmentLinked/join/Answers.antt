@@ -4,7 +4,7 @@ use Rattle.std.proofs.lemmas.Int.{ints}
 use Rattle.solomon_reader.specs.Problem.{customer_count}
 use Rattle.solomon_reader.specs.Distance.{distance}
 use Rattle.solomon_reader.specs.Segments.{capped}
-use Rattle.segments.proofs.JoinedParts.{made, made_bounded}
+use Rattle.segments.proofs.JoinedLists.{made, made_bounded}
 use Rattle.segments.proofs.segment.SegmentLinked.join.Goals as goal
 
 pub invariant_of-result : goal.invariant_of-result

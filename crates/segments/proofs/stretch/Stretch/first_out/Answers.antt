@@ -1,5 +1,5 @@
 use Rattle.std.proofs.Common.{arith}
-use Rattle.segments.proofs.Pairs.{total-first, worth-first}
+use Rattle.segments.proofs.TreeLevels.{total-first, worth-first}
 use Rattle.segments.proofs.stretch.Stretch.first_out.Goals as goal
 
 pub returns-clause-worth : goal.returns-clause-worth

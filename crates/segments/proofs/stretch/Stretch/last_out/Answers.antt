@@ -1,5 +1,5 @@
 use Rattle.std.proofs.Common.{◌-◌, arith}
-use Rattle.segments.proofs.Pairs.{total-last, worth-last}
+use Rattle.segments.proofs.TreeLevels.{total-last, worth-last}
 use Rattle.segments.proofs.stretch.Stretch.last_out.Goals as goal
 
 pub returns-clause-worth : goal.returns-clause-worth

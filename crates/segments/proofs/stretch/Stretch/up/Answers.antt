@@ -1,6 +1,6 @@
 use Rattle.std.proofs.Common.{ap, ◌∙◌}
 use Rattle.segments.specs.Levels.{beside}
-use Rattle.segments.proofs.Pairs.{worth-up}
+use Rattle.segments.proofs.TreeLevels.{worth-up}
 use Rattle.segments.proofs.stretch.Stretch.up.Goals as goal
 
 pub returns-clause-worth : goal.returns-clause-worth

@@ -1,5 +1,4 @@
-use Rattle.segments.proofs.Heights.{height-same, height-digits}
-use Rattle.segments.proofs.TreeLevels.{height_of_levels}
+use Rattle.segments.proofs.TreeLevels.{height-same, height-digits, height_of_levels}
 use Rattle.segments.proofs.tree.RouteTree.height.Goals as goal
 
 pub returns-clause-levels : goal.returns-clause-levels

@@ -2,8 +2,7 @@ use Rattle.std.proofs.Common.{◌≡◌, ◌+◌, ◌/◌, length, map, take, sy
 use Rattle.std.specs.Prelude.{Some}
 use Rattle.segments.specs.Levels.{level, pairs}
 use Rattle.segments.specs.Trees.{items_of}
-use Rattle.segments.proofs.Pairs.{pairs-same}
-use Rattle.segments.proofs.TreeLevels.{levels_of_height, level_pushed, none_pushed, same_start, beginning_known}
+use Rattle.segments.proofs.TreeLevels.{pairs-same, levels_of_height, level_pushed, none_pushed, same_start, beginning_known}
 use Rattle.segments.proofs.tree.RouteTree.levels_with.Goals as goal
 
 pub returns : goal.returns

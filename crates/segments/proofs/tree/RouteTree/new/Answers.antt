@@ -1,5 +1,5 @@
 use Rattle.segments.proofs.TreeLevels.{no_levels}
-use Rattle.segments.proofs.EndJoins.{no_fronts, no_backs}
+use Rattle.segments.proofs.JoinedLists.{no_fronts, no_backs}
 use Rattle.segments.proofs.tree.RouteTree.new.Goals as goal
 
 pub joins_with-requires-clause-tree : goal.joins_with-requires-clause-tree

@@ -3,8 +3,7 @@ use Rattle.std.proofs.lemmas.Int.{ints}
 use Rattle.solomon_reader.specs.Lists.{lists}
 use Rattle.segments.specs.PlanTrees.{problem_of}
 use Rattle.moves.specs.Trees.{visits_of}
-use Rattle.working_plan.proofs.TreeChanges.{lists-length}
-use Rattle.working_plan.proofs.AppliedMoves.{first_known, second_known, cost_fits, applied, none_applied}
+use Rattle.working_plan.proofs.AppliedMoves.{lists-length, first_known, second_known, cost_fits, applied, none_applied}
 use Rattle.working_plan.proofs.plan.WorkingPlan.apply.Goals as goal
 
 pub cost_after-cost-requires-clause-within : goal.cost_after-cost-requires-clause-within
