@@ -1,6 +1,7 @@
 -- A search through the moves of a kind by their numbers, by what is known of each number of a range and of its result.
 use Rattle.std.proofs.Common.{◌≡◌, ℕ, ◌+◌, ◌<◌, zero, suc, List, [], ◌∷◌, length, slice_index_or, refl, ap, subst, arith, ◌≤◌, Bool, true, false, ◌++◌, get_or, sym, ◌∙◌, ◌⊎◌, inl, inr}
-use Rattle.std.specs.Prelude.{ℤ, ◌≤ℤ◌, ◌<ℤ◌, int_lt, Option, Some, None, if◌then◌else◌}
+use Rattle.std.specs.Prelude.{ℤ, pos, ◌+ℤ◌, ◌≤ℤ◌, ◌<ℤ◌, int_lt, Option, Some, None, if◌then◌else◌}
+use Rattle.std.specs.Option.{option_or}
 use Rattle.std.specs.List.{AllZip, range_with_len}
 use Rattle.std.proofs.lemmas.Int.{ints}
 use Rattle.std.proofs.lemmas.Bool.{cases_lt}
@@ -9,8 +10,8 @@ use Rattle.moves.specs.declared.candidate.Move.{Move}
 use Rattle.moves.specs.declared.candidate.Move.TheVariants.{Relocate, Exchange, OrOpt, TwoOptStar, Cross}
 use Rattle.moves.specs.declared.candidate.Kind.{Kind}
 use Rattle.moves.specs.Values.{HasValue, IsWellFormed}
-use Rattle.moves.specs.Order.{kind_of, fields_of, AreBefore, IsBefore, IsBestBy, IsBestOf, IsBest}
-use Rattle.moves.specs.Search.{numbers, IsNextWithin, IsInRange, TakesIn, IsBestInRange, better}
+use Rattle.moves.specs.Order.{kind_of, fields_of, AreBefore, IsBefore, IsBestBy}
+use Rattle.moves.specs.Search.{numbers, IsNextWithin, IsInRange, TakesIn, IsUnder, HasValueUnder, IsBestUnder, IsBestInRange, limit_behind, under}
 
 module _ {X : Type 0} (R : ℕ → X → Type 0) where
   pub as_many : (a n : ℕ) (ys : List X) → AllZip R (range_with_len a n) ys → length ys ≡ n
@@ -34,62 +35,109 @@ module _ {X : Type 0} (R : ℕ → X → Type 0) where
 -- ---- A search through the moves of a kind by their numbers.
 
 -- THE BEST OF TWO SETS
-module _ {M : Type 0} (Before : M → M → Type 0) (Values : M → ℤ → Type 0) where
+
+less_le : (v u x : ℤ) → v <ℤ u → u ≤ℤ x → v <ℤ x
+less_le v u x h k = omega (arith, ints)
+
+less_less : (v u x : ℤ) → v <ℤ u → u <ℤ x → v <ℤ x
+less_less v u x h k = omega (arith, ints)
+
+weaken : (v u : ℤ) → v <ℤ u → v ≤ℤ u
+weaken v u h = omega (arith, ints)
+
+not_both : (v u : ℤ) → v <ℤ u → u ≤ℤ v → ⊥
+not_both v u h k = omega (arith, ints)
+
+less_le_lt : (v u x : ℤ) → v ≤ℤ u → u <ℤ x → v <ℤ x
+less_le_lt v u x h k = omega (arith, ints)
+
+pub cases_int : (u v : ℤ) → (u <ℤ v) ⊎ (v ≤ℤ u)
+cases_int u v = by_test (int_lt u v) refl
+  where
+    by_test : (t : Bool) → int_lt u v ≡ t → (u <ℤ v) ⊎ (v ≤ℤ u)
+    by_test true y = inl (grind (arith, ints))
+    by_test false y = inr (grind (arith, ints))
+
+less_under : (limit : Option ℤ) (v u : ℤ) → v <ℤ u → IsUnder limit u → IsUnder limit v
+less_under None v u h k = tt
+less_under (Some l) v u h k = less_less v u l h k
+
+module _ {M : Type 0} (Before : M → M → Type 0) where
   -- the same things have a value
-  pub widened : (P Q : M → Type 0) (r : Option (M × ℤ)) → ((n : M) → P n → Q n) → ((n : M) (u : ℤ) → Q n → Values n u → P n)
+  pub widened : (Values : M → ℤ → Type 0) (P Q : M → Type 0) (r : Option (M × ℤ)) → ((n : M) → P n → Q n) → ((n : M) (u : ℤ) → Q n → Values n u → P n)
       → IsBestBy Before Values P r → IsBestBy Before Values Q r
-  widened P Q None into back h = λ n u q k. h n u (back n u q k) k
-  widened P Q (Some r) into back h = record {
+  widened Values P Q None into back h = λ n u q k. h n u (back n u q k) k
+  widened Values P Q (Some r) into back h = record {
     taken = into r.0 h.taken;
     value = h.value;
     least = λ n u q k. h.least n u (back n u q k) k;
     first = λ n u q k b. h.first n u (back n u q k) k b;
   }
 
-  -- the better of the bests of two sets, where nothing of the second is before anything of the first
-  pub folded : (P Q : M → Type 0) (r s : Option (M × ℤ)) → ((m n : M) → P m → Q n → ¬ Before n m)
-      → IsBestBy Before Values P r → IsBestBy Before Values Q s → IsBestBy Before Values (λ n. P n ⊎ Q n) (better r s)
-  folded P Q None None apart h k = λ n u t v. elim t [ inl p ↦ h n u p v | inr q ↦ k n u q v ]
-  folded P Q (Some r) None apart h k = record {
-    taken = inl h.taken;
-    value = h.value;
-    least = λ n u t v. elim t [ inl p ↦ h.least n u p v | inr q ↦ absurd (k n u q v) ];
-    first = λ n u t v b. elim t [ inl p ↦ h.first n u p v b | inr q ↦ absurd (k n u q v) ];
+  -- what is met under no limit is met
+  pub without_limit : (Has : M → ℤ → Type 0) (P : M → Type 0) (r : Option (M × ℤ)) → IsBestBy Before (λ n u. Has n u × IsUnder None u) P r → IsBestBy Before Has P r
+  without_limit Has P None h = λ n u t v. h n u t (v, tt)
+  without_limit Has P (Some r) h = record {
+    taken = h.taken;
+    value = h.value.0;
+    least = λ n u t v. h.least n u t (v, tt);
+    first = λ n u t v b. h.first n u t (v, tt) b;
   }
-  folded P Q None (Some s) apart h k = record {
-    taken = inr k.taken;
-    value = k.value;
-    least = λ n u t v. elim t [ inl p ↦ absurd (h n u p v) | inr q ↦ k.least n u q v ];
-    first = λ n u t v b. elim t [ inl p ↦ absurd (h n u p v) | inr q ↦ k.first n u q v b ];
-  }
-  folded P Q (Some r) (Some s) apart h k = by_test (int_lt s.1 r.1) refl
-    where
-      less_le : (v u x : ℤ) → v <ℤ u → u ≤ℤ x → v <ℤ x
-      less_le v u x h k = omega (arith, ints)
 
-      le_le : (v u x : ℤ) → v ≤ℤ u → u ≤ℤ x → v ≤ℤ x
-      le_le v u x h k = omega (arith, ints)
+  module _ (Has : M → ℤ → Type 0) where
+    -- the best of two sets, where that of the second is sought under what was found in the first, and nothing of the second is before anything of the first
+    pub gone_on : (P Q : M → Type 0) (limit : Option ℤ) (r s : Option (M × ℤ)) → ((m n : M) → P m → Q n → ¬ Before n m)
+        → IsBestBy Before (λ n u. Has n u × IsUnder limit u) P r → IsBestBy Before (λ n u. Has n u × IsUnder (limit_behind r limit) u) Q s
+        → IsBestBy Before (λ n u. Has n u × IsUnder limit u) (λ n. P n ⊎ Q n) (option_or s r)
+    gone_on P Q limit None None apart h k = λ n u t v. elim t [ inl p ↦ h n u p v | inr q ↦ k n u q v ]
+    gone_on P Q limit None (Some s) apart h k = record {
+      taken = inr k.taken;
+      value = k.value;
+      least = λ n u t v. elim t [ inl p ↦ absurd (h n u p v) | inr q ↦ k.least n u q v ];
+      first = λ n u t v b. elim t [ inl p ↦ absurd (h n u p v) | inr q ↦ k.first n u q v b ];
+    }
+    gone_on P Q limit (Some r) None apart h k = record {
+      taken = inl h.taken;
+      value = h.value;
+      least = λ n u t v. elim t [ inl p ↦ h.least n u p v | inr q ↦ elim (cases_int u r.1) [ inl lower ↦ absurd (k n u q (v.0, lower)) | inr over ↦ over ] ];
+      first = λ n u t v b. elim t [ inl p ↦ h.first n u p v b | inr q ↦ absurd (apart r.0 n h.taken q b) ];
+    }
+    gone_on P Q limit (Some r) (Some s) apart h k =
+        let lower : s.1 <ℤ r.1 = k.value.1 in
+        record {
+          taken = inr k.taken;
+          value = (k.value.0, less_under limit s.1 r.1 lower h.value.1);
+          least = λ n u t v. elim t [
+            | inl p ↦ weaken s.1 u (less_le s.1 r.1 u lower (h.least n u p v))
+            | inr q ↦ elim (cases_int u r.1) [ inl less ↦ k.least n u q (v.0, less) | inr over ↦ weaken s.1 u (less_le s.1 r.1 u lower over) ]
+          ];
+          first = λ n u t v b. elim t [
+            | inl p ↦ less_le s.1 r.1 u lower (h.least n u p v)
+            | inr q ↦ elim (cases_int u r.1) [ inl less ↦ k.first n u q (v.0, less) b | inr over ↦ less_le s.1 r.1 u lower over ]
+          ];
+        }
 
-      weaken : (v u : ℤ) → v <ℤ u → v ≤ℤ u
-      weaken v u h = omega (arith, ints)
-
-      by_test : (t : Bool) → int_lt s.1 r.1 ≡ t → IsBestBy Before Values (λ n. P n ⊎ Q n) (if t then Some s else Some r)
-      by_test true y =
-          let lower : s.1 <ℤ r.1 = grind (arith, ints) in
-          record {
-            taken = inr k.taken;
-            value = k.value;
-            least = λ n u t v. elim t [ inl p ↦ weaken s.1 u (less_le s.1 r.1 u lower (h.least n u p v)) | inr q ↦ k.least n u q v ];
-            first = λ n u t v b. elim t [ inl p ↦ less_le s.1 r.1 u lower (h.least n u p v) | inr q ↦ k.first n u q v b ];
-          }
-      by_test false y =
-          let higher : r.1 ≤ℤ s.1 = grind (arith, ints) in
-          record {
-            taken = inl h.taken;
-            value = h.value;
-            least = λ n u t v. elim t [ inl p ↦ h.least n u p v | inr q ↦ le_le r.1 s.1 u higher (k.least n u q v) ];
-            first = λ n u t v b. elim t [ inl p ↦ h.first n u p v b | inr q ↦ absurd (apart r.0 n h.taken q b) ];
-          }
+    -- what was found under a limit, if it is under a lower one
+    pub lowered : (Q : M → Type 0) (limit : Option ℤ) (r s : Option (M × ℤ)) → (P : M → Type 0) → IsBestBy Before (λ n u. Has n u × IsUnder limit u) P r
+        → IsBestBy Before (λ n u. Has n u × IsUnder limit u) Q s → IsBestBy Before (λ n u. Has n u × IsUnder (limit_behind r limit) u) Q (under (limit_behind r limit) s)
+    lowered Q limit None None P h k = k
+    lowered Q None None (Some s) P h k = k
+    lowered Q (Some l) None (Some s) P h k = by_test (int_lt s.1 l) refl
+      where
+        by_test : (t : Bool) → int_lt s.1 l ≡ t → IsBestBy Before (λ n u. Has n u × IsUnder (Some l) u) Q (if t then Some s else None)
+        by_test true y = k
+        by_test false y = let over : l ≤ℤ s.1 = grind (arith, ints) in absurd (not_both s.1 l k.value.1 over)
+    lowered Q limit (Some r) None P h k = λ n u q v. k n u q (v.0, less_under limit u r.1 v.1 h.value.1)
+    lowered Q limit (Some r) (Some s) P h k = by_test (int_lt s.1 r.1) refl
+      where
+        by_test : (t : Bool) → int_lt s.1 r.1 ≡ t → IsBestBy Before (λ n u. Has n u × IsUnder (Some r.1) u) Q (if t then Some s else None)
+        by_test true y = record {
+          taken = k.taken;
+          value = (k.value.0, grind (arith, ints));
+          least = λ n u q v. k.least n u q (v.0, less_under limit u r.1 v.1 h.value.1);
+          first = λ n u q v b. k.first n u q (v.0, less_under limit u r.1 v.1 h.value.1) b;
+        }
+        by_test false y = λ n u q v. let over : r.1 ≤ℤ s.1 = grind (arith, ints) in not_both s.1 r.1 (less_le_lt s.1 u r.1 (k.least n u q (v.0, less_under limit u r.1 v.1 h.value.1)) v.1) over
 
 -- MOVES IN ORDER
 
@@ -232,16 +280,16 @@ all_in_range routes (TwoOptStar f t) end most h = let known = h.known in let ord
 all_in_range routes (Cross f t) end most h = let known = h.known in let order = h.order in (omega arith, omega arith)
 
 -- STEPS OF THE SEARCH
-module _ (p : Problem) (routes : List (List ℕ)) (k : Kind) where
-  pub at_none : (xs : List ℕ) (low : ℕ) → IsBestInRange p routes k xs low low None
+module _ (p : Problem) (routes : List (List ℕ)) (k : Kind) (limit : Option ℤ) where
+  pub at_none : (xs : List ℕ) (low : ℕ) → IsBestInRange p routes k xs low low limit None
   at_none xs low = λ n u t h. empty_range xs (numbers n) low t.1
 
   -- the best of two ranges, the second of which begins where the first ends
   pub neighbours : (xs : List ℕ) (low mid high : ℕ) (r s : Option (Move × ℤ)) → low ≤ mid → mid ≤ high
-      → IsBestInRange p routes k xs low mid r → IsBestInRange p routes k xs mid high s → IsBestInRange p routes k xs low high (better r s)
+      → IsBestInRange p routes k xs low mid limit r → IsBestInRange p routes k xs mid high (limit_behind r limit) s → IsBestInRange p routes k xs low high limit (option_or s r)
   neighbours xs low mid high r s first second h g =
-      widened IsBefore (HasValue p routes) (λ n. P n ⊎ Q n) (λ n. (kind_of n ≡ k) × IsInRange xs low high (numbers n)) (better r s) into back
-      (folded IsBefore (HasValue p routes) P Q r s apart h g)
+      widened IsBefore (HasValueUnder p routes limit) (λ n. P n ⊎ Q n) (λ n. (kind_of n ≡ k) × IsInRange xs low high (numbers n)) (option_or s r) into back
+      (gone_on IsBefore (HasValue p routes) P Q limit r s apart h g)
     where
       P : Move → Type 0
       P n = (kind_of n ≡ k) × IsInRange xs low mid (numbers n)
@@ -257,26 +305,56 @@ module _ (p : Problem) (routes : List (List ℕ)) (k : Kind) where
       into : (n : Move) → P n ⊎ Q n → (kind_of n ≡ k) × IsInRange xs low high (numbers n)
       into n o = elim o [ inl t ↦ (t.0, in_longer_range xs (numbers n) low mid high second t.1) | inr q ↦ (q.0, in_earlier_range xs (numbers n) low mid high first q.1) ]
 
-      back : (n : Move) (u : ℤ) → (kind_of n ≡ k) × IsInRange xs low high (numbers n) → HasValue p routes n u → P n ⊎ Q n
+      back : (n : Move) (u : ℤ) → (kind_of n ≡ k) × IsInRange xs low high (numbers n) → HasValueUnder p routes limit n u → P n ⊎ Q n
       back n u q v = elim (in_one_part xs (numbers n) low mid high q.1) [ inl t ↦ inl (q.0, t) | inr s ↦ inr (q.0, s) ]
+
+  -- what was found under the limit in a later range, under what was found in the first
+  pub lowered_range : (xs : List ℕ) (low mid high : ℕ) (r s : Option (Move × ℤ)) → IsBestInRange p routes k xs low mid limit r
+      → IsBestInRange p routes k xs mid high limit s → IsBestInRange p routes k xs mid high (limit_behind r limit) (under (limit_behind r limit) s)
+  lowered_range xs low mid high r s h g =
+      lowered IsBefore (HasValue p routes) (λ n. (kind_of n ≡ k) × IsInRange xs mid high (numbers n)) limit r s (λ n. (kind_of n ≡ k) × IsInRange xs low mid (numbers n)) h g
 
   -- all moves with the first numbers xs ++ x ∷ []
   pub at_end : (xs : List ℕ) (x low high end : ℕ) (r : Option (Move × ℤ)) → high ≤ end → TakesIn routes k (xs ++ x ∷ []) low high
-      → IsBestInRange p routes k (xs ++ x ∷ []) low end r → IsBestInRange p routes k xs x (x + 1) r
+      → IsBestInRange p routes k (xs ++ x ∷ []) low end limit r → IsBestInRange p routes k xs x (x + 1) limit r
   at_end xs x low high end r most takes h =
-      widened IsBefore (HasValue p routes) (λ n. (kind_of n ≡ k) × IsInRange (xs ++ x ∷ []) low end (numbers n)) (λ n. (kind_of n ≡ k) × IsInRange xs x (x + 1) (numbers n)) r
+      widened IsBefore (HasValueUnder p routes limit) (λ n. (kind_of n ≡ k) × IsInRange (xs ++ x ∷ []) low end (numbers n)) (λ n. (kind_of n ≡ k) × IsInRange xs x (x + 1) (numbers n)) r
       (λ n t. (t.0, in_outer_range xs (numbers n) x low end t.1))
-      (λ n u q v. (q.0, in_longer_range (xs ++ x ∷ []) (numbers n) low high end most (in_inner_range xs (numbers n) x low high (takes n q.0 v.well_formed) q.1))) h
+      (λ n u q v. (q.0, in_longer_range (xs ++ x ∷ []) (numbers n) low high end most (in_inner_range xs (numbers n) x low high (takes n q.0 v.0.well_formed) q.1))) h
 
-  pub at_last : (end : ℕ) (r : Option (Move × ℤ)) → length routes ≤ end → IsBestInRange p routes k [] 0 end r → IsBest p routes k r
+  pub at_last : (end : ℕ) (r : Option (Move × ℤ)) → length routes ≤ end → IsBestInRange p routes k [] 0 end limit r → IsBestUnder p routes k limit r
   at_last end r most h =
-      widened IsBefore (HasValue p routes) (λ n. (kind_of n ≡ k) × IsInRange [] 0 end (numbers n)) (λ n. kind_of n ≡ k) r
-      (λ n t. t.0) (λ n u e v. (e, all_in_range routes n end most v.well_formed)) h
+      widened IsBefore (HasValueUnder p routes limit) (λ n. (kind_of n ≡ k) × IsInRange [] 0 end (numbers n)) (λ n. kind_of n ≡ k) r
+      (λ n t. t.0) (λ n u e v. (e, all_in_range routes n end most v.0.well_formed)) h
 
-  -- the one move that has these numbers
-  pub at_one : (m : Move) (xs : List ℕ) (x : ℕ) (r : Option (Move × ℤ)) → kind_of m ≡ k → numbers m ≡ xs ++ x ∷ [] → length (xs ++ x ∷ []) ≡ 6
-      → IsBestOf p routes (λ n. n ≡ m) r → IsBestInRange p routes k xs x (x + 1) r
-  at_one m xs x r same is full h =
-      widened IsBefore (HasValue p routes) (λ n. n ≡ m) (λ n. (kind_of n ≡ k) × IsInRange xs x (x + 1) (numbers n)) r
-      (λ n e. (ap kind_of e ∙ same, subst (λ z. IsInRange xs x (x + 1) z) (sym (ap numbers e ∙ is)) (itself_in_range xs x)))
-      (λ n u q v. same_move n m (q.0 ∙ sym same) (same_in_range xs (numbers n) x (six n ∙ sym full) q.1 ∙ sym is)) h
+  -- ONE MOVE, by all six numbers
+
+  six_are : (n : Move) (xs : List ℕ) (x : ℕ) → length (xs ++ x ∷ []) ≡ 6 → IsInRange xs x (x + 1) (numbers n) → numbers n ≡ xs ++ x ∷ []
+  six_are n xs x full h = same_in_range xs (numbers n) x (six n ∙ sym full) h
+
+  -- none of these numbers has a value under the limit
+  pub none_of_one : (xs : List ℕ) (x : ℕ) → length (xs ++ x ∷ []) ≡ 6
+      → ((n : Move) (u : ℤ) → kind_of n ≡ k → numbers n ≡ xs ++ x ∷ [] → HasValue p routes n u → ¬ IsUnder limit u) → IsBestInRange p routes k xs x (x + 1) limit None
+  none_of_one xs x full none = λ n u t v. none n u t.0 (six_are n xs x full t.1) v.0 v.1
+
+  -- the move of these numbers
+  pub best_is : (m : Move) (v : ℤ) (xs : List ℕ) (x : ℕ) → length (xs ++ x ∷ []) ≡ 6 → kind_of m ≡ k → numbers m ≡ xs ++ x ∷ [] → HasValue p routes m v → IsUnder limit v
+      → IsBestInRange p routes k xs x (x + 1) limit (Some (m, v))
+  best_is m v xs x full same is has below = record {
+    taken = (same, subst (λ z. IsInRange xs x (x + 1) z) (sym is) (itself_in_range xs x));
+    value = (has, below);
+    least = λ n u t w. equal_le v u (one_value m v u has (subst (λ z. HasValue p routes z u) (itself n t) w.0));
+    first = λ n u t w b. absurd (asymmetric (fields_of m) (fields_of m) (subst (λ z. IsBefore z m) (itself n t) b) (subst (λ z. IsBefore z m) (itself n t) b));
+  }
+    where
+      itself : (n : Move) → (kind_of n ≡ k) × IsInRange xs x (x + 1) (numbers n) → n ≡ m
+      itself n t = same_move n m (t.0 ∙ sym same) (six_are n xs x full t.1 ∙ sym is)
+
+      equal_le : (v u : ℤ) → v ≡ u → v ≤ℤ u
+      equal_le v u e = omega (arith, ints, e)
+
+      one_value : (m : Move) (v u : ℤ) → HasValue p routes m v → HasValue p routes m u → v ≡ u
+      one_value m v u h g = one_sum _ _ v u h.exact g.exact
+        where
+          one_sum : (new old : ℕ) (v u : ℤ) → pos new ≡ pos old +ℤ v → pos new ≡ pos old +ℤ u → v ≡ u
+          one_sum new old v u h g = omega (arith, ints, h, g)

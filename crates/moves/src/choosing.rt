@@ -1,18 +1,22 @@
 //! The best move of a kind.
 
-ghost use Rattle.std.specs.Prelude.{◌≡◌, ◌+◌, [], ◌∷◌};
+ghost use Rattle.std.specs.Prelude.{◌≡◌, ◌↔◌, ◌+◌, [], ◌∷◌, IsTrue};
 ghost use Rattle.segments.specs.PlanTrees.{problem_of};
 ghost use Rattle.moves.specs.Trees.{visits_of, AreOfPlan};
-ghost use Rattle.moves.specs.Order.{IsBest, IsBestOf, kind_of};
-ghost use Rattle.moves.specs.Search.{numbers, better, IsFirstLength, IsSecondLength, IsBestInRange};
+ghost use Rattle.moves.specs.Order.{IsBest, kind_of};
+ghost use Rattle.moves.specs.Search.{numbers, limit_behind, under, IsFirstLength, IsSecondLength, IsUnder, IsBestInRange, IsBestUnder};
+ghost use Rattle.moves.specs.Gaps.{HasChange};
 
 use crate::candidate::{Chain, Kind, Move, Place};
-use crate::ranges::{
-    first_lengths, first_positions, second_lengths, second_positions, second_routes,
-};
+use crate::first_chain::first_chain_of;
+use crate::ranges::{first_lengths, first_positions, second_routes};
+use crate::second_route::best_into_route;
 use crate::sizes::route_count;
 use crate::valuing::value;
 use segments::PlanTrees;
+
+/// The best move that was found, with its value in tenths, if there is one.
+pub type Found = Option<(Move, i64)>;
 
 /// Where a chain begins.
 fn place_of(chain: &Chain) -> Place
@@ -51,88 +55,80 @@ pub fn candidate_of(kind: Kind, first: &Chain, second: &Chain) -> Move
     }
 }
 
-/// The better of two answers: the earlier one, unless the later has a lower value.
-pub(crate) fn better(
-    earlier: Option<(Move, i64)>,
-    later: Option<(Move, i64)>,
-) -> Option<(Move, i64)>
-    ensures { result ≡ better earlier later }
+/// Whether a value is under a limit, if there is one.
+#[inline(always)]
+fn is_under(value: i64, limit: Option<i64>) -> bool
+    ensures { IsTrue result ↔ IsUnder limit value }
 {
-    match (earlier, later) {
-        (Some((_, least)), Some((_, value))) if value < least => later,
-        (Some(_), _) => earlier,
-        (None, _) => later,
+    match limit {
+        Some(limit) => value < limit,
+        None => true,
     }
 }
 
-/// A move with its value, if it has one.
-fn best_of_one(trees: &PlanTrees<'_>, candidate: Move) -> Option<(Move, i64)>
-    requires { AreOfPlan trees.now }
-    ensures { IsBestOf (problem_of trees.now) (visits_of trees.now) (λ n. n ≡ candidate) result }
+/// The limit under which a move is better than what was found under another one.
+#[inline(always)]
+pub fn limit_behind(found: Found, limit: Option<i64>) -> Option<i64>
+    ensures { result ≡ limit_behind found limit }
 {
+    match found {
+        Some((_, value)) => Some(value),
+        None => limit,
+    }
+}
+
+/// What was found, if it is under a limit.
+pub(crate) fn under(limit: Option<i64>, found: Found) -> Found
+    ensures { result ≡ under limit found }
+{
+    let (candidate, value) = found?;
+    if is_under(value, limit) {
+        Some((candidate, value))
+    } else {
+        None
+    }
+}
+
+/// The move with these numbers, if its value is under a limit. It is valued only where its change of cost is.
+#[inline(always)]
+pub fn best_of_one(
+    trees: &PlanTrees<'_>,
+    kind: Kind,
+    first: &Chain,
+    second: &Chain,
+    change: i64,
+    limit: Option<i64>,
+) -> Found
+    requires plan { AreOfPlan trees.now }
+    requires first { IsFirstLength kind first.now.length }
+    requires second { IsSecondLength kind second.now.length }
+    requires change { HasChange (problem_of trees.now) (visits_of trees.now) kind first.now
+        second.now change }
+    ensures { IsBestInRange (problem_of trees.now) (visits_of trees.now) kind
+        (first.now.route ∷ first.now.position ∷ first.now.length ∷ second.now.route ∷
+        second.now.position ∷ []) second.now.length (second.now.length + 1) limit result }
+{
+    if !is_under(change, limit) {
+        return None;
+    }
+    let candidate = candidate_of(kind, first, second);
     let value = value(trees, &candidate)?;
     Some((candidate, value))
 }
 
-/// The best of the moves with these five first numbers.
-fn best_at_position(
-    trees: &PlanTrees<'_>,
-    kind: Kind,
-    first: &Chain,
-    route: u16,
-    position: u16,
-) -> Option<(Move, i64)>
-    requires plan { AreOfPlan trees.now }
-    requires length { IsFirstLength kind first.now.length }
-    ensures { IsBestInRange (problem_of trees.now) (visits_of trees.now) kind
-        (first.now.route ∷ first.now.position ∷ first.now.length ∷ route ∷ []) position
-        (position + 1) result }
-{
-    let lengths = second_lengths(trees, kind, first, route, position);
-    let mut best = None;
-    for length in lengths.start..lengths.end {
-        let second = Chain {
-            route,
-            position,
-            length,
-        };
-        let candidate = candidate_of(kind, first, &second);
-        best = better(best, best_of_one(trees, candidate));
-    }
-    best
-}
-
-/// The best of the moves with these four first numbers.
-fn best_into_route(
-    trees: &PlanTrees<'_>,
-    kind: Kind,
-    first: &Chain,
-    route: u16,
-) -> Option<(Move, i64)>
-    requires plan { AreOfPlan trees.now }
-    requires length { IsFirstLength kind first.now.length }
-    ensures { IsBestInRange (problem_of trees.now) (visits_of trees.now) kind
-        (first.now.route ∷ first.now.position ∷ first.now.length ∷ []) route (route + 1) result }
-{
-    let positions = second_positions(trees, kind, first, route);
-    let mut best = None;
-    for position in positions.start..positions.end {
-        best = better(best, best_at_position(trees, kind, first, route, position));
-    }
-    best
-}
-
 /// The best of the moves with this first chain.
-fn best_of_chain(trees: &PlanTrees<'_>, kind: Kind, first: &Chain) -> Option<(Move, i64)>
+fn best_of_chain(trees: &PlanTrees<'_>, kind: Kind, numbers: Chain, limit: Option<i64>) -> Found
     requires plan { AreOfPlan trees.now }
-    requires length { IsFirstLength kind first.now.length }
+    requires length { IsFirstLength kind numbers.length }
     ensures { IsBestInRange (problem_of trees.now) (visits_of trees.now) kind
-        (first.now.route ∷ first.now.position ∷ []) first.now.length (first.now.length + 1) result }
+        (numbers.route ∷ numbers.position ∷ []) numbers.length (numbers.length + 1) limit result }
 {
-    let routes = second_routes(trees, kind, first);
+    let first = first_chain_of(trees, kind, numbers)?;
+    let routes = second_routes(trees, kind, &numbers);
     let mut best = None;
     for route in routes.start..routes.end {
-        best = better(best, best_into_route(trees, kind, first, route));
+        let limit = limit_behind(best, limit);
+        best = best_into_route(trees, kind, &first, route, limit).or(best);
     }
     best
 }
@@ -143,10 +139,11 @@ fn best_from_position(
     kind: Kind,
     route: u16,
     position: u16,
-) -> Option<(Move, i64)>
+    limit: Option<i64>,
+) -> Found
     requires { AreOfPlan trees.now }
     ensures { IsBestInRange (problem_of trees.now) (visits_of trees.now) kind (route ∷ []) position
-        (position + 1) result }
+        (position + 1) limit result }
 {
     let lengths = first_lengths(trees, kind, route, position);
     let mut best = None;
@@ -156,21 +153,43 @@ fn best_from_position(
             position,
             length,
         };
-        best = better(best, best_of_chain(trees, kind, &first));
+        let limit = limit_behind(best, limit);
+        best = best_of_chain(trees, kind, first, limit).or(best);
     }
     best
 }
 
 /// The best of the moves with this first route.
-pub(crate) fn best_from_route(trees: &PlanTrees<'_>, kind: Kind, route: u16) -> Option<(Move, i64)>
+pub(crate) fn best_from_route(
+    trees: &PlanTrees<'_>,
+    kind: Kind,
+    route: u16,
+    limit: Option<i64>,
+) -> Found
     requires { AreOfPlan trees.now }
     ensures { IsBestInRange (problem_of trees.now) (visits_of trees.now) kind [] route
-        (route + 1) result }
+        (route + 1) limit result }
 {
     let positions = first_positions(trees, kind, route);
     let mut best = None;
     for position in positions.start..positions.end {
-        best = better(best, best_from_position(trees, kind, route, position));
+        let limit = limit_behind(best, limit);
+        best = best_from_position(trees, kind, route, position, limit).or(best);
+    }
+    best
+}
+
+/// The least value of the moves of a kind that is under a limit, both in tenths, with the first move that has it;
+/// `None` where no move of the kind has such a value. Under 0 it is the move that makes the plan cheapest. It
+/// takes no memory.
+pub fn best_under(trees: &PlanTrees<'_>, kind: Kind, limit: Option<i64>) -> Option<(Move, i64)>
+    requires { AreOfPlan trees.now }
+    ensures { IsBestUnder (problem_of trees.now) (visits_of trees.now) kind limit result }
+{
+    let mut best = None;
+    for route in 0..route_count(trees) {
+        let limit = limit_behind(best, limit);
+        best = best_from_route(trees, kind, route, limit).or(best);
     }
     best
 }
@@ -181,9 +200,5 @@ pub fn best(trees: &PlanTrees<'_>, kind: Kind) -> Option<(Move, i64)>
     requires { AreOfPlan trees.now }
     ensures { IsBest (problem_of trees.now) (visits_of trees.now) kind result }
 {
-    let mut best = None;
-    for route in 0..route_count(trees) {
-        best = better(best, best_from_route(trees, kind, route));
-    }
-    best
+    best_under(trees, kind, None)
 }

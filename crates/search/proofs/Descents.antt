@@ -1,6 +1,6 @@
 -- Descents from one plan end at one plan. Moves that make a plan cheaper, and kinds that have none.
-use Rattle.std.proofs.Common.{◌≡◌, ℕ, ◌<◌, ◌≤◌, zero, suc, List, [], ◌∷◌, length, get_or, refl, sym, ap, subst, ◌∙◌, arith, inl, inr}
-use Rattle.std.specs.Prelude.{ℤ, pos, ◌+ℤ◌, ◌≤ℤ◌, ◌<ℤ◌, ◌-ℤ◌}
+use Rattle.std.proofs.Common.{◌≡◌, ℕ, ◌+◌, ◌<◌, ◌≤◌, zero, suc, List, [], ◌∷◌, length, get_or, refl, sym, ap, subst, ◌∙◌, arith, inl, inr}
+use Rattle.std.specs.Prelude.{ℤ, pos, ◌+ℤ◌, ◌≤ℤ◌, ◌<ℤ◌, ◌-ℤ◌, ◌⊎◌, Some}
 use Rattle.std.proofs.lemmas.Int.{ints}
 use Rattle.std.proofs.lemmas.Bool.{cases_lt}
 use Rattle.solomon_reader.specs.Problem.{Problem}
@@ -9,16 +9,34 @@ use Rattle.moves.specs.declared.candidate.Move.{Move}
 use Rattle.moves.specs.declared.candidate.Move.TheVariants.{Relocate, Exchange, OrOpt, TwoOptStar, Cross}
 use Rattle.moves.specs.declared.candidate.Kind.{Kind}
 use Rattle.moves.specs.Values.{after, IsWellFormed}
-use Rattle.moves.specs.Order.{kind_of, fields_of, IsFirstLeast}
-use Rattle.gains.specs.Gains.{IsGain}
-use Rattle.working_plan.specs.Gains.{IsBestGain, HasNoGain}
+use Rattle.moves.specs.Order.{kind_of, fields_of, AreBefore, IsBefore, HasFirstLeast, IsFirstLeast}
+use Rattle.moves.specs.Search.{HasValueUnder}
+use Rattle.search.specs.Gains.{IsGain, IsBestGain, HasNoGain}
 use Rattle.solomon_reader.specs.Plan.{plan_cost}
 use Rattle.search.specs.Searching.{rank_of, IsFirstGain, IsDescended, Descends}
 use Rattle.moves.specs.declared.candidate.Kind.TheVariants as kind
-use Rattle.gains.proofs.NumberOrder.{compared}
-use Rattle.moves.proofs.Searching.{one_number}
+use Rattle.moves.proofs.Searching.{one_number, cases_int}
 
 -- MOVES OF A KIND ARE IN ONE ORDER
+
+-- of as many numbers the ones are before the others, or the other way, or they are the same
+compared : (xs ys : List ℕ) → length xs ≡ length ys → AreBefore xs ys ⊎ ((xs ≡ ys) ⊎ AreBefore ys xs)
+compared [] [] e = inr (inl refl)
+compared [] (y ∷ ys) e = absurd (omega (arith, e))
+compared (x ∷ xs) [] e = absurd (omega (arith, e))
+compared (x ∷ xs) (y ∷ ys) e =
+    elim (cases_lt x y) [
+      | inl less ↦ inl (inl less)
+      | inr no_less ↦ elim (cases_lt y x) [
+        | inl more ↦ inr (inr (inl more))
+        | inr no_more ↦
+            let same : x ≡ y = omega arith in
+            elim (compared xs ys (omega (arith, e))) [
+              | inl b ↦ inl (inr (same, b))
+              | inr o ↦ elim o [ inl f ↦ inr (inl (λ k. same k ∷ f k)) | inr b ↦ inr (inr (inr (sym same, b))) ]
+            ]
+      ]
+    ]
 
 as_many_fields : (m n : Move) → kind_of m ≡ kind_of n → length (fields_of m) ≡ length (fields_of n)
 as_many_fields (Relocate f t) (Relocate g u) e = refl
@@ -209,3 +227,35 @@ none_at p routes none = local_optimum p routes (elim [
   | kind.TwoOptStar ↦ none 3 (omega arith)
   | kind.Cross ↦ none 4 (omega arith)
 ])
+
+-- THE BEST UNDER 0 IS THE BEST GAIN
+
+above : (v u : ℤ) → v <ℤ pos 0 → pos 0 ≤ℤ u → v <ℤ u
+above v u h k = omega (arith, ints)
+
+no_lower : (v u : ℤ) → v <ℤ u → v ≤ℤ u
+no_lower v u h = omega (arith, ints)
+
+pub best_gain : (p : Problem) (routes : List (List ℕ)) (k : Kind) (m : Move) (v : ℤ)
+    → HasFirstLeast IsBefore (HasValueUnder p routes (Some (pos 0))) (λ n. kind_of n ≡ k) m v → IsBestGain p routes k m
+best_gain p routes k m v h = (
+  v,
+  record {
+    taken = h.taken;
+    value = h.value.0;
+    least = λ n u t w. elim (cases_int u (pos 0)) [ inl below ↦ h.least n u t (w, below) | inr over ↦ no_lower v u (above v u h.value.1 over) ];
+    first = λ n u t w b. elim (cases_int u (pos 0)) [ inl below ↦ h.first n u t (w, below) b | inr over ↦ above v u h.value.1 over ];
+  },
+  h.value.1,
+)
+
+pub none_under : (p : Problem) (routes : List (List ℕ)) (k : Kind) → ((n : Move) (u : ℤ) → kind_of n ≡ k → ¬ HasValueUnder p routes (Some (pos 0)) n u) → HasNoGain p routes k
+none_under p routes k h = record { none = λ m e g. h m g.0 e (g.1, g.2) }
+
+-- one kind more has none
+pub next_kind : (p : Problem) (routes : List (List ℕ)) (n : ℕ) → ((j : ℕ) → j < n → HasNoGain p routes (get_or kinds j kind.Relocate))
+    → HasNoGain p routes (get_or kinds n kind.Relocate) → (j : ℕ) → j < n + 1 → HasNoGain p routes (get_or kinds j kind.Relocate)
+next_kind p routes n before here j h = elim (cases_lt j n) [
+  | inl earlier ↦ before j earlier
+  | inr last ↦ let e : n ≡ j = omega (arith, h, last) in subst (λ i. HasNoGain p routes (get_or kinds i kind.Relocate)) e here
+]

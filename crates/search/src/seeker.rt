@@ -5,6 +5,7 @@ ghost use Rattle.solomon_reader.specs.Moves.{IsLocalOptimum};
 ghost use Rattle.search.specs.Searching.{plan_of};
 
 use crate::fault::SearchFault;
+use crate::held::HeldPlan;
 use crate::searcher::Searcher;
 use crate::turning::{Pace, whole_plan, work};
 use rand_core::Rng;
@@ -64,6 +65,11 @@ impl<'i, R: Rng + Drop> Seeker<'i, R> {
         ensures { plan_of result ≡ plan.entry }
     {
         self.ruins.begin_with(plan.routes());
-        Searcher::with_search(self.alloc, plan, self.random, Some(self.ruins))
+        Searcher::with_search(
+            self.alloc,
+            HeldPlan::any(plan),
+            self.random,
+            Some(self.ruins),
+        )
     }
 }

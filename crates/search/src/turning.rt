@@ -3,16 +3,18 @@
 ghost use Rattle.std.specs.Prelude.{◌≡◌, IfOk, IfSome};
 ghost use Rattle.solomon_reader.specs.Moves.{IsLocalOptimum};
 ghost use Rattle.schedule.specs.Solution.{IsSolution};
+ghost use Rattle.search.specs.Searching.{DescendsTo};
 ghost use Rattle.search.specs.Turning.{IsDescent, IsOptimumBelow};
 
-use crate::descent::descend;
+use crate::descent::{descend, descend_parallel};
 use crate::fault::SearchFault;
+use crate::held::HeldPlan;
 use rand_core::Rng;
 use ruin::{Progress, RuinSearch, STEPS_OF_CUSTOMER};
 use schedule::Feasible;
 use solomon_reader::Instance;
 use std::alloc::{AllocError, Global};
-use working_plan::WorkingPlan;
+use std::thread::Threads;
 
 /// How far a run of turns is: how many were made before the next one, of how many.
 #[derive(Clone, Copy)]
@@ -44,9 +46,27 @@ pub fn descended<'i>(alloc: Global, plan: &Feasible<'i>) -> Result<Feasible<'i>,
     ensures descent { IfOk result (IsDescent plan.now) }
     ensures solution { IfOk result IsSolution }
 {
-    let mut working = WorkingPlan::new(alloc, plan)?;
-    descend(&mut working)?;
-    Ok(working.into_plan())
+    let mut plan = plan.try_clone()?;
+    descend(alloc, &mut plan)?;
+    Ok(plan)
+}
+
+/// The plan that a descent from a plan comes to, as `Searcher::descend_parallel` makes it. Where memory is refused,
+/// it is the one that the descent has come to, and nothing is known of it.
+pub fn descended_parallel<'i, W: Threads + Sync>(
+    rt: &W,
+    alloc: Global,
+    mut plan: Feasible<'i>,
+) -> HeldPlan<'i>
+    ensures { DescendsTo plan.entry result.plan }
+{
+    match descend_parallel(rt, alloc, &mut plan) {
+        Ok(()) => HeldPlan {
+            plan,
+            is_optimum: true,
+        },
+        Err(_) => HeldPlan::any(plan),
+    }
 }
 
 /// The plan that a descent from the cheapest routes of a search comes to, if these are a plan.

@@ -1,3 +1,3 @@
 pub mod JoinedLists
 pub mod TreeLevels
-pub mod RouteChanges
+pub mod StopJoins

@@ -4,9 +4,7 @@ pub mod Joining
 pub mod Closing
 pub mod Chains
 pub mod Levels
-pub mod Ends
 pub mod Stretches
 pub mod Trees
 pub mod PlanTrees
-pub mod RouteLending
 pub mod Statements

@@ -3,7 +3,6 @@ use Rattle.std.specs.Prelude.{◌≡◌, ℕ, ◌<◌, ◌≤◌, List, [], leng
 use Rattle.std.specs.declared.alloc.Global.{Global}
 use Rattle.segments.specs.Linked.{chain}
 use Rattle.segments.specs.Levels.{AreLevels}
-use Rattle.segments.specs.Ends.{AreFronts, AreBacks}
 use Rattle.segments.specs.declared.tree.RouteTree.{RouteTree}
 
 -- the items of a tree
@@ -12,9 +11,7 @@ items_of t = t.items.items
 
 -- the joins of a tree are those of its items, and joining three is the same from the left and from the right
 pub record IsTree {L : Type 0} (op : L → L → Option L) (t : RouteTree L) : Type 0 where
-  pub levels : AreLevels op t.items.items t.joins.levels.items
-  pub fronts : AreFronts op t.items.items t.joins.fronts.items
-  pub backs : AreBacks op t.items.items t.joins.backs.items
+  pub levels : AreLevels op t.items.items t.levels.items
   pub law : (x y z : L) → option_and_then (λ xy. op xy z) (op x y) ≡ option_and_then (λ yz. op x yz) (op y z)
 
 -- the join of all items, whatever joins them
@@ -23,7 +20,7 @@ IsWhole {L} t o = (op : L → L → Option L) → IsTree op t → o ≡ chain op
 
 -- the number of levels, whatever joins the items
 abbrev pub IsTall : {L : Type 0} → RouteTree L → ℕ → Type 0
-IsTall {L} t h = (op : L → L → Option L) → IsTree op t → h ≡ length t.joins.levels.items
+IsTall {L} t h = (op : L → L → Option L) → IsTree op t → h ≡ length t.levels.items
 
 -- first joins of a level, and none of a level that isn't there
 pub record IsBeginning {L : Type 0} (levels : List (Vec (Option L) Global)) (k count : ℕ) (joins : List (Option L)) : Type 0 where

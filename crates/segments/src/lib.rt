@@ -1,7 +1,6 @@
 //! Segments of routes, and lists of items that may be joined.
 #![tactic(auto)]
 
-mod ends;
 mod fault;
 mod laws;
 mod levels;
@@ -12,7 +11,7 @@ mod stretch;
 mod tree;
 
 pub use fault::TreeFault;
-pub use laws::{laws_of_segments, laws_of_trees};
+pub use laws::laws_of_segments;
 pub use linked::Linked;
 pub use plan_trees::PlanTrees;
 pub use segment::Segment;

@@ -1,8 +1,7 @@
 //! The trees of a plan's routes.
 
-ghost use Rattle.std.specs.Prelude.{◌≡◌, ◌<◌, ◌≤◌, [], ◌∷◌, ◌++◌, length, map, slice_index_or, IfOk, OnOk, OnErr};
-ghost use Rattle.std.specs.List.{All, AllByRecursion, remove};
-ghost use Rattle.std.specs.Borrow.{sem};
+ghost use Rattle.std.specs.Prelude.{◌≡◌, ◌<◌, ◌≤◌, [], length, map, slice_index_or, IfOk};
+ghost use Rattle.std.specs.List.{All, AllByRecursion};
 ghost use Rattle.solomon_reader.specs.Problem.{IsCustomer, customer_count};
 ghost use Rattle.solomon_reader.specs.declared.limits.TheConstants.{MOST_CUSTOMERS};
 ghost use Rattle.solomon_reader.specs.Layout.{IsWithinLimits};
@@ -11,14 +10,13 @@ ghost use Rattle.solomon_reader.specs.Lists.{lists};
 ghost use Rattle.segments.specs.Segments.{stop, join};
 ghost use Rattle.segments.specs.Trees.{items_of, IsTree};
 ghost use Rattle.segments.specs.PlanTrees.{problem_of, routes_of, AreTrees};
-ghost use Rattle.segments.specs.RouteLending.{LendsRoute};
 
 use crate::fault::TreeFault;
 use crate::segment::Segment;
 use crate::tree::RouteTree;
 use schedule::Feasible;
 use solomon_reader::Instance;
-use std::alloc::{AllocError, Global};
+use std::alloc::Global;
 
 /// A tree of single stops for each route of a plan, in order. Contracts see the instance, the
 /// routes as lists of stops, and that the trees are those of the instance.
@@ -103,40 +101,5 @@ impl<'i> PlanTrees<'i> {
         ensures tree { AreTrees self.now → IsTree (join (problem_of self.now)) result.now }
     {
         &self.routes[r]
-    }
-
-    /// A route by its number, counted from 0, to be changed.
-    pub fn route_mut(&mut self, r: usize) -> &mut RouteTree<Segment>
-        requires { r < length (routes_of self.old) }
-        ensures* writes_back { sem 𝓛 (LendsRoute self.entry r result) }
-        ensures items { items_of result.now ≡ slice_index_or (routes_of self.old) r [] }
-        ensures tree { AreTrees self.old → IsTree (join (problem_of self.old)) result.now }
-    {
-        &mut self.routes[r]
-    }
-
-    /// Pushes a route behind the last; at `Err` nothing is changed.
-    #[tactic(auto, using(crate::proofs::RouteChanges::routes_pushed, crate::proofs::RouteChanges::trees_pushed))]
-    pub fn push_route(&mut self, tree: RouteTree<Segment>) -> Result<(), AllocError>
-        ensures problem { problem_of self.new ≡ problem_of self.old }
-        ensures routes { OnOk result (routes_of self.new ≡ routes_of self.old ++
-            (items_of tree ∷ [])) }
-        ensures unchanged { OnErr result (routes_of self.new ≡ routes_of self.old) }
-        ensures trees { AreTrees self.old → IsTree (join (problem_of self.old)) tree
-            → AreTrees self.new }
-    {
-        self.routes.push(tree)?;
-        Ok(())
-    }
-
-    /// Removes a route by its number, counted from 0. It takes no memory.
-    #[tactic(auto, using(crate::proofs::RouteChanges::routes_removed, crate::proofs::RouteChanges::trees_removed))]
-    pub fn remove_route(&mut self, r: usize)
-        requires { r < length (routes_of self.old) }
-        ensures problem { problem_of self.new ≡ problem_of self.old }
-        ensures routes { routes_of self.new ≡ remove (routes_of self.old) r }
-        ensures trees { AreTrees self.old → AreTrees self.new }
-    {
-        self.routes.remove(r);
     }
 }

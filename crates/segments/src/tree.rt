@@ -3,10 +3,8 @@
 ghost use Rattle.std.specs.Prelude.{◌≡◌, ◌+◌, ◌<◌, ◌≤◌, ◌++◌, length, take, drop, slice_range, Some, option_copied, IfOk, IfErr, OnOk, OnErr};
 ghost use Rattle.segments.specs.Linked.{chain};
 ghost use Rattle.segments.specs.Levels.{AreLevels, IsHeight, binary_digits};
-ghost use Rattle.segments.specs.Ends.{AreFronts, AreBacks};
 ghost use Rattle.segments.specs.Trees.{items_of, IsTree, IsWhole, IsTall, IsBeginning};
 
-use crate::ends::{joins_from_left, joins_from_right};
 use crate::fault::TreeFault;
 use crate::levels::{height_of, level_above, lowest_level};
 use crate::linked::Linked;
@@ -14,25 +12,14 @@ use crate::stretch::Stretch;
 use std::alloc::Global;
 
 /// A balanced tree over a list of items that may be joined: the lowest level has the items, and
-/// each next one the joins of its neighbours two by two. Beside it stand the joins of the first items
-/// and of the last ones, since these are asked for most. Contracts see the items, and that the joins
+/// each next one the joins of its neighbours two by two. Contracts see the items, and that the joins
 /// that it keeps are those of the items. Positions are counted from 0.
 #[derive(Drop)]
 pub struct RouteTree<L> {
     alloc: Global,
     items: Vec<L>,
-    joins: Joins<L>,
-}
-
-/// The joins that a tree keeps.
-#[derive(Drop)]
-struct Joins<L> {
-    /// The lowest first.
+    /// The joins that it keeps, the lowest level first.
     levels: Vec<Vec<Option<L>>>,
-    /// Those of the first item, of the first two, and so on.
-    fronts: Vec<Option<L>>,
-    /// Those of the last item, of the last two, and so on.
-    backs: Vec<Option<L>>,
 }
 
 impl<L: Linked> RouteTree<L> {
@@ -49,43 +36,16 @@ impl<L: Linked> RouteTree<L> {
         let empty = RouteTree {
             alloc,
             items: Vec::new(alloc),
-            joins: Joins {
-                levels: Vec::new(alloc),
-                fronts: Vec::new(alloc),
-                backs: Vec::new(alloc),
-            },
+            levels: Vec::new(alloc),
         };
-        match empty.joins_with(context, items.as_slice(), 0) {
-            Ok(joins) => Ok(RouteTree {
+        match empty.levels_with(context, items.as_slice(), 0) {
+            Ok(levels) => Ok(RouteTree {
                 alloc,
                 items,
-                joins,
+                levels,
             }),
             Err(fault) => Err((items, fault)),
         }
-    }
-
-    /// The joins of other items, of which the first ones are kept, and so are the joins of these.
-    fn joins_with(
-        &self,
-        context: &L::Context,
-        items: &[L],
-        kept: usize,
-    ) -> Result<Joins<L>, TreeFault>
-        requires tree { IsTree (L.op context.now) self.now }
-        requires same { take kept items.now ≡ take kept (items_of self.now) }
-        ensures levels { IfOk result (λ j. AreLevels (L.op context.now) items.now j.levels.items) }
-        ensures fronts { IfOk result (λ j. AreFronts (L.op context.now) items.now j.fronts.items) }
-        ensures backs { IfOk result (λ j. AreBacks (L.op context.now) items.now j.backs.items) }
-    {
-        let levels = self.levels_with(context, items, kept)?;
-        let fronts = joins_from_left(self.alloc, context, items)?;
-        let backs = joins_from_right(self.alloc, context, items)?;
-        Ok(Joins {
-            levels,
-            fronts,
-            backs,
-        })
     }
 
     /// The levels over other items, of which the first ones are kept, and so are the joins of these.
@@ -121,12 +81,19 @@ impl<L: Linked> RouteTree<L> {
 
     /// The first joins of a level, and none of a level that isn't there.
     fn beginning(&self, k: usize, count: usize) -> &[Option<L>]
-        ensures { IsBeginning self.now.joins.levels.items k count result.now }
+        ensures { IsBeginning self.now.levels.items k count result.now }
     {
-        match self.joins.levels.get(k) {
+        match self.levels.get(k) {
             Some(level) => &level[..count.min(level.len())],
             None => &[],
         }
+    }
+
+    /// The items, in order.
+    pub fn items(&self) -> &[L]
+        ensures { result.now ≡ items_of self.now }
+    {
+        self.items.as_slice()
     }
 
     /// The number of items.
@@ -150,7 +117,7 @@ impl<L: Linked> RouteTree<L> {
     pub fn whole(&self) -> Option<&L>
         ensures { IsWhole self.now (option_copied result) }
     {
-        self.joins.levels.last()?.first()?.as_ref()
+        self.levels.last()?.first()?.as_ref()
     }
 
     /// The join of some items, found by going up the levels.
@@ -166,7 +133,7 @@ impl<L: Linked> RouteTree<L> {
             before: None,
             behind: None,
         };
-        for level in self.joins.levels.as_slice() {
+        for level in self.levels.as_slice() {
             stretch = stretch.up(context, level.as_slice());
         }
         stretch.closed(context)?
@@ -180,12 +147,6 @@ impl<L: Linked> RouteTree<L> {
         requires within { b ≤ length (items_of self.now) }
         ensures { result ≡ chain (L.op context.now) (slice_range (items_of self.now) a b) }
     {
-        if a == 0 {
-            return self.joins.fronts[b - 1];
-        }
-        if b == self.items.len() {
-            return self.joins.backs[b - a - 1];
-        }
         if b - a == 1 {
             return Some(self.items[a]);
         }
@@ -212,9 +173,9 @@ impl<L: Linked> RouteTree<L> {
         items.extend_from_slice(&self.items[..a])?;
         items.extend_from_slice(list)?;
         items.extend_from_slice(&self.items[b..])?;
-        let joins = self.joins_with(context, items.as_slice(), a)?;
+        let levels = self.levels_with(context, items.as_slice(), a)?;
         self.items = items;
-        self.joins = joins;
+        self.levels = levels;
         Ok(())
     }
 }

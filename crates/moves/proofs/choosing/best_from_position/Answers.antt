@@ -6,18 +6,17 @@ use Rattle.moves.proofs.choosing.best_from_position.Goals as goal
 
 pub loop-length-init : goal.loop-length-init
 loop-length-init c =
-    at_none (problem_of c.args.trees.now) (visits_of c.args.trees.now) c.args.kind (c.args.route ∷ c.args.position ∷ []) c.first_lengths-lengths.result.start
+    at_none (problem_of c.args.trees.now) (visits_of c.args.trees.now) c.args.kind c.args.limit (c.args.route ∷ c.args.position ∷ []) c.first_lengths-lengths.result.start
 
 pub loop-length-preserved : goal.loop-length-preserved
 loop-length-preserved c =
     let range = c.first_lengths-lengths in
-    let e = c.better-best.ensures in
-    rw e (neighbours (problem_of c.args.trees.now) (visits_of c.args.trees.now) c.args.kind (c.args.route ∷ c.args.position ∷ []) range.result.start
-    c.loop-length.length (c.loop-length.length + 1) c.loop-length.best c.best_of_chain.result
-    (omega arith) (omega arith) c.loop-length.invariant c.best_of_chain.ensures)
+    rw c.or-best.ensures
+    (neighbours (problem_of c.args.trees.now) (visits_of c.args.trees.now) c.args.kind c.args.limit (c.args.route ∷ c.args.position ∷ []) range.result.start c.loop-length.length (c.loop-length.length + 1)
+    c.loop-length.best c.best_of_chain.result (omega arith) (omega arith) c.loop-length.invariant (rw c.limit_behind-limit.ensures at c.best_of_chain.ensures))
 
 pub returns : goal.returns
 returns c =
     let range = c.first_lengths-lengths in
-    at_end (problem_of c.args.trees.now) (visits_of c.args.trees.now) c.args.kind (c.args.route ∷ []) c.args.position range.result.start range.result.end c.loop-length.length c.loop-length.best
+    at_end (problem_of c.args.trees.now) (visits_of c.args.trees.now) c.args.kind c.args.limit (c.args.route ∷ []) c.args.position range.result.start range.result.end c.loop-length.length c.loop-length.best
     c.loop-length-test.false range.ensures.range c.loop-length.invariant

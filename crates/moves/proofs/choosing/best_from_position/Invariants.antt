@@ -6,4 +6,4 @@ use Rattle.moves.proofs.choosing.best_from_position.Given as goal
 
 abbrev pub invariant-loop-length : goal.invariant-loop-length
 invariant-loop-length l =
-    IsBestInRange (problem_of l.trees) (visits_of l.trees) l.kind (l.route ∷ l.position ∷ []) l.initial.length l.length l.best
+    IsBestInRange (problem_of l.trees) (visits_of l.trees) l.kind (l.route ∷ l.position ∷ []) l.initial.length l.length l.fn.limit l.best

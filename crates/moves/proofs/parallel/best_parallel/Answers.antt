@@ -1,35 +1,13 @@
-use Rattle.std.proofs.Common.{◌≤◌, ◌<◌, ◌+◌, ℕ, List, [], None, length, slice_index_or, arith}
-use Rattle.std.specs.Prelude.{ℤ, Option}
-use Rattle.solomon_reader.specs.Problem.{Problem}
 use Rattle.segments.specs.PlanTrees.{problem_of}
-use Rattle.moves.specs.declared.candidate.Move.{Move}
-use Rattle.moves.specs.declared.candidate.Kind.{Kind}
+use Rattle.std.proofs.Common.{◌≡◌}
+use Rattle.rayon.proofs.ListFacts.{IfOk-then}
 use Rattle.moves.specs.Trees.{visits_of}
-use Rattle.moves.specs.Search.{IsBestInRange}
-use Rattle.moves.proofs.Searching.{as_many, at_place, neighbours, at_last}
+use Rattle.moves.specs.Order.{kind_of, IsBefore}
+use Rattle.moves.specs.Values.{HasValue}
+use Rattle.moves.proofs.Searching.{without_limit}
 use Rattle.moves.proofs.parallel.best_parallel.Goals as goal
-
--- the best of the moves of a kind with the first route a
-abbrev IsBestFrom : Problem → List (List ℕ) → Kind → ℕ → Option (Move × ℤ) → Type 0
-IsBestFrom p routes k a best = IsBestInRange p routes k [] a (a + 1) best
-
-pub loop-piece-preserved : goal.loop-piece-preserved
-loop-piece-preserved g c =
-    let p = problem_of c.args.trees.now in
-    let routes = visits_of c.args.trees.now in
-    let pieces = c.in_ok-pieces.pieces.items in
-    let place = c.loop-piece.piece-index in
-    let below : place < length pieces = rw c.deref-piece-items.ensures.value at c.loop-piece-test.true in
-    let piece = at_place (IsBestFrom p routes c.args.kind) (length routes) pieces place None c.in_ok-pieces.ensures below in
-    rw (c.better-best.ensures, c.deref-piece-items.ensures.value)
-    (neighbours p routes c.args.kind [] 0 place (place + 1) c.loop-piece.best (slice_index_or pieces place None) (omega arith) (omega arith) c.loop-piece.invariant piece)
 
 pub returns-clause-best : goal.returns-clause-best
 returns-clause-best g c =
-    let p = problem_of c.args.trees.now in
-    let routes = visits_of c.args.trees.now in
-    let pieces = c.in_ok-pieces.pieces.items in
-    let over : length pieces ≤ c.loop-piece.piece-index = rw c.deref-piece-items.ensures.value at c.loop-piece-test.false in
-    let all = as_many (IsBestFrom p routes c.args.kind) 0 (length routes) pieces c.in_ok-pieces.ensures in
-    let most : length routes ≤ c.loop-piece.piece-index = omega (arith, all) in
-    at_last p routes c.args.kind c.loop-piece.piece-index c.loop-piece.best most c.loop-piece.invariant
+    IfOk-then c.best_under_parallel.result _ _ c.best_under_parallel.ensures.best
+    (λ o h. without_limit IsBefore (HasValue (problem_of c.args.trees.now) (visits_of c.args.trees.now)) (λ n. kind_of n ≡ c.args.kind) o h)

@@ -1,6 +1,6 @@
 use Rattle.segments.specs.Joining.{join_assoc}
 use Rattle.segments.proofs.JoinedLists.{stop_met, join_met, join_feasible, join_unmet, closed_is}
-use Rattle.segments.proofs.RouteChanges.{list_joined, list_unjoined, cost_joined}
+use Rattle.segments.proofs.StopJoins.{list_joined, list_unjoined, cost_joined}
 use Rattle.segments.proofs.laws.laws_of_segments.Goals as goal
 
 pub returns : goal.returns

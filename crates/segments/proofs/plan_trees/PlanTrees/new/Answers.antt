@@ -1,4 +1,4 @@
-use Rattle.segments.proofs.RouteChanges.{known_routes}
+use Rattle.segments.proofs.StopJoins.{known_routes}
 use Rattle.segments.proofs.plan_trees.PlanTrees.new.Goals as goal
 
 pub trees_of-requires : goal.trees_of-requires

@@ -11,7 +11,7 @@ pub loop-level-init : goal.loop-level-init
 loop-level-init g c =
     let op = g.L.Linked.op c.args.context.now in
     let items = items_of c.args.self.now in
-    let many = some_levels op items c.args.self.now.joins.levels.items c.requires.tree.levels (omega (arith, c.requires.some, c.requires.within)) in (
+    let many = some_levels op items c.args.self.now.levels.items c.requires.tree.levels (omega (arith, c.requires.some, c.requires.within)) in (
       omega arith,
       omega (arith, c.requires.some),
       omega (arith, c.requires.within, length-map items Some),
@@ -28,7 +28,7 @@ loop-level-preserved g c =
     let t = c.up-stretch.result in
     let inv = c.loop-level.invariant in
     let tree = c.requires.tree.levels in
-    let within : k < length c.args.self.now.joins.levels.items = omega (arith, c.loop-level-test.true) in
+    let within : k < length c.args.self.now.levels.items = omega (arith, c.loop-level-test.true) in
     let read : c.as_slice.result.now ≡ level op (map Some items) k = c.as_slice.ensures.value ∙ ap (λ v. v.items) c.level-item.is
     ∙ ap (λ vs. (get_or vs k c.level-item.result).items) c.as_slice-level-items.ensures.value ∙ tree.each k c.level-item.result within in
     let same : worth op t (pairs op (level op (map Some items) k)) ≡ worth op s (level op (map Some items) k) = rw read at c.up-stretch.ensures.worth in
@@ -37,6 +37,6 @@ loop-level-preserved g c =
       omega arith,
       c.up-stretch.ensures.in_order,
       rw (add-one k) (bound_of_span op (level op (map Some items) k) s.b t.b inv.2 half),
-      λ e. end_of_span op items c.args.self.now.joins.levels.items k s.b t.b tree inv.2 half some e,
+      λ e. end_of_span op items c.args.self.now.levels.items k s.b t.b tree inv.2 half some e,
       rw (add-one k) (same ∙ inv.4),
     )

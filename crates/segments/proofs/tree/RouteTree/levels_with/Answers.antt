@@ -18,7 +18,7 @@ level_above-requires g c =
     let inv = c.loop-k.invariant in
     let read : c.as_slice.result.now ≡ level op (map Some c.args.items.now) k =
     c.as_slice.ensures.value ∙ ap (λ v. v.items) c.index.ensures ∙ inv.2 k c.index.result.now (omega arith) in
-    beginning_known op (items_of c.args.self.now) c.args.self.now.joins.levels.items c.as_slice.result.now c.beginning.result.now k c.loop-k.kept (c.loop-k.kept / 2) c.index.result.now
+    beginning_known op (items_of c.args.self.now) c.args.self.now.levels.items c.as_slice.result.now c.beginning.result.now k c.loop-k.kept (c.loop-k.kept / 2) c.index.result.now
     c.requires.tree.levels c.beginning.ensures (omega arith) (ap (take c.loop-k.kept) read ∙ inv.3)
 
 pub loop-k-init : goal.loop-k-init

@@ -1,0 +1,8 @@
+use Rattle.search.specs.Searching.{DescendsTo}
+use Rattle.search.proofs.descent.descend_parallel.Given as goal
+
+abbrev pub invariant-loop-next : goal.invariant-loop-next
+invariant-loop-next g l = DescendsTo l.fn.plan l.plan
+
+abbrev pub decreases-loop-next : goal.decreases-loop-next
+decreases-loop-next g l = l.plan.cost

@@ -1,2 +1,0 @@
-pub mod KeptRoutes
-pub mod AppliedMoves

@@ -1,7 +1,0 @@
-//! A plan that is changed in place by moves.
-#![tactic(auto)]
-
-mod plan;
-mod replacing;
-
-pub use plan::WorkingPlan;
