@@ -39,7 +39,8 @@ pub(crate) struct Plan {
     pub(crate) routes: usize,
     /// In tenths, before the trial.
     pub(crate) cost: i64,
-    /// The last version of a side. Numbers come again after 2^32 changes, when all places were made anew.
+    /// The last version of a side. Numbers come again after 2^32 changes, when nearly all places were made
+    /// anew.
     version: u32,
     /// How many slots and places were seen.
     pub(crate) steps: u64,
@@ -54,6 +55,25 @@ impl Slot {
         std::mem::swap(&mut self.held, &mut self.other);
         self.is_turned = true;
         true
+    }
+
+    /// Whether both sides have the same stops.
+    fn is_unchanged(&self) -> bool {
+        let (held, other) = (self.held.stops.as_slice(), self.other.stops.as_slice());
+        held.len() == other.len()
+            && held
+                .iter()
+                .zip(other)
+                .all(|(a, b)| a.customer == b.customer)
+    }
+
+    /// Ends a trial: holds what it has changed, or the route before it. A route that it has come back to keeps
+    /// its version, and so the places that are known in it.
+    fn end_trial(&mut self, is_kept: bool) {
+        self.is_turned = false;
+        if !is_kept || self.is_unchanged() {
+            std::mem::swap(&mut self.held, &mut self.other);
+        }
     }
 }
 
@@ -230,10 +250,7 @@ impl Plan {
     pub(crate) fn end_trial(&mut self, is_kept: bool) {
         for number in &self.turned {
             if let Some(slot) = self.slots.get_mut(*number) {
-                slot.is_turned = false;
-                if !is_kept {
-                    std::mem::swap(&mut slot.held, &mut slot.other);
-                }
+                slot.end_trial(is_kept);
             }
         }
         self.turned.clear();
