@@ -1,7 +1,7 @@
 //! In which order customers are put back.
 
 use crate::drawing::below;
-use crate::tables::{Tables, distance_in};
+use crate::tables::Tables;
 use rand_core::Rng;
 
 /// A customer that is to be put back.
@@ -63,7 +63,7 @@ impl Order {
     /// The key of a customer of these misses: those of lesser keys go first.
     pub(crate) fn key(self, tables: &Tables, customer: u16, misses: i32) -> i32 {
         let visit = tables.visit(customer);
-        let far = distance_in(tables.distances_from(customer), 0);
+        let far = tables.distance(customer, 0);
         match self {
             Order::Drawn => 0,
             Order::Demand => 0i32.saturating_sub(visit.demand),

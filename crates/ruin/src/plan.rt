@@ -186,7 +186,7 @@ impl Plan {
         let begin = self.slots.len().saturating_mul(usize::from(customer));
         let end = begin.saturating_add(self.used);
         let places = self.places.as_mut_slice().get_mut(begin..end)?;
-        let newcomer = self.tables.newcomer(customer, 0);
+        let newcomer = self.tables.newcomer(customer, 0)?;
         let (mut choice, mut least, mut steps) = (None, NOWHERE, self.used);
         for (number, (slot, place)) in self.slots.iter().zip(places.iter_mut()).enumerate() {
             if slot.held.customer_count() == 0 {
@@ -235,7 +235,7 @@ impl Plan {
             return Some(self.open(customer));
         };
         let side = &self.slots.get(number)?.held;
-        let newcomer = self.tables.newcomer(customer, side.customer_count());
+        let newcomer = self.tables.newcomer(customer, side.customer_count())?;
         let mut place = UNSEEN;
         side.look(&newcomer, &mut place);
         if place.detour == NOWHERE {

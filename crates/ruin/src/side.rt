@@ -1,6 +1,6 @@
 //! One side of a slot: a route with its times.
 
-use crate::tables::{NOWHERE, Tables, Visit, distance_in};
+use crate::tables::{Distance, Distances, NOWHERE, Tables, Visit, distance_in};
 use crate::window::Window;
 use std::alloc::{AllocError, Global};
 
@@ -52,8 +52,8 @@ pub(crate) struct Side {
 #[derive(Clone, Copy)]
 pub(crate) struct Newcomer<'t> {
     pub(crate) visit: Visit,
-    /// From the customer in tenths, by row.
-    pub(crate) distances: &'t [i32],
+    /// From the customer.
+    pub(crate) distances: &'t Distances,
     /// The greatest load of a route that can take it.
     pub(crate) most_load: i32,
     /// The first stop behind which it may go.
@@ -62,32 +62,38 @@ pub(crate) struct Newcomer<'t> {
 
 impl Newcomer<'_> {
     /// The least detour between two of these stops in tenths, `NOWHERE` where none fits; the stop behind
-    /// which the customer goes; and how many places were passed.
-    fn least_detour(&self, stops: &[Stop]) -> (i64, usize, usize) {
-        let (mut least, mut position) = (i64::from(NOWHERE), 0);
+    /// which the customer goes; and how many places were passed. Times and distances are far below 2^30, so
+    /// no sum here wraps.
+    fn least_detour<D: Distance>(&self, distances: &[D], stops: &[Stop]) -> (i32, usize, usize) {
+        let (mut least, mut position) = (NOWHERE, 0);
         let Some((first, others)) = stops.split_first() else {
             return (least, position, 0);
         };
-        let visit = self.visit;
-        let mut before = *first;
-        let mut there = distance_in(self.distances, before.customer);
+        let Visit {
+            ready,
+            due,
+            service,
+            ..
+        } = self.visit;
+        let (mut leave, mut arc) = (first.leave, first.arc);
+        let mut there = distance_in(distances, first.customer);
         for (number, behind) in others.iter().enumerate() {
-            let arrival = i64::from(before.leave) + i64::from(there);
+            let arrival = leave.wrapping_add(there);
             // Later places are later still.
-            if arrival > i64::from(visit.due) {
+            if arrival > due {
                 return (least, position, number);
             }
-            let onward = distance_in(self.distances, behind.customer);
-            let length = i64::from(there) + i64::from(onward);
-            let detour = length.saturating_sub(i64::from(before.arc));
-            let begin = arrival.max(i64::from(visit.ready));
-            let taken = i64::from(visit.service) + i64::from(onward);
-            if detour < least && begin.saturating_add(taken) <= i64::from(behind.latest) {
+            let onward = distance_in(distances, behind.customer);
+            let detour = there.wrapping_add(onward).wrapping_sub(arc);
+            let next = arrival
+                .max(ready)
+                .wrapping_add(service)
+                .wrapping_add(onward);
+            if detour < least && next <= behind.latest {
                 least = detour;
                 position = number;
             }
-            before = *behind;
-            there = onward;
+            (leave, arc, there) = (behind.leave, behind.arc, onward);
         }
         (least, position, others.len())
     }
@@ -128,8 +134,11 @@ impl Side {
         let first = behind.position(|stop| stop.latest >= leaving);
         let first = first.unwrap_or(self.stops.len()).max(newcomer.first);
         let stops = self.stops.as_slice().get(first..).unwrap_or(&[]);
-        let (detour, position, passed) = newcomer.least_detour(stops);
-        place.detour = detour.clamp(i64::from(i32::MIN), i64::from(NOWHERE)) as i32;
+        let (detour, position, passed) = match newcomer.distances {
+            Distances::Short(short) => newcomer.least_detour(short.as_slice(), stops),
+            Distances::Long(long) => newcomer.least_detour(long.as_slice(), stops),
+        };
+        place.detour = detour;
         let position = first.saturating_add(position);
         place.position = position.min(usize::from(u16::MAX)) as u16;
         first.saturating_add(passed)
@@ -183,12 +192,11 @@ impl Side {
         let Some(before) = self.stops.get_mut(position) else {
             return;
         };
-        let distances = tables.distances_from(customer);
-        before.arc = distance_in(distances, before.customer);
+        before.arc = tables.distance(customer, before.customer);
         let visit = tables.visit(customer);
         let stop = Stop {
             customer,
-            arc: distance_in(distances, behind),
+            arc: tables.distance(customer, behind),
             leave: visit.leaving(before.leave.saturating_add(before.arc)),
             latest: UNKNOWN,
         };
@@ -207,7 +215,7 @@ impl Side {
         let visit = tables.visit(row);
         let (mut arrival, mut arc) = (visit.ready, 0);
         if let Some(last) = self.stops.last_mut() {
-            arc = distance_in(tables.distances_from(row), last.customer);
+            arc = tables.distance(row, last.customer);
             arrival = last.leave.saturating_add(arc);
             last.arc = arc;
         }

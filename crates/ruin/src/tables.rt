@@ -25,8 +25,8 @@ pub(crate) struct Visit {
 pub(crate) struct Tables {
     /// By row.
     visits: Vec<Visit>,
-    /// In tenths, by both rows.
-    distances: Vec<Vec<i32>>,
+    /// By row.
+    distances: Vec<Distances>,
     /// By row all customers, by their distance from it, itself first.
     pub(crate) nearest: Vec<Vec<u16>>,
     capacity: i32,
@@ -39,9 +39,62 @@ impl Visit {
     }
 }
 
+/// A distance in tenths, in as many bytes as it needs.
+pub(crate) trait Distance: Copy {
+    /// In tenths.
+    fn tenths(self) -> i32;
+}
+
+impl Distance for u16 {
+    fn tenths(self) -> i32 {
+        i32::from(self)
+    }
+}
+
+impl Distance for i32 {
+    fn tenths(self) -> i32 {
+        self
+    }
+}
+
 /// The distance to a row in tenths, among all distances from one row.
-pub(crate) fn distance_in(distances: &[i32], to: u16) -> i32 {
-    distances.get(usize::from(to)).copied().unwrap_or(0)
+pub(crate) fn distance_in<D: Distance>(distances: &[D], to: u16) -> i32 {
+    let distance = distances.get(usize::from(to));
+    distance.map_or(0, |distance| distance.tenths())
+}
+
+/// The distances from a row in tenths, by row. To look them up is what trials do most, so they take as few bytes
+/// as they can, and more of them stay in the processor's cache.
+#[derive(Drop)]
+pub(crate) enum Distances {
+    /// Each below 2^16.
+    Short(Vec<u16>),
+    Long(Vec<i32>),
+}
+
+impl Distances {
+    /// The distances of an instance from a row.
+    fn new(alloc: Global, instance: &Instance, row: u16) -> Result<Distances, AllocError>
+        requires { row < length instance.now.rows }
+    {
+        let long = distances_of(alloc, instance, row)?;
+        let mut short = Vec::new(alloc);
+        for distance in &long {
+            let Ok(distance) = u16::try_from(*distance) else {
+                return Ok(Distances::Long(long));
+            };
+            short.push(distance)?;
+        }
+        Ok(Distances::Short(short))
+    }
+
+    /// The distance to a row in tenths.
+    pub(crate) fn to(&self, row: u16) -> i32 {
+        match self {
+            Distances::Short(short) => distance_in(short.as_slice(), row),
+            Distances::Long(long) => distance_in(long.as_slice(), row),
+        }
+    }
 }
 
 /// What is asked for at a row.
@@ -82,13 +135,13 @@ fn nearest_of(
     alloc: Global,
     count: u16,
     row: u16,
-    distances: &[i32],
+    distances: &Distances,
 ) -> Result<Vec<u16>, AllocError> {
     let mut customers = Vec::new(alloc);
     for customer in 1..=count {
         customers.push(customer)?;
     }
-    customers.sort_unstable_by_key(|c| (*c != row, distance_in(distances, *c), *c));
+    customers.sort_unstable_by_key(|c| (*c != row, distances.to(*c), *c));
     Ok(customers)
 }
 
@@ -100,8 +153,8 @@ impl Tables {
         let mut distances = Vec::new(alloc);
         let mut nearest = Vec::new(alloc);
         for row in 0..count + 1 {
-            let from = distances_of(alloc, instance, row)?;
-            nearest.push(nearest_of(alloc, count, row, from.as_slice())?)?;
+            let from = Distances::new(alloc, instance, row)?;
+            nearest.push(nearest_of(alloc, count, row, &from)?)?;
             distances.push(from)?;
             visits.push(visit_of(instance, row))?;
         }
@@ -119,22 +172,20 @@ impl Tables {
         visit.copied().unwrap_or_default()
     }
 
-    /// The distances from a row in tenths, by row.
-    pub(crate) fn distances_from(&self, row: u16) -> &[i32] {
-        match self.distances.get(usize::from(row)) {
-            Some(distances) => distances.as_slice(),
-            None => &[],
-        }
+    /// The distance between two rows in tenths.
+    pub(crate) fn distance(&self, from: u16, to: u16) -> i32 {
+        let distances = self.distances.get(usize::from(from));
+        distances.map_or(0, |distances| distances.to(to))
     }
 
     /// A customer that is to be put into a route, behind this stop or a later one.
-    pub(crate) fn newcomer(&self, customer: u16, first: usize) -> Newcomer<'_> {
+    pub(crate) fn newcomer(&self, customer: u16, first: usize) -> Option<Newcomer<'_>> {
         let visit = self.visit(customer);
-        Newcomer {
+        Some(Newcomer {
             visit,
-            distances: self.distances_from(customer),
+            distances: self.distances.get(usize::from(customer))?,
             most_load: self.capacity.saturating_sub(visit.demand),
             first,
-        }
+        })
     }
 }
