@@ -85,10 +85,9 @@ impl<'i> RuinSearch<'i> {
         let cost = self.trials.plan.cost;
         let least = self.least.unwrap_or(cost).unsigned_abs();
         let customers = u64::from(self.instance.customer_count());
-        let threshold = cooled.draw_threshold(random, least, customers);
         let lent = cooled.whole.saturating_mul(LENT_TENTHS);
         Judgement {
-            limit: cost.saturating_add_unsigned(threshold),
+            threshold: cooled.draw_threshold(random, least, customers),
             most_missed: self.trials.absence.sum(),
             lends: self.first_whole.is_some() && cooled.done.saturating_mul(10) < lent,
         }

@@ -12,6 +12,18 @@ use std::alloc::{AllocError, Global};
 /// A trial takes one to so many strings out, each of another route.
 const STRINGS: usize = 5;
 
+/// So many trials of a hundred are short.
+const SHORT: usize = 50;
+
+/// A short trial takes one to so many strings out.
+const SHORT_STRINGS: usize = 3;
+
+/// A string of a short trial has at most so many customers.
+const SHORT_LONGEST: usize = 10;
+
+/// A threshold is for a trial that takes so many customers out.
+const THRESHOLD_CUSTOMERS: u64 = 16;
+
 /// Once in so many trials the first string is a whole route.
 const WHOLE: usize = 100;
 
@@ -30,13 +42,48 @@ const LENT: usize = 1_000;
 /// How a trial is judged.
 #[derive(Clone, Copy)]
 pub(crate) struct Judgement {
-    /// The greatest cost at which it is kept, in tenths.
-    pub(crate) limit: i64,
+    /// By how many tenths it may be dearer where it takes `THRESHOLD_CUSTOMERS` out, and by as many times more
+    /// where it takes more. Under one threshold for all nearly any small trial is kept, and no large one.
+    pub(crate) threshold: u64,
     /// The misses of the absent customers, 0 where a whole plan is held. It is kept where those that it
     /// leaves out have less, whatever it costs, and isn't where they have more.
     pub(crate) most_missed: i64,
     /// Whether it may be a loan.
     pub(crate) lends: bool,
+}
+
+impl Judgement {
+    /// The greatest cost in tenths at which a trial is kept that takes so many customers out, where the routes
+    /// held cost so many.
+    fn limit(self, held: i64, customers: usize) -> i64 {
+        let grown = self.threshold.saturating_mul(customers as u64);
+        held.saturating_add_unsigned(grown / THRESHOLD_CUSTOMERS)
+    }
+}
+
+/// How much a trial takes out.
+#[derive(Clone, Copy)]
+struct Size {
+    /// So many strings, each of another route.
+    strings: usize,
+    /// At most so many customers a string.
+    longest: usize,
+}
+
+impl Size {
+    /// A random size, where routes have so many customers in the mean.
+    fn draw<R: Rng>(random: &mut R, mean: usize) -> Size {
+        if below(random, 100) < SHORT {
+            return Size {
+                strings: below(random, SHORT_STRINGS).saturating_add(1),
+                longest: mean.min(SHORT_LONGEST),
+            };
+        }
+        Size {
+            strings: below(random, STRINGS).saturating_add(1),
+            longest: mean,
+        }
+    }
 }
 
 /// Routes, and the customers that are absent from them, which trials change.
@@ -100,9 +147,10 @@ impl Trials {
     /// Takes strings of customers out, nearest ones first; answers by how many tenths the routes are longer,
     /// and nothing where one would be late.
     fn ruin<R: Rng>(&mut self, random: &mut R) -> Option<i64> {
-        let mut strings = below(random, STRINGS).saturating_add(1);
         let mean = (usize::from(self.customers) / self.plan.routes.max(1)).max(1);
-        let mut longest = (below(random, WHOLE) > 0).then_some(mean);
+        let size = Size::draw(random, mean);
+        let mut strings = size.strings;
+        let mut longest = (below(random, WHOLE) > 0).then_some(size.longest);
         let center = usize::from(self.draw_center(random));
         let mut change: i64 = 0;
         for place in 0..usize::from(self.customers) {
@@ -119,7 +167,7 @@ impl Trials {
             let window = Window::around(random, stops, customer, longest);
             window.take(stops, &mut self.out);
             change = change.saturating_add(self.plan.cut(number, window)?);
-            longest = Some(mean);
+            longest = Some(size.longest);
             strings = strings.saturating_sub(1);
             if strings == 0 {
                 break;
@@ -157,6 +205,7 @@ impl Trials {
         change: i64,
         judgement: Judgement,
     ) -> Option<i64> {
+        let limit = judgement.limit(self.plan.cost, self.out.len());
         self.add_absent();
         self.order(random);
         let mut opens = below(random, OPENED) == 0;
@@ -179,12 +228,12 @@ impl Trials {
                 let misses = self.absence.leave_out(removed.customer);
                 missed = missed.saturating_add(i64::from(misses));
             }
-            let is_dear = most_missed == 0 && cost > judgement.limit;
+            let is_dear = most_missed == 0 && cost > limit;
             if is_dear || missed > most_missed {
                 return None;
             }
         }
-        (missed < most_missed || cost <= judgement.limit).then_some(cost)
+        (missed < most_missed || cost <= limit).then_some(cost)
     }
 
     /// Keeps a trial of this cost in tenths, or goes back to the routes before it.
