@@ -12,14 +12,11 @@ pub struct Progress {
     pub whole: u64,
 }
 
-/// The first temperature, in hundredths of the cheapest plan's cost for each customer.
-const FIRST_HUNDREDTHS: u64 = 60;
-
 /// By how many 256ths of a halving the temperature falls in all: to a tenth.
 const HALVINGS_256: u64 = 850;
 
 /// A temperature has so many parts of a tenth.
-const PARTS: u64 = 65_536;
+pub(crate) const PARTS: u64 = 65_536;
 
 /// So many parts times 2^(-i/16).
 const POWERS: [u64; 16] = [
@@ -54,10 +51,9 @@ impl Progress {
         }
     }
 
-    /// By how many tenths a trial may be dearer where the cheapest plan costs so many: drawn at random, mostly
-    /// few.
-    pub(crate) fn draw_threshold<R: Rng>(self, random: &mut R, cost: u64, customers: u64) -> u64 {
-        let first = cost.saturating_mul(FIRST_HUNDREDTHS * PARTS) / 100 / customers.max(1);
+    /// By how many tenths a trial may be dearer where the first temperature has so many parts: drawn at
+    /// random, mostly few.
+    pub(crate) fn draw_threshold<R: Rng>(self, random: &mut R, first: u64) -> u64 {
         let whole = self.whole.max(1);
         let fall = self.done.min(whole).saturating_mul(HALVINGS_256) / whole;
         let halvings = (fall / 256).min(63) as u32;

@@ -8,3 +8,9 @@ pub(crate) fn below<R: Rng>(random: &mut R, bound: usize) -> usize {
     let product = u64::from(random.next_u32()).saturating_mul(bound as u64);
     (product >> 32) as usize
 }
+
+/// A random number between two, both among them.
+pub(crate) fn between<R: Rng>(random: &mut R, least: usize, most: usize) -> usize {
+    let count = most.saturating_sub(least).saturating_add(1);
+    below(random, count).saturating_add(least)
+}

@@ -9,6 +9,7 @@ mod drawing;
 mod order;
 mod plan;
 mod ruin_search;
+mod rule;
 mod side;
 mod tables;
 mod trials;

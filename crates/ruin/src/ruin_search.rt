@@ -1,13 +1,14 @@
 //! The search.
 
 use crate::cooling::Progress;
+use crate::rule::Rule;
 use crate::trials::{Judgement, Trials};
 use rand_core::Rng;
 use solomon_reader::Instance;
 use std::alloc::{AllocError, Global};
 
 /// So many steps for each customer are a turn: some 15 milliseconds at 100 customers, and 60 to 90 at 400.
-pub const STEPS_OF_CUSTOMER: u64 = 32_000;
+pub const STEPS_OF_CUSTOMER: u64 = 36_000;
 
 /// What a trial takes beside its slots and places, in steps.
 const STEPS_OF_TRIAL: u64 = 800;
@@ -24,6 +25,8 @@ const LENT_TENTHS: u64 = 7;
 pub struct RuinSearch<'i> {
     instance: &'i Instance,
     trials: Trials,
+    /// Drawn at the first trial.
+    rule: Option<Rule>,
     /// The cost of the cheapest whole plan that was met, in tenths.
     least: Option<i64>,
     /// The stops of its routes, with the depot behind each route.
@@ -42,6 +45,7 @@ impl<'i> RuinSearch<'i> {
         Ok(RuinSearch {
             instance,
             trials: Trials::new(alloc, instance)?,
+            rule: None,
             least: None,
             least_tour: Vec::with_capacity(alloc, rows.saturating_mul(2))?,
             done: 0,
@@ -80,14 +84,15 @@ impl<'i> RuinSearch<'i> {
     }
 
     /// How a trial is judged with so much of the run done.
-    fn judgement<R: Rng>(&self, random: &mut R, progress: Progress) -> Judgement {
+    fn judgement<R: Rng>(&self, random: &mut R, rule: Rule, progress: Progress) -> Judgement {
         let cooled = progress.since(self.first_whole.unwrap_or(progress.done));
         let cost = self.trials.plan.cost;
         let least = self.least.unwrap_or(cost).unsigned_abs();
         let customers = u64::from(self.instance.customer_count());
+        let first = rule.first_temperature(least, customers);
         let lent = cooled.whole.saturating_mul(LENT_TENTHS);
         Judgement {
-            threshold: cooled.draw_threshold(random, least, customers),
+            threshold: cooled.draw_threshold(random, first),
             most_missed: self.trials.absence.sum(),
             lends: self.first_whole.is_some() && cooled.done.saturating_mul(10) < lent,
         }
@@ -98,6 +103,8 @@ impl<'i> RuinSearch<'i> {
     /// from the first whole plan on.
     /// No contract: a rule of search; who takes its routes checks them.
     pub fn search<R: Rng>(&mut self, random: &mut R, work: u64, from: Progress, to: Progress) {
+        let rule = self.rule.unwrap_or_else(|| Rule::draw(random));
+        self.rule = Some(rule);
         self.trials.plan.steps = 0;
         for _ in 0..work {
             let steps = self.trials.plan.steps;
@@ -107,8 +114,8 @@ impl<'i> RuinSearch<'i> {
             let progress = from.toward(to, steps, work);
             self.done = progress.done;
             self.trials.plan.steps = steps.saturating_add(STEPS_OF_TRIAL);
-            let judgement = self.judgement(random, progress);
-            self.trials.attempt(random, judgement);
+            let judgement = self.judgement(random, rule, progress);
+            self.trials.attempt(random, rule, judgement);
             self.note_least();
         }
         self.done = to.done;

@@ -4,6 +4,7 @@ use crate::absence::Absence;
 use crate::drawing::below;
 use crate::order::{Order, Removed};
 use crate::plan::Plan;
+use crate::rule::Rule;
 use crate::window::Window;
 use rand_core::Rng;
 use solomon_reader::Instance;
@@ -11,9 +12,6 @@ use std::alloc::{AllocError, Global};
 
 /// A trial takes one to so many strings out, each of another route.
 const STRINGS: usize = 5;
-
-/// So many trials of a hundred are short.
-const SHORT: usize = 50;
 
 /// A short trial takes one to so many strings out.
 const SHORT_STRINGS: usize = 3;
@@ -23,12 +21,6 @@ const SHORT_LONGEST: usize = 10;
 
 /// A threshold is for a trial that takes so many customers out.
 const THRESHOLD_CUSTOMERS: u64 = 16;
-
-/// Once in so many trials the first string is a whole route.
-const WHOLE: usize = 100;
-
-/// Once in so many trials a route is begun with the first customer that is put back.
-const OPENED: usize = 100;
 
 /// Where customers are absent, so many trials of a hundred are near one of them.
 const NEAR_ABSENT: usize = 75;
@@ -72,8 +64,8 @@ struct Size {
 
 impl Size {
     /// A random size, where routes have so many customers in the mean.
-    fn draw<R: Rng>(random: &mut R, mean: usize) -> Size {
-        if below(random, 100) < SHORT {
+    fn draw<R: Rng>(random: &mut R, rule: Rule, mean: usize) -> Size {
+        if below(random, 100) < rule.short_percent {
             return Size {
                 strings: below(random, SHORT_STRINGS).saturating_add(1),
                 longest: mean.min(SHORT_LONGEST),
@@ -146,11 +138,11 @@ impl Trials {
 
     /// Takes strings of customers out, nearest ones first; answers by how many tenths the routes are longer,
     /// and nothing where one would be late.
-    fn ruin<R: Rng>(&mut self, random: &mut R) -> Option<i64> {
+    fn ruin<R: Rng>(&mut self, random: &mut R, rule: Rule) -> Option<i64> {
         let mean = (usize::from(self.customers) / self.plan.routes.max(1)).max(1);
-        let size = Size::draw(random, mean);
+        let size = Size::draw(random, rule, mean);
         let mut strings = size.strings;
-        let mut longest = (below(random, WHOLE) > 0).then_some(size.longest);
+        let mut longest = (below(random, rule.whole) > 0).then_some(size.longest);
         let center = usize::from(self.draw_center(random));
         let mut change: i64 = 0;
         for place in 0..usize::from(self.customers) {
@@ -202,13 +194,14 @@ impl Trials {
     fn recreate<R: Rng>(
         &mut self,
         random: &mut R,
+        rule: Rule,
         change: i64,
         judgement: Judgement,
     ) -> Option<i64> {
         let limit = judgement.limit(self.plan.cost, self.out.len());
         self.add_absent();
         self.order(random);
-        let mut opens = below(random, OPENED) == 0;
+        let mut opens = below(random, rule.opened) == 0;
         let mut most_missed = judgement.most_missed;
         let mut missed: i64 = 0;
         let mut cost = self.plan.cost.saturating_add(change);
@@ -250,10 +243,10 @@ impl Trials {
     }
 
     /// Makes a trial.
-    pub(crate) fn attempt<R: Rng>(&mut self, random: &mut R, judgement: Judgement) {
+    pub(crate) fn attempt<R: Rng>(&mut self, random: &mut R, rule: Rule, judgement: Judgement) {
         self.out.clear();
-        let cost = match self.ruin(random) {
-            Some(change) => self.recreate(random, change, judgement),
+        let cost = match self.ruin(random, rule) {
+            Some(change) => self.recreate(random, rule, change, judgement),
             None => None,
         };
         self.end(cost);

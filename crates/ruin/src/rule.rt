@@ -1,0 +1,38 @@
+//! The rule of a search.
+
+use crate::cooling::PARTS;
+use crate::drawing::between;
+use rand_core::Rng;
+
+/// How warm a search begins, and how often it does what. Each draws its own rule, so that two searches of an
+/// instance seldom end in the same valley.
+#[derive(Clone, Copy)]
+pub(crate) struct Rule {
+    /// The first temperature, in hundredths of the cheapest plan's cost for each customer.
+    first_hundredths: u64,
+    /// So many trials of a hundred are short.
+    pub(crate) short_percent: usize,
+    /// Once in so many trials the first string is a whole route.
+    pub(crate) whole: usize,
+    /// Once in so many trials a route is begun with the first customer that is put back.
+    pub(crate) opened: usize,
+}
+
+impl Rule {
+    /// A random rule.
+    pub(crate) fn draw<R: Rng>(random: &mut R) -> Rule {
+        Rule {
+            first_hundredths: between(random, 60, 100) as u64,
+            short_percent: between(random, 20, 60),
+            whole: between(random, 30, 100),
+            opened: between(random, 30, 100),
+        }
+    }
+
+    /// The first temperature in parts of a tenth, where the cheapest plan of so many customers costs so many
+    /// tenths.
+    pub(crate) fn first_temperature(self, cost: u64, customers: u64) -> u64 {
+        let parts = cost.saturating_mul(PARTS);
+        parts.saturating_mul(self.first_hundredths) / 100 / customers.max(1)
+    }
+}
