@@ -18,9 +18,10 @@ use labelling::LabelFault;
 use price_ascent::{start_from, start_without_plan};
 use prices::Priced;
 use schedule::Feasible;
-use search::descended;
+use search::{HeldPlan, descended_parallel};
 use solomon_reader::Instance;
 use std::alloc::{AllocError, Global};
+use std::thread::Threads;
 use worker_turns::{Settings, pricing_labels};
 
 /// The worker that offers the first plan.
@@ -30,7 +31,7 @@ const FIRST_WORKER: u16 = 0;
 #[derive(Drop)]
 pub(crate) struct Opening<'i> {
     pub(crate) book: Book<'i>,
-    pub(crate) plan: Option<Feasible<'i>>,
+    pub(crate) plan: Option<HeldPlan<'i>>,
 }
 
 /// The root with prices of zero. `LabelLimit` where the labels don't suffice for them, and `Memory`.
@@ -101,13 +102,14 @@ fn offer<'i>(book: &mut Book<'i>, plan: Feasible<'i>) -> Result<(), RunFault>
     }
 }
 
-/// Offers a plan, and what a descent makes of it where that is cheaper; answers the plan to go on
-/// from.
-fn offer_both<'i>(
+/// Offers a plan, and what a descent makes of it where that is cheaper; answers the plan to go on from. Where memory
+/// is refused to the descent, it is the plan that this has come to.
+fn offer_both<'i, R: Threads + Sync>(
+    rt: &R,
     alloc: Global,
     book: &mut Book<'i>,
     plan: Feasible<'i>,
-) -> Result<Feasible<'i>, RunFault>
+) -> Result<HeldPlan<'i>, RunFault>
     requires problem { plan.problem ≡ book.old.problem }
     requires room { length book.old.past + 1 < book.old.limits.events }
     ensures problem { book.new.problem ≡ book.old.problem }
@@ -116,10 +118,11 @@ fn offer_both<'i>(
     ensures memory { IfErr result (λ e. e ≡ Memory) }
 {
     let cost = plan.cost();
-    let lower = descended(alloc, &plan)?;
+    let begun = plan.try_clone()?;
     offer(book, plan)?;
-    if lower.cost().get() < cost.get() {
-        offer(book, lower.try_clone()?)?;
+    let lower = descended_parallel(rt, alloc, begun);
+    if lower.plan.cost().get() < cost.get() {
+        offer(book, lower.plan.try_clone()?)?;
     }
     Ok(lower)
 }
@@ -127,7 +130,8 @@ fn offer_both<'i>(
 impl<'i> Opening<'i> {
     /// A book of the root that was offered a first plan and what a descent makes of it, if insertion builds one
     /// or one is given, the cheaper one; else its prices begin where they may show that there is no plan.
-    pub(crate) fn new(
+    pub(crate) fn new<R: Threads + Sync>(
+        rt: &R,
         alloc: Global,
         instance: &'i Instance,
         settings: &Settings,
@@ -149,7 +153,7 @@ impl<'i> Opening<'i> {
         };
         let root = start_from(alloc, root, plan.routes(), labels);
         let mut book = open_book(alloc, root)?;
-        let plan = offer_both(alloc, &mut book, plan)?;
+        let plan = offer_both(rt, alloc, &mut book, plan)?;
         Ok(Opening {
             book,
             plan: Some(plan),

@@ -4,7 +4,7 @@ use crate::at_desk::AtDesk;
 use crate::crew::Post;
 use desk::{Naming, Share};
 use rand_xoshiro::Xoshiro256PlusPlus;
-use schedule::Feasible;
+use search::HeldPlan;
 use std::sync::Wait;
 use worker_turns::{Gate, Nodes, Settings, Worker, bound_worker, search_worker};
 
@@ -13,7 +13,7 @@ use worker_turns::{Gate, Nodes, Settings, Worker, bound_worker, search_worker};
 pub(crate) enum Task<'a, 'i> {
     /// It looks for plans, from this one on, with these random words.
     Search {
-        plan: Option<Feasible<'i>>,
+        plan: Option<HeldPlan<'i>>,
         random: Xoshiro256PlusPlus,
     },
     /// It raises the bound at these nodes.

@@ -24,6 +24,7 @@ use desk::{Blanks, Desk, Naming, Share};
 use incumbent_book::{Gap, Outcome};
 use node_pool::{Hand, Pass, Pool, Thief};
 use schedule::Feasible;
+use search::HeldPlan;
 use solomon_reader::Instance;
 use std::alloc::{AllocError, Global};
 use std::marker::Brand;
@@ -54,7 +55,7 @@ struct Site<'a, 'i, R: Wait, J: Naming, G> {
     desk: &'a Desk<'i, J>,
     ceiling: &'a Ceiling,
     deques: &'a [Thief],
-    plan: Option<&'a Feasible<'i>>,
+    plan: Option<&'a HeldPlan<'i>>,
 }
 
 /// The task of a worker: it raises the bound where it has the end of a deque, else it looks for plans.
@@ -68,10 +69,14 @@ fn task_of<'a, 'i, R: Wait, J: Naming, G>(
 {
     let given = site.given;
     if let (Some(own), Some(pass)) = (own, pass) {
+        let plan = match site.plan {
+            Some(held) => Some(&held.plan),
+            None => None,
+        };
         let nodes = Nodes::new(
             given.alloc,
             given.instance,
-            site.plan,
+            plan,
             own,
             site.deques,
             pass,
@@ -79,7 +84,7 @@ fn task_of<'a, 'i, R: Wait, J: Naming, G>(
         return Ok(Task::Bound { nodes });
     }
     let plan = match site.plan {
-        Some(plan) => Some(plan.try_clone()?),
+        Some(held) => Some(held.try_clone()?),
         None => None,
     };
     let random = generator(given.settings.seed, number);
@@ -155,7 +160,7 @@ fn work_together<'i, R: Threads + Wait + Sync, J: Naming + Send + Sync, G: Gate 
     given: &Given<'_, 'i, R, G>,
     desk: &Desk<'i, J>,
     shares: Vec<Share<J>>,
-    plan: Option<&Feasible<'i>>,
+    plan: Option<&HeldPlan<'i>>,
     gap: &Gap,
 ) -> Result<Vec<Share<J>>, RunFault>
     requires few { (0 < vec_len shares) × (vec_len shares ≤ 2 ^ 16) }
@@ -263,7 +268,7 @@ pub fn run_from<'i, R: Threads + Wait + Sync, G: Gate + Sync>(
     if !settings.is_within() {
         return Err(RunFault::BadSettings);
     }
-    let opening = Opening::new(alloc, instance, settings, start)?;
+    let opening = Opening::new(rt, alloc, instance, settings, start)?;
     let given = Given {
         rt,
         alloc,

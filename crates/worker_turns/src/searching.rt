@@ -10,7 +10,7 @@ use crate::worker::Worker;
 use insertion::{Weights, build_whole};
 use rand_core::Rng;
 use schedule::Feasible;
-use search::{Pace, Searcher, Seeker};
+use search::{HeldPlan, Pace, Searcher, Seeker};
 use solomon_reader::Instance;
 use std::alloc::Global;
 
@@ -20,7 +20,7 @@ use std::alloc::Global;
 enum Quest<'i, R> {
     At(Searcher<'i, R>),
     Seeking(Seeker<'i, R>),
-    Begins(Option<Feasible<'i>>, R),
+    Begins(Option<HeldPlan<'i>>, R),
 }
 
 impl<'i, R: Rng + Drop> Quest<'i, R> {
@@ -29,7 +29,8 @@ impl<'i, R: Rng + Drop> Quest<'i, R> {
         match self {
             Quest::At(searcher) => Some(searcher.plan()),
             Quest::Seeking(_) => None,
-            Quest::Begins(plan, _) => plan.as_ref(),
+            Quest::Begins(Some(held), _) => Some(&held.plan),
+            Quest::Begins(None, _) => None,
         }
     }
 }
@@ -65,17 +66,18 @@ fn seek_first<'i, R: Rng + Drop>(
     }
 }
 
-/// Begins with a descent from the plan and a turn from there, or looks for a first plan.
+/// Begins with a descent from the plan, unless it is known as a local optimum, and a turn from there; or looks for a
+/// first plan.
 fn begin<'i, R: Rng + Drop>(
     alloc: Global,
     instance: &'i Instance,
-    plan: Option<Feasible<'i>>,
+    plan: Option<HeldPlan<'i>>,
     random: R,
     pace: Pace,
 ) -> Result<Quest<'i, R>, Refusal> {
     match plan {
-        Some(plan) => {
-            let mut searcher = Searcher::new(alloc, plan, random);
+        Some(held) => {
+            let mut searcher = Searcher::holding(alloc, held, random);
             searcher.descend()?;
             go_on(searcher, pace)
         }
@@ -146,7 +148,7 @@ fn turn<'i, H: Hub<'i>, G: Gate, R: Rng + Drop>(
 /// or are near enough, a turn does nothing.
 pub fn search_worker<'i, H: Hub<'i>, G: Gate, R: Rng + Drop>(
     worker: &mut Worker<'_, 'i, H, G>,
-    plan: Option<Feasible<'i>>,
+    plan: Option<HeldPlan<'i>>,
     turns: u32,
     random: R,
 ) -> u32
