@@ -1,12 +1,13 @@
 -- Turns: a descent and a search for a cheaper plan, which is held where one is found.
 use Rattle.std.specs.Prelude.{◌≡◌, ◌<◌, ◌≤◌, ◌⊎◌}
 use Rattle.solomon_reader.specs.Moves.{IsLocalOptimum}
-use Rattle.schedule.specs.Solution.{Solution}
+use Rattle.schedule.specs.Solution.{Solution, IsSolution}
 use Rattle.search.specs.Searching.{Descends}
 
--- a plan of the same instance, which no single move makes cheaper, and which costs no more
+-- a plan of the same instance at its exact cost, which no single move makes cheaper, and which costs no more
 pub record IsOptimumBelow (old new : Solution) : Type 0 where
   pub problem : new.problem ≡ old.problem
+  pub plan : IsSolution new
   pub optimum : IsLocalOptimum new.problem new.routes
   pub no_dearer : new.cost ≤ old.cost
 
