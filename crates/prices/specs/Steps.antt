@@ -7,7 +7,7 @@ use Rattle.solomon_reader.specs.Plan.{count_of}
 use Rattle.solomon_reader.specs.Region.{Region}
 use Rattle.solomon_reader.specs.Relaxed.{IsRelaxed, IsLeast, reduced_cost, price_of}
 use Rattle.solomon_reader.specs.declared.limits.TheConstants.{MOST_PRICE}
-use Rattle.prices.specs.ValuedPrices.{ValuedPrices}
+use Rattle.prices.specs.ValuedPrices.{ValuedPrices, IsValued}
 
 -- the number of the range of prices that is nearest to z
 abbrev pub cut : ℤ → ℤ
@@ -28,12 +28,13 @@ abbrev pub IsStepped : Problem → Region → ℕ → ℤ → List ℤ → List 
 IsStepped p g k s old new =
     (r : List ℕ) × IsGuide p g k old r × (new ≡ map (λ i. price_after s (count_of i r) (price_of old i)) (customers p))
 
--- prices with their value after one step, at the same region of the same instance
+-- the prices after one step, with the value that they give, at the same region of the same instance
 pub record IsNext (old : ValuedPrices) (s : ℤ) (new : ValuedPrices) : Type 0 where
   pub problem : new.problem ≡ old.problem
   pub region : new.region ≡ old.region
   pub neighbours : new.neighbours ≡ old.neighbours
   pub stepped : IsStepped old.problem old.region old.neighbours s old.prices new.prices
+  pub valued : IsValued new
 
 -- the prices met on the way, one for each step, each from those that the step before left
 abbrev pub AreNext : ValuedPrices → List ℤ → List ValuedPrices → Type 0
