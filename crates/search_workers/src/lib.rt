@@ -8,8 +8,9 @@ mod opening;
 mod post;
 mod running;
 
+pub use closing::{CloseAloneFault, Found, close_alone};
 pub use fault::RunFault;
 pub use running::{run, run_from};
 pub use worker_turns::{
-    Gate, GatePoint, Hub, Nodes, Settings, Worker, bound_worker, generator, search_worker,
+    Gate, GatePoint, Hub, NoGate, Nodes, Settings, Worker, bound_worker, generator, search_worker,
 };
