@@ -8,7 +8,7 @@ use Rattle.solomon_reader.specs.SolutionText.{IsSolutionText}
 use Rattle.schedule.specs.Solution.{Solution, IsSolution}
 use Rattle.checker.specs.declared.fault.CheckFault.{CheckFault}
 use Rattle.checker.specs.declared.fault.CheckFault.TheVariants as check
-use Rattle.checker.specs.Checking.{Spelled, IsSolutionOf, RefusesSolutionText, RefusesSolution}
+use Rattle.checker.specs.Checking.{Spelled, IsSolutionOf, IsRightSolution, RefusesSolutionText, RefusesSolution}
 use Rattle.vrptw.specs.declared.answer.Answer.{Answer}
 use Rattle.vrptw.specs.declared.answer.Answer.TheVariants.{Best, Gap, NoPlan, Open}
 use Rattle.vrptw.specs.declared.answer.SolveFault.{SolveFault}
@@ -52,8 +52,24 @@ abbrev pub IsStartFault : Problem → Option (List ℕ) → StartFault → Type 
 IsStartFault p text (Solve e) = e ≡ fault.Memory
 IsStartFault p text (Start e) = RefusesStart p text e
 
--- What is told without a plan to start from is told with one, too, and the answer is no worse; but where the text to start from has a fault, that is told, and nothing was written.
+-- the first text is an instance, and the text to start from, if there is one, that of a plan and of its exact cost
+abbrev pub AreRightTexts : List ℕ → Option (List ℕ) → Type 0
+AreRightTexts text start = (p : Problem) × IsInstance text p × IsRightSolution p start
+
+-- a fault that is neither of the instance nor of memory is told only behind both texts: they are right
+abbrev pub IsBehindTexts : List ℕ → Option (List ℕ) → SolveFault → Type 0
+IsBehindTexts text start fault.Memory = Unit {0}
+IsBehindTexts text start (fault.Instance f) = Unit {0}
+IsBehindTexts text start fault.BadSettings = AreRightTexts text start
+IsBehindTexts text start fault.LabelLimit = AreRightTexts text start
+IsBehindTexts text start fault.NoThread = AreRightTexts text start
+IsBehindTexts text start fault.LeafLimit = AreRightTexts text start
+IsBehindTexts text start fault.TooLarge = AreRightTexts text start
+IsBehindTexts text start fault.Device = AreRightTexts text start
+
+-- What is told without a plan to start from is told with one, too, and the answer is no worse; but where the text to
+-- start from has a fault, that is told, behind the faults of the instance and before all others, and nothing was written.
 abbrev pub TellsFrom : (Result Answer SolveFault → Type 0) → List ℕ → Option (List ℕ) → Held → Held → Held → Held → Result Answer StartFault → Type 0
 TellsFrom Tells text start s s' c c' (Ok answer) = Tells (Ok answer) × ((p : Problem) × IsInstance text p × IsNoWorse p start answer)
-TellsFrom Tells text start s s' c c' (Err (Solve e)) = Tells (Err e)
+TellsFrom Tells text start s s' c c' (Err (Solve e)) = Tells (Err e) × IsBehindTexts text start e
 TellsFrom Tells text start s s' c c' (Err (Start e)) = ((p : Problem) × IsInstance text p × RefusesStart p start e) × (s' ≡ s) × (c' ≡ c)
