@@ -10,7 +10,6 @@ mod certificate;
 mod checking;
 mod completions;
 mod fronts;
-mod gains;
 mod insertion;
 mod labelling;
 mod labels;
@@ -32,7 +31,6 @@ mod shim;
 mod solomon_reader;
 mod tenths;
 mod tree_bound;
-mod working_plan;
 
 use solomon_reader::Instance;
 
