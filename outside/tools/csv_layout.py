@@ -50,7 +50,7 @@ def noted_numbers(table):
 def names_in(text, table, quantities):
     """The column of the names, and the names by their rows; both None where there is none."""
     column = next((column for column in NAMED if column in table.heading), None)
-    if column is None and quantities.keeps_names:
+    if column is None and quantities.needs_names:
         text.refuse(table.line, "no column %s" % " or ".join(quoted(one) for one in NAMED), "one for --names")
     if column is None:
         return None, None
@@ -68,7 +68,7 @@ def read(text, quantities):
     nodes = {Found(number, line): row_of(table, line, fields, quantities)
              for number, (line, fields) in enumerate(table.rows)}
     column, names = names_in(text, table, quantities)
-    kept = [column] if quantities.keeps_names else []
+    kept = [column] if column and quantities.keeps_names else []
     others = [quoted(one) for one in table.heading if one not in table.columns + kept]
     notes = ["these columns are passed over: %s%s" % (
         listed(others), "" if kept or not column else " (--names FILE keeps the names of %s)" % quoted(column)

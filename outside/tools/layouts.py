@@ -27,10 +27,11 @@ Read = namedtuple("Read", "name fleet capacity nodes depot notes names")
 
 class Quantities:
     """The numbers of a text within the limits of ours, coordinates and times multiplied by the scale. A horizon is the
-    end of the day of a text without windows."""
+    end of the day of a text without windows. Names are kept or not, and a table without any may be refused."""
 
-    def __init__(self, text, scale, horizon=None, keeps_names=False):
-        self.text, self.scale, self.horizon, self.keeps_names = text, scale, horizon, keeps_names
+    def __init__(self, text, scale, horizon=None, keeps_names=False, needs_names=False):
+        self.text, self.scale, self.horizon = text, scale, horizon
+        self.keeps_names, self.needs_names = keeps_names, needs_names
 
     def refuse_horizon(self, line):
         """A text with windows, which begin in this line, has no horizon by an option."""
