@@ -24,29 +24,36 @@ def way(instance, route):
 
 
 class Carried:
-    """Two instances, by names where both have some; notes of what was done."""
+    """Two instances, by names where both have some; notes of what was done, in which customers are told as the two
+    functions say, those of the first instance and of the changed one."""
 
-    def __init__(self, instance, changed, names):
+    def __init__(self, instance, changed, names, told=(str, str)):
+        self.told = told
         both = names if all(names) else (None, None)
         before, after = marks_of(instance, both[0]), marks_of(changed, both[1])
         self.changed, self.notes = changed, []
         self.again = {i: after[mark] for mark, i in before.items() if mark in after}
         gone = [i for i in before.values() if i not in self.again]
         self.new = sorted(set(after.values()) - set(self.again.values()))
-        self.note("customers that are gone, by their numbers before", gone)
-        self.note("new customers", self.new)
+        self.note("customers that are gone%s" % (", by their numbers before" if told[0] is str else ""), gone, told[0])
+        self.note("new customers", self.new, told[1])
 
-    def note(self, words, numbers):
+    def note(self, words, numbers, told):
         if numbers:
-            self.notes.append("%s: %s" % (words, listed(sorted(numbers))))
+            self.notes.append("%s: %s" % (words, listed([told(number) for number in sorted(numbers)])))
 
-    def carry(self, routes):
-        """The routes of the changed instance that serve each customer once."""
+    def carry(self, routes, absent=None):
+        """The routes of the changed instance that serve each customer once. Who fits into none of them is put into the
+        list of those that are absent; without one that is refused."""
         kept = [[self.again[i] for i in route if i in self.again] for route in routes]
         kept, left = self.shortened([route for route in kept if route])
-        self.note("customers that no longer fit where they were", left)
+        self.note("customers that no longer fit where they were", left, self.told[1])
         for customer in sorted(left + self.new, key=lambda i: (self.changed.due(i), i)):
-            self.put(kept, customer)
+            if self.put(kept, customer):
+                continue
+            if absent is None:
+                raise Refused("customer %s of the changed instance fits into no route" % self.told[1](customer))
+            absent.append(customer)
         return kept
 
     def shortened(self, routes):
@@ -61,7 +68,7 @@ class Carried:
         return found, left
 
     def put(self, routes, customer):
-        """Puts a customer where the way around is shortest, or alone."""
+        """Puts a customer where the way around is shortest, or alone; answers whether there is such a place."""
         places = [(way(self.changed, longer) - way(self.changed, route), k, longer)
                   for k, route in enumerate(routes) for at in range(len(route) + 1)
                   for longer in [route[:at] + [customer] + route[at:]] if fits(self.changed, longer)]
@@ -71,4 +78,5 @@ class Carried:
         elif len(routes) < self.changed.fleet and fits(self.changed, [customer]):
             routes.append([customer])
         else:
-            raise Refused("customer %d of the changed instance fits into no route" % customer)
+            return False
+        return True
