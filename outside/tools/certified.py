@@ -1,26 +1,63 @@
-"""A certificate with the values of its leaves, found anew by as many processes as there are processors."""
-from concurrent.futures import ProcessPoolExecutor
+"""A certificate with the values of its leaves, found anew by some processes."""
+import os
+from multiprocessing import Pool
 
 from reference.pricing import Pricing, leaves
 from reference.texts import shown
 from tools.plans import certificate_of
+from tools.stopping import end_by_signals, end_with_parent
+from tools.telling import Telling
 from tools.tool import Refused, told_path
 
 
-def certified(instance, path):
-    """The certificate, and the values of its leaves in preorder, None where a leaf has too many labels. One of another
-    instance is refused, and one whose bound isn't its tree's."""
+def of_instance(instance, path):
+    """The certificate of a file; one of another instance is refused."""
     certificate = certificate_of(path)
     if (certificate.name, certificate.count) != (instance.name, instance.count):
         raise Refused("%s: line 2: met a certificate of another instance, wanted %s with %d customers"
                       % (told_path(path), instance.name.decode(), instance.count))
+    return certificate
+
+
+def refuse_bound(path, bound, least):
+    raise Refused("%s: line 5: met a bound of %s, wanted that of the tree, %s"
+                  % (told_path(path), shown(bound), shown(least)))
+
+
+class Leaf:
+    """Finds the value of a leaf in a process of its own."""
+
+    def __init__(self, pricing):
+        self.pricing = pricing
+
+    def __call__(self, leaf):
+        return self.pricing.value(*leaf)
+
+
+def values_of(instance, certificate, jobs, head):
+    """The values of the leaves in preorder, None where a leaf has too many labels; it is told how far that is."""
     pricing = Pricing(instance, certificate.neighbours, certificate.version)
-    with ProcessPoolExecutor() as pool:
-        values = list(pool.map(pricing.value, *zip(*leaves(instance.count, certificate.tree))))
+    found, telling = [], Telling(head)
+    rest = list(leaves(instance.count, certificate.tree))
+    end_by_signals()
+    # The pool ends its processes where this one is broken off.
+    with Pool(min(jobs or os.cpu_count() or 1, len(rest)), end_with_parent) as pool:
+        for value in pool.imap(Leaf(pricing), rest):
+            found.append(value)
+            if telling.is_due():
+                telling.tell("%d of %d leaves" % (len(found), len(rest)))
+    telling.end()
+    return found
+
+
+def certified(instance, path, jobs=None, head=""):
+    """The certificate, and the values of its leaves. One of another instance is refused, and one whose bound isn't its
+    tree's."""
+    certificate = of_instance(instance, path)
+    values = values_of(instance, certificate, jobs, head)
     least = min([value for value in values if value is not None] + [instance.ceiling() + 1])
     if least < certificate.bound or least > certificate.bound and None not in values:
-        raise Refused("%s: line 5: met a bound of %s, wanted that of the tree, %s"
-                      % (told_path(path), shown(certificate.bound), shown(least)))
+        refuse_bound(path, certificate.bound, least)
     return certificate, values
 
 

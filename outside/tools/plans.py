@@ -41,11 +41,17 @@ def judge_ends(text, line, name, what):
 
 
 def instance_of(path):
-    return of_ours(Text(path), read, "an instance")
+    text = Text(path)
+    found = of_ours(text, read, "an instance")
+    found.held = text.held
+    return found
 
 
 def certificate_of(path):
-    return of_ours(Text(path), read_certificate, "a certificate")
+    text = Text(path)
+    found = of_ours(text, read_certificate, "a certificate")
+    found.held = text.held
+    return found
 
 
 def plan_of(instance, path):

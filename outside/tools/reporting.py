@@ -18,13 +18,13 @@ STOP_COLUMNS = ("arrival", "wait", "begin", "end", "load", "slack")
 
 
 class Report:
-    """What is reported: routes and cost are None where there is no plan, and the certificate where there is none."""
+    """What is reported, which the caller checked: routes and cost are None where there is no plan, the certificate
+    where there is none, and the values of its leaves where its tree isn't drawn."""
 
     def __init__(self, instance, names, routes, cost, certificate, values, paths):
         self.instance, self.names, self.routes, self.cost = instance, names, routes, cost
         self.certificate, self.values, self.paths = certificate, values, paths
         self.bound = certificate.bound if certificate else None
-        self.is_checked = certificate is not None and None not in values
 
     def name(self, i):
         """The name of a place beside its number, which is blank where it has none."""
@@ -71,12 +71,9 @@ def answer(report):
         found.append("No plan was found.")
     if report.certificate is None:
         return " ".join(found + ["Whether a cheaper plan exists isn't said: no certificate was given."])
-    told, command = claim(report), "<code>%s</code>" % escape(check_command(report))
-    if report.is_checked:
-        found.append("%s, and anybody can check that with %s." % (escape(told[0].upper() + told[1:]), command))
-    else:
-        found.append("The certificate says that %s; %d of its %d leaves have too many labels to be checked here. The "
-                     "whole check is %s." % (escape(told), report.values.count(None), len(report.values), command))
+    told = claim(report)
+    found.append("%s, and anybody can check that with <code>%s</code>." % (
+        escape(told[0].upper() + told[1:]), escape(check_command(report))))
     return " ".join(found)
 
 
@@ -109,7 +106,17 @@ def figures(report):
         yield "duration of all routes", shown(whole.duration)
         yield "waiting of all", shown(whole.waiting)
     if report.certificate is not None:
-        yield "leaves of the certificate", "%d" % len(report.values)
+        yield "leaves of the certificate", "%d" % leaves_of(report.certificate.tree)
+
+
+def leaves_of(tree):
+    """How many leaves a tree has."""
+    count, rest = 0, [tree]
+    while rest:
+        node = rest.pop()
+        count += node[0] == "P"
+        rest += node[2:] if node[0] == "S" else []
+    return count
 
 
 def sample(number):
@@ -215,7 +222,7 @@ def sections(report):
         yield "Timetable", timetable(report) + (
             '<p class="note">Times and distances are in units of the instance. Slack is how much later service could '
             'begin before the due date.</p>')
-    if report.cost is not None and report.certificate is not None:
+    if report.cost is not None and report.values is not None:
         yield "The certificate's tree", tree_of(report) + (
             '<p class="note">Each leaf holds a part of all plans: those that use the arcs of full lines above it, and '
             'none of the broken ones. None of them is cheaper than the value of the leaf, so the least value is the '
