@@ -1,0 +1,161 @@
+"""Rounds of solving, each from the best plan so far: what is cheaper or higher, and was checked, comes into place."""
+import time
+
+from reference.instances import plan_cost, read
+from reference.texts import read_solution
+from tools.carrying import Carried
+from tools.child import Child, verdict_of
+from tools.respelling import certificate, text_of
+from tools.schedule import Schedule
+from tools.standing import CERTIFICATE, INSTANCE, NAMES, PLAN
+from tools.tool import Refused
+
+START, PRICES = "start.txt", "prices.txt"
+# The counts of neighbours that are taken in turn.
+NEIGHBOURS = (8, 12)
+
+
+class Planner:
+    """A folder, an instance with its text and its table of names, and what is known: cost, bound, count of vehicles
+    and kind of verdict of the texts that stand, all None where none does."""
+
+    def __init__(self, folder, instance, texts, given, signals, tell):
+        self.folder, self.instance, self.given, self.signals, self.tell = folder, instance, given, signals, tell
+        self.cost = self.bound = self.vehicles = self.kind = self.start = None
+        self.notes, self.texts = [], dict(zip((INSTANCE, NAMES), texts))
+        for name, text in self.texts.items():
+            folder.put_beside(name, text)
+        self.is_in_place = folder.held(INSTANCE) == self.texts[INSTANCE]
+
+    def checked(self, certificate_path, plan_path, until):
+        """What the check says of two texts: kind, cost and bound, all None where they aren't right or it was broken
+        off; and its line of a fault."""
+        words = [self.given.program, "check", self.folder.beside(INSTANCE), certificate_path]
+        words += [] if plan_path is None else ["--solution", plan_path]
+        came = Child(words).came(self.signals, until, lambda told: None)
+        kind, cost, bound = verdict_of(came.line) if came.status in (0, 1) else (None, None, None)
+        return kind, cost, self.instance.ceiling() + 1 if kind == "NO PLAN" else bound, came.errors
+
+    def stand(self, until):
+        """Takes in the texts that stand of this instance, as far as they are right."""
+        plan, proof = self.folder.held(PLAN), self.folder.held(CERTIFICATE)
+        if not self.is_in_place:
+            return
+        if self.folder.held(NAMES) != self.texts[NAMES]:
+            self.folder.take(NAMES)
+        places = self.folder.at(CERTIFICATE), self.folder.at(PLAN)
+        if proof:
+            _, _, self.bound, fault = self.checked(places[0], None, until)
+            self.note_fault(CERTIFICATE, fault)
+        if plan:
+            prices = self.folder.put_beside(PRICES, certificate(self.instance).encode())
+            _, self.cost, _, fault = self.checked(prices, places[1], until)
+            self.note_fault(PLAN, fault)
+        if self.cost is not None:
+            self.vehicles = plan.count(b"\nRoute #") + 1
+        self.judge()
+
+    def note_fault(self, name, fault):
+        if fault:
+            self.notes.append("%s isn't gone on from: %s" % (self.folder.at(name), fault))
+
+    def judge(self):
+        """The kind of verdict by cost and bound."""
+        if self.bound is not None and self.bound > self.instance.ceiling():
+            self.kind = "NO PLAN"
+        elif self.bound is not None:
+            self.kind = "OPEN" if self.cost is None else "BEST" if self.cost == self.bound else "GAP"
+
+    def is_done(self):
+        """Whether nothing more is to be found, or as much as was asked for."""
+        if self.kind == "GAP" and self.given.gap:
+            return 1000 * (self.cost - self.bound) <= self.given.gap * self.cost
+        return self.kind in ("BEST", "NO PLAN")
+
+    def carry(self, names, told):
+        """Takes the plan of another instance along, by the names before and now, or None; told tells customers."""
+        text, plan = self.folder.held(INSTANCE), self.folder.held(PLAN)
+        if self.is_in_place or not text or not plan:
+            return
+        before = read(text)
+        found, absent = Carried(before, self.instance, names, told), []
+        routes = found.carry(read_solution(plan)[0], absent)
+        self.notes += found.notes
+        if absent:
+            self.notes.append("these fit into no route of the plan before, and begin absent: %s" % ", ".join(
+                told[1](i) for i in absent))
+            return
+        self.start = self.folder.put_beside(START, text_of(routes, plan_cost(self.instance, routes)).encode())
+
+    def go_on(self, until):
+        """Makes rounds until nothing is left to find, the time is over, or a signal comes."""
+        neighbours = NEIGHBOURS if self.given.neighbours is None else (self.given.neighbours,)
+        schedule, number = Schedule(neighbours), 0
+        while not self.is_done() and not self.signals.came:
+            chosen = schedule.next(until - time.monotonic())
+            if chosen is None:
+                return
+            began = time.monotonic()
+            bound, fault = self.round(*chosen, self.given.seed + number, until)
+            number += 1
+            if fault and not schedule.drop(chosen[1]):
+                self.refuse(fault)
+                return
+            if bound is not None:
+                schedule.note(*chosen, time.monotonic() - began, bound)
+            elif not fault:
+                return
+
+    def refuse(self, fault):
+        """Tells a fault of the program, which costs nothing where a plan stands."""
+        if self.kind is None:
+            raise Refused(fault)
+        self.notes.append("the last round ended in a fault: %s" % fault)
+
+    def round(self, turns, neighbours, seed, until):
+        """One round: its bound and no fault; no bound where it was broken off; or the fault of the program."""
+        plan, proof = self.folder.beside(PLAN), self.folder.beside(CERTIFICATE)
+        words = [self.given.program, "solve", self.folder.beside(INSTANCE), plan, proof, "--progress",
+                 "--turns", str(turns), "--neighbours", str(neighbours), "--seed", str(seed % 2 ** 32)]
+        start = self.folder.at(PLAN) if self.cost is not None else self.start
+        words += self.given.options + (["--start", start] if start else [])
+        came = Child(words).came(self.signals, until, self.tell_of)
+        if came.status is None:
+            return None, None
+        kind, cost, _ = verdict_of(came.line)
+        if kind is None:
+            return None, came.errors or "the program ended with status %d" % came.status
+        kind, cost, bound, fault = self.checked(proof, None if cost is None else plan, until)
+        if kind is None:
+            return None, "the check says %s" % fault if fault else None
+        self.take(cost, bound)
+        return bound, None
+
+    def take(self, cost, bound):
+        """Brings what is better into place; of another instance all texts, once there is a plan or none can be."""
+        if not self.is_in_place:
+            if cost is None and bound <= self.instance.ceiling() and self.folder.held(PLAN):
+                return
+            self.replace(cost is not None)
+        else:
+            if cost is not None and (self.cost is None or cost < self.cost):
+                self.folder.take(PLAN)
+            if self.bound is None or bound > self.bound:
+                self.folder.take(CERTIFICATE)
+        if cost is not None and (self.cost is None or cost < self.cost):
+            self.cost, self.vehicles = cost, self.folder.held(PLAN).count(b"\nRoute #") + 1
+        self.bound = bound if self.bound is None else max(bound, self.bound)
+        self.judge()
+
+    def replace(self, has_plan):
+        """Brings the texts of this instance in the place of another's, which are kept."""
+        self.folder.keep_before()
+        if not has_plan:
+            self.folder.drop(PLAN)
+        self.folder.take(NAMES, *([PLAN] if has_plan else []), CERTIFICATE, INSTANCE)
+        self.folder.put_beside(INSTANCE, self.texts[INSTANCE])
+        self.is_in_place = True
+
+    def tell_of(self, told):
+        """Tells how far a round is, beside what stands."""
+        self.tell(self, told)

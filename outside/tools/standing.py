@@ -1,0 +1,104 @@
+"""The folder of a plan: its texts are whole at each moment, and what is new is moved into place by a rename."""
+import fcntl
+import os
+import shutil
+import tempfile
+
+from tools.tool import Refused, last_words
+
+INSTANCE, NAMES, PLAN, CERTIFICATE = "instance.txt", "names.csv", "plan.txt", "certificate.txt"
+TEXTS = (INSTANCE, NAMES, PLAN, CERTIFICATE)
+# Where texts stand until they are checked, and where those of another instance stay.
+WORK, BEFORE = ".plan_", "before"
+
+
+class Folder:
+    """A folder that one command at a time works in."""
+
+    def __init__(self, path):
+        self.path, self.is_new = path, not os.path.isdir(path)
+        try:
+            os.makedirs(path, exist_ok=True)
+            self.lock = os.open(path, os.O_RDONLY)
+            fcntl.flock(self.lock, fcntl.LOCK_EX | fcntl.LOCK_NB)
+        except BlockingIOError:
+            raise Refused("%s: met another plan at work there, wanted one at a time" % path)
+        except OSError as fault:
+            raise Refused("%s: %s" % (path, last_words(fault)))
+        # What a command left that was killed.
+        for name in os.listdir(path):
+            if name.startswith(WORK):
+                shutil.rmtree(self.at(name), ignore_errors=True)
+        try:
+            self.work = tempfile.mkdtemp(prefix=WORK, dir=path)
+        except OSError as fault:
+            raise Refused("%s: %s" % (path, last_words(fault)))
+
+    def __enter__(self):
+        return self
+
+    def __exit__(self, *fault):
+        shutil.rmtree(self.work, ignore_errors=True)
+        if self.is_new and not os.listdir(self.path):
+            os.rmdir(self.path)
+        os.close(self.lock)
+
+    def at(self, name):
+        """Where a text stands."""
+        return os.path.join(self.path, name)
+
+    def beside(self, name):
+        """Where a text stands until it is checked."""
+        return os.path.join(self.work, name)
+
+    def held(self, name):
+        """What a text holds, or None where it isn't there."""
+        try:
+            with open(self.at(name), "rb") as file:
+                return file.read()
+        except FileNotFoundError:
+            return None
+        except OSError as fault:
+            raise Refused("%s: %s" % (self.at(name), last_words(fault)))
+
+    def put_beside(self, name, text):
+        """Writes a text beside; answers its path."""
+        try:
+            with open(self.beside(name), "wb") as file:
+                file.write(text)
+                file.flush()
+                os.fsync(file.fileno())
+        except OSError as fault:
+            raise Refused("%s: %s" % (self.at(name), last_words(fault)))
+        return self.beside(name)
+
+    def take(self, *names):
+        """Moves texts from beside into place."""
+        for name in names:
+            try:
+                os.replace(self.beside(name), self.at(name))
+            except OSError as fault:
+                raise Refused("%s: %s" % (self.at(name), last_words(fault)))
+
+    def put(self, name, text):
+        """Writes a text that is in place whole or not at all."""
+        self.put_beside(name, text)
+        self.take(name)
+
+    def drop(self, name):
+        """Takes a text away that is of another instance."""
+        if os.path.lexists(self.at(name)):
+            os.remove(self.at(name))
+
+    def keep_before(self):
+        """Keeps the texts that stand in a folder within, so that those of another instance may come in their place."""
+        kept = self.beside(BEFORE)
+        os.mkdir(kept)
+        for name in TEXTS:
+            if os.path.isfile(self.at(name)):
+                shutil.copy2(self.at(name), os.path.join(kept, name))
+        if not os.listdir(kept):
+            os.rmdir(kept)
+            return
+        shutil.rmtree(self.at(BEFORE), ignore_errors=True)
+        os.replace(kept, self.at(BEFORE))
