@@ -105,9 +105,11 @@ def put_field(lines, row, field, word, layout):
 
 
 def wrong_number(random, lines, layout):
+    """A number that is none, or out of its limits; in a table a fraction is right."""
     row = pick(random, lines, "row")
     field = random.randrange(6)
-    return put_field(lines, row.row, field, random.choice(WRONG), layout)
+    words = [word for word in WRONG if layout != "csv" or word != "0.5"]
+    return put_field(lines, row.row, field, random.choice(words), layout)
 
 
 def wrong_depot(random, lines, layout):
@@ -280,10 +282,12 @@ def stray_line(random, lines, layout):
     return line
 
 
-ANY = [wrong_number, wrong_number, wrong_depot, no_demand, reversed_window, wrong_width, wrong_byte, nothing, too_many]
+ANY = [wrong_number, wrong_number, wrong_depot, reversed_window, wrong_width, nothing, too_many]
+# A table may have stops without demand, and signs in another code.
+OF_FILES = [no_demand, wrong_byte]
 CHANGES = {
-    "solomon": ANY + [again, wrong_ids, no_depot_row, wrong_heading, wrong_numbers, cut_off],
+    "solomon": ANY + OF_FILES + [again, wrong_ids, no_depot_row, wrong_heading, wrong_numbers, cut_off],
     "csv": ANY + table_cases.CHANGES + [option_lacks],
-    "vrplib": ANY + [again, again, wrong_ids, wrong_key, wrong_key, unknown_key, no_key, no_section, row_lacks,
+    "vrplib": ANY + OF_FILES + [again, again, wrong_ids, wrong_key, wrong_key, unknown_key, no_key, no_section, row_lacks,
                      row_too_many, wrong_depots, stray_line, both_fleets, no_windows],
 }

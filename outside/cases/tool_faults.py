@@ -75,7 +75,6 @@ convert i.xml o.txt|i.xml|0|met the ending ".xml", wanted .txt, .vrp, .csv, or a
 convert i.txt o|o|0|met the ending "", wanted .txt, .vrp, .csv, or a layout by --to
 convert t.csv o.txt --capacity 5|t.csv|3|--vehicles
 convert t.csv o.txt --vehicles 5|t.csv|3|--capacity
-convert half.csv o.txt --vehicles 5 --capacity 5|half.csv|3|--scale
 convert half.csv o.txt --vehicles 5 --capacity 5 --scale 3|half.csv|3|times 3
 convert i.txt o.vrp --scale 1001|i.txt|7|times 1001
 convert end.csv o.txt --vehicles 5 --capacity 5|end.csv|1|met no column "due", wanted
@@ -123,12 +122,8 @@ timetable i.txt lacks.txt|lacks.txt|2|no customer 2
 timetable i.txt unknown.txt|unknown.txt|2|"3"
 timetable i.txt form.txt|form.txt|2|BadLine
 timetable i.txt twice.txt|twice.txt|2|customer 1 again
-timetable i.txt cr.txt|cr.txt|1|met "Route #1: 1 2" with a carriage return behind it (BadLine), wanted lines that
-timetable i.txt mac.txt|mac.txt|2|a carriage return
-timetable i.txt cut.txt|cut.txt|2|met "Cost 20.0" without a line feed behind it (Truncated)
-draw i.txt cr.txt|cr.txt|1|carriage return
+timetable i.txt mac.txt|mac.txt|1|met "Route #1: 1 2" with a carriage return behind it (BadLine), wanted lines that
 recheck i.txt crk.txt|crk.txt|3|carriage return
-recheck i.txt k.txt cr.txt|cr.txt|1|carriage return
 timetable i.txt empty.txt|empty.txt|1|met an empty file, wanted a plan (solve leaves the file empty after NO PLAN, OPEN
 draw i.txt empty.txt|empty.txt|1|an empty file
 recheck i.txt k.txt empty.txt|empty.txt|1|an empty file
@@ -139,7 +134,7 @@ timetable - - < i.txt|standard input|0|met a closed one, or it for a second file
 timetable i.txt - <&-|standard input|0|met a closed one, or it for a second file, wanted it open and once
 draw small.txt - < p.txt|standard input|1|met a route with a load of 2
 recheck other.txt - < k.txt|standard input|2|another instance
-convert - o.txt --from csv --vehicles 5 --capacity 5 < half.csv|standard input|3|--scale
+convert - o.txt --from csv --vehicles 5 --capacity 5 < end.csv|standard input|1|met no column "due", wanted
 convert - o.txt < i.txt|-|0|met the ending "", wanted .txt, .vrp, .csv, or a layout by --from
 convert i.txt - --to csv --names -|-|0|met the file of the instance, wanted another one to write
 respell i.txt - --certificate - < p.txt|-|0|met the stream of the plan, wanted another one to write
@@ -171,6 +166,17 @@ why bad.txt|bad.txt|8|BadNumber
 why heavy.txt nowhere|nowhere|0|No such file or directory
 why other.txt k.txt|k.txt|2|another instance
 why late.txt high.txt|high.txt|5|met a bound of 0.1, wanted that of the tree, 0.0
+"""
+# What is read, and noted with these words.
+NOTED = """
+timetable i.txt cr.txt|cr.txt: lines end in a carriage return and a line feed
+timetable i.txt cut.txt|cut.txt: the last line has no line feed
+draw i.txt cr.txt|cr.txt: lines end in a carriage return and a line feed
+recheck i.txt k.txt cr.txt|cr.txt: lines end in a carriage return and a line feed
+carry i.txt cut.txt other.txt|cut.txt: the last line has no line feed
+report i.txt cr.txt k.txt|cr.txt: lines end in a carriage return and a line feed
+convert half.csv - --to ours --vehicles 5 --capacity 5|multiplied by 10, the least power of ten
+convert - - --from csv --to ours --vehicles 5 --capacity 5 < half.csv|multiplied by 10, the least power of ten
 """
 # Wrong words, with a part of the one line that tells them; the status is 2.
 WORDS = """
@@ -231,6 +237,6 @@ def rows(table):
 
 
 FAULTS = ([("refused", *row) for row in rows(REFUSED)] + [("words", *row) for row in rows(WORDS)]
-          + [("why", *row) for row in WHY] + [("help", tool) for tool in TOOLS]
+          + [("noted", *row) for row in rows(NOTED)] + [("why", *row) for row in WHY] + [("help", tool) for tool in TOOLS]
           + [("full", words) for words in PRINTING]
           + [("closed", words) for words in PRINTING])

@@ -46,6 +46,11 @@ def judge_fault(folder, seed):
     if kind == "words":
         out, errors, status = said(folder, words)
         demand((out, status, errors.count("\n")) == (b"", 2, 1) and told[0] in errors, "%s: %r" % (words, errors))
+    elif kind == "noted":
+        out, errors, status = said(folder, words)
+        head = "outside/%s: note: " % words.split()[0]
+        demand(out and status == 0 and all(line.startswith(head) for line in errors.splitlines())
+               and told[0] in errors, "%s: status %d, %r" % (words, status, errors))
     elif kind == "why":
         came, right = said(folder, "why " + words), ("\n".join(told[1] + [""]).encode(), "", told[0])
         demand(came == right, "why %s: %r, and %r is right" % (words, came, right))

@@ -1,15 +1,71 @@
 """What `convert` and `plan` have in common: their words for an instance of another layout, and its problem."""
+import argparse
 import os
+from fractions import Fraction
 
 from tools import csv_layout, names, solomon_layout, vrplib_layout
 from tools.layouts import MOST_CAPACITY, MOST_FLEET, MOST_SCALE, MOST_TIME, Quantities, problem_of
-from tools.tool import Refused, Text, count
+from tools.table import minutes_of
+from tools.tool import Refused, Text, count, number, quoted
 
 READERS = {"ours": solomon_layout.read, "solomon": solomon_layout.read, "vrplib": vrplib_layout.read,
            "csv": csv_layout.read}
 WRITERS = {"ours": solomon_layout.write_ours, "solomon": solomon_layout.write, "vrplib": vrplib_layout.write,
            "csv": csv_layout.write}
+# What a column may be called otherwise.
+NAMED_COLUMNS = ("name", "address", "x", "y", "lat", "lon", "demand", "ready", "due", "service")
 ENDINGS = {".txt": "ours", ".vrp": "vrplib", ".csv": "csv"}
+
+
+class Horizon:
+    """The day of a file without windows, in numbers or in minutes since midnight."""
+
+    def __init__(self, first, last, is_clock):
+        self.first, self.last, self.is_clock = first, last, is_clock
+
+    def shown(self, scale):
+        if self.is_clock:
+            return tuple("%02d:%02d" % divmod(moment, 60) for moment in (self.first, self.last))
+        return self.first * scale, self.last * scale
+
+
+def horizon(word):
+    """The reader of the day: a number, a time of the day, or two of them with a line between."""
+    words = word.split("-") if word.count("-") == 1 else [word]
+    clocks = [minutes_of(one.strip()) for one in words]
+    if None not in clocks and all(moment.denominator == 1 for moment in map(Fraction, clocks)):
+        first, last = [0, *map(int, clocks)][-2:]
+        # A day may go over midnight.
+        return Horizon(first, last + (24 * 60 if last < first else 0), True)
+    return Horizon(0, count(1, MOST_TIME)(word), False)
+
+
+def positive(word):
+    """The reader of a number above 0."""
+    value = number(word)
+    if value is None or not Fraction(1, 1000) <= value <= 1000:
+        raise argparse.ArgumentTypeError("met %s, wanted a number of 0.001 to 1000" % quoted(word))
+    return value
+
+
+def column(word):
+    """The reader of a pair: our name of a column, and the heading there."""
+    ours, sign, theirs = word.partition("=")
+    if not sign or ours not in NAMED_COLUMNS or not theirs.strip():
+        raise argparse.ArgumentTypeError("met %s, wanted OURS=THEIRS, with %s in front" % (
+            quoted(word), ", ".join(NAMED_COLUMNS)))
+    return ours, theirs.strip()
+
+
+class Columns(argparse.Action):
+    """Keeps pairs, each of our names once, by the headings there."""
+
+    def __call__(self, parser, given, pair, option=None):
+        ours, theirs = pair
+        before = getattr(given, self.dest)
+        if ours in before.values() or theirs.lower() in before:
+            raise argparse.ArgumentError(self, "met %s again, wanted each column once" % quoted("=".join(pair)))
+        setattr(given, self.dest, {**before, theirs.lower(): ours})
 
 
 def add_words(found):
@@ -18,10 +74,14 @@ def add_words(found):
     found.add_argument("--vehicles", type=count(1, MOST_FLEET), metavar="N", help="how many vehicles there are")
     found.add_argument("--capacity", type=count(1, MOST_CAPACITY), metavar="N", help="what each vehicle holds")
     found.add_argument("--name", help="the name of the instance")
-    found.add_argument("--scale", type=count(1, MOST_SCALE), default=1, metavar="N",
-                       help="multiplies coordinates and times")
-    found.add_argument("--horizon", type=count(1, MOST_TIME), metavar="N",
-                       help="the end of the day, for a file without windows")
+    found.add_argument("--scale", type=count(1, MOST_SCALE), metavar="N", help="multiplies coordinates and times")
+    found.add_argument("--horizon", type=horizon, metavar="TIME",
+                       help="the end of the day, or FROM-TO, for a file without windows")
+    found.add_argument("--speed", type=positive, metavar="N", help="km/h, for places by lat and lon")
+    found.add_argument("--detour", type=positive, default=Fraction(13, 10), metavar="N",
+                       help="how much longer roads are than the straight line; else 1.3")
+    found.add_argument("--column", dest="columns", type=column, action=Columns, default={}, metavar="OURS=THEIRS",
+                       help="a column that has another heading there, as name=Kunde")
 
 
 def layout(path, given, option):
@@ -35,15 +95,13 @@ def layout(path, given, option):
 
 def read_problem(given, source_layout, keeps_names, needs_names):
     """The problem of the file FROM, and what is noted; names are kept, and needed, by `layouts.Quantities`."""
-    text = Text(given.source)
-    quantities = Quantities(text, given.scale, given.horizon, keeps_names, needs_names)
+    text = Text(given.source, takes_others=source_layout == "csv")
+    quantities = Quantities(text, given, keeps_names, needs_names)
     problem, notes = problem_of(text, quantities, READERS[source_layout](text, quantities), given)
-    if given.scale > 1:
-        notes.append("coordinates and times are multiplied by %d: costs are %d times as high, and arcs are truncated "
-                     "at a tenth of the new unit" % (2 * (given.scale,)))
-    return problem, notes
+    return problem, notes + ([quantities.noted_scale()] if (given.scale or 1) > 1 else [])
 
 
 def table_of(problem):
     """The table of names of a problem's places."""
-    return names.table_of(problem.names)
+    own = problem.names
+    return names.table_of(own, own.headings, own.further, own.units)

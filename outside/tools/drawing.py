@@ -1,7 +1,7 @@
 """What the pictures of a plan have in common: the looks of routes, places for labels, and the sheet around them."""
 from html import escape
 
-from reference.texts import shown
+from tools.units import units_of
 
 EDGE, HEAD = 30, 34
 # Eight colours that stay apart for those who see few of them; from the ninth route on dashes tell routes apart too.
@@ -39,8 +39,11 @@ def short(name, most=18):
 
 
 def customer_name(names, i):
-    """What is put behind a customer's number where there are names."""
-    return ", %s" % names[i] if names else ""
+    """What is put behind a customer's number where there are names, with its address."""
+    if not names:
+        return ""
+    return ", ".join(["", names[i]] + ([names.address(i)] if getattr(names, "headings", None) and names.address(i)
+                                       else []))
 
 
 def of_route(number, parts):
@@ -108,9 +111,11 @@ def round_step(most, least_power=0):
                 if step * 10.0 ** power <= most] or [10.0 ** least_power])
 
 
-def told_of(instance, routes, cost):
-    return "%s: %s, %s, cost %s" % (instance.name.decode(), plural(instance.count, "customer"),
-                                    plural(len(routes), "route"), shown(cost))
+def told_of(instance, routes, cost, names):
+    units = units_of(names)
+    return "%s: %s, %s, cost %s%s" % (
+        instance.name.decode(), plural(instance.count, "customer"), plural(len(routes), "route"), units.distance(cost),
+        "" if units.speed is None else " " + units.measure())
 
 
 def sheet(width, height, told, drawn):

@@ -1,8 +1,8 @@
 """A plan's routes as a map: an SVG text of customers, depot and a line for each route, with a legend and a scale."""
 from reference.instances import route_cost, walk_times
-from reference.texts import shown
 from tools.drawing import (EDGE, HEAD, Places, boxes_beside, colour, customer_name, dash, is_hollow, of_route,
                            plural, round_step, sheet, short, text, title, told_of)
+from tools.units import units_of
 
 # The longer side of a map of up to so many customers; that of more grows with them, so that numbers have room.
 SIDE, CUSTOMERS, MOST_SIDE = 860, 110, 1700
@@ -38,13 +38,13 @@ def line(frame, instance, stops, look):
     return '<polyline points="%s" %s/>' % (points, look)
 
 
-def route_lines(frame, instance, number, route):
+def route_lines(frame, instance, number, route, units):
     """The line of a route from its first customer to its last one, and thinner the ways from and to the depot; the way
     back is dotted."""
     load = sum(instance.demand(i) for i in route)
-    told = "Route %d: %s; %s, load %d of %d, cost %s" % (
-        number + 1, " ".join(str(i) for i in route), plural(len(route), "customer"), load, instance.capacity,
-        shown(route_cost(instance, route)))
+    told = "Route %d: %s; %s, load %s of %s, cost %s" % (
+        number + 1, " ".join(str(i) for i in route), plural(len(route), "customer"), units.load(load),
+        units.load(instance.capacity), units.distance(route_cost(instance, route)))
     return of_route(number, [
         '<g stroke="%s" fill="none" stroke-linejoin="round">' % colour(number), title(told),
         line(frame, instance, [0, route[0]], 'stroke-width="1.4" stroke-opacity="0.6"'),
@@ -61,9 +61,10 @@ def filled(number):
 
 def customer_spot(frame, instance, i, number, begin, names):
     """The spot of a customer; what is told where a pointer rests on it."""
-    told = "Customer %d, route %d%s: demand %d, window %s to %s, service %s, served at %s" % (
-        i, number + 1, customer_name(names, i), instance.demand(i), *(shown(time) for time in (
-            instance.ready(i), instance.due(i), instance.service(i), begin)))
+    units = units_of(names)
+    told = "Customer %d, route %d%s: demand %s, window %s to %s, service %s, served at %s" % (
+        i, number + 1, customer_name(names, i), units.load(instance.demand(i)), units.moment(instance.ready(i)),
+        units.moment(instance.due(i)), units.span(instance.service(i)), units.moment(begin))
     x, y = frame.place(instance.rows[i])
     fill, stroke, _ = filled(number)
     return ('<circle cx="%.1f" cy="%.1f" r="%.1f" fill="%s" stroke="%s" stroke-width="%s">%s</circle>'
@@ -110,31 +111,34 @@ def customer_labels(frame, instance, places, names):
         yield label(places, *frame.place(place), told, frame.size, frame.radius)
 
 
-def depot_spot(frame, instance):
+def depot_spot(frame, instance, units):
     x, y = frame.place(instance.rows[0])
-    told = "Depot: open from %s to %s" % (shown(instance.ready(0)), shown(instance.due(0)))
+    told = "Depot: open from %s to %s" % (units.moment(instance.ready(0)), units.moment(instance.due(0)))
     return '<rect x="%.1f" y="%.1f" width="15" height="15" fill="black" stroke="white">%s</rect>' % (
         x - 7.5, y - 7.5, title(told))
 
 
-def scale_line(frame):
+def scale_line(frame, units):
     """A line at the bottom that is a round number of units long."""
-    units = round_step((frame.width - 2 * EDGE) / 4 / frame.scale, -2)
-    y, wide = frame.height - 12, units * frame.scale
+    # How many units of the instance, along a straight line, one of what is shown has.
+    one = units.scale * (60 / float(units.speed) if units.speed else 1)
+    count = round_step((frame.width - 2 * EDGE) / 4 / frame.scale / one, -2)
+    y, wide = frame.height - 12, count * one * frame.scale
+    told = "%g km of road" % count if units.speed else "%g units" % count if count != 1 else "1 unit"
     return ['<path d="M%d %.1fv6h%.1fv-6" fill="none" stroke="#444"/>' % (EDGE, y - 6, wide),
-            text(EDGE + wide + 8, y, "%g units" % units if units != 1 else "1 unit", 11, 'fill="#444"')]
+            text(EDGE + wide + 8, y, told, 11, 'fill="#444"')]
 
 
-def legend_rows(instance, routes):
+def legend_rows(instance, routes, units):
     """Stops, load and distance of each route, as words, and those of all."""
     rows = [[len(route), sum(instance.demand(i) for i in route), route_cost(instance, route)] for route in routes]
     rows.append([sum(column) for column in zip(*rows)])
-    return [[str(stops), str(load), shown(cost)] for stops, load, cost in rows]
+    return [[str(stops), units.load(load), units.distance(cost)] for stops, load, cost in rows]
 
 
-def legend(instance, routes, left, height):
+def legend(instance, routes, left, height, units):
     """The legend in columns beside a picture so high, and how wide it is."""
-    top, found, rows = HEAD + EDGE, [], legend_rows(instance, routes)
+    top, found, rows = HEAD + EDGE, [], legend_rows(instance, routes, units)
     most = max(8, int((height - top - ROW) / ROW))
     columns = -(-len(rows) // most)
     for column in range(columns):
@@ -159,16 +163,16 @@ def legend(instance, routes, left, height):
 def drawn_map(frame, instance, routes, names):
     """Customers, depot and a line for each route, their numbers, and the scale."""
     spots = [frame.place(row) for row in instance.rows]
-    places, radius = Places((0, HEAD, frame.width, frame.bottom)), frame.radius
+    places, radius, units = Places((0, HEAD, frame.width, frame.bottom)), frame.radius, units_of(names)
     for (x, y), wide in zip(spots, [9] + instance.count * [radius]):
         places.take((x - wide, y - wide, x + wide, y + wide))
     found = []
     for number, route in enumerate(routes):
-        found += route_lines(frame, instance, number, route)
+        found += route_lines(frame, instance, number, route, units)
     for number, route in enumerate(routes):
         found += of_route(number, [customer_spot(frame, instance, i, number, begin, names)
                                    for i, begin in zip(route, walk_times(instance, route)[0])])
-    found.append(depot_spot(frame, instance))
+    found.append(depot_spot(frame, instance, units))
     for route in routes:
         for stop, following in zip([0] + route, route + [0]):
             places.take_line(spots[stop], spots[following], 7 if instance.count <= CUSTOMERS else 14)
@@ -177,12 +181,12 @@ def drawn_map(frame, instance, routes, names):
     found += [part for parts in badges for part in parts]
     depot = label(places, *spots[0], short(names[0]) if names else "depot", 12, 8, 'font-weight="bold"')
     labels = customer_labels(frame, instance, places, names)
-    return found + ["<g %s>" % HALO, depot, *labels, "</g>", *scale_line(frame)]
+    return found + ["<g %s>" % HALO, depot, *labels, "</g>", *scale_line(frame, units)]
 
 
 def picture(instance, routes, cost, names=None):
     """The lines of the picture of a plan."""
     frame = Frame(instance)
-    told, wide = legend(instance, routes, frame.width, frame.height)
-    return sheet(frame.width + wide, frame.height, told_of(instance, routes, cost),
+    told, wide = legend(instance, routes, frame.width, frame.height, units_of(names))
+    return sheet(frame.width + wide, frame.height, told_of(instance, routes, cost, names),
                  drawn_map(frame, instance, routes, names) + told)

@@ -1,8 +1,8 @@
 """A plan's routes as bars over time, beside their map: driving, waiting and service, and the windows above them."""
-from reference.texts import shown
 from tools.drawing import EDGE, HEAD, colour, customer_name, dash, of_route, sheet, text, title, told_of
 from tools.drawing_map import Frame, drawn_map, legend_rows
 from tools.timing import stops
+from tools.units import units_of
 
 WIDE, LABEL, AXIS, FIGURES = 800, 48, 40, 185
 LANES = (24, 96)
@@ -29,10 +29,13 @@ class Scale:
         shut = min(max(time, self.first), self.last)
         return self.left + (self.right - self.left) * (shut - self.first) / (self.last - self.first)
 
-    def marks(self):
+    def marks(self, units):
         """Round times for the axis, about ten, with a last digit that is read easily."""
-        step = next(step * 10 ** power for power in range(9) for step in (1, 2, 5)
-                    if step * 10 ** power * 11 > self.last - self.first)
+        unit = 10 * units.scale
+        steps = ([unit * minutes for minutes in (1, 2, 5, 10, 15, 30, 60, 120, 180, 240, 360, 720)] + [
+            unit * 1440 * days for days in range(1, 100)] if units.clock else
+            [step * 10 ** power for power in range(9) for step in (1, 2, 5)])
+        step = next((step for step in steps if step * 11 > self.last - self.first), steps[-1])
         first = -(-self.first // step) * step
         return range(first, self.last + 1, step)
 
@@ -42,7 +45,7 @@ class Lane:
     the bars; no row is in the bars, and size 0 is nowhere."""
 
     def __init__(self, scale, instance, names, high, routes):
-        self.scale, self.instance, self.names, self.high = scale, instance, names, high
+        self.scale, self.instance, self.names, self.high, self.units = scale, instance, names, high, units_of(names)
         self.thick = THICK * high
         self.size, self.rows = self.numbers(routes)
         self.room = WINDOWS * high - self.size * self.rows
@@ -99,7 +102,8 @@ def levels_of(instance, found, count):
 def window(lane, stop, y):
     """A customer's window as a line, arrows where it goes on beyond the picture, and a mark where service begins."""
     scale, ready, due = lane.scale, lane.instance.ready(stop.stop), lane.instance.due(stop.stop)
-    told = "Customer %d: from %s to %s%s" % (stop.stop, shown(ready), shown(due), customer_name(lane.names, stop.stop))
+    told = "Customer %d: from %s to %s%s" % (stop.stop, lane.units.moment(ready), lane.units.moment(due),
+                                            customer_name(lane.names, stop.stop))
     found = ['<path d="M%.1f %.1fH%.1f" stroke-width="1.6" stroke-opacity="0.6">%s</path>' % (
         scale.at(ready), y, scale.at(due), title(told)),
         '<circle cx="%.1f" cy="%.1f" r="2" stroke="none"/>' % (scale.at(stop.begin), y)]
@@ -114,7 +118,7 @@ def service(lane, stop, top, row):
     """The bar of a service, and the customer's number in it or in a row above it."""
     scale, middle = lane.scale, (lane.scale.at(stop.begin) + lane.scale.at(stop.end)) / 2
     told = "Service of customer %d: %s to %s%s" % (
-        stop.stop, shown(stop.begin), shown(stop.end), customer_name(lane.names, stop.stop))
+        stop.stop, lane.units.moment(stop.begin), lane.units.moment(stop.end), customer_name(lane.names, stop.stop))
     found = [box(scale, stop.begin, stop.end, top, lane.thick, 'stroke="white" stroke-width="0.5"', told)]
     if lane.size:
         y = top - 2 - row * lane.size if lane.rows else top + lane.thick / 2 + 0.36 * lane.size
@@ -125,7 +129,7 @@ def service(lane, stop, top, row):
 
 def bars(lane, number, route, top):
     """A route's bar in the lower half of its lane, and its windows in the upper one."""
-    scale, instance, thick = lane.scale, lane.instance, lane.thick
+    scale, instance, thick, moment = lane.scale, lane.instance, lane.thick, lane.units.moment
     middle, hue, left, found = top + BAR * lane.high, colour(number), instance.ready(0), stops(instance, route)
     levels = levels_of(instance, found[:-1], lane.levels)
     # The lines of windows are close together, and close to the bar.
@@ -135,11 +139,11 @@ def bars(lane, number, route, top):
     for stop, level, row in zip(found, levels + [0], rows + [0]):
         to = "customer %d" % stop.stop if stop.stop else "the depot"
         drawn.append(box(scale, left, stop.arrival, middle + thick * 0.4, thick * 0.2, 'stroke="none"',
-                         "Driving to %s: %s to %s" % (to, shown(left), shown(stop.arrival))))
+                         "Driving to %s: %s to %s" % (to, moment(left), moment(stop.arrival))))
         if stop.wait:
             drawn.append(box(scale, stop.arrival, stop.begin, middle + thick * 0.15, thick * 0.7,
                              'fill-opacity="0.2" stroke-width="0.5"',
-                             "Waiting at %s: %s to %s" % (to, shown(stop.arrival), shown(stop.begin))))
+                             "Waiting at %s: %s to %s" % (to, moment(stop.arrival), moment(stop.begin))))
         if stop.stop:
             drawn += service(lane, stop, middle, row)
             drawn += window(lane, stop, top + lane.room - apart * (max(levels) - level + 0.4))
@@ -158,15 +162,17 @@ def named_lane(lane, number, route, top, figures):
         *(text(right + end, y + 4, told, 12, 'text-anchor="end"') for end, told in zip((50, 102, 175), figures))])
 
 
-def axis(scale, top, bottom):
+def axis(scale, top, bottom, units):
     """Round times below the lanes, and what they are."""
     found = ['<g stroke="#bbb" stroke-width="0.6" fill="#444">']
-    marks = list(scale.marks())
+    marks, is_fine = list(scale.marks(units)), False
+    if not units.clock:
+        is_fine = any(mark % (10 * units.scale) for mark in marks)
     for time in marks:
-        told = shown(time) if any(mark % 10 for mark in marks) else "%d" % (time // 10)
+        told = units.moment(time) if units.clock or is_fine else "%d" % (time // (10 * units.scale))
         found += ['<path d="M%.1f %.1fV%.1f"/>' % (scale.at(time), top, bottom),
                   text(scale.at(time), bottom + 14, told, 11, 'text-anchor="middle" stroke="none"')]
-    return found + [text((scale.left + scale.right) / 2, bottom + 31, "time, in units of the instance", 11,
+    return found + [text((scale.left + scale.right) / 2, bottom + 31, "time of day" if units.clock else "time, in units of the instance", 11,
                          'text-anchor="middle" stroke="none"'), "</g>"]
 
 
@@ -177,8 +183,8 @@ def drawn_bars(scale, instance, routes, names, top, high):
     drawn = [text(scale.left, top - 8, told, 11, 'fill="#444"')]
     drawn += [text(scale.right + end, top - 8, word, 11, 'text-anchor="end" fill="#444"')
               for end, word in ((50, "stops"), (102, "load"), (175, "distance"))]
-    drawn += axis(scale, top, bottom)
-    for number, (route, figures) in enumerate(zip(routes, legend_rows(instance, routes))):
+    drawn += axis(scale, top, bottom, lane.units)
+    for number, (route, figures) in enumerate(zip(routes, legend_rows(instance, routes, lane.units))):
         drawn += named_lane(lane, number, route, top + high * number, figures)
     return drawn
 
@@ -190,4 +196,4 @@ def picture(instance, routes, cost, names=None):
     high = min(max((frame.height - top - AXIS) / len(routes), LANES[0]), LANES[1])
     drawn = drawn_map(frame, instance, routes, names) + drawn_bars(scale, instance, routes, names, top, high)
     height = max(frame.height, round(top + high * len(routes) + AXIS))
-    return sheet(scale.right + FIGURES, height, told_of(instance, routes, cost), drawn)
+    return sheet(scale.right + FIGURES, height, told_of(instance, routes, cost, names), drawn)

@@ -56,7 +56,8 @@ def colour(part):
 class Frame:
     """Where a node stands, and its part of the way from the bound over the cost to the greatest value."""
 
-    def __init__(self, found, bound, cost):
+    def __init__(self, found, bound, cost, shown):
+        self.shown = shown
         self.greatest = max([node.value for node in found if node.value is not None] + [cost + 1])
         self.leaves = sum(not node.children for node in found)
         self.deepest = max(node.depth for node in found)
@@ -101,7 +102,7 @@ def arc_name(frame, node):
 def leaf(frame, node):
     x, y = frame.place(node)
     told = "a value that wasn't found" if node.value is None else "the value %s, %s above the bound" % (
-        shown(node.value), shown(node.value - frame.bound))
+        frame.shown(node.value), frame.shown(node.value - frame.bound))
     look = 'fill="%s" stroke="#555" stroke-width="%.1f"' % (colour(frame.part(node.value)), min(0.6, frame.radius / 5))
     return '<circle cx="%.1f" cy="%.1f" r="%.1f" %s>%s</circle>' % (
         x, y, frame.radius, look, title("Leaf %d has %s" % (node.across + 1, told)))
@@ -129,11 +130,11 @@ def axis(frame, top):
     for value in range(-(-frame.bound // step) * step, frame.top + 1, step):
         if all(abs(at(value) - at(other)) > 13 for other, _ in named):
             yield '<path d="M%d %.1fh-4" stroke="#444" stroke-width="0.8"/>' % (LEFT, at(value))
-            yield text(LEFT - 7, at(value) + 4, shown(value), 10, 'text-anchor="end"')
+            yield text(LEFT - 7, at(value) + 4, frame.shown(value), 10, 'text-anchor="end"')
     for value, word in named:
         yield '<path d="M%d %.1fH%d" stroke="#444" stroke-width="0.8" stroke-dasharray="%s"/>' % (
             LEFT - 4, at(value), WIDTH - RIGHT + 4, "5 3" if word == "cost" else "1 0")
-        yield text(LEFT - 7, at(value) + 4, shown(value), 10, 'text-anchor="end" font-weight="bold"')
+        yield text(LEFT - 7, at(value) + 4, frame.shown(value), 10, 'text-anchor="end" font-weight="bold"')
         yield text(WIDTH - RIGHT + 8, at(value) + 4, word, 10)
     yield '<path d="M%d %dv%d" stroke="#444" stroke-width="0.8"/>' % (LEFT, top, STRIP)
     yield text(LEFT, top - 9, "value of each leaf, in units of cost: no plan of it is cheaper", 11)
@@ -143,13 +144,13 @@ def axis(frame, top):
 def legend(frame, found, top):
     """What the colours mean, with the values, as far as leaves have them."""
     values = [node.value for node in found if node.value is not None]
-    told = [("at the bound, %s" % shown(frame.bound), 0)] if frame.bound < frame.cost else []
+    told = [("at the bound, %s" % frame.shown(frame.bound), 0)] if frame.bound < frame.cost else []
     if any(frame.bound < value < frame.cost for value in values):
-        told.append(("halfway, %s" % shown((frame.bound + frame.cost) // 2), 0.5))
+        told.append(("halfway, %s" % frame.shown((frame.bound + frame.cost) // 2), 0.5))
     both = "cost" if frame.bound < frame.cost else "bound and the cost"
-    told.append(("at the %s, %s" % (both, shown(frame.cost)), 1))
+    told.append(("at the %s, %s" % (both, frame.shown(frame.cost)), 1))
     if any(value > frame.cost for value in values):
-        told.append(("furthest above, %s" % shown(frame.greatest), 2))
+        told.append(("furthest above, %s" % frame.shown(frame.greatest), 2))
     if len(values) < len(found):
         told.append(("not found", None))
     x = LEFT + 6
@@ -159,13 +160,13 @@ def legend(frame, found, top):
         x += 32 + 6.2 * len(words)
 
 
-def picture(name, tree, values, bound, cost):
-    """The lines of the picture; values are those of the leaves in preorder, or None."""
+def picture(name, tree, values, bound, cost, shown=shown):
+    """The lines of the picture; values are those of the leaves in preorder, or None; shown is how a cost is told."""
     found = nodes(tree, values)
-    frame = Frame(found, bound, cost)
+    frame = Frame(found, bound, cost, shown)
     below = sum(value is not None and value < cost for value in values)
     told = "%s: %s, %d below the cost %s; bound %s" % (
-        name, plural(frame.leaves, "leaf").replace("leafs", "leaves"), below, shown(cost), shown(bound))
+        name, plural(frame.leaves, "leaf").replace("leafs", "leaves"), below, frame.shown(cost), frame.shown(bound))
     splits = [node for node in found if node.children]
     drawn = ['<g stroke="#777" stroke-width="%.1f" fill="none">' % min(1, frame.radius / 3),
              *(part for node in splits for part in branches(frame, node)), "</g>", NAMES]

@@ -9,7 +9,9 @@ from collections import namedtuple
 
 from reference.instances import MOST_CUSTOMERS
 from tools import unservable
+from tools.names import Names
 from tools.tool import Found, quoted
+from tools.units import Units
 
 # The limits of ours, and those of the numbers of places there and of the scale.
 MOST_NAME, MOST_FLEET, MOST_CAPACITY = 32, 1000, 10_000
@@ -18,20 +20,31 @@ MOST_NUMBER, MOST_SCALE = 10 ** 9, 10_000
 FLEET, CAPACITY = ("a number of vehicles", MOST_FLEET), ("a capacity", MOST_CAPACITY)
 HINT = " (--scale N multiplies coordinates and times)"
 
-# Names are by number, from the depot's on: where the text has none, the numbers there.
+# Names are by number, from the depot's on: where the text has none, the numbers there; with them what more a table
+# says, and the units of the numbers there.
 Problem = namedtuple("Problem", "name fleet capacity rows names")
 # What a layout says of an instance: the name may be None, and so may fleet, capacity and the places' names; rows by
-# their numbers there.
-Read = namedtuple("Read", "name fleet capacity nodes depot notes names")
+# their numbers there; the units there, or None; whether a stop may be without demand.
+Read = namedtuple("Read", "name fleet capacity nodes depot notes names units has_visits", defaults=(None, False))
 
 
 class Quantities:
     """The numbers of a text within the limits of ours, coordinates and times multiplied by the scale. A horizon is the
-    end of the day of a text without windows. Names are kept or not, and a table without any may be refused."""
+    day of a text without windows. Names are kept or not, and a table without any may be refused; renamed are its
+    columns. Speed and detour make minutes of kilometres."""
 
-    def __init__(self, text, scale, horizon=None, keeps_names=False, needs_names=False):
-        self.text, self.scale, self.horizon = text, scale, horizon
-        self.keeps_names, self.needs_names = keeps_names, needs_names
+    def __init__(self, text, given, keeps_names=False, needs_names=False):
+        self.text, self.is_scaled, self.scale = text, given.scale is not None, given.scale or 1
+        self.horizon, self.is_clock, self.capacity_given = given.horizon, False, given.capacity
+        if given.horizon is not None:
+            self.is_clock = given.horizon.is_clock
+        self.keeps_names, self.needs_names, self.renamed = keeps_names, needs_names, given.columns
+        self.speed, self.detour, self.demand_scale, self.is_projected = given.speed, given.detour, 1, False
+
+    def noted_scale(self, why=None):
+        """What is noted of a scale."""
+        return "coordinates and times are multiplied by %d%s: costs are %d times as high in the instance, and arcs are " \
+            "truncated at a tenth of the new unit" % (self.scale, ", " + why if why else "", self.scale)
 
     def refuse_horizon(self, line):
         """A text with windows, which begin in this line, has no horizon by an option."""
@@ -40,7 +53,7 @@ class Quantities:
 
     def end_of_day(self, column):
         """What stands for a ready time or a due date that the text hasn't."""
-        return "%d" % self.horizon if column == "due" else "0"
+        return str(self.horizon.last if column == "due" else self.horizon.first)
 
     def coordinate(self, line, word, axis):
         return self.text.whole(line, word, axis, -MOST_COORDINATE, MOST_COORDINATE, self.scale, HINT)
@@ -49,7 +62,7 @@ class Quantities:
         return self.text.whole(line, word, what, 0, MOST_TIME, self.scale, HINT)
 
     def demand(self, line, word):
-        return self.text.whole(line, word, "a demand", 0, MOST_DEMAND)
+        return self.text.whole(line, word, "a demand", 0, MOST_DEMAND, self.demand_scale)
 
     def row(self, cells):
         """A row of six words with their lines, in this order."""
@@ -85,8 +98,8 @@ def in_order(text, read):
         over = sorted(number.line for number in others)[MOST_CUSTOMERS]
         text.refuse(over, "customer %d" % (MOST_CUSTOMERS + 1), "at most %d customers" % MOST_CUSTOMERS)
     rows = [read.nodes[read.depot]] + [read.nodes[number] for number in others]
-    judge_rows(text, rows)
-    names = read.names or [str(number) for number in [read.depot] + others]
+    judge_rows(text, rows, read.has_visits)
+    names = read.names or Names([str(number) for number in [read.depot] + others])
     if others == list(range(read.depot + 1, read.depot + 1 + len(others))):
         return rows, names, []
     return rows, names, [
@@ -110,14 +123,15 @@ def moved(text, rows):
     return found, ["some coordinates are below 0, so all are moved, %s: distances are the same" % told]
 
 
-def judge_rows(text, rows):
-    """Refuses a depot with a demand or a service, a customer without a demand, and a window that is reversed."""
+def judge_rows(text, rows, has_visits):
+    """Refuses a depot with a demand or a service, a customer without a demand where there are no visits, and a window
+    that is reversed."""
     for place, (_, _, demand, ready, due, service) in enumerate(rows):
         if place == 0 and demand:
             text.refuse(demand.line, "a demand of %d at the depot" % demand, "0")
         if place == 0 and service:
             text.refuse(service.line, "a service of %d at the depot" % service, "0")
-        if place and not demand:
+        if place and not demand and not has_visits:
             text.refuse(demand.line, "a customer with a demand of 0", "a demand of 1 to %d" % MOST_DEMAND)
         if due < ready:
             text.refuse(due.line, "a due date of %d after a ready time of %d" % (due, ready),
@@ -149,15 +163,36 @@ def number_of(text, option, given, there, limit, notes):
     return there if given is None else given
 
 
+def with_visits(text, rows, capacity):
+    """Rows and capacity where some stops have no demand: all demands times one more than there are such stops, each of
+    which has 1 then, so that loads fit exactly where they did. Answers the factor, too, and what is noted."""
+    visits = [row for row in rows[1:] if not row[2]]
+    if not visits:
+        return rows, capacity, 1, []
+    factor, line = len(visits) + 1, visits[0][2].line
+    most = max([capacity, *(row[2] for row in rows)]) * factor
+    if most > MOST_CAPACITY:
+        text.refuse(line, "%d stops without demand, which takes capacity and demands %d times as high, up to %d" % (
+            len(visits), factor, most), "at most %d; a demand of 1 for each may do" % MOST_CAPACITY)
+    found = [(*row[:2], Found(factor * row[2] or int(place > 0), row[2].line), *row[3:])
+             for place, row in enumerate(rows)]
+    return found, capacity * factor, factor, [
+        "stops without demand: %d, the first in line %d. Demands and the capacity are multiplied by %d, and each of them "
+        "has 1, so loads fit exactly where they did" % (len(visits), line, factor)]
+
+
 def problem_of(text, quantities, read, given):
     """The problem of what was read, and what is noted; given are the options."""
     notes = list(read.notes)
     if quantities.horizon is not None:
-        notes.append("there are no windows, so service may begin from 0 to %d, and the depot is open as long"
-                     % read.nodes[read.depot][4])
+        notes.append("there are no windows, so service may begin from %s to %s, and the depot is open as long"
+                     % quantities.horizon.shown(quantities.scale))
     rows, names, renumbered = in_order(text, read)
     rows, is_moved = moved(text, rows)
     fleet = number_of(text, "--vehicles", given.vehicles, read.fleet, FLEET, notes)
     capacity = number_of(text, "--capacity", given.capacity, read.capacity, CAPACITY, notes)
+    units = read.units or Units(quantities.scale)
+    rows, capacity, visits, is_visited = with_visits(text, rows, capacity * units.demands)
+    names.units = Units(units.scale, units.clock, units.speed, units.demands, visits)
     found = Problem(name_of(text.path, given.name, read.name, notes), fleet, capacity, rows, names)
-    return found, renumbered + is_moved + notes + list(unservable.notes(found))
+    return found, renumbered + is_moved + notes + is_visited + list(unservable.notes(found))

@@ -1,13 +1,41 @@
-"""The names of customers, kept in a table beside an instance that has numbers alone."""
+"""The names of customers and what more a table says of them, kept beside an instance that has numbers alone."""
 import csv
 import io
 
 from tools.table import Table
 from tools.tool import Text
+from tools.units import PLAIN, units_in
 
 COLUMNS = ["number", "name"]
+# The further column that tells where a customer is found.
+ADDRESS = "address"
 # What stands in place of a sign that can't be printed.
 UNKNOWN = "\ufffd"
+
+
+class Names(list):
+    """Names by number, from the depot's on; headings and fields of further columns; and the units of before."""
+
+    def __init__(self, names, headings=(), further=None, units=PLAIN):
+        super().__init__(names)
+        self.headings, self.units = list(headings), units
+        self.further = further or [[] for _ in names]
+
+    def address(self, i):
+        """Where a customer is found, as far as the table says."""
+        return self.further[i][self.headings.index(ADDRESS)] if ADDRESS in self.headings else ""
+
+    def remarks(self, i):
+        """What more stands there of a customer, as pairs of a heading and a field."""
+        return [pair for pair in zip(self.headings, self.further[i]) if pair[1] and pair[0] != ADDRESS]
+
+    def has_names(self):
+        """Whether a customer has a name beside its number."""
+        return any(name != str(i) for i, name in enumerate(self) if i)
+
+    def called(self, i):
+        """How a customer is told in a sentence."""
+        return self[i] if self[i] != str(i) else "customer %d" % i
 
 
 def clean(name):
@@ -20,27 +48,32 @@ def named(name, number):
     return clean(name) or (str(number) if number else "depot")
 
 
-def table_of(names):
-    """The table of names, whose rows begin with the depot's."""
-    found = io.StringIO()
-    csv.writer(found, lineterminator="\n").writerows([COLUMNS, *enumerate(names)])
-    return found.getvalue()
+def table_of(names, headings=(), further=None, units=PLAIN):
+    """The table of names, whose rows begin with the depot's; above it what the numbers were before."""
+    found, further = io.StringIO(), further or [[] for _ in names]
+    csv.writer(found, lineterminator="\n").writerows(
+        [[*COLUMNS, *headings], *([number, name, *more] for number, (name, more) in enumerate(zip(names, further)))])
+    return units.line() + found.getvalue()
 
 
 def names_of(path, count):
     """The names by number, from the depot's on; None without a file."""
     if path is None:
         return None
-    text = Text(path)
+    text = Text(path, takes_others=True)
     table, found = Table(text, COLUMNS), {}
     wanted = "each number of 0 to %d once" % count
+    own = [table.heading.index(column) for column in COLUMNS]
+    others = [place for place in range(len(table.heading)) if place not in own]
     for line, fields in table.rows:
-        number, name = (fields[table.heading.index(column)] for column in COLUMNS)
+        number, name = (fields[place] for place in own)
         number = text.whole(line, number, "a number of a customer", 0, count)
         if number in found:
             text.refuse(line, "number %d again" % number, wanted)
-        found[number] = named(name, int(number))
+        found[number] = named(name, int(number)), [clean(fields[place]) for place in others]
     for number in range(count + 1):
         if number not in found:
             text.at_end(wanted, "no name of number %d" % number)
-    return [found[number] for number in range(count + 1)]
+    rows = [found[number] for number in range(count + 1)]
+    return Names([name for name, _ in rows], [table.heading[place] for place in others],
+                 [further for _, further in rows], units_in(text))

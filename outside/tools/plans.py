@@ -4,7 +4,7 @@ from reference.texts import TextFault, read_certificate, read_solution, shown
 from tools.naming import Numbering
 from tools.respelling import customers
 from tools.timing import stops
-from tools.tool import Found, Text, quoted
+from tools.tool import Found, Text, quoted, remember
 
 
 # What leaves a text empty.
@@ -54,9 +54,22 @@ def certificate_of(path):
     return found
 
 
+def respelled_ends(text):
+    """Takes a plan whose lines end as Windows has them, or whose last one doesn't end, as one of ours; that is
+    noted."""
+    held = text.held.replace(b"\r\n", b"\n")
+    if held != text.held:
+        remember("%s: lines end in a carriage return and a line feed; vrptw itself takes a line feed alone" % text.path)
+    if held and not held.endswith(b"\n"):
+        held += b"\n"
+        remember("%s: the last line has no line feed, which vrptw itself asks for" % text.path)
+    text.held = held
+
+
 def plan_of(instance, path):
     """Routes and cost of a solution; it serves each customer once, at the cost that it tells."""
     text = Text(path)
+    respelled_ends(text)
     routes, cost = of_ours(text, read_solution, "a solution")
     found = [[Found(i, line) for i in route] for line, route in enumerate(routes, 1)]
     customers(text, found, Numbering(1, instance.count))

@@ -1,11 +1,10 @@
 """Why an instance has no plan, as far as plain arithmetic tells."""
 from collections import namedtuple
 
-from reference.texts import shown
-from tools.timing import signed
+from tools.units import units_of
 
-# One line, and whether it proves that there is no plan.
-Reason = namedtuple("Reason", "told proves")
+# One line, whether it proves that there is no plan, and the customer that it is of, or None.
+Reason = namedtuple("Reason", "told proves customer")
 
 
 def earliest(instance):
@@ -47,15 +46,29 @@ def alone_by(instance, i):
     return min(instance.due(i), instance.due(0) - instance.arc[i][0] - instance.service(i))
 
 
-def heavy(instance):
+class Words:
+    """How customers, times and demands are told: by numbers, or as a table of names has them."""
+
+    def __init__(self, names=None):
+        self.names, self.units = names, units_of(names)
+
+    def customer(self, i):
+        return "customer %d" % i if self.names is None else self.names.called(i)
+
+    def moment(self, tenths):
+        """A moment, which may lie before the day."""
+        return "before the day" if self.units.clock and tenths < 0 else self.units.moment(tenths)
+
+
+def heavy(instance, words):
     """Customers whose demand no vehicle holds."""
     for i in range(1, instance.count + 1):
         if instance.demand(i) > instance.capacity:
-            yield Reason("customer %d can't be served: met a demand of %d, wanted at most %d, which a vehicle holds"
-                         % (i, instance.demand(i), instance.capacity), True)
+            yield Reason("%s can't be served: met a demand of %s, wanted at most %s, which a vehicle holds" % (
+                words.customer(i), words.units.load(instance.demand(i)), words.units.load(instance.capacity)), True, i)
 
 
-def late(instance):
+def late(instance, words):
     """Customers that a vehicle of their own can't serve in time. Arcs are truncated, so a way over other customers may
     be shorter; where none is in time either, there is no plan."""
     at, by = earliest(instance), latest(instance)
@@ -64,20 +77,22 @@ def late(instance):
         if alone <= alone_by(instance, i):
             continue
         proves = at[i] > by[i]
-        yield Reason("customer %d can't be served alone: met a service that begins at %s, wanted by %s; over other "
-                     "customers it %s: met %s, wanted by %s"
-                     % (i, shown(alone), signed(alone_by(instance, i)), "can't either" if proves
-                        else "may be, so this proves nothing", shown(at[i]), signed(by[i])), proves)
+        yield Reason("%s can't be served alone: met a service that begins at %s, wanted by %s; over other customers it "
+                     "%s: met %s, wanted by %s" % (
+                         words.customer(i), words.moment(alone), words.moment(alone_by(instance, i)), "can't either"
+                         if proves else "may be, so this proves nothing", words.moment(at[i]), words.moment(by[i])),
+                     proves, i)
 
 
-def too_much(instance):
+def too_much(instance, words):
     """All demands together, where the fleet doesn't hold them."""
     whole, room = sum(row[2] for row in instance.rows), instance.fleet * instance.capacity
     if whole > room:
-        yield Reason("the fleet can't serve all: met a demand of %d, wanted at most %d, which %d vehicles hold"
-                     % (whole, room, instance.fleet), True)
+        yield Reason("the fleet can't serve all: met a demand of %s, wanted at most %s, which %d vehicles hold" % (
+            words.units.load(whole), words.units.load(room), instance.fleet), True, None)
 
 
-def reasons(instance):
-    """All reasons, those of single customers first."""
-    return [*heavy(instance), *late(instance), *too_much(instance)]
+def reasons(instance, names=None):
+    """All reasons, those of single customers first, told by numbers or as a table of names has them."""
+    words = Words(names)
+    return [*heavy(instance, words), *late(instance, words), *too_much(instance, words)]

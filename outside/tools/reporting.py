@@ -3,14 +3,14 @@ import os
 import shlex
 from html import escape
 
-from reference.instances import route_cost
 from reference.texts import shown
 from tools import drawing_tree
 from tools.drawing import HEAD, colour, dash, is_hollow, plural
 from tools.drawing_map import Frame, drawn_map
 from tools.drawing_times import AXIS, FIGURES, LANES, Scale, drawn_bars
 from tools.reporting_page import SCRIPT, SHELL, STYLE
-from tools.timing import signed, stops, sums, total
+from tools.timing import cells, stops, sums_shown, total
+from tools.units import units_of
 
 WIDE = 1000
 # What the tables say of a stop.
@@ -25,12 +25,17 @@ class Report:
         self.instance, self.names, self.routes, self.cost = instance, names, routes, cost
         self.certificate, self.values, self.paths = certificate, values, paths
         self.bound = certificate.bound if certificate else None
+        self.units = units_of(names)
 
     def name(self, i):
         """The name of a place beside its number, which is blank where it has none."""
         if self.names:
             return self.names[i] if self.names[i] != str(i) else ""
         return "" if i else "depot"
+
+    def distance(self, tenths):
+        """A distance with its measure."""
+        return "%s %s" % (self.units.distance(tenths), self.units.measure())
 
     def verdict(self):
         """The line that the check prints, or None without a certificate."""
@@ -44,10 +49,10 @@ class Report:
 
 def asked(report):
     instance = report.instance
-    return ("Asked was to serve %s from %s with at most %s of capacity %d, each customer once and within its window, "
+    return ("Asked was to serve %s from %s with at most %s of capacity %s, each customer once and within its window, "
             "at the least distance in all." % (
                 plural(instance.count, "customer"), report.name(0) if report.name(0) != "depot" else "the depot",
-                plural(instance.fleet, "vehicle"), instance.capacity))
+                plural(instance.fleet, "vehicle"), report.units.load(instance.capacity)))
 
 
 def claim(report):
@@ -55,18 +60,18 @@ def claim(report):
     kind = report.verdict().split()[0]
     if kind == "GAP":
         return "no plan costs less than %s, so the cheapest one saves at most %s of this cost" % (
-            shown(report.bound), percent(report.cost - report.bound, report.cost))
+            report.distance(report.bound), percent(report.cost - report.bound, report.cost))
     return {"BEST": "no plan is cheaper than this one", "NO": "there is no plan that serves all customers",
-            "BOUND": "every plan costs at least %s" % shown(report.bound)}[kind]
+            "BOUND": "every plan costs at least %s" % report.distance(report.bound)}[kind]
 
 
 def answer(report):
     """What was answered, in sentences, of which each is true of what was checked."""
     found = []
     if report.cost is not None:
-        found.append("%s all, at a cost of %s units of distance." % (
+        found.append("%s all, at a cost of %s of distance." % (
             "1 vehicle serves" if len(report.routes) == 1 else "%d vehicles serve" % len(report.routes),
-            shown(report.cost)))
+            report.distance(report.cost)))
     elif report.verdict() != "NO PLAN":
         found.append("No plan was found.")
     if report.certificate is None:
@@ -89,22 +94,22 @@ def percent(part, whole):
 
 def figures(report):
     """Pairs of a word and a figure."""
-    instance = report.instance
+    instance, units = report.instance, report.units
     demand = sum(instance.demand(i) for i in range(1, instance.count + 1))
     yield "customers", "%d" % instance.count
     if report.cost is not None:
         yield "vehicles", "%d of %d" % (len(report.routes), instance.fleet)
-        yield "cost (distance)", shown(report.cost)
+        yield "cost (distance%s)" % (", km" if units.speed else ""), units.distance(report.cost)
     if report.bound is not None and report.verdict() != "NO PLAN":
-        yield "bound", shown(report.bound)
+        yield "bound", units.distance(report.bound)
     if report.bound is not None and report.cost is not None:
-        yield "gap", "%s (%s)" % (shown(report.cost - report.bound), percent(report.cost - report.bound, report.cost))
-    yield "demand", "%d, and a vehicle holds %d" % (demand, instance.capacity)
+        yield "gap", "%s (%s)" % (units.distance(report.cost - report.bound), percent(report.cost - report.bound, report.cost))
+    yield "demand", "%s, and a vehicle holds %s" % (units.load(demand), units.load(instance.capacity))
     if report.cost is not None:
-        whole = total([sums(instance, route) for route in report.routes])
+        whole = total([sums_shown(instance, route, units) for route in report.routes])
         yield "load of the vehicles", percent(demand, len(report.routes) * instance.capacity)
-        yield "duration of all routes", shown(whole.duration)
-        yield "waiting of all", shown(whole.waiting)
+        yield "duration of all routes", units.span(whole.duration)
+        yield "waiting of all", units.span(whole.waiting)
     if report.certificate is not None:
         yield "leaves of the certificate", "%d" % leaves_of(report.certificate.tree)
 
@@ -133,16 +138,16 @@ def row(cells, tag="td"):
 
 def vehicles(report):
     """The table of the vehicles: loads, distances and times."""
-    instance, rows = report.instance, []
+    instance, units, rows = report.instance, report.units, []
     for number, route in enumerate(report.routes):
         load, first = sum(instance.demand(i) for i in route), stops(instance, route)[0]
-        found = sums(instance, route)
-        filled = '<div class="load"><i style="width:%d%%"></i><b>%d of %d</b></div>' % (
-            100 * load // instance.capacity, load, instance.capacity)
+        found = sums_shown(instance, route, units)
+        filled = '<div class="load"><i style="width:%d%%"></i><b>%s of %s</b></div>' % (
+            100 * load // instance.capacity, units.load(load), units.load(instance.capacity))
         rows.append('<tr class="route" data-route="%d" tabindex="0">%s</tr>' % (number, row([
-            sample(number), number + 1, len(route), filled, shown(route_cost(instance, route)),
-            shown(first.begin - instance.arc[0][first.stop]), shown(instance.ready(0) + found.duration),
-            shown(found.waiting)])))
+            sample(number), number + 1, len(route), filled, units.distance(found.distance),
+            units.moment(first.begin - instance.arc[0][first.stop]),
+            units.moment(units.floor(instance.ready(0)) + found.duration), units.span(found.waiting)])))
     heading = ["", "vehicle", "stops", "load", "distance", "may leave at", "back at", "waiting"]
     return ('<table class="figures"><thead><tr>%s</tr></thead><tbody>%s</tbody></table>'
             '<p class="note">A vehicle that leaves no later than said serves its customers at the times below. Of the '
@@ -156,8 +161,7 @@ def timetable(report):
     for number, route in enumerate(report.routes):
         rows = ['<tr><th colspan="8">%s vehicle %d</th></tr>' % (sample(number), number + 1)]
         for stop in stops(report.instance, route):
-            told = [stop.stop or "", escape(report.name(stop.stop)),
-                    *(signed(time) for time in stop[1:5]), stop.load, signed(stop.slack)]
+            told = [stop.stop or "", escape(report.name(stop.stop)), *cells(stop, report.units)[1:]]
             rows.append("<tr>%s</tr>" % row(told))
         parts.append('<tbody class="route" data-route="%d">%s</tbody>' % (number, "".join(rows)))
     return '<table class="times"><thead><tr>%s</tr></thead>%s</table>' % (
@@ -187,7 +191,7 @@ def bars_of(report):
 
 def tree_of(report):
     lines = drawing_tree.picture(report.instance.name.decode(), report.certificate.tree, report.values, report.bound,
-                                 report.cost)
+                                 report.cost, report.units.distance)
     return '<div class="picture tree">%s</div>' % "".join(lines)
 
 
@@ -211,6 +215,15 @@ def meaning(report):
             "BOUND": "every plan costs at least this number.", "NO": "there is no plan."}[kind]
 
 
+def in_units(report):
+    """What is said of the times and distances."""
+    units = report.units
+    if units.clock:
+        return "Times are of the day, cut to minutes; distances are in %s." % (
+            "km of road" if units.speed else "units of the table")
+    return "Times and distances are in units of the %s." % ("instance" if units.is_plain else "table")
+
+
 def sections(report):
     """Pairs of a heading and what stands below it."""
     yield "In figures", '<table class="pairs">%s</table>' % "".join(
@@ -220,8 +233,7 @@ def sections(report):
         yield "Map", map_of(report)
         yield "Over time", bars_of(report)
         yield "Timetable", timetable(report) + (
-            '<p class="note">Times and distances are in units of the instance. Slack is how much later service could '
-            'begin before the due date.</p>')
+            '<p class="note">%s Slack is how much later service could begin before the due date.</p>' % in_units(report))
     if report.cost is not None and report.values is not None:
         yield "The certificate's tree", tree_of(report) + (
             '<p class="note">Each leaf holds a part of all plans: those that use the arcs of full lines above it, and '

@@ -12,23 +12,28 @@ DECIMAL_COMMA = re.compile(r"([+-]?[0-9]*),([0-9]+)\Z")
 # A point that may part thousands, where spreadsheets part fields by semicolons and decimals by commas.
 THOUSANDS_POINT = re.compile(r"[+-]?[1-9][0-9]{0,2}\.[0-9]{3}\Z")
 CLOCK = re.compile(r"([0-9]{1,3}):([0-5][0-9])(?::([0-5][0-9]))?\Z")
+HALF_DAYS = re.compile(r"(0?[1-9]|1[0-2])(?::([0-5][0-9]))?(?::([0-5][0-9]))?\s*([ap])\.?m\.?\Z", re.I)
 
 
 class Table:
     """The rows below a heading line that has the columns, each with the line in which it begins; notes say what of it
-    is passed over."""
+    is passed over. Headings may have other names there, by a table of those names with ours."""
 
-    def __init__(self, text, columns):
-        self.text, self.columns, self.notes = text, columns, []
+    def __init__(self, text, columns, renamed=None):
+        self.text, self.columns, self.renamed, self.notes = text, columns, renamed or {}, []
         self.line, told, self.above = self.beginning()
         self.parted_by = self.separator(told)
         rows = list(self.records(self.parted_by))
-        self.heading = [field.lower() for field in rows[0][1]] if rows else []
+        self.heading = [self.ours(field) for field in rows[0][1]] if rows else []
         self.judge_heading(told)
         self.rows = rows[1:]
         for line, fields in self.rows:
             if len(fields) != len(self.heading):
                 text.refuse(line, "a row of %d fields" % len(fields), "%d, as the heading line has" % len(self.heading))
+
+    def ours(self, field):
+        """Our name for a heading."""
+        return self.renamed.get(field.lower(), field.lower())
 
     def beginning(self):
         """The heading line, and how many lines stand above it with what they say of the separator."""
@@ -48,7 +53,8 @@ class Table:
         """What separates: the first line may say it, else that is taken which finds most of the columns."""
         if not told:
             self.text.at_end("a heading line with %s" % ",".join(self.columns))
-        return self.above[1] or max(SEPARATORS, key=lambda one: len(set(self.columns) & set(plain(told, one))))
+        return self.above[1] or max(SEPARATORS, key=lambda one: len(
+            set(self.columns) & set(map(self.ours, plain(told, one)))))
 
     def records(self, separator):
         """The fields of each row that isn't blank, with the line in which it begins."""
@@ -98,9 +104,23 @@ def decimal(table, line, field):
     return Cell(field, number(found[1] + "." + found[2] if found else field))
 
 
+def degrees(table, line, field):
+    """A field as degrees, whose decimals may stand behind a comma or a point: no thousands are among them."""
+    return Cell(field, number(field.replace(",", ".") if DECIMAL_COMMA.match(field) else field))
+
+
 def moment(table, line, field):
     """A field as a time: a number, or hours and minutes of the day, of which the minutes count."""
-    found = CLOCK.match(field)
-    if not found:
-        return decimal(table, line, field)
-    return Cell(field, 60 * int(found[1]) + int(found[2]) + Fraction(int(found[3] or 0), 60))
+    minutes = minutes_of(field)
+    return decimal(table, line, field) if minutes is None else Cell(field, minutes)
+
+
+def minutes_of(field):
+    """The minutes since midnight of a time of the day, or None."""
+    found, half = CLOCK.match(field), HALF_DAYS.match(field)
+    if found:
+        return 60 * int(found[1]) + int(found[2]) + Fraction(int(found[3] or 0), 60)
+    if half:
+        hours = int(half[1]) % 12 + (12 if half[4].lower() == "p" else 0)
+        return 60 * hours + int(half[2] or 0) + Fraction(int(half[3] or 0), 60)
+    return None

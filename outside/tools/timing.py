@@ -4,7 +4,7 @@ import io
 from collections import namedtuple
 
 from reference.instances import route_cost
-from reference.texts import shown
+from tools.units import signed, units_of
 
 # A stop is a customer, or the depot (0) at the end; times in tenths, slack until the due date at the begin of service.
 Stop = namedtuple("Stop", "stop arrival wait begin end load slack")
@@ -33,36 +33,58 @@ def total(rows):
     return Sums(*(sum(column) for column in zip(*rows)))
 
 
-def signed(tenths):
-    return shown(tenths) if tenths >= 0 else "-" + shown(-tenths)
+def as_shown(stop, units):
+    """A stop whose times are cut to what is shown of them, so that they add up as they stand."""
+    arrival, begin, end = (units.floor(time) for time in (stop.arrival, stop.begin, stop.end))
+    return Stop(stop.stop, arrival, begin - arrival, begin, end, stop.load,
+                units.floor(stop.begin + stop.slack) - begin)
 
 
-def cells(stop):
+def sums_shown(instance, route, units):
+    """The sums of a route, of times as they are shown."""
+    found = [as_shown(stop, units) for stop in stops(instance, route)]
+    return Sums(route_cost(instance, route), found[-1].end - units.floor(instance.ready(0)),
+                sum(stop.wait for stop in found))
+
+
+def cells(stop, units):
     """A stop as words: its number, times, load and slack."""
-    return [str(stop.stop), *(signed(time) for time in stop[1:5]), str(stop.load), signed(stop.slack)]
+    stop = as_shown(stop, units)
+    return [str(stop.stop), units.moment(stop.arrival), units.span(stop.wait), units.moment(stop.begin),
+            units.moment(stop.end), units.load(stop.load), units.span(stop.slack)]
 
 
 def tables(instance, routes, names=None):
-    """The stops of all routes and then the sums, as rows of words below their headings; names stand in the stops' last
-    column."""
-    by_stop = [["route", *Stop._fields] + (["name"] if names else [])]
+    """The stops of all routes and then the sums, as rows of words below their headings; names, and what more their
+    table says, stand in the stops' last columns. Times and distances are as they were there, where it tells that."""
+    units = units_of(names)
+    by_stop = [["route", *Stop._fields] + further_cells(names, None)]
     by_route = [["route", *Sums._fields]]
-    found = [sums(instance, route) for route in routes]
+    found = [sums_shown(instance, route, units) for route in routes]
     for place, route in enumerate(routes, 1):
-        by_stop += [[str(place), *cells(stop)] + ([names[stop.stop]] if names else [])
+        by_stop += [[str(place), *cells(stop, units)] + further_cells(names, stop.stop)
                     for stop in stops(instance, route)]
     for place, row in [*enumerate(found, 1), ("plan", total(found))]:
-        by_route.append([str(place), *(signed(number) for number in row)])
+        by_route.append([str(place), units.distance(row.distance), units.span(row.duration), units.span(row.waiting)])
     return by_stop, by_route
+
+
+def further_cells(names, i):
+    """A place's name, and what more the table of names says of it; of None the headings."""
+    if not names:
+        return []
+    return ["name", *names.headings] if i is None else [names[i], *names.further[i]]
 
 
 def aligned(instance, routes, names=None):
     by_stop, by_route = tables(instance, routes, names)
     columns = 1 + len(Stop._fields)
     wide = max([WIDTH] + [len(word) + 1 for row in by_stop + by_route for word in row[:columns]])
+    widths = [max(map(len, column)) for column in zip(*(row[columns:] for row in by_stop))]
     lines = []
     for row in by_stop + by_route:
-        lines.append("".join([word.rjust(wide) for word in row[:columns]] + ["  " + name for name in row[columns:]]))
+        lines.append("".join([word.rjust(wide) for word in row[:columns]] + [
+            "  " + word.ljust(width) for word, width in zip(row[columns:], widths)]).rstrip())
         # An empty line stands behind each return.
         if row[1] == "0":
             lines.append("")

@@ -3,7 +3,7 @@ import argparse
 import os
 import re
 import sys
-from codecs import BOM_UTF8
+from codecs import BOM_UTF8, BOM_UTF16_BE, BOM_UTF16_LE
 from fractions import Fraction
 
 NUMBER = re.compile(r"[+-]?([0-9]{1,30}(\.[0-9]{0,30})?|\.[0-9]{1,30})([eE][+-]?[0-9]{1,2})?\Z")
@@ -67,18 +67,52 @@ def content(path):
         raise Refused("%s: %s" % (told_path(path), last_words(fault)))
 
 
-class Text:
-    """A file's lines, counted from 1. A byte order mark goes, and each kind of line end is one."""
+# What is noted at the end of a tool, beside what its work answers.
+REMEMBERED = []
 
-    def __init__(self, path):
+
+def remember(note):
+    """Keeps a note that is told once at the end."""
+    if note not in REMEMBERED:
+        REMEMBERED.append(note)
+
+
+class Text:
+    """A file's lines, counted from 1. A byte order mark goes, and each kind of line end is one. One that takes others
+    may be in UTF-16 or Latin-1 too, as spreadsheets write tables, and that is noted."""
+
+    def __init__(self, path, takes_others=False):
         self.path, self.held = told_path(path), content(path)
         begin = len(BOM_UTF8) if self.held.startswith(BOM_UTF8) else 0
         try:
-            whole = self.held[begin:].decode()
+            whole = self.utf_16() if takes_others else None
+            whole = self.held[begin:].decode() if whole is None else whole
         except UnicodeDecodeError as fault:
             at = begin + fault.start
-            self.refuse(self.line_of(at), "the byte 0x%02X" % self.held[at], "UTF-8")
+            if not takes_others:
+                self.refuse(self.line_of(at), "the byte 0x%02X" % self.held[at], "UTF-8")
+            whole = self.latin_1(self.line_of(at))
         self.lines = whole.replace("\r\n", "\n").replace("\r", "\n").split("\n")
+
+    def utf_16(self):
+        """The text where it begins with the mark of UTF-16, else None."""
+        if not self.held.startswith((BOM_UTF16_LE, BOM_UTF16_BE)):
+            return None
+        try:
+            whole = self.held.decode("utf-16")
+        except UnicodeDecodeError:
+            self.refuse(1, "the mark of UTF-16 before another text", "UTF-8")
+        remember("%s is read as UTF-16" % self.path)
+        return whole
+
+    def latin_1(self, line):
+        """The text as Windows and older spreadsheets write it, with the line that isn't in UTF-8."""
+        try:
+            whole, name = self.held.decode("cp1252"), "Windows-1252, which is Latin-1 with some signs more"
+        except UnicodeDecodeError:
+            whole, name = self.held.decode("latin-1"), "Latin-1"
+        remember("%s isn't in UTF-8 (line %d), and is read as %s" % (self.path, line, name))
+        return whole
 
     def line_of(self, offset):
         return len(re.findall(rb"\r\n|\r|\n", self.held[:offset])) + 1
@@ -205,6 +239,6 @@ def run(tool, work):
     except Refused as refused:
         told("outside/%s: %s" % (tool, " ".join(str(refused).split("\n"))))
         sys.exit(1)
-    for note in notes:
+    for note in REMEMBERED + notes:
         told("outside/%s: note: %s" % (tool, note))
     sys.exit(status[0] if status else 0)

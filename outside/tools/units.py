@@ -1,0 +1,113 @@
+"""What the numbers of an instance were before it was converted, and how they are shown: `06:30` and not 3900."""
+import re
+from fractions import Fraction
+
+from reference.texts import shown
+
+# How a table of names tells it, in a line of its own.
+MARK = "# vrptw units:"
+TOLD = re.compile(r'"?# ?vrptw units:(.*)\Z')
+PAIR = re.compile(r"([a-z]+)=([0-9]{1,9}(?:/[0-9]{1,9})?)\Z")
+KEYS = ("scale", "clock", "speed", "demands", "visits")
+HOUR, DAY = 60, 24 * 60
+
+
+def signed(tenths):
+    return shown(tenths) if tenths >= 0 else "-" + shown(-tenths)
+
+
+def decimal(value, digits):
+    """A number with so many digits behind the point, rounded to the nearest."""
+    tens = 10 ** digits
+    whole = int(abs(value) * tens * 2 + 1) // 2
+    sign = "-" if value < 0 and whole else ""
+    return sign + ("%d.%0*d" % (whole // tens, digits, whole % tens) if digits else "%d" % whole)
+
+
+class Units:
+    """`scale` units of the instance are one there. Where times are of the day, one there is a minute since midnight.
+    With a speed in km/h one there is a minute of driving. Demands there are multiplied by two factors, of which the
+    second one makes room for stops without demand."""
+
+    def __init__(self, scale=1, clock=0, speed=None, demands=1, visits=1):
+        self.scale, self.clock, self.speed, self.demands, self.visits = scale, clock, speed, demands, visits
+        self.is_plain = (scale, clock, speed, demands, visits) == (1, 0, None, 1, 1)
+
+    def line(self):
+        """The line of a table that tells it; nothing where the numbers are as they were."""
+        told = [("scale", self.scale, 1), ("clock", self.clock, 0), ("speed", self.speed, None),
+                ("demands", self.demands, 1), ("visits", self.visits, 1)]
+        pairs = ["%s=%s" % (key, value) for key, value, usual in told if value != usual]
+        return "%s %s\n" % (MARK, " ".join(pairs)) if pairs else ""
+
+    def digits(self):
+        """How many digits behind the point a tenth of a unit has there."""
+        return len(str(self.scale - 1)) + 1 if self.scale > 1 else 1
+
+    def number(self, tenths):
+        """A number of the instance as it was there."""
+        return signed(tenths) if self.scale == 1 else decimal(Fraction(tenths, 10 * self.scale), self.digits())
+
+    def distance(self, tenths):
+        """A distance or a cost: in kilometres where a speed is known."""
+        if self.speed is None:
+            return self.number(tenths)
+        return decimal(Fraction(tenths, 10 * self.scale) * self.speed / HOUR, 1)
+
+    def measure(self):
+        """The word for what distances are counted in."""
+        return "units" if self.speed is None else "km"
+
+    def floor(self, tenths):
+        """A moment cut to what is shown of it, so that no begin of service is shown after its due date."""
+        return tenths - tenths % (10 * self.scale) if self.clock else tenths
+
+    def moment(self, tenths):
+        """A moment: hours and minutes of the day, and how many days later."""
+        if not self.clock:
+            return self.number(tenths)
+        days, minutes = divmod(tenths // (10 * self.scale), DAY)
+        return "%02d:%02d%s" % (*divmod(minutes, HOUR), " +%d" % days if days else "")
+
+    def span(self, tenths):
+        """A length of time: hours and minutes."""
+        if not self.clock:
+            return self.number(tenths)
+        minutes = abs(tenths) // (10 * self.scale)
+        return "%s%d:%02d" % ("-" if tenths < 0 and minutes else "", *divmod(minutes, HOUR))
+
+    def load(self, number):
+        """A demand or a load as it was there; stops without demand count nothing."""
+        whole = number // self.visits
+        return "%d" % whole if self.demands == 1 else decimal(Fraction(whole, self.demands), len(str(self.demands)) - 1)
+
+
+PLAIN = Units()
+
+
+def units_of(names):
+    """What the names' table tells of units, or that numbers are as they were."""
+    return PLAIN if names is None else getattr(names, "units", PLAIN)
+
+
+def units_in(text):
+    """What a table's line tells, where it has one."""
+    for place, line in enumerate(text.lines, 1):
+        found = TOLD.match(line.strip())
+        if found:
+            return read_line(text, place, found[1].strip('",;|\t '))
+    return PLAIN
+
+
+def read_line(text, place, told):
+    """The units of a line; a wrong one is refused."""
+    found = {}
+    for word in told.split():
+        pair = PAIR.match(word)
+        if not pair or pair[1] not in KEYS or pair[1] in found or pair[2].rpartition("/")[2].strip("0") == "" or Fraction(pair[2]) == 0:
+            text.refuse(place, '"%s"' % word, "%s as convert writes it" % ", ".join(KEYS))
+        value = Fraction(pair[2])
+        if pair[1] != "speed" and value.denominator != 1:
+            text.refuse(place, '"%s"' % word, "a whole number")
+        found[pair[1]] = value if pair[1] == "speed" else int(value)
+    return Units(**found)
