@@ -172,8 +172,9 @@ def axis(scale, top, bottom, units):
         told = units.moment(time) if units.clock or is_fine else "%d" % (time // (10 * units.scale))
         found += ['<path d="M%.1f %.1fV%.1f"/>' % (scale.at(time), top, bottom),
                   text(scale.at(time), bottom + 14, told, 11, 'text-anchor="middle" stroke="none"')]
-    return found + [text((scale.left + scale.right) / 2, bottom + 31, "time of day" if units.clock else "time, in units of the instance", 11,
-                         'text-anchor="middle" stroke="none"'), "</g>"]
+    told = "time of day" if units.clock else "time, in units of the %s" % ("instance" if units.is_plain else "table")
+    return found + [text((scale.left + scale.right) / 2, bottom + 31, told, 11, 'text-anchor="middle" stroke="none"'),
+                    "</g>"]
 
 
 def drawn_bars(scale, instance, routes, names, top, high):

@@ -43,8 +43,8 @@ class Quantities:
 
     def noted_scale(self, why=None):
         """What is noted of a scale."""
-        return "coordinates and times are multiplied by %d%s: costs are %d times as high in the instance, and arcs are " \
-            "truncated at a tenth of the new unit" % (self.scale, ", " + why if why else "", self.scale)
+        return ("coordinates and times are multiplied by %d%s: costs are %d times as high in the instance, and arcs are "
+                "truncated at a tenth of the new unit" % (self.scale, ", " + why if why else "", self.scale))
 
     def refuse_horizon(self, line):
         """A text with windows, which begin in this line, has no horizon by an option."""
@@ -177,8 +177,8 @@ def with_visits(text, rows, capacity):
     found = [(*row[:2], Found(factor * row[2] or int(place > 0), row[2].line), *row[3:])
              for place, row in enumerate(rows)]
     return found, capacity * factor, factor, [
-        "stops without demand: %d, the first in line %d. Demands and the capacity are multiplied by %d, and each of them "
-        "has 1, so loads fit exactly where they did" % (len(visits), line, factor)]
+        "stops without demand: %d, the first in line %d. Demands and the capacity are multiplied by %d, and each of "
+        "them has 1, so loads fit exactly where they did" % (len(visits), line, factor)]
 
 
 def problem_of(text, quantities, read, given):

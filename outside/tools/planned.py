@@ -2,15 +2,19 @@
 import time
 
 from reference.texts import read_certificate, read_solution
+from tools import sheets
 from tools.child import tenths_of
 from tools.drawing import plural
 from tools.names import names_of
+from tools.reasons import reasons
 from tools.reporting import Report, page, percent
+from tools.serving import SERVED
 from tools.standing import CERTIFICATE, INSTANCE, NAMES, PLAN
 from tools.telling import Telling
 from tools.timing import separated
+from tools.tool import listed
 
-TIMETABLE, REPORT = "timetable.csv", "report.html"
+TIMETABLE, REPORT, SHEETS = "timetable.csv", "report.html", "drivers.html"
 
 
 class Line:
@@ -45,32 +49,75 @@ def measured(units, tenths):
     return "%s %s" % (units.distance(tenths), units.measure())
 
 
-def finish(planner):
-    """Writes the pages of the plan that stands in the folder."""
+def report_of(planner):
+    """The report of the texts that stand; None where none do."""
+    folder, instance = planner.folder, planner.instance
+    names = names_of(folder.at(NAMES), instance.count)
+    routes, cost = read_solution(folder.held(PLAN)) if planner.cost is not None else (None, None)
+    certificate = read_certificate(folder.held(CERTIFICATE)) if planner.bound is not None else None
+    if routes is None and certificate is None:
+        return None
+    paths = [INSTANCE] + ([CERTIFICATE] if certificate else []) + ([PLAN] if routes else [])
+    return Report(instance, names, routes, cost, certificate, None, paths)
+
+
+def finish(planner, has_sheets, report=None):
+    """Writes the pages of the texts that stand, with the report that is given, or their own."""
     folder, instance = planner.folder, planner.instance
     if not planner.is_in_place:
         return
-    plan, proof = folder.held(PLAN), folder.held(CERTIFICATE)
-    names = names_of(folder.at(NAMES), instance.count)
-    routes, cost = read_solution(plan) if planner.cost is not None else (None, None)
-    certificate = read_certificate(proof) if planner.bound is not None else None
-    if routes is not None:
-        folder.put(TIMETABLE, separated(instance, routes, names).encode())
-    if routes is not None or certificate is not None:
-        paths = [name for name, is_there in ((INSTANCE, True), (CERTIFICATE, certificate), (PLAN, routes)) if is_there]
-        folder.put(REPORT, page(Report(instance, names, routes, cost, certificate, None, paths)).encode())
+    own = report_of(planner)
+    for name, make in ((TIMETABLE, separated), (SHEETS, sheets.page if has_sheets else None)):
+        if planner.cost is None:
+            folder.drop(name)
+        elif make is separated:
+            folder.put(name, separated(instance, own.routes, own.names).encode())
+        elif make:
+            folder.put(name, make(instance, own.names, own.routes).encode())
+    if own is not None:
+        folder.put(REPORT, page(report or own).encode())
 
 
-def sentence(planner, units):
+def why_not(planner, names):
+    """Lines that say why there is no plan, in names."""
+    found = [reason.told for reason in reasons(planner.instance, names) if reason.proves]
+    return found or ["the certificate proves it, by %s; plain arithmetic tells no reason" % plural(
+        planner.folder.held(CERTIFICATE).count(b"\nP "), "leaf").replace("leafs", "leaves")]
+
+
+def left_out(serving):
+    """Who isn't served, in a sentence or two."""
+    names, found = serving.names, []
+    if serving.impossible:
+        found.append("No plan can serve %s." % listed([names.called(i) for i in serving.impossible]))
+    if serving.left:
+        found.append("Left out%s, until the others had a plan: %s; fewer may do." % (
+            ", too" if found else "", listed([names.called(i) for i in serving.left])))
+    return " ".join(found)
+
+
+def finish_without(planner, serving, has_sheets):
+    """Writes the page of an instance without a plan, and those of the ones that are served."""
+    report, found = report_of(planner), serving.found
+    report.why = why_not(planner, serving.names)
+    if found is not None:
+        report.left, report.served = left_out(serving), report_of(found)
+        report.served.folder = SERVED + "/"
+        finish(found, has_sheets)
+    finish(planner, has_sheets, report)
+    told = "There is no plan of all customers: %s.\n" % "; ".join(report.why)
+    return told + ("" if found is None else "%s In %s: %s" % (
+        report.left, planner.folder.at(SERVED), sentence(found, serving.names.units, "the others")))
+
+
+def sentence(planner, units, whom=None):
     """One sentence on what came of the work."""
-    if planner.kind == "NO PLAN":
-        return "There is no plan.\n"
     if planner.cost is None:
         return "No plan was found%s.\n" % (
             "" if planner.bound is None else "; every plan costs at least %s" % measured(units, planner.bound))
-    told = "%s all %s and %s %s" % (
+    told = "%s %s and %s %s" % (
         "1 vehicle serves" if planner.vehicles == 1 else "%d vehicles serve" % planner.vehicles,
-        plural(planner.instance.count, "customer"), "drives" if planner.vehicles == 1 else "drive",
+        "all %s" % plural(planner.instance.count, "customer") if whom is None else whom, "drives" if planner.vehicles == 1 else "drive",
         measured(units, planner.cost))
     if planner.kind == "BEST":
         return told + ", and no plan is shorter.\n"

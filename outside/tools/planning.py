@@ -19,8 +19,9 @@ class Planner:
     """A folder, an instance with its text and its table of names, and what is known: cost, bound, count of vehicles
     and kind of verdict of the texts that stand, all None where none does."""
 
-    def __init__(self, folder, instance, texts, given, signals, tell):
+    def __init__(self, folder, instance, texts, given, signals, tell, keeps_before=True):
         self.folder, self.instance, self.given, self.signals, self.tell = folder, instance, given, signals, tell
+        self.keeps_before = keeps_before
         self.cost = self.bound = self.vehicles = self.kind = self.start = None
         self.notes, self.texts = [], dict(zip((INSTANCE, NAMES), texts))
         for name, text in self.texts.items():
@@ -87,11 +88,12 @@ class Planner:
             return
         self.start = self.folder.put_beside(START, text_of(routes, plan_cost(self.instance, routes)).encode())
 
-    def go_on(self, until):
-        """Makes rounds until nothing is left to find, the time is over, or a signal comes."""
+    def go_on(self, until, is_any_enough=False):
+        """Makes rounds until nothing is left to find, the time is over, or a signal comes; or a plan stands, where any
+        is enough."""
         neighbours = NEIGHBOURS if self.given.neighbours is None else (self.given.neighbours,)
         schedule, number = Schedule(neighbours), 0
-        while not self.is_done() and not self.signals.came:
+        while not (self.is_done() or self.signals.came or is_any_enough and self.cost is not None):
             chosen = schedule.next(until - time.monotonic())
             if chosen is None:
                 return
@@ -134,7 +136,7 @@ class Planner:
     def take(self, cost, bound):
         """Brings what is better into place; of another instance all texts, once there is a plan or none can be."""
         if not self.is_in_place:
-            if cost is None and bound <= self.instance.ceiling() and self.folder.held(PLAN):
+            if cost is None and bound <= self.instance.ceiling() and self.keeps_before and self.folder.held(PLAN):
                 return
             self.replace(cost is not None)
         else:
@@ -149,7 +151,8 @@ class Planner:
 
     def replace(self, has_plan):
         """Brings the texts of this instance in the place of another's, which are kept."""
-        self.folder.keep_before()
+        if self.keeps_before:
+            self.folder.keep_before()
         if not has_plan:
             self.folder.drop(PLAN)
         self.folder.take(NAMES, *([PLAN] if has_plan else []), CERTIFICATE, INSTANCE)

@@ -4,7 +4,7 @@ from reference.texts import TextFault, read_certificate, read_solution, shown
 from tools.naming import Numbering
 from tools.respelling import customers
 from tools.timing import stops
-from tools.tool import Found, Text, quoted, remember
+from tools.tool import Found, Refused, Text, quoted, remember, told_path
 
 
 # What leaves a text empty.
@@ -91,6 +91,12 @@ def defects(instance, routes):
                 shown(late.begin + late.slack))
         if place == instance.fleet + 1:
             yield place, "one route more than the %d vehicles" % instance.fleet
+
+
+def demand_plan(instance, routes, path):
+    """Refuses routes that are no plan, with the line of the first one that isn't right."""
+    for place, defect in defects(instance, routes):
+        raise Refused("%s: line %d: met %s, wanted a plan of the instance" % (told_path(path), place, defect))
 
 
 def noted_defects(instance, routes):

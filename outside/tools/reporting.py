@@ -26,6 +26,8 @@ class Report:
         self.certificate, self.values, self.paths = certificate, values, paths
         self.bound = certificate.bound if certificate else None
         self.units = units_of(names)
+        # Where there is no plan: lines that say why, who is left out, and the report of the others' plan.
+        self.why, self.left, self.served, self.folder = [], "", None, ""
 
     def name(self, i):
         """The name of a place beside its number, which is blank where it has none."""
@@ -84,7 +86,7 @@ def answer(report):
 
 def check_command(report):
     """The words of the check, with the names of the files."""
-    names = [shlex.quote(os.path.basename(path)) for path in report.paths]
+    names = [shlex.quote(report.folder + os.path.basename(path)) for path in report.paths]
     return "./vrptw check %s %s%s" % (names[0], names[1], "" if report.cost is None else " --solution " + names[2])
 
 
@@ -103,7 +105,8 @@ def figures(report):
     if report.bound is not None and report.verdict() != "NO PLAN":
         yield "bound", units.distance(report.bound)
     if report.bound is not None and report.cost is not None:
-        yield "gap", "%s (%s)" % (units.distance(report.cost - report.bound), percent(report.cost - report.bound, report.cost))
+        gap = report.cost - report.bound
+        yield "gap", "%s (%s)" % (units.distance(gap), percent(gap, report.cost))
     yield "demand", "%s, and a vehicle holds %s" % (units.load(demand), units.load(instance.capacity))
     if report.cost is not None:
         whole = total([sums_shown(instance, route, units) for route in report.routes])
@@ -228,18 +231,29 @@ def sections(report):
     """Pairs of a heading and what stands below it."""
     yield "In figures", '<table class="pairs">%s</table>' % "".join(
         "<tr>%s</tr>" % row(pair) for pair in figures(report))
+    if report.why:
+        yield "Why there is no plan", "<ul>%s</ul>" % "".join("<li>%s</li>" % escape(line) for line in report.why)
+    if report.served is not None:
+        yield "A plan of the others", "<p>%s</p><p>%s</p>" % (escape(report.left), answer(report.served))
+        yield from plan_sections(report.served)
+    yield from plan_sections(report)
+    yield "How to check", checks(report)
+
+
+def plan_sections(report):
+    """The sections of a plan, where there is one."""
     if report.cost is not None:
         yield "Vehicles", vehicles(report)
         yield "Map", map_of(report)
         yield "Over time", bars_of(report)
         yield "Timetable", timetable(report) + (
-            '<p class="note">%s Slack is how much later service could begin before the due date.</p>' % in_units(report))
+            '<p class="note">%s Slack is how much later service could begin before the due date.</p>' % in_units(
+                report))
     if report.cost is not None and report.values is not None:
         yield "The certificate's tree", tree_of(report) + (
             '<p class="note">Each leaf holds a part of all plans: those that use the arcs of full lines above it, and '
             'none of the broken ones. None of them is cheaper than the value of the leaf, so the least value is the '
             'bound.</p>')
-    yield "How to check", checks(report)
 
 
 def page(report):

@@ -86,8 +86,10 @@ class Folder:
         self.take(name)
 
     def drop(self, name):
-        """Takes a text away that is of another instance."""
-        if os.path.lexists(self.at(name)):
+        """Takes a text, or a folder of texts, away that isn't of this instance."""
+        if os.path.isdir(self.at(name)):
+            shutil.rmtree(self.at(name), ignore_errors=True)
+        elif os.path.lexists(self.at(name)):
             os.remove(self.at(name))
 
     def keep_before(self):

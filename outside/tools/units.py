@@ -79,7 +79,9 @@ class Units:
     def load(self, number):
         """A demand or a load as it was there; stops without demand count nothing."""
         whole = number // self.visits
-        return "%d" % whole if self.demands == 1 else decimal(Fraction(whole, self.demands), len(str(self.demands)) - 1)
+        if self.demands == 1:
+            return "%d" % whole
+        return decimal(Fraction(whole, self.demands), len(str(self.demands)) - 1)
 
 
 PLAIN = Units()
@@ -104,8 +106,9 @@ def read_line(text, place, told):
     found = {}
     for word in told.split():
         pair = PAIR.match(word)
-        if not pair or pair[1] not in KEYS or pair[1] in found or pair[2].rpartition("/")[2].strip("0") == "" or Fraction(pair[2]) == 0:
-            text.refuse(place, '"%s"' % word, "%s as convert writes it" % ", ".join(KEYS))
+        is_number = pair and all(part.strip("0") for part in pair[2].split("/"))
+        if not is_number or pair[1] not in KEYS or pair[1] in found:
+            text.refuse(place, '"%s"' % word, "%s as convert writes them" % ", ".join(KEYS))
         value = Fraction(pair[2])
         if pair[1] != "speed" and value.denominator != 1:
             text.refuse(place, '"%s"' % word, "a whole number")
