@@ -31,8 +31,8 @@ class Report:
 
     def name(self, i):
         """The name of a place beside its number, which is blank where it has none."""
-        if self.names:
-            return self.names[i] if self.names[i] != str(i) else ""
+        if self.names and self.names[i] != str(i):
+            return self.names[i]
         return "" if i else "depot"
 
     def distance(self, tenths):
@@ -51,8 +51,8 @@ class Report:
 
 def asked(report):
     instance = report.instance
-    return ("Asked was to serve %s from %s with at most %s of capacity %s, each customer once and within its window, "
-            "at the least distance in all." % (
+    return ("The task: serve %s from %s with at most %s of capacity %s, each customer once and within its window, and "
+            "drive as little as possible." % (
                 plural(instance.count, "customer"), report.name(0) if report.name(0) != "depot" else "the depot",
                 plural(instance.fleet, "vehicle"), report.units.load(instance.capacity)))
 

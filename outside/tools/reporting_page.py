@@ -24,7 +24,8 @@ section table { display: block; }
 #in-figures, #vehicles { display: inline-block; vertical-align: top; margin-right: 3rem; max-width: 100%; }
 #vehicles .note { max-width: 36rem; }
 .figures th:nth-child(4) { text-align: center; }
-code { background: #f4f4f4; padding: 0 .2rem; font-size: .9em; }
+li { overflow-wrap: anywhere; }
+code { overflow-wrap: anywhere; background: #f4f4f4; padding: 0 .2rem; font-size: .9em; }
 .tree svg { max-width: 860px; }
 pre { background: #f4f4f4; padding: .7rem; overflow-x: auto; }
 .route { transition: opacity .12s; }
@@ -33,15 +34,25 @@ tr.route, tbody.route, g.route { cursor: pointer; }
 .one .route.lit { opacity: 1; }
 tr.route.lit, tbody.route.lit { background: #fff6d6; }
 tr.route:focus { outline: 2px solid #0072b2; }
+@media (max-width: 640px) {
+  body { padding: .6rem; }
+  th, td { padding: .15rem .28rem; font-size: .8rem; }
+  .pairs td { white-space: normal; overflow-wrap: anywhere; }
+  .load { width: 4.5rem; }
+}
 @media print {
+  @page { margin: 13mm; }
   body { max-width: none; padding: 0; font-size: 10pt; }
-  section { break-inside: avoid; }
-  #timetable { break-inside: auto; }
-  #in-figures, #vehicles { display: block; }
-  tbody.route { break-inside: avoid; }
+  h2 { margin-top: 1.2rem; break-after: avoid; }
+  #in-figures, #vehicles { display: block; margin: 0; }
+  #timetable { break-before: page; }
+  .picture, tr, pre, .note, tbody.route, #how-to-check { break-inside: avoid; }
   .route { opacity: 1 !important; }
   .picture, section table { overflow: visible; }
-  .picture svg { min-width: 0; max-height: 24cm; }
+  section table { display: table; }
+  .times { font-size: 8.5pt; }
+  .times th, .times td { padding: 0 .5rem; }
+  .picture svg { min-width: 0; max-height: 23cm; }
   * { print-color-adjust: exact; -webkit-print-color-adjust: exact; }
 }
 """

@@ -10,8 +10,8 @@ STYLE = """
 * { box-sizing: border-box; }
 body { font: 16px/1.45 system-ui, sans-serif; color: #1b1b1b; background: #fff; max-width: 60rem; margin: 0 auto;
   padding: 1rem; overflow-wrap: anywhere; }
-nav a { display: inline-block; border: 1px solid #999; border-radius: .3rem; padding: .3rem .7rem; margin: 0 .3rem .4rem 0;
-  color: inherit; text-decoration: none; }
+nav a { display: inline-block; border: 1px solid #999; border-radius: .3rem; padding: .3rem .7rem;
+  margin: 0 .3rem .4rem 0; color: inherit; text-decoration: none; }
 section { margin-bottom: 3rem; }
 h1 { font-size: 1.35rem; margin: .8rem 0 .2rem; }
 .whole { margin: 0 0 .7rem; color: #444; }
@@ -24,8 +24,9 @@ td.time { white-space: nowrap; }
 .who b { display: block; }
 .who i { display: block; font-style: normal; color: #444; }
 .late { white-space: normal; color: #444; display: block; font-size: .9em; }
+.what { color: #444; }
 tr { break-inside: avoid; }
-.depot td { background: #f3f3f3; }
+.depot, .depot td { background: #f3f3f3; }
 @media (max-width: 640px) {
   body { padding: .6rem; }
   thead { display: none; }
@@ -34,6 +35,7 @@ tr { break-inside: avoid; }
   td { border: 0; padding: .1rem 0; }
   td.number, td.time { text-align: left; white-space: normal; }
   td[data-what]::before { content: attr(data-what) ": "; color: #555; }
+  .depot td.time::before { content: none; }
   td:empty { display: none; }
 }
 @media print {
@@ -86,10 +88,15 @@ class Sheets:
 
 def row(cells, kind=""):
     """A row of a table, whose cells know what they are; on a phone that stands before them."""
-    told = "".join('<td class="%s"%s>%s</td>' % (
+    found = "".join('<td class="%s"%s>%s</td>' % (
         column[1], ' data-what="%s"' % column[0] if column[1] != "who" and column[0] else "", cell)
         for column, cell in zip(COLUMNS, cells))
-    return "<tr%s>%s</tr>" % (' class="%s"' % kind if kind else "", told)
+    return "<tr%s>%s</tr>" % (' class="%s"' % kind if kind else "", found)
+
+
+def told(what, moment):
+    """A moment of the depot, with what the vehicle does then."""
+    return '<span class="what">%s</span> %s' % (what, moment)
 
 
 def arrival(units, stop, is_first):
@@ -105,19 +112,20 @@ def sheet(sheets, number, route):
     found = [as_shown(stop, units) for stop in stops(instance, route)]
     whole, first = found[-1].load, stops(instance, route)[0]
     leaves = units.moment(first.begin - instance.arc[0][first.stop])
-    rows = [row(["", sheets.who(0), "", "leaves at %s" % leaves, "", units.load(whole)], "depot")]
+    rows = [row(["", sheets.who(0), "", told("leaves at", leaves), "", units.load(whole)], "depot")]
     for place, stop in enumerate(found[:-1], 1):
         demand = instance.demand(stop.stop)
         rows.append(row([
             place, sheets.who(stop.stop), sheets.window(stop.stop), arrival(units, stop, place == 1),
             units.load(demand) if demand >= units.visits else "a visit", units.load(whole - stop.load)]))
-    rows.append(row(["", sheets.who(0), "", "back at %s" % units.moment(found[-1].arrival), "", units.load(0)], "depot"))
+    back = units.moment(found[-1].arrival)
+    rows.append(row(["", sheets.who(0), "", told("back at", back), "", units.load(0)], "depot"))
     distance = sum(instance.arc[a][b] for a, b in zip([0] + route, route + [0]))
     head = "".join('<th class="%s">%s</th>' % (kind, told) for told, kind in COLUMNS)
     return ('<section id="vehicle-%d"><h1>Vehicle %d</h1><p class="whole">%s: %s, %s to hand over, %s %s. '
             'Leaves at %s, back at %s.</p><table><thead><tr>%s</tr></thead><tbody>%s</tbody></table></section>' % (
                 number, number, escape(instance.name.decode()), plural(len(route), "stop"), units.load(whole),
-                units.distance(distance), units.measure(), leaves, units.moment(found[-1].arrival), head,
+                units.distance(distance), units.measure(), leaves, back, head,
                 "".join(rows)))
 
 
