@@ -12,6 +12,7 @@ from judges.calling import NAMES, judge_call
 from judges.closing import judge_close
 from judges.devices import DEVICES, judge_device
 from judges.judging_batches import judge_batch
+from judges.judging_breaks import judge_break
 from judges.judging_bytes import judge_bytes
 from judges.judging_faults import judge_fault
 from judges.judging_fleets import judge_fleets, judge_tight
@@ -21,6 +22,7 @@ from judges.judging_printouts import judge_printout, judge_wrong_printout
 from judges.judging_reports import judge_report
 from judges.judging_starts import judge_start
 from judges.judging_tables import judge_foreseen, judge_table, judge_wrong_names
+from judges.judging_times import judge_times
 from judges.refusing import judge_memory
 from judges.running import Disagreement
 from judges.solving import judge_solve
@@ -103,6 +105,8 @@ KINDS = {
                     tools_by(judge_layout)),
     "tables": Kind("a spreadsheet's table with names, by convert: the same, and the names", 30,
                    tools_by(judge_table)),
+    "times": Kind("a table with times of the day, degrees, visits, empty fields and other codes: as it is meant", 30,
+                  tools_by(judge_times)),
     "foreseen": Kind("where convert notes that there is no plan, there is none, by all plans", 30,
                      tools_by(judge_foreseen)),
     "wrong_names": Kind("a table of names with one thing wrong: refused with its line", 30,
@@ -121,6 +125,8 @@ KINDS = {
                      tools_by(judge_picture)),
     "reports": Kind("the page of report: complete, by itself, and by chromium what answers the pointer", 6,
                     program_by(judge_report)),
+    "breaks": Kind("plan, broken off at drawn times: texts that are right, never dearer than before", 4,
+                   program_by(judge_break)),
     "batches": Kind("some instances by batch, and again with something changed in between", 6,
                     program_by(judge_batch)),
     "tool_faults": Kind("the tools with files that fail and with wrong words", len(FAULTS),
