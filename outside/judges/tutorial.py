@@ -7,6 +7,8 @@ from tools.manual import page
 from tools.places import TOP
 
 BLOCK = re.compile(r"^```console\n(.*?)^```$", re.M | re.S)
+# What is said where the status is 1.
+NOT_DONE = (": met ", "There is no plan")
 ROW = re.compile(r"^\| [^|]*`(--[^`]*)` \|", re.M)
 
 
@@ -31,7 +33,7 @@ def fitted_out(program, folder):
 
 
 def said(folder, command):
-    """What a command says on both streams, and its status."""
+    """What a command says on both streams, and its status, in a folder."""
     put(os.path.join(folder, "command"), ("cd '%s'\nexec 2>&1\n%s\n" % (folder, command)).encode())
     out, _, status = run(["/bin/bash", os.path.join(folder, "command")])
     return shown(out) if out.isascii() else out.decode(), status
@@ -43,14 +45,18 @@ def judge_tutorial(program, folder):
     fitted_out(program, folder)
     found = list(commands(told_there))
     demand(len(found) >= 15, "the tutorial has %d commands" % len(found))
+    place = folder
     for command, told in found:
-        output, status = said(folder, command)
-        is_open = told.startswith("GAP") or ": met " in told
+        if command.startswith("cd "):
+            place = os.path.join(place, command[3:])
+            continue
+        output, status = said(place, command)
+        is_open = told.startswith("GAP") or any(words in told for words in NOT_DONE)
         demand(fits(output, told) and status == is_open, "$ %s: status %d, %r" % (command, status, output))
     rows = ROW.findall(told_there)
     demand(len(rows) >= 10, "the tutorial has %d rows of options" % len(rows))
     for options in rows:
-        output, status = said(folder, "./vrptw solve dozen.txt p.txt c.txt " + options)
+        output, status = said(place, "../vrptw solve dozen.txt p.txt c.txt " + options)
         demand((output, status) == ("BEST 173.2\n", 0), "%s: status %d, %r" % (options, status, output))
     return "%d commands, %d rows of options" % (len(found), len(rows))
 

@@ -4,10 +4,12 @@ from math import ceil, floor
 
 from tools.layouts import MOST_CAPACITY, MOST_COORDINATE, MOST_TIME
 from tools.table import decimal, degrees, minutes_of, moment
-from tools.tool import Cell
+from tools.tool import Cell, quoted
 
 DAY = 24 * 60
 READERS = {"ready": moment, "due": moment, "service": moment, "lat": degrees, "lon": degrees}
+WHATS = {"x": "x", "y": "y", "demand": "a demand", "ready": "a ready time", "due": "a due date",
+         "service": "a service time"}
 TIMES, PLACES = ("ready", "due", "service"), ("x", "y")
 # Powers of ten that are tried as scales of coordinates and times, and of demands.
 POWERS = [10 ** power for power in range(5)]
@@ -69,6 +71,13 @@ class Values:
         self.notes.append("the depot's window goes over midnight, from %s to %s, so times before it are of the next day"
                           % (depot["ready"], depot["due"]))
 
+    def demand_numbers(self):
+        """Refuses the first field that is no number."""
+        for line, row in self.rows:
+            for column, what in WHATS.items():
+                if row[column].value is None:
+                    self.text.refuse(line, quoted(row[column]), "%s, a number" % what)
+
     def cells(self, columns):
         return [row[column] for _, row in self.rows for column in columns]
 
@@ -90,9 +99,7 @@ def fitting(values, quantities):
     """Chooses the scales where none is given: the least power of ten by which all numbers are whole, else the finest
     that the limits hold. Answers what is noted."""
     whole = values.cells(PLACES + TIMES)
-    if None in [cell.value for cell in whole + values.cells(["demand"])]:
-        # The row that isn't one of numbers is refused where it is read.
-        return []
+    values.demand_numbers()
     notes = demands(values, quantities)
     if quantities.is_scaled:
         return notes
@@ -105,11 +112,11 @@ def fitting(values, quantities):
     if held:
         quantities.scale = held[-1] if not quantities.is_projected else min(held[-1], 100)
         notes.append(quantities.noted_scale("as finely as the limits allow" if not quantities.is_projected else None))
-        notes += rounded(values, quantities.scale)
+        notes += rounded(values, quantities.scale, "minutes" if quantities.is_projected else "units")
     return notes
 
 
-def rounded(values, scale):
+def rounded(values, scale, measure):
     """Rounds what isn't whole: places to the nearest, windows inwards, services up. Answers what is noted."""
     count, most = 0, Fraction(0)
     for _, row in values.rows:
@@ -122,7 +129,8 @@ def rounded(values, scale):
             row[column] = Cell(row[column], Fraction(way(value), scale))
         if row["due"].value < row["ready"].value and row["ready"].value - row["due"].value <= Fraction(1, scale):
             row["ready"] = row["due"]
-    return ["%d numbers are rounded, places by at most %s, windows inwards" % (count, "%.2g" % float(most / scale))]
+    return ["%d numbers are rounded, places by at most %.2g %s, windows inwards" % (
+        count, float(most / scale), measure)]
 
 
 def demands(values, quantities):
