@@ -32,6 +32,10 @@ FILES = {
     "plain.csv": "x;y;demand;service\n0;0;0;0\n-3;4;1;0\n",
     "sep.csv": "sep=;\nx;y;demand;ready;due;service\n0;0;0;6:00;18:00;0\n1,000;4;1;6:00;7:00;0\n",
     "day.csv": "sep=;\nx;y;demand;ready;due;service\n0;0;0;6:00;18:00;0\n1,0;4;1;6:00;7:61;0\n",
+    "geo.csv": "lat,lon,demand,ready,due,service\n52,13,0,0,1000,0\n52.1,13,1,0,1000,0\n",
+    "far.csv": "lat,lon,demand,ready,due,service\n52,13,0,0,1000,0\n91,13,1,0,1000,0\n",
+    "visits.csv": "x,y,demand,ready,due,service\n0,0,0,0,1000,0\n3,4,0,0,1000,0\n3,4,,0,1000,0\n3,5,1,0,1000,0\n",
+    "units.csv": "# vrptw units: scale=x\nnumber,name\n0,depot\n1,a\n2,b\n",
     "names.csv": "number,name\n0,depot\n1,a\n2,b\n",
     "names2.csv": "number,name\n0,depot\n1,a\n",
     "names3.csv": "number,name\n0,depot\n1,a\n3,b\n",
@@ -60,6 +64,17 @@ batch folder --into r|folder|0|met no instance, wanted files that vrptw reads
 batch i.txt --into p.txt|p.txt|0|File exists
 batch i.txt --into r --program nowhere|nowhere|0|met no program, wanted one that can be run
 batch i.txt --into r --engine parallel --sshloginfile nowhere|nowhere|0|No such file or directory
+plan nowhere.csv --into r --vehicles 5 --capacity 5|nowhere.csv|0|No such file or directory
+plan bad.txt --into r|bad.txt|8|"x"
+plan i.txt --into p.txt|p.txt|0|File exists
+plan i.txt --into r --program nowhere|nowhere|0|met no program, wanted one that can be run
+plan t.csv --into r --capacity 5|t.csv|3|--vehicles
+plan geo.csv --into r --vehicles 5 --capacity 5|geo.csv|1|met degrees without a speed, wanted --speed N, in km/h
+convert geo.csv o.txt --vehicles 5 --capacity 5|geo.csv|1|met degrees without a speed
+convert far.csv o.txt --vehicles 5 --capacity 5 --speed 30|far.csv|3|met "91", wanted lat of -90 to 90
+convert visits.csv o.txt --vehicles 5 --capacity 5000|visits.csv|3|met 2 stops without demand, which takes capacity
+convert t.csv o.txt --vehicles 5 --capacity 5 --column due=bis|t.csv|1|met no column "bis", wanted the one of --column due=bis
+timetable i.txt p.txt --names units.csv|units.csv|1|met "scale=x", wanted scale, clock, speed, demands, visits as
 convert nowhere.csv o.txt|nowhere.csv|0|No such file or directory
 convert folder o.txt --from csv|folder|0|Is a directory
 convert empty.csv o.txt|empty.csv|1|the end
@@ -146,6 +161,10 @@ draw small.txt p.txt|p.txt|1|met a route with a load of 2, and a vehicle holds 1
 draw other.txt p.txt --tree k.txt|k.txt|2|another instance
 draw i.txt p.txt --tree worse.txt|worse.txt|7|BadLine
 draw i.txt p.txt --tree nowhere|nowhere|0|No such file or directory
+sheets i.txt cost.txt -o s.html|cost.txt|2|20.1
+sheets small.txt p.txt -o s.html|p.txt|1|met a route with a load of 2, and a vehicle holds 1,
+sheets i.txt p.txt -o p.txt|p.txt|0|met the file that is read, wanted another one to write
+report i.txt p.txt k.txt -o r.html --program nowhere|nowhere|0|met no program, wanted one that can be run
 report i.txt cost.txt -o r.html|cost.txt|2|20.1
 report small.txt p.txt -o r.html|p.txt|1|met a route with a load of 2, and a vehicle holds 1,
 report i.txt empty.txt -o r.html|empty.txt|1|an empty file
@@ -181,6 +200,16 @@ convert - - --from csv --to ours --vehicles 5 --capacity 5 < half.csv|multiplied
 # Wrong words, with a part of the one line that tells them; the status is 2.
 WORDS = """
 convert|required: FROM, TO
+plan i.txt|required: --into
+plan i.txt --into r --seconds 0|met "0"
+plan i.txt --into r --turns 5|unrecognized
+convert t.csv o.txt --column due|met "due", wanted OURS=THEIRS
+convert t.csv o.txt --column due=a --column due=b|met "due=b" again
+convert t.csv o.txt --horizon 25:77|met "25:77"
+convert t.csv o.txt --speed 0|met "0", wanted a number of 0.001 to 1000
+sheets i.txt|required: SOLUTION
+report i.txt p.txt --tree|--tree goes with a certificate
+recheck i.txt k.txt --jobs 0|met "0"
 batch i.txt|required: --into
 batch i.txt --into r --options "--turns x"|met "x", wanted options of solve with numbers
 batch i.txt --into r --options "--turns 0"|0 is not in 1..=1000000
@@ -225,7 +254,8 @@ WHY = [
     ("heavy.txt", 0, ["customer 1 can't be served: met a demand of 3, wanted at most 2, which a vehicle holds",
                       "the fleet can't serve all: met a demand of 5, wanted at most 4, which 2 vehicles hold"]),
 ]
-TOOLS = ("batch", "convert", "respell", "timetable", "draw", "report", "recheck", "why", "manual")
+TOOLS = ("batch", "plan", "convert", "carry", "respell", "timetable", "draw", "report", "sheets", "recheck", "why",
+         "manual")
 # With standard output on a full device or closed.
 PRINTING = ("convert i.txt - --to csv", "convert - - --from csv --to ours --vehicles 2 --capacity 2 --name T < t.csv",
             "respell i.txt p.txt", "timetable - p.txt < i.txt", "timetable i.txt p.txt", "draw i.txt p.txt",

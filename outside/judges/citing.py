@@ -180,7 +180,7 @@ class Document:
             if SCOPED.match(word):
                 self.judge_name(word, None)
             elif "/" in word and os.path.exists(os.path.join(self.sources.top, word.split("/")[0])):
-                self.judge_path(word, ("", "crates/*"))
+                self.judge_path(word, ("", self.folder, "crates/*"))
 
     def judge_line(self, text):
         for target in LINK.findall(text):

@@ -123,11 +123,11 @@ def judge_ended(into, came):
     demand(not left_running(into), "left running: %s" % left_running(into))
     if status == -signal.SIGKILL:
         return True
-    there = os.listdir(into) if os.path.isdir(into) else []
-    demand(not [name for name in there if name.startswith(".")], "left behind: %s" % there)
     if status < 0 or "KeyboardInterrupt" in errors:
         # The signal came while Python itself was starting.
         return False
+    there = os.listdir(into) if os.path.isdir(into) else []
+    demand(not [name for name in there if name.startswith(".")], "left behind: %s" % there)
     demand(status in (0, 1), "status %d, %r" % (status, errors))
     demand("Traceback" not in errors and (out or status), "%r" % errors)
     has_plan = "plan.txt" in there

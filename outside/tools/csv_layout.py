@@ -75,6 +75,9 @@ def read(text, quantities):
     """An instance without name, fleet and capacity."""
     columns, renamed = columns_of(text, quantities)
     table = Table(text, columns, renamed)
+    for theirs, ours in quantities.renamed.items():
+        if theirs not in table.there:
+            text.refuse(table.line, "no column %s" % quoted(theirs), "the one of --column %s=%s" % (ours, theirs))
     if set(WINDOW) <= set(table.columns):
         quantities.refuse_horizon(table.line)
     if not table.rows:

@@ -24,7 +24,8 @@ class Table:
         self.line, told, self.above = self.beginning()
         self.parted_by = self.separator(told)
         rows = list(self.records(self.parted_by))
-        self.heading = [self.ours(field) for field in rows[0][1]] if rows else []
+        there = rows[0][1] if rows else []
+        self.heading, self.there = [self.ours(field) for field in there], [field.lower() for field in there]
         self.judge_heading(told)
         self.rows = rows[1:]
         for line, fields in self.rows:
