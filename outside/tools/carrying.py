@@ -1,4 +1,6 @@
 """A plan taken to a changed instance: who is known again, who is gone, and where the others fit."""
+from itertools import groupby
+
 from reference.instances import walk_times
 from tools.tool import Refused, listed
 
@@ -16,11 +18,6 @@ def marks_of(instance, names):
 def fits(instance, route):
     load = sum(instance.demand(i) for i in route)
     return load <= instance.capacity and walk_times(instance, route) is not None
-
-
-def way(instance, route):
-    stops = [0] + route + [0]
-    return sum(instance.arc[a][b] for a, b in zip(stops, stops[1:]))
 
 
 class Carried:
@@ -69,14 +66,25 @@ class Carried:
 
     def put(self, routes, customer):
         """Puts a customer where the way around is shortest, or alone; answers whether there is such a place."""
-        places = [(way(self.changed, longer) - way(self.changed, route), k, longer)
-                  for k, route in enumerate(routes) for at in range(len(route) + 1)
-                  for longer in [route[:at] + [customer] + route[at:]] if fits(self.changed, longer)]
-        if places:
-            _, k, longer = min(places)
-            routes[k] = longer
-        elif len(routes) < self.changed.fleet and fits(self.changed, [customer]):
+        arc = self.changed.arc
+        ways = sorted((arc[a][customer] + arc[customer][b] - arc[a][b], k, at) for k, route in enumerate(routes)
+                      for at, (a, b) in enumerate(zip([0] + route, route + [0])))
+        for _, found in groupby(ways, lambda place: place[:2]):
+            longer = [(k, routes[k][:at] + [customer] + routes[k][at:]) for _, k, at in found]
+            fitting = [(k, route) for k, route in longer if fits(self.changed, route)]
+            if fitting:
+                k, routes[k] = min(fitting)
+                return True
+        if len(routes) < self.changed.fleet and fits(self.changed, [customer]):
             routes.append([customer])
-        else:
-            return False
-        return True
+            return True
+        return False
+
+
+def placed(instance):
+    """Routes that are built customer by customer, those that are due first before the others, and who fits nowhere."""
+    found, routes, left = Carried(instance, instance, (None, None)), [], []
+    for customer in sorted(range(1, instance.count + 1), key=lambda i: (instance.due(i), i)):
+        if not found.put(routes, customer):
+            left.append(customer)
+    return routes, left

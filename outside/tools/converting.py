@@ -101,7 +101,6 @@ def read_problem(given, source_layout, keeps_names, needs_names):
     return problem, notes + ([quantities.noted_scale()] if (given.scale or 1) > 1 else [])
 
 
-def table_of(problem):
-    """The table of names of a problem's places."""
-    own = problem.names
+def table_of(own):
+    """The table of names, with what more is known."""
     return names.table_of(own, own.headings, own.further, own.units)

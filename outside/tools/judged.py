@@ -5,7 +5,7 @@ import subprocess
 
 from reference.texts import tenths
 from tools.certified import refuse_bound
-from tools.stopping import end_by_signals, end_with_parent
+from tools.stopping import end_with_parent
 from tools.tool import Refused, last_words, told_path
 
 
@@ -22,7 +22,6 @@ def in_memory(name, text):
 def judged(program, instance, certificate, plan=None):
     """The line of the check, and what it says on standard error; a plan may be left out."""
     texts = [instance, certificate] + ([] if plan is None else [plan])
-    end_by_signals()
     files = [in_memory(name, text) for name, text in zip(("instance", "certificate", "plan"), texts)]
     paths = [path for _, path in files]
     words = [program, "check", *paths[:2], *(["--solution", paths[2]] if plan is not None else [])]

@@ -121,5 +121,7 @@ def sentence(planner, units, whom=None):
         measured(units, planner.cost))
     if planner.kind == "BEST":
         return told + ", and no plan is shorter.\n"
+    if not planner.bound:
+        return told + ", and how much shorter a plan may be isn't known yet.\n"
     return told + ", and the shortest plan saves at most %s of that.\n" % percent(
-        planner.cost - (planner.bound or 0), planner.cost)
+        planner.cost - planner.bound, planner.cost)

@@ -3,8 +3,9 @@ import time
 
 from reference.instances import plan_cost, read
 from reference.texts import read_solution
-from tools.carrying import Carried
+from tools.carrying import Carried, placed
 from tools.child import Child, verdict_of
+from tools.judged import judged
 from tools.respelling import certificate, text_of
 from tools.schedule import Schedule
 from tools.standing import CERTIFICATE, INSTANCE, NAMES, PLAN
@@ -13,6 +14,11 @@ from tools.tool import Refused
 START, PRICES = "start.txt", "prices.txt"
 # The counts of neighbours that are taken in turn.
 NEIGHBOURS = (8, 12)
+
+
+def held(path):
+    with open(path, "rb") as file:
+        return file.read()
 
 
 class Planner:
@@ -86,7 +92,34 @@ class Planner:
             self.notes.append("these fit into no route of the plan before, and begin absent: %s" % ", ".join(
                 told[1](i) for i in absent))
             return
+        self.begin_with(routes)
+
+    def build(self):
+        """Builds a plan customer by customer, to begin with, where all have a place."""
+        routes, unfit = placed(self.instance)
+        if not unfit:
+            self.begin_with(routes)
+
+    def begin_with(self, routes):
+        """Takes a plan to begin with, which is no dearer at the end."""
         self.start = self.folder.put_beside(START, text_of(routes, plan_cost(self.instance, routes)).encode())
+
+    def fall_back(self):
+        """Where no round came to a plan, the one to begin with comes into place, with a bound of 0."""
+        if self.cost is not None or self.kind == "NO PLAN":
+            return
+        if self.start is None:
+            self.build()
+        if self.start is None:
+            return
+        plan = self.folder.put_beside(PLAN, held(self.start))
+        proof = self.folder.put_beside(CERTIFICATE, certificate(self.instance).encode())
+        line, fault = judged(self.given.program, *(held(path) for path in (self.folder.beside(INSTANCE), proof, plan)))
+        kind, cost, bound = verdict_of(line + "\n")
+        if kind is None:
+            self.notes.append("the plan to begin with isn't taken: %s" % fault)
+            return
+        self.take(cost, bound)
 
     def go_on(self, until, is_any_enough=False):
         """Makes rounds until nothing is left to find, the time is over, or a signal comes; or a plan stands, where any

@@ -1,13 +1,13 @@
 """What can be served where there is no plan: customers are left out one by one until the others have one."""
 import time
 
-from reference.instances import plan_cost, read
-from tools.carrying import Carried
+from reference.instances import read
+from tools.carrying import placed
+from tools.converting import table_of
 from tools.layouts import Problem
-from tools.names import Names, table_of
-from tools.planning import START, Planner
+from tools.names import Names
+from tools.planning import Planner
 from tools.reasons import reasons
-from tools.respelling import text_of
 from tools.solomon_layout import write_ours
 from tools.standing import Folder
 
@@ -21,15 +21,6 @@ def reduced(instance, names, kept):
     rows = [instance.rows[i][:3] + tuple(time // 10 for time in instance.rows[i][3:]) for i in places]
     own = Names([names[i] for i in places], names.headings, [names.further[i] for i in places], names.units)
     return write_ours(Problem(instance.name.decode(), instance.fleet, instance.capacity, rows, own)).encode(), own
-
-
-def placed(instance):
-    """Routes that are built customer by customer, those that are due first before the others, and who fits nowhere."""
-    found, routes, left = Carried(instance, instance, (None, None)), [], []
-    for customer in sorted(range(1, instance.count + 1), key=lambda i: (instance.due(i), i)):
-        if not found.put(routes, customer):
-            left.append(customer)
-    return routes, left
 
 
 class Serving:
@@ -61,11 +52,10 @@ class Serving:
             text, names = reduced(self.instance, self.names, kept)
             routes, unfit = placed(read(text))
             left = until - time.monotonic()
-            other = Planner(self.folder, read(text), (text, table_of_names(names)), self.planner.given,
+            other = Planner(self.folder, read(text), (text, table_of(names).encode()), self.planner.given,
                             self.planner.signals, self.planner.tell, False)
             if not unfit:
-                start = text_of(routes, plan_cost(other.instance, routes)).encode()
-                other.start = self.folder.put_beside(START, start)
+                other.begin_with(routes)
                 self.solved(other, until, False)
                 return
             if left > 0 and self.solved(other, time.monotonic() + left / (len(unfit) + 2), True):
@@ -78,9 +68,7 @@ class Serving:
         """Whether a plan stands after some rounds."""
         other.stand(until)
         other.go_on(until, is_any_enough)
+        if not is_any_enough:
+            other.fall_back()
         self.found = other if other.cost is not None else None
         return self.found is not None
-
-
-def table_of_names(names):
-    return table_of(names, names.headings, names.further, names.units).encode()
