@@ -288,6 +288,7 @@ OF_FILES = [no_demand, wrong_byte]
 CHANGES = {
     "solomon": ANY + OF_FILES + [again, wrong_ids, no_depot_row, wrong_heading, wrong_numbers, cut_off],
     "csv": ANY + table_cases.CHANGES + [option_lacks],
-    "vrplib": ANY + OF_FILES + [again, again, wrong_ids, wrong_key, wrong_key, unknown_key, no_key, no_section, row_lacks,
-                     row_too_many, wrong_depots, stray_line, both_fleets, no_windows],
+    "vrplib": ANY + OF_FILES + [
+        again, again, wrong_ids, wrong_key, wrong_key, unknown_key, no_key, no_section, row_lacks, row_too_many,
+        wrong_depots, stray_line, both_fleets, no_windows],
 }

@@ -73,7 +73,7 @@ plan geo.csv --into r --vehicles 5 --capacity 5|geo.csv|1|met degrees without a 
 convert geo.csv o.txt --vehicles 5 --capacity 5|geo.csv|1|met degrees without a speed
 convert far.csv o.txt --vehicles 5 --capacity 5 --speed 30|far.csv|3|met "91", wanted lat of -90 to 90
 convert visits.csv o.txt --vehicles 5 --capacity 5000|visits.csv|3|met 2 stops without demand, which takes capacity
-convert t.csv o.txt --vehicles 5 --capacity 5 --column due=bis|t.csv|1|met no column "bis", wanted the one of --column due=bis
+convert t.csv o.txt --vehicles 5 --capacity 5 --column due=bis|t.csv|1|met no column "bis", wanted the one of --column
 timetable i.txt p.txt --names units.csv|units.csv|1|met "scale=x", wanted scale, clock, speed, demands, visits as
 convert nowhere.csv o.txt|nowhere.csv|0|No such file or directory
 convert folder o.txt --from csv|folder|0|Is a directory
@@ -267,6 +267,7 @@ def rows(table):
 
 
 FAULTS = ([("refused", *row) for row in rows(REFUSED)] + [("words", *row) for row in rows(WORDS)]
-          + [("noted", *row) for row in rows(NOTED)] + [("why", *row) for row in WHY] + [("help", tool) for tool in TOOLS]
+          + [("noted", *row) for row in rows(NOTED)] + [("why", *row) for row in WHY]
+          + [("help", tool) for tool in TOOLS]
           + [("full", words) for words in PRINTING]
           + [("closed", words) for words in PRINTING])

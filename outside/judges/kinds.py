@@ -23,6 +23,7 @@ from judges.judging_reports import judge_report
 from judges.judging_starts import judge_start
 from judges.judging_tables import judge_foreseen, judge_table, judge_wrong_names
 from judges.judging_times import judge_times
+from judges.launching import LAUNCHES, judge_launch
 from judges.refusing import judge_memory
 from judges.running import Disagreement
 from judges.solving import judge_solve
@@ -131,6 +132,8 @@ KINDS = {
                     program_by(judge_batch)),
     "tool_faults": Kind("the tools with files that fail and with wrong words", len(FAULTS),
                         lambda programs, folder, random, seed: judge_fault(folder, seed), is_fixed=True),
+    "launches": Kind("the launcher with one file by two names, and files at fault, on a terminal and without",
+                     len(LAUNCHES), lambda programs, folder, random, seed: judge_launch(folder, seed), is_fixed=True),
     "tutorial": Kind("each command of docs/tutorial.md", 1,
                      lambda programs, folder, random, seed: judge_tutorial(programs.program, folder), is_fixed=True),
     "instances": Kind("bench/instances against what bench/make_instances makes", 1,

@@ -179,7 +179,8 @@ def drawn_map(frame, instance, routes, names):
     badges = [badge(number, places.best(list(badge_boxes(frame, instance, route))))
               for number, route in enumerate(routes)]
     found += [part for parts in badges for part in parts]
-    depot = label(places, *spots[0], short(names[0]) if names and names[0] != "0" else "depot", 12, 8, 'font-weight="bold"')
+    depot = short(names[0]) if names and names[0] != "0" else "depot"
+    depot = label(places, *spots[0], depot, 12, 8, 'font-weight="bold"')
     labels = customer_labels(frame, instance, places, names)
     return found + ["<g %s>" % HALO, depot, *labels, "</g>", *scale_line(frame, units)]
 

@@ -43,8 +43,8 @@ class Quantities:
 
     def noted_scale(self, why=None):
         """What is noted of a scale."""
-        return ("coordinates and times are multiplied by %d%s: costs are %d times as high in the instance, and arcs are "
-                "truncated at a tenth of the new unit" % (self.scale, ", " + why if why else "", self.scale))
+        told = "coordinates and times are multiplied by %d%s: costs are %d times as high in the instance, and arcs are "
+        return (told + "truncated at a tenth of the new unit") % (self.scale, ", " + why if why else "", self.scale)
 
     def refuse_horizon(self, line):
         """A text with windows, which begin in this line, has no horizon by an option."""

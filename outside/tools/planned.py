@@ -64,7 +64,8 @@ def report_of(planner):
 def finish(planner, has_sheets, report=None):
     """Writes the pages of the texts that stand, with the report that is given, or their own."""
     folder, instance = planner.folder, planner.instance
-    if not planner.is_in_place:
+    # Pages that tell the bound aren't replaced by some that can't.
+    if not planner.is_in_place or planner.is_unread and folder.held(REPORT):
         return
     own = report_of(planner)
     for name, make in ((TIMETABLE, separated), (SHEETS, sheets.page if has_sheets else None)):
@@ -102,7 +103,7 @@ def finish_without(planner, serving, has_sheets):
     report.why = why_not(planner, serving.names)
     if found is not None:
         report.left, report.served = left_out(serving), report_of(found)
-        report.served.folder = SERVED + "/"
+        report.served.folder, report.served.whom = SERVED + "/", "the others"
         finish(found, has_sheets)
     finish(planner, has_sheets, report)
     told = "There is no plan of all customers: %s.\n" % "; ".join(report.why)
@@ -115,9 +116,9 @@ def sentence(planner, units, whom=None):
     if planner.cost is None:
         return "No plan was found%s.\n" % (
             "" if planner.bound is None else "; every plan costs at least %s" % measured(units, planner.bound))
-    told = "%s %s and %s %s" % (
-        "1 vehicle serves" if planner.vehicles == 1 else "%d vehicles serve" % planner.vehicles,
-        "all %s" % plural(planner.instance.count, "customer") if whom is None else whom, "drives" if planner.vehicles == 1 else "drive",
+    whom = whom or "all %s" % plural(planner.instance.count, "customer")
+    told = "%s %s and %s %s" % (plural(planner.vehicles, "vehicle"), *(
+        ("serves " + whom, "drives") if planner.vehicles == 1 else ("serve " + whom, "drive")),
         measured(units, planner.cost))
     if planner.kind == "BEST":
         return told + ", and no plan is shorter.\n"

@@ -9,9 +9,12 @@ from tools.judged import judged
 from tools.respelling import certificate, text_of
 from tools.schedule import Schedule
 from tools.standing import CERTIFICATE, INSTANCE, NAMES, PLAN
+from tools.stopping import Patience
 from tools.tool import Refused
 
-START, PRICES = "start.txt", "prices.txt"
+START = "start.txt"
+# How many seconds the check of a certificate that stands goes on after a signal, from its start.
+PATIENCE = 3
 # The counts of neighbours that are taken in turn.
 NEIGHBOURS = (8, 12)
 
@@ -27,39 +30,42 @@ class Planner:
 
     def __init__(self, folder, instance, texts, given, signals, tell, keeps_before=True):
         self.folder, self.instance, self.given, self.signals, self.tell = folder, instance, given, signals, tell
-        self.keeps_before = keeps_before
+        self.keeps_before, self.is_unread = keeps_before, False
         self.cost = self.bound = self.vehicles = self.kind = self.start = None
         self.notes, self.texts = [], dict(zip((INSTANCE, NAMES), texts))
         for name, text in self.texts.items():
             folder.put_beside(name, text)
         self.is_in_place = folder.held(INSTANCE) == self.texts[INSTANCE]
 
-    def checked(self, certificate_path, plan_path, until):
+    def checked(self, certificate_path, plan_path, until, signals=None):
         """What the check says of two texts: kind, cost and bound, all None where they aren't right or it was broken
         off; and its line of a fault."""
         words = [self.given.program, "check", self.folder.beside(INSTANCE), certificate_path]
         words += [] if plan_path is None else ["--solution", plan_path]
-        came = Child(words).came(self.signals, until, lambda told: None)
+        came = Child(words).came(signals or self.signals, until, lambda told: None)
         kind, cost, bound = verdict_of(came.line) if came.status in (0, 1) else (None, None, None)
         return kind, cost, self.instance.ceiling() + 1 if kind == "NO PLAN" else bound, came.errors
 
     def stand(self, until):
-        """Takes in the texts that stand of this instance, as far as they are right."""
+        """Takes in the texts that stand of this instance, as far as they are right. A signal or the end of the time
+        doesn't break off the check of the plan, and that of the certificate after some seconds alone."""
         plan, proof = self.folder.held(PLAN), self.folder.held(CERTIFICATE)
         if not self.is_in_place:
             return
         if self.folder.held(NAMES) != self.texts[NAMES]:
             self.folder.take(NAMES)
-        places = self.folder.at(CERTIFICATE), self.folder.at(PLAN)
-        if proof:
-            _, _, self.bound, fault = self.checked(places[0], None, until)
-            self.note_fault(CERTIFICATE, fault)
         if plan:
-            prices = self.folder.put_beside(PRICES, certificate(self.instance).encode())
-            _, self.cost, _, fault = self.checked(prices, places[1], until)
+            line, fault = judged(self.given.program, self.texts[INSTANCE], certificate(self.instance).encode(), plan)
+            _, self.cost, _ = verdict_of(line + "\n")
             self.note_fault(PLAN, fault)
         if self.cost is not None:
             self.vehicles = plan.count(b"\nRoute #") + 1
+        if proof:
+            patient = Patience(self.signals, PATIENCE)
+            until = max(until, time.monotonic() + PATIENCE)
+            kind, _, self.bound, fault = self.checked(self.folder.at(CERTIFICATE), None, until, patient)
+            self.note_fault(CERTIFICATE, fault)
+            self.is_unread = kind is None and not fault
         self.judge()
 
     def note_fault(self, name, fault):
@@ -106,7 +112,7 @@ class Planner:
 
     def fall_back(self):
         """Where no round came to a plan, the one to begin with comes into place, with a bound of 0."""
-        if self.cost is not None or self.kind == "NO PLAN":
+        if self.cost is not None or self.kind == "NO PLAN" or self.is_unread:
             return
         if self.start is None:
             self.build()

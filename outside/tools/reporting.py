@@ -27,7 +27,7 @@ class Report:
         self.bound = certificate.bound if certificate else None
         self.units = units_of(names)
         # Where there is no plan: lines that say why, who is left out, and the report of the others' plan.
-        self.why, self.left, self.served, self.folder = [], "", None, ""
+        self.why, self.left, self.served, self.folder, self.whom = [], "", None, "", "all"
 
     def name(self, i):
         """The name of a place beside its number, which is blank where it has none."""
@@ -71,8 +71,8 @@ def answer(report):
     """What was answered, in sentences, of which each is true of what was checked."""
     found = []
     if report.cost is not None:
-        found.append("%s all, at a cost of %s of distance." % (
-            "1 vehicle serves" if len(report.routes) == 1 else "%d vehicles serve" % len(report.routes),
+        found.append("%s %s, at a cost of %s of distance." % (
+            "1 vehicle serves" if len(report.routes) == 1 else "%d vehicles serve" % len(report.routes), report.whom,
             report.distance(report.cost)))
     elif report.verdict() != "NO PLAN":
         found.append("No plan was found.")
@@ -206,8 +206,18 @@ def checks(report):
     again = check_command(report).replace("./vrptw check", "outside/recheck").replace(" --solution", "")
     return ("<p>Who has these files can check the answer:</p><pre>$ %s\n%s\n$ %s\n%s</pre>"
             "<p>The first command is a program that is proved to say this line only where it is true; the second is "
-            "plain Python that shares nothing with it. The line says: %s</p>" % (
-                escape(check_command(report)), report.verdict(), escape(again), report.verdict(), meaning(report)))
+            "plain Python that shares nothing with it. The line says: %s%s</p>" % (
+                escape(check_command(report)), report.verdict(), escape(again), report.verdict(), meaning(report),
+                counted(report)))
+
+
+def counted(report):
+    """What the line counts in, where that isn't what the page shows."""
+    units = report.units
+    if units.is_plain or units.scale == 1 and units.speed is None:
+        return ""
+    return " It counts in units of the instance, of which %g are one %s." % (
+        units.scale * (60 / float(units.speed) if units.speed else 1), "km" if units.speed else "of the table")
 
 
 def meaning(report):

@@ -1,6 +1,7 @@
 """Signals that ask to stop, and processes that end with the one that started them."""
 import ctypes
 import signal
+import time
 
 STOPPING = (signal.SIGINT, signal.SIGTERM, signal.SIGHUP)
 # The call of Linux by which a process gets a signal when the one that started it ends.
@@ -17,6 +18,17 @@ class Signals:
 
     def keep(self, number, frame):
         self.came = True
+
+
+class Patience:
+    """Signals that count only once some seconds are over."""
+
+    def __init__(self, signals, seconds):
+        self.signals, self.from_then = signals, time.monotonic() + seconds
+
+    @property
+    def came(self):
+        return self.signals.came and time.monotonic() >= self.from_then
 
 
 def leave(number, frame):
