@@ -6,8 +6,7 @@ from tools import sheets
 from tools.child import tenths_of
 from tools.drawing import plural
 from tools.names import names_of
-from tools.reasons import reasons
-from tools.reporting import Report, page, percent
+from tools.reporting import Report, page, percent, why_not
 from tools.serving import SERVED
 from tools.standing import CERTIFICATE, INSTANCE, NAMES, PLAN
 from tools.telling import Telling
@@ -79,13 +78,6 @@ def finish(planner, has_sheets, report=None):
         folder.put(REPORT, page(report or own).encode())
 
 
-def why_not(planner, names):
-    """Lines that say why there is no plan, in names."""
-    found = [reason.told for reason in reasons(planner.instance, names) if reason.proves]
-    return found or ["the certificate proves it, by %s; plain arithmetic tells no reason" % plural(
-        planner.folder.held(CERTIFICATE).count(b"\nP "), "leaf").replace("leafs", "leaves")]
-
-
 def left_out(serving):
     """Who isn't served, in a sentence or two."""
     names, found = serving.names, []
@@ -100,7 +92,7 @@ def left_out(serving):
 def finish_without(planner, serving, has_sheets):
     """Writes the page of an instance without a plan, and those of the ones that are served."""
     report, found = report_of(planner), serving.found
-    report.why = why_not(planner, serving.names)
+    report.why = why_not(planner.instance, report.certificate, serving.names)
     if found is not None:
         report.left, report.served = left_out(serving), report_of(found)
         report.served.folder, report.served.whom = SERVED + "/", "the others"

@@ -8,6 +8,7 @@ from tools import drawing_tree
 from tools.drawing import HEAD, colour, dash, is_hollow, plural
 from tools.drawing_map import Frame, drawn_map
 from tools.drawing_times import AXIS, FIGURES, LANES, Scale, drawn_bars
+from tools.reasons import reasons
 from tools.reporting_page import SCRIPT, SHELL, STYLE
 from tools.timing import cells, stops, sums_shown, total
 from tools.units import units_of
@@ -55,6 +56,13 @@ def asked(report):
             "drive as little as possible." % (
                 plural(instance.count, "customer"), report.name(0) if report.name(0) != "depot" else "the depot",
                 plural(instance.fleet, "vehicle"), report.units.load(instance.capacity)))
+
+
+def why_not(instance, certificate, names):
+    """Lines that say why there is no plan, in names, where the certificate shows that there is none."""
+    found = [reason.told for reason in reasons(instance, names) if reason.proves]
+    leaves = plural(leaves_of(certificate.tree), "leaf").replace("leafs", "leaves")
+    return found or ["the certificate proves it, by %s; plain arithmetic tells no reason" % leaves]
 
 
 def claim(report):

@@ -2,7 +2,7 @@
 
 # How much more turns each pair of rounds has, what part of the time left a round may be thought to take, and the most
 # turns that the program makes.
-GROWTH, PART, MOST_TURNS = 4, 0.75, 1_000_000
+GROWTH, PART, MOST_TURNS = 4, 0.85, 1_000_000
 
 
 class Schedule:
