@@ -45,7 +45,6 @@ tr.route:focus { outline: 2px solid #0072b2; }
   body { max-width: none; padding: 0; font-size: 10pt; }
   h2 { margin-top: 1.2rem; break-after: avoid; }
   #in-figures, #vehicles { display: block; margin: 0; }
-  #timetable { break-before: page; }
   .picture, tr, pre, .note, tbody.route, #how-to-check { break-inside: avoid; }
   .route { opacity: 1 !important; }
   .picture, section table { overflow: visible; }
