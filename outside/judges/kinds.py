@@ -20,6 +20,7 @@ from judges.judging_layouts import judge_layout, judge_round_trip, judge_wrong_l
 from judges.judging_plans import judge_picture, judge_respelled, judge_timetable, judge_wrong_spelling
 from judges.judging_printouts import judge_printout, judge_wrong_printout
 from judges.judging_reports import judge_report
+from judges.judging_served import judge_served, judge_sheets
 from judges.judging_starts import judge_start
 from judges.judging_tables import judge_foreseen, judge_table, judge_wrong_names
 from judges.judging_times import judge_times
@@ -126,6 +127,10 @@ KINDS = {
                      tools_by(judge_picture)),
     "reports": Kind("the page of report: complete, by itself, and by chromium what answers the pointer", 6,
                     program_by(judge_report)),
+    "sheets": Kind("the drivers' sheets of a plan: each stop with its times, and what is left falls to nothing", 20,
+                   tools_by(judge_sheets)),
+    "served": Kind("plan with a fleet near the edge: the least cost, or why not, and a plan of the others", 6,
+                   program_by(judge_served)),
     "breaks": Kind("plan, broken off at drawn times: texts that are right, never dearer than before", 4,
                    program_by(judge_break)),
     "batches": Kind("some instances by batch, and again with something changed in between", 6,

@@ -1,0 +1,108 @@
+"""One run of `plan` on few customers with a fleet near the edge: the least cost, or why there is no plan and a plan of
+those that are served; and one of `sheets`."""
+import os
+from xml.etree import ElementTree
+
+from cases.edges import edge_words
+from cases.random_texts import laid_out
+from judges.judging_breaks import standing
+from judges.judging_layouts import tool
+from judges.judging_plans import NAMES, drawn
+from judges.judging_tables import plan_text
+from judges.running import demand, got, put
+from reference import checking
+from reference.instances import Instance, read
+from reference.optimum import least_cost
+from tools.names import clean, table_of
+from tools.timing import stops
+from tools.units import Units
+
+MOST_CUSTOMERS = 6
+
+
+def alone(instance, i):
+    """The instance of one customer, with the ways over others left out."""
+    return Instance(instance.name, instance.fleet, instance.capacity, [instance.rows[0], instance.rows[i]])
+
+
+def judge_others(program, folder, instance, into, out):
+    """Some are left out, each named or counted, and the others' plan is one, by the check."""
+    served = os.path.join(into, "served")
+    if not os.path.isdir(served):
+        demand(all(least_cost(alone(instance, i)) is None for i in range(1, instance.count + 1)),
+               "nobody is served: %r" % out)
+        return "nobody served"
+    text, kind, cost, _ = standing(program, folder, served)
+    others = read(text)
+    demand(kind in ("BEST", "GAP") and others.count < instance.count, "the others: %s" % kind)
+    rows = list(instance.rows)
+    for row in others.rows:
+        demand(row in rows, "a row of nobody: %r" % (row,))
+        rows.remove(row)
+    told = out.split("In %s" % served)[0]
+    demand(all(word in told for word in ("There is no plan of all customers: ",)) and (
+        "No plan can serve " in told or "Left out" in told), "who is left out isn't told: %r" % out)
+    demand(kind != "BEST" or least_cost(others) == cost, "the others' plan isn't the cheapest")
+    return "%d of %d served" % (others.count, instance.count)
+
+
+def judge_served(program, folder, random):
+    """A plan by the command, or a plan of the others."""
+    text = laid_out(random, edge_words(random, random.randint(1, MOST_CUSTOMERS)))
+    source, into = os.path.join(folder, "source.txt"), os.path.join(folder, "monday")
+    put(source, text)
+    out, errors, status = tool("plan", source, "--into", into, "--seconds", "5", "--program", program)
+    out, instance = out.decode(), read(text)
+    least = least_cost(instance)
+    demand("Traceback" not in errors, "plan: %r" % errors)
+    _, kind, cost, _ = standing(program, folder, into)
+    if least is not None:
+        demand(status == 0 and cost is not None and cost >= least and (kind != "BEST" or cost == least),
+               "status %d, %s %s, and the least cost is %d" % (status, kind, cost, least))
+        return kind
+    demand(status == 1 and kind in ("NO PLAN", "OPEN"), "status %d, %s, and there is no plan" % (status, kind))
+    return judge_others(program, folder, instance, into, out) if kind == "NO PLAN" else kind
+
+
+def texts_in(element):
+    return [text.strip() for text in element.itertext() if text.strip()]
+
+
+def judge_sheet(section, instance, route, names, units):
+    """Each stop of a vehicle in its order, with what is handed over, and what is left falls to nothing."""
+    rows = [row for row in section.iter() if row.tag.endswith("}tr")][1:]
+    demand(len(rows) == len(route) + 2, "%d rows for %d stops" % (len(rows), len(route)))
+    left = sum(instance.demand(i) for i in route)
+    for row, i, stop in zip(rows[1:-1], route, stops(instance, route)):
+        cells, left = list(row), left - instance.demand(i)
+        told = [" ".join(texts_in(cell)) for cell in cells]
+        name = names[i] if names and names[i] != str(i) else "customer %d" % i
+        demand(texts_in(cells[1])[0] == name, "%r, and %r is right" % (told, name))
+        demand(told[2] == "%s to %s" % (units.moment(instance.ready(i)), units.moment(instance.due(i))), "%r" % told)
+        demand(units.moment(stop.begin) in told[3], "%r, and it begins at %s" % (told, units.moment(stop.begin)))
+        demand(told[4:] == [units.load(instance.demand(i)), units.load(left)], "%r, and %d are left" % (told, left))
+    demand(texts_in(list(rows[-1])[5]) == [units.load(0)], "something comes back")
+
+
+def judge_sheets(folder, random):
+    """The sheets of a random plan, with names or none, by times as they are or of the day."""
+    instance, _, path, routes = drawn(folder, random, 9)
+    plan, table, target = (os.path.join(folder, name) for name in ("solution", "names", "page.html"))
+    put(plan, plan_text(instance, routes))
+    units = random.choice([Units(), Units(clock=1), Units(scale=10, clock=1, speed=30), Units(scale=10)])
+    names = [random.choice(NAMES) or (str(i) if i else "depot") for i in range(instance.count + 1)]
+    has_names = random.randrange(4) > 0
+    put(table, table_of(names, units=units).encode())
+    words = ["sheets", path, plan, "-o", target, *(["--names", table] if has_names else [])]
+    out, errors, status = tool(*words)
+    if checking.plan_defect(instance, routes):
+        demand((out, status, got(target)) == (b"", 1, None), "no plan: status %d, %r" % (status, errors))
+        return "refused"
+    demand((out, errors, status) == (b"", "", 0), "sheets: status %d, %r" % (status, errors))
+    root = ElementTree.fromstring(got(target))
+    sections = [part for part in root.iter() if part.tag.endswith("}section")]
+    demand(len(sections) == len(routes), "%d sheets for %d routes" % (len(sections), len(routes)))
+    for section, route in zip(sections, routes):
+        judge_sheet(section, instance, route, [clean(name) for name in names] if has_names else None,
+                    units if has_names else Units())
+    return "with names" if has_names else "by numbers"
