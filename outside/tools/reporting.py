@@ -36,6 +36,10 @@ class Report:
             return self.names[i]
         return "" if i else "depot"
 
+    def place(self, i):
+        """A place's name and its address, as far as they are known."""
+        return ", ".join(word for word in (self.name(i), self.names.address(i) if self.names else "") if word)
+
     def distance(self, tenths):
         """A distance with its measure."""
         return "%s %s" % (self.units.distance(tenths), self.units.measure())
@@ -172,7 +176,7 @@ def timetable(report):
     for number, route in enumerate(report.routes):
         rows = ['<tr><th colspan="8">%s vehicle %d</th></tr>' % (sample(number), number + 1)]
         for stop in stops(report.instance, route):
-            told = [stop.stop or "", escape(report.name(stop.stop)), *cells(stop, report.units)[1:]]
+            told = [stop.stop or "", escape(report.place(stop.stop)), *cells(stop, report.units)[1:]]
             rows.append("<tr>%s</tr>" % row(told))
         parts.append('<tbody class="route" data-route="%d">%s</tbody>' % (number, "".join(rows)))
     return '<table class="times"><thead><tr>%s</tr></thead>%s</table>' % (
