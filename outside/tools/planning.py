@@ -1,11 +1,12 @@
 """Rounds of solving, each from the best plan so far: what is cheaper or higher, and was checked, comes into place."""
 import time
 
-from reference.instances import plan_cost, read
-from reference.texts import read_solution
+from reference.instances import Fault, plan_cost, read
+from reference.texts import TextFault, read_solution
 from tools.carrying import Carried, placed
 from tools.child import Child, verdict_of
 from tools.judged import judged
+from tools.names import names_of
 from tools.respelling import certificate, text_of
 from tools.schedule import Schedule
 from tools.standing import CERTIFICATE, INSTANCE, NAMES, PLAN
@@ -85,14 +86,21 @@ class Planner:
             return 1000 * (self.cost - self.bound) <= self.given.gap * self.cost
         return self.kind in ("BEST", "NO PLAN")
 
-    def carry(self, names, told):
-        """Takes the plan of another instance along, by the names before and now, or None; told tells customers."""
+    def carry(self, names):
+        """Takes the plan of another instance along, by the names of both, or by places where one of them has none."""
         text, plan = self.folder.held(INSTANCE), self.folder.held(PLAN)
         if self.is_in_place or not text or not plan:
             return
-        before = read(text)
-        found, absent = Carried(before, self.instance, names, told), []
-        routes = found.carry(read_solution(plan)[0], absent)
+        try:
+            before, routes = read(text), read_solution(plan)[0]
+            both = names_of(self.folder.at(NAMES), before.count), names
+        except (Fault, TextFault, Refused) as fault:
+            self.note_fault(PLAN, str(fault))
+            return
+        told = [own.called for own in both]
+        is_named = all(own.has_names() for own in both)
+        found, absent = Carried(before, self.instance, both if is_named else (None, None), told), []
+        routes = found.carry(routes, absent)
         self.notes += found.notes
         if absent:
             self.notes.append("these fit into no route of the plan before, and begin absent: %s" % ", ".join(

@@ -4,7 +4,7 @@ import io
 from collections import namedtuple
 
 from reference.instances import route_cost
-from tools.units import signed, units_of
+from tools.units import units_of
 
 # A stop is a customer, or the depot (0) at the end; times in tenths, slack until the due date at the begin of service.
 Stop = namedtuple("Stop", "stop arrival wait begin end load slack")
@@ -22,11 +22,6 @@ def stops(instance, route):
         at, time, load = i, begin + instance.service(i), load + instance.demand(i)
         found.append(Stop(i, arrival, begin - arrival, begin, time, load, instance.due(i) - begin))
     return found
-
-
-def sums(instance, route):
-    found = stops(instance, route)
-    return Sums(route_cost(instance, route), found[-1].end - instance.ready(0), sum(stop.wait for stop in found))
 
 
 def total(rows):
