@@ -2,7 +2,6 @@
 import heapq
 
 from reference.instances import Instance
-from reference.texts import shown
 from tools.reasons import earliest
 from tools.tool import listed
 
@@ -34,6 +33,12 @@ def told(places, first):
         "customer" if len(others) == 1 else "customers", listed(others, MOST_NAMED)) if others else "")
 
 
+def head(problem, i, field):
+    """How a note on a customer begins, with the line of a field and the name where there is one."""
+    name = "" if problem.names[i] == str(i) else ", %s" % problem.names[i]
+    return "there is no plan: customer %d%s (line %d) " % (i, name, problem.rows[i][field].line)
+
+
 def notes(problem):
     """Each reason why no plan serves all customers, with the line of the first one that it is of."""
     rows = [row[:3] + tuple(10 * time for time in row[3:]) for row in problem.rows]
@@ -44,17 +49,18 @@ def notes(problem):
     full = [i for i in everyone if instance.demand(i) > instance.capacity]
     late = [i for i in everyone if arrivals[i] > instance.due(i)]
     behind = [i for i in everyone if i not in late and finish[i] > instance.due(0)]
-    head = "there is no plan: customer %d (line %d) "
+    units = problem.names.units
     if full:
-        yield told(full, head % (full[0], problem.rows[full[0]][2].line) + "has a demand of %d, and a vehicle holds %d"
-                   % (instance.demand(full[0]), instance.capacity))
+        yield told(full, head(problem, full[0], 2) + "has a demand of %s, and a vehicle holds %s" % (
+            units.load(instance.demand(full[0])), units.load(instance.capacity)))
     if late:
-        yield told(late, head % (late[0], problem.rows[late[0]][4].line) + "is reached at %s at the earliest, and is "
-                   "due at %s" % (shown(arrivals[late[0]]), shown(instance.due(late[0]))))
+        yield told(late, head(problem, late[0], 4) + "is reached at %s at the earliest, and is due at %s" % (
+            units.moment(arrivals[late[0]]), units.moment(instance.due(late[0]))))
     if behind:
-        yield told(behind, head % (behind[0], problem.rows[behind[0]][4].line) + "lets a vehicle be back at %s at the "
-                   "earliest, and the depot closes at %s" % (shown(finish[behind[0]]), shown(instance.due(0))))
+        yield told(behind, head(problem, behind[0], 4) + "lets a vehicle be back at %s at the earliest, and the depot "
+                   "closes at %s" % (units.moment(finish[behind[0]]), units.moment(instance.due(0))))
     total = sum(instance.demand(i) for i in everyone)
     if not full and total > instance.fleet * instance.capacity:
-        yield "there is no plan: the demands are %d together, and %d vehicles of %d hold %d" % (
-            total, instance.fleet, instance.capacity, instance.fleet * instance.capacity)
+        yield "there is no plan: the demands are %s together, and %d vehicles of %s hold %s" % (
+            units.load(total), instance.fleet, units.load(instance.capacity),
+            units.load(instance.fleet * instance.capacity))
