@@ -34,6 +34,8 @@ class Day:
         self.opens = random.randint(17 * 60, 22 * 60) if self.is_late else random.randint(0, 8 * 60)
         self.shuts = self.opens + (random.randint(8 * 60, 12 * 60) if self.is_late else random.randint(600, 900))
         self.has_degrees, self.digits = random.randrange(3) == 0, random.choice([0, 0, 1, 2, 4])
+        # How far places may be apart: as far as the limits allow, or an hour.
+        self.far = random.choice([10_000, min(10_000, 60 * 10 ** self.digits)])
         self.centre, self.speed = (random.uniform(-60, 60), random.uniform(-179, 179)), random.choice([20, 30, 50])
         self.rows = [self.row(i) for i in range(self.count + 1)]
 
@@ -43,7 +45,7 @@ class Day:
         if self.has_degrees:
             place = tuple(round(at + random.uniform(-0.05, 0.05), 5) for at in self.centre)
         else:
-            place = tuple(random.randint(0, 10_000) for _ in "xy")
+            place = tuple(random.randint(0, self.far) for _ in "xy")
         ready = random.randint(self.opens, self.shuts)
         window = (ready, random.randint(ready, self.shuts)) if i and random.randrange(4) else None
         return (random.choice(NAMES) if i else "Depot", "Weg %d" % i, place,
