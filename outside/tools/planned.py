@@ -67,6 +67,8 @@ def finish(planner, has_sheets, report=None):
     if not planner.is_in_place or planner.is_unread and folder.held(REPORT):
         return
     own = report_of(planner)
+    # Sheets that are there don't stay those of another plan.
+    has_sheets = has_sheets or folder.held(SHEETS) is not None
     for name, make in ((TIMETABLE, separated), (SHEETS, sheets.page if has_sheets else None)):
         if planner.cost is None:
             folder.drop(name)
