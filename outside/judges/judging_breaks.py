@@ -117,7 +117,7 @@ def judge_ended(into, came):
     """No process is left, and no temporary text; the status says whether a plan stands, and the pages are there.
     Answers whether the command had begun when it was broken off."""
     status, out, errors = came
-    until = time.monotonic() + 1
+    until = time.monotonic() + 2
     while left_running(into) and time.monotonic() < until:
         time.sleep(0.02)
     demand(not left_running(into), "left running: %s" % left_running(into))

@@ -51,7 +51,7 @@ def judge_served(program, folder, random):
     text = laid_out(random, edge_words(random, random.randint(1, MOST_CUSTOMERS)))
     source, into = os.path.join(folder, "source.txt"), os.path.join(folder, "monday")
     put(source, text)
-    out, errors, status = tool("plan", source, "--into", into, "--seconds", "5", "--program", program)
+    out, errors, status = tool("plan", source, "--into", into, "--seconds", "30", "--program", program)
     out, instance = out.decode(), read(text)
     least = least_cost(instance)
     demand("Traceback" not in errors, "plan: %r" % errors)
