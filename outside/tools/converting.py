@@ -7,6 +7,7 @@ from tools import csv_layout, names, solomon_layout, vrplib_layout
 from tools.layouts import MOST_CAPACITY, MOST_FLEET, MOST_SCALE, MOST_TIME, Quantities, problem_of
 from tools.table import minutes_of
 from tools.tool import Refused, Text, count, number, quoted
+from tools.units import Units
 
 READERS = {"ours": solomon_layout.read, "solomon": solomon_layout.read, "vrplib": vrplib_layout.read,
            "csv": csv_layout.read}
@@ -25,7 +26,7 @@ class Horizon:
 
     def shown(self, scale):
         if self.is_clock:
-            return tuple("%02d:%02d" % divmod(moment, 60) for moment in (self.first, self.last))
+            return tuple(Units(clock=1).moment(10 * moment) for moment in (self.first, self.last))
         return self.first * scale, self.last * scale
 
 

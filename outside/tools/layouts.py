@@ -191,7 +191,7 @@ def problem_of(text, quantities, read, given):
     rows, is_moved = moved(text, rows)
     fleet = number_of(text, "--vehicles", given.vehicles, read.fleet, FLEET, notes)
     capacity = number_of(text, "--capacity", given.capacity, read.capacity, CAPACITY, notes)
-    units = read.units or Units(quantities.scale)
+    units = read.units or Units(quantities.scale, int(quantities.is_clock))
     rows, capacity, visits, is_visited = with_visits(text, rows, capacity * units.demands)
     names.units = Units(units.scale, units.clock, units.speed, units.demands, visits)
     found = Problem(name_of(text.path, given.name, read.name, notes), fleet, capacity, rows, names)
