@@ -73,14 +73,7 @@ fn task_of<'a, 'i, R: Wait, J: Naming, G>(
             Some(held) => Some(&held.plan),
             None => None,
         };
-        let nodes = Nodes::new(
-            given.alloc,
-            given.instance,
-            plan,
-            own,
-            site.deques,
-            pass,
-        )?;
+        let nodes = Nodes::new(given.alloc, given.instance, plan, own, site.deques, pass)?;
         return Ok(Task::Bound { nodes });
     }
     let plan = match site.plan {
