@@ -11,13 +11,30 @@ from tools.respelling import certificate, text_of
 from tools.schedule import Schedule
 from tools.standing import CERTIFICATE, INSTANCE, NAMES, PLAN
 from tools.stopping import Patience
-from tools.tool import Refused
+from tools.tool import Refused, count
 
 START = "start.txt"
 # How many seconds the check of a certificate that stands goes on after a signal, from its start.
 PATIENCE = 3
 # The counts of neighbours that are taken in turn.
 NEIGHBOURS = (8, 12)
+# The options of solve that are handed on, with the least number and the greatest.
+HANDED_ON = (("searchers", 1, 32, "threads that look for a plan"), ("bounders", 1, 32, "threads that raise the bound"),
+             ("labels", 1, 10 ** 8, "labels active at once in a pricing"))
+
+
+def add_solving(words):
+    """Adds the options by which rounds are made."""
+    for name, low, high, told in HANDED_ON:
+        words.add_argument("--" + name, type=count(low, high), metavar="N", help="%s, as solve has it" % told)
+    words.add_argument("--neighbours", type=count(0, 15), metavar="N", help="in place of 8 and 12 in turn")
+    words.add_argument("--seed", type=count(0, 999_999_999), default=1, metavar="N", help="that of the first round")
+
+
+def handed_on(given):
+    """The options of solve that were given, as words."""
+    return [word for name, _, _, _ in HANDED_ON if getattr(given, name) is not None
+            for word in ("--" + name, str(getattr(given, name)))]
 
 
 def held(path):
