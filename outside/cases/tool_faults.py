@@ -64,6 +64,11 @@ batch folder --into r|folder|0|met no instance, wanted files that vrptw reads
 batch i.txt --into p.txt|p.txt|0|File exists
 batch i.txt --into r --program nowhere|nowhere|0|met no program, wanted one that can be run
 batch i.txt --into r --engine parallel --sshloginfile nowhere|nowhere|0|No such file or directory
+fewest nowhere.txt --into r|nowhere.txt|0|No such file or directory
+fewest bad.txt --into r|bad.txt|8|BadNumber
+fewest i.txt --into p.txt|p.txt|0|File exists
+fewest i.txt --into nowhere --check|nowhere|0|met no folder, wanted that of --into
+fewest i.txt --into r --program nowhere|nowhere|0|met no program, wanted one that can be run
 plan nowhere.csv --into r --vehicles 5 --capacity 5|nowhere.csv|0|No such file or directory
 plan bad.txt --into r|bad.txt|8|"x"
 plan i.txt --into p.txt|p.txt|0|File exists
@@ -201,6 +206,9 @@ convert - - --from csv --to ours --vehicles 5 --capacity 5 < half.csv|multiplied
 WORDS = """
 convert|required: FROM, TO
 plan i.txt|required: --into
+fewest i.txt|required: --into
+fewest --into r|required: INSTANCE
+fewest i.txt --into r --seconds 0|met "0"
 plan i.txt --into r --seconds 0|met "0"
 plan i.txt --into r --turns 5|unrecognized
 convert t.csv o.txt --column due|met "due", wanted OURS=THEIRS
@@ -254,8 +262,8 @@ WHY = [
     ("heavy.txt", 0, ["customer 1 can't be served: met a demand of 3, wanted at most 2, which a vehicle holds",
                       "the fleet can't serve all: met a demand of 5, wanted at most 4, which 2 vehicles hold"]),
 ]
-TOOLS = ("batch", "plan", "convert", "carry", "respell", "timetable", "draw", "report", "sheets", "recheck", "why",
-         "manual")
+TOOLS = ("batch", "plan", "fewest", "convert", "carry", "respell", "timetable", "draw", "report", "sheets", "recheck",
+         "why", "manual")
 # With standard output on a full device or closed.
 PRINTING = ("convert i.txt - --to csv", "convert - - --from csv --to ours --vehicles 2 --capacity 2 --name T < t.csv",
             "respell i.txt p.txt", "timetable - p.txt < i.txt", "timetable i.txt p.txt", "draw i.txt p.txt",

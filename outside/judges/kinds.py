@@ -15,6 +15,7 @@ from judges.judging_batches import judge_batch
 from judges.judging_breaks import judge_break
 from judges.judging_bytes import judge_bytes
 from judges.judging_faults import judge_fault
+from judges.judging_fewest import judge_fewest
 from judges.judging_fleets import judge_fleets, judge_tight
 from judges.judging_layouts import judge_layout, judge_round_trip, judge_wrong_layout
 from judges.judging_plans import judge_picture, judge_respelled, judge_timetable, judge_wrong_spelling
@@ -131,6 +132,8 @@ KINDS = {
                    tools_by(judge_sheets)),
     "served": Kind("plan with a fleet near the edge: the least cost, or why not, and a plan of the others", 6,
                    program_by(judge_served)),
+    "fewest": Kind("fewest on 1 to 8 customers: the fewest vehicles and the least cost with them, by all plans", 12,
+                   program_by(judge_fewest)),
     "breaks": Kind("plan, broken off at drawn times: texts that are right, never dearer than before", 4,
                    program_by(judge_break)),
     "batches": Kind("some instances by batch, and again with something changed in between", 6,
