@@ -63,6 +63,9 @@ batch i.txt folder/../i.txt --into r|folder/../i.txt|0|met the name i again, aft
 batch folder --into r|folder|0|met no instance, wanted files that vrptw reads
 batch i.txt --into p.txt|p.txt|0|File exists
 batch i.txt --into r --program nowhere|nowhere|0|met no program, wanted one that can be run
+batch i.txt --into r --best nowhere|nowhere|0|No such file or directory
+batch i.txt --into r --best p.txt|p.txt|1|met "Route #1: 1 2", wanted a name and a cost above 0 with one decimal
+batch i.txt --into nowhere --status|nowhere|0|met no folder, wanted that of --into
 batch i.txt --into r --engine parallel --sshloginfile nowhere|nowhere|0|No such file or directory
 fewest nowhere.txt --into r|nowhere.txt|0|No such file or directory
 fewest bad.txt --into r|bad.txt|8|BadNumber

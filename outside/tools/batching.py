@@ -76,6 +76,10 @@ class Step:
             if os.path.exists(self.path(name)):
                 os.remove(self.path(name))
 
+    def is_of_this(self):
+        """Whether the text in the folder is the one that is given."""
+        return content(self.path("instance.txt")) == self.held
+
     def is_done(self):
         return bool(DONE.match(content(self.path("done.txt")).decode(errors="replace")))
 
