@@ -2,3 +2,4 @@ pub mod Gathered
 pub mod Obeying
 pub mod Settles
 pub mod Grown
+pub mod NoDearer

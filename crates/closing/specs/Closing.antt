@@ -39,6 +39,13 @@ pub record IsStopped (p : Problem) (k limit : ℕ) (cost : Option ℕ) (bound : 
   pub below : bound < known_or_above p cost
   pub tree : IsListedTree p k nodes bound limit
 
+-- No cost is told above that of the plan that a closing begins with; where there is such a plan, a cost is told, since
+-- no plan costs more than the ceiling.
+abbrev pub IsNoDearer : Problem → Option Solution → CloseAloneFault → Type 0
+IsNoDearer p start Memory = Unit {0}
+IsNoDearer p start (LeafLimit cost bound nodes) = IfSome start (λ f. known_or_above p cost ≤ f.cost)
+IsNoDearer p start TooLarge = Unit {0}
+
 -- why an instance isn't closed
 abbrev pub IsLeftOpen : Problem → ℕ → ℕ → CloseAloneFault → Type 0
 IsLeftOpen p k limit Memory = customer_count p ≤ MOST_CLOSED

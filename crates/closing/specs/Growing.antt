@@ -9,11 +9,19 @@ use Rattle.insertion.specs.Building.{IsServedAlone}
 use Rattle.price_ascent.specs.Branching.{AreChildren}
 use Rattle.price_ascent.specs.declared.child.Children.{Children}
 use Rattle.closing.specs.Closing.{known_or_above, costs}
+use Rattle.closing.specs.declared.fault.CloseAloneFault.{CloseAloneFault}
+use Rattle.closing.specs.declared.fault.CloseAloneFault.TheVariants.{Memory, LeafLimit, TooLarge}
 use Rattle.closing.specs.declared.growth.Growth.{Growth}
 
 -- the least cost known, or above the ceiling
 abbrev pub target_of : Growth → ℕ
 target_of t = known_or_above t.instance.now (costs t.best)
+
+-- the least cost known is what is told
+abbrev pub ToldTarget : Growth → CloseAloneFault → Type 0
+ToldTarget t Memory = Unit {0}
+ToldTarget t (LeafLimit cost bound nodes) = known_or_above t.instance.now cost ≡ target_of t
+ToldTarget t TooLarge = Unit {0}
 
 -- A plan is known where there is a vehicle for each customer and each can be served alone. The bound is below the
 -- target only where the growth has stopped, and then there are as many leaves as the limit allows.

@@ -2,7 +2,7 @@
 
 ghost use Rattle.std.specs.Prelude.{◌≡◌, ◌≤◌, IfOk, IfErr, IfSome};
 ghost use Rattle.solomon_reader.specs.declared.limits.TheConstants.{MOST_LEAVES, MOST_NEIGHBOURS};
-ghost use Rattle.closing.specs.Closing.{IsClosed, IsLeftOpen};
+ghost use Rattle.closing.specs.Closing.{IsClosed, IsLeftOpen, IsNoDearer};
 
 use crate::fault::{CloseAloneFault, MOST_CLOSED};
 use crate::first::{first_leaf, first_plan};
@@ -58,7 +58,7 @@ pub fn close_counted<'i>(
 }
 
 /// What `close_counted` answers where the closing begins with a given plan, if it is cheaper than the one that
-/// an insertion builds.
+/// an insertion builds. `LeafLimit` tells no cost above the given plan's.
 pub fn close_from<'i>(
     alloc: Global,
     instance: &'i Instance,
@@ -72,6 +72,7 @@ pub fn close_from<'i>(
     requires start { IfSome start (λ f. f.problem ≡ instance.now) }
     ensures closed { IfOk result (λ r. IsClosed instance.now neighbours leaf_limit r.0) }
     ensures left_open { IfErr result (IsLeftOpen instance.now neighbours leaf_limit) }
+    ensures no_dearer { IfErr result (IsNoDearer instance.now start.entry) }
 {
     if instance.customer_count() > MOST_CLOSED {
         return Err(CloseAloneFault::TooLarge);

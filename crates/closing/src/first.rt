@@ -5,6 +5,7 @@ ghost use Rattle.solomon_reader.specs.Problem.{customer_count};
 ghost use Rattle.solomon_reader.specs.Region.{root_region};
 ghost use Rattle.solomon_reader.specs.declared.limits.TheConstants.{MOST_NEIGHBOURS};
 ghost use Rattle.insertion.specs.Building.{IsServedAlone};
+ghost use Rattle.closing.specs.Closing.{known_or_above, costs};
 ghost use Rattle.search.specs.Searching.{plan_of};
 
 use crate::cheaper_plan::cheaper;
@@ -57,7 +58,8 @@ fn built_plan<'i, R: Rng>(
 
 /// Makes a turn; where memory is refused the plan stays.
 fn take_turn<'i, R: Rng + Drop>(searcher: &mut Searcher<'i, R>, made: u32)
-    ensures { (plan_of searcher.new).problem ≡ (plan_of searcher.old).problem }
+    ensures problem { (plan_of searcher.new).problem ≡ (plan_of searcher.old).problem }
+    ensures cost { (plan_of searcher.new).cost ≤ (plan_of searcher.old).cost }
 {
     let turns = TURNS;
     searcher.keep_pace(Pace { made, turns });
@@ -67,7 +69,8 @@ fn take_turn<'i, R: Rng + Drop>(searcher: &mut Searcher<'i, R>, made: u32)
 /// The plan that a search comes to from another: a local optimum, where memory suffices, since each turn
 /// begins with a descent.
 fn search_from<'i, R: Rng + Drop>(alloc: Global, plan: Feasible<'i>, random: R) -> Feasible<'i>
-    ensures { result.problem ≡ plan.entry.problem }
+    ensures problem { result.problem ≡ plan.entry.problem }
+    ensures cost { result.cost ≤ plan.entry.cost }
 {
     let mut searcher = Searcher::new(alloc, plan, random);
     for made in 0..TURNS {
@@ -84,8 +87,10 @@ pub(crate) fn first_plan<'i>(
     start: Option<Feasible<'i>>,
 ) -> Result<Option<Feasible<'i>>, AllocError>
     requires { IfSome start (λ f. f.problem ≡ instance.now) }
-    ensures { IfOk result (λ plan. MatchOption plan (¬ IsServedAlone instance.now)
+    ensures plan { IfOk result (λ plan. MatchOption plan (¬ IsServedAlone instance.now)
         (λ f. f.problem ≡ instance.now)) }
+    ensures no_dearer { IfOk result (λ plan. IfSome start.entry
+        (λ f. known_or_above instance.now (costs plan) ≤ f.cost)) }
 {
     let mut random = Xoshiro256PlusPlus::seed_from_u64(SEED);
     let built = built_plan(alloc, instance, &mut random)?;

@@ -3,7 +3,7 @@
 ghost use Rattle.std.specs.Prelude.{◌≡◌, ◌≤◌, false, IfOk, IfNone, IfSome, OnOk};
 ghost use Rattle.branching.specs.Choosing.{IsSettled};
 ghost use Rattle.price_ascent.specs.Branching.{AreChildren};
-ghost use Rattle.closing.specs.Growing.{Grows, IsGrowth, IsSameTree, Splits};
+ghost use Rattle.closing.specs.Growing.{Grows, IsGrowth, IsSameTree, Splits, target_of};
 
 use crate::growth::Growth;
 use crate::leaf::settled_leaf;
@@ -49,6 +49,7 @@ fn offer_routes(growth: &mut Growth<'_>, pool: &RoutePool<'_>) -> Result<(), All
     requires going { growth.old.is_stopped ≡ false }
     ensures growth { IsGrowth growth.new }
     ensures same { IsSameTree growth.old growth.new }
+    ensures least { target_of growth.new ≤ target_of growth.old }
 {
     if let Ok(plan) = Feasible::check(growth.instance, pool.main_routes()?) {
         growth.offer(plan);
@@ -82,6 +83,7 @@ fn settle<'i>(leaf: &Priced<'i>, growth: &mut Growth<'i>) -> Result<(), AllocErr
     ensures growth { OnOk result (IsGrowth growth.new) }
     ensures grows { OnOk result (Grows leaf.now.neighbours leaf.now.region growth.old growth.new) }
     ensures leaves { OnOk result (growth.new.leaves ≡ growth.old.leaves) }
+    ensures least { target_of growth.new ≤ target_of growth.old }
 {
     let region = leaf.region().try_clone()?;
     let neighbours = leaf.neighbours();
@@ -108,6 +110,7 @@ fn work_at<'i>(
         (Grows leaf.now.neighbours leaf.now.region growth.old growth.new)) }
     ensures leaves { IfOk result (λ found. IfNone found (growth.new.leaves ≡ growth.old.leaves)) }
     ensures split { IfOk result (λ found. IfSome found (Splits leaf.now growth.old growth.new)) }
+    ensures least { target_of growth.new ≤ target_of growth.old }
 {
     offer_routes(growth, pool)?;
     if leaf.value() >= i128::from(growth.target()) {
@@ -141,6 +144,7 @@ fn raise_and_work<'i>(
         (Grows leaf.entry.neighbours leaf.entry.region growth.old growth.new)) }
     ensures leaves { IfOk result (λ found. IfNone found (growth.new.leaves ≡ growth.old.leaves)) }
     ensures split { IfOk result (λ found. IfSome found (Splits leaf.entry growth.old growth.new)) }
+    ensures least { target_of growth.new ≤ target_of growth.old }
 {
     let goal = goal_of(&leaf, growth);
     let raised = raise(growth.alloc, pool, leaf, start, &goal);
@@ -161,6 +165,7 @@ pub(crate) fn grow<'i>(
     ensures grows { OnOk result (Grows leaf.entry.neighbours leaf.entry.region growth.old
         growth.new) }
     ensures more { OnOk result (growth.old.leaves ≤ growth.new.leaves) }
+    ensures least { target_of growth.new ≤ target_of growth.old }
 {
     if growth.is_stopped {
         return growth.lay_aside(&leaf);

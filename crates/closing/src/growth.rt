@@ -7,9 +7,9 @@ ghost use Rattle.branching.specs.Arcs.{pair};
 ghost use Rattle.branching.specs.Nodes.{node_of, IsListedTree};
 ghost use Rattle.insertion.specs.Building.{IsServedAlone};
 ghost use Rattle.prices.specs.ValuedPrices.{IsValued};
-ghost use Rattle.closing.specs.Closing.{IsClosed, IsLeftOpen};
+ghost use Rattle.closing.specs.Closing.{IsClosed, IsLeftOpen, costs, known_or_above};
 ghost use Rattle.closing.specs.declared.fault.TheConstants.{MOST_CLOSED};
-ghost use Rattle.closing.specs.Growing.{Grows, IsGrowth, IsSameTask, IsSameTree, target_of};
+ghost use Rattle.closing.specs.Growing.{Grows, IsGrowth, IsSameTask, IsSameTree, ToldTarget, target_of};
 
 use crate::fault::CloseAloneFault;
 use crate::found::Found;
@@ -76,6 +76,7 @@ impl<'i> Growth<'i> {
         ensures leaves { result.leaves ≡ 1 }
         ensures bound { result.bound ≡ ceiling_of instance.now + 1 }
         ensures going { result.is_stopped ≡ false }
+        ensures target { target_of result ≡ known_or_above instance.now (costs best.entry) }
     {
         bounds_hold();
         let bound = above(instance);
@@ -151,6 +152,7 @@ impl<'i> Growth<'i> {
         ensures growth { OnOk result (IsGrowth self.new) }
         ensures grows { OnOk result (Grows leaf.now.neighbours leaf.now.region self.old self.new) }
         ensures leaves { self.new.leaves ≡ self.old.leaves }
+        ensures target { target_of self.new ≡ target_of self.old }
     {
         self.list(leaf)
     }
@@ -164,6 +166,7 @@ impl<'i> Growth<'i> {
         ensures growth { OnOk result (IsGrowth self.new) }
         ensures grows { OnOk result (Grows leaf.now.neighbours leaf.now.region self.old self.new) }
         ensures leaves { self.new.leaves ≡ self.old.leaves }
+        ensures target { target_of self.new ≡ target_of self.old }
     {
         self.is_stopped = true;
         self.list(leaf)
@@ -179,6 +182,7 @@ impl<'i> Growth<'i> {
         ensures nodes { self.new.nodes.items ≡ self.old.nodes.items }
         ensures leaves { self.new.leaves ≡ self.old.leaves + 1 }
         ensures bound { self.new.bound ≡ self.old.bound }
+        ensures target { target_of self.new ≡ target_of self.old }
     {
         self.leaves += 1;
     }
@@ -192,6 +196,7 @@ impl<'i> Growth<'i> {
             self.old.nodes.items ++ split_node (pair arc) ∷ []) }
         ensures leaves { self.new.leaves ≡ self.old.leaves }
         ensures bound { self.new.bound ≡ self.old.bound }
+        ensures target { target_of self.new ≡ target_of self.old }
     {
         self.nodes.push(TreeNode::Split(arc))?;
         Ok(())
@@ -207,6 +212,7 @@ impl<'i> Growth<'i> {
             self.entry.limit) }
         ensures left_open { IfErr result
             (IsLeftOpen self.entry.instance.now neighbours self.entry.limit) }
+        ensures told { IfErr result (ToldTarget self.entry) }
     {
         bounds_hold();
         self.nodes.reverse();

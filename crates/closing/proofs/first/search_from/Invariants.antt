@@ -1,5 +1,5 @@
-use Rattle.std.proofs.Common.{◌≡◌}
+use Rattle.std.proofs.Common.{◌≡◌, ◌≤◌}
 use Rattle.closing.proofs.first.search_from.Given as goal
 
 abbrev pub invariant-loop-made : goal.invariant-loop-made
-invariant-loop-made g l = l.searcher.held.plan.problem ≡ l.fn.plan.problem
+invariant-loop-made g l = (l.searcher.held.plan.problem ≡ l.fn.plan.problem) × (l.searcher.held.plan.cost ≤ l.fn.plan.cost)
