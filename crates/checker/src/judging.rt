@@ -44,7 +44,7 @@ fn know_stops(instance: &Instance, routes: &[Vec<u16>]) -> bool
 }
 
 /// Whether each customer is marked.
-fn serve_all(instance: &Instance, marks: &[bool]) -> bool
+fn are_all_served(instance: &Instance, marks: &[bool]) -> bool
     requires { length marks.now ≡ customer_count instance.now + 1 }
     ensures { (before : _) → AreServed before marks.now → MatchBool result
         ((i : ℕ) → IsCustomer instance.now i → count_of i before ≡ 1)
@@ -109,7 +109,7 @@ fn check_stops(alloc: Global, instance: &Instance, routes: &[Vec<u16>]) -> Resul
         return Err(CheckFault::PlanRefused(PlanWhy::UnknownCustomer));
     }
     let marks = serve_once(alloc, instance.customer_count() + 1, routes)?;
-    if !serve_all(instance, marks.as_slice()) {
+    if !are_all_served(instance, marks.as_slice()) {
         return Err(CheckFault::PlanRefused(PlanWhy::Missing));
     }
     if !are_light(instance, routes) {

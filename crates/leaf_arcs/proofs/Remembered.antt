@@ -9,7 +9,7 @@ use Rattle.solomon_reader.specs.Remembering.{near, remember}
 use Rattle.leaf_arcs.specs.declared.neighbours.Neighbour.{Neighbour}
 use Rattle.solomon_reader.specs.Memories.{has_bit, place_of, recalls}
 use Rattle.leaf_arcs.specs.Memories.{neighbour_in, lists, IsNeighbourList}
-use Rattle.solomon_reader.proofs.Places.{place_self, place_ranked, place_none, place_low, same_place, near_means}
+use Rattle.solomon_reader.proofs.Places.{place_self, place_ranked, place_none, place_low, same_place, is_near as is_neighbour}
 
 -- a number of 16 bits doesn't have the bit of what isn't in a list
 has_far : (m : ℕ) → m < 2 ^ 16 → has_bit m 16 ≡ false
@@ -60,7 +60,7 @@ module _ (p : Problem) (k v j memory : ℕ) (few : k ≤ 15) where
 
   not_first : (u : ℕ) → u ≢ j → place_of p k j u ≢ 0
   not_first u apart e = elim (cases_Bool (near p k j u)) [
-    | inl h ↦ elim (near_means p j k u h) [ inl same ↦ apart same | inr c ↦ omega (arith, e, place_ranked p j k u apart c.0 c.1) ]
+    | inl h ↦ elim (is_neighbour p k j u h) [ inl same ↦ apart same | inr c ↦ omega (arith, e, place_ranked p j k u apart c.0 c.1) ]
     | inr h ↦ omega (arith, e, place_none p j k u h)
   ]
 
@@ -120,7 +120,7 @@ module _ (p : Problem) (k v j memory : ℕ) (few : k ≤ 15) where
       flip false = refl
 
       low : (u : ℕ) → near p k j u ≡ true → u < length p.rows
-      low u h = elim (near_means p j k u h) [ inl e ↦ omega (arith, e, within) | inr c ↦ omega (arith, c.0.1, within) ]
+      low u h = elim (is_neighbour p k j u h) [ inl e ↦ omega (arith, e, within) | inr c ↦ omega (arith, c.0.1, within) ]
 
       far : (u : ℕ) → near p k j u ≡ false → (u == j) ≡ false
       far u h = (or_parts (u == j) _ h).0

@@ -15,20 +15,20 @@ fn note(times: &mut [u64], place: u64, time: u64) {
 
 /// Notes when the customers may be left to which a vehicle goes on that leaves a row at a time, with a load in
 /// this slot. It may be any load of the slot, so that the next one is in one of two.
-fn go_on(instance: &Instance, width: u64, times: &mut [u64], slot: u64, u: u16, time: u64)
+fn go_on(instance: &Instance, slot_length: u64, times: &mut [u64], slot: u64, u: u16, time: u64)
     requires { u < length instance.now.rows }
 {
     let rows = u64::from(instance.customer_count()) + 1;
-    let least = slot.saturating_mul(width);
-    let most = least.saturating_add(width).saturating_sub(1);
+    let least = slot.saturating_mul(slot_length);
+    let most = least.saturating_add(slot_length).saturating_sub(1);
     for v in 1..instance.customer_count() + 1 {
         let arrives = time.saturating_add(instance.distance(u, v).get());
         let begins = arrives.max(instance.ready(v));
         if v != u && begins <= instance.due(v) {
             let leaves = begins.saturating_add(instance.service(v));
             let demand = u64::from(instance.demand(v));
-            let first = least.saturating_add(demand) / width.max(1);
-            let last = most.saturating_add(demand) / width.max(1);
+            let first = least.saturating_add(demand) / slot_length.max(1);
+            let last = most.saturating_add(demand) / slot_length.max(1);
             let row = u64::from(v);
             note(
                 times,
@@ -45,16 +45,16 @@ fn go_on(instance: &Instance, width: u64, times: &mut [u64], slot: u64, u: u16, 
 pub(crate) fn departures(
     alloc: Global,
     instance: &Instance,
-    width: u64,
+    slot_length: u64,
 ) -> Result<Vec<u64>, AllocError> {
     let rows = usize::from(instance.customer_count()) + 1;
-    let slots = u64::from(instance.capacity()) / width.max(1) + 1;
+    let slots = u64::from(instance.capacity()) / slot_length.max(1) + 1;
     let mut times = vec![in alloc; u64::MAX; rows.saturating_mul(slots as usize)]?;
     note(times.as_mut_slice(), 0, instance.ready(0));
     for place in 0..times.len() {
         let (slot, u, time) = ((place / rows) as u64, (place % rows) as u16, times[place]);
         if time < u64::MAX && u <= instance.customer_count() {
-            go_on(instance, width, times.as_mut_slice(), slot, u, time);
+            go_on(instance, slot_length, times.as_mut_slice(), slot, u, time);
         }
     }
     Ok(times)

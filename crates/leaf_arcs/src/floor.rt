@@ -133,8 +133,10 @@ fn join_step(
     requires from { floor.old.from ≤ 20 * MOST_TIME }
     requires load { floor.old.loaded ≤ MOST_CAPACITY }
     requires arc { IsAllowedArc (pricing_of leaf.now) floor.old.row arc.now }
-    ensures place { IfSome result (λ _. IsAt floor.old.row floor.old.from floor.old.loaded floor.new) }
-    ensures joined { IfSome result (λ _. IsJoinedIn (pricing_of leaf.now) floor.old arc.now.to floor.new) }
+    ensures place { IfSome result
+        (λ _. IsAt floor.old.row floor.old.from floor.old.loaded floor.new) }
+    ensures joined { IfSome result
+        (λ _. IsJoinedIn (pricing_of leaf.now) floor.old arc.now.to floor.new) }
 {
     let begins = (u64::from(floor.from) + arc.travel).max(arc.ready);
     if begins > arc.due {

@@ -16,5 +16,5 @@ pub use child_start::ChildStart;
 pub use goal::{Goal, IDLE_PRICINGS, counted_routes};
 pub use pool_trial::{ChildTrial, PoolTrial};
 pub use quick_way::{QuickWay, WHOLE, WIDEST};
-pub use rises::{first_rise, rise_at, trial_rise};
+pub use rises::{first_rise, rise_at};
 pub use route_pool::RoutePool;

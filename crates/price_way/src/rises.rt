@@ -44,7 +44,7 @@ pub fn rise_at(leaf: &Priced<'_>, cost: Option<Tenths>) -> i64 {
 /// The rise of each price in a trial, in grains: six tenths of a customer's share of a cost in tenths,
 /// at most of the way there and back.
 /// No contract: a rule of search; any prices are sound.
-pub fn trial_rise(instance: &Instance, cost: i128) -> i64 {
+pub(crate) fn trial_rise(instance: &Instance, cost: i128) -> i64 {
     let most = mean_way(instance);
     let grains = cost.clamp(0, i128::from(i64::MAX)) as i64;
     let share = grains.saturating_mul(GRAINS_OF_TENTH) / i64::from(instance.customer_count());

@@ -69,6 +69,19 @@ module _ (f g : ℕ → Bool) (both : (w : ℕ) → f w ≡ true → g w ≡ tru
 
 -- ---- The places in a neighbour list: each of its rows has one of its own.
 
+module _ (p : Problem) (k : ℕ) where
+  pub near_is : (w v : ℕ) → IsNeighbour p k w v → near p k w v ≡ true
+  near_is w v (inl e) = or_left _ _ (eq-eqb v w e)
+  near_is w v (inr h) = or_right _ _ (and_from _ _ (and_from _ _ (le-leb _ _ h.0.0) (le-leb _ _ h.0.1)) (lt-ltb _ _ h.1))
+
+  pub is_near : (w v : ℕ) → near p k w v ≡ true → IsNeighbour p k w v
+  is_near w v h = elim (or_cases _ _ h) [
+    | inl e ↦ inl (eqb-true _ _ e)
+    | inr t ↦ (let both = and_parts _ _ t in
+        let range = and_parts _ _ both.0 in
+        inr ((leb-true _ _ range.0, leb-true _ _ range.1), ltb-true _ _ both.1))
+  ]
+
 module _ (p : Problem) (v : ℕ) where
   -- nearer, or as near with a lower number
   abbrev IsBefore : ℕ → ℕ → Type 0
@@ -130,12 +143,6 @@ module _ (p : Problem) (v : ℕ) where
     pub place_self : (u : ℕ) → u ≡ v → place_of p k v u ≡ 0
     place_self u e = rw e place_first
 
-    pub near_means : (u : ℕ) → near p k v u ≡ true → (u ≡ v) ⊎ (IsCustomer p u × (rank p v u < k))
-    near_means u h = elim (or_cases _ _ h) [
-      | inl e ↦ inl (eqb-true u v e)
-      | inr t ↦ (let both = and_parts _ _ t in let range = and_parts _ _ both.0 in inr ((leb-true _ _ range.0, leb-true _ _ range.1), ltb-true _ _ both.1))
-    ]
-
     near_from : (u : ℕ) → IsCustomer p u → rank p v u < k → near p k v u ≡ true
     near_from u customer low = or_right (eqb u v) _ (and_from _ _ (and_from _ _ (le-leb _ _ customer.0) (le-leb _ _ customer.1)) (lt-ltb _ _ low))
 
@@ -148,7 +155,7 @@ module _ (p : Problem) (v : ℕ) where
     place_none u far = otherwise (eqb u v) (near p k v u) 0 (rank p v u + 1) 16 (false_from_ne_true (eqb u v) (λ e. both_ways (near p k v u) far (or_left _ _ e))) far
 
     pub place_far : (u : ℕ) → u ≢ v → ¬ (IsCustomer p u × (rank p v u < k)) → place_of p k v u ≡ 16
-    place_far u apart out = place_none u (false_from_ne_true _ (λ h. elim (near_means u h) [ inl e ↦ apart e | inr c ↦ out c ]))
+    place_far u apart out = place_none u (false_from_ne_true _ (λ h. elim (is_near p k v u h) [ inl e ↦ apart e | inr c ↦ out c ]))
 
     -- the depot stands in its own list alone
     pub depot_first : v ≡ 0 → place_of p k v 0 ≡ 0
@@ -161,7 +168,7 @@ module _ (p : Problem) (v : ℕ) where
     pub place_near : (u : ℕ) → near p k v u ≡ true → ((u ≡ v) × (place_of p k v u ≡ 0)) ⊎ ((u ≢ v) × (IsCustomer p u × ((rank p v u < k) × (place_of p k v u ≡ rank p v u + 1))))
     place_near u h = elim (cases_eq u v) [
       | inl same ↦ inl (same, place_self u same)
-      | inr apart ↦ elim (near_means u h) [
+      | inr apart ↦ elim (is_near p k v u h) [
         | inl same ↦ absurd (apart same)
         | inr c ↦ inr (apart, (c.0, (c.1, place_ranked u apart c.0 c.1)))
       ]
@@ -260,16 +267,3 @@ module _ (f : ℕ → ℕ → Bool) where
               | inr among ↦ (w.0, (among, w.1.1))
             ])
       ]
-
-module _ (p : Problem) (k : ℕ) where
-  pub near_is : (w v : ℕ) → IsNeighbour p k w v → near p k w v ≡ true
-  near_is w v (inl e) = or_left _ _ (eq-eqb v w e)
-  near_is w v (inr h) = or_right _ _ (and_from _ _ (and_from _ _ (le-leb _ _ h.0.0) (le-leb _ _ h.0.1)) (lt-ltb _ _ h.1))
-
-  pub is_near : (w v : ℕ) → near p k w v ≡ true → IsNeighbour p k w v
-  is_near w v h = elim (or_cases _ _ h) [
-    | inl e ↦ inl (eqb-true _ _ e)
-    | inr t ↦ (let both = and_parts _ _ t in
-        let range = and_parts _ _ both.0 in
-        inr ((leb-true _ _ range.0, leb-true _ _ range.1), ltb-true _ _ both.1))
-  ]

@@ -5,7 +5,7 @@ use Rattle.std.specs.declared.cmp.Ordering.{Ordering}
 use Rattle.std.specs.declared.cmp.Ordering.TheVariants.{Less, Equal, Greater}
 use Rattle.std.specs.Cmp.{IsTotalOrder, nat_cmp_total, tied_itself}
 use Rattle.std.specs.FinSet.{FinSet, empty, IsAntisymmetric, contains, insert, contains-insert, contains-empty, nat_cmp-IsAntisymmetric}
-use Rattle.std.proofs.lemmas.Bool.{or_left, or_right}
+use Rattle.std.proofs.lemmas.Bool.{or_cases, or_left, or_right}
 use Rattle.solomon_reader.specs.Plan.{Arc}
 use Rattle.solomon_reader.specs.Region.{arc_cmp, ArcSet, Holds}
 
@@ -56,14 +56,10 @@ is_equal Less h = cc
 is_equal Equal h = refl
 is_equal Greater h = cc
 
-either : (a b : Bool) → (a || b) ≡ true → (a ≡ true) ⊎ (b ≡ true)
-either true b h = inl refl
-either false b h = inr h
-
 -- what an insertion holds
 pub inserted : (s : FinSet arc_cmp) (a b : Arc) → contains (insert s a) b ≡ true → (b ≡ a) ⊎ (contains s b ≡ true)
 inserted s a b h =
-    elim (either _ _ (rw (contains-insert arc_cmp_total s a b) at h)) [
+    elim (or_cases _ _ (rw (contains-insert arc_cmp_total s a b) at h)) [
       | inl e ↦ inl (arc_cmp-IsAntisymmetric b a (is_equal _ e))
       | inr k ↦ inr k
     ]

@@ -22,9 +22,9 @@ returns-in_err-marks-clause-refused c =
     let p = err_from_is_err_and c.from_residual.result c.from_residual.ensures.1 in
     rw (p.1, p.2) (twice_refused c.args.instance.now c.args.routes.now c.if-not-serve_somebody.ensures c.if-not-know_stops.ensures c.in_err-marks.field-0.0 c.in_err-marks.ensures.refused)
 
-pub returns-then-not-serve_all-clause-refused : goal.returns-then-not-serve_all-clause-refused
-returns-then-not-serve_all-clause-refused c =
-    let missing = rw c.as_slice.ensures.value at c.if-not-serve_all.ensures in
+pub returns-then-not-are_all_served-clause-refused : goal.returns-then-not-are_all_served-clause-refused
+returns-then-not-are_all_served-clause-refused c =
+    let missing = rw c.as_slice.ensures.value at c.if-not-are_all_served.ensures in
     record {
       holds = missing (stops (lists c.args.routes.now)) c.in_ok-marks.ensures.served;
       lowest = after_twice _ _ c.if-not-serve_somebody.ensures c.if-not-know_stops.ensures
@@ -34,7 +34,7 @@ returns-then-not-serve_all-clause-refused c =
 
 pub returns-then-not-are_light-clause-refused : goal.returns-then-not-are_light-clause-refused
 returns-then-not-are_light-clause-refused c =
-    let served = rw c.as_slice.ensures.value at c.if-not-serve_all.ensures in
+    let served = rw c.as_slice.ensures.value at c.if-not-are_all_served.ensures in
     let one : (i : ℕ) → IsCustomer c.args.instance.now i
     → count_of i (stops (lists c.args.routes.now)) ≡ 1 = λ i h. served (stops (lists c.args.routes.now)) c.in_ok-marks.ensures.served i h in
     record {
@@ -44,7 +44,7 @@ returns-then-not-are_light-clause-refused c =
 
 pub returns-clause-once : goal.returns-clause-once
 returns-clause-once c =
-    let served = rw c.as_slice.ensures.value at c.if-not-serve_all.ensures in
+    let served = rw c.as_slice.ensures.value at c.if-not-are_all_served.ensures in
     let one : (i : ℕ) → IsCustomer c.args.instance.now i
     → count_of i (stops (lists c.args.routes.now)) ≡ 1 = λ i h. served (stops (lists c.args.routes.now)) c.in_ok-marks.ensures.served i h in
     one

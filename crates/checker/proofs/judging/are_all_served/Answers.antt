@@ -1,5 +1,5 @@
 use Rattle.std.proofs.Common.{◌≡◌, true, false, get_or, arith, ap, ◌∙◌, cond}
-use Rattle.checker.proofs.judging.serve_all.Goals as goal
+use Rattle.checker.proofs.judging.are_all_served.Goals as goal
 
 pub returns : goal.returns
 returns c = λ before served i customer.
