@@ -6,7 +6,7 @@ use Rattle.command_line.specs.Commands.{HasFlag, HasNumber, IsNumberIf}
 use Rattle.command_line.specs.Jobs.{HasClosing, HasSettings, IsSameJob, Says, SaysAny}
 use Rattle.command_line.specs.declared.jobs.Job.{Job}
 use Rattle.command_line.specs.declared.jobs.Job.TheVariants.{Solve, Check}
-use Rattle.worker_turns.specs.declared.settings.Settings.{Settings}
+use Rattle.run_settings.specs.declared.settings.Settings.{Settings}
 
 -- no command has both names
 one_name : (name : Text) → name ≡ codes "solve" → name ≡ codes "check" → ⊥

@@ -6,12 +6,12 @@ use Rattle.clap.specs.declared.error.ErrorKind.TheVariants.{OutOfMemory}
 use Rattle.command_line.specs.declared.jobs.TheConstants.{MOST_STATES}
 use Rattle.command_line.specs.Commands.{program, HasFlag, HasNumber}
 use Rattle.solomon_reader.specs.declared.limits.TheConstants.{MOST_LEAVES}
-use Rattle.worker_turns.specs.Settings.{IsWithin}
+use Rattle.run_settings.specs.Settings.{IsWithin}
 use Rattle.command_line.specs.declared.jobs.Job.{Job}
 use Rattle.command_line.specs.declared.jobs.Job.TheVariants.{Solve, Check}
 use Rattle.command_line.specs.declared.jobs.UsageFault.{UsageFault}
 use Rattle.command_line.specs.declared.jobs.UsageFault.TheVariants.{Memory, Usage}
-use Rattle.worker_turns.specs.declared.settings.Settings.{Settings}
+use Rattle.run_settings.specs.declared.settings.Settings.{Settings}
 
 -- the rows of the arguments of `solve` have these numbers, each of which is within its range
 pub record HasSettings (rows : List Row) (settings : Settings) : Type 0 where

@@ -10,9 +10,9 @@ use crate::jobs::{Job, MOST_STATES, UsageFault};
 use clap::builder::ValueParser;
 use clap::error::ErrorKind;
 use clap::{Arg, ArgAction, ArgMatches, Command};
+use run_settings::{MOST_BOUNDERS, MOST_GAP, MOST_LABELS, MOST_SEARCHERS, MOST_TURNS, Settings};
 use solomon_reader::{MOST_LEAVES, MOST_NEIGHBOURS};
 use std::alloc::{AllocError, Global};
-use worker_turns::{MOST_BOUNDERS, MOST_GAP, MOST_LABELS, MOST_SEARCHERS, MOST_TURNS, Settings};
 
 const PROGRAM: &str = "vrptw";
 

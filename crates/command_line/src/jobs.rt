@@ -1,9 +1,9 @@
 //! What the words ask for, and why they ask for nothing.
 ghost use Rattle.std.specs.Prelude.{◌≡◌};
 
+use run_settings::Settings;
 use std::alloc::AllocError;
 use thiserror::Error;
-use worker_turns::Settings;
 
 /// The most pairs of time and cost that the check of one leaf keeps.
 pub const MOST_STATES: u32 = 50_000_000;

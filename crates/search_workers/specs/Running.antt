@@ -1,10 +1,10 @@
 -- What a run begins with, and why it gives no outcome.
 use Rattle.std.specs.Prelude.{◌≡◌, ◌+◌, ◌≤◌, length}
 use Rattle.incumbent_book.specs.Contents.{Contents}
-use Rattle.worker_turns.specs.Settings.{IsWithin}
+use Rattle.run_settings.specs.Settings.{IsWithin}
 use Rattle.search_workers.specs.declared.fault.RunFault.{RunFault}
 use Rattle.search_workers.specs.declared.fault.RunFault.TheVariants.{Memory, BadSettings, LabelLimit, NoThread}
-use Rattle.worker_turns.specs.declared.settings.Settings.{Settings}
+use Rattle.run_settings.specs.declared.settings.Settings.{Settings}
 
 -- the same search, with at most one event more
 pub record IsOneOn (old new : Contents) : Type 0 where

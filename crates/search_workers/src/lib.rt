@@ -10,7 +10,6 @@ mod running;
 
 pub use closing::{CloseAloneFault, Found, close_alone};
 pub use fault::RunFault;
+pub use run_settings::{Settings, generator};
 pub use running::{run, run_from};
-pub use worker_turns::{
-    Gate, GatePoint, Hub, NoGate, Nodes, Settings, Worker, bound_worker, generator, search_worker,
-};
+pub use worker_turns::{Gate, GatePoint, Hub, NoGate, Nodes, Worker, bound_worker, search_worker};

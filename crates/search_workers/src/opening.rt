@@ -17,12 +17,13 @@ use insertion::{Weights, build_whole};
 use labelling::LabelFault;
 use price_ascent::{start_from, start_without_plan};
 use prices::Priced;
+use run_settings::Settings;
 use schedule::Feasible;
 use search::{HeldPlan, descended_parallel};
 use solomon_reader::Instance;
 use std::alloc::{AllocError, Global};
 use std::thread::Threads;
-use worker_turns::{Settings, pricing_labels};
+use worker_turns::pricing_labels;
 
 /// The worker that offers the first plan.
 const FIRST_WORKER: u16 = 0;

@@ -4,9 +4,10 @@ use crate::at_desk::AtDesk;
 use crate::crew::Post;
 use desk::{Naming, Share};
 use rand_xoshiro::Xoshiro256PlusPlus;
+use run_settings::Settings;
 use search::HeldPlan;
 use std::sync::Wait;
-use worker_turns::{Gate, Nodes, Settings, Worker, bound_worker, search_worker};
+use worker_turns::{Gate, Nodes, Worker, bound_worker, search_worker};
 
 /// What a worker does.
 #[derive(Drop)]

@@ -10,7 +10,7 @@ ghost use Rattle.insertion.specs.Building.{IsServedAlone};
 ghost use Rattle.desk.specs.Tally.{each};
 ghost use Rattle.desk.specs.Blanks.{names_of, parts_of};
 ghost use Rattle.desk.specs.Opening.{HasPlanIf};
-ghost use Rattle.worker_turns.specs.Settings.{IsWithin};
+ghost use Rattle.run_settings.specs.Settings.{IsWithin};
 ghost use Rattle.search_workers.specs.Running.{RefusesSettings};
 ghost use Rattle.search_workers.specs.declared.fault.RunFault.TheVariants as refusal;
 
@@ -23,6 +23,7 @@ use ceiling::{Ceiling, CeilingSeat};
 use desk::{Blanks, Desk, Naming, Share};
 use incumbent_book::{Gap, Outcome};
 use node_pool::{Hand, Pass, Pool, Thief};
+use run_settings::{Settings, generator};
 use schedule::Feasible;
 use search::HeldPlan;
 use solomon_reader::Instance;
@@ -30,7 +31,7 @@ use std::alloc::{AllocError, Global};
 use std::marker::Brand;
 use std::sync::Wait;
 use std::thread::Threads;
-use worker_turns::{Gate, Nodes, Settings, Worker, generator};
+use worker_turns::{Gate, Nodes, Worker};
 
 /// How many numbers each deque takes in its life.
 const PUSHES: usize = 1_000_000;

@@ -2,7 +2,7 @@
 
 use rand_core::SeedableRng;
 use rand_xoshiro::Xoshiro256PlusPlus;
-use worker_turns::generator;
+use run_settings::generator;
 
 #[test]
 fn each_worker_is_a_jump_further(rt: HostRuntime) {

@@ -10,8 +10,8 @@ use Rattle.tenths.specs.Sink.{Held}
 use Rattle.insertion.specs.Building.{IsServedAlone}
 use Rattle.closing.specs.Closing.{IsClosed, known_or_above, costs}
 use Rattle.closing.specs.declared.found.Found.{Found}
-use Rattle.worker_turns.specs.declared.settings.Settings.{Settings}
-use Rattle.worker_turns.specs.Settings.{IsWithin}
+use Rattle.run_settings.specs.declared.settings.Settings.{Settings}
+use Rattle.run_settings.specs.Settings.{IsWithin}
 use Rattle.vrptw.specs.declared.answer.Answer.{Answer}
 use Rattle.vrptw.specs.declared.answer.Answer.TheVariants.{Best, Gap, NoPlan, Open}
 use Rattle.vrptw.specs.declared.answer.SolveFault.{SolveFault}

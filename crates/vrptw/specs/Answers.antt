@@ -15,8 +15,8 @@ use Rattle.vrptw.specs.declared.answer.Answer.{Answer}
 use Rattle.vrptw.specs.declared.answer.Answer.TheVariants.{Best, Gap, NoPlan, Open}
 use Rattle.vrptw.specs.declared.answer.SolveFault.{SolveFault}
 use Rattle.vrptw.specs.declared.answer.SolveFault.TheVariants as fault
-use Rattle.worker_turns.specs.declared.settings.Settings.{Settings}
-use Rattle.worker_turns.specs.Settings.{IsWithin}
+use Rattle.run_settings.specs.declared.settings.Settings.{Settings}
+use Rattle.run_settings.specs.Settings.{IsWithin}
 use Rattle.search_workers.specs.declared.fault.RunFault.{RunFault}
 use Rattle.search_workers.specs.declared.fault.RunFault.TheVariants as run
 use Rattle.insertion.specs.Building.{IsServedAlone}

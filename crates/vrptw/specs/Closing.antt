@@ -13,8 +13,8 @@ use Rattle.closing.specs.Closing.{IsStopped}
 use Rattle.closing.specs.declared.fault.CloseAloneFault.{CloseAloneFault}
 use Rattle.closing.specs.declared.fault.CloseAloneFault.TheVariants as alone
 use Rattle.closing.specs.declared.fault.TheConstants.{MOST_CLOSED}
-use Rattle.worker_turns.specs.declared.settings.Settings.{Settings}
-use Rattle.worker_turns.specs.Settings.{IsWithin}
+use Rattle.run_settings.specs.declared.settings.Settings.{Settings}
+use Rattle.run_settings.specs.Settings.{IsWithin}
 use Rattle.vrptw.specs.declared.answer.Answer.{Answer}
 use Rattle.vrptw.specs.declared.answer.Answer.TheVariants.{Best, Gap, NoPlan, Open}
 use Rattle.vrptw.specs.declared.answer.SolveFault.{SolveFault}

@@ -9,11 +9,11 @@ use crate::answer::{Answer, SolveFault};
 use crate::solving::{Given, read_instance};
 use crate::starting::{StartFault, read_start};
 use crate::writing::write_found;
+use run_settings::Settings;
 use schedule::Feasible;
 use solomon_reader::MOST_LEAVES;
 use std::alloc::Global;
 use tenths::Sink;
-use worker_turns::Settings;
 
 /// Whether the settings and the number of leaves are within their ranges.
 fn are_within(settings: &Settings, leaf_limit: u32) -> bool

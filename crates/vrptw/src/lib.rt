@@ -19,9 +19,9 @@ pub use closing_text::{close, close_from};
 pub use command_line::{Job, MOST_STATES, UsageFault, job};
 pub use lines::words_fault;
 pub use program::run_words;
+pub use run_settings::{
+    MOST_BOUNDERS, MOST_GAP, MOST_LABELS, MOST_SEARCHERS, MOST_TURNS, Settings,
+};
 pub use solving::{solve, solve_from};
 pub use starting::StartFault;
-pub use worker_turns::{
-    Gate, GatePoint, MOST_BOUNDERS, MOST_GAP, MOST_LABELS, MOST_SEARCHERS, MOST_TURNS, NoGate,
-    Settings,
-};
+pub use worker_turns::{Gate, GatePoint, NoGate};

@@ -13,13 +13,14 @@ use crate::solving::solve_from;
 use crate::starting::StartFault;
 use checker::check;
 use command_line::{Job, job};
+use run_settings::Settings;
 use std::alloc::Global;
 use std::rt::Files;
 use std::sync::Wait;
 use std::thread::Threads;
 use std::{fs, io};
 use tenths::{Sink, StdSink};
-use worker_turns::{NoGate, Settings};
+use worker_turns::NoGate;
 
 /// Whether to tell how far the turns are.
 #[derive(Clone, Copy)]

@@ -3,10 +3,11 @@
 ghost use Rattle.std.specs.Prelude.{◌<◌};
 
 use incumbent_book::Gap;
+use run_settings::Settings;
 use std::io;
 use std::sync::atomic::{AtomicBool, AtomicU64, Ordering};
 use tenths::Tenths;
-use worker_turns::{Gate, GatePoint, Settings, is_near};
+use worker_turns::{Gate, GatePoint, is_near};
 
 /// A gate that holds nobody, and tells on standard error how far the turns are: at most once for each
 /// hundredth of them, until cost and bound are as near as is enough. It has no lock.

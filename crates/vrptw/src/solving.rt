@@ -10,6 +10,7 @@ use crate::found::found_by;
 use crate::starting::{StartFault, read_start};
 use crate::writing::write_found;
 use closing::{Found, cheaper};
+use run_settings::Settings;
 use schedule::Feasible;
 use search_workers::run_from;
 use solomon_reader::{Instance, ReadFault, read};
@@ -17,7 +18,7 @@ use std::alloc::Global;
 use std::sync::Wait;
 use std::thread::Threads;
 use tenths::Sink;
-use worker_turns::{Gate, Settings};
+use worker_turns::Gate;
 
 /// The instance that a text is.
 pub(crate) fn read_instance(alloc: Global, text: &[u8]) -> Result<Instance, SolveFault>

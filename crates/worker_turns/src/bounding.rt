@@ -9,11 +9,11 @@ use crate::hub::Hub;
 use crate::nodes::{Nodes, OpenNode, Taken};
 use crate::pricing::{Means, goal_of, is_ahead, pricing_labels, turn_looks};
 use crate::refusal::Refusal;
-use crate::settings::Settings;
 use crate::worker::Worker;
 use closing::settled_leaf;
 use price_ascent::{ChildStart, Children, branch, raise};
 use prices::{PriceFault, Priced};
+use run_settings::Settings;
 use schedule::Feasible;
 
 /// The most leaves of a turn.

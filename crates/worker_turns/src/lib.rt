@@ -6,10 +6,8 @@ mod gate;
 mod hub;
 mod nodes;
 mod pricing;
-mod random;
 mod refusal;
 mod searching;
-mod settings;
 mod worker;
 
 pub use bounding::bound_worker;
@@ -17,7 +15,5 @@ pub use gate::{Gate, GatePoint, NoGate};
 pub use hub::Hub;
 pub use nodes::Nodes;
 pub use pricing::pricing_labels;
-pub use random::generator;
 pub use searching::search_worker;
-pub use settings::{MOST_BOUNDERS, MOST_GAP, MOST_LABELS, MOST_SEARCHERS, MOST_TURNS, Settings};
 pub use worker::{Worker, is_near};

@@ -3,9 +3,9 @@
 ghost use Rattle.std.specs.Prelude.{◌≤◌};
 
 use crate::nodes::Nodes;
-use crate::settings::Settings;
 use price_ascent::{Goal, IDLE_PRICINGS, rise_at};
 use prices::Priced;
+use run_settings::Settings;
 use tenths::Tenths;
 
 /// The most pricings of a turn at the root.

@@ -1,7 +1,7 @@
 -- How much work goes into a plan and a bound.
 use Rattle.std.specs.Prelude.{◌≤◌}
-use Rattle.worker_turns.specs.declared.settings.Settings.{Settings}
-use Rattle.worker_turns.specs.declared.settings.TheConstants.{MOST_BOUNDERS, MOST_GAP, MOST_LABELS, MOST_SEARCHERS, MOST_TURNS}
+use Rattle.run_settings.specs.declared.settings.Settings.{Settings}
+use Rattle.run_settings.specs.declared.settings.TheConstants.{MOST_BOUNDERS, MOST_GAP, MOST_LABELS, MOST_SEARCHERS, MOST_TURNS}
 use Rattle.solomon_reader.specs.declared.limits.TheConstants.{MOST_NEIGHBOURS}
 
 -- each number is within its limits; a seed may be any number

@@ -43,7 +43,7 @@ fn is_between(number: u32, least: u32, most: u32) -> bool
 }
 
 impl Settings {
-    ghost use Rattle.worker_turns.specs.Settings.{IsWithin};
+    ghost use Rattle.run_settings.specs.Settings.{IsWithin};
 
     /// Whether each number is within its limits.
     pub fn is_within(&self) -> bool
@@ -59,7 +59,7 @@ impl Settings {
 }
 
 impl Default for Settings {
-    ghost use Rattle.worker_turns.specs.Settings.{default_settings};
+    ghost use Rattle.run_settings.specs.Settings.{default_settings};
 
     ghost is_default = { λ settings. settings ≡ default_settings };
 
