@@ -23,8 +23,15 @@ const LEAST_PRICING_TURNS: u64 = 4;
 const NEIGHBOURS: u32 = 8;
 const MOST_LABELS: u64 = 1_000_000;
 
-/// A leaf with its prices, and where its ascent starts, if that is known.
+/// A node of the tree: a leaf with its prices, or a split with the places of both children.
+enum Node {
+    Leaf(std::vec::Vec<i64>),
+    Split { from: u16, to: u16, used: usize, unused: usize },
+}
+
+/// A leaf with its prices, its place among the nodes, and where its ascent starts, if that is known.
 struct Open<'i> {
+    place: usize,
     leaf: Priced<'i>,
     start: Option<ChildStart>,
 }
@@ -33,6 +40,8 @@ struct Tree<'i> {
     instance: &'i Instance,
     pool: RoutePool<'i>,
     open: Vec<Open<'i>>,
+    /// All nodes, the root first.
+    nodes: std::vec::Vec<Node>,
     leaves: usize,
     /// The cost to reach, or one more than any plan's.
     target: u64,
@@ -64,7 +73,8 @@ impl<'i> Tree<'i> {
         Tree {
             instance,
             pool: RoutePool::of_routes(Global, instance, routes.unwrap_or(&[])).unwrap(),
-            open: vec![Open { leaf, start: None }],
+            nodes: vec![Node::Leaf(leaf.prices().to_vec())],
+            open: vec![Open { place: 0, leaf, start: None }],
             leaves: 1,
             target: cost.map_or(instance.ceiling().get() + 1, |cost| cost.get()),
             cost,
@@ -101,24 +111,55 @@ impl<'i> Tree<'i> {
         self.idle <= self.instance.customer_count() / CUSTOMERS_OF_PATIENCE
     }
 
+    fn open_child(&mut self, place: usize, leaf: Priced<'i>, start: Option<ChildStart>) {
+        self.nodes.push(Node::Leaf(leaf.prices().to_vec()));
+        self.open.push(Open { place, leaf, start });
+    }
+
+    /// The lines of the nodes from a place on, in preorder.
+    fn lines_from(&self, place: usize) -> String {
+        match &self.nodes[place] {
+            Node::Leaf(prices) => {
+                let words: std::vec::Vec<String> = prices.iter().map(i64::to_string).collect();
+                format!("P {}\n", words.join(" "))
+            }
+            Node::Split { from, to, used, unused } => {
+                format!("S {from} {to}\n{}{}", self.lines_from(*used), self.lines_from(*unused))
+            }
+        }
+    }
+
+    /// The text of the certificate of the tree as it stands.
+    fn certificate(&self) -> String {
+        let (above, count) = (i128::from(self.instance.ceiling().get()) + 1, self.instance.customer_count());
+        let bound = self.open.iter().map(|open| open.leaf.value()).min().unwrap_or(above).min(above).min(self.settled);
+        format!(
+            "VRPTW-CERT 2\nINSTANCE {}\nCUSTOMERS {count}\nNEIGHBOURS {NEIGHBOURS}\nBOUND {}.{}\nTREE\n{}END\n",
+            self.instance.name, bound / 10, bound % 10, self.lines_from(0)
+        )
+    }
+
     /// Raises the leaf of the least value, and splits it, unless its value reaches the cost or it is the root that
     /// still rises.
     fn work(&mut self) {
-        let Some(place) = (0..self.open.len()).min_by_key(|place| self.open[*place].leaf.value()) else { return };
-        let Open { leaf, start } = self.open.swap_remove(place);
+        let Some(lowest) = (0..self.open.len()).min_by_key(|place| self.open[*place].leaf.value()) else { return };
+        let Open { place, leaf, start } = self.open.swap_remove(lowest);
         let (goal, before) = (self.goal(&leaf), leaf.value());
         let leaf = raise(Global, &mut self.pool, leaf, start, &goal);
+        self.nodes[place] = Node::Leaf(leaf.prices().to_vec());
         let is_done = leaf.value() >= i128::from(self.target);
         self.is_again = !is_done && leaf.region().is_root() && self.stays(leaf.value() > before);
         if self.is_again || is_done {
-            self.open.push(Open { leaf, start: None });
+            self.open.push(Open { place, leaf, start: None });
             return;
         }
         match branch(Global, &leaf, &mut self.pool, Some(self.labels)) {
             Ok(Some(children)) => {
                 self.leaves += 1;
-                self.open.push(Open { leaf: children.used, start: children.used_start });
-                self.open.push(Open { leaf: children.unused, start: children.unused_start });
+                let (used, unused) = (self.nodes.len(), self.nodes.len() + 1);
+                self.nodes[place] = Node::Split { from: children.arc.from, to: children.arc.to, used, unused };
+                self.open_child(used, children.used, children.used_start);
+                self.open_child(unused, children.unused, children.unused_start);
             }
             _ => {
                 println!("a leaf that isn't split: {} of {}", leaf.value(), self.target);
@@ -133,8 +174,9 @@ fn worth_of(instance: &Instance) -> u64 {
     CUSTOMER_LOOKS * u64::from(instance.customer_count()).max(LEAST_CUSTOMERS)
 }
 
-/// Prints leaves and bound after each tenth of the turns, and the seconds; without a plan where the cost is 0.
-pub fn tell(instance: &Instance, turns: u32, cost: u64) {
+/// Prints leaves and bound after each tenth of the turns, and the seconds; without a plan where the cost is 0. Writes
+/// the certificate of the tree to a path, if there is one.
+pub fn tell(instance: &Instance, turns: u32, cost: u64, path: Option<&String>) {
     let begin = Instant::now();
     let mut tree = Tree::new(instance, turns, Tenths::new(cost).filter(|cost| cost.get() > 0));
     for turn in 1..=turns {
@@ -145,5 +187,8 @@ pub fn tell(instance: &Instance, turns: u32, cost: u64) {
             let bound = tree.bound();
             println!("{turn} {} {}.{} {:.1}", tree.leaves, bound / 10, bound % 10, begin.elapsed().as_secs_f64());
         }
+    }
+    if let Some(path) = path {
+        std::fs::write(path, tree.certificate()).expect("certificate");
     }
 }

@@ -11,6 +11,7 @@ pub const MOST_PRICE: u64 = 1_000_000_000_000;
 
 #[derive(Debug, PartialEq, Eq)]
 pub struct Instance {
+    pub name: String,
     fleet: u16,
     capacity: u16,
     /// x, y, demand; ready, due and service in tenths
@@ -30,7 +31,8 @@ impl Instance {
         let rows: Vec<[i64; 6]> =
             lines[1..].iter().map(|l| [l[1], l[2], l[3], 10 * l[4], 10 * l[5], 10 * l[6]]).collect();
         let distances = rows.iter().flat_map(|a| rows.iter().map(move |b| tenths_between(a, b))).collect();
-        Instance { fleet: lines[0][0] as u16, capacity: lines[0][1] as u16, rows, distances }
+        let name = text.split_whitespace().next().unwrap().to_string();
+        Instance { name, fleet: lines[0][0] as u16, capacity: lines[0][1] as u16, rows, distances }
     }
 
     pub fn customer_count(&self) -> u16 {
