@@ -293,7 +293,7 @@ fn bounds_of(task: &Task<'_>, grid: Grid<'_>) -> Result<(Vec<RowBound>, u64), Al
     Ok((bounds, looks))
 }
 
-/// The slots of load of a task, if bounds for them pay: where a search without them took so many looks, and few
+/// The slots of load of a task, if bounds for them pay: where an earlier search took so many looks, and few
 /// customers fit a vehicle.
 fn loads_for(task: &Task<'_>, looks: u64) -> Option<Loads> {
     let loads = Loads::new(task.instance);
@@ -301,7 +301,7 @@ fn loads_for(task: &Task<'_>, looks: u64) -> Option<Loads> {
     let filling = customers
         .saturating_mul(customers)
         .saturating_mul(u64::from(loads.count()));
-    (loads.count() <= MOST_LOADS && looks > filling.saturating_mul(3)).then_some(loads)
+    (loads.count() <= MOST_LOADS && looks > filling).then_some(loads)
 }
 
 /// Bounds on what may follow from each row at each time, and where those pay, with each load.
