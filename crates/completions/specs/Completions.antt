@@ -1,10 +1,13 @@
 -- What may follow from a row at a time or later, with a load or more, whatever was visited before.
-use Rattle.std.specs.Prelude.{◌≡◌, ℕ, ◌+◌, ◌*◌, ◌≤◌, List, [], ◌∷◌, ℤ, pos, ◌+ℤ◌, ◌≤ℤ◌, IsTrue, ◌⊎◌}
+use Rattle.std.specs.Prelude.{◌≡◌, ℕ, ◌+◌, ◌*◌, ◌≤◌, List, [], ◌∷◌, ℤ, pos, ◌+ℤ◌, ◌≤ℤ◌, IsTrue, ◌⊎◌, length}
 use Rattle.solomon_reader.specs.declared.limits.TheConstants.{MOST_PRICE, MOST_CAPACITY}
 use Rattle.solomon_reader.specs.Plan.{load_of}
+use Rattle.fronts.specs.Tables.{IsTable}
+use Rattle.solomon_reader.specs.Problem.{ready, service}
 use Rattle.solomon_reader.specs.States.{Pricing, State, step, CanStep, Completes, value_with, StartsWith}
 use Rattle.completions.specs.declared.bound.Bound.{Bound}
 use Rattle.completions.specs.declared.bound.RowBound.{RowBound}
+use Rattle.completions.specs.declared.part.Part.{Part}
 
 -- all prices of the customers of one vehicle together
 abbrev pub most_paid : ℕ
@@ -79,3 +82,15 @@ pub record IsJoined (b : Bound) (j load : ℕ) (cost : ℤ) (most : ℕ) (low : 
   pub step_room : (x : ℕ) → x ≤ load + most → x ≤ MOST_CAPACITY → x ≤ out.room
   pub step_least : IsBelowStep cost low out.least
   pub other : ((out.next ≡ j) × (out.other ≤ℤ b.least)) ⊎ ((out.next ≡ b.next) × ((out.other ≤ℤ b.other) × IsBelowStep cost low out.other))
+
+-- what follows on any visit of v that ends at t or later adds no less than z
+pub record IsVisitBound (q : Pricing) (t v : ℕ) (z : ℤ) : Type 0 where
+  pub cut : IsCut z
+  pub least : (a : State) (s : List ℕ) → IsFrom v t 0 a → ready q.problem v + service q.problem v ≤ a.time → Completes q a s → (a.cost +ℤ z) ≤ℤ value_with q a s
+
+-- so it is of each row
+abbrev pub AreVisitBounds : Pricing → ℕ → List ℤ → Type 0
+AreVisitBounds q t leasts = IsTable (IsVisitBound q t) (length leasts) leasts
+
+abbrev pub IsPart : Pricing → Part → Type 0
+IsPart q part = AreVisitBounds q part.from part.leasts.items

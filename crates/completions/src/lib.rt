@@ -3,6 +3,7 @@
 
 mod bound;
 mod grid;
+mod part;
 mod table;
 
 pub use bound::{Bound, RowBound};

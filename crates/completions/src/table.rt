@@ -6,7 +6,7 @@ ghost use Rattle.std.specs.Prelude.{◌≡◌, ◌+◌, ◌*◌, ◌<◌, ◌≤
 ghost use Rattle.std.specs.List.{All};
 ghost use Rattle.solomon_reader.specs.declared.limits.TheConstants.{MOST_TIME, MOST_CAPACITY};
 ghost use Rattle.solomon_reader.specs.States.{CanEnd, most_grains};
-ghost use Rattle.completions.specs.Completions.{most_paid, IsCut, IsSmall, IsBound, IsEndBound, IsBoundWith, IsRowBound, IsOnward, IsBelowStep, IsJoined};
+ghost use Rattle.completions.specs.Completions.{most_paid, IsCut, IsSmall, IsBound, IsEndBound, IsBoundWith, IsRowBound, IsOnward, IsBelowStep, IsJoined, AreVisitBounds, IsPart};
 ghost use Rattle.fronts.specs.Fronts.{bare_state, IsBounded};
 ghost use Rattle.fronts.specs.Steps.{IsOpenStep};
 ghost use Rattle.fronts.specs.Tables.{IsAllowedRow};
@@ -14,6 +14,7 @@ ghost use Rattle.fronts.specs.Tasks.{pricing_of};
 
 use crate::bound::{Bound, RowBound};
 use crate::grid::{Corner, Grid, Loads};
+use crate::part::{Part, part_length, parts_of};
 use fronts::{CustomerSet, Front, Step, Task};
 use solomon_reader::{MOST_CAPACITY, MOST_PRICE, MOST_TIME};
 use std::alloc::AllocError;
@@ -38,7 +39,7 @@ fn unknown(task: &Task<'_>) -> Bound
 
 /// What bounds all that may follow from a row at a time with a load, as far as the bounds at a place tell.
 #[inline(always)]
-fn bound_in(
+pub(crate) fn bound_in(
     task: &Task<'_>,
     bounds: &[RowBound],
     place: usize,
@@ -312,7 +313,9 @@ pub struct Completions<'t, 'i> {
     by_time: Vec<RowBound>,
     by_load: Vec<RowBound>,
     loads: Option<Loads>,
+    parts: Vec<Part>,
     looks: u64,
+    ghost at_parts: { All (IsPart (pricing_of task.now)) parts.items },
     ghost at_times: { All (IsRowBound (pricing_of task.now)) by_time.items },
     ghost at_loads: { All (IsRowBound (pricing_of task.now)) by_load.items },
 }
@@ -327,6 +330,7 @@ impl<'t, 'i> Completions<'t, 'i> {
             by_time: Vec::new(task.alloc),
             by_load: Vec::new(task.alloc),
             loads: None,
+            parts: Vec::new(task.alloc),
             looks: 0,
         }
     }
@@ -341,11 +345,13 @@ impl<'t, 'i> Completions<'t, 'i> {
             Some(loads) => bounds_of(task, Grid::Loads(task.slots, loads))?,
             None => (Vec::new(task.alloc), 0),
         };
+        let parts = parts_of(task, by_time.as_slice())?;
         Ok(Completions {
             task,
             by_time,
             by_load,
             loads,
+            parts,
             looks: time_looks.saturating_add(load_looks),
         })
     }
@@ -361,6 +367,18 @@ impl<'t, 'i> Completions<'t, 'i> {
     {
         let place = self.task.slots.place(v, time);
         bound_in(self.task, self.by_time.as_slice(), place, v, time, 0)
+    }
+
+    /// The least that what follows on a visit of each row adds, where the visit ends at a time, in tenths, or later;
+    /// nothing where it isn't known.
+    pub fn leasts_from(&self, time: u64) -> &[i64]
+        ensures { AreVisitBounds (pricing_of self.now.task.now) time result.now }
+    {
+        let number = time / part_length(self.task).max(1);
+        match self.parts.get(number as usize) {
+            Some(part) if part.from <= time => part.leasts.as_slice(),
+            _ => &[],
+        }
     }
 
     /// What bounds all that may follow from a row at a time, in tenths, with a load, if there are bounds by load.

@@ -1,7 +1,7 @@
 -- The list of labels grows, labels are dropped and extended, and what was said of it stays.
 use Rattle.std.proofs.Common.{◌≡◌, ℕ, List, [], arith, sym, ◌∙◌, ◌≢◌, refl, zero, suc, ◌+◌, ◌-◌, ◌<◌, ◌≤◌, true, false, ◌∷◌, ◌++◌, length-append, get_or, eqb, ap, ◌⊎◌, inl, inr, append-nil}
 use Rattle.std.proofs.Common.{append_assoc, reverse, take, drop}
-use Rattle.std.specs.Prelude.{ℤ, Option, Some, None, MatchOption, length, IsTrue}
+use Rattle.std.specs.Prelude.{ℤ, ◌+ℤ◌, ◌≤ℤ◌, Option, Some, None, MatchOption, length, IsTrue}
 use Rattle.std.proofs.lemmas.Int.{ints}
 use Rattle.std.proofs.Math.ListN.{set, length-set}
 use Rattle.std.proofs.lemmas.Bool.{cases_lt, cases_eq, eq-eqb, or_left}
@@ -10,8 +10,9 @@ use Rattle.std.proofs.lemmas.Nat.Bits.{bit_at-zero}
 use Rattle.solomon_reader.specs.Problem.{Problem, IsCustomer, due}
 use Rattle.solomon_reader.specs.Region.{IsAllowed}
 use Rattle.solomon_reader.specs.Relaxed.{IsRelaxed, IsLeast, reduced_cost}
-use Rattle.solomon_reader.specs.States.{Pricing, start, Completes, value_with, IsAtMost, State, step, CanStep, CanEnd}
+use Rattle.solomon_reader.specs.States.{Pricing, start, arc_value, Completes, value_with, IsAtMost, State, step, CanStep, CanEnd}
 use Rattle.solomon_reader.proofs.Completions.{relaxed_completes, value_is, reaches_none, reaches_more, at_most_more, reaches_same}
+use Rattle.completions.specs.Completions.{IsFrom, IsVisitBound}
 use Rattle.fronts.specs.Fronts.{end_cost, IsBounded, IsStart, IsAfter}
 use Rattle.solomon_reader.specs.Distance.{distance}
 use Rattle.labels.specs.declared.best.Best.{Best}
@@ -19,7 +20,7 @@ use Rattle.labels.specs.declared.label.Label.{Label}
 use Rattle.labels.specs.Arena.{label_in, state_at, trace, IsLabel, IsArena, IsPending, HasActive, HasPending, IsDominated, inactive, IsPruned, IsExtension, IsAdded, IsSameStop, IsLater}
 use Rattle.labels.specs.Arena.{IsGrown, IsMoved, IsMet, TakesStep, TakesSteps, CountsEnd, EndsAt, IsAttained, IsComplete, IsOnward, NonePending, IsAnswer, IsInList, IsFirst, blank}
 use Rattle.solomon_reader.specs.Covering.{IsDear}
-use Rattle.labels.specs.Cover.{CoversAll, Carries, IsPassed}
+use Rattle.labels.specs.Cover.{CoversAll, Carries, IsPassed, IsStepDear}
 use Rattle.fronts.specs.Steps.{IsReachable}
 use Rattle.fronts.proofs.Stepping.{can_reach}
 use Rattle.fronts.specs.declared.front.Front.{Front}
@@ -214,6 +215,10 @@ module _ (q : Pricing) where
     step_refused b cannot = record { moved = moved_none q xs; labelled = arena; met = λ can. absurd (cannot can) }
 
     -- nothing after the step costs less than the best
+    pub step_dear : (b : Option ℤ) → IsStepDear q b (state_at q l) j → TakesStep q b xs xs l j
+    step_dear b dear = record { moved = moved_none q xs; labelled = arena; met = λ can. inr (dear can) }
+
+    -- nothing after the front of the step costs less than the best
     pub step_passed : (b : Option ℤ) (f : Front) → IsAfter q.problem q.prices l.front j f → IsPassed q b f → TakesStep q b xs xs l j
     step_passed b f after passed = record { moved = moved_none q xs; labelled = arena; met = λ can. inr (counted can) }
       where
@@ -303,6 +308,14 @@ module _ (q : Pricing) where
     met =
         λ j customer can. steps.met j (reached j customer (can_reach q (state_at q l) j can) can.allowed (omega (arith, can.due))) can;
   }
+
+-- a step and what follows on a visit that ends no sooner cost no less than the best
+pub step_beyond : (q : Pricing) (b : Option ℤ) (a : State) (j t : ℕ) (z y : ℤ) → IsVisitBound q t j z → t ≤ a.time → y ≤ℤ (a.cost +ℤ (arc_value q.problem q.prices a.last j +ℤ z)) → IsAtMost b y
+    → IsStepDear q b a j
+step_beyond q b a j t z y bound later low met = λ can. record {
+  dear = λ s h. (let from : IsFrom j t 0 (step q a j) = record { last = refl; later = omega (arith, later); heavier = omega arith; remembered = or_left (eqb j j) _ (eq-eqb j j refl) } in
+      at_most_more b _ _ (omega (arith, ints, low, bound.least (step q a j) s from (omega arith) h)) met);
+}
 
 module _ (q : Pricing) (l : Label) (b : Best) (counted : IsDear q b.value (state_at q l)) where
   -- nothing after the label costs less than the best: it needs no step

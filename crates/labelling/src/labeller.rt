@@ -34,6 +34,8 @@ pub(crate) struct Labeller<'t, 'i> {
     pub(crate) ends: Vec<RouteEnd>,
     /// How many steps were taken.
     pub(crate) taken: u64,
+    /// How many others were left out before they were made.
+    pub(crate) passed: u64,
 }
 
 /// The list of the empty beginning at the depot.
@@ -90,6 +92,7 @@ impl<'t, 'i> Labeller<'t, 'i> {
             cut: i64::MIN,
             ends: Vec::new(task.alloc),
             taken: 0,
+            passed: 0,
         })
     }
 
@@ -108,6 +111,7 @@ impl<'t, 'i> Labeller<'t, 'i> {
             cut: self.cut,
             ends: self.ends,
             taken: self.taken,
+            passed: self.passed,
         }
     }
 

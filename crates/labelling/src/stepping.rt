@@ -6,6 +6,8 @@ ghost use Rattle.labels.specs.Arena.{label_in, state_at, IsArena, CountsEnd, IsP
 ghost use Rattle.fronts.specs.Fronts.{IsBounded};
 ghost use Rattle.fronts.specs.Steps.{IsOpenStep};
 ghost use Rattle.labelling.specs.Search.{pricing_in, KeepsBest, GoesOn, StandsAt, TakesStepTo, TakesEachStep, EndsFor, LosesNothing};
+ghost use Rattle.labels.specs.Cover.{IsStepDear};
+ghost use Rattle.completions.specs.Completions.{AreVisitBounds};
 
 use crate::fault::LabelFault;
 use crate::labeller::{Labeller, is_at_most};
@@ -67,6 +69,49 @@ impl<'t, 'i> Labeller<'t, 'i> {
         self.go_on(label, index, best, step)
     }
 
+    /// Whether nothing that may come after a step from a label costs less than the best, as far as it is known what
+    /// follows on a visit of each row that ends when the label does or later.
+    #[inline(always)]
+    fn is_step_passed(&self, label: &Label, best: Option<i64>, step: &Step, leasts: &[i64]) -> bool
+        requires bounded { IsBounded (pricing_in self.now).problem label.now.front }
+        requires step { IsOpenStep (pricing_in self.now) label.now.front.last step.now }
+        requires leasts { AreVisitBounds (pricing_in self.now) label.now.front.time leasts.now }
+        ensures { let q = pricing_in self.now in
+            IsTrue result → IsStepDear q best (state_at q label.now) step.now.customer }
+    {
+        let row = usize::from(step.customer);
+        if row >= leasts.len() {
+            return false;
+        }
+        let value = label.front.cost + step.cost + leasts[row];
+        value >= self.cut && is_at_most(best, value)
+    }
+
+    /// Takes a step from the label at an index, unless it shows before it is made that nothing after it costs less
+    /// than the best.
+    #[inline(always)]
+    fn try_step(
+        &mut self,
+        label: &Label,
+        index: usize,
+        best: Option<i64>,
+        step: &Step,
+        leasts: &[i64],
+    ) -> Result<(), LabelFault>
+        requires labels { IsArena (pricing_in self.old) self.old.labels.items }
+        requires index { StandsAt self.old.labels.items index label.now }
+        requires step { IsOpenStep (pricing_in self.old) label.now.front.last step.now }
+        requires leasts { AreVisitBounds (pricing_in self.old) label.now.front.time leasts.now }
+        ensures stepped { OnOk result (TakesStepTo self.old self.new best label.now step.now.customer) }
+        ensures kept { KeepsBest self.old self.new result }
+    {
+        if self.is_step_passed(label, best, step, leasts) {
+            self.passed = self.passed.saturating_add(1);
+            return Ok(());
+        }
+        self.take_step(label, index, best, step)
+    }
+
     /// Takes each step from the label at an index that may lead below the best.
     fn take_steps(
         &mut self,
@@ -79,12 +124,13 @@ impl<'t, 'i> Labeller<'t, 'i> {
         ensures stepped { OnOk result (TakesEachStep self.old self.new best label.now) }
         ensures kept { KeepsBest self.old self.new result }
     {
-        let task = self.completions.task;
-        for step in task.steps_from(label.front.last) {
+        let completions = self.completions;
+        let leasts = completions.leasts_from(label.front.time);
+        for step in completions.task.steps_from(label.front.last) {
             if step.is_late(label.front.time) {
                 return Ok(());
             }
-            self.take_step(label, index, best, step)?;
+            self.try_step(label, index, best, step, leasts)?;
         }
         Ok(())
     }

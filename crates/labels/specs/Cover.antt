@@ -1,6 +1,6 @@
 -- What active labels stand for, and which states may be left out.
 use Rattle.std.specs.Prelude.{◌≡◌, ℕ, ◌≤◌, IsTrue, List, ℤ, ◌≤ℤ◌, Option}
-use Rattle.solomon_reader.specs.States.{Pricing, State, Completes, value_with}
+use Rattle.solomon_reader.specs.States.{Pricing, State, step, CanStep, Completes, value_with}
 use Rattle.solomon_reader.specs.Covering.{CoversAfter, IsDear}
 use Rattle.fronts.specs.declared.front.Front.{Front}
 
@@ -22,3 +22,7 @@ pub record Carries (q : Pricing) (a b : State) : Type 0 where
 -- all that may come after a state that is no sooner, lighter or cheaper than the front, and remembers its last stop, costs no less than the best
 pub record IsPassed (q : Pricing) (b : Option ℤ) (f : Front) : Type 0 where
   pub each : (a : State) → a.last ≡ f.last → f.time ≤ a.time → f.load ≤ a.load → f.cost ≤ℤ a.cost → IsTrue (a.memory f.last) → IsDear q b a
+
+-- all that may come after a step from the state to j costs no less than the best
+abbrev pub IsStepDear : Pricing → Option ℤ → State → ℕ → Type 0
+IsStepDear q b a j = CanStep q a j → IsDear q b (step q a j)

@@ -4,14 +4,17 @@ use Rattle.fronts.proofs.Stepping.{among_more, is_among}
 use Rattle.labelling.proofs.Advancing.{steps_more, steps_all}
 use Rattle.labelling.proofs.labeller.Labeller.take_steps.Goals as goal
 
-pub take_step-requires-clause-step : goal.take_step-requires-clause-step
-take_step-requires-clause-step c = rw c.loop-step.invariant.same.task (c.steps_from-step-items.ensures.each c.loop-step.step-index _ c.loop-step-test.true)
+pub try_step-requires-clause-step : goal.try_step-requires-clause-step
+try_step-requires-clause-step c = rw c.loop-step.invariant.same.task (c.steps_from-step-items.ensures.each c.loop-step.step-index _ c.loop-step-test.true)
+
+pub try_step-requires-clause-leasts : goal.try_step-requires-clause-leasts
+try_step-requires-clause-leasts c = rw c.loop-step.invariant.same.task c.leasts_from-leasts.ensures
 
 pub loop-step-preserved : goal.loop-step-preserved
 loop-step-preserved c =
     let before = c.loop-step.invariant in
-    let after = c.take_step.ensures.kept in record {
-      stepped = steps_more _ _ _ _ _ _ _ _ _ (among_more c.steps_from-step-items.result.now c.loop-step.step-index) before.stepped (rw before.same.task at c.in_ok-take_step.ensures.stepped);
+    let after = c.try_step.ensures.kept in record {
+      stepped = steps_more _ _ _ _ _ _ _ _ _ (among_more c.steps_from-step-items.result.now c.loop-step.step-index) before.stepped (rw before.same.task at c.in_ok-try_step.ensures.stepped);
       same = record { task = after.same.task ∙ before.same.task; limit = after.same.limit ∙ before.same.limit };
       best = after.best ∙ before.best;
     }
