@@ -21,7 +21,7 @@ use Rattle.fronts.proofs.Stepping.{can_reach, price_small}
 use Rattle.solomon_reader.proofs.Completions.{never_back}
 
 module _ (q : Pricing) where
-  load_fits : (s : List ℕ) (a : State) → a.load ≤ q.problem.capacity → Completes q a s → a.load + load_of q.problem s ≤ q.problem.capacity
+  pub load_fits : (s : List ℕ) (a : State) → a.load ≤ q.problem.capacity → Completes q a s → a.load + load_of q.problem s ≤ q.problem.capacity
   load_fits [] a light h = omega arith
   load_fits (j ∷ s) a light h = omega (arith, load_fits s (step q a j) h.0.load h.1, sum_by-cons (demand q.problem) j s)
 

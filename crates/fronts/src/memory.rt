@@ -53,4 +53,29 @@ impl Memory {
     {
         self.bits & other.bits == self.bits
     }
+
+    /// Whether another one, or a third one beside it, holds each place of this one. No contract: it decides only how
+    /// fast a search is.
+    pub fn is_subset_beside(self, other: Memory, beside: Memory) -> bool {
+        self.bits & (other.bits | beside.bits) == self.bits
+    }
+
+    /// Whether another one holds each place of this one that a third one has, too.
+    pub fn is_subset_within(self, other: Memory, within: Memory) -> bool
+        ensures places { IsTrue result ↔ ((i : ℕ) → IsTrue (has_bit self.bits i)
+            → IsTrue (has_bit within.bits i) → IsTrue (has_bit other.bits i)) }
+        ensures small { self.bits < 2 ^ 16 }
+    {
+        let common = Memory {
+            bits: self.bits & within.bits,
+        };
+        common.is_subset(other)
+    }
+
+    /// The memory that holds each place.
+    pub fn full() -> Memory
+        ensures { (i : ℕ) → i < 16 → IsTrue (has_bit result.bits i) }
+    {
+        Memory { bits: u16::MAX }
+    }
 }

@@ -17,10 +17,10 @@ use Rattle.fronts.specs.Fronts.{end_cost, IsBounded, IsStart, IsAfter}
 use Rattle.solomon_reader.specs.Distance.{distance}
 use Rattle.labels.specs.declared.best.Best.{Best}
 use Rattle.labels.specs.declared.label.Label.{Label}
-use Rattle.labels.specs.Arena.{label_in, state_at, trace, IsLabel, IsArena, IsPending, HasActive, HasPending, IsDominated, inactive, IsPruned, IsExtension, IsAdded, IsSameStop, IsLater}
+use Rattle.labels.specs.Arena.{label_in, state_at, trace, IsLabel, IsArena, IsPending, HasActive, HasPending, IsDominated, inactive, IsPruned, IsExtension, IsAdded, IsSameStop, IsLater, HasExtended, IsSparedStep}
 use Rattle.labels.specs.Arena.{IsGrown, IsMoved, IsMet, TakesStep, TakesSteps, CountsEnd, EndsAt, IsAttained, IsComplete, IsOnward, NonePending, IsAnswer, IsInList, IsFirst, blank}
 use Rattle.solomon_reader.specs.Covering.{IsDear}
-use Rattle.labels.specs.Cover.{CoversAll, Carries, IsPassed, IsStepDear}
+use Rattle.labels.specs.Cover.{CoversAll, CoversFewer, Carries, CarriesBy, IsPassed, IsStepDear}
 use Rattle.fronts.specs.Steps.{IsReachable}
 use Rattle.fronts.proofs.Stepping.{can_reach}
 use Rattle.fronts.specs.declared.front.Front.{Front}
@@ -28,7 +28,7 @@ use Rattle.solomon_reader.specs.Memories.{place_of}
 use Rattle.labels.proofs.Carrying.{carries_itself, carries_same, carries_through}
 use Rattle.labelling.specs.declared.least_cost.Least.{Least}
 use Rattle.labelling.specs.Answer.{HasLeastValue, HasItsRoute, IsLeastOf}
-use Rattle.labelling.proofs.Cover.{covers_grown, covers_retired, least_at_end}
+use Rattle.labelling.proofs.Cover.{covers_grown, covers_retired, fewer_grown, fewer_retired, least_at_end}
 
 -- the best is that of a completion of the start, and at most what each relaxed route costs
 module _ (q : Pricing) where
@@ -139,6 +139,18 @@ moved_none q xs = record { grown = grown_none xs; pending = λ a s. (a, (s, carr
 dominated_through : (q : Pricing) (xs ys : List Label) (a : State) → IsMoved q xs ys → IsDominated q xs a → IsDominated q ys a
 dominated_through q xs ys a moved (t, h) = let on = moved.active t h.0 in (on.0, (on.1.0, carries_through q _ _ _ on.1.1 h.1))
 
+-- what was extended stays so, and nothing else is
+extended_later : (q : Pricing) (xs ys : List Label) → IsGrown xs ys → (a : State) → HasExtended q xs a → HasExtended q ys a
+extended_later q xs ys grown a s = (let later = grown.later s.index s.within in
+    record { index = s.index; within = omega (arith, s.within, grown.longer); extended = later.extended ∙ s.extended; is = same_state q _ _ later.same ∙ s.is })
+
+extended_before : (q : Pricing) (xs ys : List Label) → IsGrown xs ys → (a : State) → HasExtended q ys a → HasExtended q xs a
+extended_before q xs ys grown a s = elim (cases_lt s.index (length xs)) [
+  | inl old ↦ (let later = grown.later s.index old in
+      record { index = s.index; within = old; extended = sym later.extended ∙ s.extended; is = sym (same_state q _ _ later.same) ∙ s.is })
+  | inr new ↦ (let never : true ≡ false = sym s.extended ∙ grown.fresh s.index new s.within in cc)
+]
+
 grown_through : (xs ys zs : List Label) → IsGrown xs ys → IsGrown ys zs → IsGrown xs zs
 grown_through xs ys zs h e = record {
   longer = omega (arith, h.longer, e.longer);
@@ -216,11 +228,11 @@ module _ (q : Pricing) where
 
     -- nothing after the step costs less than the best
     pub step_dear : (b : Option ℤ) → IsStepDear q b (state_at q l) j → TakesStep q b xs xs l j
-    step_dear b dear = record { moved = moved_none q xs; labelled = arena; met = λ can. inr (dear can) }
+    step_dear b dear = record { moved = moved_none q xs; labelled = arena; met = λ can. inr (inl (dear can)) }
 
     -- nothing after the front of the step costs less than the best
     pub step_passed : (b : Option ℤ) (f : Front) → IsAfter q.problem q.prices l.front j f → IsPassed q b f → TakesStep q b xs xs l j
-    step_passed b f after passed = record { moved = moved_none q xs; labelled = arena; met = λ can. inr (counted can) }
+    step_passed b f after passed = record { moved = moved_none q xs; labelled = arena; met = λ can. inr (inl (counted can)) }
       where
         remembers : (i : ℕ) → i ≡ j → IsTrue ((step q (state_at q l) j).memory i)
         remembers i same = rw same (or_left (eqb j j) _ (eq-eqb j j refl))
@@ -255,22 +267,25 @@ module _ (q : Pricing) where
             rw (extension.stops, one, extension.parent, extension.same.last) (ap (λ r. r ++ (j ∷ [])) t)
 
     -- what may come after the step may come after x, at the same cost
-    met_by : (b : Option ℤ) (ys : List Label) (x : Label) → IsExtension q l index j x → IsMet q b ys (state_at q x) → IsMet q b ys (step q (state_at q l) j)
-    met_by b ys x extension (inl t) = inl (t.0, (t.1.0, carries_through q _ _ _ t.1.1 (carries_same q _ _ extension.same)))
-    met_by b ys x extension (inr counted) = inr (record { dear = λ s h. (let on = (carries_same q _ _ extension.same).on s h in at_most_more b _ _ on.1 (counted.dear s on.0)) })
+    met_by : (b : Option ℤ) (ys : List Label) (x : Label) → IsExtension q l index j x → IsDominated q ys (state_at q x) → IsMet q b ys (state_at q l) j
+    met_by b ys x extension t = inl (t.0, (t.1.0, carries_through q _ _ _ t.1.1 (carries_same q _ _ extension.same)))
+
+    -- what was extended has what may come after the step
+    pub step_spared : (b : Option ℤ) → IsSparedStep q xs (state_at q l) j → TakesStep q b xs xs l j
+    step_spared b spared = record { moved = moved_none q xs; labelled = arena; met = λ can. inr (inr (spared can)) }
 
     pub step_taken : (b : Option ℤ) (ys : List Label) (x : Label) → IsExtension q l index j x → CanStep q (state_at q l) j → IsAdded q xs ys x → TakesStep q b xs ys l j
     step_taken b ys x extension can (inl same) = rw same.0 (record {
       moved = moved_none q xs;
       labelled = arena;
-      met = λ _. met_by b xs x extension (inl same.1);
+      met = λ _. met_by b xs x extension same.1;
     })
     step_taken b ys x extension can (inr (zs, kept)) =
         let grown : IsGrown xs (zs ++ (x ∷ [])) = grown_added q xs zs x extension.unextended kept.0 in
         rw kept.1 (record {
           moved = moved_added q xs zs x extension.unextended kept.0;
           labelled = record { each = each_of zs x grown kept.0 extension };
-          met = λ _. met_by b _ x extension (inl (dominated_added q xs zs x extension.unextended kept.0));
+          met = λ _. met_by b _ x extension (dominated_added q xs zs x extension.unextended kept.0);
         })
       where
         each_of : (zs : List Label) (x : Label) → IsGrown xs (zs ++ (x ∷ [])) → IsPruned q xs zs (state_at q x) → IsExtension q l index j x
@@ -292,7 +307,8 @@ module _ (q : Pricing) where
     met = λ j among can. elim (split j among) [
       | inl old ↦ elim (steps.met j old can) [
         | inl dominated ↦ inl (dominated_through q ys zs _ stepped.moved dominated)
-        | inr counted ↦ inr counted
+        | inr (inl counted) ↦ inr (inl counted)
+        | inr (inr spared) ↦ inr (inr (spared.0, (extended_later q ys zs stepped.moved.grown spared.0 spared.1.0, spared.1.1)))
       ]
       | inr same ↦ rw same (stepped.met (rw same at can))
     ];
@@ -323,7 +339,7 @@ module _ (q : Pricing) (l : Label) (b : Best) (counted : IsDear q b.value (state
   end_passed index = record { lower = λ y h. h; counted = λ can. counted.dear [] can; from = inl refl }
 
   pub steps_passed : (xs : List Label) (P : ℕ → Type 0) → IsArena q xs → TakesSteps q b.value xs xs l P
-  steps_passed xs P labelled = record { moved = moved_none q xs; labelled = labelled; met = λ j among can. inr (record { dear = λ s h. counted.dear (j ∷ s) (can, h) }) }
+  steps_passed xs P labelled = record { moved = moved_none q xs; labelled = labelled; met = λ j among can. inr (inl (record { dear = λ s h. counted.dear (j ∷ s) (can, h) })) }
 
 -- what ended at a label still ends there
 module _ (q : Pricing) (xs ys : List Label) (longer : IsLonger xs ys) where
@@ -361,11 +377,17 @@ module _ (q : Pricing) (xs ys : List Label) where
   covers_moved b c moved lower covers =
       covers_grown q b c (HasPending q xs) (HasActive q xs) (HasPending q ys) (HasActive q ys) lower moved.pending (active_or_pending moved.grown) covers
 
+  fewer_moved : (b c : Option ℤ) → IsMoved q xs ys → ((y : ℤ) → IsAtMost b y → IsAtMost c y)
+      → CoversFewer q b (HasPending q xs) (HasExtended q xs) → CoversFewer q c (HasPending q ys) (HasExtended q ys)
+  fewer_moved b c moved lower fewer =
+      fewer_grown q b c (HasPending q xs) (HasExtended q xs) (HasPending q ys) (HasExtended q ys) lower moved.pending (extended_before q xs ys moved.grown) fewer
+
   pub complete_stepped : (b : Best) (o : Option ℤ) (l : Label) (j : ℕ) → IsComplete q xs b → TakesStep q o xs ys l j → IsComplete q ys b
   complete_stepped b o l j so_far step = record {
     labelled = step.labelled;
     first = dominated_through q xs ys (start q) step.moved so_far.first;
     covers = covers_moved b.value b.value step.moved (λ y h. h) so_far.covers;
+    fewer = fewer_moved b.value b.value step.moved (λ y h. h) so_far.fewer;
     attained = attained_longer q xs ys (grown_longer xs ys step.moved.grown) b.value b.index so_far.attained;
   }
 
@@ -375,6 +397,7 @@ complete_counted q xs b c l index within here so_far ending = record {
   labelled = so_far.labelled;
   first = so_far.first;
   covers = covers_moved q xs xs b.value c.value (moved_none q xs) ending.lower so_far.covers;
+  fewer = fewer_moved q xs xs b.value c.value (moved_none q xs) ending.lower so_far.fewer;
   attained = attained_by q xs xs (grown_longer xs xs (grown_none xs)) b c l index within here so_far.attained ending;
 }
 
@@ -427,12 +450,29 @@ module _ (q : Pricing) (xs ys : List Label) (index : ℕ) (b after : Best) (l : 
         inr (record { index = s.index; within = omega (arith, s.within, count_zs); unextended = rw e s.unextended; is = ap (state_at q) e ∙ s.is }))
   ]
 
-  each_step : (j : ℕ) → CanStep q (state_at q l) j → IsMet q after.value ys (step q (state_at q l) j)
+  each_step : (j : ℕ) → CanStep q (state_at q l) j → IsMet q after.value ys (state_at q l) j
   each_step j can = steps.met j can.customer can
 
+  covers_ys : CoversAll q after.value (HasPending q ys) (HasActive q ys)
+  covers_ys = covers_moved q xs ys b.value after.value steps.moved ending.lower so_far.covers
+
+  fewer_ys : CoversFewer q after.value (HasPending q ys) (HasExtended q ys)
+  fewer_ys = fewer_moved q xs ys b.value after.value steps.moved ending.lower so_far.fewer
+
   covers : CoversAll q after.value (HasPending q zs) (HasActive q zs)
-  covers a active = covers_retired q after.value (HasPending q ys) (HasPending q zs) (HasActive q ys) (state_at q l) ending.counted each_step others
-      (covers_moved q xs ys b.value after.value steps.moved ending.lower so_far.covers) a (active_ys a active)
+  covers a active =
+      covers_retired q after.value (HasPending q ys) (HasPending q zs) (HasActive q ys) (HasExtended q ys) (state_at q l) ending.counted each_step others covers_ys fewer_ys a (active_ys a active)
+
+  extended_ys : (a : State) → HasExtended q zs a → (a ≡ state_at q l) ⊎ HasExtended q ys a
+  extended_ys a s = elim (cases_eq s.index index) [
+    | inl same ↦ inl (sym s.is ∙ ap (λ (m : ℕ). state_at q (label_in zs m)) same ∙ same_state q _ _ (zs_same index) ∙ is_here)
+    | inr apart ↦ (let e = zs_other s.index apart in
+        inr (record { index = s.index; within = omega (arith, s.within, count_zs); extended = sym (ap (λ (a : Label). a.extended) e) ∙ s.extended; is = sym (ap (state_at q) e) ∙ s.is }))
+  ]
+
+  fewer : CoversFewer q after.value (HasPending q zs) (HasExtended q zs)
+  fewer = fewer_retired q after.value (HasPending q ys) (HasPending q zs) (HasActive q ys) (HasExtended q ys) (state_at q l) ending.counted each_step others covers_ys fewer_ys
+      (HasExtended q zs) extended_ys
 
   longer_zs : IsLonger ys zs
   longer_zs = record { longer = omega (arith, count_zs); same = λ m w. zs_same m }
@@ -453,6 +493,7 @@ module _ (q : Pricing) (xs ys : List Label) (index : ℕ) (b after : Best) (l : 
     labelled = arena_longer q ys zs longer_zs count_zs steps.labelled;
     first = first;
     covers = covers;
+    fewer = fewer;
     attained =
         attained_by q xs zs xs_longer_zs b after l index within here so_far.attained ending;
   }
@@ -510,9 +551,16 @@ module _ (q : Pricing) where
         labelled = record { each = λ m w. (let e : m ≡ 0 = omega (arith, w) in rw e reached) };
         first = (state_at q h.label, (record { index = 0; within = omega arith; active = h.unextended.active; is = refl }, carries_same q _ _ (h.start q refl)));
         covers = λ a active s completes. inr (record { state = a; waits = to_pending a active; rest = s; short = omega arith; completes = completes; low = omega (arith, ints) });
+        fewer = λ a s completes. absurd (none_taken a s);
         attained = rw value tt;
       })
     where
+      none_taken : (a : State) → HasExtended q (h.label ∷ []) a → ⊥
+      none_taken a s =
+          let e : s.index ≡ 0 = omega (arith, s.within) in
+          let taken : h.label.extended ≡ true = rw e at s.extended in
+          let never : true ≡ false = sym taken ∙ h.unextended.extended in cc
+
       to_pending : (a : State) → HasActive q (h.label ∷ []) a → HasPending q (h.label ∷ []) a
       to_pending a s =
           let e : s.index ≡ 0 = omega (arith, s.within) in

@@ -17,8 +17,8 @@ use std::alloc::{AllocError, Global};
 /// A step takes about as long as so many looks.
 const LOOKS_OF_STEP: u64 = 2;
 
-/// So many steps that are left out before they are made take about as long as one look.
-const PASSED_OF_LOOK: u64 = 4;
+/// So many open steps that are looked at before they are made take about as long as one look.
+const SCANNED_OF_LOOK: u64 = 4;
 
 /// The stops up to a label, by its parents.
 fn route_to(alloc: Global, labels: &[Label], index: usize) -> Result<Vec<u16>, AllocError>
@@ -58,11 +58,11 @@ fn answer(alloc: Global, labels: &[Label], best: Best) -> Result<Least, AllocErr
 }
 
 impl<'t, 'i> Labeller<'t, 'i> {
-    /// How much work the search was: the steps taken, twice each, a quarter of those left out before they were made,
-    /// the customers that bounds looked at, and how often a newer label looked at others.
+    /// How much work the search was: the steps taken, twice each, a quarter of the open steps, the customers that
+    /// bounds looked at, and how often a newer label looked at others.
     fn looks(&self) -> u64 {
         let taken = self.taken.saturating_mul(LOOKS_OF_STEP);
-        let steps = taken.saturating_add(self.passed / PASSED_OF_LOOK);
+        let steps = taken.saturating_add(self.scanned / SCANNED_OF_LOOK);
         let looks = steps.saturating_add(self.completions.looks());
         looks.saturating_add(self.lookup.looks())
     }

@@ -34,8 +34,12 @@ pub(crate) struct Labeller<'t, 'i> {
     pub(crate) ends: Vec<RouteEnd>,
     /// How many steps were taken.
     pub(crate) taken: u64,
-    /// How many others were left out before they were made.
-    pub(crate) passed: u64,
+    /// How many open steps were looked at.
+    pub(crate) scanned: u64,
+    /// How many others were left out since other labels spare them.
+    pub(crate) spared: u64,
+    /// From how many labels steps were taken.
+    pub(crate) extended: u64,
 }
 
 /// The list of the empty beginning at the depot.
@@ -92,7 +96,9 @@ impl<'t, 'i> Labeller<'t, 'i> {
             cut: i64::MIN,
             ends: Vec::new(task.alloc),
             taken: 0,
-            passed: 0,
+            scanned: 0,
+            spared: 0,
+            extended: 0,
         })
     }
 
@@ -111,7 +117,9 @@ impl<'t, 'i> Labeller<'t, 'i> {
             cut: self.cut,
             ends: self.ends,
             taken: self.taken,
-            passed: self.passed,
+            scanned: self.scanned,
+            spared: self.spared,
+            extended: self.extended,
         }
     }
 

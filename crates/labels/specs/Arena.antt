@@ -5,7 +5,7 @@ use Rattle.solomon_reader.specs.States.{Pricing, State, start, step, CanStep, Ca
 use Rattle.labels.specs.declared.best.Best.{Best}
 use Rattle.labels.specs.declared.label.Label.{Label}
 use Rattle.solomon_reader.specs.Covering.{IsDear}
-use Rattle.labels.specs.Cover.{CoversAll, Carries}
+use Rattle.labels.specs.Cover.{CoversAll, CoversFewer, Carries, CarriesBy}
 use Rattle.fronts.specs.Fronts.{end_cost, IsBounded}
 use Rattle.fronts.specs.Memories.{state_with}
 
@@ -48,6 +48,13 @@ pub record HasPending (q : Pricing) (xs : List Label) (a : State) : Type 0 where
   pub index : ℕ
   pub within : index < length xs
   pub unextended : IsPending (label_in xs index)
+  pub is : state_at q (label_in xs index) ≡ a
+
+-- its steps were taken, whether it was dropped since or not
+pub record HasExtended (q : Pricing) (xs : List Label) (a : State) : Type 0 where
+  pub index : ℕ
+  pub within : index < length xs
+  pub extended : (label_in xs index).extended ≡ true
   pub is : state_at q (label_in xs index) ≡ a
 
 -- all that may come after the state may come after an active label, at no greater cost
@@ -99,21 +106,29 @@ pub record IsMoved (q : Pricing) (xs ys : List Label) : Type 0 where
   pub pending : (a : State) → HasPending q xs a → (t : State) × (HasPending q ys t × Carries q t a)
   pub active : (a : State) → HasActive q xs a → IsDominated q ys a
 
--- all that may come after the state is covered by an active label, or costs no less than the best
-abbrev pub IsMet : Pricing → Option ℤ → List Label → State → Type 0
-IsMet q b xs a = IsDominated q xs a ⊎ IsDear q b a
+-- all that may come after the state by a step to j may come after a label whose steps were taken, at no greater cost
+abbrev pub IsSpared : Pricing → List Label → State → ℕ → Type 0
+IsSpared q xs a j = (t : State) × (HasExtended q xs t × CarriesBy q j t a)
+
+-- so it is, if the step may be taken
+abbrev pub IsSparedStep : Pricing → List Label → State → ℕ → Type 0
+IsSparedStep q xs a j = CanStep q a j → IsSpared q xs a j
+
+-- all that may come after the state by a step to j is covered by an active label, costs no less than the best, or is spared
+abbrev pub IsMet : Pricing → Option ℤ → List Label → State → ℕ → Type 0
+IsMet q b xs a j = IsDominated q xs (step q a j) ⊎ (IsDear q b (step q a j) ⊎ IsSpared q xs a j)
 
 -- the step from l to j was taken, if it may be taken and may lead below the best
 pub record TakesStep (q : Pricing) (b : Option ℤ) (xs ys : List Label) (l : Label) (j : ℕ) : Type 0 where
   pub moved : IsMoved q xs ys
   pub labelled : IsArena q ys
-  pub met : CanStep q (state_at q l) j → IsMet q b ys (step q (state_at q l) j)
+  pub met : CanStep q (state_at q l) j → IsMet q b ys (state_at q l) j
 
 -- so was each step from l to one of these customers
 pub record TakesSteps (q : Pricing) (b : Option ℤ) (xs ys : List Label) (l : Label) (P : ℕ → Type 0) : Type 0 where
   pub moved : IsMoved q xs ys
   pub labelled : IsArena q ys
-  pub met : (j : ℕ) → P j → CanStep q (state_at q l) j → IsMet q b ys (step q (state_at q l) j)
+  pub met : (j : ℕ) → P j → CanStep q (state_at q l) j → IsMet q b ys (state_at q l) j
 
 -- the best c counts the end of l, which stands at the index, beside b
 pub record CountsEnd (q : Pricing) (l : Label) (index : ℕ) (b c : Best) : Type 0 where
@@ -130,11 +145,12 @@ pub record EndsAt (q : Pricing) (xs : List Label) (index : ℕ) (z : ℤ) : Type
 abbrev pub IsAttained : Pricing → List Label → Best → Type 0
 IsAttained q xs f = MatchOption f.value (Unit {0}) (λ z. EndsAt q xs f.index z)
 
--- all that may come after an active label is covered by the best so far, or by a pending label
+-- all that may come after an active label is covered by the best so far, or by a pending label; after a label whose steps were taken by one with fewer stops to go
 pub record IsComplete (q : Pricing) (xs : List Label) (f : Best) : Type 0 where
   pub labelled : IsArena q xs
   pub first : IsDominated q xs (start q)
   pub covers : CoversAll q f.value (HasPending q xs) (HasActive q xs)
+  pub fewer : CoversFewer q f.value (HasPending q xs) (HasExtended q xs)
   pub attained : IsAttained q xs f
 
 -- the label at the index isn't pending any more, and no other one that was there is pending again

@@ -1,5 +1,5 @@
 -- What active labels stand for, and which states may be left out.
-use Rattle.std.specs.Prelude.{◌≡◌, ℕ, ◌≤◌, IsTrue, List, ℤ, ◌≤ℤ◌, Option}
+use Rattle.std.specs.Prelude.{◌≡◌, ℕ, ◌≤◌, IsTrue, List, ◌∷◌, ℤ, ◌≤ℤ◌, Option}
 use Rattle.solomon_reader.specs.States.{Pricing, State, step, CanStep, Completes, value_with}
 use Rattle.solomon_reader.specs.Covering.{CoversAfter, IsDear}
 use Rattle.fronts.specs.declared.front.Front.{Front}
@@ -26,3 +26,11 @@ pub record IsPassed (q : Pricing) (b : Option ℤ) (f : Front) : Type 0 where
 -- all that may come after a step from the state to j costs no less than the best
 abbrev pub IsStepDear : Pricing → Option ℤ → State → ℕ → Type 0
 IsStepDear q b a j = CanStep q a j → IsDear q b (step q a j)
+
+-- all that may come after b by a step to j may come after a, at no greater cost
+pub record CarriesBy (q : Pricing) (j : ℕ) (a b : State) : Type 0 where
+  pub on : (s : List ℕ) → Completes q b (j ∷ s) → Completes q a (j ∷ s) × (value_with q a (j ∷ s) ≤ℤ value_with q b (j ∷ s))
+
+-- all that may come after a state is covered by fewer stops than it has
+abbrev pub CoversFewer : Pricing → Option ℤ → (State → Type 0) → (State → Type 0) → Type 0
+CoversFewer q b Pending Taken = (a : State) → Taken a → CoversAfter q b Pending a 0

@@ -1,3 +1,4 @@
 pub mod Arena
 pub mod Cover
 pub mod Domination
+pub mod Sparing

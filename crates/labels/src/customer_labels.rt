@@ -1,10 +1,13 @@
 //! The labels of one customer, to find those that dominate another one. What is found is held against
 //! the labels themselves.
 
-ghost use Rattle.std.specs.Prelude.{IsTrue};
+ghost use Rattle.std.specs.Prelude.{IsTrue, IfOk};
+ghost use Rattle.std.specs.List.{All};
+ghost use Rattle.labels.specs.Sparing.{HasRoomIn, IsSparingIn};
 ghost use Rattle.labels.specs.Domination.{IsDominatedIn, IsPrunedIn};
 
 use crate::label::Label;
+use crate::sparing::{keep, memory_of};
 use completions::Completions;
 use fronts::Memory;
 use std::alloc::{AllocError, Global};
@@ -88,6 +91,12 @@ impl MemoryGroup {
             & (self.least_cost <= newer.cost)
     }
 
+    /// Whether one of its labels may spare another one steps that none of these memories does.
+    fn may_spare(&self, other: &Entry, memories: &[Memory]) -> bool {
+        (self.least_time <= other.time) & (self.least_cost <= other.cost)
+            && !memories.iter().any(|memory| memory.is_subset_beside(self.memory, other.memory))
+    }
+
     /// The index of a label that dominates a newer one, as far as the group tells, and how many of its labels
     /// were looked at.
     fn find_dominating(&self, newer: &Entry) -> (Option<usize>, usize) {
@@ -99,6 +108,20 @@ impl MemoryGroup {
                 return (None, place);
             }
             if entry.may_dominate(newer) {
+                return (Some(entry.index), place);
+            }
+        }
+        (None, self.entries.len())
+    }
+
+    /// The index of a label whose steps were taken and that is no later, dearer or heavier than another one has to
+    /// be, and how many labels were looked at.
+    fn find_extended(&self, labels: &[Label], other: &Entry) -> (Option<usize>, usize) {
+        for (place, entry) in self.entries.iter().enumerate() {
+            if entry.time > other.time {
+                return (None, place);
+            }
+            if entry.may_dominate(other) && is_extended(labels, entry.index) {
                 return (Some(entry.index), place);
             }
         }
@@ -164,6 +187,11 @@ fn dominates_at(
     }
     let label = labels[index];
     label.active && label.dominates(completions, newer)
+}
+
+/// Whether the steps of the label at an index were taken.
+fn is_extended(labels: &[Label], index: usize) -> bool {
+    index < labels.len() && labels[index].extended
 }
 
 /// Whether the label at an index is active.
@@ -263,6 +291,36 @@ impl CustomerLabels {
             }
         }
         false
+    }
+
+    /// Memories that spare a label some of its steps.
+    pub(crate) fn sparing(
+        &mut self,
+        completions: &Completions<'_, '_>,
+        labels: &[Label],
+        label: &Label,
+        most: u32,
+    ) -> Result<Vec<Memory>, AllocError>
+        requires { HasRoomIn completions.now label.now most }
+        ensures { IfOk result (λ memories. All (IsSparingIn completions.now labels.now label.now)
+            memories.items) }
+    {
+        let entry = Entry::new(label, most, usize::MAX);
+        let mut memories = Vec::new(completions.task.alloc);
+        for group in &self.groups {
+            if !group.may_spare(&entry, memories.as_slice()) {
+                continue;
+            }
+            let (found, _) = group.find_extended(labels, &entry);
+            if let Some(index) = found
+                && let Some(memory) = memory_of(completions, labels, label, most, index)
+            {
+                keep(completions, labels, &mut memories, label, memory)?;
+            }
+        }
+        let looks = 1 + self.groups.len() as u64 / LABELS_OF_LOOK;
+        self.looks = self.looks.saturating_add(looks);
+        Ok(memories)
     }
 
     /// Drops the labels that a newer one dominates, and says how many.

@@ -6,6 +6,7 @@ ghost use Rattle.fronts.specs.Fronts.{IsAfter, IsBounded};
 ghost use Rattle.fronts.specs.Tasks.{pricing_of};
 ghost use Rattle.labels.specs.Arena.{state_at, IsExtension};
 ghost use Rattle.labels.specs.Cover.{IsAhead, Carries};
+ghost use Rattle.labels.specs.Sparing.{IsAsEarlyAndCheap, HasRoomIn};
 
 use completions::Completions;
 use fronts::{Front, Memory, Task};
@@ -64,6 +65,32 @@ impl Label {
             && self.front.time <= other.front.time
             && self.front.cost <= other.front.cost
             && self.memory.is_subset(other.memory)
+    }
+
+    /// Whether this one stands where another does, and is no later and no dearer.
+    pub(crate) fn is_as_early_and_cheap(&self, other: &Label) -> bool
+        ensures { IsTrue result → IsAsEarlyAndCheap self.now other.now }
+    {
+        self.front.last == other.front.last
+            && self.front.time <= other.front.time
+            && self.front.cost <= other.front.cost
+    }
+
+    /// The greatest load with which another label that stands where this one does has room for all that this one
+    /// may still load.
+    pub fn most_load(&self, completions: &Completions<'_, '_>) -> u32
+        requires { IsBounded completions.now.task.now.instance.now self.now.front }
+        ensures { HasRoomIn completions.now self.now result }
+    {
+        // Bounds hold where the last stop is remembered, as it is after each stop.
+        if !self.memory.contains(0) {
+            return self.front.load;
+        }
+        let bound = completions.at(self.front.last, self.front.time);
+        let capacity = u32::from(completions.task.instance.capacity());
+        capacity
+            .saturating_sub(u32::from(bound.room))
+            .max(self.front.load)
     }
 
     /// Whether all that may come after another label may come after this one, at no greater cost. This

@@ -6,6 +6,7 @@ mod buckets;
 mod customer_labels;
 mod label;
 mod lookup;
+mod sparing;
 
 pub use best::Best;
 pub use customer_labels::Entry;

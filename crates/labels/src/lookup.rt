@@ -1,12 +1,15 @@
 //! Where labels are looked up.
 
-ghost use Rattle.std.specs.Prelude.{IsTrue};
+ghost use Rattle.std.specs.Prelude.{IsTrue, IfOk};
+ghost use Rattle.std.specs.List.{All};
+ghost use Rattle.labels.specs.Sparing.{HasRoomIn, IsSparingIn};
 ghost use Rattle.labels.specs.Domination.{IsDominatedIn, IsPrunedIn};
 
 use crate::buckets::Buckets;
 use crate::customer_labels::{CustomerLabels, Entry};
 use crate::label::Label;
 use completions::Completions;
+use fronts::Memory;
 use solomon_reader::Instance;
 use std::alloc::{AllocError, Global};
 
@@ -108,6 +111,26 @@ impl Lookup {
             return false;
         }
         self.customers[customer].is_dominated(completions, labels, label, newer)
+    }
+
+    /// Memories that spare a label some of its steps: others whose steps were taken have what may come after it,
+    /// but for stops that they remember.
+    pub fn sparing(
+        &mut self,
+        completions: &Completions<'_, '_>,
+        labels: &[Label],
+        label: &Label,
+        most: u32,
+    ) -> Result<Vec<Memory>, AllocError>
+        requires { HasRoomIn completions.now label.now most }
+        ensures { IfOk result (λ memories. All (IsSparingIn completions.now labels.now label.now)
+            memories.items) }
+    {
+        let customer = label.front.last as usize;
+        if customer >= self.customers.len() {
+            return Ok(Vec::new(completions.task.alloc));
+        }
+        self.customers[customer].sparing(completions, labels, label, most)
     }
 
     /// Drops the labels that a newer one dominates.

@@ -1,7 +1,7 @@
 use Rattle.std.proofs.Common.{◌≡◌}
 use Rattle.fronts.specs.Steps.{IsAmong}
 use Rattle.labelling.specs.Search.{TakesStepsAmong, IsSameTask}
-use Rattle.labelling.proofs.labeller.Labeller.take_steps.Given as goal
+use Rattle.labelling.proofs.labeller.Labeller.take_others.Given as goal
 
 abbrev pub invariant-loop-step : goal.invariant-loop-step
 invariant-loop-step l = record {

@@ -1,14 +1,25 @@
 use Rattle.std.proofs.Common.{◌*◌, ◌≤◌, ◌∙◌, inl, inr, arith}
 use Rattle.solomon_reader.specs.declared.limits.TheConstants.{MOST_TIME}
 use Rattle.fronts.proofs.Stepping.{among_more, is_among}
+use Rattle.std.proofs.lemmas.List.Elements.{All-weaker}
+use Rattle.labels.specs.Sparing.{IsSparing}
+use Rattle.labels.proofs.SparedSteps.{sparing_later}
+use Rattle.labelling.specs.Search.{pricing_in}
 use Rattle.labelling.proofs.Advancing.{steps_more, steps_all}
-use Rattle.labelling.proofs.labeller.Labeller.take_steps.Goals as goal
+use Rattle.labelling.proofs.labeller.Labeller.take_others.Goals as goal
 
 pub try_step-requires-clause-step : goal.try_step-requires-clause-step
 try_step-requires-clause-step c = rw c.loop-step.invariant.same.task (c.steps_from-step-items.ensures.each c.loop-step.step-index _ c.loop-step-test.true)
 
 pub try_step-requires-clause-leasts : goal.try_step-requires-clause-leasts
 try_step-requires-clause-leasts c = rw c.loop-step.invariant.same.task c.leasts_from-leasts.ensures
+
+pub try_step-requires-clause-memories : goal.try_step-requires-clause-memories
+try_step-requires-clause-memories c =
+    let before = c.loop-step.invariant in
+    let q = pricing_in c.args.self.now in
+    rw before.same.task (All-weaker (IsSparing q c.args.self.now.labels.items c.args.label.now) (IsSparing q c.loop-step.self.labels.items c.args.label.now)
+    (λ m h. sparing_later q c.args.self.now.labels.items c.loop-step.self.labels.items c.args.label.now m before.stepped.moved.grown h) c.args.memories.now c.requires.memories)
 
 pub loop-step-preserved : goal.loop-step-preserved
 loop-step-preserved c =
