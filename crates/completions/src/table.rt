@@ -390,29 +390,3 @@ impl<'t, 'i> Completions<'t, 'i> {
         Some(bound_in(self.task, self.by_load.as_slice(), place, v, time, load))
     }
 }
-
-#[cfg(test)]
-mod tests {
-    use super::*;
-    use branching::Region;
-    use fronts::Nearness;
-    use solomon_reader::read;
-    use std::test::Fail;
-
-    /// Two customers, from one to the other 2 with the service there, and the depot open for 600.
-    const NEAR: &str =
-        "near VEHICLE NUMBER CAPACITY 2 10 CUSTOMER CUST NO. XCOORD. YCOORD. DEMAND READY TIME DUE DATE SERVICE TIME 0 0 0 0 0 600 0 1 5 0 1 0 600 1 2 6 0 1 0 600 1";
-
-    #[test]
-    fn a_short_step_leads_into_a_later_slot(rt: HostRuntime) -> Result<(), Fail> {
-        let alloc = rt.alloc();
-        let instance = read(alloc, NEAR.as_bytes())?;
-        let nearness = Nearness::new(alloc, &instance, 0)?;
-        let region = Region::root(alloc, instance.customer_count());
-        let prices = vec![in alloc; 0; usize::from(instance.customer_count())]?;
-        let task = Task::new(alloc, &nearness, &region, prices.as_slice())?;
-        let completions = Completions::new(&task, 0)?;
-        assert_eq!(rt; completions.at(1, 60).least, 50_000);
-        Ok(())
-    }
-}

@@ -1,4 +1,5 @@
-//! Tests of what threads share, without a lock and at a desk, and of the workers' random words.
+//! Tests of what threads share, without a lock and at a desk, of the workers' random words, and of the bounds that
+//! pricings go by.
 #![tactic(auto)]
 
 #[cfg(test)]
@@ -12,3 +13,5 @@ mod random;
 mod seats;
 #[cfg(test)]
 mod shares;
+#[cfg(test)]
+mod short_steps;
