@@ -239,6 +239,7 @@ convert i.txt o.vrp --to xml|invalid choice
 convert i.txt o.vrp --horizon 0|met "0", wanted a whole number of 1 to 1000000
 respell i.txt|required: SOLUTION
 timetable i.txt p.txt --cvs|unrecognized
+timetable i.txt p.txt --csv --json|not allowed
 draw i.txt p.txt --times --tree k.txt|not allowed
 recheck i.txt|required: CERTIFICATE
 report i.txt|required: SOLUTION
@@ -269,7 +270,8 @@ TOOLS = ("batch", "plan", "fewest", "convert", "carry", "respell", "timetable", 
          "why", "manual")
 # With standard output on a full device or closed.
 PRINTING = ("convert i.txt - --to csv", "convert - - --from csv --to ours --vehicles 2 --capacity 2 --name T < t.csv",
-            "respell i.txt p.txt", "timetable - p.txt < i.txt", "timetable i.txt p.txt", "draw i.txt p.txt",
+            "respell i.txt p.txt", "timetable - p.txt < i.txt", "timetable i.txt p.txt", "timetable i.txt p.txt --json",
+            "draw i.txt p.txt",
             "recheck i.txt k.txt", "report i.txt p.txt k.txt", "why late.txt")
 
 

@@ -1,4 +1,5 @@
 """One run of `respell`, `timetable` or `draw`: what they make of random plans, by the reference and the program."""
+import json
 import os
 from collections import Counter
 from xml.etree import ElementTree
@@ -13,7 +14,7 @@ from reference.instances import plan_cost, read, route_cost, walk_times
 from reference.pricing import leaves
 from reference.texts import read_certificate, shown
 from tools.names import table_of
-
+from tools.timing import Stop
 
 NAMES = ["Café", "a & b", "<School>", 'the "Mill"', "O'Neill", "", "x" * 60, "\u65e5\u672c", "\U0001f600", "]]>", "--"]
 
@@ -93,6 +94,19 @@ def by_walk(instance, place, route):
                shown(instance.due(i) - begin)]
 
 
+def judge_object(text, stops, sums):
+    """The object has the numbers of the table."""
+    told = json.loads(text)
+    right = [{"route": int(place), **valued(("distance", "duration", "waiting"), row),
+              "stops": [valued(Stop._fields, stop[1:]) for stop in stops if stop[0] == place]} for place, *row in sums[:-1]]
+    demand(told == {"routes": right, "plan": valued(("distance", "duration", "waiting"), sums[-1][1:])}, "%r" % told)
+
+
+def valued(names, words):
+    """Numbers by their names."""
+    return {name: float(word) for name, word in zip(names, words)}
+
+
 def judge_timetable(folder, random):
     """The table of a plan: each stop as its walk has it, sums as they are defined; both forms have the same words."""
     instance, _, path, routes = drawn(folder, random)
@@ -104,6 +118,7 @@ def judge_timetable(folder, random):
     demand_notes("timetable", errors)
     stops, sums = ([line.split(",") for line in part.splitlines()] for part in table.decode().split("\n\n"))
     demand(out.decode().split() == [word for row in stops + sums for word in row], "both forms differ")
+    judge_object(tool("timetable", path, solution, "--json")[0], stops[1:], sums[1:])
     late = set()
     for place, route in enumerate(routes, 1):
         rows = [row for row in stops[1:] if row[0] == str(place)]

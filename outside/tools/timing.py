@@ -1,9 +1,11 @@
 """When the vehicles of a plan are where: the stops of each route with their times, as a table."""
 import csv
 import io
+import json
 from collections import namedtuple
 
 from reference.instances import route_cost
+from tools.tool import number
 from tools.units import units_of
 
 # A stop is a customer, or the depot (0) at the end; times in tenths, slack until the due date at the begin of service.
@@ -92,3 +94,24 @@ def separated(instance, routes, names=None):
     by_stop, by_route = tables(instance, routes, names)
     csv.writer(found, lineterminator="\n").writerows([*by_stop, [], *by_route])
     return found.getvalue()
+
+
+def valued(words):
+    """Words of a table by their headings: numbers where they spell some, else as they stand."""
+    return {name: word if number(word) is None else json.loads(word) for name, word in words}
+
+
+def as_json(instance, routes, names=None):
+    """Both tables as one object: routes with their sums and stops, and the sums of the plan. What the table of names
+    says of a stop is in `place`, as words."""
+    by_stop, by_route = tables(instance, routes, names)
+    found = {route: {"route": int(route), **valued(zip(Sums._fields, sums)), "stops": []}
+             for route, *sums in by_route[1:-1]}
+    heading, columns = by_stop[0], 1 + len(Stop._fields)
+    for route, *words in by_stop[1:]:
+        stop = valued(zip(Stop._fields, words))
+        if names:
+            stop["place"] = dict(zip(heading[columns:], words[columns - 1:]))
+        found[route]["stops"].append(stop)
+    told = {"routes": list(found.values()), "plan": valued(zip(Sums._fields, by_route[-1][1:]))}
+    return json.dumps(told, ensure_ascii=False, indent=1) + "\n"
