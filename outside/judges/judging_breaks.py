@@ -9,8 +9,8 @@ from cases.classes import CLASSES, class_words
 from cases.random_texts import laid_out
 from judges.running import demand, got, run_check, put
 from reference.instances import read
-from tools.child import verdict_of
 from tools.places import OUTSIDE
+from vrptw import verdict_of
 
 SIGNALS = (signal.SIGINT, signal.SIGTERM, signal.SIGHUP, signal.SIGKILL)
 # How many seconds a command has that isn't broken off; when it is broken off at the latest; and how long a process may

@@ -18,6 +18,7 @@ from judges.judging_faults import judge_fault
 from judges.judging_fewest import judge_fewest
 from judges.judging_fleets import judge_fleets, judge_tight
 from judges.judging_layouts import judge_layout, judge_round_trip, judge_wrong_layout
+from judges.judging_module import judge_module
 from judges.judging_plans import judge_picture, judge_respelled, judge_timetable, judge_wrong_spelling
 from judges.judging_printouts import judge_printout, judge_wrong_printout
 from judges.judging_reports import judge_report
@@ -29,7 +30,7 @@ from judges.launching import LAUNCHES, judge_launch
 from judges.refusing import judge_memory
 from judges.running import Disagreement
 from judges.solving import judge_solve
-from judges.tutorial import judge_instances, judge_manual, judge_tutorial
+from judges.tutorial import judge_embedding, judge_instances, judge_manual, judge_tutorial
 from reference import bounding
 from reference.instances import Fault
 from reference.texts import TextFault
@@ -134,6 +135,8 @@ KINDS = {
                    program_by(judge_served)),
     "fewest": Kind("fewest on 1 to 8 customers: the fewest vehicles and the least cost with them, by all plans", 12,
                    program_by(judge_fewest)),
+    "module": Kind("1 to 6 customers by the module for Python: answers, texts, cancelling and faults, by all plans", 20,
+                   program_by(judge_module)),
     "breaks": Kind("plan, broken off at drawn times: texts that are right, never dearer than before", 4,
                    program_by(judge_break)),
     "batches": Kind("some instances by batch, and again with something changed in between", 6,
@@ -142,8 +145,9 @@ KINDS = {
                         lambda programs, folder, random, seed: judge_fault(folder, seed), is_fixed=True),
     "launches": Kind("the launcher with one file by two names, and files at fault, on a terminal and without",
                      len(LAUNCHES), lambda programs, folder, random, seed: judge_launch(folder, seed), is_fixed=True),
-    "tutorial": Kind("each command of docs/tutorial.md", 1,
-                     lambda programs, folder, random, seed: judge_tutorial(programs.program, folder), is_fixed=True),
+    "tutorial": Kind("each command of docs/tutorial.md, and each one and each program of docs/embedding.md", 2,
+                     lambda programs, folder, random, seed:
+                         (judge_tutorial, judge_embedding)[seed](programs.program, folder), is_fixed=True),
     "instances": Kind("bench/instances against what bench/make_instances makes", 1,
                       lambda programs, folder, random, seed: judge_instances(), is_fixed=True),
     "manual": Kind("docs/vrptw.1 against the program's help", 1,

@@ -3,6 +3,9 @@ import fcntl
 import os
 import select
 import signal
+import time
+
+from vrptw import Run
 
 # How many seconds a run may take.
 LONGEST = 600
@@ -73,6 +76,14 @@ def shown(line):
     return line.decode(errors="backslashreplace")
 
 
+def ran(words, variables=None):
+    """The program's lines and its status, by the module for Python; variables are added to those of this process."""
+    ends = time.monotonic() + LONGEST
+    came = Run(words, variables).ended(lambda: time.monotonic() >= ends)
+    demand(came.status is not None, "the program didn't end in %d s" % LONGEST)
+    return shown(came.out), shown(came.errors), came.status
+
+
 def solve(program, folder, text, options=(), variables=None):
     """The program's lines, its status and both texts, which stand in the folder."""
     paths = [os.path.join(folder, name) for name in ("instance", "solution", "certificate")]
@@ -80,8 +91,7 @@ def solve(program, folder, text, options=(), variables=None):
         if os.path.exists(path):
             os.remove(path)
     put(paths[0], text)
-    out, errors, status = run([program, "solve"] + paths + list(options), variables)
-    return shown(out), shown(errors), status, got(paths[1]), got(paths[2])
+    return (*ran([program, "solve"] + paths + list(options), variables), got(paths[1]), got(paths[2]))
 
 
 def run_check(program, folder, text, certificate, solution, further=(), variables=None):
@@ -91,5 +101,4 @@ def run_check(program, folder, text, certificate, solution, further=(), variable
         if given is not None:
             put(path, given)
     words = [program, "check", paths[0], paths[1]] + ([] if solution is None else ["--solution", paths[2]])
-    out, errors, status = run(words + list(further), variables)
-    return shown(out), shown(errors), status
+    return ran(words + list(further), variables)

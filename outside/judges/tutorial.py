@@ -1,4 +1,5 @@
-"""The tutorial's commands, run one after the other in a folder, and what it says that comes of them."""
+"""The commands and programs of the tutorial and of the page on other programs, run one after the other in a folder, and
+what the pages say that comes of them."""
 import os
 import re
 
@@ -7,6 +8,8 @@ from tools.manual import page
 from tools.places import TOP
 
 BLOCK = re.compile(r"^```console\n(.*?)^```$", re.M | re.S)
+# A program in Python, and what it prints.
+PROGRAM = re.compile(r"^```python\n(.*?)^```\n\n```text\n(.*?)^```$", re.M | re.S)
 # What is said where the status is 1.
 NOT_DONE = (": met ", "There is no plan")
 ROW = re.compile(r"^\| [^|]*`(--[^`]*)` \|", re.M)
@@ -59,6 +62,23 @@ def judge_tutorial(program, folder):
         output, status = said(place, "../vrptw solve dozen.txt p.txt c.txt " + options)
         demand((output, status) == ("BEST 173.2\n", 0), "%s: status %d, %r" % (options, status, output))
     return "%d commands, %d rows of options" % (len(found), len(rows))
+
+
+def judge_embedding(program, folder):
+    """Each command and each program of the page on other programs ends as it says."""
+    told_there = held("embedding.md")
+    fitted_out(program, folder)
+    programs, found = PROGRAM.findall(told_there), list(commands(told_there))
+    demand(len(programs) >= 4 and len(programs) == told_there.count("```python") and len(found) >= 4,
+           "the page has %d programs and %d commands" % (len(programs), len(found)))
+    for text, told in programs:
+        put(os.path.join(folder, "program.py"), text.encode())
+        output, status = said(folder, "PYTHONPATH=outside python3 program.py")
+        demand(fits(output, told) and status == 0, "%s: status %d, %r" % (text, status, output))
+    for command, told in found:
+        output, status = said(folder, command)
+        demand(fits(output, told) and status == 0, "$ %s: status %d, %r" % (command, status, output))
+    return "%d programs, %d commands" % (len(programs), len(found))
 
 
 def held(name):

@@ -3,10 +3,10 @@ import hashlib
 import os
 import re
 import shutil
-import subprocess
 
 from reference.instances import read
 from reference.texts import TextFault, read_certificate, read_solution, shown
+from tools.judged import judged, ran
 from tools.places import OUTSIDE
 from tools.plans import of_ours
 from tools.tool import Refused, Text, last_words
@@ -115,9 +115,8 @@ class Step:
         if kept.startswith(sums + b"\n"):
             return kept[len(sums) + 1:].decode()
         put(self.path("instance.txt"), self.held)
-        words = [program, "check", self.path("instance.txt"), self.path("certificate.txt")]
-        came = subprocess.run(words + (["--solution", self.path("plan.txt")] if plan else []), capture_output=True)
-        told = (came.stdout or came.stderr).decode(errors="replace")
+        line, fault = judged(program, self.held, certificate, plan or None)
+        told = (line or fault) + "\n"
         put(self.path("checked.txt"), sums + b"\n" + told.encode())
         return told
 
@@ -182,8 +181,8 @@ def refuse_words(program, options):
     wrong = [word for word in options if not WORD.match(word)]
     if wrong:
         return "met \"%s\", wanted options of solve with numbers" % wrong[0]
-    came = subprocess.run([program, "solve", "-", "-", "-", *options], capture_output=True)
-    return came.stderr.decode(errors="replace").split("\n")[0] if came.returncode == 2 else None
+    came = ran([program, "solve", "-", "-", "-", *options])
+    return came.fault.split("\n")[0] if came.status == 2 else None
 
 
 def found_tool(name, package):

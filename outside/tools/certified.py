@@ -5,9 +5,10 @@ from multiprocessing import Pool
 from reference.pricing import Pricing, leaves
 from reference.texts import shown
 from tools.plans import certificate_of
-from tools.stopping import end_by_signals, end_with_parent
+from tools.stopping import end_by_signals
 from tools.telling import Telling
 from tools.tool import Refused, told_path
+from vrptw import end_with_parent
 
 
 def of_instance(instance, path):

@@ -5,7 +5,6 @@ import re
 import time
 
 from reference.texts import shown
-from tools.child import verdict_of
 from tools.judged import judged
 from tools.layouts import Problem
 from tools.planned import Line
@@ -16,6 +15,7 @@ from tools.solomon_layout import write_ours
 from tools.standing import CERTIFICATE, INSTANCE, NAMES, PLAN
 from tools.tool import Refused, content, told_path
 from tools.units import units_of
+from vrptw import verdict_of
 
 # How the texts of a fleet end in a folder, by what a planner calls them.
 ENDINGS = {INSTANCE: "instance", PLAN: "plan", CERTIFICATE: "certificate"}
@@ -198,7 +198,7 @@ def checked_fleets(instance, path, program):
         if own not in (None, text):
             raise Refused("%s: met another text, wanted that of INSTANCE with %d vehicles" % (paths[0], fleet))
         line, fault = judged(program, text, certificate(other).encode() if proof is None else proof, plan)
-        kind, cost, bound = verdict_of(line + "\n")
+        kind, cost, bound = verdict_of(line)
         if kind is None:
             raise Refused("%s: vrptw check says of %d vehicles: %s" % (told_path(path), fleet, fault))
         if fleet <= instance.fleet:

@@ -1,39 +1,25 @@
-"""What `vrptw check` says of texts, which need not stand in files."""
-import fcntl
-import os
-import subprocess
-
+"""Runs of the program, by the module for Python: what can't be started is refused in a tool's line."""
 from reference.texts import tenths
 from tools.certified import refuse_bound
-from tools.stopping import end_with_parent
-from tools.tool import Refused, last_words, told_path
+from tools.tool import Refused, told_path
+from vrptw import Fault, Run, run_check
 
 
-def in_memory(name, text):
-    """A file in memory with a text, and the path by which a process finds it that has it open."""
-    first = os.memfd_create(name)
-    # Not in the place of a standard stream that is closed.
-    stream = fcntl.fcntl(first, fcntl.F_DUPFD_CLOEXEC, 3)
-    with open(first, "wb") as file:
-        file.write(text)
-    return stream, "/proc/self/fd/%d" % stream
+def ran(words, is_over=lambda: False, tell=None):
+    """What came of a run of the program by its words, which is ended once it is over."""
+    try:
+        return Run(words).ended(is_over, tell)
+    except Fault as fault:
+        raise Refused(fault.line)
 
 
 def judged(program, instance, certificate, plan=None):
-    """The line of the check, and what it says on standard error; a plan may be left out."""
-    texts = [instance, certificate] + ([] if plan is None else [plan])
-    files = [in_memory(name, text) for name, text in zip(("instance", "certificate", "plan"), texts)]
-    paths = [path for _, path in files]
-    words = [program, "check", *paths[:2], *(["--solution", paths[2]] if plan is not None else [])]
+    """The line of the check of texts, and what it says on standard error; a plan may be left out."""
     try:
-        came = subprocess.run(words, stdin=subprocess.DEVNULL, capture_output=True, preexec_fn=end_with_parent,
-                              pass_fds=[stream for stream, _ in files])
-    except OSError as fault:
-        raise Refused("%s: %s" % (program, last_words(fault)))
-    finally:
-        for stream, _ in files:
-            os.close(stream)
-    return came.stdout.decode().rstrip("\n"), came.stderr.decode(errors="replace").rstrip("\n")
+        came = run_check(program, instance, certificate, plan)
+    except Fault as fault:
+        raise Refused(fault.line)
+    return came.line, came.fault
 
 
 def demand_verdict(line, fault, path):

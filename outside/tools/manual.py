@@ -1,7 +1,7 @@
 """The manual page of the program, from what its help says and from docs/formats.md."""
 import re
-import subprocess
 
+from tools.judged import ran
 from tools.tool import Refused
 
 SUBCOMMANDS = ("solve", "check")
@@ -21,13 +21,10 @@ def roff(text):
 
 def said(program, *words):
     """The lines that the program prints, which has nothing else to say; another one is refused."""
-    try:
-        came = subprocess.run([program, *words], stdin=subprocess.DEVNULL, capture_output=True)
-    except OSError as fault:
-        refuse(program, fault)
-    if came.returncode or came.stderr:
-        refuse(program, "the status %d of %s" % (came.returncode, " ".join(words)))
-    return came.stdout.decode(errors="backslashreplace").split("\n")
+    came = ran([program, *words])
+    if came.status or came.errors:
+        refuse(program, "the status %d of %s" % (came.status, " ".join(words)))
+    return came.out.decode(errors="backslashreplace").split("\n")
 
 
 def refuse(program, met):

@@ -3,7 +3,6 @@ import time
 
 from reference.texts import read_certificate, read_solution
 from tools import sheets
-from tools.child import tenths_of
 from tools.drawing import plural
 from tools.names import names_of
 from tools.reporting import Report, page, percent, why_not
@@ -24,9 +23,9 @@ class Line:
         self.cost = self.bound = None
 
     def tell(self, planner, came):
-        """Tells how far it is; what came are percent, cost and bound of a round, or None."""
+        """Tells how far it is; what came is the progress of a round, or None."""
         if came:
-            self.cost, self.bound = map(tenths_of, came[1:])
+            self.cost, self.bound = came.cost_tenths, came.bound_tenths
         if not self.telling.is_due():
             return
         cost = min([cost for cost in (planner.cost, self.cost) if cost is not None], default=None)

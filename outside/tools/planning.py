@@ -4,20 +4,17 @@ import time
 from reference.instances import Fault, plan_cost, read
 from reference.texts import TextFault, read_solution
 from tools.carrying import Carried, placed
-from tools.child import Child, verdict_of
-from tools.judged import judged
+from tools.judged import judged, ran
 from tools.names import names_of
 from tools.respelling import certificate, text_of
-from tools.schedule import Schedule
 from tools.standing import CERTIFICATE, INSTANCE, NAMES, PLAN
 from tools.stopping import Patience
 from tools.tool import Refused, count
+from vrptw import NEIGHBOURS, Schedule, verdict_of
 
 START = "start.txt"
 # How many seconds the check of a certificate that stands goes on after a signal, from its start.
 PATIENCE = 3
-# The counts of neighbours that are taken in turn.
-NEIGHBOURS = (8, 12)
 # The options of solve that are handed on, with the least number and the greatest.
 HANDED_ON = (("searchers", 1, 32, "threads that look for a plan"), ("bounders", 1, 32, "threads that raise the bound"),
              ("labels", 1, 10 ** 8, "labels active at once in a pricing"))
@@ -55,14 +52,18 @@ class Planner:
             folder.put_beside(name, text)
         self.is_in_place = folder.held(INSTANCE) == self.texts[INSTANCE]
 
+    def ran(self, words, signals, until, tell=None):
+        """What came of a run of the program, which is broken off by a signal or when the time is over."""
+        return ran(words, lambda: signals.came or time.monotonic() >= until, tell)
+
     def checked(self, certificate_path, plan_path, until, signals=None):
         """What the check says of two texts: kind, cost and bound, all None where they aren't right or it was broken
         off; and its line of a fault."""
         words = [self.given.program, "check", self.folder.beside(INSTANCE), certificate_path]
         words += [] if plan_path is None else ["--solution", plan_path]
-        came = Child(words).came(signals or self.signals, until, lambda told: None)
+        came = self.ran(words, signals or self.signals, until)
         kind, cost, bound = verdict_of(came.line) if came.status in (0, 1) else (None, None, None)
-        return kind, cost, self.instance.ceiling() + 1 if kind == "NO PLAN" else bound, came.errors
+        return kind, cost, self.instance.ceiling() + 1 if kind == "NO PLAN" else bound, came.fault
 
     def stand(self, until):
         """Takes in the texts that stand of this instance, as far as they are right. A signal or the end of the time
@@ -74,7 +75,7 @@ class Planner:
             self.folder.take(NAMES)
         if plan:
             line, fault = judged(self.given.program, self.texts[INSTANCE], certificate(self.instance).encode(), plan)
-            _, self.cost, _ = verdict_of(line + "\n")
+            _, self.cost, _ = verdict_of(line)
             self.note_fault(PLAN, fault)
         if self.cost is not None:
             self.vehicles = plan.count(b"\nRoute #") + 1
@@ -146,7 +147,7 @@ class Planner:
         plan = self.folder.put_beside(PLAN, held(self.start))
         proof = self.folder.put_beside(CERTIFICATE, certificate(self.instance).encode())
         line, fault = judged(self.given.program, *(held(path) for path in (self.folder.beside(INSTANCE), proof, plan)))
-        kind, cost, bound = verdict_of(line + "\n")
+        kind, cost, bound = verdict_of(line)
         if kind is None:
             self.notes.append("the plan to begin with isn't taken: %s" % fault)
             return
@@ -185,12 +186,12 @@ class Planner:
                  "--turns", str(turns), "--neighbours", str(neighbours), "--seed", str(seed % 2 ** 32)]
         start = self.folder.at(PLAN) if self.cost is not None else self.start
         words += self.given.options + (["--start", start] if start else [])
-        came = Child(words).came(self.signals, until, self.tell_of)
+        came = self.ran(words, self.signals, until, self.tell_of)
         if came.status is None:
             return None, None
         kind, cost, _ = verdict_of(came.line)
         if kind is None:
-            return None, came.errors or "the program ended with status %d" % came.status
+            return None, came.fault or "the program ended with status %d" % came.status
         kind, cost, bound, fault = self.checked(proof, None if cost is None else plan, until)
         if kind is None:
             return None, "the check says %s" % fault if fault else None

@@ -1,11 +1,8 @@
-"""Signals that ask to stop, and processes that end with the one that started them."""
-import ctypes
+"""Signals that ask to stop."""
 import signal
 import time
 
 STOPPING = (signal.SIGINT, signal.SIGTERM, signal.SIGHUP)
-# The call of Linux by which a process gets a signal when the one that started it ends.
-PR_SET_PDEATHSIG = 1
 
 
 class Signals:
@@ -40,15 +37,3 @@ def end_by_signals():
     """From now on a signal to stop ends what was started here too, quietly."""
     for number in STOPPING:
         signal.signal(number, leave)
-
-
-def end_with_parent():
-    """In a process that was just started: it ends when its parent does, where the system has that, and by no signal
-    of a terminal before."""
-    try:
-        ctypes.CDLL(None).prctl(PR_SET_PDEATHSIG, int(signal.SIGKILL))
-    except (AttributeError, OSError):
-        pass
-    signal.signal(signal.SIGINT, signal.SIG_IGN)
-    for number in STOPPING[1:]:
-        signal.signal(number, signal.SIG_DFL)
