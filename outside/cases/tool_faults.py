@@ -225,6 +225,14 @@ batch i.txt|required: --into
 batch i.txt --into r --options "--turns x"|met "x", wanted options of solve with numbers
 batch i.txt --into r --options "--turns 0"|0 is not in 1..=1000000
 batch i.txt --into r --options --veh|--veh
+batch i.txt --into r --options "--turns 2 --seconds 3"|met --turns beside --seconds, wanted one of them
+batch i.txt --into r --options --seconds|met --seconds without a number from 1 on
+batch i.txt --into r --options "--seconds=0"|met --seconds without a number from 1 on
+batch i.txt --into r --options "a: --turns 2" --options "a: --turns 3"|met the set a again, wanted each name once
+batch i.txt --into r --options "a: b: --turns 2"|met "b:", wanted options of solve with numbers
+batch i.txt --into r --options "--seed 3" --seeds 1,2|met --seed beside --seeds, wanted one of them
+batch i.txt --into r --seeds 1,2,1|met "1,2,1", wanted seeds as 1,2,7 or 1-5, each once
+batch i.txt --into r --seeds 3-1|met "3-1"
 batch i.txt --into r --engine parallel|go together
 batch i.txt --into r --wait|go with --engine slurm
 batch i.txt --into r --jobs 0|met "0"

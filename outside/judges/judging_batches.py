@@ -9,11 +9,20 @@ from judges.running import demand, got, put, run_check
 # What may be changed between two calls: nothing; a step that isn't done; a text; the instance as it is given, or the
 # one in the folder of its step.
 KINDS = ("nothing", "broken", "plan", "certificate", "instance", "other")
+# Sets of options, as words, and the columns that they make.
+FEW = "--searchers 1 --bounders 1"
+SETS = [
+    (["--options", "--turns 2 " + FEW], [""]),
+    (["--options", "--seconds 2 --neighbours 8 " + FEW], [""]),
+    (["--options", "--turns 2 " + FEW, "--seeds", "1-2"], ["s1", "s2"]),
+    (["--options", "one: --turns 1 " + FEW, "--options", "rounds: --seconds=1 --gap 900 " + FEW], ["one", "rounds"]),
+    (["--options", "--turns=1", "--options", "b: --close", "--seeds", "7"], ["1.s7", "b.s7"]),
+]
 NAMES = ["a", "b 1", "c-2.5", "\u00e9", "_x", "d.txt", "-e", "0"]
 
 
 def table_of(into):
-    """The rows of the table, by the place of the instance among the names of the files."""
+    """The rows of the table, in the order of the files and the columns."""
     with open(os.path.join(into, "table.csv"), encoding="utf-8", newline="") as file:
         return list(csv.DictReader(file))
 
@@ -24,9 +33,14 @@ def done_in(into):
             if os.path.exists(os.path.join(into, name, "done.txt"))}
 
 
+def step_of(row):
+    """The name of the step of a row."""
+    return row["instance"] + ("@" + row["set"] if row["set"] else "")
+
+
 def judge_row(program, folder, text, row, into):
     """A row of the table tells what the check says of the texts that are there."""
-    own = os.path.join(into, row["instance"])
+    own = os.path.join(into, step_of(row))
     plan, certificate = got(os.path.join(own, "plan.txt")), got(os.path.join(own, "certificate.txt"))
     line, errors, _ = run_check(program, folder, text, certificate, plan or None)
     if not line:
@@ -37,6 +51,10 @@ def judge_row(program, folder, text, row, into):
              "NO": ["NO PLAN", "", ""]}[kind]
     demand([row["status"], row["cost"], row["bound"]] == right, "%r, and the check says %r" % (row, line))
     demand(int(row["leaves"]) == certificate.count(b"\nP "), "leaves of %r" % row)
+    cost, bound = (float(word) if word else None for word in (row["cost"], row["bound"]))
+    part = "" if cost is None else 100 * (cost - bound) / cost if cost else 0
+    demand(row["gap"] == part or abs(float(row["gap"]) - part) < 1e-5, "gap of %r" % row)
+    demand(float(row["seconds"]) >= 0 and row["machine"] == os.uname().nodename, "%r" % row)
 
 
 def changed(random, into, files, names):
@@ -52,7 +70,7 @@ def changed(random, into, files, names):
         # The instance in the folder of the step is another one, as a machine may have changed it.
         put(os.path.join(own, "instance.txt"), b"x")
     elif kind == "instance":
-        path = files[names.index(name)]
+        path = files[names.index(name.split("@")[0])]
         put(path, got(path) + b"\n ")
     return kind, name
 
@@ -75,8 +93,18 @@ def judge_liar(program, folder, words):
     demand(status == 0 and errors.count("is solved anew: wrong: ") == len(told), "spoiled: %d, %r" % (status, errors))
 
 
+def judge_table(out, errors, status, rows, files, columns):
+    """A table of all steps, in order, with a column for each set of options."""
+    demand((status, len(rows)) == (0, len(files) * len(columns)), "batch: status %d, %r, %r" % (status, out, errors))
+    demand([row["set"] for row in rows] == columns * len(files), "columns: %r" % rows)
+    lines = out.decode().split("\n")
+    told = lines[0].split()[2:-3:2] if columns != [""] else [""]
+    demand(told == columns, "columns: %r" % lines[0])
+    return rows[::len(columns)]
+
+
 def judge_batch(program, folder, random):
-    """A batch, perhaps by a machine that lies first, and once more after a change."""
+    """A batch of some columns, perhaps by a machine that lies first, and once more after a change."""
     source, into, texts, files = os.path.join(folder, "in"), os.path.join(folder, "runs"), [], []
     os.mkdir(source)
     for name in sorted(random.sample(NAMES, random.randint(1, 4))):
@@ -84,26 +112,33 @@ def judge_batch(program, folder, random):
         texts.append(laid_out(random, instance_words(random, random.randint(1, 6))))
         put(files[-1], texts[-1])
     put(os.path.join(source, "notes.txt"), b"no instance")
-    words = [source, "--into", into, "--program", program, "--jobs", str(random.randint(1, 3)),
-             "--options", "--turns 2 --searchers 1 --bounders 1"]
+    sets, columns = random.choice(SETS)
+    words = [source, "--into", into, "--program", program, "--jobs", str(random.randint(1, 3))] + sets
     is_spoiled = random.randrange(4) == 0
     if is_spoiled:
         judge_liar(program, folder, words)
     out, errors, status = tool("batch", *words)
     rows = table_of(into)
-    demand((status, len(rows)) == (0, len(files)), "batch: status %d, %r, %r" % (status, out, errors))
+    names = [row["instance"] for row in judge_table(out, errors, status, rows, files, columns)]
     demand("notes.txt is passed over" in errors, "what isn't an instance isn't noted: %r" % errors)
-    for row, text in zip(rows, texts):
-        judge_row(program, folder, text, row, into)
-    before, names = done_in(into), [row["instance"] for row in rows]
+    for row in rows:
+        judge_row(program, folder, texts[names.index(row["instance"])], row, into)
+    before = done_in(into)
     kind, name = changed(random, into, files, names)
+    # The folder keeps the options.
+    words = words if random.randrange(2) else words[:-len(sets)]
+    standing = tool("batch", *words, "--status")
     out, errors, status = tool("batch", *words)
     after, rows = done_in(into), table_of(into)
-    again = [other for other in names if after[other] != before[other]]
-    demand(again == ([] if kind == "nothing" else [name]), "%s: done again: %r" % (kind, again))
+    demand(standing[0] == out or kind != "nothing", "--status: %r, and then %r" % (standing, out))
+    again = [other for other in before if after[other] != before[other]]
+    right = [] if kind == "nothing" else [name] if kind != "instance" else [
+        other for other in before if other.split("@")[0] == name.split("@")[0]]
+    demand(sorted(again) == sorted(right), "%s: done again: %r" % (kind, again))
     demand(("has another text" in errors) == (kind in ("instance", "other")), "%s: %r" % (kind, errors))
     demand(("is solved anew: wrong" in errors) == (kind in ("plan", "certificate")), "%s: %r" % (kind, errors))
     demand(status == 0, "%s: status %d, %r" % (kind, status, errors))
-    for row, file in zip(rows, files):
-        judge_row(program, folder, got(file), row, into)
+    judge_table(out, errors, status, rows, files, columns)
+    for row in rows:
+        judge_row(program, folder, got(files[names.index(row["instance"])]), row, into)
     return kind + (", spoiled before" if is_spoiled else "")

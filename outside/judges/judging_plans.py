@@ -14,7 +14,7 @@ from reference.instances import plan_cost, read, route_cost, walk_times
 from reference.pricing import leaves
 from reference.texts import read_certificate, shown
 from tools.names import table_of
-from tools.timing import Stop
+from tools.timing import Stop, Sums
 
 NAMES = ["Café", "a & b", "<School>", 'the "Mill"', "O'Neill", "", "x" * 60, "\u65e5\u672c", "\U0001f600", "]]>", "--"]
 
@@ -97,9 +97,10 @@ def by_walk(instance, place, route):
 def judge_object(text, stops, sums):
     """The object has the numbers of the table."""
     told = json.loads(text)
-    right = [{"route": int(place), **valued(("distance", "duration", "waiting"), row),
-              "stops": [valued(Stop._fields, stop[1:]) for stop in stops if stop[0] == place]} for place, *row in sums[:-1]]
-    demand(told == {"routes": right, "plan": valued(("distance", "duration", "waiting"), sums[-1][1:])}, "%r" % told)
+    right = [{"route": int(place), **valued(Sums._fields, row),
+              "stops": [valued(Stop._fields, stop[1:]) for stop in stops if stop[0] == place]}
+             for place, *row in sums[:-1]]
+    demand(told == {"routes": right, "plan": valued(Sums._fields, sums[-1][1:])}, "%r" % told)
 
 
 def valued(names, words):

@@ -1,5 +1,5 @@
-"""What the trials of the engines of batch have in common: twelve instances, a run that is broken off and goes on, and
-the processes that a trial starts."""
+"""What the trials of the engines of batch have in common: six instances by two seeds, a run that is broken off and goes
+on, and the processes that a trial starts."""
 import os
 import shutil
 import signal
@@ -12,11 +12,11 @@ import time
 from tools.places import TOP
 
 # The files whose first customers are the instances, and how many customers each has.
-SOURCES, COUNTS = ("c1_25", "rc1_100"), (10, 14, 18, 20, 22, 24)
+SOURCES, COUNTS = ("c1_25", "rc1_100"), (10, 18, 24)
 # Where the header of an example ends, in lines: behind it stands the depot's row.
 HEADER = 6
-# So many turns of so few customers take a second or some.
-OPTIONS = "--turns 20000 --searchers 1 --bounders 1"
+# So many turns of so few customers take a second or some; with two seeds there are twelve steps.
+SETS = ["--options", "--turns 20000 --searchers 1 --bounders 1", "--seeds", "1,2"]
 LONGEST = 300
 
 
@@ -46,7 +46,7 @@ def needed(told, programs, packages):
 
 
 def instances(folder):
-    """Twelve instances: the first customers of two examples."""
+    """Six instances: the first customers of two examples."""
     os.makedirs(folder)
     for name in SOURCES:
         with open(os.path.join(TOP, "examples", name + ".txt"), encoding="ascii") as file:
@@ -153,7 +153,7 @@ def trial(work, **given):
     try:
         instances(os.path.join(folder, "instances"))
         work(folder, services)
-        print("twelve instances, broken off and gone on: right", flush=True)
+        print("twelve steps, broken off and gone on: right", flush=True)
     finally:
         services.stop()
         shutil.rmtree(folder, ignore_errors=True)

@@ -1,4 +1,4 @@
-"""The table of a batch, as text and as CSV."""
+"""The table of a batch, as text and as CSV, beside best known costs where some are given."""
 import csv
 import io
 from collections import Counter
@@ -11,22 +11,28 @@ COLUMNS = ("instance", "customers", "cost", "bound", "gap", "leaves", "seconds",
 BEST_COLUMNS = ("best known", "above")
 
 
+def tenths_of(word):
+    return None if word is None else tenths(word.encode())
+
+
+def part(more, whole):
+    """A difference in percent of the whole, or None."""
+    return None if more is None else 100 * more / whole if whole else 0.0
+
+
+def percent(value):
+    return "" if value is None else "%.2f %%" % value
+
+
 def gap(outcome):
-    """The gap as a part of the cost."""
-    if outcome.cost is None or outcome.bound is None:
-        return ""
-    cost, bound = float(outcome.cost), float(outcome.bound)
-    return "%.2f %%" % (100 * (cost - bound) / cost if cost else 0)
+    """The gap in percent of the cost, or None."""
+    cost, bound = tenths_of(outcome.cost), tenths_of(outcome.bound)
+    return None if cost is None or bound is None else part(cost - bound, cost)
 
 
-def cells(step):
-    """What is known of a step, as words; of one that isn't done its status alone."""
-    outcome = step.outcome
-    if outcome is None:
-        return [step.name, str(step.count), "", "", "", "", "", "not done"]
-    bound = "" if outcome.bound is None or outcome.status == "NO PLAN" else outcome.bound
-    return [step.name, str(step.count), outcome.cost or "", bound, gap(outcome),
-            "" if outcome.leaves is None else str(outcome.leaves), "%.1f" % outcome.seconds, outcome.status]
+def bound_of(outcome):
+    """The bound, which tells nothing where there is no plan."""
+    return "" if outcome.bound is None or outcome.status == "NO PLAN" else outcome.bound
 
 
 def best_known(text):
@@ -46,55 +52,141 @@ def best_known(text):
 def above(step, best):
     """How many tenths a step's cost is above the best known one, or None."""
     outcome = step.outcome
-    if outcome is None or outcome.cost is None or step.name not in best:
+    if outcome is None or outcome.cost is None or step.instance not in best:
         return None
-    return tenths(outcome.cost.encode()) - best[step.name]
+    return tenths_of(outcome.cost) - best[step.instance]
 
 
-def beside(step, best, sign=" %"):
-    """The cells of the best known cost."""
-    known, more = best.get(step.name), above(step, best)
-    return ["" if known is None else shown(known), "" if more is None else "%.2f%s" % (100 * more / known, sign)]
+def above_part(step, best):
+    """The same in percent, or None."""
+    return part(above(step, best), best.get(step.instance))
 
 
 def compared(steps, best):
     """How many of the best known costs were met, and how many plans are cheaper."""
-    found = [above(step, best) for step in steps if step.name in best]
+    found = [above(step, best) for step in steps if step.instance in best]
     met, better = sum(more == 0 for more in found), sum(more is not None and more < 0 for more in found)
-    return "%d best known costs: %d met, %d better\n" % (len(found), met, better)
+    return "%d best known costs: %d met, %d better" % (len(found), met, better)
 
 
 def too_low(steps, best):
     """Notes of best known costs that no plan of the instance has."""
     return ["no plan of %s costs %s, which --best has: each costs at least %s" % (
-        step.name, shown(best[step.name]), step.outcome.bound) for step in steps
-            if step.name in best and step.outcome and step.outcome.bound is not None
-            and best[step.name] < tenths(step.outcome.bound.encode())]
+        step.name, shown(best[step.instance]), step.outcome.bound) for step in steps
+            if step.instance in best and step.outcome and step.outcome.bound is not None
+            and best[step.instance] < tenths_of(step.outcome.bound)]
 
 
-def table(steps, best, sign=" %"):
-    """The rows with the heading; two columns more where best known costs are given."""
-    rows = [list(COLUMNS)] + [cells(step) for step in steps]
-    if best is None:
-        return rows
-    more = [list(BEST_COLUMNS)] + [beside(step, best, sign) for step in steps]
-    return [row[:-1] + two + row[-1:] for row, two in zip(rows, more)]
+def status(step):
+    """The verdict, or what is known in its place."""
+    return step.state if step.outcome is None else step.outcome.status
+
+
+def cells(step, best):
+    """What is known of a step, as words; of one that isn't done its state alone."""
+    outcome = step.outcome
+    found = [""] * 5 if outcome is None else [
+        outcome.cost or "", bound_of(outcome), percent(gap(outcome)),
+        "" if outcome.leaves is None else str(outcome.leaves), "%.1f" % outcome.seconds]
+    if best is not None:
+        known = best.get(step.instance)
+        found += ["" if known is None else shown(known), percent(above_part(step, best))]
+    return [step.instance, str(step.count), *found, status(step)]
+
+
+def table(steps, best):
+    """The rows of one column, with the heading."""
+    more = () if best is None else BEST_COLUMNS
+    return [[*COLUMNS[:-1], *more, COLUMNS[-1]]] + [cells(step, best) for step in steps]
+
+
+def by_instance(steps):
+    """Lists of the steps of each instance, in the order of the columns."""
+    found = {}
+    for step in steps:
+        found.setdefault(step.instance, []).append(step)
+    return list(found.values())
+
+
+def side_by_side(steps, best):
+    """The rows of several columns: cost and gap of each, then the least cost, the highest bound and their gap."""
+    labels = [step.column.label for step in by_instance(steps)[0]]
+    rows = [["instance", "customers"] + ([] if best is None else ["best known"]) + [
+        word for label in labels for word in (label, "gap")] + ["least", "bound", "gap"]]
+    for group in by_instance(steps):
+        known = None if best is None else best.get(group[0].instance)
+        row = [group[0].instance, str(group[0].count)] + (
+            [] if best is None else ["" if known is None else shown(known)])
+        for step in group:
+            outcome = step.outcome
+            has_plan = outcome is not None and outcome.cost is not None
+            row += [outcome.cost, percent(gap(outcome))] if has_plan else [status(step).split(":")[0], ""]
+        found = [step.outcome for step in group if step.outcome is not None]
+        cost = min((tenths_of(outcome.cost) for outcome in found if outcome.cost is not None), default=None)
+        bound = max((tenths_of(bound_of(outcome)) for outcome in found if bound_of(outcome)), default=None)
+        both = cost is not None and bound is not None
+        rows.append(row + ["" if cost is None else shown(cost), "" if bound is None else shown(bound),
+                           percent(part(cost - bound, cost) if both else None)])
+    return rows
+
+
+def counted(steps):
+    """How many steps have which verdict or state."""
+    kinds = Counter(status(step).split(":")[0] for step in steps)
+    return ", ".join("%d %s" % (count, kind) for kind, count in sorted(kinds.items()))
+
+
+def mean(values):
+    """The mean of what is known, in percent, or None."""
+    found = [value for value in values if value is not None]
+    return sum(found) / len(found) if found else None
+
+
+def column_line(label, steps, best):
+    """What came of a column, in a line: verdicts, the mean gap, the seconds, and how far it is above the best known."""
+    done = [step.outcome for step in steps if step.outcome is not None]
+    told = ["%s (%s): %s" % (label, " ".join(steps[0].column.words) or "defaults", counted(steps))]
+    gaps = mean(map(gap, done))
+    told += ["mean gap %s" % percent(gaps)] if gaps is not None else []
+    told += ["%.1f s" % sum(outcome.seconds for outcome in done)] if done else []
+    if best is not None:
+        more = mean(above_part(step, best) for step in steps)
+        told += [compared(steps, best)] + (["%s above in the mean" % percent(more)] if more is not None else [])
+    return ", ".join(told)
 
 
 def aligned(steps, best=None):
-    """The name left, the numbers right, and below how many have which verdict."""
-    rows = table(steps, best)
+    """The name left, the numbers right, and below how many have which verdict: of several columns a line each."""
+    is_one = not steps[0].column.label
+    rows = table(steps, best) if is_one else side_by_side(steps, best)
     wide = [max(len(row[place]) for row in rows) for place in range(len(rows[0]))]
-    lines = ["  ".join([first.ljust(wide[0]), *map(str.rjust, rest, wide[1:-1]), last]) for first, *rest, last in rows]
-    kinds = Counter("not done" if step.outcome is None else step.outcome.status.split(":")[0] for step in steps)
-    told = ", ".join("%d %s" % (count, kind) for kind, count in sorted(kinds.items()))
-    return "\n".join(lines) + "\n%d instances: %s\n" % (len(steps), told) + (
-        "" if best is None else compared(steps, best))
+    ends = [*wide[1:-1], 0 if is_one else wide[-1]]
+    lines = ["  ".join([first.ljust(wide[0]), *map(str.rjust, rest, ends)]).rstrip() for first, *rest in rows]
+    if is_one:
+        lines += ["%d instances: %s" % (len(steps), counted(steps))] + (
+            [] if best is None else [compared(steps, best)])
+    else:
+        lines += [column_line(group[0].column.label, group, best) for group in zip(*by_instance(steps))]
+    return "\n".join(lines) + "\n"
+
+
+def value(number):
+    """A number for a program: at most six decimals."""
+    return "" if number is None else ("%.6f" % number).rstrip("0").rstrip(".")
 
 
 def separated(steps, best=None):
-    heading, *rows = table(steps, best, "")
+    """A row for each step, with numbers alone where numbers stand; gap and above are in percent."""
+    more = () if best is None else BEST_COLUMNS
+    rows = [["instance", "set", *COLUMNS[1:-1], *more, COLUMNS[-1], "machine"]]
+    for step in steps:
+        outcome, known = step.outcome, (best or {}).get(step.instance)
+        row = [step.instance, step.column.label, step.count] + ([""] * 5 if outcome is None else [
+            outcome.cost or "", bound_of(outcome), value(gap(outcome)),
+            "" if outcome.leaves is None else outcome.leaves, value(outcome.seconds)])
+        if best is not None:
+            row += ["" if known is None else shown(known), value(above_part(step, best))]
+        rows.append(row + [status(step), outcome.machine if outcome else ""])
     found = io.StringIO()
-    csv.writer(found, lineterminator="\n").writerows([[*heading, "machine"]] + [
-        row + [step.outcome.machine if step.outcome else ""] for row, step in zip(rows, steps)])
+    csv.writer(found, lineterminator="\n").writerows(rows)
     return found.getvalue()

@@ -1,4 +1,4 @@
-"""The steps of a batch: an instance, a folder, a command that can be run again; and what is known of each."""
+"""The steps of a batch: an instance, a column, a folder, a command that can be run again; and what is known of each."""
 import hashlib
 import os
 import re
@@ -6,7 +6,8 @@ import shutil
 
 from reference.instances import read
 from reference.texts import TextFault, read_certificate, read_solution, shown
-from tools.judged import judged, ran
+from tools.batch_columns import OPTIONS
+from tools.judged import judged
 from tools.places import OUTSIDE
 from tools.plans import of_ours
 from tools.tool import Refused, Text, last_words
@@ -15,7 +16,12 @@ from tools.tool import Refused, Text, last_words
 ANSWERS = ("plan.txt", "certificate.txt", "line.txt", "errors.txt", "done.txt")
 DONE = re.compile(r"([0-9]{1,3}) ([0-9]{1,12}) (\S{1,255})\n\Z")
 VERDICT = re.compile(r"(BEST|GAP|BOUND|NO PLAN)( [0-9.]+)?( [0-9.]+)?\n\Z")
-WORD = re.compile(r"--[a-z]+(=[0-9]{1,12})?\Z|[0-9]{1,12}\Z")
+# What the machine said of a step, as far as it says something.
+MACHINE_LOG = "log.txt"
+# The names of the steps that an engine runs, a line each.
+LIST = "steps.txt"
+# The state of a step of which nothing else is known.
+NOT_DONE = "not done"
 
 
 def content(path):
@@ -49,12 +55,12 @@ class Outcome:
 
 
 class Step:
-    """An instance of a batch, and its folder."""
+    """An instance of a batch in a column, and its folder; the state is what is known as long as it isn't done."""
 
-    def __init__(self, source, text, folder):
-        self.source, self.held, self.folder = source, text.held, folder
-        self.name, self.count = os.path.basename(folder), of_ours(text, read, "an instance").count
-        self.outcome = None
+    def __init__(self, source, text, into, instance, column):
+        self.source, self.held, self.instance, self.column = source, text.held, instance, column
+        self.name, self.count = column.step(instance), of_ours(text, read, "an instance").count
+        self.folder, self.outcome, self.state = os.path.join(into, self.name), None, NOT_DONE
 
     def path(self, name):
         return os.path.join(self.folder, name)
@@ -72,7 +78,7 @@ class Step:
     def clear(self):
         """Takes away what was done, what says so first."""
         self.outcome = None
-        for name in ANSWERS[::-1] + ("checked.txt",):
+        for name in ANSWERS[::-1] + ("checked.txt", MACHINE_LOG):
             if os.path.exists(self.path(name)):
                 os.remove(self.path(name))
 
@@ -144,8 +150,8 @@ def sources_of(paths):
     return found, notes
 
 
-def steps_of(paths, into):
-    """A step for each instance, named after its file, and notes."""
+def steps_of(paths, into, columns):
+    """A step for each instance, named after its file, and each column, and notes."""
     steps, taken = [], {}
     found, notes = sources_of(paths)
     for path, text in found:
@@ -154,35 +160,22 @@ def steps_of(paths, into):
         if name in taken:
             raise Refused("%s: met the name %s again, after %s, wanted each name once" % (path, name, taken[name]))
         taken[name] = path
-        steps.append(Step(path, text, os.path.join(into, name)))
+        steps += [Step(path, text, into, name, column) for column in columns]
     return steps, notes
 
 
-def prepared(steps, into, options, program):
-    """Lays out the folder of a batch; answers what is noted. One with other options is refused."""
+def prepared(steps, into, columns, program):
+    """Lays out the folder of a batch; answers what is noted."""
     try:
         os.makedirs(into, exist_ok=True)
     except OSError as fault:
         raise Refused("%s: %s" % (into, last_words(fault)))
-    kept, told = os.path.join(into, "options"), " ".join(options) + "\n"
-    if os.path.exists(kept) and content(kept).decode(errors="replace") != told:
-        raise Refused("%s: line 1: met \"%s\", wanted \"%s\", or another folder by --into" % (
-            kept, content(kept).decode(errors="replace").split("\n")[0], told[:-1]))
-    put(kept, told.encode())
+    put(os.path.join(into, OPTIONS), "".join(column.line() for column in columns).encode())
     for name, source in (("program", program), ("step", os.path.join(OUTSIDE, "tools", "step"))):
         put(os.path.join(into, name), content(source))
         os.chmod(os.path.join(into, name), 0o755)
-    changed = [step.source for step in steps if step.prepare()]
+    changed = dict.fromkeys(step.source for step in steps if step.prepare())
     return ["%s has another text than before, and is solved anew" % path for path in changed]
-
-
-def refuse_words(program, options):
-    """Why the program doesn't take these options, in one line, or None. With equal paths it does nothing else."""
-    wrong = [word for word in options if not WORD.match(word)]
-    if wrong:
-        return "met \"%s\", wanted options of solve with numbers" % wrong[0]
-    came = ran([program, "solve", "-", "-", "-", *options])
-    return came.fault.split("\n")[0] if came.status == 2 else None
 
 
 def found_tool(name, package):

@@ -1,16 +1,25 @@
-"""What runs the steps of a batch: this machine, GNU parallel on machines by ssh, or an array of jobs of Slurm."""
+"""What runs the steps of a batch: this machine, GNU parallel on machines by ssh, or Slurm."""
 import hashlib
 import os
+import shlex
+import shutil
+import signal
 import subprocess
+import tempfile
 import threading
 from queue import Empty, Queue
 
-from tools.batching import ANSWERS, content, found_tool, put
+from tools.batching import ANSWERS, LIST, found_tool, put
+from tools.slurm import Waiting, slurm
 from tools.tool import Refused, Text
 
-# The jobs of one array at most, below what Slurm's default allows.
-MOST_JOBS = 1000
-LIST, LOG, JOBS = "steps.txt", "engine.txt", "slurm_jobs.txt"
+LOG = "engine.txt"
+# How many seconds a program of others may take to end.
+PATIENCE = 20
+# ssh by one connection a machine, which stays open for some seconds behind its last use.
+ONE_CONNECTION = """#!/bin/sh
+exec %s -o ControlMaster=auto -o ControlPersist=15 -o ControlPath=%s/%%C "$@"
+"""
 
 
 class Here:
@@ -42,39 +51,45 @@ class Here:
     def stop(self):
         self.is_stopped = True
         for child in list(self.children):
-            end_group(child)
+            # A step in rounds would else count as done.
+            end_group(child, signal.SIGKILL)
 
 
 class Command:
     """A program of others that runs the steps; what it says is kept in a file."""
 
     def __init__(self, into, words):
+        self.folder = tempfile.mkdtemp(prefix="vrptw_ssh_")
+        own, ssh = os.path.join(self.folder, "ssh"), shutil.which("ssh")
+        if ssh:
+            put(own, (ONE_CONNECTION % (shlex.quote(ssh), shlex.quote(self.folder))).encode())
+            os.chmod(own, 0o700)
+        environment = {**os.environ, "PATH": self.folder + os.pathsep + os.environ.get("PATH", os.defpath)}
         with open(os.path.join(into, LOG), "ab") as log:
             self.child = subprocess.Popen(words, cwd=into, stdin=subprocess.DEVNULL, stdout=log, stderr=log,
-                                          start_new_session=True)
+                                          start_new_session=True, env=environment)
 
     def is_running(self):
-        return self.child.poll() is None
-
-    def stop(self):
-        end_group(self.child)
-
-
-def end_group(child):
-    """Ends a process that was started here, and those that it started."""
-    try:
-        os.killpg(child.pid, 15)
-    except ProcessLookupError:
-        pass
-
-
-class Waiting:
-    """Jobs that were started, and that nobody waits for."""
-
-    def is_running(self):
+        if self.child.poll() is None:
+            return True
+        shutil.rmtree(self.folder, ignore_errors=True)
         return False
 
     def stop(self):
+        end_group(self.child, signal.SIGTERM)
+        try:
+            self.child.wait(PATIENCE)
+        except subprocess.TimeoutExpired:
+            end_group(self.child, signal.SIGKILL)
+            self.child.wait()
+        shutil.rmtree(self.folder, ignore_errors=True)
+
+
+def end_group(child, number):
+    """Ends a process that was started here, and those that it started."""
+    try:
+        os.killpg(child.pid, number)
+    except ProcessLookupError:
         pass
 
 
@@ -106,65 +121,10 @@ def parallel(into, names, given):
     return Command(into, words + (["--jobs", str(given.jobs)] if given.jobs else []) + ["./step", "{}", "::::", LIST])
 
 
-def still_there(into):
-    """The jobs of Slurm of an earlier call that haven't ended."""
-    jobs = content(os.path.join(into, JOBS)).decode().split()
-    if not jobs:
-        return []
-    came = subprocess.run(["squeue", "--noheader", "--format", "%F", "--jobs", ",".join(jobs)], capture_output=True)
-    left = set(came.stdout.decode().split())
-    return [job for job in jobs if job in left] if came.returncode == 0 else []
-
-
-SCRIPT = """#!/bin/sh
-# One job of an array: the step that its number says.
-name=$(sed -n "$((SLURM_ARRAY_TASK_ID + %d))p" steps.txt)
-exec ./step "$name"
-"""
-
-
-def slurm(into, names, given):
-    """Slurm: arrays of jobs, one for each step, in a folder that all nodes see; answers the engine and notes."""
-    found_tool("sbatch", "slurm-client")
-    left = still_there(into)
-    if left:
-        return Waiting(), ["job %s of an earlier call hasn't ended; none is started" % ", ".join(left)]
-    put(os.path.join(into, LIST), "".join(name + "\n" for name in names).encode())
-    jobs, engines = [], []
-    for first in range(0, len(names), MOST_JOBS):
-        count = min(MOST_JOBS, len(names) - first)
-        script = os.path.join(into, "job_%d.sh" % first)
-        put(script, (SCRIPT % first).encode())
-        limit = "%%%d" % given.jobs if given.jobs else ""
-        words = ["sbatch", "--parsable", "--job-name", "vrptw", "--array", "1-%d%s" % (count, limit),
-                 "--output", "/dev/null", "--error", "/dev/null", *given.slurm_options, os.path.basename(script)]
-        came = subprocess.run(words, cwd=into, capture_output=True)
-        if came.returncode:
-            raise Refused("sbatch: %s" % came.stderr.decode(errors="replace").strip())
-        jobs.append(came.stdout.decode().strip().split(";")[0])
-        put(os.path.join(into, JOBS), "".join(job + "\n" for job in jobs).encode())
-    if not given.wait:
-        return Waiting(), ["job %s is started; the same words again show the table" % ", ".join(jobs)]
-    return Jobs(into, jobs), []
-
-
-class Jobs:
-    """Jobs of Slurm that are waited for."""
-
-    def __init__(self, into, jobs):
-        self.into, self.jobs = into, jobs
-
-    def is_running(self):
-        return bool(still_there(self.into))
-
-    def stop(self):
-        """The jobs go on: who comes back finds what they did."""
-
-
 def started(into, names, given):
     """The engine of these steps, and what is noted."""
     if not names:
-        return Waiting(), []
+        return Waiting(False), []
     if given.engine == "slurm":
         return slurm(into, names, given)
     if given.engine == "parallel":
