@@ -178,6 +178,7 @@ report small.txt p.txt -o r.html|p.txt|1|met a route with a load of 2, and a veh
 report i.txt empty.txt -o r.html|empty.txt|1|an empty file
 report i.txt p.txt high.txt -o r.html|high.txt|5|met a bound of 0.1, wanted that of the tree, 0.0
 report i.txt empty.txt high.txt -o r.html|high.txt|5|met a bound of 0.1
+report i.txt p.txt k.txt --fewest nowhere -o r.html|nowhere|0|met no folder, wanted that of --into
 report other.txt p.txt k.txt -o r.html|k.txt|2|another instance
 report i.txt p.txt --names names2.csv -o r.html|names2.csv|3|no name of number 2
 report i.txt p.txt -o p.txt|p.txt|0|met the file that is read, wanted another one to write

@@ -7,9 +7,9 @@ from cases.edges import edge_words
 from cases.random_texts import laid_out
 from judges.judging_layouts import tool
 from judges.running import demand, got, put
-from reference.instances import Instance, read
+from reference.instances import Instance, is_plan, read
 from reference.optimum import least_cost
-from reference.texts import tenths
+from reference.texts import read_solution, tenths
 
 MOST_CUSTOMERS = 8
 # Where the fleet stands among an instance's words, and by how many vehicles more it may be larger.
@@ -58,6 +58,32 @@ def change(random, into):
     return True
 
 
+def judge_planned(program, folder, source, instance):
+    """The same instance by `plan --fewest`: the fewest vehicles at the least cost, on the page too, or no plan; and `report`."""
+    into, (fewest, cost) = os.path.join(folder, "planned"), fewest_of(instance)
+    out, errors, status = tool("plan", source, "--into", into, "--program", program, "--fewest", "--seconds", "20",
+                               "--searchers", "1", "--bounders", "1")
+    told = out.decode()
+    if fewest is None:
+        is_told = told.startswith(("There is no plan", "No plan was found"))
+        demand(status == 1 and is_told, "plan: %r, %r" % (told, errors))
+        return
+    demand(status == 0, "plan: %r, %r" % (told, errors))
+    own, plan = (got(os.path.join(into, name)) for name in ("instance.txt", "plan.txt"))
+    own, (routes, its) = read(own), read_solution(plan)
+    demand(is_plan(own, routes) and own.rows == instance.rows and own.fleet >= fewest, "plan: %r" % told)
+    if "no plan with so few is shorter" not in told or "Fewer vehicles don't do" not in told and fewest > 1:
+        demand("isn't known" in told or "saves at most" in told, "plan: %r" % told)
+        return
+    demand((len(routes), own.fleet, its) == (fewest, fewest, cost), "plan: %r, and the fewest are %d at %d" % (
+        told, fewest, cost))
+    paths = [os.path.join(into, name) for name in ("instance.txt", "plan.txt", "certificate.txt")]
+    page, errors, status = tool("report", *paths, "--program", program, "--fewest", os.path.join(into, "fewest"))
+    demand((errors, status) == ("", 0), "report: %r" % errors)
+    for held in (page, got(os.path.join(into, "report.html"))):
+        demand((b"Fewer vehicles don" in held) == (fewest > 1), "the page says nothing of fewer vehicles")
+
+
 def judge_fewest(program, folder, random):
     """A run, the same by --check, and perhaps one with a text that was changed."""
     words = edge_words(random, random.randint(1, MOST_CUSTOMERS))
@@ -76,6 +102,8 @@ def judge_fewest(program, folder, random):
     if random.randrange(4) == 0 and kind in ("BEST", "NO PLAN"):
         again = tool("fewest", *solving)
         demand(again == (out, "", status), "the same words: %r, after %r" % (again, out))
+    if random.randrange(3) == 0:
+        judge_planned(program, folder, source, instance)
     if random.randrange(4) == 0 and change(random, into):
         out, errors, status = tool("fewest", *began, "--check")
         demand((out, status) == (b"", 1) and "vrptw check says" in errors, "taken: %r, %r" % (out, errors))

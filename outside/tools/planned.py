@@ -56,7 +56,9 @@ def report_of(planner):
     if routes is None and certificate is None:
         return None
     paths = [INSTANCE] + ([CERTIFICATE] if certificate else []) + ([PLAN] if routes else [])
-    return Report(instance, names, routes, cost, certificate, None, paths)
+    report = Report(instance, names, routes, cost, certificate, None, paths)
+    report.fewest = planner.fewest
+    return report
 
 
 def finish(planner, has_sheets, report=None):
@@ -113,9 +115,10 @@ def sentence(planner, units, whom=None):
     told = "%s %s and %s %s" % (plural(planner.vehicles, "vehicle"), *(
         ("serves " + whom, "drives") if planner.vehicles == 1 else ("serve " + whom, "drive")),
         measured(units, planner.cost))
+    few = " with so few" if planner.fewest else ""
     if planner.kind == "BEST":
-        return told + ", and no plan is shorter.\n"
+        return told + ", and no plan%s is shorter.\n" % few
     if not planner.bound:
-        return told + ", and how much shorter a plan may be isn't known yet.\n"
-    return told + ", and the shortest plan saves at most %s of that.\n" % percent(
-        planner.cost - planner.bound, planner.cost)
+        return told + ", and how much shorter a plan%s may be isn't known yet.\n" % few
+    return told + ", and the shortest plan%s saves at most %s of that.\n" % (
+        few, percent(planner.cost - planner.bound, planner.cost))

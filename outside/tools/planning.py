@@ -47,6 +47,8 @@ class Planner:
         self.folder, self.instance, self.given, self.signals, self.tell = folder, instance, given, signals, tell
         self.keeps_before, self.is_unread = keeps_before, False
         self.cost = self.bound = self.vehicles = self.kind = self.start = None
+        # What the pages say of fewer vehicles.
+        self.fewest = ""
         self.notes, self.texts = [], dict(zip((INSTANCE, NAMES), texts))
         for name, text in self.texts.items():
             folder.put_beside(name, text)
@@ -144,14 +146,19 @@ class Planner:
             self.build()
         if self.start is None:
             return
-        plan = self.folder.put_beside(PLAN, held(self.start))
-        proof = self.folder.put_beside(CERTIFICATE, certificate(self.instance).encode())
-        line, fault = judged(self.given.program, *(held(path) for path in (self.folder.beside(INSTANCE), proof, plan)))
-        kind, cost, bound = verdict_of(line)
-        if kind is None:
+        fault = self.take_texts(held(self.start), certificate(self.instance).encode())
+        if fault:
             self.notes.append("the plan to begin with isn't taken: %s" % fault)
-            return
-        self.take(cost, bound)
+
+    def take_texts(self, plan, proof):
+        """Brings a plan and a certificate into place where they are better; answers why the check doesn't take them."""
+        self.folder.put_beside(PLAN, plan)
+        self.folder.put_beside(CERTIFICATE, proof)
+        line, fault = judged(self.given.program, self.texts[INSTANCE], proof, plan)
+        kind, cost, bound = verdict_of(line)
+        if kind is not None:
+            self.take(cost, bound)
+        return fault
 
     def go_on(self, until, is_any_enough=False):
         """Makes rounds until nothing is left to find, the time is over, or a signal comes; or a plan stands, where any

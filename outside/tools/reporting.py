@@ -29,6 +29,8 @@ class Report:
         self.units = units_of(names)
         # Where there is no plan: lines that say why, who is left out, and the report of the others' plan.
         self.why, self.left, self.served, self.folder, self.whom = [], "", None, "", "all"
+        # What is known of fewer vehicles, in a sentence.
+        self.fewest = ""
 
     def name(self, i):
         """The name of a place beside its number, which is blank where it has none."""
@@ -88,6 +90,7 @@ def answer(report):
             report.distance(report.cost)))
     elif report.verdict() != "NO PLAN":
         found.append("No plan was found.")
+    found += [escape(report.fewest)] if report.fewest else []
     if report.certificate is None:
         return " ".join(found + ["Whether a cheaper plan exists isn't said: no certificate was given."])
     told = claim(report)

@@ -1,0 +1,57 @@
+"""A plan with as few vehicles as do: the fleets in a folder within that of the plan, and what is said of them."""
+import os
+import shutil
+
+from tools.fleets import Fleets, with_fleet
+from tools.respelling import certificate
+from tools.standing import CERTIFICATE, INSTANCE, PLAN, Folder
+
+# The folder within that of the plan.
+FEWEST = "fewest"
+
+
+def narrowed(folder, instance, given, signals, until):
+    """What is known of the fleets of an instance, and notes, after work in the folder within; one of another instance
+    goes."""
+    path = folder.at(FEWEST)
+    if os.path.isdir(path):
+        with Folder(path) as within:
+            is_other = within.held(INSTANCE) != with_fleet(instance, instance.fleet)[0]
+        if is_other:
+            shutil.rmtree(path, ignore_errors=True)
+    with Folder(path) as within:
+        fleets = Fleets(within, instance, given, signals, until)
+        fleets.narrow()
+        return fleets.found, fleets.notes()
+
+
+def take_fewest(planner, fleet):
+    """Brings the plan and the certificate of a fleet into the place of a plan of that fleet, where they are better."""
+    texts = []
+    for name in (PLAN, CERTIFICATE):
+        path = planner.folder.at(os.path.join(FEWEST, "%d.%s" % (fleet, name.partition(".")[0])))
+        if os.path.exists(path):
+            with open(path, "rb") as file:
+                texts.append(file.read())
+        else:
+            texts.append(certificate(planner.instance).encode())
+    planner.take_texts(*texts)
+
+
+def fewest_told(found, folder, units):
+    """What is known of how few vehicles do, in a sentence: that fewer don't, and what shows it."""
+    low, high, instance = found.low, found.high, found.instance
+    fewer = low - 1
+    if high is None or fewer == 0:
+        return "" if high is None or high > 1 else "No plan does without a vehicle."
+    if found.known.get(fewer, (None,))[0] == "NO PLAN":
+        why = "./vrptw check %s %s shows it" % tuple(
+            os.path.join(folder, "%d.%s" % (fewer, ending)) for ending in ("instance", "certificate"))
+    else:
+        why = "the demands are %s, and so many hold %s" % tuple(units.load(load) for load in (
+            sum(row[2] for row in instance.rows), fewer * instance.capacity))
+    vehicles = "%d vehicle%s" % (fewer, "" if fewer == 1 else "s")
+    if low == high:
+        return "Fewer vehicles don't do: with %s there is no plan (%s)." % (vehicles, why)
+    return "With %s there is no plan (%s), and whether %s do%s isn't known." % (
+        vehicles, why, "%d" % low if high - low == 1 else "%d to %d" % (low, high - 1), "es" if low == 1 else "")
