@@ -18,6 +18,7 @@ from judges.judging_faults import judge_fault
 from judges.judging_fewest import judge_fewest
 from judges.judging_fleets import judge_fleets, judge_tight
 from judges.judging_layouts import judge_layout, judge_round_trip, judge_wrong_layout
+from judges.judging_literature import judge_literature
 from judges.judging_module import judge_module
 from judges.judging_plans import judge_picture, judge_respelled, judge_timetable, judge_wrong_spelling
 from judges.judging_printouts import judge_printout, judge_wrong_printout
@@ -139,6 +140,8 @@ KINDS = {
                    program_by(judge_module)),
     "breaks": Kind("plan, broken off at drawn times: texts that are right, never dearer than before", 4,
                    program_by(judge_break)),
+    "literature": Kind("files named as Solomon's by bench/solomon, beside published costs: least costs by all plans", 6,
+                       program_by(judge_literature)),
     "batches": Kind("some instances by batch, and again with something changed in between", 6,
                     program_by(judge_batch)),
     "tool_faults": Kind("the tools with files that fail and with wrong words", len(FAULTS),

@@ -189,11 +189,16 @@ def refuse_same(first, second, met="the file that is read"):
         raise Refused("%s: met %s, wanted another one to write" % (second, met))
 
 
+def path_of(tool):
+    """What a tool is called: one that doesn't stand in outside says its folder."""
+    return tool if "/" in tool else "outside/" + tool
+
+
 class Words(argparse.ArgumentParser):
     """The words of a tool, whose help is what its file says at the top; wrong words are told in one line."""
 
     def __init__(self, tool, told):
-        super().__init__(prog="outside/" + tool, description=told.strip(), allow_abbrev=False,
+        super().__init__(prog=path_of(tool), description=told.strip(), allow_abbrev=False,
                          formatter_class=argparse.RawDescriptionHelpFormatter)
 
     def error(self, message):
@@ -237,8 +242,8 @@ def run(tool, work):
         text, notes, *status = work()
         printed(text)
     except Refused as refused:
-        told("outside/%s: %s" % (tool, " ".join(str(refused).split("\n"))))
+        told("%s: %s" % (path_of(tool), " ".join(str(refused).split("\n"))))
         sys.exit(1)
     for note in REMEMBERED + notes:
-        told("outside/%s: note: %s" % (tool, note))
+        told("%s: note: %s" % (path_of(tool), note))
     sys.exit(status[0] if status else 0)

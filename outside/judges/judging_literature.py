@@ -1,0 +1,102 @@
+"""One run of `bench/solomon` on files that are named as Solomon's and Homberger's: its rows are those of all plans."""
+import csv
+import os
+import re
+
+from cases.random_texts import instance_words, laid_out
+from judges.running import demand, put, run, shown as as_text
+from reference.instances import Instance, read
+from reference.optimum import least_cost
+from reference.texts import shown
+from tools.places import TOP
+
+NAMES = ["c101", "R102", "rc201", "C205", "r1_2_1", "RC2_4_10"]
+# The names of files that are passed over.
+OTHERS = ["r1_6_1.txt", "notes.txt", "c101.csv", "c1011.txt"]
+MOST_CUSTOMERS, CUSTOMERS = 6, (2, 4)
+
+
+def drawn(random, source, names):
+    """Files in the folder; the least costs, or None, by the capital name and the count of customers."""
+    found = {}
+    for name in names:
+        text = laid_out(random, instance_words(random, random.randint(2, MOST_CUSTOMERS)))
+        put(os.path.join(source, name + random.choice([".txt", ".TXT"])), text)
+        whole = read(text)
+        counts = [whole.count] if "_" in name else [count for count in CUSTOMERS if count <= whole.count]
+        for count in counts:
+            own = Instance(whole.name, whole.fleet, whole.capacity, whole.rows[:count + 1])
+            found[name.upper(), count] = least_cost(own)
+    return found
+
+
+def known(random, costs, path):
+    """Published costs of some of the instances, right ones and wrong ones; what the table has to say of each."""
+    lines, right = ["# what is known"], {}
+    for (name, count), cost in costs.items():
+        kind = random.choice(["right", "wrong", "none"])
+        right[name, count] = "" if cost is None else "proved"
+        if kind != "none":
+            told = 123 if cost is None else max(1, cost + random.choice([-1, 1]) * (kind == "wrong"))
+            lines.append("%s %d %s Hand1999" % (random.choice([name, name.lower()]), count, shown(told)))
+            right[name, count] = "met" if told == cost else "differs"
+    put(path, "\n".join(lines + [""]).encode())
+    return right
+
+
+def literature(*words):
+    """What bench/solomon says on both streams, and its status."""
+    out, errors, status = run([os.path.join(TOP, "bench", "solomon"), *words])
+    return out, as_text(errors), status
+
+
+def judge_faults(random, source, words):
+    """One thing wrong: refused in a line with its file, and nothing on standard output."""
+    kind = random.randrange(4)
+    if kind == 0:
+        path, line = words[words.index("--published") + 1], " line 2: met "
+        put(path, b"# none\nc101 25 191.3\n")
+    elif kind == 1:
+        path, line = next(os.path.join(source, name) for name in os.listdir(source)), " line 1: "
+        put(path, b"x y\n")
+    elif kind == 2:
+        path, line = source, " met no file of Solomon or Homberger, wanted "
+        for name in os.listdir(source):
+            os.rename(os.path.join(source, name), os.path.join(source, "_" + name))
+    else:
+        path, line, words = "--customers", " met \"2,401\", wanted ", [word.replace("2,4", "2,401") for word in words]
+    out, errors, status = literature(*words)
+    demand((out, status, errors.count("\n")) == (b"", 1, 1), "%r, status %d" % (errors, status))
+    demand(errors.startswith("bench/solomon: %s:%s" % (path, line)), "%r, and %s %s is right" % (errors, path, line))
+    return "refused"
+
+
+def judge_literature(program, folder, random):
+    """Files, closed, beside costs that are known."""
+    source, into, path = (os.path.join(folder, name) for name in ("theirs", "into", "published"))
+    os.mkdir(source)
+    names = random.sample(NAMES, random.randint(1, 3))
+    costs = drawn(random, source, names)
+    right = known(random, costs, path)
+    words = [source, "--into", into, "--published", path, "--customers", ",".join(map(str, CUSTOMERS)),
+             "--options", "--close", "--program", program]
+    if random.randrange(4) == 0:
+        return judge_faults(random, source, words)
+    others = random.sample(OTHERS, random.randint(0, 2))
+    for other in others:
+        put(os.path.join(source, other), b"none of theirs")
+    out, told, status = literature(*words)
+    demand(all("%s is passed over" % os.path.join(source, other) in told for other in others), "%r" % told)
+    with open(os.path.join(into, "literature.csv"), encoding="utf-8", newline="") as file:
+        rows = list(csv.DictReader(file))
+    demand({(row["instance"], int(row["customers"])): row["said"] for row in rows} == right, "%r, and %r is right" % (
+        rows, right))
+    for row in rows:
+        cost = costs[row["instance"], int(row["customers"])]
+        wanted = ("NO PLAN", "") if cost is None else ("BEST", shown(cost))
+        demand((row["status"], row["cost"]) == wanted, "%r, and %r is right" % (row, wanted))
+    demand(status == ("differs" in right.values()), "status %d, %r" % (status, told))
+    classes = {(re.match("[RC]+[12]", name)[0], count) for name, count in costs}
+    demand(len(out.decode().split("\n\n")[1].splitlines()) == 1 + len(classes), "classes: %r" % out)
+    demand(len(os.listdir(source)) == len(names) + len(others), "the folder of theirs isn't as it was")
+    return "differs" if status else "as published"
