@@ -59,7 +59,8 @@ def change(random, into):
 
 
 def judge_planned(program, folder, source, instance):
-    """The same instance by `plan --fewest`: the fewest vehicles at the least cost, on the page too, or no plan; and `report`."""
+    """The same instance by `plan --fewest` and `report`: the fewest vehicles at the least cost, on the page too, or no
+    plan."""
     into, (fewest, cost) = os.path.join(folder, "planned"), fewest_of(instance)
     out, errors, status = tool("plan", source, "--into", into, "--program", program, "--fewest", "--seconds", "20",
                                "--searchers", "1", "--bounders", "1")
@@ -72,8 +73,12 @@ def judge_planned(program, folder, source, instance):
     own, plan = (got(os.path.join(into, name)) for name in ("instance.txt", "plan.txt"))
     own, (routes, its) = read(own), read_solution(plan)
     demand(is_plan(own, routes) and own.rows == instance.rows and own.fleet >= fewest, "plan: %r" % told)
-    if "no plan with so few is shorter" not in told or "Fewer vehicles don't do" not in told and fewest > 1:
-        demand("isn't known" in told or "saves at most" in told, "plan: %r" % told)
+    known = tool("fewest", source, "--into", os.path.join(into, "fewest"), "--program", program, "--check")[0].decode()
+    is_shown, is_closed = " to " not in known.split("\n")[0], " BEST " in known
+    demand(("Fewer vehicles don't do" in told) == (is_shown and fewest > 1), "plan: %r, and %r" % (told, known))
+    demand(("do isn't known" in told or "does isn't known" in told) != is_shown, "plan: %r, and %r" % (told, known))
+    demand(not is_closed or "no plan with so few is shorter" in told, "plan: %r, and %r" % (told, known))
+    if not is_closed:
         return
     demand((len(routes), own.fleet, its) == (fewest, fewest, cost), "plan: %r, and the fewest are %d at %d" % (
         told, fewest, cost))

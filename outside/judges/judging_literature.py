@@ -2,6 +2,8 @@
 import csv
 import os
 import re
+from importlib.machinery import SourceFileLoader
+from importlib.util import module_from_spec, spec_from_loader
 
 from cases.random_texts import instance_words, laid_out
 from judges.running import demand, put, run, shown as as_text
@@ -44,6 +46,25 @@ def known(random, costs, path):
     return right
 
 
+# Cost, bound, verdict and published cost, and what is said, by hand.
+SAID = [("10.0", "9.0", "GAP", 100, "met"), ("10.1", "9.0", "GAP", 100, "above"), ("9.9", "9.0", "GAP", 100, "differs"),
+        ("10.2", "10.1", "GAP", 100, "differs"), ("10.0", "10.0", "BEST", 100, "met"), ("", "9.0", "OPEN", 100, ""),
+        ("10.1", "10.1", "BEST", 100, "differs"), ("", "", "NO PLAN", 100, "differs"), ("", "", "NO PLAN", None, ""),
+        ("", "10.1", "OPEN", 100, "differs"), ("10.0", "10.0", "BEST", None, "proved"), ("9.0", "8.0", "GAP", None, "")]
+
+
+def judge_said():
+    """What is said of rows by hand."""
+    path = os.path.join(TOP, "bench", "solomon")
+    loader = SourceFileLoader("solomon", path)
+    module = module_from_spec(spec_from_loader("solomon", loader))
+    loader.exec_module(module)
+    for cost, bound, status, known_cost, right in SAID:
+        told = module.said({"cost": cost, "bound": bound, "status": status}, known_cost)
+        demand(told == right, "%s %s %s beside %s: %s, and %s is right" % (
+            cost, bound, status, known_cost, told, right))
+
+
 def literature(*words):
     """What bench/solomon says on both streams, and its status."""
     out, errors, status = run([os.path.join(TOP, "bench", "solomon"), *words])
@@ -73,6 +94,7 @@ def judge_faults(random, source, words):
 
 def judge_literature(program, folder, random):
     """Files, closed, beside costs that are known."""
+    judge_said()
     source, into, path = (os.path.join(folder, name) for name in ("theirs", "into", "published"))
     os.mkdir(source)
     names = random.sample(NAMES, random.randint(1, 3))

@@ -23,6 +23,7 @@ from judges.judging_module import judge_module
 from judges.judging_plans import judge_picture, judge_respelled, judge_timetable, judge_wrong_spelling
 from judges.judging_printouts import judge_printout, judge_wrong_printout
 from judges.judging_reports import judge_report
+from judges.judging_rounds import judge_rounds
 from judges.judging_served import judge_served, judge_sheets
 from judges.judging_starts import judge_start
 from judges.judging_tables import judge_foreseen, judge_table, judge_wrong_names
@@ -140,6 +141,8 @@ KINDS = {
                    program_by(judge_module)),
     "breaks": Kind("plan, broken off at drawn times: texts that are right, never dearer than before", 4,
                    program_by(judge_break)),
+    "rounds": Kind("drawn costs and bounds by rounds of the module and of a batch's step: the best stay, at an end too",
+                   12, tools_by(judge_rounds)),
     "literature": Kind("files named as Solomon's by bench/solomon, beside published costs: least costs by all plans", 6,
                        program_by(judge_literature)),
     "batches": Kind("some instances by batch, and again with something changed in between", 6,
