@@ -61,10 +61,7 @@ impl Label {
         ensures { let q = pricing_of task.now in
             IsTrue result → IsAhead (state_at q self.now) (state_at q other.now) }
     {
-        self.front.last == other.front.last
-            && self.front.time <= other.front.time
-            && self.front.cost <= other.front.cost
-            && self.memory.is_subset(other.memory)
+        self.is_as_early_and_cheap(other) && self.memory.is_subset(other.memory)
     }
 
     /// Whether this one stands where another does, and is no later and no dearer.
