@@ -15,10 +15,10 @@ use labels::{Best, Label};
 use std::alloc::{AllocError, Global};
 
 /// A step takes about as long as so many looks.
-const LOOKS_OF_STEP: u64 = 2;
+const LOOKS_OF_STEP: u64 = 4;
 
 /// So many open steps that are looked at before they are made take about as long as one look.
-const SCANNED_OF_LOOK: u64 = 4;
+const SCANNED_OF_LOOK: u64 = 2;
 
 /// The stops up to a label, by its parents.
 fn route_to(alloc: Global, labels: &[Label], index: usize) -> Result<Vec<u16>, AllocError>
@@ -58,11 +58,12 @@ fn answer(alloc: Global, labels: &[Label], best: Best) -> Result<Least, AllocErr
 }
 
 impl<'t, 'i> Labeller<'t, 'i> {
-    /// How much work the search was: the steps taken, twice each, a quarter of the open steps, the customers that
-    /// bounds looked at, and how often a newer label looked at others.
+    /// How much work the search was: the steps taken, four times each, those that others spared, half of the open
+    /// steps, the customers that bounds looked at, and how often a label looked at others.
     fn looks(&self) -> u64 {
         let taken = self.taken.saturating_mul(LOOKS_OF_STEP);
-        let steps = taken.saturating_add(self.scanned / SCANNED_OF_LOOK);
+        let left_out = self.spared.saturating_add(self.scanned / SCANNED_OF_LOOK);
+        let steps = taken.saturating_add(left_out);
         let looks = steps.saturating_add(self.completions.looks());
         looks.saturating_add(self.lookup.looks())
     }

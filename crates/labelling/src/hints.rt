@@ -15,9 +15,9 @@ pub struct Hints<'i> {
     /// Further routes that were met, by their customers: where the known one is relaxed, those that cost
     /// less than it does.
     pub met: Vec<Vec<u16>>,
-    /// How much work it was: the steps from labels to customers, twice each, a quarter of the open steps, the
-    /// customers that bounds looked at, and how often a label looked at the labels that remember the same
-    /// customers.
+    /// How much work it was: the steps from labels to customers, four times each, those that other labels spared,
+    /// half of the open steps, the customers that bounds looked at, and how often a label looked at the labels that
+    /// remember the same customers.
     pub looks: u64,
 }
 
