@@ -5,7 +5,7 @@ use Rattle.std.proofs.lemmas.List.{length-replicate}
 use Rattle.std.proofs.lemmas.List.Elements.{All-replicate}
 use Rattle.solomon_reader.proofs.BoundedRows.{customer_row}
 use Rattle.solomon_reader.specs.States.{IsPriced}
-use Rattle.completions.proofs.table.tests.a_short_step_leads_into_a_later_slot.Goals as goal
+use Rattle.test_workers.proofs.short_steps.a_short_step_leads_into_a_later_slot.Goals as goal
 
 pub new-requires-2 : goal.new-requires-2
 new-requires-2 g c =
