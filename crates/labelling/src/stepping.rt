@@ -18,7 +18,7 @@ use labels::{Best, Label};
 use std::alloc::AllocError;
 
 /// With no more steps a label than so many it doesn't pay to look for those that others spare.
-const FEW_STEPS: u64 = 24;
+const FEW_STEPS: u64 = 40;
 
 impl<'t, 'i> Labeller<'t, 'i> {
     /// Takes a step from the label at an index that a route may take, if it may cost less than the best.
