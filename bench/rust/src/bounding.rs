@@ -13,7 +13,7 @@ use std::time::Instant;
 /// As in `worker_turns`.
 const ROOT_PRICINGS: u32 = 20;
 const LEAF_PRICINGS: u32 = 8;
-const CUSTOMER_LOOKS: u64 = 16_000;
+const CUSTOMER_LOOKS: u64 = 19_000;
 const LEAST_CUSTOMERS: u64 = 120;
 const CUSTOMERS_OF_PATIENCE: u16 = 150;
 const PRICING_PART: u64 = 28;

@@ -19,7 +19,7 @@ const PRICINGS_WITHOUT_PLAN: u32 = 100;
 
 /// How many looks a turn is worth for each customer, and for how many customers at least. A look takes about
 /// as long on every instance, so that turns do, too.
-const CUSTOMER_LOOKS: u64 = 16_000;
+const CUSTOMER_LOOKS: u64 = 19_000;
 
 const LEAST_CUSTOMERS: u64 = 120;
 
