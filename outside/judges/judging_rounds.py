@@ -100,7 +100,7 @@ def ended_after(folder, count, end):
 def judge_by_module(folder, rows, right):
     """By `Solving`, which is cancelled once the rows are taken."""
     cost, bound, taken = right
-    work = vrptw.Solving(INSTANCE, seconds=10 * SOON, seed=5, program=fitted_out(folder, rows), **OPTIONS)
+    work = vrptw.Solving(INSTANCE, seconds=SOON + 20, seed=5, program=fitted_out(folder, rows), **OPTIONS)
     is_closed = cost is not None and cost == bound
     thread = ended_after(folder, taken if is_closed else len(rows) + 1, (lambda: None) if is_closed else work.cancel)
     began, answer = time.monotonic(), work.run()
