@@ -47,6 +47,9 @@ def values_of(instance, certificate, jobs, head):
             found.append(value)
             if telling.is_due():
                 telling.tell("%d of %d leaves" % (len(found), len(rest)))
+        # Each process ends by itself: one that has just begun may lose the signal by which the pool would end it.
+        pool.close()
+        pool.join()
     telling.end()
     return found
 
