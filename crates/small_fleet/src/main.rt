@@ -11,7 +11,7 @@ use checker::{Verdict, check};
 use std::process::ExitCode;
 use std::sync::Wait;
 use std::thread::Threads;
-use tenths::{MemorySink, StdSink, write_tenths_line, write_text};
+use tenths::{Device, MemorySink, Sink, StdSink, write_tenths_line, write_text};
 use vrptw::{NoGate, Settings, solve};
 
 /// Three customers around a depot, and two vehicles that hold two units each.
@@ -47,12 +47,20 @@ fn solved_and_checked<R: AllocGlobal + Threads + Wait + Sync>(
     check(alloc, text, certificate.as_slice(), solution, STATES).ok()
 }
 
+/// Tells what was found.
+fn tell<X: Sink>(verdict: Option<Verdict>, out: &mut X) -> Result<(), Device> {
+    match verdict {
+        Some(Verdict::Best { cost }) => write_tenths_line(b"BEST ", cost, out),
+        Some(Verdict::Gap { cost, .. }) => write_tenths_line(b"at most ", cost, out),
+        _ => write_text(b"no plan was found\n", out),
+    }
+}
+
 fn main(rt: HostRuntime) -> ExitCode {
+    let verdict = solved_and_checked(&rt, CUSTOMERS.as_bytes());
     let mut out = StdSink::new(rt.stdout());
-    let told = match solved_and_checked(&rt, CUSTOMERS.as_bytes()) {
-        Some(Verdict::Best { cost }) => write_tenths_line(b"BEST ", cost, &mut out),
-        Some(Verdict::Gap { cost, .. }) => write_tenths_line(b"at most ", cost, &mut out),
-        _ => write_text(b"no plan was found\n", &mut out),
-    };
-    ExitCode::from(u8::from(told.is_err()))
+    match tell(verdict, &mut out) {
+        Ok(()) => ExitCode::SUCCESS,
+        Err(_) => ExitCode::FAILURE,
+    }
 }
