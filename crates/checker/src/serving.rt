@@ -11,7 +11,7 @@ ghost use Rattle.checker.specs.Served.{AreServed};
 use crate::fault::{CheckFault, PlanWhy};
 use std::alloc::{AllocError, Global};
 
-/// No marks, for so many numbers.
+/// Marks for numbers below this one, none of them set.
 fn no_marks(alloc: Global, count: u16) -> Result<Vec<bool>, AllocError>
     ensures marks { IfOk result (λ v. AreServed [] v.items) }
     ensures count { IfOk result (λ v. length v.items ≡ count) }
@@ -53,7 +53,7 @@ fn mark_stops(marks: &mut Vec<bool>, stops: &[u16]) -> bool
     true
 }
 
-/// Which of so many numbers stand in the routes. `PlanRefused` with `Twice` where one stands there
+/// Which of the numbers below this one stand in the routes. `PlanRefused` with `Twice` where one stands there
 /// twice, and `Memory`.
 pub(crate) fn serve_once(
     alloc: Global,

@@ -11,7 +11,7 @@ use crate::table::bound_in;
 use fronts::Task;
 use std::alloc::AllocError;
 
-/// The horizon has so many parts.
+/// The horizon has this many parts.
 const PARTS: u64 = 16;
 
 /// The least that what follows on a visit of each row adds, where the visit ends at a time or later.

@@ -22,7 +22,7 @@ use std::alloc::AllocError;
 /// All prices of the customers of one vehicle together, in grains.
 const MOST_PAID: i64 = MOST_PRICE as i64 * MOST_CAPACITY as i64;
 
-/// With room for more stops than so many loads say little.
+/// With room for more stops than this many loads say little.
 const MOST_LOADS: u32 = 80;
 
 /// What bounds all that may follow from any row at any time, with any load.
@@ -294,7 +294,7 @@ fn bounds_of(task: &Task<'_>, grid: Grid<'_>) -> Result<(Vec<RowBound>, u64), Al
     Ok((bounds, looks))
 }
 
-/// The slots of load of a task, if bounds for them pay: where an earlier search took so many looks, and few
+/// The slots of load of a task, if bounds for them pay: where an earlier search took this many looks, and few
 /// customers fit a vehicle.
 fn loads_for(task: &Task<'_>, looks: u64) -> Option<Loads> {
     let loads = Loads::new(task.instance);
@@ -335,7 +335,7 @@ impl<'t, 'i> Completions<'t, 'i> {
         }
     }
 
-    /// The bounds of a task, after a search that took so many looks.
+    /// The bounds of a task, after a search that took this many looks.
     pub fn new(task: &'t Task<'i>, looks: u64) -> Result<Completions<'t, 'i>, AllocError>
         ensures { IfOk result (λ c. c.task.now ≡ task.now) }
     {

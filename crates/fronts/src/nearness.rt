@@ -15,7 +15,7 @@ use solomon_reader::Instance;
 use std::alloc::{AllocError, Global};
 
 /// The neighbour list of each row, the places of all rows in it, the steps to
-/// customers, and the slots of time: they serve every pricing of the instance with so many neighbours.
+/// customers, and the slots of time: they serve every pricing of the instance with this many neighbours.
 #[derive(Drop)]
 pub struct Nearness<'i> {
     pub instance: &'i Instance,
@@ -31,7 +31,7 @@ pub struct Nearness<'i> {
 }
 
 impl<'i> Nearness<'i> {
-    /// The tables of an instance for so many neighbours, at most 15.
+    /// The tables of an instance for this many neighbours, at most 15.
     pub fn new(
         alloc: Global,
         instance: &'i Instance,
@@ -55,7 +55,7 @@ impl<'i> Nearness<'i> {
         })
     }
 
-    /// Whether they are the tables of an instance for so many neighbours.
+    /// Whether they are the tables of an instance for this many neighbours.
     pub fn is_for(&self, instance: &Instance, neighbours: u32) -> bool
         ensures instance { IsTrue result → self.now.instance.now ≡ instance.now }
         ensures neighbours { IsTrue result → self.now.neighbours ≡ neighbours }

@@ -12,8 +12,8 @@ use std::alloc::AllocError;
 /// How often the search dives for a cheap route before it goes on by time.
 const DIVES: usize = 10;
 
-/// After so many slots of time the search looks how many routes it met that cost less than the known one, and
-/// with more than so many it asks for cheaper ones.
+/// After this many slots of time the search looks how many routes it met that cost less than the known one, and
+/// with more than this many it asks for cheaper ones.
 const SLOTS_BETWEEN: usize = 100;
 
 const ENOUGH_ENDS: usize = 40;
@@ -132,7 +132,7 @@ impl<'t, 'i> Labeller<'t, 'i> {
         Ok(())
     }
 
-    /// Extends the labels of a slot of time, until there are more than so many.
+    /// Extends the labels of a slot of time, until there are more than this many.
     fn extend_slot(&mut self, slot: usize, most: usize) -> Result<(), LabelFault>
         requires { LosesNothing self.old }
         ensures { GoesOn self.old self.new result }
@@ -149,7 +149,7 @@ impl<'t, 'i> Labeller<'t, 'i> {
         Ok(())
     }
 
-    /// Extends the labels in the order of their times, until there are more than so many.
+    /// Extends the labels in the order of their times, until there are more than this many.
     pub(crate) fn extend_by_time(&mut self, most: usize) -> Result<(), LabelFault>
         requires { LosesNothing self.old }
         ensures { GoesOn self.old self.new result }

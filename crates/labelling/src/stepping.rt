@@ -17,7 +17,7 @@ use fronts::{Memory, Step};
 use labels::{Best, Label};
 use std::alloc::AllocError;
 
-/// With no more steps a label than so many it doesn't pay to look for those that others spare.
+/// With no more steps a label than this many it doesn't pay to look for those that others spare.
 const FEW_STEPS: u64 = 40;
 
 impl<'t, 'i> Labeller<'t, 'i> {
@@ -159,7 +159,7 @@ impl<'t, 'i> Labeller<'t, 'i> {
         self.scanned = self.scanned.saturating_add(count as u64);
     }
 
-    /// Whether so many steps a label were taken or spared that it pays to look for those that others spare.
+    /// Whether this many steps a label were taken or spared that it pays to look for those that others spare.
     fn are_many_steps(&self) -> bool {
         let steps = self.taken.saturating_add(self.spared);
         steps > self.extended.saturating_mul(FEW_STEPS)

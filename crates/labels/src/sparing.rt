@@ -9,7 +9,7 @@ use completions::Completions;
 use fronts::Memory;
 use std::alloc::AllocError;
 
-/// At most so many memories are kept.
+/// At most this many memories are kept.
 const MOST_MEMORIES: usize = 4;
 
 /// What the label at an index remembers, if its steps were taken, it is no later and no dearer than another one of

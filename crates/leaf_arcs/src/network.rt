@@ -49,7 +49,7 @@ pub struct Network<'i> {
 }
 
 impl<'i> Network<'i> {
-    /// The network of an instance, with neighbour lists of this many others, for about so many leaves.
+    /// The network of an instance, with neighbour lists of this many others, for about this many leaves.
     pub fn new(
         alloc: Global,
         instance: &'i Instance,

@@ -121,7 +121,7 @@ fn common(a: u64, b: u64) -> u64
     a.max(1)
 }
 
-/// The length of slots of load: what divides all demands, or so many times that as leaves few slots, but no
+/// The length of slots of load: what divides all demands, or a multiple of it that leaves few slots, but no
 /// more than the least demand.
 fn load_length(instance: &Instance) -> u64
     ensures { 1 ≤ result }
@@ -192,7 +192,7 @@ fn time_lengths(instance: &Instance, mean: u64) -> Option<Lengths> {
     None
 }
 
-/// The lengths of slots of time and load of which a customer has so many in the mean, or fewer.
+/// The lengths of slots of time and load: a customer has this many in the mean, or fewer.
 fn both_lengths(instance: &Instance, mean: u64) -> Option<Lengths> {
     let most = mean.saturating_mul(u64::from(instance.customer_count()));
     let load = load_length(instance);
@@ -307,7 +307,7 @@ impl Slots {
         })
     }
 
-    /// Slots of time for so many leaves: the fewer there are, the more slots; none where a step may take no
+    /// Slots of time for this many leaves: the fewer there are, the more slots; none where a step may take no
     /// time, or there were more than are allowed. No contract: any slots are sound, since a floor is asked
     /// for its row, time and load.
     pub(crate) fn of_time(
@@ -326,7 +326,7 @@ impl Slots {
         Ok(slots)
     }
 
-    /// Slots of time and load of which a customer has so many in the mean, or fewer; none where a time alone
+    /// Slots of time and load, for a customer this many in the mean, or fewer; none where a time alone
     /// has more. Each step adds a slot of load or more. When customers may be left is found where it isn't known.
     pub(crate) fn of_both(
         alloc: Global,

@@ -21,7 +21,7 @@ pub(crate) struct Binding<'r> {
 }
 
 impl<'r> Binding<'r> {
-    /// What a half-space at this place says, for a floor of so many parts.
+    /// What a half-space at this place says, for a floor of this many parts.
     pub(crate) fn of(space: &HalfSpace<'r>, place: usize, parts: u64) -> Binding<'r> {
         let weight = space.weight.unsigned_abs().saturating_add(parts).max(1);
         Binding {
@@ -65,7 +65,7 @@ impl<'r> Binding<'r> {
         fall.min(self.multiplier)
     }
 
-    /// Projects prices and a floor of so many parts onto the half-space, as far as the multiplier allows
+    /// Projects prices and a floor of this many parts onto the half-space, as far as the multiplier allows
     /// (Hildreth 1957), and answers by how much each price rose.
     #[inline(always)]
     pub(crate) fn project(&mut self, prices: &mut [i64], floor: &mut i64, parts: i64) -> i64 {

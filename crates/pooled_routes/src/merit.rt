@@ -21,7 +21,7 @@ fn sum_of(prices: &[i64]) -> i128 {
 }
 
 impl Merit {
-    /// The merit by so many routes, at most the fleet.
+    /// The merit by this many routes, at most the fleet.
     /// No contract: a rule of search; any prices are sound.
     pub fn new(instance: &Instance, routes: u16) -> Merit {
         let fleet = instance.fleet();

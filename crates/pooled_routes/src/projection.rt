@@ -8,7 +8,7 @@ use std::alloc::{AllocError, Global};
 /// A sweep that goes less far ends a projection, in grains; a route counts as violated from here on.
 const ENOUGH: u64 = 20;
 
-/// After so many sweeps all routes are looked at again.
+/// After this many sweeps all routes are looked at again.
 const SWEEPS_BETWEEN: u32 = 10;
 
 /// What routes say of prices, with the multipliers that a projection comes to.
@@ -51,7 +51,7 @@ impl<'r> Projection<'r> {
         Ok(is_any)
     }
 
-    /// Sweeps until a sweep goes less far than enough, at most so many times, and answers how often,
+    /// Sweeps until a sweep goes less far than enough, at most this many times, and answers how often,
     /// and whether the last one was enough.
     fn sweep_on(&mut self, sweeps: &mut Sweeps<'r>, trial: &mut Trial, most: u32) -> (u32, bool) {
         for made in 0..most {
@@ -63,7 +63,7 @@ impl<'r> Projection<'r> {
         (most, false)
     }
 
-    /// Activates and sweeps in turn until nothing is violated, by at most so many sweeps.
+    /// Activates and sweeps in turn until nothing is violated, by at most this many sweeps.
     fn settle(
         &mut self,
         sweeps: &mut Sweeps<'r>,

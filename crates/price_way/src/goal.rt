@@ -26,7 +26,7 @@ pub struct Goal {
     pub rise: i64,
     /// The most pricings.
     pub pricings: u32,
-    /// Stops after so many pricings in a row that don't raise the value; `IDLE_PRICINGS` serve well.
+    /// Stops after this many pricings in a row that don't raise the value; `IDLE_PRICINGS` serve well.
     pub idle_pricings: u32,
     /// The value in tenths at which to stop.
     pub value: i128,
@@ -35,6 +35,6 @@ pub struct Goal {
     pub routes: u16,
     /// The most labels that may be active at once in a pricing.
     pub labels: Option<usize>,
-    /// Stops where the pool's work so far comes to so many looks.
+    /// Stops where the pool's work so far comes to this many looks.
     pub looks: u64,
 }

@@ -39,7 +39,7 @@ fn rank(space: &HalfSpace<'_>, prices: &Trial) -> i64 {
 }
 
 impl<'r> PoolTrial<'r> {
-    /// Trials with this rise in grains, over at most so many of a pool's routes, whose multipliers are
+    /// Trials with this rise in grains, over at most this many of a pool's routes, whose multipliers are
     /// measured by the rise already.
     /// No contract: a rule of search; any prices are sound.
     pub fn new(

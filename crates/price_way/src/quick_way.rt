@@ -36,10 +36,10 @@ pub const WHOLE: i64 = 1_000_000;
 /// What is held back of the first prices that are priced exactly, in millionths.
 const FIRST_MARGIN: i64 = 15_000;
 
-/// An exact pricing is dear where it takes so many times the work of a quick search.
+/// An exact pricing is dear where it takes this many times the work of a quick search.
 const QUICK_OF_EXACT: u64 = 8;
 
-/// After so many rounds in vain ordinary steps come between.
+/// After this many rounds in vain ordinary steps come between.
 const IDLE_ROUNDS: u32 = 4;
 
 /// How an ascent by quick searches goes on.
@@ -89,7 +89,7 @@ impl QuickWay {
         is_one
     }
 
-    /// Whether the next step is a round of quick searches, where an exact pricing takes so many looks and there
+    /// Whether the next step is a round of quick searches, where an exact pricing takes this many looks and there
     /// will be few of them.
     /// No contract: a rule of search; any prices are sound.
     pub fn is_next(&mut self, exact: u64, are_few: bool) -> bool {

@@ -5,7 +5,7 @@ use prices::Priced;
 use solomon_reader::Instance;
 use tenths::Tenths;
 
-/// The first rise below the root is so many times that of the root.
+/// The first rise below the root is this many times that of the root.
 const CHILD_RISE: i64 = 6;
 
 /// What the way there and back costs the customers in the mean, in grains.

@@ -28,7 +28,7 @@ impl Stairs {
         }
     }
 
-    /// Whether a label is to be dropped, as so many others are no later and no dearer, or one that remembers
+    /// Whether a label is to be dropped, as this many others are no later and no dearer, or one that remembers
     /// no more; and how many it was compared with.
     fn is_out(&self, place: usize, label: &QuickLabel, most: usize) -> (bool, u64) {
         let mut better: usize = 0;

@@ -7,7 +7,7 @@ pub struct Width {
     pub steps: usize,
     /// How many of them are the nearest ones; the others are those that the prices make near.
     pub nearest: usize,
-    /// A label is dropped where so many of its customer are no later and no dearer, or one that also
+    /// A label is dropped where this many of its customer are no later and no dearer, or one that also
     /// remembers no more.
     pub labels: usize,
 }

@@ -31,7 +31,7 @@ pub struct Settings {
     pub neighbours: u32,
     /// How many labels may be active at once in a pricing: 1 to `MOST_LABELS`, by default 1,000,000.
     pub labels: u32,
-    /// Once cost and bound are no further apart than so many tenths of a percent of the cost, turns do
+    /// Once cost and bound are no further apart than this many tenths of a percent of the cost, turns do
     /// nothing: 0 to `MOST_GAP`, by default 0.
     pub gap: u32,
 }

@@ -31,7 +31,7 @@ impl Pace {
         Pace { made: 0, turns: 1 }
     }
 
-    /// The progress after so many of the turns, each of so many steps.
+    /// The progress after some of the turns, each of the given number of steps.
     fn after(self, made: u64, work: u64) -> Progress {
         Progress {
             done: made.saturating_mul(work),

@@ -13,7 +13,7 @@ use std::thread::Threads;
 use tenths::MemorySink;
 use vrptw::{NoGate, Settings, solve};
 
-/// The check may hold so many pairs of time and cost at once for a leaf.
+/// The check may hold this many pairs of time and cost at once for a leaf.
 const STATES: usize = 1_000_000;
 
 /// Solves the instance of a text, and answers what the check says of its plan and its certificate: that is true of

@@ -22,7 +22,7 @@ pub(crate) fn tell_instance(told: &mut String, instance: &Instance) -> Option<()
     writeln!(told, ",{},{},{}", row.ready, row.due, row.service).ok()
 }
 
-/// The rows of the depot and so many customers from (X,Y) on, each a step to the right of the one before.
+/// The rows of the depot and this many customers from (X,Y) on, each a step to the right of the one before.
 fn rows_in(alloc: Global, word: &str) -> Option<String> {
     let numbers = list_of::<u16>(alloc, word)?;
     let [count, mut x, y, step] = *numbers.as_slice() else {

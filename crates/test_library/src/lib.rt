@@ -6,7 +6,7 @@
 //! position, and a chain has its length behind them. Calls:
 //!
 //! - `instance FLEET CAPACITY ROWS` and `bytes TEXT` read an instance, to which later calls refer;
-//!   `line FLEET CAPACITY COUNT,X,Y,STEP ROWS` reads one of the depot, so many customers from (X,Y) on,
+//!   `line FLEET CAPACITY COUNT,X,Y,STEP ROWS` reads one of the depot, this many customers from (X,Y) on,
 //!   each a step to the right of the one before, and the rows. `same FLEET CAPACITY ROWS` compares one.
 //! - `ceiling`, `walk ROUTE` and `joins` ask the instance, and `build MU LAMBDA A1` builds a plan. A region is
 //!   `root`, `used:FROM,TO` or `unused:FROM,TO`; `leaf REGION NEIGHBOURS PRICES` values prices, with a limit
@@ -14,7 +14,7 @@
 //!   where a route is known, and tells the reduced costs of further routes; `steps REGION NEIGHBOURS PRICES
 //!   STEPS` improves prices.
 //! - `bounder REGION NEIGHBOURS PRICES NUMBER TURNS LABELS ROOM HOW` has a worker of this number raise the bound over
-//!   a fake of the book that has this leaf; its deque takes so many numbers, and has the root, or another deque
+//!   a fake of the book that has this leaf; its deque takes this many numbers, and has the root, or another deque
 //!   where it is `stolen`; no number is a leaf's where the fake is `bare`, and it refuses splits by the fault that
 //!   is named. `searcher REGION NEIGHBOURS PRICES FIRST FAULT BOUND` has one look for plans, where from the first of
 //!   these offers on each is refused so.

@@ -59,7 +59,7 @@ pub(crate) fn descend<R: AllocGlobal + Threads + Sync>(
     Vec::from_clones(rt.alloc(), searcher.plan().routes()).ok()
 }
 
-/// Tells the routes behind so many moves of a shake by random words, or else behind a turn by them.
+/// Tells the routes behind this many moves of a shake by random words, or else behind a turn by them.
 pub(crate) fn tell_drawn(
     alloc: Global,
     told: &mut String,

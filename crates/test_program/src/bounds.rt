@@ -21,7 +21,7 @@ pub(crate) fn tell_head(told: &mut String, text: &[u8]) -> io::Result<()> {
     tell_text(told, "certificate", parts_of(text).0.as_bytes())
 }
 
-/// Tells the bound of a file and its leaves, of which a number may tell only that they are so many at most.
+/// Tells the bound of a file and its leaves, or, where a number is given, whether the leaves are no more.
 pub(crate) fn tell_bound<R: Runtime + AllocGlobal>(
     rt: &R,
     told: &mut String,

@@ -121,7 +121,7 @@ fn accepted_cost(
     }
 }
 
-/// Solves while workers are held, each in so many turns, and has both texts checked: the cost in tenths, or none
+/// Solves while workers are held, each in this many turns, and has both texts checked: the cost in tenths, or none
 /// where they aren't accepted, and whether one looked in vain.
 fn cost_held<R: Runtime + AllocGlobal + Threads + Wait + Sync>(
     rt: &R,

@@ -9,7 +9,7 @@
 //! - `solve NAME OPTIONS` solves an instance and checks what was written: the line printed depends on how
 //!   far the bound came, so that it is held against the cost and the bound written;
 //! - `bound NAME` tells a certificate's bound and leaves, of which `bound NAME MOST` says only that they
-//!   are so many at most;
+//!   are MOST or fewer;
 //! - `library NAME OPTION NUMBER` calls the library with one setting, or with the most `leaves` to close;
 //! - `job WORDS` tells what the words ask for;
 //! - `unheard KIND` tells what is said where the words can't be had;

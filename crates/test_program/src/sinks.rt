@@ -53,12 +53,12 @@ const SOLUTION: &[u8] = b"Route #1: 2\nRoute #2: 1\nCost 30.0\n";
 /// How their certificate begins, whatever the workers do.
 const HEAD: &[u8] = b"VRPTW-CERT 2\nINSTANCE T\nCUSTOMERS 2\nNEIGHBOURS 8\n";
 
-/// With so many writes both texts are whole, and with so few neither.
+/// With this many writes both texts are whole, and with so few neither.
 const MANY_WRITES: usize = 200;
 
 const FEW_WRITES: usize = 3;
 
-/// Whether sinks of so many writes hold both texts in the end, or else what may stand where the first failed, or
+/// Whether sinks of this many writes hold both texts in the end, or else what may stand where the first failed, or
 /// else the second; none where they hold neither.
 fn ends_whole<R: Runtime + AllocGlobal + Threads + Wait + Sync>(
     rt: &R,

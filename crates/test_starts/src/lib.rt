@@ -29,7 +29,7 @@ pub fn instance_text<N: Display + Copy>(
     )
 }
 
-/// What stands behind so many words of a line. No contract: the rows show it, by what becomes of it.
+/// What stands behind this many words of a line. No contract: the rows show it, by what becomes of it.
 pub fn behind(line: &str, count: u8) -> &str {
     let mut rest = line;
     for _ in 0..count {

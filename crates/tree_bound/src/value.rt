@@ -97,7 +97,7 @@ fn value_at(setting: &Setting<'_>, prices: &[i64], least: Option<i64>) -> u128
     round_up(sum, instance.fleet(), setting.routes, difference_of(least))
 }
 
-/// About the least reduced cost with which a leaf's value is so many tenths: nothing is said of it.
+/// About the least reduced cost with which a leaf's value is this many tenths: nothing is said of it.
 fn guess_limit(setting: &Setting<'_>, prices: &[i64], most: u32) -> i64
     requires count { length prices.now ≡ customer_count (problem_in setting.now) }
     requires priced { AllByRecursion IsPrice prices.now }
@@ -115,7 +115,7 @@ fn guess_limit(setting: &Setting<'_>, prices: &[i64], most: u32) -> i64
     missing as i64
 }
 
-/// A reduced cost with which a leaf's value is so many tenths or more; `None` where no relaxed route is known
+/// A reduced cost with which a leaf's value is this many tenths or more; `None` where no relaxed route is known
 /// and the value without any is less.
 fn limit_of(setting: &Setting<'_>, prices: &[i64], most: u32, known: Option<i64>) -> Option<i64>
     requires count { length prices.now ≡ customer_count (problem_in setting.now) }

@@ -17,10 +17,10 @@ use leaf_arcs::{Leaf, Task};
 use std::alloc::Global;
 use std::mem;
 
-/// Finer floors are made once as many labels stand as a part of their slots, one in so many.
+/// Finer floors are made once as many labels stand as a part of their slots, one in this many.
 const SLOTS_A_LABEL: usize = 4;
 
-/// Coarser floors are made for the next leaf where fewer labels stood than one in so many slots.
+/// Coarser floors are made for the next leaf where fewer labels stood than one in this many slots.
 const SLOTS_A_FEW: usize = 32;
 
 /// The least reduced cost of a leaf, and how fine floors of the next one are to be.

@@ -33,7 +33,7 @@ fn certificate_nodes(alloc: Global, nodes: Vec<TreeNode>) -> Result<Vec<CertNode
     Ok(listed)
 }
 
-/// The certificate of a bound, in tenths, for so many neighbours, with its tree. `Memory`.
+/// The certificate of a bound, in tenths, for this many neighbours, with its tree. `Memory`.
 pub(crate) fn certify(
     alloc: Global,
     instance: &Instance,

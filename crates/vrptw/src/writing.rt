@@ -44,7 +44,7 @@ fn write_plan<X: Sink>(plan: &Feasible<'_>, solution: &mut X) -> Result<(), Solv
     }
 }
 
-/// Writes the certificate of an instance for so many neighbours.
+/// Writes the certificate of an instance for this many neighbours.
 fn write_bound<Y: Sink>(
     instance: &Instance,
     neighbours: u32,
@@ -95,7 +95,7 @@ fn write_both<X: Sink, Y: Sink>(
 }
 
 /// Writes what was found: its plan, if there is one, descended once more, and then the certificate of its
-/// bound for so many neighbours.
+/// bound for this many neighbours.
 pub(crate) fn write_found<X: Sink, Y: Sink>(
     alloc: Global,
     instance: &Instance,

@@ -33,12 +33,12 @@ pub struct Worker<'a, 'i, H, G> {
     pub ceiling: &'a Ceiling,
     /// Its right to move them.
     pub seat: CeilingSeat,
-    /// No work is left once cost and bound are no further apart than so many tenths of a percent of the cost.
+    /// No work is left once cost and bound are no further apart than this many tenths of a percent of the cost.
     pub enough: u32,
     pub ghost own: { IsSeatOf ceiling.now seat },
 }
 
-/// Whether a plan is known and the bound is no further below its cost than so many tenths of a percent of the
+/// Whether a plan is known and the bound is no further below its cost than this many tenths of a percent of the
 /// cost.
 pub fn is_near(gap: &Gap, enough: u32) -> bool
     ensures { IsTrue result ↔ MatchOption gap.now.cost ⊥
