@@ -7,14 +7,14 @@ ghost use Rattle.labelling.specs.Search.{pricing_in, LosesNothing};
 ghost use Rattle.labelling.specs.declared.fault.LabelFault.TheVariants.{LabelLimit};
 
 use crate::fault::LabelFault;
-use crate::hints::Hints;
+use crate::kept::Kept;
 use crate::labeller::Labeller;
 use crate::least_cost::Least;
 use crate::route_ends::cheapest;
 use labels::{Best, Label};
 use std::alloc::{AllocError, Global};
 
-/// A step takes about as long as so many looks.
+/// A step takes about as long as this many looks.
 const LOOKS_OF_STEP: u64 = 4;
 
 /// So many open steps that are looked at before they are made take about as long as one look.
@@ -69,7 +69,7 @@ impl<'t, 'i> Labeller<'t, 'i> {
     }
 
     /// Tells further routes that were met, the cheapest ones.
-    fn tell(&self, hints: &mut Hints<'_>) -> Result<(), AllocError>
+    fn tell(&self, kept: &mut Kept) -> Result<(), AllocError>
         requires { LosesNothing self.now }
     {
         let alloc = self.completions.task.alloc;
@@ -77,14 +77,14 @@ impl<'t, 'i> Labeller<'t, 'i> {
         for end in &cheapest(alloc, ends.as_slice())? {
             if end.index < self.labels.len() && end.index != self.best.index {
                 let route = route_to(alloc, self.labels.as_slice(), end.index)?;
-                hints.met.push(route)?;
+                kept.met.push(route)?;
             }
         }
         Ok(())
     }
 
     /// Extends all labels, the most promising first, and answers the least reduced cost with its route.
-    fn extend_all(&mut self, hints: &mut Hints<'_>) -> Result<Least, LabelFault>
+    fn extend_all(&mut self, kept: &mut Kept) -> Result<Least, LabelFault>
         requires { LosesNothing self.old }
         ensures least { IfOk result (IsLeastOf (pricing_in self.old)) }
         ensures unlimited { IfErr result (λ e. e ≡ LabelLimit → self.old.limit ≢ None) }
@@ -94,23 +94,22 @@ impl<'t, 'i> Labeller<'t, 'i> {
         self.extend_rest()?;
         let alloc = self.completions.task.alloc;
         let least = answer(alloc, self.labels.as_slice(), self.best)?;
-        self.tell(hints)?;
+        self.tell(kept)?;
         Ok(least)
     }
 
     /// Extends all labels, answers the least reduced cost with its route, and hands on what serves later
-    /// searches: where there were more labels than so many, the next one begins with bounds.
-    pub(crate) fn finish(mut self, few: usize, hints: &mut Hints<'_>) -> Result<Least, LabelFault>
+    /// searches: where there were more labels than this many, the next one begins with bounds.
+    pub(crate) fn finish(mut self, few: usize, kept: &mut Kept) -> Result<Least, LabelFault>
         requires { LosesNothing self }
         ensures least { IfOk result (IsLeastOf (pricing_in self.entry)) }
         ensures unlimited { IfErr result (λ e. e ≡ LabelLimit → self.entry.limit ≢ None) }
     {
-        let found = self.extend_all(hints);
-        hints.looks = self.looks();
+        let found = self.extend_all(kept);
+        kept.looks = self.looks();
         let Labeller { labels, lookup, .. } = self;
-        hints.kept.are_many = labels.len() > few;
-        hints.kept.looks = hints.looks;
-        hints.kept.lookup = Some(lookup);
+        kept.are_many = labels.len() > few;
+        kept.lookup = Some(lookup);
         found
     }
 }

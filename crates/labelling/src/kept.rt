@@ -1,40 +1,33 @@
-//! What a search hands on to later ones.
+//! What searches hand on.
 
-use fronts::Nearness;
 use labels::Lookup;
+use std::alloc::Global;
 
-/// What a search for the least reduced cost hands on to later ones of the same instance. No contract speaks of
-/// it: it decides only how fast an answer is found, and what doesn't fit another instance isn't used there.
+/// What a search for the least reduced cost tells beside its answer, and hands on to the next one. No contract speaks
+/// of it: it decides only how fast an answer is found, and who takes a route from it has to check it.
 #[derive(Drop)]
-pub struct Kept<'i> {
-    /// The tables that it went by.
-    pub nearness: Option<Nearness<'i>>,
+pub struct Kept {
+    /// Further routes that the last search met, by their customers: where a route of low reduced cost was known,
+    /// those that cost less than it does.
+    pub met: Vec<Vec<u16>>,
+    /// How much work the last search was, in looks: the steps from labels to customers, four times each, those that
+    /// other labels spared, half of the open steps, the customers that bounds looked at, and how often a label
+    /// looked at the labels that remember the same customers. Where it was much, bounds by load pay in the next.
+    pub looks: u64,
     /// Where it looked its labels up: the memory serves again.
     pub(crate) lookup: Option<Lookup>,
     /// Whether its labels were many, so that bounds on what may follow pay from the beginning.
     pub(crate) are_many: bool,
-    /// How much work it was, in looks: where it was much, bounds by load pay, too.
-    pub(crate) looks: u64,
 }
 
-impl<'i> Kept<'i> {
+impl Kept {
     /// What the first search has. It takes no memory. No contract: it decides only how fast an answer is found.
-    pub fn nothing() -> Kept<'i> {
+    pub fn nothing(alloc: Global) -> Kept {
         Kept {
-            nearness: None,
+            met: Vec::new(alloc),
+            looks: 0,
             lookup: None,
             are_many: false,
-            looks: 0,
-        }
-    }
-
-    /// Takes out what is kept, and leaves nothing. No contract: as for `nothing`.
-    pub fn take(&mut self) -> Kept<'i> {
-        Kept {
-            nearness: self.nearness.take(),
-            lookup: self.lookup.take(),
-            are_many: self.are_many,
-            looks: self.looks,
         }
     }
 }

@@ -8,12 +8,12 @@ ghost use Rattle.solomon_reader.specs.CertificateText.{IsPrice};
 ghost use Rattle.solomon_reader.specs.States.{pricing};
 ghost use Rattle.solomon_reader.specs.declared.limits.TheConstants.{MOST_NEIGHBOURS};
 ghost use Rattle.labelling.specs.Answer.{HasLeastValue, HasItsRoute, IsLeastOf};
-ghost use Rattle.fronts.specs.Fronts.{IsTask};
 ghost use Rattle.fronts.specs.Tasks.{pricing_of};
 ghost use Rattle.labelling.specs.declared.fault.LabelFault.TheVariants.{LabelLimit};
 
 use crate::fault::LabelFault;
 use crate::hints::Hints;
+use crate::kept::Kept;
 use crate::labeller::Labeller;
 use crate::least_cost::Least;
 use crate::pricing_task::PricingTask;
@@ -23,7 +23,7 @@ use fronts::{Nearness, Task};
 use solomon_reader::Instance;
 use std::alloc::{AllocError, Global};
 
-/// The bounds of a task where the labels are many, after a search that took so many looks; few labels don't pay for
+/// The bounds of a task where the labels are many, after a search that took this many looks; few labels don't pay for
 /// them.
 fn completions_for<'t, 'i>(
     task: &'t Task<'i>,
@@ -39,76 +39,63 @@ fn completions_for<'t, 'i>(
 }
 
 /// What `least_by_hints` answers, from the tables of its task, with bounds from the beginning. With no more labels
-/// than so many the next search begins without them.
+/// than this many the next search begins without them.
 fn least_with_bounds(
     task: &Task<'_>,
     limit: Option<usize>,
     few: usize,
-    hints: &mut Hints<'_>,
+    known: &[u16],
+    kept: &mut Kept,
 ) -> Result<Least, LabelFault>
     ensures least { IfOk result (IsLeastOf (pricing_of task.now)) }
     ensures unlimited { IfErr result (λ e. e ≡ LabelLimit → limit ≢ None) }
 {
-    let completions = Completions::new(task, hints.kept.looks)?;
-    let mut labeller = Labeller::new(&completions, limit, hints.kept.lookup.take())?;
-    labeller.follow(hints.known.as_slice())?;
-    labeller.finish(few, hints)
+    let completions = Completions::new(task, kept.looks)?;
+    let mut labeller = Labeller::new(&completions, limit, kept.lookup.take())?;
+    labeller.follow(known)?;
+    labeller.finish(few, kept)
 }
 
 /// What `least_by_hints` answers, from the tables of its task.
 fn least_of_task(
     task: &Task<'_>,
     limit: Option<usize>,
-    hints: &mut Hints<'_>,
+    known: &[u16],
+    kept: &mut Kept,
 ) -> Result<Least, LabelFault>
     ensures least { IfOk result (IsLeastOf (pricing_of task.now)) }
     ensures unlimited { IfErr result (λ e. e ≡ LabelLimit → limit ≢ None) }
 {
     let few = 2 * usize::from(task.instance.customer_count());
-    if hints.kept.are_many {
-        return least_with_bounds(task, limit, few / 2, hints);
+    if kept.are_many {
+        return least_with_bounds(task, limit, few / 2, known, kept);
     }
     let unknown = Completions::unknown(task);
-    let mut labeller = Labeller::new(&unknown, limit, hints.kept.lookup.take())?;
-    labeller.follow(hints.known.as_slice())?;
+    let mut labeller = Labeller::new(&unknown, limit, kept.lookup.take())?;
+    labeller.follow(known)?;
     labeller.extend_by_time(few)?;
-    let completions = completions_for(task, hints.kept.looks, labeller.labels.len() > few)?;
-    labeller.with(&completions).finish(few, hints)
+    let completions = completions_for(task, kept.looks, labeller.labels.len() > few)?;
+    labeller.with(&completions).finish(few, kept)
 }
 
 /// What `least_by_hints` answers, from the tables of its instance.
 fn least_near(
     alloc: Global,
+    task: &PricingTask<'_>,
     nearness: &Nearness<'_>,
-    region: &Region,
-    prices: &[i64],
     limit: Option<usize>,
-    hints: &mut Hints<'_>,
+    known: &[u16],
+    kept: &mut Kept,
 ) -> Result<Least, LabelFault>
-    requires { IsTask nearness.now.instance.now region.now prices.now }
-    ensures least { let n = nearness.now in
-        IfOk result (IsLeastOf (pricing n.instance.now region.now n.neighbours prices.now)) }
+    requires instance { nearness.now.instance.now ≡ task.now.instance.now }
+    requires neighbours { nearness.now.neighbours ≡ task.now.neighbours }
+    ensures least { let t = task.now in
+        IfOk result (IsLeastOf (pricing t.instance.now t.region t.neighbours t.prices.items)) }
     ensures unlimited { IfErr result (λ e. e ≡ LabelLimit → limit ≢ None) }
 {
-    let task = Task::new(alloc, nearness, region, prices)?;
-    least_of_task(&task, limit, hints)
-}
-
-/// The tables of an instance for so many neighbours: known ones, if they are.
-fn nearness_for<'i>(
-    alloc: Global,
-    instance: &'i Instance,
-    neighbours: u32,
-    known: Option<Nearness<'i>>,
-) -> Result<Nearness<'i>, AllocError>
-    requires { neighbours ≤ MOST_NEIGHBOURS }
-    ensures instance { IfOk result (λ n. n.instance.now ≡ instance.now) }
-    ensures neighbours { IfOk result (λ n. n.neighbours ≡ neighbours) }
-{
-    match known {
-        Some(nearness) if nearness.is_for(instance, neighbours) => Ok(nearness),
-        _ => Nearness::new(alloc, instance, neighbours),
-    }
+    nearness.instance.law_of_limits();
+    let task = Task::new(alloc, nearness, &task.region, task.prices.as_slice())?;
+    least_of_task(&task, limit, known, kept)
 }
 
 /// The least reduced cost over all relaxed routes of the region at these prices, and a route that
@@ -141,16 +128,18 @@ pub fn least(
         neighbours,
         prices: prices.to_vec(alloc)?,
     };
-    least_by_hints(alloc, &task, limit, &mut Hints::none(alloc))
+    let (hints, mut kept) = (Hints::none(alloc), Kept::nothing(alloc));
+    least_by_hints(alloc, &task, limit, &hints, &mut kept)
 }
 
-/// What `least` answers for a task, found sooner where a route of low reduced cost or the tables of an earlier
-/// search are known, with further routes that were met.
-pub fn least_by_hints<'i>(
+/// What `least` answers for a task, found sooner where a route of low reduced cost, the tables of the instance or an
+/// earlier search are known. It keeps further routes that were met.
+pub fn least_by_hints(
     alloc: Global,
-    task: &PricingTask<'i>,
+    task: &PricingTask<'_>,
     limit: Option<usize>,
-    hints: &mut Hints<'i>,
+    hints: &Hints<'_>,
+    kept: &mut Kept,
 ) -> Result<Least, LabelFault>
     ensures value { let t = task.now in
         IfOk result (HasLeastValue t.instance.now t.region t.neighbours t.prices.items) }
@@ -158,18 +147,13 @@ pub fn least_by_hints<'i>(
         IfOk result (HasItsRoute t.instance.now t.region t.neighbours t.prices.items) }
     ensures unlimited { IfErr result (λ e. e ≡ LabelLimit → limit ≢ None) }
 {
-    let instance = task.instance;
-    instance.law_of_limits();
-    let known = hints.kept.nearness.take();
-    let nearness = nearness_for(alloc, instance, task.neighbours, known)?;
-    let found = least_near(
-        alloc,
-        &nearness,
-        &task.region,
-        task.prices.as_slice(),
-        limit,
-        hints,
-    );
-    hints.kept.nearness = Some(nearness);
-    found
+    let (instance, known) = (task.instance, hints.known.as_slice());
+    kept.met.clear();
+    if let Some(nearness) = hints.nearness {
+        if nearness.is_for(instance, task.neighbours) {
+            return least_near(alloc, task, nearness, limit, known, kept);
+        }
+    }
+    let nearness = Nearness::new(alloc, instance, task.neighbours)?;
+    least_near(alloc, task, &nearness, limit, known, kept)
 }

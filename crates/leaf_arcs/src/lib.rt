@@ -21,6 +21,5 @@ pub use decision::Decision;
 pub use floor::Floor;
 pub use leaf::Leaf;
 pub use memory::{contains, is_subset};
-pub use neighbours::Neighbours;
 pub use network::Network;
 pub use task::Task;

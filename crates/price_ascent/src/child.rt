@@ -15,7 +15,7 @@ use crate::pricing::price;
 use crate::trying::{TriedArc, best_arc};
 use branching::{Arc, Region, RegionFault};
 use pooled_routes::{GRAINS_OF_TENTH, Side};
-use price_way::{ChildStart, RoutePool};
+use price_way::{Ascent, ChildStart, RoutePool};
 use prices::{PriceFault, Priced};
 use solomon_reader::Instance;
 use std::alloc::{AllocError, Global};
@@ -69,7 +69,7 @@ fn narrow<'i>(leaf: &Priced<'i>, region: &Region) -> Result<Option<Priced<'i>>, 
 /// above every plan's cost.
 fn price_child<'i>(
     alloc: Global,
-    pool: &mut RoutePool<'i>,
+    pool: &mut RoutePool<'_>,
     leaf: &Priced<'i>,
     region: &Region,
     labels: Option<usize>,
@@ -126,30 +126,36 @@ fn stops_along(
     }
 }
 
-/// Where the ascents of the children by an arc start: the one in which it is required, and the other.
+/// Where the ascents of the children by an arc start, after one at their leaf: the one in which it is required, and
+/// the other.
 fn starts_of(
     pool: &RoutePool<'_>,
+    ascent: Option<&Ascent>,
     arc: Arc,
     tried: Option<TriedArc>,
 ) -> Result<(Option<ChildStart>, Option<ChildStart>), AllocError> {
+    let Some(ascent) = ascent else {
+        return Ok((None, None));
+    };
     let (used, unused) = match tried {
         Some(tried) => tried.into_prices(arc),
         None => (None, None),
     };
-    let used = pool.start_of(arc, Side::Used, used)?;
-    let unused = pool.start_of(arc, Side::Unused, unused)?;
-    Ok((used, unused))
+    let used = pool.start_of(ascent, arc, Side::Used, used)?;
+    let unused = pool.start_of(ascent, arc, Side::Unused, unused)?;
+    Ok((Some(used), Some(unused)))
 }
 
-/// The children of a leaf whose prices were raised last, with its prices or higher ones: by the arc that
-/// promises most in a trial over the routes of the pool, or where none is worth one by that which they
-/// leave most open; nothing where every arc that the leaf's region allows is required. At most so many
+/// The children of a leaf, with its prices or higher ones: by the arc that promises most in a trial over the routes of
+/// the pool, from where the ascent at the leaf has ended, or where none is worth one by that which they
+/// leave most open; nothing where every arc that the leaf's region allows is required. At most this many
 /// labels may be active at once in a pricing, if there is a limit; `LabelLimit` where they don't
 /// suffice, and `Memory`.
 pub fn branch<'i>(
     alloc: Global,
     leaf: &Priced<'i>,
-    pool: &mut RoutePool<'i>,
+    ascent: Option<&Ascent>,
+    pool: &mut RoutePool<'_>,
     labels: Option<usize>,
 ) -> Result<Option<Children<'i>>, PriceFault>
     ensures settled { IfOk result (λ found. IfNone found (IsSettled leaf.now.region)) }
@@ -157,12 +163,15 @@ pub fn branch<'i>(
     ensures in_range { IfErr result (λ e. e ≢ PriceRange) }
     ensures unlimited { IfErr result (λ e. e ≡ LabelLimit → labels ≢ None) }
 {
-    let tried = best_arc(leaf, pool)?;
+    let tried = match ascent {
+        Some(ascent) => best_arc(leaf, ascent, pool)?,
+        None => None,
+    };
     let stops = stops_along(alloc, leaf, pool, &tried)?;
     let Some(arc) = leaf.region().choose(stops.as_slice()) else {
         return Ok(None);
     };
-    let (used_start, unused_start) = starts_of(pool, arc, tried)?;
+    let (used_start, unused_start) = starts_of(pool, ascent, arc, tried)?;
     let (used, unused) = child_regions(leaf.region(), arc)?;
     let used = price_child(alloc, pool, leaf, &used, labels);
     let unused = price_child(alloc, pool, leaf, &unused, labels);

@@ -12,8 +12,8 @@ mod trying;
 
 pub use child::{Children, branch};
 pub use price_way::{
-    ChildStart, Goal, IDLE_PRICINGS, RoutePool, counted_routes, first_rise, rise_at,
+    Ascent, ChildStart, Goal, IDLE_PRICINGS, RoutePool, counted_routes, first_rise, rise_at,
 };
-pub use raising::raise;
+pub use raising::{Raised, raise};
 pub use refuting::start_without_plan;
-pub use starting::{first_prices, start_from};
+pub use starting::start_from;

@@ -12,7 +12,7 @@ use std::alloc::Global;
 /// cheaper ones that the pricing meets, and how much work it was.
 pub(crate) fn price<'i>(
     alloc: Global,
-    pool: &mut RoutePool<'i>,
+    pool: &mut RoutePool<'_>,
     task: PricingTask<'i>,
     labels: Option<usize>,
 ) -> Result<Priced<'i>, PriceFault>
@@ -25,9 +25,12 @@ pub(crate) fn price<'i>(
 {
     let instance = task.instance;
     let known = pool.cheapest(&task.region, task.prices.as_slice())?;
-    let mut hints = Hints::of(alloc, known, pool.kept.take());
-    let priced = Priced::by_hints(alloc, task, labels, &mut hints);
-    pool.take_in(instance, hints)?;
+    let hints = Hints {
+        nearness: Some(pool.nearness),
+        known,
+    };
+    let priced = Priced::by_hints(alloc, task, labels, &hints, &mut pool.kept);
+    pool.take_in(instance)?;
     match priced {
         Ok(priced) => Ok(priced),
         Err((_task, fault)) => Err(PriceFault::from(fault)),

@@ -19,16 +19,16 @@ use std::alloc::{AllocError, Global};
 /// The most steps of a round.
 const MOST_STEPS: u32 = 10_000;
 
-/// After so many steps that gain less than a thousandth the searches get wider.
+/// After this many steps that gain less than a thousandth the searches get wider.
 const STEPS_BETWEEN: u32 = 10;
 
 /// The most searches for the scale of prices.
 const SCALINGS: u32 = 3;
 
-/// A scale that falls by less than so many millionths is found.
+/// A scale that falls by less than this many millionths is found.
 const LEAST_FALL: i64 = 1_000;
 
-/// The pricing that ends a round may take so many times the labels of another one.
+/// The pricing that ends a round may take this many times the labels of another one.
 const LABELS_OF_ROUND: usize = 4;
 
 /// The routes that a quick search of this width finds, or of that which is the next one's.
@@ -43,24 +43,23 @@ fn routes_at(
     requires { IsTask nearness.now.instance.now region.now prices.now }
 {
     let task = Task::new(alloc, nearness, region, prices)?;
-    let mut way = match quick.take() {
-        Some(way) => way,
-        None => QuickWay::new(&task)?,
-    };
-    let found = quick_routes(&task, &way.likely, width.unwrap_or(way.width()));
-    if let (None, Ok(found)) = (width, &found) {
+    if quick.is_none() {
+        *quick = Some(QuickWay::new(&task)?);
+    }
+    let Some(way) = quick else { unreachable!() };
+    let found = quick_routes(&task, &way.likely, width.unwrap_or(way.width()))?;
+    if width.is_none() {
         way.looks = found.looks;
     }
-    *quick = Some(way);
-    found
+    Ok(found)
 }
 
 /// Searches for routes at these prices, and adds those below a floor to the pool; answers the least reduced
 /// cost that was found, the greatest number where none was.
-fn search<'i>(
+fn search(
     alloc: Global,
-    pool: &mut RoutePool<'i>,
-    leaf: &Priced<'i>,
+    pool: &mut RoutePool<'_>,
+    leaf: &Priced<'_>,
     prices: &[i64],
     floor: i64,
     width: Option<Width>,
@@ -68,22 +67,19 @@ fn search<'i>(
     requires count { length prices.now ≡ customer_count leaf.now.problem }
     requires in_range { AllByRecursion IsPrice prices.now }
 {
-    let instance = leaf.instance();
-    let nearness = match pool.kept.nearness.take() {
-        Some(nearness) if nearness.is_for(instance, leaf.neighbours()) => nearness,
-        _ => return Ok(i64::MAX),
-    };
+    let (instance, nearness) = (leaf.instance(), pool.nearness);
+    if !nearness.is_for(instance, leaf.neighbours()) {
+        return Ok(i64::MAX);
+    }
     instance.law_of_limits();
     let found = routes_at(
         alloc,
-        &nearness,
+        nearness,
         &mut pool.quick,
         leaf.region(),
         prices,
         width,
-    );
-    pool.kept.nearness = Some(nearness);
-    let found = found?;
+    )?;
     pool.count_looks(found.looks);
     for route in &found.routes {
         if route.reduced_cost < floor {
@@ -100,14 +96,14 @@ fn search<'i>(
 
 /// Whether the next step of an ascent is a round of quick searches: at the root, where an exact pricing is
 /// dear. One search tells how much work it is.
-pub(crate) fn is_quick_next<'i>(
+pub(crate) fn is_quick_next(
     alloc: Global,
-    pool: &mut RoutePool<'i>,
-    leaf: &Priced<'i>,
+    pool: &mut RoutePool<'_>,
+    leaf: &Priced<'_>,
     goal: &Goal,
 ) -> Result<bool, AllocError> {
     let customers = u64::from(leaf.instance().customer_count());
-    let exact = pool.exact_looks;
+    let exact = pool.kept.looks;
     if !leaf.region().is_root() || exact < customers.saturating_mul(customers).saturating_mul(8) {
         return Ok(false);
     }
@@ -122,11 +118,11 @@ pub(crate) fn is_quick_next<'i>(
 }
 
 /// A serious or a null step by a quick search alone; whether it found a route that the prices don't keep to.
-fn quick_step<'i>(
+fn quick_step(
     alloc: Global,
-    pool: &mut RoutePool<'i>,
+    pool: &mut RoutePool<'_>,
     ascent: &mut Ascent,
-    leaf: &Priced<'i>,
+    leaf: &Priced<'_>,
 ) -> Result<bool, AllocError> {
     let trial = ascent.trial(alloc, pool)?;
     let prices = trial.prices_in_range(alloc, leaf.instance())?;
@@ -139,11 +135,11 @@ fn quick_step<'i>(
 
 /// Lets searches look more widely, unless they can't; whether they do. The centre is judged by a wider one,
 /// and the rise begins anew.
-fn widen<'i>(
+fn widen(
     alloc: Global,
-    pool: &mut RoutePool<'i>,
+    pool: &mut RoutePool<'_>,
     ascent: &mut Ascent,
-    leaf: &Priced<'i>,
+    leaf: &Priced<'_>,
 ) -> Result<bool, AllocError> {
     let is_wider = match &mut pool.quick {
         Some(way) => way.widen(),
@@ -159,12 +155,12 @@ fn widen<'i>(
     Ok(is_wider)
 }
 
-/// Steps by quick searches alone, for so many looks, or until the widest of them lead no further.
-fn quick_steps<'i>(
+/// Steps by quick searches alone, for this many looks, or until the widest of them lead no further.
+fn quick_steps(
     alloc: Global,
-    pool: &mut RoutePool<'i>,
+    pool: &mut RoutePool<'_>,
     ascent: &mut Ascent,
-    leaf: &Priced<'i>,
+    leaf: &Priced<'_>,
     looks: u64,
 ) -> Result<(), AllocError> {
     let end = pool.looks().saturating_add(looks);
@@ -192,11 +188,11 @@ fn quick_steps<'i>(
     Ok(())
 }
 
-/// The centre's prices, multiplied by so many millionths.
-fn prices_at<'i>(
+/// The centre's prices, multiplied by this many millionths.
+fn prices_at(
     alloc: Global,
     ascent: &Ascent,
-    leaf: &Priced<'i>,
+    leaf: &Priced<'_>,
     scale: i64,
 ) -> Result<Vec<i64>, AllocError>
     ensures count { IfOk result (λ v. length v.items ≡ customer_count leaf.now.problem) }
@@ -214,11 +210,11 @@ fn prices_at<'i>(
 
 /// By how many millionths the centre's prices are to be multiplied so that no route pays more than it costs,
 /// as far as the widest searches know.
-fn scale_of<'i>(
+fn scale_of(
     alloc: Global,
-    pool: &mut RoutePool<'i>,
+    pool: &mut RoutePool<'_>,
     ascent: &Ascent,
-    leaf: &Priced<'i>,
+    leaf: &Priced<'_>,
 ) -> Result<i64, AllocError> {
     let mut scale = pool.scale_at(ascent.centre.prices.as_slice())?;
     for _ in 0..SCALINGS {
@@ -264,7 +260,7 @@ fn end_round(
 /// routes met pay at most what they cost. Nothing where labels ran out.
 pub(crate) fn quick_round<'i>(
     alloc: Global,
-    pool: &mut RoutePool<'i>,
+    pool: &mut RoutePool<'_>,
     ascent: &mut Ascent,
     leaf: &Priced<'i>,
     goal: &Goal,
@@ -276,7 +272,7 @@ pub(crate) fn quick_round<'i>(
         None => return Ok(None),
     };
     let looks = if has_begun {
-        pool.exact_looks
+        pool.kept.looks
     } else {
         goal.looks / 10 * 3
     };

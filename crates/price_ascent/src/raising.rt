@@ -10,10 +10,18 @@ use price_way::{Ascent, ChildStart, Goal, RoutePool};
 use prices::{PriceFault, Priced};
 use std::alloc::{AllocError, Global};
 
+/// Raised prices, and the ascent that has ended there, by which their leaf may be split; nothing where memory was
+/// refused to it.
+#[derive(Drop)]
+pub struct Raised<'i> {
+    pub priced: Priced<'i>,
+    pub ascent: Option<Ascent>,
+}
+
 /// The prices of a trial with their value, at the leaf of other prices.
 fn price_trial<'i>(
     alloc: Global,
-    pool: &mut RoutePool<'i>,
+    pool: &mut RoutePool<'_>,
     leaf: &Priced<'i>,
     trial: &Trial,
     labels: Option<usize>,
@@ -47,7 +55,7 @@ pub(crate) fn higher<'i>(first: Priced<'i>, second: Priced<'i>) -> Priced<'i>
 /// memory or labels don't suffice.
 fn price_start<'i>(
     alloc: Global,
-    pool: &mut RoutePool<'i>,
+    pool: &mut RoutePool<'_>,
     child: &Priced<'i>,
     start: &Option<ChildStart>,
     labels: Option<usize>,
@@ -80,7 +88,7 @@ fn higher_if<'i>(first: Priced<'i>, second: Option<Priced<'i>>) -> Priced<'i>
 /// The next prices of an ascent from the best so far, with their value; nothing where labels ran out.
 fn step<'i>(
     alloc: Global,
-    pool: &mut RoutePool<'i>,
+    pool: &mut RoutePool<'_>,
     ascent: &mut Ascent,
     best: &Priced<'i>,
     goal: &Goal,
@@ -109,7 +117,7 @@ fn step<'i>(
 /// The best of these prices and those that an ascent comes to at their leaf.
 fn climb<'i>(
     alloc: Global,
-    pool: &mut RoutePool<'i>,
+    pool: &mut RoutePool<'_>,
     ascent: &mut Ascent,
     priced: Priced<'i>,
     goal: &Goal,
@@ -149,35 +157,44 @@ fn climb<'i>(
 /// find the next prices.
 pub fn raise<'i>(
     alloc: Global,
-    pool: &mut RoutePool<'i>,
+    pool: &mut RoutePool<'_>,
     priced: Priced<'i>,
     start: Option<ChildStart>,
     goal: &Goal,
-) -> Priced<'i>
-    ensures problem { result.problem ≡ priced.entry.problem }
-    ensures region { result.region ≡ priced.entry.region }
-    ensures neighbours { result.neighbours ≡ priced.entry.neighbours }
-    ensures not_lower { priced.entry.value ≤ result.value }
+) -> Raised<'i>
+    ensures problem { result.priced.problem ≡ priced.entry.problem }
+    ensures region { result.priced.region ≡ priced.entry.region }
+    ensures neighbours { result.priced.neighbours ≡ priced.entry.neighbours }
+    ensures not_lower { priced.entry.value ≤ result.priced.value }
 {
     if let Some(start) = &start {
         pool.begin(start);
     }
     if pool.enter(&priced).is_err() {
-        return priced;
+        return Raised {
+            priced,
+            ascent: None,
+        };
     }
     let tried = price_start(alloc, pool, &priced, &start, goal.labels);
     let ascent = Ascent::new(alloc, pool, tried.as_ref().unwrap_or(&priced), goal);
-    let higher = higher_if(priced, tried);
+    let priced = higher_if(priced, tried);
     let Ok(mut ascent) = ascent else {
-        return higher;
+        return Raised {
+            priced,
+            ascent: None,
+        };
     };
-    let best = climb(alloc, pool, &mut ascent, higher, goal);
-    if ascent.go_back_to(alloc, &best).is_err() {
-        return best;
+    let priced = climb(alloc, pool, &mut ascent, priced, goal);
+    if ascent.go_back_to(alloc, &priced).is_err() {
+        return Raised {
+            priced,
+            ascent: None,
+        };
     }
     if let Some(start) = &start {
-        pool.learn(start, &ascent, best.value());
+        pool.learn(start, &ascent, priced.value());
     }
-    pool.ascent = Some(ascent);
-    best
+    let ascent = Some(ascent);
+    Raised { priced, ascent }
 }

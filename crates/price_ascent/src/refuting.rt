@@ -4,10 +4,10 @@ ghost use Rattle.std.specs.Prelude.{◌≡◌, ◌+◌, ◌<◌, ◌≤◌, leng
 ghost use Rattle.std.specs.List.{AllByRecursion};
 ghost use Rattle.solomon_reader.specs.Problem.{customer_count};
 ghost use Rattle.solomon_reader.specs.CertificateText.{IsPrice};
-ghost use Rattle.solomon_reader.specs.Region.{root_region};
 
 use crate::child::high_price;
 use crate::starting::higher_at;
+use fronts::Nearness;
 use prices::Priced;
 use schedule::walk;
 use solomon_reader::{Instance, MOST_PRICE};
@@ -70,9 +70,13 @@ fn prices_against(
 
 /// The root, with the prices of the highest value that the obstacles to a plan lead to: for a fleet that is
 /// too small for the demands, or a customer whom no vehicle can serve, mostly a value above every plan's cost.
-/// Else the root as it is, also where memory or labels don't suffice.
-pub fn start_without_plan<'i>(alloc: Global, root: Priced<'i>, labels: Option<usize>) -> Priced<'i>
-    requires region { root.region ≡ root_region (customer_count root.problem) }
+/// Else the root as it is, also where memory or labels don't suffice. The tables of the instance are lent.
+pub fn start_without_plan<'i>(
+    alloc: Global,
+    nearness: &Nearness<'_>,
+    root: Priced<'i>,
+    labels: Option<usize>,
+) -> Priced<'i>
     ensures problem { result.problem ≡ root.entry.problem }
     ensures region { result.region ≡ root.entry.region }
     ensures neighbours { result.neighbours ≡ root.entry.neighbours }
@@ -87,7 +91,7 @@ pub fn start_without_plan<'i>(alloc: Global, root: Priced<'i>, labels: Option<us
         }
         if let Some(obstacle) = obstacle_at(instance, row) {
             best = match prices_against(alloc, instance, obstacle) {
-                Ok(prices) => higher_at(alloc, best, prices, labels),
+                Ok(prices) => higher_at(alloc, nearness, best, prices, labels),
                 Err(_) => best,
             };
         }

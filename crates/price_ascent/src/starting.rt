@@ -4,10 +4,10 @@ ghost use Rattle.std.specs.Prelude.{◌≡◌, ◌≤◌, length, IfOk};
 ghost use Rattle.std.specs.List.{AllByRecursion};
 ghost use Rattle.solomon_reader.specs.Problem.{customer_count};
 ghost use Rattle.solomon_reader.specs.CertificateText.{IsPrice};
-ghost use Rattle.solomon_reader.specs.Region.{root_region};
 
 use crate::raising::higher;
-use branching::Region;
+use fronts::Nearness;
+use labelling::{Hints, Kept};
 use pooled_routes::arc_cost;
 use prices::Priced;
 use solomon_reader::{Instance, MOST_PRICE};
@@ -44,7 +44,7 @@ fn first_price(instance: &Instance, routes: &[Vec<u16>], customer: u16) -> i64
 
 /// Prices to start from, in grains, that of customer i at i - 1: 30 percent of each customer's share
 /// of the cost of a plan's routes, which are given by their customers in order.
-pub fn first_prices(
+fn first_prices(
     alloc: Global,
     instance: &Instance,
     routes: &[Vec<u16>],
@@ -60,45 +60,48 @@ pub fn first_prices(
     Ok(prices)
 }
 
-/// The root with these prices where their value is higher; else the root as it is, also where memory or
-/// labels don't suffice.
+/// The leaf with these prices where their value is higher; else the leaf as it is, also where memory or
+/// labels don't suffice. The tables of the instance are lent.
 pub(crate) fn higher_at<'i>(
     alloc: Global,
-    root: Priced<'i>,
+    nearness: &Nearness<'_>,
+    leaf: Priced<'i>,
     prices: Vec<i64>,
     labels: Option<usize>,
 ) -> Priced<'i>
-    requires region { root.region ≡ root_region (customer_count root.problem) }
-    requires count { length prices.items ≡ customer_count root.problem }
-    ensures problem { result.problem ≡ root.entry.problem }
-    ensures region { result.region ≡ root.entry.region }
-    ensures neighbours { result.neighbours ≡ root.entry.neighbours }
-    ensures not_lower { root.entry.value ≤ result.value }
+    requires count { length prices.items ≡ customer_count leaf.problem }
+    requires in_range { AllByRecursion IsPrice prices.items }
+    ensures problem { result.problem ≡ leaf.entry.problem }
+    ensures region { result.region ≡ leaf.entry.region }
+    ensures neighbours { result.neighbours ≡ leaf.entry.neighbours }
+    ensures not_lower { leaf.entry.value ≤ result.value }
 {
-    let instance = root.instance();
-    let region = Region::root(alloc, instance.customer_count());
-    match Priced::of(alloc, instance, region, root.neighbours(), prices, labels) {
-        Ok(other) => higher(root, other),
-        Err(_) => root,
+    let Ok(task) = leaf.task().with(prices) else {
+        return leaf;
+    };
+    let (hints, mut kept) = (Hints::near(alloc, nearness), Kept::nothing(alloc));
+    match Priced::by_hints(alloc, task, labels, &hints, &mut kept) {
+        Ok(other) => higher(leaf, other),
+        Err(_) => leaf,
     }
 }
 
 /// The root with the prices that the routes of a plan say to start from, where their value is higher;
-/// else the root as it is, also where memory or labels don't suffice.
+/// else the root as it is, also where memory or labels don't suffice. The tables of the instance are lent.
 pub fn start_from<'i>(
     alloc: Global,
+    nearness: &Nearness<'_>,
     root: Priced<'i>,
     routes: &[Vec<u16>],
     labels: Option<usize>,
 ) -> Priced<'i>
-    requires region { root.region ≡ root_region (customer_count root.problem) }
     ensures problem { result.problem ≡ root.entry.problem }
     ensures region { result.region ≡ root.entry.region }
     ensures neighbours { result.neighbours ≡ root.entry.neighbours }
     ensures not_lower { root.entry.value ≤ result.value }
 {
     match first_prices(alloc, root.instance(), routes) {
-        Ok(prices) => higher_at(alloc, root, prices, labels),
+        Ok(prices) => higher_at(alloc, nearness, root, prices, labels),
         Err(_) => root,
     }
 }

@@ -120,15 +120,13 @@ fn try_arc(
     })
 }
 
-/// Of the arcs that the pool's routes leave open at the leaf whose prices were raised last the one whose
-/// children promise to rise most, if there is one.
+/// Of the arcs that the pool's routes leave open at a leaf, after an ascent there, the one whose children promise to
+/// rise most, if there is one.
 pub(crate) fn best_arc(
     leaf: &Priced<'_>,
+    ascent: &Ascent,
     pool: &mut RoutePool<'_>,
 ) -> Result<Option<TriedArc>, AllocError> {
-    let Some(ascent) = &pool.ascent else {
-        return Ok(None);
-    };
     let mut arcs = candidates(leaf.region(), pool.flows()?, pool.rise())?;
     // Where rises are known, a worth takes no trial, and the best one spares the trials of other arcs.
     let seen = &pool.pseudocosts;

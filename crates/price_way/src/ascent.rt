@@ -1,4 +1,6 @@
 //! The way of prices from one centre to the next.
+//!
+//! No contract speaks of it: it is a rule of search, and any prices are sound.
 
 use crate::centre::Centre;
 use crate::goal::Goal;
@@ -42,7 +44,6 @@ fn rise_in_range(rise: i64) -> i64 {
 
 impl Ascent {
     /// The way from these prices to a goal.
-    /// No contract: a rule of search; any prices are sound.
     pub fn new(
         alloc: Global,
         pool: &mut RoutePool<'_>,
@@ -65,7 +66,6 @@ impl Ascent {
     }
 
     /// How much the merit has to rise in grains until the value, which is rounded up, is the target.
-    /// No contract: a rule of search; any prices are sound.
     pub fn gap(&self) -> i128 {
         let enough = grains(self.target.saturating_sub(1)).saturating_add(1);
         enough.saturating_sub(self.centre.merit).max(LEAST_GAP)
@@ -73,7 +73,6 @@ impl Ascent {
 
     /// How far the merit has risen above another, in grains: at most to the target, and up to it where
     /// the value has reached it.
-    /// No contract: a rule of search; any prices are sound.
     pub fn rise_since(&self, merit: i128, value: i128) -> i128 {
         let most = grains(self.target);
         let reached = if value >= self.target {
@@ -85,7 +84,6 @@ impl Ascent {
     }
 
     /// The centre after a rise in grains, from which a projection starts.
-    /// No contract: a rule of search; any prices are sound.
     pub fn start(&self, alloc: Global, rise: i64) -> Result<Trial, AllocError> {
         let floor = self.floor.scaled(self.rise, rise);
         let floor = self.merit.start(floor, self.centre.least, rise);
@@ -94,14 +92,12 @@ impl Ascent {
 
     /// How far the merit rises from the centre to the prices of a trial with this least reduced cost,
     /// in grains.
-    /// No contract: a rule of search; any prices are sound.
     pub fn rise_to(&self, trial: &Trial, least: i64) -> i128 {
         let merit = self.merit.of(trial.prices.as_slice(), i128::from(least));
         merit.saturating_sub(self.centre.merit)
     }
 
     /// The centre after the rise, projected onto what the routes of the pool say.
-    /// No contract: a rule of search; any prices are sound.
     pub fn trial(&self, alloc: Global, pool: &mut RoutePool<'_>) -> Result<Trial, AllocError> {
         let mut trial = self.start(alloc, self.rise)?;
         pool.project(&mut trial)?;
@@ -116,7 +112,6 @@ impl Ascent {
     }
 
     /// Goes on with a shorter rise: after a null step, or where the prices of a trial had no value.
-    /// No contract: a rule of search; any prices are sound.
     pub fn draw_back(&mut self, pool: &mut RoutePool<'_>) {
         self.scale(pool, rise_in_range(self.rise.saturating_mul(3) / 5));
     }
@@ -139,7 +134,6 @@ impl Ascent {
     }
 
     /// Takes in what the prices of a trial led to.
-    /// No contract: a rule of search; any prices are sound.
     pub fn take_in(
         &mut self,
         alloc: Global,
@@ -156,7 +150,6 @@ impl Ascent {
     }
 
     /// Takes in the least reduced cost that a quick search found at the prices of a trial.
-    /// No contract: a rule of search; any prices are sound.
     pub fn take_in_quick(
         &mut self,
         pool: &mut RoutePool<'_>,
@@ -172,7 +165,6 @@ impl Ascent {
 
     /// Goes on with another rise from the same centre, whose least reduced cost is known anew, as far as
     /// quick searches know it.
-    /// No contract: a rule of search; any prices are sound.
     pub fn go_on_from(&mut self, pool: &mut RoutePool<'_>, least: i64, rise: i64) {
         self.centre.least = i128::from(least);
         self.centre.merit = self
@@ -183,7 +175,6 @@ impl Ascent {
     }
 
     /// Goes back to these prices as the centre, unless that was priced exactly.
-    /// No contract: a rule of search; any prices are sound.
     pub fn go_back_to(&mut self, alloc: Global, priced: &Priced<'_>) -> Result<(), AllocError> {
         if self.is_quick {
             self.centre = Centre::new(alloc, priced, self.merit)?;
@@ -193,7 +184,6 @@ impl Ascent {
     }
 
     /// Whether the merit has come to the target.
-    /// No contract: a rule of search; any prices are sound.
     pub fn is_at_target(&self) -> bool {
         self.centre.merit >= grains(self.target)
     }

@@ -1,4 +1,6 @@
 //! The prices that a rise starts from.
+//!
+//! No contract speaks of it: it is a rule of search, and any prices are sound.
 
 use pooled_routes::Merit;
 use prices::Priced;
@@ -15,7 +17,6 @@ pub struct Centre {
 
 impl Centre {
     /// The centre at prices with this least reduced cost.
-    /// No contract: a rule of search; any prices are sound.
     pub fn at(prices: Vec<i64>, least: i128, merit: Merit) -> Centre {
         Centre {
             merit: merit.of(prices.as_slice(), least),
@@ -25,7 +26,6 @@ impl Centre {
     }
 
     /// The centre at these prices.
-    /// No contract: a rule of search; any prices are sound.
     pub fn new(alloc: Global, priced: &Priced<'_>, merit: Merit) -> Result<Centre, AllocError> {
         let least = priced.least().value.unwrap_or(0);
         let prices = Vec::from_slice(alloc, priced.prices())?;

@@ -11,7 +11,6 @@ mod rises;
 mod route_pool;
 
 pub use ascent::Ascent;
-pub use centre::Centre;
 pub use child_start::ChildStart;
 pub use goal::{Goal, IDLE_PRICINGS, counted_routes};
 pub use pool_trial::{ChildTrial, PoolTrial};

@@ -1,4 +1,6 @@
 //! The trial of a leaf's children over the routes of a pool.
+//!
+//! No contract speaks of it: it is a rule of search, and any prices are sound.
 
 use crate::ascent::Ascent;
 use branching::Arc;
@@ -41,7 +43,6 @@ fn rank(space: &HalfSpace<'_>, prices: &Trial) -> i64 {
 impl<'r> PoolTrial<'r> {
     /// Trials with this rise in grains, over at most this many of a pool's routes, whose multipliers are
     /// measured by the rise already.
-    /// No contract: a rule of search; any prices are sound.
     pub fn new(
         alloc: Global,
         ascent: &'r Ascent,
@@ -76,7 +77,6 @@ impl<'r> PoolTrial<'r> {
 
     /// The prices that a child's ascent would come to if it had only those of the pool's routes that the
     /// child doesn't forbid.
-    /// No contract: a rule of search; any prices are sound.
     pub fn of_child(&self, arc: Arc, side: Side) -> Result<ChildTrial, AllocError> {
         let spaces = self.spaces_of_child(arc, side)?;
         let mut projection = Projection { spaces, looks: 0 };

@@ -1,4 +1,6 @@
 //! Quick searches for the routes that bind prices, at the root of an instance where an exact pricing is dear.
+//!
+//! No contract speaks of it: it is a rule of search, and any prices are sound.
 
 use fronts::Task;
 use quick_routes::{Likely, Width};
@@ -60,7 +62,6 @@ pub struct QuickWay {
 
 impl QuickWay {
     /// The way at its beginning.
-    /// No contract: a rule of search; any prices are sound.
     pub fn new(task: &Task<'_>) -> Result<QuickWay, AllocError> {
         Ok(QuickWay {
             likely: Likely::new(task)?,
@@ -73,13 +74,11 @@ impl QuickWay {
     }
 
     /// How widely the next step's search looks.
-    /// No contract: a rule of search; any prices are sound.
     pub fn width(&self) -> Width {
         WIDTHS.get(self.level).copied().unwrap_or(WIDEST)
     }
 
     /// Looks more widely from now on; whether that could be.
-    /// No contract: a rule of search; any prices are sound.
     pub fn widen(&mut self) -> bool {
         let next = self.level.saturating_add(1);
         let is_one = next < WIDTHS.len();
@@ -91,7 +90,6 @@ impl QuickWay {
 
     /// Whether the next step is a round of quick searches, where an exact pricing takes this many looks and there
     /// will be few of them.
-    /// No contract: a rule of search; any prices are sound.
     pub fn is_next(&mut self, exact: u64, are_few: bool) -> bool {
         if self.idle >= IDLE_ROUNDS {
             self.idle = self.idle.saturating_sub(2);
@@ -102,7 +100,6 @@ impl QuickWay {
     }
 
     /// Learns whether a round raised the value.
-    /// No contract: a rule of search; any prices are sound.
     pub fn learn(&mut self, is_raised: bool) {
         self.has_begun = true;
         self.idle = if is_raised {
@@ -113,7 +110,6 @@ impl QuickWay {
     }
 
     /// Learns how far the last prices that were priced exactly missed the whole, in millionths.
-    /// No contract: a rule of search; any prices are sound.
     pub fn hold_back(&mut self, lack: i64) {
         self.margin = self.margin.saturating_add(lack).max(0).saturating_mul(3) / 5;
     }

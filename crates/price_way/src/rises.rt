@@ -1,4 +1,6 @@
 //! How far prices rise at first.
+//!
+//! No contract speaks of it: it is a rule of search, and any prices are sound.
 
 use pooled_routes::{GRAINS_OF_TENTH, arc_cost};
 use prices::Priced;
@@ -43,7 +45,6 @@ pub fn rise_at(leaf: &Priced<'_>, cost: Option<Tenths>) -> i64 {
 
 /// The rise of each price in a trial, in grains: six tenths of a customer's share of a cost in tenths,
 /// at most of the way there and back.
-/// No contract: a rule of search; any prices are sound.
 pub(crate) fn trial_rise(instance: &Instance, cost: i128) -> i64 {
     let most = mean_way(instance);
     let grains = cost.clamp(0, i128::from(i64::MAX)) as i64;

@@ -1,4 +1,6 @@
 //! The routes met so far.
+//!
+//! No contract speaks of it: it is a rule of search, and any prices are sound.
 
 use crate::ascent::Ascent;
 use crate::child_start::ChildStart;
@@ -6,8 +8,8 @@ use crate::pool_trial::PoolTrial;
 use crate::quick_way::{QuickWay, WHOLE};
 use crate::rises::trial_rise;
 use branching::{Arc, Region};
-use fronts::allowed_rows;
-use labelling::{Hints, Kept};
+use fronts::{Nearness, allowed_rows};
+use labelling::Kept;
 use pooled_routes::{
     ArcFlow, Floor, HalfSpace, PooledRoute, Projection, Pseudocosts, RouteShare, Side, Trial,
     cost_of, merge, scaled,
@@ -15,8 +17,9 @@ use pooled_routes::{
 use prices::{Priced, allows_route};
 use solomon_reader::Instance;
 use std::alloc::{AllocError, Global};
+use std::mem::replace;
 
-/// The most routes of a pool: so many, or where that is more, so many for each customer.
+/// The most routes of a pool: the first number, or the second for each customer where that is more.
 const MOST_ROUTES: usize = 1_000;
 
 const ROUTES_OF_CUSTOMER: usize = 4;
@@ -27,14 +30,16 @@ const MOST_SWEEPS: u32 = 60;
 /// The most routes of a trial for each customer.
 const TRIAL_ROUTES: usize = 4;
 
-/// A route that prices are projected onto takes as long as so many looks at customers.
+/// A route that prices are projected onto takes as long as this many looks at customers.
 const LOOKS_AT_ROUTE: u64 = 4;
 
 /// The relaxed routes met so far at an instance's leaves, with what each says of prices. One pool
 /// serves all leaves, since a route doesn't depend on the region.
 #[derive(Drop)]
-pub struct RoutePool<'i> {
+pub struct RoutePool<'n> {
     alloc: Global,
+    /// The tables of the instance.
+    pub nearness: &'n Nearness<'n>,
     routes: Vec<PooledRoute>,
     /// How many routes were added.
     met: u64,
@@ -45,45 +50,41 @@ pub struct RoutePool<'i> {
     /// How much work they, the projections and the trials were, in looks.
     looks: u64,
     /// What the last pricing handed on to the next one.
-    pub kept: Kept<'i>,
-    /// How much work the last pricing was, in looks.
-    pub exact_looks: u64,
+    pub kept: Kept,
     /// How an ascent by quick searches goes on, where one was made.
     pub quick: Option<QuickWay>,
-    /// The last raising of prices that has ended.
-    pub ascent: Option<Ascent>,
     /// The rises of merit that were seen.
     pub pseudocosts: Pseudocosts,
 }
 
-impl<'i> RoutePool<'i> {
-    /// A pool without routes. No contract: any prices are sound, whatever stands in a pool.
-    pub fn new(alloc: Global) -> RoutePool<'i> {
+impl<'n> RoutePool<'n> {
+    /// A pool without routes, for pricings by these tables. No contract: any prices are sound, whatever stands in a
+    /// pool.
+    pub fn new(alloc: Global, nearness: &'n Nearness<'n>) -> RoutePool<'n> {
         RoutePool {
             alloc,
+            nearness,
             routes: Vec::new(alloc),
             met: 0,
             rise: 1,
             pricings: 0,
             looks: 0,
-            kept: Kept::nothing(),
-            exact_looks: 0,
+            kept: Kept::nothing(alloc),
             quick: None,
-            ascent: None,
             pseudocosts: Pseudocosts::new(alloc),
         }
     }
 
-    /// A pool of these routes of an instance, each its customers in order, unless memory runs out. No
+    /// A pool of these routes of the tables' instance, each its customers in order, unless memory runs out. No
     /// contract: any prices are sound, whatever stands in a pool.
     pub fn of_routes(
         alloc: Global,
-        instance: &Instance,
+        nearness: &'n Nearness<'n>,
         routes: &[Vec<u16>],
-    ) -> Result<RoutePool<'i>, AllocError> {
-        let mut pool = RoutePool::new(alloc);
+    ) -> Result<RoutePool<'n>, AllocError> {
+        let mut pool = RoutePool::new(alloc, nearness);
         for route in routes {
-            pool.add(instance, route.as_slice())?;
+            pool.add(nearness.instance, route.as_slice())?;
         }
         Ok(pool)
     }
@@ -127,20 +128,17 @@ impl<'i> RoutePool<'i> {
     }
 
     /// Counts looks.
-    /// No contract: a rule of search; any prices are sound.
     pub fn count_looks(&mut self, looks: u64) {
         self.looks = self.looks.saturating_add(looks);
     }
 
     /// Counts the looks at routes of projections.
-    /// No contract: a rule of search; any prices are sound.
     pub fn count_routes(&mut self, routes: u64) {
         self.count_looks(routes.saturating_mul(LOOKS_AT_ROUTE));
     }
 
     /// The customers of the route of least reduced cost at these prices among those that a region allows;
     /// none where it allows none.
-    /// No contract: a rule of search; any prices are sound.
     pub fn cheapest(&self, region: &Region, prices: &[i64]) -> Result<Vec<u16>, AllocError> {
         let rows = Trial::new(self.alloc, prices, 0, Floor::new(false))?;
         let mut cheapest: Option<(&[u16], i64)> = None;
@@ -160,7 +158,6 @@ impl<'i> RoutePool<'i> {
 
     /// The least reduced cost of the routes that count at these prices, in grains; the greatest number where
     /// none does.
-    /// No contract: a rule of search; any prices are sound.
     pub fn least(&self, prices: &[i64]) -> Result<i64, AllocError> {
         let rows = Trial::new(self.alloc, prices, 0, Floor::new(false))?;
         let counting = self.routes.iter().filter(|route| route.is_allowed);
@@ -170,7 +167,6 @@ impl<'i> RoutePool<'i> {
 
     /// By how many millionths these prices are to be multiplied so that none of the routes that count pays
     /// more than it costs (Farley 1990); the greatest number where none pays.
-    /// No contract: a rule of search; any prices are sound.
     pub fn scale_at(&self, prices: &[i64]) -> Result<i64, AllocError> {
         let rows = Trial::new(self.alloc, prices, 0, Floor::new(false))?;
         let mut least = i64::MAX;
@@ -184,20 +180,11 @@ impl<'i> RoutePool<'i> {
         Ok(least)
     }
 
-    /// Takes in what a pricing told: counts it, keeps the tables that it went by, and adds the routes that it
-    /// met.
-    /// No contract: a rule of search; any prices are sound.
-    pub fn take_in(&mut self, instance: &Instance, hints: Hints<'i>) -> Result<(), AllocError> {
-        let Hints {
-            kept,
-            met,
-            looks,
-            ..
-        } = hints;
+    /// Takes in what a pricing kept: counts it, and adds the routes that it met.
+    pub fn take_in(&mut self, instance: &Instance) -> Result<(), AllocError> {
         self.pricings = self.pricings.saturating_add(1);
-        self.count_looks(looks);
-        self.exact_looks = looks;
-        self.kept = kept;
+        self.count_looks(self.kept.looks);
+        let met = replace(&mut self.kept.met, Vec::new(self.alloc));
         for route in &met {
             self.add(instance, route.as_slice())?;
         }
@@ -205,7 +192,6 @@ impl<'i> RoutePool<'i> {
     }
 
     /// Each arc that the routes of the pool use once, with all that it carries.
-    /// No contract: a rule of search; any prices are sound.
     pub fn flows(&self) -> Result<Vec<ArcFlow>, AllocError> {
         let mut arcs = Vec::new(self.alloc);
         for route in self.routes.iter().filter(|route| route.multiplier > 0) {
@@ -258,7 +244,6 @@ impl<'i> RoutePool<'i> {
     }
 
     /// Lets only the routes count that a leaf allows.
-    /// No contract: a rule of search; any prices are sound.
     pub fn enter(&mut self, leaf: &Priced<'_>) -> Result<(), AllocError> {
         let rows = allowed_rows(self.alloc, leaf.instance(), leaf.region())?;
         for route in self.routes.iter_mut() {
@@ -268,7 +253,6 @@ impl<'i> RoutePool<'i> {
     }
 
     /// Measures the multipliers by another rise.
-    /// No contract: a rule of search; any prices are sound.
     pub fn scale(&mut self, rise: i64) {
         for route in self.routes.iter_mut() {
             route.scale(self.rise, rise, self.pricings);
@@ -301,7 +285,6 @@ impl<'i> RoutePool<'i> {
     }
 
     /// Projects a trial onto what all routes say, nearly, from where the multipliers lead.
-    /// No contract: a rule of search; any prices are sound.
     pub fn project(&mut self, trial: &mut Trial) -> Result<(), AllocError> {
         let (multipliers, routes) = self.projected(trial)?;
         self.count_routes(routes);
@@ -314,7 +297,6 @@ impl<'i> RoutePool<'i> {
     }
 
     /// Trials of the children of the leaf whose prices were raised last. They leave the pool as it is.
-    /// No contract: a rule of search; any prices are sound.
     pub fn trials<'r>(
         &'r self,
         instance: &Instance,
@@ -339,29 +321,25 @@ impl<'i> RoutePool<'i> {
         Ok(shares)
     }
 
-    /// Where the ascent at a child by an arc starts whose trial came to these prices, if there was one;
-    /// nothing where the prices of no leaf were raised.
-    /// No contract: a rule of search; any prices are sound.
+    /// Where the ascent at a child by an arc starts, after this ascent at its leaf, whose trial came to these prices,
+    /// if there was one.
     pub fn start_of(
         &self,
+        ascent: &Ascent,
         arc: Arc,
         side: Side,
         trial: Option<Trial>,
-    ) -> Result<Option<ChildStart>, AllocError> {
-        let Some(ascent) = &self.ascent else {
-            return Ok(None);
-        };
-        Ok(Some(ChildStart {
+    ) -> Result<ChildStart, AllocError> {
+        Ok(ChildStart {
             arc,
             side,
             merit: ascent.centre.merit,
             trial,
             shares: self.shares()?,
-        }))
+        })
     }
 
     /// Takes the multipliers with which a child starts.
-    /// No contract: a rule of search; any prices are sound.
     pub fn begin(&mut self, start: &ChildStart) {
         for route in self.routes.iter_mut() {
             route.take_share(start.shares.as_slice(), self.rise);
@@ -370,7 +348,6 @@ impl<'i> RoutePool<'i> {
 
     /// Learns from the ascent of a child how far its merit rose, where its value came to this many
     /// tenths. Where memory is refused, it doesn't.
-    /// No contract: a rule of search; any prices are sound.
     pub fn learn(&mut self, start: &ChildStart, ascent: &Ascent, value: i128) {
         let rise = ascent.rise_since(start.merit, value);
         let _ = self.pseudocosts.note(start.arc, start.side, rise);

@@ -19,7 +19,7 @@ use crate::narrowing::stays_least;
 use crate::range::are_prices;
 use crate::valuing::{least_of, sum_of, value_of};
 use branching::Region;
-use labelling::{Hints, LabelFault, Least, PricingTask, least_by_hints};
+use labelling::{Hints, Kept, LabelFault, Least, PricingTask, least_by_hints};
 use solomon_reader::Instance;
 use std::alloc::{AllocError, Global};
 use std::marker::Model;
@@ -53,11 +53,12 @@ impl<'i> Model for Priced<'i> {
 }
 
 /// The value of the prices in tenths, and the least reduced cost that gives it.
-fn evaluate<'i>(
+fn evaluate(
     alloc: Global,
-    task: &PricingTask<'i>,
+    task: &PricingTask<'_>,
     limit: Option<usize>,
-    hints: &mut Hints<'i>,
+    hints: &Hints<'_>,
+    kept: &mut Kept,
 ) -> Result<(u128, Least), LabelFault>
     ensures value { let t = task.now in
         IfOk result (λ v. IsValued (valued_at t v.0)) }
@@ -69,7 +70,7 @@ fn evaluate<'i>(
 {
     let instance = task.instance;
     instance.law_of_limits();
-    let found = least_by_hints(alloc, task, limit, hints)?;
+    let found = least_by_hints(alloc, task, limit, hints, kept)?;
     let value = value_of(
         instance.fleet(),
         instance.fewest_routes(),
@@ -137,26 +138,42 @@ impl<'i> Priced<'i> {
             neighbours,
             prices,
         };
-        match Priced::by_hints(alloc, task, limit, &mut Hints::none(alloc)) {
+        match Priced::alone(alloc, task, limit) {
             Ok(priced) => Ok(priced),
             Err((task, fault)) => Err((task.region, task.prices, PriceFault::from(fault))),
         }
     }
 
-    /// What `of` answers for a task, found sooner where a route of low reduced cost or the tables of an
-    /// earlier search are known, with further routes that were met.
-    pub fn by_hints(
+    /// What `by_hints` answers without any, and with nothing kept.
+    fn alone(
         alloc: Global,
         task: PricingTask<'i>,
         limit: Option<usize>,
-        hints: &mut Hints<'i>,
     ) -> Result<Priced<'i>, (PricingTask<'i>, LabelFault)>
         ensures priced { let t = task.entry in
             IfOk result (IsPricedBy t.instance.now t.region t.neighbours t.prices.items) }
         ensures unlimited { IfErr result (λ e. e.1 ≡ label.LabelLimit → limit ≢ None) }
         ensures back { IfErr result (λ e. e.0 ≡ task.entry) }
     {
-        match evaluate(alloc, &task, limit, hints) {
+        let (hints, mut kept) = (Hints::none(alloc), Kept::nothing(alloc));
+        Priced::by_hints(alloc, task, limit, &hints, &mut kept)
+    }
+
+    /// What `of` answers for a task, found sooner where a route of low reduced cost, the tables of the instance or
+    /// an earlier search are known. It keeps further routes that were met.
+    pub fn by_hints(
+        alloc: Global,
+        task: PricingTask<'i>,
+        limit: Option<usize>,
+        hints: &Hints<'_>,
+        kept: &mut Kept,
+    ) -> Result<Priced<'i>, (PricingTask<'i>, LabelFault)>
+        ensures priced { let t = task.entry in
+            IfOk result (IsPricedBy t.instance.now t.region t.neighbours t.prices.items) }
+        ensures unlimited { IfErr result (λ e. e.1 ≡ label.LabelLimit → limit ≢ None) }
+        ensures back { IfErr result (λ e. e.0 ≡ task.entry) }
+    {
+        match evaluate(alloc, &task, limit, hints, kept) {
             Ok((value, least)) => Ok(Priced { task, value, least }),
             Err(fault) => Err((task, fault)),
         }
@@ -178,13 +195,33 @@ impl<'i> Priced<'i> {
         ensures valued { IfOk result (λ f. IsValued f) }
         ensures unlimited { IfErr result (λ e. e ≡ label.LabelLimit → limit ≢ None) }
     {
+        let hints = Hints::none(alloc);
+        Priced::root_by_hints(alloc, instance, neighbours, limit, &hints)
+    }
+
+    /// What `root` answers, found sooner where the tables of the instance are known.
+    pub fn root_by_hints(
+        alloc: Global,
+        instance: &'i Instance,
+        neighbours: u32,
+        limit: Option<usize>,
+        hints: &Hints<'_>,
+    ) -> Result<Priced<'i>, LabelFault>
+        requires { neighbours ≤ MOST_NEIGHBOURS }
+        ensures problem { IfOk result (λ f. f.problem ≡ instance.now) }
+        ensures region { IfOk result (λ f. f.region ≡ root_region (customer_count instance.now)) }
+        ensures neighbours { IfOk result (λ f. f.neighbours ≡ neighbours) }
+        ensures prices { IfOk result (λ f. AllByRecursion (λ z. z ≡ pos 0) f.prices) }
+        ensures valued { IfOk result (λ f. IsValued f) }
+        ensures unlimited { IfErr result (λ e. e ≡ label.LabelLimit → limit ≢ None) }
+    {
         let task = PricingTask {
             instance,
             region: Region::root(alloc, instance.customer_count()),
             neighbours,
             prices: no_prices(alloc, instance)?,
         };
-        match Priced::by_hints(alloc, task, limit, &mut Hints::none(alloc)) {
+        match Priced::by_hints(alloc, task, limit, hints, &mut Kept::nothing(alloc)) {
             Ok(priced) => Ok(priced),
             Err((_task, fault)) => Err(fault),
         }

@@ -11,14 +11,14 @@ ghost use Rattle.search_workers.specs.Running.{IsOneOn};
 ghost use Rattle.search_workers.specs.declared.fault.RunFault.TheVariants.{Memory, LabelLimit};
 
 use crate::fault::RunFault;
-use closing::cheaper;
+use fronts::Nearness;
 use incumbent_book::{Book, BookFault, OpenFault};
 use insertion::{Weights, build_whole};
-use labelling::LabelFault;
+use labelling::{Hints, LabelFault};
 use price_ascent::{start_from, start_without_plan};
 use prices::Priced;
 use run_settings::Settings;
-use schedule::Feasible;
+use schedule::{Feasible, cheaper};
 use search::{HeldPlan, descended_parallel};
 use solomon_reader::Instance;
 use std::alloc::{AllocError, Global};
@@ -40,6 +40,7 @@ fn price_root<'i>(
     alloc: Global,
     instance: &'i Instance,
     settings: &Settings,
+    nearness: &Nearness<'_>,
 ) -> Result<Priced<'i>, RunFault>
     requires few { settings.now.neighbours ≤ MOST_NEIGHBOURS }
     ensures problem { IfOk result (λ f. f.problem ≡ instance.now) }
@@ -47,8 +48,8 @@ fn price_root<'i>(
     ensures neighbours { IfOk result (λ f. f.neighbours ≡ settings.now.neighbours) }
     ensures refused { IfErr result (λ e. (e ≡ Memory) ⊎ (e ≡ LabelLimit)) }
 {
-    let limit = Some(settings.labels as usize);
-    match Priced::root(alloc, instance, settings.neighbours, limit) {
+    let (limit, hints) = (Some(settings.labels as usize), Hints::near(alloc, nearness));
+    match Priced::root_by_hints(alloc, instance, settings.neighbours, limit, &hints) {
         Ok(root) => Ok(root),
         Err(LabelFault::Memory) => Err(RunFault::Memory),
         Err(LabelFault::LabelLimit) => Err(RunFault::LabelLimit),
@@ -130,12 +131,14 @@ fn offer_both<'i, R: Threads + Sync>(
 
 impl<'i> Opening<'i> {
     /// A book of the root that was offered a first plan and what a descent makes of it, if insertion builds one
-    /// or one is given, the cheaper one; else its prices begin where they may show that there is no plan.
+    /// or one is given, the cheaper one; else its prices begin where they may show that there is no plan. The tables of
+    /// the instance are lent.
     pub(crate) fn new<R: Threads + Sync>(
         rt: &R,
         alloc: Global,
         instance: &'i Instance,
         settings: &Settings,
+        nearness: &Nearness<'_>,
         start: Option<Feasible<'i>>,
     ) -> Result<Opening<'i>, RunFault>
         requires few { settings.now.neighbours ≤ MOST_NEIGHBOURS }
@@ -146,13 +149,13 @@ impl<'i> Opening<'i> {
         ensures served { IfOk result (λ o. IsServedAlone instance.now → is_some o.plan ≡ true) }
         ensures refused { IfErr result (λ e. (e ≡ Memory) ⊎ (e ≡ LabelLimit)) }
     {
-        let root = price_root(alloc, instance, settings)?;
+        let root = price_root(alloc, instance, settings, nearness)?;
         let labels = Some(pricing_labels(settings, instance.customer_count()));
         let Some(plan) = first_plan(alloc, instance, start)? else {
-            let book = open_book(alloc, start_without_plan(alloc, root, labels))?;
+            let book = open_book(alloc, start_without_plan(alloc, nearness, root, labels))?;
             return Ok(Opening { book, plan: None });
         };
-        let root = start_from(alloc, root, plan.routes(), labels);
+        let root = start_from(alloc, nearness, root, plan.routes(), labels);
         let mut book = open_book(alloc, root)?;
         let plan = offer_both(rt, alloc, &mut book, plan)?;
         Ok(Opening {

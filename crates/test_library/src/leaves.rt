@@ -85,12 +85,14 @@ fn reduced_cost(instance: &Instance, prices: &[i64], stops: &[u16]) -> Option<i6
 /// Tells the least reduced cost at a leaf where a route is known, and the reduced costs of the further routes that
 /// were met.
 fn tell_met(alloc: Global, told: &mut String, leaf: &Priced<'_>, route: &str) -> Option<()> {
-    let mut hints = Hints::of(alloc, list_of(alloc, route)?, Kept::nothing());
+    let mut hints = Hints::none(alloc);
+    hints.known = list_of(alloc, route)?;
     let (instance, prices) = (leaf.instance(), leaf.prices());
-    let found = least_by_hints(alloc, leaf.task(), None, &mut hints);
+    let mut kept = Kept::nothing(alloc);
+    let found = least_by_hints(alloc, leaf.task(), None, &hints, &mut kept);
     write!(told, "least {} met", OrNone(found.ok()?.value)).ok()?;
     let mut costs = Vec::new(alloc);
-    for route in &hints.met {
+    for route in &kept.met {
         costs
             .push(reduced_cost(instance, prices, route.as_slice())?)
             .ok()?;

@@ -9,20 +9,20 @@ use ceiling::Ceiling;
 use incumbent_book::BookFault;
 use node_pool::{Hand, Pass, Pool, Thief};
 use prices::Priced;
-use search_workers::{Nodes, Settings, Worker, bound_worker, generator, search_worker};
+use search_workers::{Nearness, Nodes, Settings, Worker, bound_worker, generator, search_worker};
 use solomon_reader::Instance;
 use std::alloc::Global;
 use std::sync::atomic::Ordering;
 
 /// The nodes of the worker at the second of two deques, of which its own or the other has the root.
-fn second_nodes<'p, 'i>(
+fn second_nodes<'p>(
     alloc: Global,
-    instance: &'i Instance,
+    nearness: &'p Nearness<'p>,
     mut hands: Vec<Hand>,
     deques: &'p [Thief],
     mut passes: Vec<Pass>,
     is_stolen: bool,
-) -> Option<Nodes<'p, 'i>>
+) -> Option<Nodes<'p>>
     requires { All (λ p. All (λ t. FitsAt (deque_at t) p) deques.now) passes.items }
 {
     let mut own = hands.pop()?;
@@ -36,7 +36,7 @@ fn second_nodes<'p, 'i>(
         return None;
     };
     pushed.ok()?;
-    Nodes::new(alloc, instance, None, own, deques, pass).ok()
+    Nodes::new(alloc, nearness, None, own, deques, pass).ok()
 }
 
 /// What a worker did: its turns, its offers, its reprices and splits, and how often points were passed.
@@ -56,7 +56,7 @@ struct Done {
 fn turns_over<'i>(
     instance: &'i Instance,
     hub: Fake<'i>,
-    nodes: Option<Nodes<'_, 'i>>,
+    nodes: Option<Nodes<'_>>,
     (number, bound): (u16, u64),
     settings: &Settings,
     alloc: Global,
@@ -126,7 +126,8 @@ pub(crate) fn tell_bounder<'i>(
         return None;
     };
     let deques = deques.as_slice();
-    let nodes = second_nodes(alloc, instance, hands, deques, passes, how == "stolen")?;
+    let nearness = Nearness::new(alloc, instance, settings.neighbours).ok()?;
+    let nodes = second_nodes(alloc, &nearness, hands, deques, passes, how == "stolen")?;
     let number = (number.parse().ok()?, 0);
     let done = turns_over(instance, hub, Some(nodes), number, &settings, alloc)?;
     let (turns, raises, looked) = (done.turns, done.raises, done.looked);
