@@ -1,8 +1,10 @@
 //! The tree of one bound worker, as `worker_turns` grows it by itself.
 
+use crate::fronts::Nearness;
 use crate::insertion::{Weights, build_whole};
+use crate::leaf_work::{Effort, goal_of};
 use crate::price_ascent::{
-    ChildStart, Goal, IDLE_PRICINGS, RoutePool, branch, counted_routes, raise, rise_at, start_from, start_without_plan,
+    ChildStart, Goal, Raised, RoutePool, branch, counted_routes, raise, start_from, start_without_plan,
 };
 use crate::prices::Priced;
 use crate::shim::Global;
@@ -12,7 +14,6 @@ use std::time::Instant;
 
 /// As in `worker_turns`.
 const ROOT_PRICINGS: u32 = 20;
-const LEAF_PRICINGS: u32 = 8;
 const CUSTOMER_LOOKS: u64 = 19_000;
 const LEAST_CUSTOMERS: u64 = 120;
 const CUSTOMERS_OF_PATIENCE: u16 = 150;
@@ -60,19 +61,20 @@ struct Tree<'i> {
 
 impl<'i> Tree<'i> {
     /// The tree of the root: with the routes of a built plan, or without one where no cost is given.
-    fn new(instance: &'i Instance, turns: u32, cost: Option<Tenths>) -> Tree<'i> {
+    fn new(nearness: &'i Nearness<'i>, turns: u32, cost: Option<Tenths>) -> Tree<'i> {
+        let instance = nearness.instance;
         let plan = build_whole(Global, instance, &Weights::plain()).unwrap().filter(|_| cost.is_some());
         let routes = plan.as_ref().map(|plan| plan.routes());
         let looks = worth_of(instance) * (u64::from(turns) / PRICING_PART).max(LEAST_PRICING_TURNS);
         let labels = (looks / u64::from(instance.customer_count())).min(MOST_LABELS) as usize;
         let Ok(root) = Priced::root(Global, instance, NEIGHBOURS, None) else { panic!("labels") };
         let leaf = match routes {
-            Some(routes) => start_from(Global, root, routes, Some(labels)),
-            None => start_without_plan(Global, root, Some(labels)),
+            Some(routes) => start_from(Global, nearness, root, routes, Some(labels)),
+            None => start_without_plan(Global, nearness, root, Some(labels)),
         };
         Tree {
             instance,
-            pool: RoutePool::of_routes(Global, instance, routes.unwrap_or(&[])).unwrap(),
+            pool: RoutePool::of_routes(Global, nearness, routes.unwrap_or(&[])).unwrap(),
             nodes: vec![Node::Leaf(leaf.prices().to_vec())],
             open: vec![Open { place: 0, leaf, start: None }],
             leaves: 1,
@@ -93,16 +95,12 @@ impl<'i> Tree<'i> {
     }
 
     fn goal(&self, leaf: &Priced<'i>) -> Goal {
-        let first = rise_at(leaf, self.cost);
-        Goal {
-            rise: if self.is_again { self.pool.rise() } else { first },
-            pricings: if leaf.region().is_root() { ROOT_PRICINGS } else if self.cost.is_none() { std::env::var("LP").map_or(8, |w| w.parse().unwrap()) } else { LEAF_PRICINGS },
-            idle_pricings: IDLE_PRICINGS,
-            value: i128::from(self.target),
-            routes: self.routes,
-            labels: Some(self.labels),
-            looks: self.looks,
+        let effort = Effort { root_pricings: ROOT_PRICINGS, labels: Some(self.labels), looks: self.looks };
+        let mut goal = goal_of(leaf, self.cost, self.routes, self.target, effort);
+        if self.is_again {
+            goal.rise = self.pool.rise();
         }
+        goal
     }
 
     /// Whether the work goes on at the root.
@@ -145,7 +143,7 @@ impl<'i> Tree<'i> {
         let Some(lowest) = (0..self.open.len()).min_by_key(|place| self.open[*place].leaf.value()) else { return };
         let Open { place, leaf, start } = self.open.swap_remove(lowest);
         let (goal, before) = (self.goal(&leaf), leaf.value());
-        let leaf = raise(Global, &mut self.pool, leaf, start, &goal);
+        let Raised { priced: leaf, ascent } = raise(Global, &mut self.pool, leaf, start, &goal);
         self.nodes[place] = Node::Leaf(leaf.prices().to_vec());
         let is_done = leaf.value() >= i128::from(self.target);
         self.is_again = !is_done && leaf.region().is_root() && self.stays(leaf.value() > before);
@@ -153,7 +151,7 @@ impl<'i> Tree<'i> {
             self.open.push(Open { place, leaf, start: None });
             return;
         }
-        match branch(Global, &leaf, &mut self.pool, Some(self.labels)) {
+        match branch(Global, &leaf, ascent.as_ref(), &mut self.pool, Some(self.labels)) {
             Ok(Some(children)) => {
                 self.leaves += 1;
                 let (used, unused) = (self.nodes.len(), self.nodes.len() + 1);
@@ -178,7 +176,8 @@ fn worth_of(instance: &Instance) -> u64 {
 /// the certificate of the tree to a path, if there is one.
 pub fn tell(instance: &Instance, turns: u32, cost: u64, path: Option<&String>) {
     let begin = Instant::now();
-    let mut tree = Tree::new(instance, turns, Tenths::new(cost).filter(|cost| cost.get() > 0));
+    let nearness = Nearness::new(Global, instance, NEIGHBOURS).unwrap();
+    let mut tree = Tree::new(&nearness, turns, Tenths::new(cost).filter(|cost| cost.get() > 0));
     for turn in 1..=turns {
         while tree.bound() < i128::from(tree.target) && tree.pool.looks() <= worth_of(instance) * u64::from(turn) {
             tree.work();

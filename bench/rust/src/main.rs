@@ -14,6 +14,7 @@ mod insertion;
 mod labelling;
 mod labels;
 mod leaf_arcs;
+mod leaf_work;
 mod measuring;
 mod moves;
 mod pooled_routes;

@@ -1,6 +1,7 @@
 //! The root's value after some numbers of pricings, and how long one pricing takes.
 
 use crate::branching::Region;
+use crate::fronts::Nearness;
 use crate::labelling::least;
 use crate::price_ascent::{Goal, RoutePool, counted_routes, first_rise, raise};
 use crate::prices::Priced;
@@ -16,6 +17,7 @@ const MOST_LABELS: usize = 1_000_000;
 
 /// Prints the value of the root in tenths after each number of pricings from prices of zero, and the milliseconds.
 pub fn tell_ascent(instance: &Instance) {
+    let nearness = Nearness::new(Global, instance, NEIGHBOURS).unwrap();
     for pricings in COUNTS {
         let Ok(root) = Priced::root(Global, instance, NEIGHBOURS, Some(MOST_LABELS)) else { panic!("labels") };
         let goal = Goal {
@@ -27,8 +29,8 @@ pub fn tell_ascent(instance: &Instance) {
             labels: Some(MOST_LABELS),
             looks: u64::MAX,
         };
-        let (begin, mut pool) = (Instant::now(), RoutePool::new(Global));
-        let best = raise(Global, &mut pool, root, None, &goal);
+        let (begin, mut pool) = (Instant::now(), RoutePool::new(Global, &nearness));
+        let best = raise(Global, &mut pool, root, None, &goal).priced;
         println!("pricings {pricings} value {} ms {}", best.value(), begin.elapsed().as_millis());
     }
 }

@@ -1,5 +1,2 @@
-pub mod Gathered
-pub mod Obeying
-pub mod Settles
 pub mod Grown
 pub mod NoDearer

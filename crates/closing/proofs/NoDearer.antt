@@ -3,7 +3,7 @@ use Rattle.std.proofs.Common.{◌≡◌, ℕ, ◌+◌, ◌<◌, ◌≤◌, arith
 use Rattle.std.specs.Prelude.{Option, None, Some, IfSome}
 use Rattle.solomon_reader.specs.Problem.{Problem}
 use Rattle.schedule.specs.Solution.{Solution}
-use Rattle.closing.specs.Cheaper.{IsCheaper}
+use Rattle.schedule.specs.Cheaper.{IsCheaper}
 use Rattle.closing.specs.Closing.{IsNoDearer, known_or_above}
 use Rattle.closing.specs.Growing.{ToldTarget, target_of}
 use Rattle.closing.specs.declared.growth.Growth.{Growth}

@@ -10,6 +10,7 @@ use crate::found::Found;
 use crate::growing::grow;
 use crate::growth::Growth;
 use crate::laws::depth_holds;
+use fronts::Nearness;
 use price_ascent::RoutePool;
 use schedule::Feasible;
 use solomon_reader::Instance;
@@ -78,9 +79,10 @@ pub fn close_from<'i>(
         return Err(CloseAloneFault::TooLarge);
     }
     let plan = first_plan(alloc, instance, start)?;
-    let root = first_leaf(alloc, instance, neighbours, plan.as_ref())?;
+    let nearness = Nearness::new(alloc, instance, neighbours)?;
+    let root = first_leaf(alloc, instance, neighbours, &nearness, plan.as_ref())?;
     let mut growth = Growth::new(alloc, instance, leaf_limit, plan);
-    let mut pool = RoutePool::of_routes(alloc, instance, growth.routes())?;
+    let mut pool = RoutePool::of_routes(alloc, &nearness, growth.routes())?;
     grow(root, None, &mut growth, &mut pool)?;
     depth_holds();
     let closed = growth.finish(neighbours)?;

@@ -8,14 +8,14 @@ ghost use Rattle.insertion.specs.Building.{IsServedAlone};
 ghost use Rattle.closing.specs.Closing.{known_or_above, costs};
 ghost use Rattle.search.specs.Searching.{plan_of};
 
-use crate::cheaper_plan::cheaper;
+use fronts::Nearness;
 use insertion::{Weights, build_whole};
-use labelling::LabelFault;
+use labelling::{Hints, LabelFault};
 use price_ascent::{start_from, start_without_plan};
 use prices::Priced;
 use rand_core::{Rng, SeedableRng};
 use rand_xoshiro::Xoshiro256PlusPlus;
-use schedule::Feasible;
+use schedule::{Feasible, cheaper};
 use search::{Pace, Searcher};
 use solomon_reader::Instance;
 use std::alloc::{AllocError, Global};
@@ -101,11 +101,12 @@ pub(crate) fn first_plan<'i>(
 }
 
 /// The root, with the prices that a plan says to start from, or without one those that may show that there
-/// is none; with prices of zero where these have no lower value.
+/// is none; with prices of zero where these have no lower value. The tables of the instance are lent.
 pub(crate) fn first_leaf<'i>(
     alloc: Global,
     instance: &'i Instance,
     neighbours: u32,
+    nearness: &Nearness<'_>,
     plan: Option<&Feasible<'i>>,
 ) -> Result<Priced<'i>, AllocError>
     requires few { neighbours ≤ MOST_NEIGHBOURS }
@@ -113,13 +114,14 @@ pub(crate) fn first_leaf<'i>(
     ensures region { IfOk result (λ f. f.region ≡ root_region (customer_count instance.now)) }
     ensures neighbours { IfOk result (λ f. f.neighbours ≡ neighbours) }
 {
-    let root = match Priced::root(alloc, instance, neighbours, None) {
+    let hints = Hints::near(alloc, nearness);
+    let root = match Priced::root_by_hints(alloc, instance, neighbours, None, &hints) {
         Ok(root) => root,
         Err(LabelFault::Memory) => return Err(AllocError),
         Err(LabelFault::LabelLimit) => unreachable!(),
     };
     match plan {
-        Some(plan) => Ok(start_from(alloc, root, plan.routes(), None)),
-        None => Ok(start_without_plan(alloc, root, None)),
+        Some(plan) => Ok(start_from(alloc, nearness, root, plan.routes(), None)),
+        None => Ok(start_without_plan(alloc, nearness, root, None)),
     }
 }

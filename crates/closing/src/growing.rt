@@ -6,40 +6,25 @@ ghost use Rattle.price_ascent.specs.Branching.{AreChildren};
 ghost use Rattle.closing.specs.Growing.{Grows, IsGrowth, IsSameTree, Splits, target_of};
 
 use crate::growth::Growth;
-use crate::leaf::settled_leaf;
-use price_ascent::{
-    ChildStart, Children, Goal, IDLE_PRICINGS, RoutePool, branch, counted_routes, raise, rise_at,
-};
+use leaf_work::{Effort, goal_of, met_plan, settled_leaf};
+use price_ascent::{Ascent, ChildStart, Children, Goal, RoutePool, branch, counted_routes, raise};
 use prices::{PriceFault, Priced};
-use schedule::Feasible;
 use std::alloc::AllocError;
 
-/// The most pricings at the root and, where no plan is known, at each leaf: a value that can rise without
-/// end is to come to the ceiling. Else a leaf is split soon.
-const MOST_PRICINGS: u32 = 100;
-
-const LEAF_PRICINGS: u32 = 8;
+/// The most pricings at the root.
+const ROOT_PRICINGS: u32 = 100;
 
 /// How far the prices of a leaf are raised: to the least cost known, or above the ceiling.
-fn goal_of(leaf: &Priced<'_>, growth: &Growth<'_>) -> Goal {
-    let (cost, routes) = match &growth.best {
-        Some(plan) => (Some(plan.cost()), Some(plan.routes())),
-        None => (None, None),
-    };
-    let is_long = cost.is_none() || leaf.region().is_root();
-    Goal {
-        rise: rise_at(leaf, cost),
-        pricings: if is_long {
-            MOST_PRICINGS
-        } else {
-            LEAF_PRICINGS
-        },
-        idle_pricings: IDLE_PRICINGS,
-        value: i128::from(growth.target()),
-        routes: counted_routes(growth.instance, routes),
+fn goal_at(leaf: &Priced<'_>, growth: &Growth<'_>) -> Goal {
+    let cost = growth.best.as_ref().map(|plan| plan.cost());
+    let routes = growth.best.as_ref().map(|plan| plan.routes());
+    let effort = Effort {
+        root_pricings: ROOT_PRICINGS,
         labels: None,
         looks: u64::MAX,
-    }
+    };
+    let counted = counted_routes(growth.instance, routes);
+    goal_of(leaf, cost, counted, growth.target(), effort)
 }
 
 /// Takes the routes that make up the prices raised last where they are a plan that is cheaper than the
@@ -51,7 +36,7 @@ fn offer_routes(growth: &mut Growth<'_>, pool: &RoutePool<'_>) -> Result<(), All
     ensures same { IsSameTree growth.old growth.new }
     ensures least { target_of growth.new ≤ target_of growth.old }
 {
-    if let Ok(plan) = Feasible::check(growth.instance, pool.main_routes()?) {
+    if let Some(plan) = met_plan(growth.instance, pool)? {
         growth.offer(plan);
     }
     Ok(())
@@ -61,12 +46,13 @@ fn offer_routes(growth: &mut Growth<'_>, pool: &RoutePool<'_>) -> Result<(), All
 fn children<'i>(
     growth: &Growth<'i>,
     leaf: &Priced<'i>,
-    pool: &mut RoutePool<'i>,
+    ascent: Option<&Ascent>,
+    pool: &mut RoutePool<'_>,
 ) -> Result<Option<Children<'i>>, AllocError>
     ensures settled { IfOk result (λ found. IfNone found (IsSettled leaf.now.region)) }
     ensures children { IfOk result (λ found. IfSome found (AreChildren leaf.now)) }
 {
-    match branch(growth.alloc, leaf, pool, None) {
+    match branch(growth.alloc, leaf, ascent, pool, None) {
         Ok(found) => Ok(found),
         Err(PriceFault::Memory) => Err(AllocError),
         Err(_) => unreachable!(),
@@ -99,8 +85,9 @@ fn settle<'i>(leaf: &Priced<'i>, growth: &mut Growth<'i>) -> Result<(), AllocErr
 /// and answers the children; or lists the leaf.
 fn work_at<'i>(
     leaf: &Priced<'i>,
+    ascent: Option<&Ascent>,
     growth: &mut Growth<'i>,
-    pool: &mut RoutePool<'i>,
+    pool: &mut RoutePool<'_>,
 ) -> Result<Option<Children<'i>>, AllocError>
     requires growth { IsGrowth growth.old }
     requires going { growth.old.is_stopped ≡ false }
@@ -117,7 +104,7 @@ fn work_at<'i>(
         growth.lay_aside(leaf)?;
         return Ok(None);
     }
-    let Some(children) = children(growth, leaf, pool)? else {
+    let Some(children) = children(growth, leaf, ascent, pool)? else {
         settle(leaf, growth)?;
         return Ok(None);
     };
@@ -134,7 +121,7 @@ fn raise_and_work<'i>(
     leaf: Priced<'i>,
     start: Option<ChildStart>,
     growth: &mut Growth<'i>,
-    pool: &mut RoutePool<'i>,
+    pool: &mut RoutePool<'_>,
 ) -> Result<Option<Children<'i>>, AllocError>
     requires growth { IsGrowth growth.old }
     requires going { growth.old.is_stopped ≡ false }
@@ -146,9 +133,9 @@ fn raise_and_work<'i>(
     ensures split { IfOk result (λ found. IfSome found (Splits leaf.entry growth.old growth.new)) }
     ensures least { target_of growth.new ≤ target_of growth.old }
 {
-    let goal = goal_of(&leaf, growth);
+    let goal = goal_at(&leaf, growth);
     let raised = raise(growth.alloc, pool, leaf, start, &goal);
-    work_at(&raised, growth, pool)
+    work_at(&raised.priced, raised.ascent.as_ref(), growth, pool)
 }
 
 /// Lists the tree below a leaf, whose ascent starts where it was tried as a child, if it was. It grows first
@@ -157,7 +144,7 @@ pub(crate) fn grow<'i>(
     leaf: Priced<'i>,
     start: Option<ChildStart>,
     growth: &mut Growth<'i>,
-    pool: &mut RoutePool<'i>,
+    pool: &mut RoutePool<'_>,
 ) -> Result<(), AllocError>
     requires growth { IsGrowth growth.old }
     requires own { leaf.problem ≡ growth.old.instance.now }

@@ -1,3 +1,4 @@
 pub mod Faults
 pub mod Solution
+pub mod Cheaper
 pub mod Marks

@@ -1,6 +1,7 @@
 //! Walks of routes, and the plans of an instance.
 #![tactic(auto)]
 
+mod cheaper_plan;
 mod fault;
 mod finding;
 mod marks;
@@ -8,6 +9,7 @@ mod plan;
 mod summary;
 mod walking;
 
+pub use cheaper_plan::cheaper;
 pub use fault::PlanFault;
 pub use plan::Feasible;
 pub use summary::Walk;

@@ -1,7 +1,7 @@
 -- From what becomes of what was found to what the solver says: the cheaper of two plans.
 use Rattle.std.proofs.Common.{◌≡◌, ◌∙◌, Option, Some, None, inl, inr, refl, sym, List, MatchOption, Result, Ok, Err, ℕ, ◌≤◌, arith}
 use Rattle.schedule.specs.Solution.{Solution}
-use Rattle.closing.specs.Cheaper.{IsCheaper}
+use Rattle.schedule.specs.Cheaper.{IsCheaper}
 use Rattle.solomon_reader.specs.Problem.{Problem}
 use Rattle.solomon_reader.specs.Layout.{IsInstance}
 use Rattle.solomon_reader.specs.Bound.{version_2}

@@ -7,11 +7,11 @@ ghost use Rattle.ceiling.specs.Seats.{IsSeatOf};
 use crate::gate::{Gate, GatePoint};
 use crate::hub::Hub;
 use crate::nodes::{Nodes, OpenNode, Taken};
-use crate::pricing::{Means, goal_of, is_ahead, pricing_labels, turn_looks};
+use crate::pricing::{Rules, goal_at, has_done_enough, pricing_labels, turn_looks};
 use crate::refusal::Refusal;
 use crate::worker::Worker;
-use closing::settled_leaf;
-use price_ascent::{ChildStart, Children, branch, raise};
+use leaf_work::{met_plan, settled_leaf};
+use price_ascent::{ChildStart, Children, Raised, branch, raise};
 use prices::{PriceFault, Priced};
 use run_settings::Settings;
 use schedule::Feasible;
@@ -39,7 +39,7 @@ fn split<'i, H: Hub<'i>, G: Gate>(
     number: u32,
     is_root: bool,
     children: Children<'i>,
-    nodes: &mut Nodes<'_, 'i>,
+    nodes: &mut Nodes<'_>,
 ) -> Result<(), Refusal>
     ensures words { worker.new.ceiling ≡ worker.old.ceiling }
 {
@@ -94,18 +94,22 @@ fn settle<'i, H: Hub<'i>, G: Gate>(
 fn bring<'i, H: Hub<'i>, G: Gate>(
     worker: &mut Worker<'_, 'i, H, G>,
     number: u32,
-    leaf: Priced<'i>,
+    raised: Raised<'i>,
     is_raised: bool,
-    means: Means,
-    nodes: &mut Nodes<'_, 'i>,
+    rules: Rules,
+    nodes: &mut Nodes<'_>,
 ) -> Result<(), Refusal>
     ensures words { worker.new.ceiling ≡ worker.old.ceiling }
 {
+    let Raised {
+        priced: leaf,
+        ascent,
+    } = raised;
     if leaf.value() >= i128::from(worker.target()) {
         return worker.reprice(number, leaf);
     }
     // The first worker alone splits the root, so that the tree begins with prices and routes that belong together.
-    if leaf.region().is_root() && (nodes.stays_at_root(is_raised) || means.place > 0) {
+    if leaf.region().is_root() && (nodes.stays_at_root(is_raised) || rules.place > 0) {
         nodes.current = Some(number);
         return if is_raised {
             worker.reprice(number, leaf)
@@ -113,7 +117,14 @@ fn bring<'i, H: Hub<'i>, G: Gate>(
             Ok(())
         };
     }
-    match branch(worker.alloc, &leaf, &mut nodes.pool, Some(means.labels)) {
+    let labels = Some(rules.labels);
+    match branch(
+        worker.alloc,
+        &leaf,
+        ascent.as_ref(),
+        &mut nodes.pool,
+        labels,
+    ) {
         Ok(Some(children)) => split(worker, number, leaf.region().is_root(), children, nodes),
         Ok(None) => settle(worker, number, &leaf),
         Err(PriceFault::LabelLimit | PriceFault::PriceRange) => worker.reprice(number, leaf),
@@ -125,14 +136,14 @@ fn bring<'i, H: Hub<'i>, G: Gate>(
 /// known.
 fn offer_routes<'i, H: Hub<'i>, G: Gate>(
     worker: &mut Worker<'_, 'i, H, G>,
-    nodes: &Nodes<'_, 'i>,
+    nodes: &Nodes<'_>,
 ) -> Result<(), Refusal>
     ensures words { worker.new.ceiling ≡ worker.old.ceiling }
 {
-    let Ok(plan) = Feasible::check(worker.instance, nodes.pool.main_routes()?) else {
-        return Ok(());
-    };
-    offer_if_cheaper(worker, plan)
+    match met_plan(worker.instance, &nodes.pool)? {
+        Some(plan) => offer_if_cheaper(worker, plan),
+        None => Ok(()),
+    }
 }
 
 /// The leaf with prices of a higher value, if some are found.
@@ -141,13 +152,13 @@ fn raise_leaf<'i, H: Hub<'i>, G: Gate>(
     start: Option<ChildStart>,
     is_again: bool,
     leaf: Priced<'i>,
-    means: Means,
-    nodes: &mut Nodes<'_, 'i>,
-) -> Priced<'i>
+    rules: Rules,
+    nodes: &mut Nodes<'_>,
+) -> Raised<'i>
     ensures words { worker.new.ceiling ≡ worker.old.ceiling }
 {
     let cost = worker.gap().cost;
-    let goal = goal_of(&leaf, nodes, cost, is_again, worker.target(), means);
+    let goal = goal_at(&leaf, nodes, cost, is_again, worker.target(), rules);
     raise(worker.alloc, &mut nodes.pool, leaf, start, &goal)
 }
 
@@ -156,8 +167,8 @@ fn work_at<'i, H: Hub<'i>, G: Gate>(
     worker: &mut Worker<'_, 'i, H, G>,
     taken: Taken,
     leaf: Priced<'i>,
-    means: Means,
-    nodes: &mut Nodes<'_, 'i>,
+    rules: Rules,
+    nodes: &mut Nodes<'_>,
 ) -> Result<(), Refusal>
     ensures words { worker.new.ceiling ≡ worker.old.ceiling }
 {
@@ -168,24 +179,24 @@ fn work_at<'i, H: Hub<'i>, G: Gate>(
         ..
     } = taken;
     let before = leaf.value();
-    let leaf = raise_leaf(worker, start, is_again, leaf, means, nodes);
+    let raised = raise_leaf(worker, start, is_again, leaf, rules, nodes);
     worker.pass(GatePoint::Priced);
     offer_routes(worker, nodes)?;
-    let is_raised = leaf.value() > before;
-    bring(worker, number, leaf, is_raised, means, nodes)
+    let is_raised = raised.priced.value() > before;
+    bring(worker, number, raised, is_raised, rules, nodes)
 }
 
 /// Takes a node, unless there is none, cost and bound are near enough, or the worker is ahead of the turns that
 /// it made; and works at it, unless its value reaches the cost. Answers whether there was one.
 fn work_on<'i, H: Hub<'i>, G: Gate>(
     worker: &mut Worker<'_, 'i, H, G>,
-    means: Means,
+    rules: Rules,
     made: u32,
-    nodes: &mut Nodes<'_, 'i>,
+    nodes: &mut Nodes<'_>,
 ) -> Result<bool, Refusal>
     ensures words { worker.new.ceiling ≡ worker.old.ceiling }
 {
-    if worker.is_closed() || is_ahead(nodes, made) {
+    if worker.is_closed() || has_done_enough(nodes, made) {
         return Ok(false);
     }
     let Some(taken) = nodes.wait()? else {
@@ -197,7 +208,7 @@ fn work_on<'i, H: Hub<'i>, G: Gate>(
     let leaf = worker.hub.look(taken.number)?;
     worker.pass(GatePoint::Looked);
     if leaf.value() < i128::from(worker.target()) {
-        work_at(worker, taken, leaf, means, nodes)?;
+        work_at(worker, taken, leaf, rules, nodes)?;
     }
     Ok(true)
 }
@@ -205,14 +216,14 @@ fn work_on<'i, H: Hub<'i>, G: Gate>(
 /// Works at one leaf after the other, until it has done what the turns so far are worth.
 fn turn<'i, H: Hub<'i>, G: Gate>(
     worker: &mut Worker<'_, 'i, H, G>,
-    means: Means,
+    rules: Rules,
     made: u32,
-    nodes: &mut Nodes<'_, 'i>,
+    nodes: &mut Nodes<'_>,
 ) -> Result<(), Refusal>
     ensures words { worker.new.ceiling ≡ worker.old.ceiling }
 {
     for _leaf in 0..MOST_LEAVES {
-        if !work_on(worker, means, made, nodes)? {
+        if !work_on(worker, rules, made, nodes)? {
             break;
         }
     }
@@ -233,19 +244,19 @@ fn turn<'i, H: Hub<'i>, G: Gate>(
 pub fn bound_worker<'i, H: Hub<'i>, G: Gate>(
     worker: &mut Worker<'_, 'i, H, G>,
     settings: &Settings,
-    mut nodes: Nodes<'_, 'i>,
+    mut nodes: Nodes<'_>,
 ) -> u32
     ensures turns { result ≤ settings.now.turns }
     ensures own { IsSeatOf worker.old.ceiling.now worker.new.seat }
 {
-    let means = Means {
+    let rules = Rules {
         labels: pricing_labels(settings, nodes.customers),
         place: u32::from(worker.number).saturating_sub(settings.searchers),
         looks: turn_looks(nodes.customers).saturating_mul(u64::from(settings.turns)),
     };
     for made in 0..settings.turns {
         worker.pass(GatePoint::Start);
-        let done = turn(worker, means, made, &mut nodes);
+        let done = turn(worker, rules, made, &mut nodes);
         worker.end_turn();
         if let Err(Refusal::EndsWork) = done {
             return made + 1;

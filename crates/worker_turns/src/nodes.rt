@@ -6,10 +6,10 @@ ghost use Rattle.node_pool.specs.Deques.{FitsAt};
 ghost use Rattle.node_pool.specs.Ends.{deque_at};
 
 use crate::refusal::Refusal;
+use fronts::Nearness;
 use node_pool::{Hand, Pass, Stolen, Thief};
 use price_ascent::{ChildStart, RoutePool, counted_routes};
 use schedule::Feasible;
-use solomon_reader::Instance;
 use std::alloc::{AllocError, Global};
 use std::thread::yield_now;
 
@@ -22,10 +22,10 @@ pub(crate) struct OpenNode {
     pub(crate) start: Option<ChildStart>,
 }
 
-/// For so many customers a turn at the root may be in vain.
+/// For this many customers a turn at the root may be in vain.
 const CUSTOMERS_OF_PATIENCE: u16 = 150;
 
-/// After so many looks for a leaf the processor is given away.
+/// After this many looks for a leaf the processor is given away.
 const LOOKS_BETWEEN: u32 = 2_000;
 
 /// How often a turn looks for a leaf, which takes some milliseconds, and how often a worker looks in vain
@@ -38,7 +38,7 @@ const MOST_LOOKS: u32 = 5_000_000;
 /// stands for others to steal, the deques that it steals from, and the routes that it met, whatever the
 /// leaf.
 #[derive(Drop)]
-pub struct Nodes<'p, 'i> {
+pub struct Nodes<'p> {
     open: Vec<OpenNode>,
     own: Hand,
     /// The leaf that stands in the worker's own deque, if it is still there.
@@ -51,7 +51,7 @@ pub struct Nodes<'p, 'i> {
     idle_at_root: u16,
     /// How often the worker looked for a leaf in vain since it had one.
     missed: u32,
-    pub(crate) pool: RoutePool<'i>,
+    pub(crate) pool: RoutePool<'p>,
     /// How many routes count where prices are raised.
     pub(crate) routes: u16,
     pub(crate) customers: u16,
@@ -110,21 +110,23 @@ fn steal(deques: &[Thief], pass: &mut Pass) -> Option<u32>
     None
 }
 
-impl<'p, 'i> Nodes<'p, 'i> {
-    /// The nodes of the worker that has this end of one of the deques, and the routes of a plan to begin
-    /// with, if there is one; refused where memory is. No contract: it decides only how the worker works.
+impl<'p> Nodes<'p> {
+    /// The nodes of the worker that has this end of one of the deques, with the tables of the instance, and the routes
+    /// of a plan to begin with, if there is one; refused where memory is. No contract: it decides only how the worker
+    /// works.
     pub fn new(
         alloc: Global,
-        instance: &Instance,
+        nearness: &'p Nearness<'p>,
         plan: Option<&Feasible<'_>>,
         own: Hand,
         deques: &'p [Thief],
         pass: Pass,
-    ) -> Result<Nodes<'p, 'i>, AllocError>
+    ) -> Result<Nodes<'p>, AllocError>
         requires { All (λ t. FitsAt (deque_at t) pass) deques.now }
     {
         let routes = plan.map(|plan| plan.routes());
-        let pool = RoutePool::of_routes(alloc, instance, routes.unwrap_or(&[]))?;
+        let instance = nearness.instance;
+        let pool = RoutePool::of_routes(alloc, nearness, routes.unwrap_or(&[]))?;
         Ok(Nodes {
             open: Vec::new(alloc),
             own,

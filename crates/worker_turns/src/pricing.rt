@@ -3,19 +3,14 @@
 ghost use Rattle.std.specs.Prelude.{◌≤◌};
 
 use crate::nodes::Nodes;
-use price_ascent::{Goal, IDLE_PRICINGS, rise_at};
+use leaf_work::{Effort, goal_of};
+use price_ascent::Goal;
 use prices::Priced;
 use run_settings::Settings;
 use tenths::Tenths;
 
 /// The most pricings of a turn at the root.
 const ROOT_PRICINGS: u32 = 20;
-
-/// The most pricings of a turn at another leaf, beside the one that its ascent starts from.
-const LEAF_PRICINGS: u32 = 8;
-
-/// The same where no plan is known: a value that can rise without end is to come to the ceiling.
-const PRICINGS_WITHOUT_PLAN: u32 = 100;
 
 /// How many looks a turn is worth for each customer, and for how many customers at least. A look takes about
 /// as long on every instance, so that turns do, too.
@@ -37,7 +32,7 @@ pub(crate) fn turn_looks(customers: u16) -> u64 {
 
 /// What a bound worker goes by.
 #[derive(Clone, Copy)]
-pub(crate) struct Means {
+pub(crate) struct Rules {
     /// How many labels may be active at once in one of its pricings.
     pub(crate) labels: usize,
     /// Its place among the bound workers.
@@ -46,7 +41,7 @@ pub(crate) struct Means {
     pub(crate) looks: u64,
 }
 
-/// How many labels may be active at once in a bound worker's pricing on so many customers: what the settings
+/// How many labels may be active at once in a bound worker's pricing on this many customers: what the settings
 /// allow, and no more than its turns can pay for, so that no pricing runs away.
 pub fn pricing_labels(settings: &Settings, customers: u16) -> usize
     ensures { result ≤ settings.now.labels }
@@ -60,43 +55,35 @@ pub fn pricing_labels(settings: &Settings, customers: u16) -> usize
 }
 
 /// Whether a worker has done more than the turns that it made so far are worth.
-pub(crate) fn is_ahead(nodes: &Nodes<'_, '_>, made: u32) -> bool {
+pub(crate) fn has_done_enough(nodes: &Nodes<'_>, made: u32) -> bool {
     nodes.pool.looks() > turn_looks(nodes.customers).saturating_mul(u64::from(made))
 }
 
-/// With so many first rises of the root the bound workers begin in turn.
+/// With this many first rises of the root the bound workers begin in turn.
 const FIRST_RISES: u32 = 4;
 
 /// How far the prices of a leaf are to be raised: from where the worker ended at it in the turn before,
 /// or from its first rise. All bound workers begin at the root, each with a greater rise than the one before,
 /// so that they meet other routes and don't do the same work twice.
-pub(crate) fn goal_of(
+pub(crate) fn goal_at(
     leaf: &Priced<'_>,
-    nodes: &Nodes<'_, '_>,
+    nodes: &Nodes<'_>,
     cost: Option<Tenths>,
     is_again: bool,
     target: u64,
-    means: Means,
+    rules: Rules,
 ) -> Goal {
-    let (times, pricings) = if leaf.region().is_root() {
-        (1 + i64::from(means.place % FIRST_RISES), ROOT_PRICINGS)
-    } else if cost.is_none() {
-        (1, PRICINGS_WITHOUT_PLAN)
-    } else {
-        (1, LEAF_PRICINGS)
+    let effort = Effort {
+        root_pricings: ROOT_PRICINGS,
+        labels: Some(rules.labels),
+        looks: rules.looks,
     };
-    let rise = if is_again {
-        nodes.pool.rise()
-    } else {
-        rise_at(leaf, cost).saturating_mul(times)
-    };
-    Goal {
-        rise,
-        pricings,
-        idle_pricings: IDLE_PRICINGS,
-        value: i128::from(target),
-        routes: nodes.routes,
-        labels: Some(means.labels),
-        looks: means.looks,
+    let mut goal = goal_of(leaf, cost, nodes.routes, target, effort);
+    if is_again {
+        goal.rise = nodes.pool.rise();
+    } else if leaf.region().is_root() {
+        let times = 1 + i64::from(rules.place % FIRST_RISES);
+        goal.rise = goal.rise.saturating_mul(times);
     }
+    goal
 }

@@ -14,23 +14,25 @@ use search::{HeldPlan, Pace, Searcher, Seeker};
 use solomon_reader::Instance;
 use std::alloc::Global;
 
-/// What a search worker has: a plan to change; or none, and a search for one; or at first no more than a plan
-/// to begin with, if there is one, and its random words.
+/// How far a worker's search is.
 #[derive(Drop)]
-enum Quest<'i, R> {
-    At(Searcher<'i, R>),
+enum Search<'i, R> {
+    /// It changes the plan that it has.
+    Improving(Searcher<'i, R>),
+    /// It has no plan, and looks for one.
     Seeking(Seeker<'i, R>),
-    Begins(Option<HeldPlan<'i>>, R),
+    /// It hasn't begun: the plan to begin with, if there is one, and the random words.
+    Beginning(Option<HeldPlan<'i>>, R),
 }
 
-impl<'i, R: Rng + Drop> Quest<'i, R> {
+impl<'i, R: Rng + Drop> Search<'i, R> {
     /// The plan that the worker has.
     fn plan(&self) -> Option<&Feasible<'i>> {
         match self {
-            Quest::At(searcher) => Some(searcher.plan()),
-            Quest::Seeking(_) => None,
-            Quest::Begins(Some(held), _) => Some(&held.plan),
-            Quest::Begins(None, _) => None,
+            Search::Improving(searcher) => Some(searcher.plan()),
+            Search::Seeking(_) => None,
+            Search::Beginning(Some(held), _) => Some(&held.plan),
+            Search::Beginning(None, _) => None,
         }
     }
 }
@@ -39,10 +41,10 @@ impl<'i, R: Rng + Drop> Quest<'i, R> {
 fn go_on<'i, R: Rng + Drop>(
     mut searcher: Searcher<'i, R>,
     pace: Pace,
-) -> Result<Quest<'i, R>, Refusal> {
+) -> Result<Search<'i, R>, Refusal> {
     searcher.keep_pace(pace);
     searcher.turn()?;
-    Ok(Quest::At(searcher))
+    Ok(Search::Improving(searcher))
 }
 
 /// Looks for a first plan by an insertion with drawn weights, and then by a turn of a search that leaves
@@ -52,17 +54,17 @@ fn seek_first<'i, R: Rng + Drop>(
     instance: &'i Instance,
     mut seeker: Seeker<'i, R>,
     pace: Pace,
-) -> Result<Quest<'i, R>, Refusal> {
+) -> Result<Search<'i, R>, Refusal> {
     let spared = seeker.next_word();
     let from_depot = seeker.next_word();
     let detour = seeker.next_word();
     let weights = Weights::of_words(spared, from_depot, detour);
     if let Some(plan) = build_whole(alloc, instance, &weights)? {
-        return Ok(Quest::At(seeker.into_searcher(plan)));
+        return Ok(Search::Improving(seeker.into_searcher(plan)));
     }
     match seeker.turn(pace)? {
-        Some(plan) => Ok(Quest::At(seeker.into_searcher(plan))),
-        None => Ok(Quest::Seeking(seeker)),
+        Some(plan) => Ok(Search::Improving(seeker.into_searcher(plan))),
+        None => Ok(Search::Seeking(seeker)),
     }
 }
 
@@ -74,7 +76,7 @@ fn begin<'i, R: Rng + Drop>(
     plan: Option<HeldPlan<'i>>,
     random: R,
     pace: Pace,
-) -> Result<Quest<'i, R>, Refusal> {
+) -> Result<Search<'i, R>, Refusal> {
     match plan {
         Some(held) => {
             let mut searcher = Searcher::holding(alloc, held, random);
@@ -89,24 +91,24 @@ fn begin<'i, R: Rng + Drop>(
 fn seek<'i, R: Rng + Drop>(
     alloc: Global,
     instance: &'i Instance,
-    quest: Quest<'i, R>,
+    search: Search<'i, R>,
     pace: Pace,
-) -> Result<Quest<'i, R>, Refusal> {
-    match quest {
-        Quest::At(searcher) => go_on(searcher, pace),
-        Quest::Seeking(seeker) => seek_first(alloc, instance, seeker, pace),
-        Quest::Begins(plan, random) => begin(alloc, instance, plan, random, pace),
+) -> Result<Search<'i, R>, Refusal> {
+    match search {
+        Search::Improving(searcher) => go_on(searcher, pace),
+        Search::Seeking(seeker) => seek_first(alloc, instance, seeker, pace),
+        Search::Beginning(plan, random) => begin(alloc, instance, plan, random, pace),
     }
 }
 
 /// Offers a copy of the plan, if there is one.
 fn offer<'i, H: Hub<'i>, G: Gate, R: Rng + Drop>(
     worker: &mut Worker<'_, 'i, H, G>,
-    quest: &Quest<'i, R>,
+    search: &Search<'i, R>,
 ) -> Result<(), Refusal>
     ensures words { worker.new.ceiling ≡ worker.old.ceiling }
 {
-    let Some(plan) = quest.plan() else {
+    let Some(plan) = search.plan() else {
         return Ok(());
     };
     worker.offer(plan.try_clone()?)?;
@@ -118,22 +120,22 @@ fn offer<'i, H: Hub<'i>, G: Gate, R: Rng + Drop>(
 /// near enough, it has what it had.
 fn turn<'i, H: Hub<'i>, G: Gate, R: Rng + Drop>(
     worker: &mut Worker<'_, 'i, H, G>,
-    quest: Quest<'i, R>,
+    search: Search<'i, R>,
     pace: Pace,
-) -> Option<Quest<'i, R>>
+) -> Option<Search<'i, R>>
     ensures words { worker.new.ceiling ≡ worker.old.ceiling }
 {
     if worker.is_closed() {
-        if quest.plan().is_some() {
+        if search.plan().is_some() {
             worker.pass(GatePoint::Offered);
         }
-        return Some(quest);
+        return Some(search);
     }
-    let Ok(quest) = seek(worker.alloc, worker.instance, quest, pace) else {
+    let Ok(search) = seek(worker.alloc, worker.instance, search, pace) else {
         return None;
     };
-    match offer(worker, &quest) {
-        Ok(()) | Err(Refusal::EndsTurn) => Some(quest),
+    match offer(worker, &search) {
+        Ok(()) | Err(Refusal::EndsTurn) => Some(search),
         Err(Refusal::EndsWork) => None,
     }
 }
@@ -155,15 +157,15 @@ pub fn search_worker<'i, H: Hub<'i>, G: Gate, R: Rng + Drop>(
     ensures turns { result ≤ turns }
     ensures own { IsSeatOf worker.old.ceiling.now worker.new.seat }
 {
-    let mut quest = Quest::Begins(plan, random);
+    let mut search = Search::Beginning(plan, random);
     for made in 0..turns {
         worker.pass(GatePoint::Start);
-        let left = turn(worker, quest, Pace { made, turns });
+        let left = turn(worker, search, Pace { made, turns });
         worker.end_turn();
         let Some(next) = left else {
             return made + 1;
         };
-        quest = next;
+        search = next;
     }
     turns
 }
