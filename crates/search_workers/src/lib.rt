@@ -10,6 +10,7 @@ mod running;
 
 pub use closing::{CloseAloneFault, Found, close_alone};
 pub use fault::RunFault;
+pub use fronts::Nearness;
 pub use run_settings::{Settings, generator};
 pub use running::{run, run_from};
 pub use worker_turns::{Gate, GatePoint, Hub, NoGate, Nodes, Worker, bound_worker, search_worker};

@@ -1,7 +1,7 @@
-//! A worker with its task.
+//! A worker with its role.
 
 use crate::at_desk::AtDesk;
-use crate::crew::Post;
+use crate::crew::ThreadWork;
 use desk::{Naming, Share};
 use rand_xoshiro::Xoshiro256PlusPlus;
 use run_settings::Settings;
@@ -11,7 +11,7 @@ use worker_turns::{Gate, Nodes, Worker, bound_worker, search_worker};
 
 /// What a worker does.
 #[derive(Drop)]
-pub(crate) enum Task<'a, 'i> {
+pub(crate) enum Role<'a, 'i> {
     /// It looks for plans, from this one on, with these random words.
     Search {
         plan: Option<HeldPlan<'i>>,
@@ -19,33 +19,33 @@ pub(crate) enum Task<'a, 'i> {
     },
     /// It raises the bound at these nodes.
     Bound {
-        nodes: Nodes<'a, 'i>,
+        nodes: Nodes<'a>,
     },
 }
 
-/// A worker at a desk, with its task.
+/// A worker at a desk, with its role.
 #[derive(Drop)]
-pub(crate) struct Posted<'a, 'i, R: Wait, J: Naming, G> {
+pub(crate) struct ReadyWorker<'a, 'i, R: Wait, J: Naming, G> {
     pub(crate) worker: Worker<'a, 'i, AtDesk<'a, 'i, R, J>, G>,
     pub(crate) settings: &'a Settings,
-    pub(crate) task: Task<'a, 'i>,
+    pub(crate) role: Role<'a, 'i>,
 }
 
-impl<'a, 'i, R: Wait + Sync, J: Naming + Send + Sync, G: Gate + Sync> Post
-    for Posted<'a, 'i, R, J, G> {
+impl<'a, 'i, R: Wait + Sync, J: Naming + Send + Sync, G: Gate + Sync> ThreadWork
+    for ReadyWorker<'a, 'i, R, J, G> {
     type Back = Share<J>;
 
     fn work(self) -> Share<J> {
-        let Posted {
+        let ReadyWorker {
             mut worker,
             settings,
-            task,
+            role,
         } = self;
-        let _made = match task {
-            Task::Search { plan, random } => {
+        let _made = match role {
+            Role::Search { plan, random } => {
                 search_worker(&mut worker, plan, settings.turns, random)
             }
-            Task::Bound { nodes } => bound_worker(&mut worker, settings, nodes),
+            Role::Bound { nodes } => bound_worker(&mut worker, settings, nodes),
         };
         worker.hub.share
     }

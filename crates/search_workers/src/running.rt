@@ -18,9 +18,10 @@ use crate::at_desk::AtDesk;
 use crate::crew::all_at_once;
 use crate::fault::RunFault;
 use crate::opening::Opening;
-use crate::post::{Posted, Task};
+use crate::post::{ReadyWorker, Role};
 use ceiling::{Ceiling, CeilingSeat};
 use desk::{Blanks, Desk, Naming, Share};
+use fronts::Nearness;
 use incumbent_book::{Gap, Outcome};
 use node_pool::{Hand, Pass, Pool, Thief};
 use run_settings::{Settings, generator};
@@ -41,54 +42,56 @@ const ROOT: u32 = 0;
 
 /// What a run is given.
 #[derive(Drop)]
-struct Given<'a, 'i, R, G> {
+struct Input<'a, 'i, R, G> {
     rt: &'a R,
     alloc: Global,
     instance: &'i Instance,
     settings: &'a Settings,
+    /// The tables of the instance.
+    nearness: &'a Nearness<'a>,
     gate: &'a G,
 }
 
 /// What all workers of a run share.
 #[derive(Drop)]
-struct Site<'a, 'i, R: Wait, J: Naming, G> {
-    given: &'a Given<'a, 'i, R, G>,
+struct Shared<'a, 'i, R: Wait, J: Naming, G> {
+    input: &'a Input<'a, 'i, R, G>,
     desk: &'a Desk<'i, J>,
     ceiling: &'a Ceiling,
     deques: &'a [Thief],
     plan: Option<&'a HeldPlan<'i>>,
 }
 
-/// The task of a worker: it raises the bound where it has the end of a deque, else it looks for plans.
-fn task_of<'a, 'i, R: Wait, J: Naming, G>(
-    site: &Site<'a, 'i, R, J, G>,
+/// The role of a worker: it raises the bound where it has the end of a deque, else it looks for plans.
+fn role_of<'a, 'i, R: Wait, J: Naming, G>(
+    shared: &Shared<'a, 'i, R, J, G>,
     number: u16,
     own: Option<Hand>,
     pass: Option<Pass>,
-) -> Result<Task<'a, 'i>, AllocError>
-    requires { IfSome pass (λ p. All (λ t. FitsAt (deque_at t) p) site.now.deques.now) }
+) -> Result<Role<'a, 'i>, AllocError>
+    requires { IfSome pass (λ p. All (λ t. FitsAt (deque_at t) p) shared.now.deques.now) }
 {
-    let given = site.given;
+    let input = shared.input;
     if let (Some(own), Some(pass)) = (own, pass) {
-        let plan = match site.plan {
+        let plan = match shared.plan {
             Some(held) => Some(&held.plan),
             None => None,
         };
-        let nodes = Nodes::new(given.alloc, given.instance, plan, own, site.deques, pass)?;
-        return Ok(Task::Bound { nodes });
+        let nodes = Nodes::new(input.alloc, input.nearness, plan, own, shared.deques, pass)?;
+        return Ok(Role::Bound { nodes });
     }
-    let plan = match site.plan {
+    let plan = match shared.plan {
         Some(held) => Some(held.try_clone()?),
         None => None,
     };
-    let random = generator(given.settings.seed, number);
-    Ok(Task::Search { plan, random })
+    let random = generator(input.settings.seed, number);
+    Ok(Role::Search { plan, random })
 }
 
 /// What the workers of a run take, in the order of their numbers: a share and a seat each, and the last
 /// of them the end of a deque and what they steal by.
 #[derive(Drop)]
-struct Kit<J: Naming> {
+struct Tools<J: Naming> {
     shares: Vec<Share<J>>,
     seats: Vec<CeilingSeat>,
     hands: Vec<Hand>,
@@ -97,38 +100,38 @@ struct Kit<J: Naming> {
 
 /// The workers of a run, the last first. The workers from 0 on search; the bound workers follow.
 fn post_workers<'a, 'i, R: Wait, J: Naming, G>(
-    site: &Site<'a, 'i, R, J, G>,
-    mut kit: Kit<J>,
-) -> Result<Vec<Posted<'a, 'i, R, J, G>>, AllocError>
-    requires few { vec_len kit.shares ≤ 2 ^ 16 }
-    requires seats { vec_len kit.seats ≡ vec_len kit.shares }
-    requires own { All (IsSeatOf site.now.ceiling.now) kit.seats.items }
-    requires fits { All (λ p. All (λ t. FitsAt (deque_at t) p) site.now.deques.now)
-        kit.passes.items }
-    ensures { IfOk result (λ crew. vec_len crew ≡ vec_len kit.shares) }
+    shared: &Shared<'a, 'i, R, J, G>,
+    mut tools: Tools<J>,
+) -> Result<Vec<ReadyWorker<'a, 'i, R, J, G>>, AllocError>
+    requires few { vec_len tools.shares ≤ 2 ^ 16 }
+    requires seats { vec_len tools.seats ≡ vec_len tools.shares }
+    requires own { All (IsSeatOf shared.now.ceiling.now) tools.seats.items }
+    requires fits { All (λ p. All (λ t. FitsAt (deque_at t) p) shared.now.deques.now)
+        tools.passes.items }
+    ensures { IfOk result (λ crew. vec_len crew ≡ vec_len tools.shares) }
 {
-    let given = site.given;
-    let mut crew = Vec::with_capacity(given.alloc, kit.shares.len())?;
-    while let (Some(share), Some(seat)) = (kit.shares.pop(), kit.seats.pop()) {
-        let number = kit.shares.len() as u16;
-        let task = task_of(site, number, kit.hands.pop(), kit.passes.pop())?;
-        crew.push_reserved(Posted {
+    let input = shared.input;
+    let mut crew = Vec::with_capacity(input.alloc, tools.shares.len())?;
+    while let (Some(share), Some(seat)) = (tools.shares.pop(), tools.seats.pop()) {
+        let number = tools.shares.len() as u16;
+        let role = role_of(shared, number, tools.hands.pop(), tools.passes.pop())?;
+        crew.push_reserved(ReadyWorker {
             worker: Worker {
-                alloc: given.alloc,
-                instance: given.instance,
+                alloc: input.alloc,
+                instance: input.instance,
                 hub: AtDesk {
-                    rt: given.rt,
-                    desk: site.desk,
+                    rt: input.rt,
+                    desk: shared.desk,
                     share,
                 },
-                gate: given.gate,
+                gate: input.gate,
                 number,
-                ceiling: site.ceiling,
+                ceiling: shared.ceiling,
                 seat,
-                enough: given.settings.gap,
+                enough: input.settings.gap,
             },
-            settings: given.settings,
-            task,
+            settings: input.settings,
+            role,
         });
     }
     Ok(crew)
@@ -151,7 +154,7 @@ fn deques(alloc: Global, bounders: usize) -> Result<(Vec<Hand>, Vec<Thief>, Vec<
 /// Lets all workers work at a desk, each in a thread of its own, and answers their shares. The words for
 /// cost and bound begin with what the book has.
 fn work_together<'i, R: Threads + Wait + Sync, J: Naming + Send + Sync, G: Gate + Sync>(
-    given: &Given<'_, 'i, R, G>,
+    input: &Input<'_, 'i, R, G>,
     desk: &Desk<'i, J>,
     shares: Vec<Share<J>>,
     plan: Option<&HeldPlan<'i>>,
@@ -163,43 +166,43 @@ fn work_together<'i, R: Threads + Wait + Sync, J: Naming + Send + Sync, G: Gate 
 {
     let cost = match gap.cost {
         Some(cost) => cost.get(),
-        None => given.instance.ceiling().get() + 1,
+        None => input.instance.ceiling().get() + 1,
     };
-    let Ok((ceiling, seats)) = Ceiling::new(given.alloc, shares.len(), cost, gap.bound.get()) else {
+    let Ok((ceiling, seats)) = Ceiling::new(input.alloc, shares.len(), cost, gap.bound.get()) else {
         return Err(RunFault::Memory);
     };
-    let (hands, thieves, passes) = deques(given.alloc, given.settings.bounders as usize)?;
-    let site = Site {
-        given,
+    let (hands, thieves, passes) = deques(input.alloc, input.settings.bounders as usize)?;
+    let shared = Shared {
+        input,
         desk,
         ceiling: &ceiling,
         deques: thieves.as_slice(),
         plan,
     };
     let crew = post_workers(
-        &site,
-        Kit {
+        &shared,
+        Tools {
             shares,
             seats,
             hands,
             passes,
         },
     )?;
-    all_at_once(given.rt, given.alloc, crew)
+    all_at_once(input.rt, input.alloc, crew)
 }
 
 /// Lets all workers work at a book, and answers what it leaves.
 fn run_at_desk<'i, R: Threads + Wait + Sync, J: Naming + Send + Sync, G: Gate + Sync>(
-    given: &Given<'_, 'i, R, G>,
+    input: &Input<'_, 'i, R, G>,
     opening: Opening<'i>,
     blanks: Blanks,
 ) -> Result<Outcome<'i>, RunFault>
-    requires within { IsWithin given.now.settings.now }
+    requires within { IsWithin input.now.settings.now }
     requires problem { opening.book.problem ≡ J.problem }
     requires neighbours { opening.book.neighbours ≡ J.neighbours }
     requires served { HasPlanIf J.has_plan opening.book.past }
-    requires workers { J.workers ≡ given.now.settings.now.searchers +
-        given.now.settings.now.bounders }
+    requires workers { J.workers ≡ input.now.settings.now.searchers +
+        input.now.settings.now.bounders }
     requires names { names_of blanks ≡ J.names }
     requires parts { parts_of blanks ≡ each J.workers }
     ensures problem { IfOk result (λ o. o.problem ≡ J.problem) }
@@ -209,11 +212,11 @@ fn run_at_desk<'i, R: Threads + Wait + Sync, J: Naming + Send + Sync, G: Gate + 
 {
     let Opening { book, plan } = opening;
     let gap = book.gap();
-    let workers = given.settings.searchers + given.settings.bounders;
-    let Ok((desk, shares)) = Desk::<J>::open(given.alloc, book, workers as u16, blanks) else {
+    let workers = input.settings.searchers + input.settings.bounders;
+    let Ok((desk, shares)) = Desk::<J>::open(input.alloc, book, workers as u16, blanks) else {
         return Err(RunFault::Memory);
     };
-    let shares = work_together(given, &desk, shares, plan.as_ref(), &gap)?;
+    let shares = work_together(input, &desk, shares, plan.as_ref(), &gap)?;
     match desk.close(shares) {
         Ok(outcome) => Ok(outcome),
         Err(_) => unreachable!(),
@@ -262,14 +265,16 @@ pub fn run_from<'i, R: Threads + Wait + Sync, G: Gate + Sync>(
     if !settings.is_within() {
         return Err(RunFault::BadSettings);
     }
-    let opening = Opening::new(rt, alloc, instance, settings, start)?;
-    let given = Given {
+    let nearness = &Nearness::new(alloc, instance, settings.neighbours)?;
+    let opening = Opening::new(rt, alloc, instance, settings, nearness, start)?;
+    let input = Input {
         rt,
         alloc,
         instance,
         settings,
+        nearness,
         gate,
     };
     let workers = settings.searchers + settings.bounders;
-    run_at_desk::<R, Brand, G>(&given, opening, Blanks::new(workers as u16))
+    run_at_desk::<R, Brand, G>(&input, opening, Blanks::new(workers as u16))
 }

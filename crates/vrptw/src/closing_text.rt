@@ -6,7 +6,7 @@ ghost use Rattle.vrptw.specs.Closing.{AreWithin, Closes};
 ghost use Rattle.vrptw.specs.Starting.{IsAtMost, IsPlanAt, TellsFrom};
 
 use crate::answer::{Answer, SolveFault};
-use crate::solving::{Given, read_instance};
+use crate::solving::{Request, read_instance};
 use crate::starting::{StartFault, read_start};
 use crate::writing::write_found;
 use run_settings::Settings;
@@ -24,24 +24,24 @@ fn are_within(settings: &Settings, leaf_limit: u32) -> bool
 
 /// Closes an instance, from a plan if there is one, and writes what is found.
 fn close_instance<'i, X: Sink, Y: Sink>(
-    given: Given<'_, 'i>,
+    request: Request<'_, 'i>,
     start: Option<Feasible<'i>>,
     leaf_limit: u32,
     solution: &mut X,
     certificate: &mut Y,
 ) -> Result<Answer, SolveFault>
-    requires { IfSome start (IsPlanAt given.instance.now) }
-    ensures closed { (text : List ℕ) → IsInstance text given.entry.instance.now
-        → Closes text given.entry.settings.now leaf_limit
+    requires { IfSome start (IsPlanAt request.instance.now) }
+    ensures closed { (text : List ℕ) → IsInstance text request.entry.instance.now
+        → Closes text request.entry.settings.now leaf_limit
         (X.held solution.old) (X.held solution.new)
         (Y.held certificate.old) (Y.held certificate.new) result }
     ensures at_most { IfOk result (λ a. IfSome start.entry (λ f. IsAtMost f.cost a)) }
 {
-    let Given {
+    let Request {
         alloc,
         instance,
         settings,
-    } = given;
+    } = request;
     if !are_within(settings, leaf_limit) {
         return Err(SolveFault::BadSettings);
     }
@@ -52,7 +52,7 @@ fn close_instance<'i, X: Sink, Y: Sink>(
 
 /// Closes the instance of a text, of at most 24 customers: writes a plan that no plan is cheaper than to
 /// the first sink, and then to the second the certificate whose bound is its cost; or where there is no
-/// plan, the certificate alone. The tree has at most so many leaves, 1 to 100,000. Of the settings only
+/// plan, the certificate alone. The tree has at most this many leaves, 1 to 100,000. Of the settings only
 /// the neighbours have an effect. It works on the caller's thread and waits for nobody. The answer is
 /// `Best` or `NoPlan`.
 ///
@@ -110,11 +110,11 @@ pub fn close_from<X: Sink, Y: Sink>(
 {
     let instance = &read_instance(alloc, text)?;
     let start = read_start(alloc, instance, start)?;
-    let given = Given {
+    let request = Request {
         alloc,
         instance,
         settings,
     };
-    let answer = close_instance(given, start, leaf_limit, solution, certificate)?;
+    let answer = close_instance(request, start, leaf_limit, solution, certificate)?;
     Ok(answer)
 }

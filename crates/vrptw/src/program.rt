@@ -8,7 +8,7 @@ use crate::lines::{
     check_fault, file_fault, open_fault, start_fault, tell, tell_verdict, usage_fault,
 };
 use crate::paths::is_same_path;
-use crate::progress::Progress;
+use crate::progress::{Progress, Telling};
 use crate::solving::solve_from;
 use crate::starting::StartFault;
 use checker::check;
@@ -20,18 +20,6 @@ use std::sync::Wait;
 use std::thread::Threads;
 use std::{fs, io};
 use tenths::{Sink, StdSink};
-use worker_turns::NoGate;
-
-/// Whether to tell how far the turns are.
-#[derive(Clone, Copy)]
-enum Telling {
-    /// Nothing is told.
-    Nothing,
-    /// By a line each time.
-    Lines,
-    /// On one line, which is written anew.
-    Live,
-}
 
 /// How an instance is solved: within the settings, and where a number of leaves is given, by closing it
 /// with no more of them; and whether to tell how far the turns are.
@@ -55,23 +43,7 @@ fn solve_text<R: Eprint + Threads + Wait + Sync, X: Sink, Y: Sink>(
     if let Some(leaves) = work.closing {
         return close_from(alloc, text, start, settings, leaves, solution, certificate);
     }
-    let is_live = match work.telling {
-        Telling::Nothing => {
-            return solve_from(
-                rt,
-                alloc,
-                text,
-                start,
-                settings,
-                &NoGate,
-                solution,
-                certificate,
-            );
-        }
-        Telling::Lines => false,
-        Telling::Live => true,
-    };
-    let gate = Progress::new(rt, settings, is_live);
+    let gate = Progress::new(rt, settings, work.telling);
     let answer = solve_from(
         rt,
         alloc,

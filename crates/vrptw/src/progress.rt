@@ -9,13 +9,23 @@ use std::sync::atomic::{AtomicBool, AtomicU64, Ordering};
 use tenths::Tenths;
 use worker_turns::{Gate, GatePoint, is_near};
 
-/// A gate that holds nobody, and tells on standard error how far the turns are: at most once for each
+/// How to tell how far the turns are.
+#[derive(Clone, Copy)]
+pub(crate) enum Telling {
+    /// Nothing is told.
+    Nothing,
+    /// By a line each time.
+    Lines,
+    /// On one line, which is written anew.
+    Live,
+}
+
+/// A gate that holds nobody, and may tell on standard error how far the turns are: at most once for each
 /// hundredth of them, until cost and bound are as near as is enough. It has no lock.
 #[derive(Drop)]
 pub(crate) struct Progress<'a, R: Eprint> {
     rt: &'a R,
-    /// Whether one line is written anew in place of one line after the other.
-    is_live: bool,
+    telling: Telling,
     turns: u64,
     /// The gap that is enough, in tenths of a percent of the cost.
     enough: u32,
@@ -35,19 +45,18 @@ struct Stage {
     leaves: u64,
 }
 
-/// What stands before and behind what is told: a carriage return and blanks, so that nothing is left of what
-/// stood on the line before, or nothing.
-fn ends(is_live: bool) -> (&'static str, &'static str) {
-    if is_live {
-        ("\r", "            ")
-    } else {
-        ("", "\n")
+/// What stands before and behind what is told: on a live line a carriage return and blanks, so that nothing is left
+/// of what stood there before.
+fn ends(telling: Telling) -> (&'static str, &'static str) {
+    match telling {
+        Telling::Live => ("\r", "            "),
+        Telling::Lines | Telling::Nothing => ("", "\n"),
     }
 }
 
 /// Writes how far the turns are.
-fn write_progress<R: Eprint>(rt: &R, is_live: bool, stage: Stage, gap: &Gap) -> io::Result<()> {
-    let (before, behind) = ends(is_live);
+fn write_progress<R: Eprint>(rt: &R, telling: Telling, stage: Stage, gap: &Gap) -> io::Result<()> {
+    let (before, behind) = ends(telling);
     let Stage {
         percent,
         made,
@@ -73,11 +82,11 @@ fn write_progress<R: Eprint>(rt: &R, is_live: bool, stage: Stage, gap: &Gap) -> 
 
 impl<'a, R: Eprint> Progress<'a, R> {
     /// For all turns that the settings ask for.
-    pub(crate) fn new(rt: &'a R, settings: &Settings, is_live: bool) -> Progress<'a, R> {
+    pub(crate) fn new(rt: &'a R, settings: &Settings, telling: Telling) -> Progress<'a, R> {
         let workers = u64::from(settings.searchers) + u64::from(settings.bounders);
         Progress {
             rt,
-            is_live,
+            telling,
             turns: workers.saturating_mul(u64::from(settings.turns)).max(1),
             enough: settings.gap,
             made: AtomicU64::new(0),
@@ -88,7 +97,7 @@ impl<'a, R: Eprint> Progress<'a, R> {
 
     /// Ends the line that was written anew, if one was.
     pub(crate) fn end(&self) {
-        if self.is_live && self.has_told.load(Ordering::SeqCst) {
+        if matches!(self.telling, Telling::Live) && self.has_told.load(Ordering::SeqCst) {
             // Where standard error fails, nothing is told.
             let _ = eprint!(self.rt; "\n");
         }
@@ -103,6 +112,9 @@ impl<'a, R: Eprint> Gate for Progress<'a, R> {
     }
 
     fn tell(&self, gap: &Gap) {
+        if matches!(self.telling, Telling::Nothing) {
+            return;
+        }
         let made = self.made.fetch_add(1, Ordering::SeqCst).saturating_add(1);
         let before = made.saturating_sub(1).saturating_mul(100);
         let percent = before.saturating_add(100) / self.turns;
@@ -115,7 +127,7 @@ impl<'a, R: Eprint> Gate for Progress<'a, R> {
             };
             self.has_told.store(true, Ordering::SeqCst);
             // Where standard error fails, nothing is told.
-            let _ = write_progress(self.rt, self.is_live, stage, gap);
+            let _ = write_progress(self.rt, self.telling, stage, gap);
         }
     }
 }

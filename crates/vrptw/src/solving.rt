@@ -9,9 +9,9 @@ use crate::answer::{Answer, SolveFault};
 use crate::found::found_by;
 use crate::starting::{StartFault, read_start};
 use crate::writing::write_found;
-use closing::{Found, cheaper};
+use closing::Found;
 use run_settings::Settings;
-use schedule::Feasible;
+use schedule::{Feasible, cheaper};
 use search_workers::run_from;
 use solomon_reader::{Instance, ReadFault, read};
 use std::alloc::Global;
@@ -34,7 +34,7 @@ pub(crate) fn read_instance(alloc: Global, text: &[u8]) -> Result<Instance, Solv
 
 /// What a run or a closing is given.
 #[derive(Clone, Copy)]
-pub(crate) struct Given<'a, 'i> {
+pub(crate) struct Request<'a, 'i> {
     pub(crate) alloc: Global,
     pub(crate) instance: &'i Instance,
     pub(crate) settings: &'a Settings,
@@ -43,24 +43,24 @@ pub(crate) struct Given<'a, 'i> {
 /// Solves an instance, from a plan if there is one, and writes what is found.
 fn solve_instance<'i, R: Threads + Wait + Sync, G: Gate + Sync, X: Sink, Y: Sink>(
     rt: &R,
-    given: Given<'_, 'i>,
+    request: Request<'_, 'i>,
     start: Option<Feasible<'i>>,
     gate: &G,
     solution: &mut X,
     certificate: &mut Y,
 ) -> Result<Answer, SolveFault>
-    requires { IfSome start (IsPlanAt given.instance.now) }
-    ensures solved { (text : List ℕ) → IsInstance text given.entry.instance.now
-        → Solves text given.entry.settings.now
+    requires { IfSome start (IsPlanAt request.instance.now) }
+    ensures solved { (text : List ℕ) → IsInstance text request.entry.instance.now
+        → Solves text request.entry.settings.now
         (X.held solution.old) (X.held solution.new)
         (Y.held certificate.old) (Y.held certificate.new) result }
     ensures at_most { IfOk result (λ a. IfSome start.entry (λ f. IsAtMost f.cost a)) }
 {
-    let Given {
+    let Request {
         alloc,
         instance,
         settings,
-    } = given;
+    } = request;
     let copy = match &start {
         Some(plan) => Some(plan.try_clone()?),
         None => None,
@@ -127,11 +127,11 @@ pub fn solve_from<R: Threads + Wait + Sync, G: Gate + Sync, X: Sink, Y: Sink>(
 {
     let instance = &read_instance(alloc, text)?;
     let start = read_start(alloc, instance, start)?;
-    let given = Given {
+    let request = Request {
         alloc,
         instance,
         settings,
     };
-    let answer = solve_instance(rt, given, start, gate, solution, certificate)?;
+    let answer = solve_instance(rt, request, start, gate, solution, certificate)?;
     Ok(answer)
 }

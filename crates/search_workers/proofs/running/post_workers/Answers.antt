@@ -7,15 +7,15 @@ use Rattle.node_pool.specs.Ends.{deque_at}
 use Rattle.search_workers.proofs.running.post_workers.Goals as goal
 
 -- the pass that is taken fits
-pub task_of-requires : goal.task_of-requires
-task_of-requires g c =
-    (All-pop (λ p. All (λ t. FitsAt (deque_at t) p) c.args.site.now.deques.now) c.loop-share.kit.passes.items c.pop-in-Some-Some-2.new.self.items
+pub role_of-requires : goal.role_of-requires
+role_of-requires g c =
+    (All-pop (λ p. All (λ t. FitsAt (deque_at t) p) c.args.shared.now.deques.now) c.loop-share.tools.passes.items c.pop-in-Some-Some-2.new.self.items
     c.pop-in-Some-Some-2.result c.pop-in-Some-Some-2.ensures.items c.loop-share.invariant.4).1
 
 -- the seat that is taken is one of these words
 pub invariant_of-push_reserved : goal.invariant_of-push_reserved
 invariant_of-push_reserved g c =
-    let taken = (All-pop (IsSeatOf c.args.site.now.ceiling.now) c.loop-share.kit.seats.items c.pop-in-loop-share.new.self.items
+    let taken = (All-pop (IsSeatOf c.args.shared.now.ceiling.now) c.loop-share.tools.seats.items c.pop-in-loop-share.new.self.items
     c.pop-in-loop-share.result c.pop-in-loop-share.ensures.items c.loop-share.invariant.3).1 in
     record { own = rw c.in-Some-Some.is-1 at taken }
 
@@ -25,7 +25,7 @@ loop-share-preserved g c =
       search rules,
       search rules,
       search rules,
-      (All-pop (IsSeatOf c.args.site.now.ceiling.now) c.loop-share.kit.seats.items c.pop-in-loop-share.new.self.items c.pop-in-loop-share.result c.pop-in-loop-share.ensures.items was.3).0,
-      (All-pop (λ p. All (λ t. FitsAt (deque_at t) p) c.args.site.now.deques.now) c.loop-share.kit.passes.items c.pop-in-Some-Some-2.new.self.items
+      (All-pop (IsSeatOf c.args.shared.now.ceiling.now) c.loop-share.tools.seats.items c.pop-in-loop-share.new.self.items c.pop-in-loop-share.result c.pop-in-loop-share.ensures.items was.3).0,
+      (All-pop (λ p. All (λ t. FitsAt (deque_at t) p) c.args.shared.now.deques.now) c.loop-share.tools.passes.items c.pop-in-Some-Some-2.new.self.items
           c.pop-in-Some-Some-2.result c.pop-in-Some-Some-2.ensures.items was.4).0,
     )

@@ -8,11 +8,11 @@ use Rattle.search_workers.proofs.running.post_workers.Given as goal
 -- there is a seat for each worker that is left, and room for it
 abbrev pub invariant-loop-share : goal.invariant-loop-share
 invariant-loop-share g l =
-    (vec_len l.crew + vec_len l.kit.shares ≡ vec_len l.fn.kit.shares)
-    × (vec_len l.fn.kit.shares ≤ vec_capacity l.crew)
-    × (vec_len l.kit.seats ≡ vec_len l.kit.shares)
-    × All (IsSeatOf l.site.ceiling.now) l.kit.seats.items
-    × All (λ p. All (λ t. FitsAt (deque_at t) p) l.site.deques.now) l.kit.passes.items
+    (vec_len l.crew + vec_len l.tools.shares ≡ vec_len l.fn.tools.shares)
+    × (vec_len l.fn.tools.shares ≤ vec_capacity l.crew)
+    × (vec_len l.tools.seats ≡ vec_len l.tools.shares)
+    × All (IsSeatOf l.shared.ceiling.now) l.tools.seats.items
+    × All (λ p. All (λ t. FitsAt (deque_at t) p) l.shared.deques.now) l.tools.passes.items
 
 abbrev pub decreases-loop-share : goal.decreases-loop-share
-decreases-loop-share g l = vec_len l.kit.shares
+decreases-loop-share g l = vec_len l.tools.shares

@@ -5,9 +5,9 @@ use Rattle.search_workers.proofs.running.run_from.Given as goal
 -- the desk is about this instance
 abbrev pub ghosts-run_at_desk : goal.ghosts-run_at_desk
 ghosts-run_at_desk g a = record {
-  problem = a.given.now.instance.now;
-  neighbours = a.given.now.settings.now.neighbours;
+  problem = a.input.now.instance.now;
+  neighbours = a.input.now.settings.now.neighbours;
   has_plan = is_some a.opening.plan;
-  workers = a.given.now.settings.now.searchers + a.given.now.settings.now.bounders;
+  workers = a.input.now.settings.now.searchers + a.input.now.settings.now.bounders;
   names = names_of a.blanks;
 }
