@@ -8,10 +8,10 @@ mod effort;
 mod fee;
 mod gathering;
 mod leaf;
-mod met_plan;
+mod pool_plan;
 mod serving;
 mod settling;
 
 pub use effort::{Effort, goal_of};
 pub use leaf::settled_leaf;
-pub use met_plan::met_plan;
+pub use pool_plan::met_plan;
