@@ -7,8 +7,9 @@ use rand_core::Rng;
 use solomon_reader::Instance;
 use std::alloc::{AllocError, Global};
 
-/// So many steps for each customer are a turn: some 15 milliseconds at 100 customers, and 60 to 90 at 400.
-pub const STEPS_OF_CUSTOMER: u64 = 36_000;
+/// So many steps for each customer are a turn: some 30 to 40 milliseconds at 100 customers, and 150 to 220 at
+/// 400.
+pub const STEPS_OF_CUSTOMER: u64 = 72_000;
 
 /// What a trial takes beside its slots and places, in steps.
 const STEPS_OF_TRIAL: u64 = 800;
