@@ -12,7 +12,10 @@ pub struct Progress {
     pub whole: u64,
 }
 
-/// By how many 256ths of a halving the temperature falls in all: to a tenth.
+/// A run cools so many times, each time for as long.
+const COOLINGS: u64 = 2;
+
+/// By how many 256ths of a halving the temperature falls in a cooling: to a tenth.
 const HALVINGS_256: u64 = 850;
 
 /// A temperature has so many parts of a tenth.
@@ -39,6 +42,14 @@ impl Progress {
             done: self.done.saturating_sub(begin),
             whole: self.whole.saturating_sub(begin).max(1),
         }
+    }
+
+    /// Which cooling the run is in, the first being 0, and how far that cooling is.
+    pub(crate) fn cooling(self) -> (u64, Progress) {
+        let whole = (self.whole / COOLINGS).max(1);
+        let number = (self.done / whole).min(COOLINGS - 1);
+        let done = self.done.saturating_sub(number.saturating_mul(whole));
+        (number, Progress { done, whole })
     }
 
     /// The progress after so many steps of all those that lead from this one to another.

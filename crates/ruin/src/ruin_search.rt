@@ -21,13 +21,15 @@ const LENT_TENTHS: u64 = 7;
 /// neighbouring routes, and puts each customer back at its cheapest place (Christiaens and Vanden Berghe
 /// 2020). Routes are right at any time, but customers may be absent from them. A trial is kept by how often
 /// those that it leaves out were left out before, and by its cost, under a temperature that falls from the
-/// first whole plan on.
+/// first whole plan on, and once more from the middle of what is left of the run then.
 #[derive(Drop)]
 pub struct RuinSearch<'i> {
     instance: &'i Instance,
     trials: Trials,
-    /// Drawn at the first trial.
+    /// Drawn at the first trial of each cooling.
     rule: Option<Rule>,
+    /// The number of the cooling that the rule is of.
+    cooling: u64,
     /// The cost of the cheapest whole plan that was met, in tenths.
     least: Option<i64>,
     /// The stops of its routes, with the depot behind each route.
@@ -47,6 +49,7 @@ impl<'i> RuinSearch<'i> {
             instance,
             trials: Trials::new(alloc, instance)?,
             rule: None,
+            cooling: 0,
             least: None,
             least_tour: Vec::with_capacity(alloc, rows.saturating_mul(2))?,
             done: 0,
@@ -84,9 +87,19 @@ impl<'i> RuinSearch<'i> {
         self.note_least();
     }
 
-    /// How a trial is judged with so much of the run done.
-    fn judgement<R: Rng>(&self, random: &mut R, rule: Rule, progress: Progress) -> Judgement {
-        let cooled = progress.since(self.first_whole.unwrap_or(progress.done));
+    /// The rule of a cooling: the one held, or another where that is of the cooling before.
+    fn rule_of<R: Rng>(&mut self, random: &mut R, cooling: u64) -> Rule {
+        let rule = match self.rule {
+            Some(rule) if self.cooling == cooling => rule,
+            _ => Rule::draw(random),
+        };
+        self.rule = Some(rule);
+        self.cooling = cooling;
+        rule
+    }
+
+    /// How a trial is judged where its cooling is so far.
+    fn judgement<R: Rng>(&self, random: &mut R, rule: Rule, cooled: Progress) -> Judgement {
         let cost = self.trials.plan.cost;
         let least = self.least.unwrap_or(cost).unsigned_abs();
         let customers = u64::from(self.instance.customer_count());
@@ -100,12 +113,10 @@ impl<'i> RuinSearch<'i> {
     }
 
     /// Makes trials until so many steps are done, slots and places seen; each trial counts as one step at
-    /// least. The temperature falls from that at the first progress to that at the second, where it falls
-    /// from the first whole plan on.
+    /// least. Meanwhile the run goes from the first progress to the second, and the temperature with it: from
+    /// the first whole plan on it falls twice.
     /// No contract: a rule of search; who takes its routes checks them.
     pub fn search<R: Rng>(&mut self, random: &mut R, work: u64, from: Progress, to: Progress) {
-        let rule = self.rule.unwrap_or_else(|| Rule::draw(random));
-        self.rule = Some(rule);
         self.trials.plan.steps = 0;
         for _ in 0..work {
             let steps = self.trials.plan.steps;
@@ -115,7 +126,10 @@ impl<'i> RuinSearch<'i> {
             let progress = from.toward(to, steps, work);
             self.done = progress.done;
             self.trials.plan.steps = steps.saturating_add(STEPS_OF_TRIAL);
-            let judgement = self.judgement(random, rule, progress);
+            let begin = self.first_whole.unwrap_or(progress.done);
+            let (number, cooled) = progress.since(begin).cooling();
+            let rule = self.rule_of(random, number);
+            let judgement = self.judgement(random, rule, cooled);
             self.trials.attempt(random, rule, judgement);
             self.note_least();
         }

@@ -1,10 +1,10 @@
-//! The rule of a search.
+//! The rule of a cooling.
 
 use crate::cooling::PARTS;
 use crate::drawing::between;
 use rand_core::Rng;
 
-/// How warm a search begins, and how often it does what. Each draws its own rule, so that two searches of an
+/// How warm a cooling begins, and how often trials do what. Each cooling draws its own rule, so that two of an
 /// instance seldom end in the same valley.
 #[derive(Clone, Copy)]
 pub(crate) struct Rule {

@@ -143,7 +143,7 @@ fn turn<'i, H: Hub<'i>, G: Gate, R: Rng + Drop>(
 /// Makes this many turns, or fewer where a refusal of memory or a full history ends the work, and
 /// answers how many.
 ///
-/// In each turn the worker makes a turn of a searcher, whose temperature falls over all of them, and offers
+/// In each turn the worker makes a turn of a searcher, whose temperature falls twice over all of them, and offers
 /// the plan that it has then. Where it has none, it builds one with drawn weights; where that leaves customers
 /// out, it goes on with a search from which they are absent, until it meets a plan. A refusal of the hub ends
 /// the turn, and the worker keeps its plan. Where the words for cost and bound have met,
