@@ -18,6 +18,9 @@ pub struct Raised<'i> {
     pub ascent: Option<Ascent>,
 }
 
+/// How many pricings more there may be below the root while the value to stop at is near.
+const MORE_PRICINGS: u32 = 8;
+
 /// The prices of a trial with their value, at the leaf of other prices.
 fn price_trial<'i>(
     alloc: Global,
@@ -114,6 +117,15 @@ fn step<'i>(
     }
 }
 
+/// The most pricings of an ascent at a leaf, where the value to stop at is near all along.
+fn most_pricings(leaf: &Priced<'_>, goal: &Goal) -> u32 {
+    if leaf.region().is_root() {
+        goal.pricings
+    } else {
+        goal.pricings.saturating_add(MORE_PRICINGS)
+    }
+}
+
 /// The best of these prices and those that an ascent comes to at their leaf.
 fn climb<'i>(
     alloc: Global,
@@ -129,15 +141,19 @@ fn climb<'i>(
 {
     let mut best = priced;
     let mut idle: u32 = 0;
-    for _ in 0..goal.pricings {
+    let mut growth: i128 = 0;
+    for made in 0..most_pricings(&best, goal) {
         let before = best.value();
         let is_spent = idle >= goal.idle_pricings || pool.looks() >= goal.looks;
-        if before >= goal.value || is_spent {
+        let is_over = made >= goal.pricings && !ascent.is_near(growth);
+        if before >= goal.value || is_spent || is_over {
             return best;
         }
+        let merit = ascent.centre.merit;
         let Ok(next) = step(alloc, pool, ascent, &best, goal) else {
             return best;
         };
+        growth = ascent.centre.merit.saturating_sub(merit);
         best = higher_if(best, next);
         let gains = best.value() > before;
         idle = if gains { 0 } else { idle.saturating_add(1) };

@@ -15,6 +15,9 @@ const LEAST_RISE: i64 = 1_000;
 /// The greatest rise, in grains.
 const MOST_RISE: i64 = 100_000_000_000;
 
+/// The target is near where this many steps more of the last growth lead to it.
+const NEAR_STEPS: i128 = 4;
+
 /// The least gap to the target that counts, in grains.
 const LEAST_GAP: i128 = 1_000;
 
@@ -69,6 +72,11 @@ impl Ascent {
     pub fn gap(&self) -> i128 {
         let enough = grains(self.target.saturating_sub(1)).saturating_add(1);
         enough.saturating_sub(self.centre.merit).max(LEAST_GAP)
+    }
+
+    /// Whether the target is near, where the last step's growth of merit was this many grains.
+    pub fn is_near(&self, growth: i128) -> bool {
+        self.gap() <= growth.saturating_mul(NEAR_STEPS)
     }
 
     /// How far the merit has risen above another, in grains: at most to the target, and up to it where

@@ -24,7 +24,7 @@ pub struct Goal {
     /// The first rise of each price, in grains; it is cut to 1,000 to 100,000,000,000. `first_rise`
     /// serves well at the root, and `rise_at` at each leaf.
     pub rise: i64,
-    /// The most pricings.
+    /// The most pricings. Below the root there are up to eight more while the value to stop at is near.
     pub pricings: u32,
     /// Stops after this many pricings in a row that don't raise the value; `IDLE_PRICINGS` serve well.
     pub idle_pricings: u32,

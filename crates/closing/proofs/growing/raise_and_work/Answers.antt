@@ -7,4 +7,4 @@ returns-clause-listed c = rw (c.raise-raised.ensures.neighbours, c.raise-raised.
 pub returns-clause-split : goal.returns-clause-split
 returns-clause-split c =
     let raised = c.raise-raised.ensures in
-    splits_raised c.args.leaf c.raise-raised.result c.args.growth.now _ c.work_at.result raised.problem raised.region raised.neighbours c.work_at.ensures.split
+    splits_raised c.args.leaf c.raise-raised.result.priced c.args.growth.now _ c.work_at.result raised.problem raised.region raised.neighbours c.work_at.ensures.split

@@ -1,8 +1,8 @@
 use Rattle.std.proofs.Common.{◌≡◌, ◌≤◌}
 use Rattle.price_ascent.proofs.raising.climb.Given as goal
 
-abbrev pub invariant-loop : goal.invariant-loop
-invariant-loop l = record {
+abbrev pub invariant-loop-made : goal.invariant-loop-made
+invariant-loop-made l = record {
   problem : l.best.problem ≡ l.fn.priced.problem;
   region : l.best.region ≡ l.fn.priced.region;
   neighbours : l.best.neighbours ≡ l.fn.priced.neighbours;
