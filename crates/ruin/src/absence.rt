@@ -16,7 +16,7 @@ pub(crate) struct Absence {
 }
 
 impl Absence {
-    /// None of so many customers is absent.
+    /// None of this many customers is absent.
     pub(crate) fn new(alloc: Global, customers: usize) -> Result<Absence, AllocError> {
         Ok(Absence {
             absent: Vec::with_capacity(alloc, customers)?,

@@ -12,16 +12,16 @@ pub struct Progress {
     pub whole: u64,
 }
 
-/// A run cools so many times, each time for as long.
+/// A run cools this many times, each time for as long.
 const COOLINGS: u64 = 2;
 
 /// By how many 256ths of a halving the temperature falls in a cooling: to a tenth.
 const HALVINGS_256: u64 = 850;
 
-/// A temperature has so many parts of a tenth.
+/// A temperature has this many parts of a tenth.
 pub(crate) const PARTS: u64 = 65_536;
 
-/// So many parts times 2^(-i/16).
+/// This many parts times 2^(-i/16).
 const POWERS: [u64; 16] = [
     65_536, 62_757, 60_097, 57_549, 55_109, 52_773, 50_535, 48_393, 46_341, 44_376, 42_495, 40_693,
     38_968, 37_316, 35_734, 34_219,
@@ -36,7 +36,7 @@ const LOGARITHMS: [u64; 64] = [
 ];
 
 impl Progress {
-    /// The progress since so many parts were done.
+    /// The progress since this many parts were done.
     pub(crate) fn since(self, begin: u64) -> Progress {
         Progress {
             done: self.done.saturating_sub(begin),
@@ -52,7 +52,7 @@ impl Progress {
         (number, Progress { done, whole })
     }
 
-    /// The progress after so many steps of all those that lead from this one to another.
+    /// The progress after this many steps of all those that lead from this one to another.
     pub(crate) fn toward(self, to: Progress, steps: u64, all: u64) -> Progress {
         let span = to.done.saturating_sub(self.done);
         let part = span.saturating_mul(steps) / all.max(1);
@@ -62,7 +62,7 @@ impl Progress {
         }
     }
 
-    /// By how many tenths a trial may be dearer where the first temperature has so many parts: drawn at
+    /// By how many tenths a trial may be dearer where the first temperature has this many parts: drawn at
     /// random, mostly few.
     pub(crate) fn draw_threshold<R: Rng>(self, random: &mut R, first: u64) -> u64 {
         let whole = self.whole.max(1);

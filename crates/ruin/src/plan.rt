@@ -8,7 +8,7 @@ use rand_core::Rng;
 use solomon_reader::Instance;
 use std::alloc::{AllocError, Global};
 
-/// A better place is passed over once in so many.
+/// A better place is passed over once in this many.
 const PASSED_OVER: usize = 100;
 
 /// A vehicle's route, and another side on which a trial makes its own. To refuse the trial is to turn the

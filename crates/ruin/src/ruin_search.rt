@@ -7,14 +7,14 @@ use rand_core::Rng;
 use solomon_reader::Instance;
 use std::alloc::{AllocError, Global};
 
-/// So many steps for each customer are a turn: some 30 to 40 milliseconds at 100 customers, and 150 to 220 at
+/// This many steps for each customer are a turn: some 30 to 40 milliseconds at 100 customers, and 150 to 220 at
 /// 400.
 pub const STEPS_OF_CUSTOMER: u64 = 72_000;
 
 /// What a trial takes beside its slots and places, in steps.
 const STEPS_OF_TRIAL: u64 = 800;
 
-/// In so many tenths of the cooling, the first ones, whole plans are broken now and then.
+/// In this many tenths of the cooling, the first ones, whole plans are broken now and then.
 const LENT_TENTHS: u64 = 7;
 
 /// A search by ruin and recreate (Schrimpf et al. 2000). A trial takes strings of customers out of a few
@@ -112,7 +112,7 @@ impl<'i> RuinSearch<'i> {
         }
     }
 
-    /// Makes trials until so many steps are done, slots and places seen; each trial counts as one step at
+    /// Makes trials until this many steps are done, slots and places seen; each trial counts as one step at
     /// least. Meanwhile the run goes from the first progress to the second, and the temperature with it: from
     /// the first whole plan on it falls twice.
     /// No contract: a rule of search; who takes its routes checks them.

@@ -10,11 +10,11 @@ use rand_core::Rng;
 pub(crate) struct Rule {
     /// The first temperature, in hundredths of the cheapest plan's cost for each customer.
     first_hundredths: u64,
-    /// So many trials of a hundred are short.
+    /// This many trials of a hundred are short.
     pub(crate) short_percent: usize,
-    /// Once in so many trials the first string is a whole route.
+    /// Once in this many trials the first string is a whole route.
     pub(crate) whole: usize,
-    /// Once in so many trials a route is begun with the first customer that is put back.
+    /// Once in this many trials a route is begun with the first customer that is put back.
     pub(crate) opened: usize,
 }
 
@@ -29,7 +29,7 @@ impl Rule {
         }
     }
 
-    /// The first temperature in parts of a tenth, where the cheapest plan of so many customers costs so many
+    /// The first temperature in parts of a tenth, where the cheapest plan of this many customers costs this much
     /// tenths.
     pub(crate) fn first_temperature(self, cost: u64, customers: u64) -> u64 {
         let parts = cost.saturating_mul(PARTS);

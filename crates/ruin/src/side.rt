@@ -100,7 +100,7 @@ impl Newcomer<'_> {
 }
 
 impl Side {
-    /// No route, with room for so many customers.
+    /// No route, with room for this many customers.
     pub(crate) fn new(alloc: Global, customers: usize) -> Result<Side, AllocError> {
         Ok(Side {
             stops: Vec::with_capacity(alloc, customers.saturating_add(2))?,

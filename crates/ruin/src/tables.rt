@@ -130,7 +130,7 @@ fn distances_of(alloc: Global, instance: &Instance, row: u16) -> Result<Vec<i32>
     Ok(distances)
 }
 
-/// So many customers by their distance from a row, itself first.
+/// This many customers by their distance from a row, itself first.
 fn nearest_of(
     alloc: Global,
     count: u16,

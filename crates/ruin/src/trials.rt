@@ -10,25 +10,25 @@ use rand_core::Rng;
 use solomon_reader::Instance;
 use std::alloc::{AllocError, Global};
 
-/// A trial takes one to so many strings out, each of another route.
+/// A trial takes one to this many strings out, each of another route.
 const STRINGS: usize = 5;
 
-/// A short trial takes one to so many strings out.
+/// A short trial takes one to this many strings out.
 const SHORT_STRINGS: usize = 3;
 
-/// A string of a short trial has at most so many customers.
+/// A string of a short trial has at most this many customers.
 const SHORT_LONGEST: usize = 10;
 
-/// A threshold is for a trial that takes so many customers out.
+/// A threshold is for a trial that takes this many customers out.
 const THRESHOLD_CUSTOMERS: u64 = 16;
 
-/// Where customers are absent, so many trials of a hundred are near one of them.
+/// Where customers are absent, this many trials of a hundred are near one of them.
 const NEAR_ABSENT: usize = 75;
 
-/// Where customers are absent, so many trials of a hundred first put back those that were left out most.
+/// Where customers are absent, this many trials of a hundred first put back those that were left out most.
 const MISSED_FIRST: usize = 50;
 
-/// Of the trials that would break a whole plan, one in so many is kept: a loan.
+/// Of the trials that would break a whole plan, one in this many is kept: a loan.
 const LENT: usize = 1_000;
 
 /// How a trial is judged.
@@ -45,8 +45,8 @@ pub(crate) struct Judgement {
 }
 
 impl Judgement {
-    /// The greatest cost in tenths at which a trial is kept that takes so many customers out, where the routes
-    /// held cost so many.
+    /// The greatest cost in tenths at which a trial is kept that takes this many customers out, where the routes
+    /// held cost this much.
     fn limit(self, held: i64, customers: usize) -> i64 {
         let grown = self.threshold.saturating_mul(customers as u64);
         held.saturating_add_unsigned(grown / THRESHOLD_CUSTOMERS)
@@ -56,14 +56,14 @@ impl Judgement {
 /// How much a trial takes out.
 #[derive(Clone, Copy)]
 struct Size {
-    /// So many strings, each of another route.
+    /// This many strings, each of another route.
     strings: usize,
-    /// At most so many customers a string.
+    /// At most this many customers a string.
     longest: usize,
 }
 
 impl Size {
-    /// A random size, where routes have so many customers in the mean.
+    /// A random size, where routes have this many customers in the mean.
     fn draw<R: Rng>(random: &mut R, rule: Rule, mean: usize) -> Size {
         if below(random, 100) < rule.short_percent {
             return Size {

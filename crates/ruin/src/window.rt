@@ -5,7 +5,7 @@ use crate::order::Removed;
 use crate::side::Stop;
 use rand_core::Rng;
 
-/// A string leaves a middle of one stop, or more: one more each time with so many tenths of chance.
+/// A string leaves a middle of one stop, or more: one more each time with this many tenths of chance.
 const KEPT_TENTHS: usize = 9;
 
 /// A string of stops, of which a middle stays.
@@ -21,7 +21,7 @@ pub(crate) struct Window {
     kept: usize,
 }
 
-/// How many stops stay in the middle of a string that takes so many of a route's customers.
+/// How many stops stay in the middle of a string that takes this many of a route's customers.
 fn draw_kept<R: Rng>(random: &mut R, customers: usize, taken: usize) -> usize {
     if taken <= 1 {
         return 0;
@@ -36,7 +36,7 @@ fn draw_kept<R: Rng>(random: &mut R, customers: usize, taken: usize) -> usize {
 }
 
 impl Window {
-    /// A random string around a customer of a route that takes at most so many; all where there is no limit.
+    /// A random string around a customer of a route that takes at most this many; all where there is no limit.
     pub(crate) fn around<R: Rng>(
         random: &mut R,
         stops: &[Stop],
