@@ -89,8 +89,37 @@ fn settle<'i, H: Hub<'i>, G: Gate>(
     Ok(())
 }
 
+/// Splits a leaf, with the raised prices at both children, or settles it where no arc is left to split.
+fn part<'i, H: Hub<'i>, G: Gate>(
+    worker: &mut Worker<'_, 'i, H, G>,
+    number: u32,
+    raised: Raised<'i>,
+    labels: usize,
+    nodes: &mut Nodes<'_>,
+) -> Result<(), Refusal>
+    ensures words { worker.new.ceiling ≡ worker.old.ceiling }
+{
+    let Raised {
+        priced: leaf,
+        ascent,
+    } = raised;
+    let children = branch(
+        worker.alloc,
+        &leaf,
+        ascent.as_ref(),
+        &mut nodes.pool,
+        Some(labels),
+    );
+    match children {
+        Ok(Some(children)) => split(worker, number, leaf.region().is_root(), children, nodes),
+        Ok(None) => settle(worker, number, &leaf),
+        Err(PriceFault::LabelLimit | PriceFault::PriceRange) => worker.reprice(number, leaf),
+        Err(PriceFault::Memory) => Err(Refusal::EndsWork),
+    }
+}
+
 /// Gives the root its raised prices, to which the next turn returns as long as it rises, and another leaf
-/// where they end the work at it; splits it elsewhere, with the raised prices at both children.
+/// where they end the work at it; parts it elsewhere.
 fn bring<'i, H: Hub<'i>, G: Gate>(
     worker: &mut Worker<'_, 'i, H, G>,
     number: u32,
@@ -101,35 +130,20 @@ fn bring<'i, H: Hub<'i>, G: Gate>(
 ) -> Result<(), Refusal>
     ensures words { worker.new.ceiling ≡ worker.old.ceiling }
 {
-    let Raised {
-        priced: leaf,
-        ascent,
-    } = raised;
-    if leaf.value() >= i128::from(worker.target()) {
-        return worker.reprice(number, leaf);
+    if raised.priced.value() >= i128::from(worker.target()) {
+        return worker.reprice(number, raised.priced);
     }
     // The first worker alone splits the root, so that the tree begins with prices and routes that belong together.
-    if leaf.region().is_root() && (nodes.stays_at_root(is_raised) || rules.place > 0) {
+    let is_root = raised.priced.region().is_root();
+    if is_root && (nodes.stays_at_root(is_raised) || rules.place > 0) {
         nodes.current = Some(number);
         return if is_raised {
-            worker.reprice(number, leaf)
+            worker.reprice(number, raised.priced)
         } else {
             Ok(())
         };
     }
-    let labels = Some(rules.labels);
-    match branch(
-        worker.alloc,
-        &leaf,
-        ascent.as_ref(),
-        &mut nodes.pool,
-        labels,
-    ) {
-        Ok(Some(children)) => split(worker, number, leaf.region().is_root(), children, nodes),
-        Ok(None) => settle(worker, number, &leaf),
-        Err(PriceFault::LabelLimit | PriceFault::PriceRange) => worker.reprice(number, leaf),
-        Err(PriceFault::Memory) => Err(Refusal::EndsWork),
-    }
+    part(worker, number, raised, rules.labels, nodes)
 }
 
 /// Offers the routes that make up the prices raised last, where they are a plan that is cheaper than those
