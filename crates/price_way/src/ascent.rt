@@ -68,15 +68,21 @@ impl Ascent {
         })
     }
 
+    /// How much the merit lacks in grains until the value, which is rounded up, is the target; below 0 where
+    /// the merit, which counts fewer routes, is above it already.
+    fn lack(&self) -> i128 {
+        let enough = grains(self.target.saturating_sub(1)).saturating_add(1);
+        enough.saturating_sub(self.centre.merit)
+    }
+
     /// How much the merit has to rise in grains until the value, which is rounded up, is the target.
     pub fn gap(&self) -> i128 {
-        let enough = grains(self.target.saturating_sub(1)).saturating_add(1);
-        enough.saturating_sub(self.centre.merit).max(LEAST_GAP)
+        self.lack().max(LEAST_GAP)
     }
 
     /// Whether the target is near, where the last step's growth of merit was this many grains.
     pub fn is_near(&self, growth: i128) -> bool {
-        self.gap() <= growth.saturating_mul(NEAR_STEPS)
+        self.lack() <= growth.saturating_mul(NEAR_STEPS)
     }
 
     /// How far the merit has risen above another, in grains: at most to the target, and up to it where

@@ -223,6 +223,34 @@ fn run_at_desk<'i, R: Threads + Wait + Sync, J: Naming + Send + Sync, G: Gate + 
     }
 }
 
+/// Lets all workers work from a first plan on, the given one or one that an insertion builds, and answers what they
+/// leave.
+fn run_within<'i, R: Threads + Wait + Sync, G: Gate + Sync>(
+    input: &Input<'_, 'i, R, G>,
+    start: Option<Feasible<'i>>,
+) -> Result<Outcome<'i>, RunFault>
+    requires within { IsWithin input.now.settings.now }
+    requires start { IfSome start (λ f. f.problem ≡ input.now.instance.now) }
+    ensures problem { IfOk result (λ o. o.problem ≡ input.now.instance.now) }
+    ensures neighbours { IfOk result (λ o. o.neighbours ≡ input.now.settings.now.neighbours) }
+    ensures served { IfOk result
+        (λ o. IsServedAlone input.now.instance.now → costs_of o.past ≢ []) }
+    ensures refused { IfErr result (λ e. (e ≡ refusal.Memory) ⊎ (e ≡ refusal.LabelLimit)
+        ⊎ (e ≡ refusal.NoThread)) }
+{
+    let Input {
+        rt,
+        alloc,
+        instance,
+        settings,
+        nearness,
+        ..
+    } = *input;
+    let opening = Opening::new(rt, alloc, instance, settings, nearness, start)?;
+    let workers = settings.searchers + settings.bounders;
+    run_at_desk::<R, Brand, G>(input, opening, Blanks::new(workers as u16))
+}
+
 /// Looks for plans and raises the bound by many workers, each in a thread of its own, at one book, and
 /// answers what they leave there: the incumbent, the bound and its tree.
 ///
@@ -265,16 +293,14 @@ pub fn run_from<'i, R: Threads + Wait + Sync, G: Gate + Sync>(
     if !settings.is_within() {
         return Err(RunFault::BadSettings);
     }
-    let nearness = &Nearness::new(alloc, instance, settings.neighbours)?;
-    let opening = Opening::new(rt, alloc, instance, settings, nearness, start)?;
+    let nearness = Nearness::new(alloc, instance, settings.neighbours)?;
     let input = Input {
         rt,
         alloc,
         instance,
         settings,
-        nearness,
+        nearness: &nearness,
         gate,
     };
-    let workers = settings.searchers + settings.bounders;
-    run_at_desk::<R, Brand, G>(&input, opening, Blanks::new(workers as u16))
+    run_within(&input, start)
 }

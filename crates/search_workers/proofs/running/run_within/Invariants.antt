@@ -1,6 +1,6 @@
 use Rattle.std.proofs.Common.{◌+◌, is_some}
 use Rattle.desk.specs.Blanks.{names_of}
-use Rattle.search_workers.proofs.running.run_from.Given as goal
+use Rattle.search_workers.proofs.running.run_within.Given as goal
 
 -- the desk is about this instance
 abbrev pub ghosts-run_at_desk : goal.ghosts-run_at_desk
