@@ -11,7 +11,7 @@ use Rattle.solomon_reader.specs.Memories.{has_bit}
 use Rattle.solomon_reader.proofs.Places.{place_first}
 use Rattle.labels.specs.declared.label.Label.{Label}
 use Rattle.labels.specs.Arena.{state_at}
-use Rattle.labels.specs.Cover.{IsAhead, Carries}
+use Rattle.labels.specs.Cover.{IsNoWorse, Carries}
 
 -- the last stop is the first of its own list
 pub remembers_last : (q : Pricing) (l : Label) → has_bit l.memory.bits 0 ≡ true → (state_at q l).memory l.front.last ≡ true
@@ -46,7 +46,7 @@ module _ (q : Pricing) where
   value_loaded (j ∷ s) b n = value_loaded s (step q b j) (n + demand q.problem j)
 
   -- a may be heavier than b, where none of what may come after b breaks its load
-  pub carries_light : (a b : State) → IsAhead a b → ((s : List ℕ) → Completes q b s → a.load + load_of q.problem s ≤ q.problem.capacity) → Carries q a b
+  pub carries_light : (a b : State) → IsNoWorse a b → ((s : List ℕ) → Completes q b s → a.load + load_of q.problem s ≤ q.problem.capacity) → Carries q a b
   carries_light a b ahead fits = record { on = on }
     where
       good : IsAsGood a (loaded b a.load)
@@ -55,5 +55,5 @@ module _ (q : Pricing) where
       on : (s : List ℕ) → Completes q b s → Completes q a s × (value_with q a s ≤ℤ value_with q b s)
       on s h = (completes_too q s a (loaded b a.load) good (completes_loaded s b a.load (fits s h) h), omega (arith, ints, value_no_greater q s a (loaded b a.load) good, value_loaded s b a.load))
 
-  pub carries_ahead : (a b : State) → IsAhead a b → a.load ≤ b.load → Carries q a b
-  carries_ahead a b ahead load = carries_good a b (record { last = ahead.last; time = ahead.time; load = load; cost = ahead.cost; memory = ahead.memory })
+  pub carries_no_worse : (a b : State) → IsNoWorse a b → a.load ≤ b.load → Carries q a b
+  carries_no_worse a b ahead load = carries_good a b (record { last = ahead.last; time = ahead.time; load = load; cost = ahead.cost; memory = ahead.memory })

@@ -16,7 +16,7 @@ use Rattle.fronts.specs.Memories.{Keeps}
 use Rattle.fronts.specs.declared.memory.Memory.{Memory}
 use Rattle.labels.specs.declared.label.Label.{Label}
 use Rattle.labels.specs.Arena.{label_in, state_at, HasExtended, IsGrown, IsSpared}
-use Rattle.labels.specs.Cover.{IsAhead, Carries, CarriesBy}
+use Rattle.labels.specs.Cover.{IsNoWorse, Carries, CarriesBy}
 use Rattle.labels.specs.Sparing.{IsSparing}
 use Rattle.labels.proofs.Carrying.{carries_light}
 
@@ -62,7 +62,7 @@ module _ (q : Pricing) (few : q.neighbours < 16) (xs : List Label) (l : Label) (
     far : distance q.problem e.front.last j ≡ distance q.problem l.front.last j
     far = ap (λ (i : ℕ). distance q.problem i j) sparing.ahead.last
 
-    ahead : IsAhead (step q (state_at q e) j) (step q (state_at q l) j)
+    ahead : IsNoWorse (step q (state_at q e) j) (step q (state_at q l) j)
     ahead = record {
       last = refl;
       time = omega (arith, sparing.ahead.time, far);

@@ -9,7 +9,7 @@ abbrev pub CoversAll : Pricing → Option ℤ → (State → Type 0) → (State 
 CoversAll q b Pending Active = (a : State) → Active a → CoversAfter q b Pending a 1
 
 -- a is no worse than b, but maybe heavier
-pub record IsAhead (a b : State) : Type 0 where
+pub record IsNoWorse (a b : State) : Type 0 where
   pub last : a.last ≡ b.last
   pub time : a.time ≤ b.time
   pub cost : a.cost ≤ℤ b.cost

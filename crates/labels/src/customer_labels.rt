@@ -115,17 +115,17 @@ impl MemoryGroup {
     }
 
     /// The index of a label whose steps were taken and that is no later, dearer or heavier than another one has to
-    /// be, and how many labels were looked at.
-    fn find_extended(&self, labels: &[Label], other: &Entry) -> (Option<usize>, usize) {
-        for (place, entry) in self.entries.iter().enumerate() {
+    /// be.
+    fn find_extended(&self, labels: &[Label], other: &Entry) -> Option<usize> {
+        for entry in &self.entries {
             if entry.time > other.time {
-                return (None, place);
+                return None;
             }
             if entry.may_dominate(other) && is_extended(labels, entry.index) {
-                return (Some(entry.index), place);
+                return Some(entry.index);
             }
         }
-        (None, self.entries.len())
+        None
     }
 
     /// Whether a newer label may dominate one of its labels.
@@ -311,8 +311,7 @@ impl CustomerLabels {
             if !group.may_spare(&entry, memories.as_slice()) {
                 continue;
             }
-            let (found, _) = group.find_extended(labels, &entry);
-            if let Some(index) = found
+            if let Some(index) = group.find_extended(labels, &entry)
                 && let Some(memory) = memory_of(completions, labels, label, most, index)
             {
                 keep(completions, labels, &mut memories, label, memory)?;

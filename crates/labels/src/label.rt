@@ -5,7 +5,7 @@ ghost use Rattle.solomon_reader.specs.States.{CanStep};
 ghost use Rattle.fronts.specs.Fronts.{IsAfter, IsBounded};
 ghost use Rattle.fronts.specs.Tasks.{pricing_of};
 ghost use Rattle.labels.specs.Arena.{state_at, IsExtension};
-ghost use Rattle.labels.specs.Cover.{IsAhead, Carries};
+ghost use Rattle.labels.specs.Cover.{IsNoWorse, Carries};
 ghost use Rattle.labels.specs.Sparing.{IsAsEarlyAndCheap, HasRoomIn};
 
 use completions::Completions;
@@ -57,9 +57,9 @@ impl Label {
     }
 
     /// Whether this one is no worse than another, the loads left aside.
-    fn is_ahead(&self, task: &Task<'_>, other: &Label) -> bool
+    fn is_no_worse(&self, task: &Task<'_>, other: &Label) -> bool
         ensures { let q = pricing_of task.now in
-            IsTrue result → IsAhead (state_at q self.now) (state_at q other.now) }
+            IsTrue result → IsNoWorse (state_at q self.now) (state_at q other.now) }
     {
         self.is_as_early_and_cheap(other) && self.memory.is_subset(other.memory)
     }
@@ -96,7 +96,7 @@ impl Label {
         ensures { let q = pricing_of completions.now.task.now in
             IsTrue result → Carries q (state_at q self.now) (state_at q other.now) }
     {
-        if !self.is_ahead(completions.task, other) {
+        if !self.is_no_worse(completions.task, other) {
             return false;
         }
         if self.front.load <= other.front.load {

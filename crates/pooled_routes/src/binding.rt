@@ -14,14 +14,14 @@ pub(crate) struct Binding<'r> {
     stops: &'r [Four],
     cost: i64,
     pub(crate) multiplier: i64,
-    /// The sum of the squares of how often each customer is visited, with the parts of the floor; at least 1.
+    /// The sum of the squares of how often each customer is visited, with the parts of a vehicle's price; at least 1.
     weight: u64,
     /// The least whole number above 2 to the power of 64 divided by the weight.
     inverse: u64,
 }
 
 impl<'r> Binding<'r> {
-    /// What a half-space at this place says, for a floor of this many parts.
+    /// What a half-space at this place says, where a vehicle's price has this many parts.
     pub(crate) fn of(space: &HalfSpace<'r>, place: usize, parts: u64) -> Binding<'r> {
         let weight = space.weight.unsigned_abs().saturating_add(parts).max(1);
         Binding {
@@ -65,15 +65,20 @@ impl<'r> Binding<'r> {
         fall.min(self.multiplier)
     }
 
-    /// Projects prices and a floor of this many parts onto the half-space, as far as the multiplier allows
+    /// Projects prices, a vehicle's in this many parts, onto the half-space, as far as the multiplier allows
     /// (Hildreth 1957), and answers by how much each price rose.
     #[inline(always)]
-    pub(crate) fn project(&mut self, prices: &mut [i64], floor: &mut i64, parts: i64) -> i64 {
-        let slack = reduced(prices, self.stops, self.cost).saturating_sub(*floor);
+    pub(crate) fn project(
+        &mut self,
+        prices: &mut [i64],
+        vehicle_price: &mut i64,
+        parts: i64,
+    ) -> i64 {
+        let slack = reduced(prices, self.stops, self.cost).saturating_sub(*vehicle_price);
         let fall = self.fall(slack);
         if fall != 0 {
             self.multiplier = self.multiplier.saturating_sub(fall);
-            *floor = floor.saturating_add(parts.saturating_mul(fall));
+            *vehicle_price = vehicle_price.saturating_add(parts.saturating_mul(fall));
             raise(prices, self.stops, fall);
         }
         fall

@@ -1,10 +1,10 @@
 //! What a route says of prices.
 
 use crate::fours::Four;
-use crate::pseudocosts::Side;
+use crate::pseudocosts::Child;
 use branching::Arc;
 
-/// What a route says of prices: those of its stops and the floor sum to at most its cost.
+/// What a route says of prices: those of its stops and a vehicle sum to at most its cost.
 #[derive(Clone, Copy)]
 pub struct HalfSpace<'r> {
     /// The customers, in order.
@@ -27,24 +27,24 @@ impl HalfSpace<'_> {
     /// Whether a child by an arc forbids the route: it goes along the arc where that is forbidden, or
     /// leaves or enters a customer of the arc by another one where that is required.
     /// No contract: a rule of search; any prices are sound.
-    pub fn is_forbidden_by(&self, arc: Arc, side: Side) -> bool {
+    pub fn is_forbidden_by(&self, arc: Arc, child: Child) -> bool {
         let mut from = 0;
         for stop in self.stops {
-            if is_forbidden(from, *stop, arc, side) {
+            if is_forbidden(from, *stop, arc, child) {
                 return true;
             }
             from = *stop;
         }
-        is_forbidden(from, 0, arc, side)
+        is_forbidden(from, 0, arc, child)
     }
 }
 
 /// Whether a child by an arc forbids going from one row to another.
-fn is_forbidden(from: u16, to: u16, arc: Arc, side: Side) -> bool {
+fn is_forbidden(from: u16, to: u16, arc: Arc, child: Child) -> bool {
     let leaves = from == arc.from;
     let enters = to == arc.to;
-    match side {
-        Side::Used => from != 0 && leaves && !enters || to != 0 && enters && !leaves,
-        Side::Unused => leaves && enters,
+    match child {
+        Child::Used => from != 0 && leaves && !enters || to != 0 && enters && !leaves,
+        Child::Unused => leaves && enters,
     }
 }

@@ -5,7 +5,6 @@
 
 mod arc_flow;
 mod binding;
-mod floor;
 mod fours;
 mod half_space;
 mod merit;
@@ -14,13 +13,14 @@ mod projection;
 mod pseudocosts;
 mod sweeps;
 mod trial;
+mod vehicle_price;
 
 pub use arc_flow::{ArcFlow, merge};
-pub use floor::{Floor, scaled};
 pub use fours::Four;
 pub use half_space::HalfSpace;
 pub use merit::Merit;
 pub use pooled_route::{GRAINS_OF_TENTH, PooledRoute, RouteShare, arc_cost, cost_of};
 pub use projection::Projection;
-pub use pseudocosts::{Pseudocosts, Side};
+pub use pseudocosts::{Child, Pseudocosts};
 pub use trial::Trial;
+pub use vehicle_price::{VehiclePrice, scaled};

@@ -1,6 +1,6 @@
 //! How prices are judged on the way.
 
-use crate::floor::Floor;
+use crate::vehicle_price::VehiclePrice;
 use solomon_reader::Instance;
 
 /// How often the least reduced cost counts.
@@ -32,22 +32,21 @@ impl Merit {
         }
     }
 
-    /// The floor of 0, which has a part below 0 where the whole fleet counts.
+    /// A vehicle's price of 0, which has a part below 0 where the whole fleet counts.
     /// No contract: a rule of search; any prices are sound.
-    pub fn floor(self) -> Floor {
-        Floor::new(self.routes == self.fleet)
+    pub fn vehicle_price(self) -> VehiclePrice {
+        VehiclePrice::new(self.routes == self.fleet)
     }
 
-    /// The floor from which the next projection starts: that of the least reduced cost, moved by the
-    /// rise.
+    /// A vehicle's price, from which the next projection starts: the least reduced cost, moved by the rise.
     /// No contract: a rule of search; any prices are sound.
-    pub fn start(self, floor: Floor, least: i128, rise: i64) -> Floor {
+    pub fn start(self, vehicle_price: VehiclePrice, least: i128, rise: i64) -> VehiclePrice {
         let most = i128::from(i64::MAX);
         let least = least.clamp(-most, most) as i64;
         let up = rise.saturating_mul(i64::from(self.fewest_routes));
         let down = rise.saturating_mul(i64::from(self.fleet));
         let below = 0i64.saturating_sub(least).max(0);
-        floor.start(least.max(0).saturating_add(up), below.saturating_sub(down))
+        vehicle_price.start(least.max(0).saturating_add(up), below.saturating_sub(down))
     }
 
     /// The merit of prices with this least reduced cost, in grains.
@@ -58,11 +57,13 @@ impl Merit {
         sum_of(prices).saturating_add(gain).saturating_add(loss)
     }
 
-    /// The merit that prices would have if no route's reduced cost were below the floor, in grains.
+    /// The merit that prices would have if no route's reduced cost were below a vehicle's price, in grains.
     /// No contract: a rule of search; any prices are sound.
-    pub fn promised(self, prices: &[i64], floor: Floor) -> i128 {
-        let gain = i128::from(floor.above.value).saturating_mul(i128::from(self.fewest_routes));
-        let loss = i128::from(floor.below()).saturating_mul(i128::from(self.fleet));
+    pub fn promised(self, prices: &[i64], vehicle_price: VehiclePrice) -> i128 {
+        let gain = i128::from(vehicle_price.above.value).saturating_mul(i128::from(
+            self.fewest_routes,
+        ));
+        let loss = i128::from(vehicle_price.below()).saturating_mul(i128::from(self.fleet));
         sum_of(prices).saturating_add(gain).saturating_sub(loss)
     }
 }

@@ -1,9 +1,9 @@
 //! A route as a bound on prices.
 
 use crate::arc_flow::ArcFlow;
-use crate::floor::scaled;
 use crate::fours::{Four, fours_of};
 use crate::half_space::HalfSpace;
+use crate::vehicle_price::scaled;
 use branching::Arc;
 use fronts::CustomerSet;
 use solomon_reader::Instance;
@@ -22,7 +22,7 @@ pub struct RouteShare {
 /// The rise in millionths.
 const WHOLE: i64 = 1_000_000;
 
-/// A relaxed route, which says of prices: those of its stops and the floor sum to at most its cost.
+/// A relaxed route, which says of prices: those of its stops and a vehicle sum to at most its cost.
 #[derive(Drop)]
 pub struct PooledRoute {
     /// The how-manieth route it is that the pool met.

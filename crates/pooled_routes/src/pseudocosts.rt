@@ -5,28 +5,28 @@ use std::alloc::{AllocError, Global};
 
 /// Which child of a leaf by an arc.
 #[derive(Clone, Copy, PartialEq, Eq)]
-pub enum Side {
+pub enum Child {
     /// The child in which the arc is required.
     Used,
     /// That in which it is forbidden.
     Unused,
 }
 
-/// The rises seen in the children by an arc, on one side, in grains.
+/// The rises seen in one child by an arc, the one with it or the one without, in grains.
 #[derive(Clone, Copy)]
 struct Rises {
     arc: Arc,
-    side: Side,
+    child: Child,
     sum: i128,
     count: u32,
 }
 
 /// By what rises are ordered.
-fn key_of(arc: Arc, side: Side) -> (u16, u16, bool) {
-    (arc.from, arc.to, side == Side::Unused)
+fn key_of(arc: Arc, child: Child) -> (u16, u16, bool) {
+    (arc.from, arc.to, child == Child::Unused)
 }
 
-/// For each arc and side the rises of merit that were seen in the children: what another child by the
+/// For each arc and child the rises of merit that were seen there: what another child by the
 /// arc is likely to rise by, whatever its parent.
 #[derive(Drop)]
 pub struct Pseudocosts {
@@ -43,18 +43,18 @@ impl Pseudocosts {
         }
     }
 
-    /// Where the rises of an arc on a side stand, or are to stand.
-    fn place(&self, arc: Arc, side: Side) -> usize {
-        let key = key_of(arc, side);
+    /// Where the rises of an arc in a child stand, or are to stand.
+    fn place(&self, arc: Arc, child: Child) -> usize {
+        let key = key_of(arc, child);
         self.rises
-            .partition_point(|seen| key_of(seen.arc, seen.side) < key)
+            .partition_point(|seen| key_of(seen.arc, seen.child) < key)
     }
 
     /// The mean rise in grains, if one was seen.
     /// No contract: a rule of search; any prices are sound.
-    pub fn mean(&self, arc: Arc, side: Side) -> Option<i128> {
-        let seen = self.rises.get(self.place(arc, side))?;
-        if seen.arc == arc && seen.side == side {
+    pub fn mean(&self, arc: Arc, child: Child) -> Option<i128> {
+        let seen = self.rises.get(self.place(arc, child))?;
+        if seen.arc == arc && seen.child == child {
             seen.sum.checked_div(i128::from(seen.count))
         } else {
             None
@@ -64,15 +64,15 @@ impl Pseudocosts {
     /// Whether rises were seen in both children by an arc.
     /// No contract: a rule of search; any prices are sound.
     pub fn knows(&self, arc: Arc) -> bool {
-        self.mean(arc, Side::Used).is_some() && self.mean(arc, Side::Unused).is_some()
+        self.mean(arc, Child::Used).is_some() && self.mean(arc, Child::Unused).is_some()
     }
 
     /// Takes in a rise in grains.
     /// No contract: a rule of search; any prices are sound.
-    pub fn note(&mut self, arc: Arc, side: Side, rise: i128) -> Result<(), AllocError> {
-        let place = self.place(arc, side);
+    pub fn note(&mut self, arc: Arc, child: Child, rise: i128) -> Result<(), AllocError> {
+        let place = self.place(arc, child);
         match self.rises.get_mut(place) {
-            Some(seen) if seen.arc == arc && seen.side == side => {
+            Some(seen) if seen.arc == arc && seen.child == child => {
                 seen.sum = seen.sum.saturating_add(rise);
                 seen.count = seen.count.saturating_add(1);
                 Ok(())
@@ -80,7 +80,7 @@ impl Pseudocosts {
             _ => {
                 let seen = Rises {
                     arc,
-                    side,
+                    child,
                     sum: rise,
                     count: 1,
                 };

@@ -9,7 +9,7 @@ use std::alloc::{AllocError, Global};
 #[derive(Drop)]
 pub(crate) struct Sweeps<'r> {
     bindings: Vec<Binding<'r>>,
-    /// How many parts the floor has.
+    /// How many parts a vehicle's price has.
     parts: u8,
 }
 
@@ -18,7 +18,11 @@ impl<'r> Sweeps<'r> {
     pub(crate) fn new(alloc: Global, trial: &Trial) -> Sweeps<'r> {
         Sweeps {
             bindings: Vec::new(alloc),
-            parts: if trial.floor.below.is_some() { 2 } else { 1 },
+            parts: if trial.vehicle_price.below.is_some() {
+                2
+            } else {
+                1
+            },
         }
     }
 
@@ -38,9 +42,9 @@ impl<'r> Sweeps<'r> {
     pub(crate) fn project_last(&mut self, trial: &mut Trial) {
         let parts = i64::from(self.parts);
         if let Some(binding) = self.bindings.last_mut() {
-            let mut floor = trial.floor.value();
-            let fall = binding.project(trial.prices.as_mut_slice(), &mut floor, parts);
-            trial.floor = trial.floor.raised(fall);
+            let mut vehicle_price = trial.vehicle_price.value();
+            let fall = binding.project(trial.prices.as_mut_slice(), &mut vehicle_price, parts);
+            trial.vehicle_price = trial.vehicle_price.raised(fall);
         }
     }
 
@@ -53,16 +57,16 @@ impl<'r> Sweeps<'r> {
     pub(crate) fn sweep(&mut self, trial: &mut Trial) -> u64 {
         let parts = i64::from(self.parts);
         let prices = trial.prices.as_mut_slice();
-        let mut floor = trial.floor.value();
+        let mut vehicle_price = trial.vehicle_price.value();
         let mut risen: i64 = 0;
         let mut farthest = 0;
         for binding in self.bindings.iter_mut() {
-            let fall = binding.project(prices, &mut floor, parts);
+            let fall = binding.project(prices, &mut vehicle_price, parts);
             risen = risen.saturating_add(fall);
             farthest = binding.distance(fall).max(farthest);
         }
-        trial.floor = trial.floor.raised(risen);
-        trial.floor.project().max(farthest)
+        trial.vehicle_price = trial.vehicle_price.raised(risen);
+        trial.vehicle_price.project().max(farthest)
     }
 
     /// Gives the half-spaces the multipliers.

@@ -5,18 +5,17 @@ ghost use Rattle.std.specs.List.{AllByRecursion};
 ghost use Rattle.solomon_reader.specs.Problem.{customer_count};
 ghost use Rattle.solomon_reader.specs.CertificateText.{IsPrice};
 
-use crate::floor::Floor;
 use crate::fours::{Four, price, raise, reduced};
 use crate::half_space::HalfSpace;
+use crate::vehicle_price::VehiclePrice;
 use solomon_reader::{Instance, MOST_PRICE};
 use std::alloc::{AllocError, Global};
 
-/// Prices in grains, that of row i at i and 0 for the depot, also outside their range, and the floor of the
-/// reduced costs.
+/// Prices in grains, that of row i at i and 0 for the depot, also outside their range, and a vehicle's price.
 #[derive(Drop)]
 pub struct Trial {
     pub prices: Vec<i64>,
-    pub floor: Floor,
+    pub vehicle_price: VehiclePrice,
 }
 
 impl Trial {
@@ -26,7 +25,7 @@ impl Trial {
         alloc: Global,
         prices: &[i64],
         rise: i64,
-        floor: Floor,
+        vehicle_price: VehiclePrice,
     ) -> Result<Trial, AllocError> {
         let mut raised = Vec::with_capacity(alloc, prices.len().saturating_add(1))?;
         raised.push(0)?;
@@ -35,7 +34,7 @@ impl Trial {
         }
         Ok(Trial {
             prices: raised,
-            floor,
+            vehicle_price,
         })
     }
 
@@ -46,16 +45,16 @@ impl Trial {
         reduced(self.prices.as_slice(), stops, cost)
     }
 
-    /// How far the prices of a route's stops and the floor are from its cost, in grains; below 0 where
+    /// How far the prices of a route's stops and a vehicle are from its cost, in grains; below 0 where
     /// they are beyond it.
     pub(crate) fn slack(&self, space: &HalfSpace<'_>) -> i64 {
         let reduced = self.reduced_cost(space.fours, space.cost);
-        reduced.saturating_sub(self.floor.value())
+        reduced.saturating_sub(self.vehicle_price.value())
     }
 
-    /// Raises the price of each stop, as often as it stands there, and the floor.
+    /// Raises the price of each stop, as often as it stands there, and a vehicle's.
     pub(crate) fn raise_along(&mut self, stops: &[Four], change: i64) {
-        self.floor = self.floor.raised(change);
+        self.vehicle_price = self.vehicle_price.raised(change);
         raise(self.prices.as_mut_slice(), stops, change);
     }
 

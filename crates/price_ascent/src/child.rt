@@ -14,7 +14,7 @@ ghost use Rattle.price_ascent.specs.Branching.{AreChildren, IsPricedAt};
 use crate::pricing::price;
 use crate::trying::{TriedArc, best_arc};
 use branching::{Arc, Region, RegionFault};
-use pooled_routes::{GRAINS_OF_TENTH, Side};
+use pooled_routes::{Child, GRAINS_OF_TENTH};
 use price_way::{Ascent, ChildStart, RoutePool};
 use prices::{PriceFault, Priced};
 use solomon_reader::Instance;
@@ -141,8 +141,8 @@ fn starts_of(
         Some(tried) => tried.into_prices(arc),
         None => (None, None),
     };
-    let used = pool.start_of(ascent, arc, Side::Used, used)?;
-    let unused = pool.start_of(ascent, arc, Side::Unused, unused)?;
+    let used = pool.start_of(ascent, arc, Child::Used, used)?;
+    let unused = pool.start_of(ascent, arc, Child::Unused, unused)?;
     Ok((Some(used), Some(unused)))
 }
 

@@ -10,7 +10,7 @@ ghost use Rattle.price_ascent.specs.Branching.{IsPricedAt};
 use crate::pricing::price;
 use branching::Region;
 use fronts::{Nearness, Task};
-use pooled_routes::{Floor, Trial};
+use pooled_routes::{Trial, VehiclePrice};
 use price_way::{Ascent, Goal, QuickWay, RoutePool, WHOLE, WIDEST};
 use prices::{PriceFault, Priced};
 use quick_routes::{QuickRoutes, Width, quick_routes};
@@ -54,14 +54,14 @@ fn routes_at(
     Ok(found)
 }
 
-/// Searches for routes at these prices, and adds those below a floor to the pool; answers the least reduced
-/// cost that was found, the greatest number where none was.
+/// Searches for routes at these prices, and adds those to the pool whose reduced cost is below this number; answers
+/// the least reduced cost that was found, the greatest number where none was.
 fn search(
     alloc: Global,
     pool: &mut RoutePool<'_>,
     leaf: &Priced<'_>,
     prices: &[i64],
-    floor: i64,
+    most: i64,
     width: Option<Width>,
 ) -> Result<i64, AllocError>
     requires count { length prices.now ≡ customer_count leaf.now.problem }
@@ -82,7 +82,7 @@ fn search(
     )?;
     pool.count_looks(found.looks);
     for route in &found.routes {
-        if route.reduced_cost < floor {
+        if route.reduced_cost < most {
             pool.add(instance, route.stops.as_slice())?;
         }
     }
@@ -127,10 +127,10 @@ fn quick_step(
     let trial = ascent.trial(alloc, pool)?;
     let prices = trial.prices_in_range(alloc, leaf.instance())?;
     let known = pool.least(prices.as_slice())?;
-    let floor = trial.floor.value().min(known);
-    let found = search(alloc, pool, leaf, prices.as_slice(), floor, None)?;
+    let most = trial.vehicle_price.value().min(known);
+    let found = search(alloc, pool, leaf, prices.as_slice(), most, None)?;
     ascent.take_in_quick(pool, &trial, prices, found.min(known));
-    Ok(found < floor)
+    Ok(found < most)
 }
 
 /// Lets searches look more widely, unless they can't; whether they do. The centre is judged by a wider one,
@@ -204,7 +204,7 @@ fn prices_at(
         let product = i128::from(*price).saturating_mul(i128::from(scale.min(WHOLE)));
         prices.push((product / i128::from(WHOLE)).clamp(-most, most) as i64)?;
     }
-    let trial = Trial::new(alloc, prices.as_slice(), 0, Floor::new(false))?;
+    let trial = Trial::new(alloc, prices.as_slice(), 0, VehiclePrice::new(false))?;
     trial.prices_in_range(alloc, leaf.instance())
 }
 

@@ -1,7 +1,7 @@
 //! The arc that a leaf is best split on.
 
 use branching::{Arc, Region};
-use pooled_routes::{ArcFlow, Pseudocosts, Side, Trial};
+use pooled_routes::{ArcFlow, Child, Pseudocosts, Trial};
 use price_way::{Ascent, ChildTrial, PoolTrial, RoutePool};
 use prices::Priced;
 use std::alloc::AllocError;
@@ -97,19 +97,19 @@ fn try_arc(
     best: i128,
 ) -> Result<TriedArc, AllocError> {
     let gap = ascent.gap();
-    let (used_mean, unused_mean) = (seen.mean(arc, Side::Used), seen.mean(arc, Side::Unused));
+    let (used_mean, unused_mean) = (seen.mean(arc, Child::Used), seen.mean(arc, Child::Unused));
     let used_most = most_rise(used_mean, gap);
     let most = score(used_most, most_rise(unused_mean, gap), gap);
     if most <= best || used_mean.is_some() && unused_mean.is_some() {
         return Ok(untried(arc, most, 0));
     }
-    let unused = trials.of_child(arc, Side::Unused)?;
+    let unused = trials.of_child(arc, Child::Unused)?;
     let unused_rise = rise_of(&unused, unused_mean, gap);
     let most = score(used_most, unused_rise, gap);
     if most <= best {
         return Ok(untried(arc, most, unused.routes));
     }
-    let used = trials.of_child(arc, Side::Used)?;
+    let used = trials.of_child(arc, Child::Used)?;
     let used_rise = rise_of(&used, used_mean, gap);
     Ok(TriedArc {
         arc,

@@ -5,7 +5,7 @@
 use crate::centre::Centre;
 use crate::goal::Goal;
 use crate::route_pool::RoutePool;
-use pooled_routes::{Floor, GRAINS_OF_TENTH, Merit, Trial};
+use pooled_routes::{GRAINS_OF_TENTH, Merit, Trial, VehiclePrice};
 use prices::Priced;
 use std::alloc::{AllocError, Global};
 
@@ -27,7 +27,7 @@ const LEAST_GAP: i128 = 1_000;
 pub struct Ascent {
     pub centre: Centre,
     merit: Merit,
-    floor: Floor,
+    vehicle_price: VehiclePrice,
     rise: i64,
     /// The value in tenths at which to stop.
     pub target: i128,
@@ -61,7 +61,7 @@ impl Ascent {
         Ok(Ascent {
             centre,
             merit,
-            floor: merit.floor(),
+            vehicle_price: merit.vehicle_price(),
             rise,
             target: goal.value,
             is_quick: false,
@@ -99,9 +99,9 @@ impl Ascent {
 
     /// The centre after a rise in grains, from which a projection starts.
     pub fn start(&self, alloc: Global, rise: i64) -> Result<Trial, AllocError> {
-        let floor = self.floor.scaled(self.rise, rise);
-        let floor = self.merit.start(floor, self.centre.least, rise);
-        Trial::new(alloc, self.centre.prices.as_slice(), rise, floor)
+        let vehicle_price = self.vehicle_price.scaled(self.rise, rise);
+        let vehicle_price = self.merit.start(vehicle_price, self.centre.least, rise);
+        Trial::new(alloc, self.centre.prices.as_slice(), rise, vehicle_price)
     }
 
     /// How far the merit rises from the centre to the prices of a trial with this least reduced cost,
@@ -121,7 +121,7 @@ impl Ascent {
     /// Measures the multipliers by another rise.
     fn scale(&mut self, pool: &mut RoutePool<'_>, rise: i64) {
         pool.scale(rise);
-        self.floor = self.floor.scaled(self.rise, rise);
+        self.vehicle_price = self.vehicle_price.scaled(self.rise, rise);
         self.rise = rise;
     }
 
@@ -133,9 +133,11 @@ impl Ascent {
     /// Goes on from a trial with another centre: a serious step where the merit has grown by more than a tenth
     /// of what the trial promised.
     fn go_on(&mut self, pool: &mut RoutePool<'_>, trial: &Trial, next: Centre) -> bool {
-        self.floor = trial.floor;
+        self.vehicle_price = trial.vehicle_price;
         let before = self.centre.merit;
-        let promised = self.merit.promised(next.prices.as_slice(), self.floor);
+        let promised = self
+            .merit
+            .promised(next.prices.as_slice(), self.vehicle_price);
         let growth = next.merit.saturating_sub(before);
         let is_serious = growth.saturating_mul(10) > promised.saturating_sub(before);
         if is_serious {
@@ -156,7 +158,7 @@ impl Ascent {
         priced: &Priced<'_>,
     ) -> Result<(), AllocError> {
         let next = Centre::new(alloc, priced, self.merit)?;
-        if next.least < i128::from(trial.floor.value()) {
+        if next.least < i128::from(trial.vehicle_price.value()) {
             pool.add(priced.instance(), priced.least().route.as_slice())?;
         }
         self.go_on(pool, trial, next);

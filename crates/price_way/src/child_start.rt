@@ -1,7 +1,7 @@
 //! Where the ascent at a child starts.
 
 use branching::Arc;
-use pooled_routes::{RouteShare, Side, Trial};
+use pooled_routes::{Child, RouteShare, Trial};
 
 /// What is known of a child when its leaf is split: the prices of its trial and the multipliers of the
 /// leaf's routes, from which its ascent starts, and from where its merit rises. Any child may go without
@@ -9,7 +9,7 @@ use pooled_routes::{RouteShare, Side, Trial};
 #[derive(Drop)]
 pub struct ChildStart {
     pub arc: Arc,
-    pub side: Side,
+    pub child: Child,
     /// The merit of the split leaf's centre, in grains.
     pub merit: i128,
     /// Nothing where the child wasn't tried.

@@ -4,7 +4,7 @@
 
 use crate::ascent::Ascent;
 use branching::Arc;
-use pooled_routes::{Floor, HalfSpace, Projection, Side, Trial};
+use pooled_routes::{Child, HalfSpace, Projection, Trial, VehiclePrice};
 use std::alloc::{AllocError, Global};
 
 /// The most sweeps of a trial.
@@ -52,7 +52,7 @@ impl<'r> PoolTrial<'r> {
     ) -> Result<PoolTrial<'r>, AllocError> {
         if spaces.len() > most {
             let prices = ascent.centre.prices.as_slice();
-            let prices = Trial::new(alloc, prices, 0, Floor::new(false))?;
+            let prices = Trial::new(alloc, prices, 0, VehiclePrice::new(false))?;
             spaces.sort_by_key(|space| rank(space, &prices))?;
             spaces.truncate(most);
         }
@@ -65,10 +65,10 @@ impl<'r> PoolTrial<'r> {
     }
 
     /// What those of the pool's routes say that a child doesn't forbid.
-    fn spaces_of_child(&self, arc: Arc, side: Side) -> Result<Vec<HalfSpace<'r>>, AllocError> {
+    fn spaces_of_child(&self, arc: Arc, child: Child) -> Result<Vec<HalfSpace<'r>>, AllocError> {
         let mut spaces = Vec::with_capacity(self.alloc, self.spaces.len())?;
         for space in &self.spaces {
-            if !space.is_forbidden_by(arc, side) {
+            if !space.is_forbidden_by(arc, child) {
                 spaces.push(*space)?;
             }
         }
@@ -77,8 +77,8 @@ impl<'r> PoolTrial<'r> {
 
     /// The prices that a child's ascent would come to if it had only those of the pool's routes that the
     /// child doesn't forbid.
-    pub fn of_child(&self, arc: Arc, side: Side) -> Result<ChildTrial, AllocError> {
-        let spaces = self.spaces_of_child(arc, side)?;
+    pub fn of_child(&self, arc: Arc, child: Child) -> Result<ChildTrial, AllocError> {
+        let spaces = self.spaces_of_child(arc, child)?;
         let mut projection = Projection { spaces, looks: 0 };
         let mut trial = self.ascent.start(self.alloc, self.rise)?;
         projection.project(self.alloc, &mut trial, MOST_SWEEPS)?;

@@ -11,8 +11,8 @@ use branching::{Arc, Region};
 use fronts::{Nearness, allowed_rows};
 use labelling::Kept;
 use pooled_routes::{
-    ArcFlow, Floor, HalfSpace, PooledRoute, Projection, Pseudocosts, RouteShare, Side, Trial,
-    cost_of, merge, scaled,
+    ArcFlow, Child, HalfSpace, PooledRoute, Projection, Pseudocosts, RouteShare, Trial,
+    VehiclePrice, cost_of, merge, scaled,
 };
 use prices::{Priced, allows_route};
 use solomon_reader::Instance;
@@ -140,7 +140,7 @@ impl<'n> RoutePool<'n> {
     /// The customers of the route of least reduced cost at these prices among those that a region allows;
     /// none where it allows none.
     pub fn cheapest(&self, region: &Region, prices: &[i64]) -> Result<Vec<u16>, AllocError> {
-        let rows = Trial::new(self.alloc, prices, 0, Floor::new(false))?;
+        let rows = Trial::new(self.alloc, prices, 0, VehiclePrice::new(false))?;
         let mut cheapest: Option<(&[u16], i64)> = None;
         for route in self.routes.iter().filter(|route| route.is_allowed) {
             let stops = route.stops.as_slice();
@@ -159,7 +159,7 @@ impl<'n> RoutePool<'n> {
     /// The least reduced cost of the routes that count at these prices, in grains; the greatest number where
     /// none does.
     pub fn least(&self, prices: &[i64]) -> Result<i64, AllocError> {
-        let rows = Trial::new(self.alloc, prices, 0, Floor::new(false))?;
+        let rows = Trial::new(self.alloc, prices, 0, VehiclePrice::new(false))?;
         let counting = self.routes.iter().filter(|route| route.is_allowed);
         let costs = counting.map(|route| rows.reduced_cost(route.fours.as_slice(), route.cost));
         Ok(costs.min().unwrap_or(i64::MAX))
@@ -168,7 +168,7 @@ impl<'n> RoutePool<'n> {
     /// By how many millionths these prices are to be multiplied so that none of the routes that count pays
     /// more than it costs (Farley 1990); the greatest number where none pays.
     pub fn scale_at(&self, prices: &[i64]) -> Result<i64, AllocError> {
-        let rows = Trial::new(self.alloc, prices, 0, Floor::new(false))?;
+        let rows = Trial::new(self.alloc, prices, 0, VehiclePrice::new(false))?;
         let mut least = i64::MAX;
         for route in self.routes.iter().filter(|route| route.is_allowed) {
             let reduced = rows.reduced_cost(route.fours.as_slice(), route.cost);
@@ -327,12 +327,12 @@ impl<'n> RoutePool<'n> {
         &self,
         ascent: &Ascent,
         arc: Arc,
-        side: Side,
+        child: Child,
         trial: Option<Trial>,
     ) -> Result<ChildStart, AllocError> {
         Ok(ChildStart {
             arc,
-            side,
+            child,
             merit: ascent.centre.merit,
             trial,
             shares: self.shares()?,
@@ -350,6 +350,6 @@ impl<'n> RoutePool<'n> {
     /// tenths. Where memory is refused, it doesn't.
     pub fn learn(&mut self, start: &ChildStart, ascent: &Ascent, value: i128) {
         let rise = ascent.rise_since(start.merit, value);
-        let _ = self.pseudocosts.note(start.arc, start.side, rise);
+        let _ = self.pseudocosts.note(start.arc, start.child, rise);
     }
 }

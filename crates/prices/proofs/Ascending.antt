@@ -13,7 +13,7 @@ use Rattle.solomon_reader.specs.Plan.{count_of}
 use Rattle.prices.specs.Steps.{cut, price_after, IsNext, AreNext, Improves}
 use Rattle.prices.specs.ValuedPrices.{ValuedPrices}
 use Rattle.prices.specs.Ascents.{last_of, IsOneOn}
-use Rattle.prices.specs.declared.ascent.Ascent.{Ascent}
+use Rattle.prices.specs.declared.ascent.Improvement.{Improvement}
 use Rattle.prices.proofs.Values.{abs_low, abs_high, abs_within, all_pushed}
 
 word_small : (z : ℤ) → FitsSigned w64 z → nat_abs z ≤ 9223372036854775808
@@ -185,7 +185,7 @@ module _ (old : ValuedPrices) (steps : List ℤ) (s : ℤ) (best last new : Valu
   }
 
 -- One step more: what it comes to is the best, or stands behind the best.
-pub one_more : (old : ValuedPrices) (steps more : List ℤ) (s : ℤ) (w v : Ascent) → IsAscent old steps w.best (last_of w) → IsOneOn w s v
+pub one_more : (old : ValuedPrices) (steps more : List ℤ) (s : ℤ) (w v : Improvement) → IsAscent old steps w.best (last_of w) → IsOneOn w s v
     → more ≡ steps ++ s ∷ [] → IsAscent old more v.best (last_of v)
 one_more old steps more s w v so_far one is =
     let ascent : IsAscent old (steps ++ s ∷ []) v.best (last_of v) = elim one.best [

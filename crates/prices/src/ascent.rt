@@ -9,18 +9,18 @@ use std::alloc::Global;
 
 /// The best prices of an ascent, and its last ones where they are others.
 #[derive(Drop)]
-pub(crate) struct Ascent<'i> {
+pub(crate) struct Improvement<'i> {
     best: Priced<'i>,
     last: Option<Priced<'i>>,
 }
 
-impl<'i> Ascent<'i> {
+impl<'i> Improvement<'i> {
     /// The ascent that has made no step.
-    pub(crate) fn new(priced: Priced<'i>) -> Ascent<'i>
+    pub(crate) fn new(priced: Priced<'i>) -> Improvement<'i>
         ensures best { result.best ≡ priced.entry }
         ensures last { last_of result ≡ priced.entry }
     {
-        Ascent {
+        Improvement {
             best: priced,
             last: None,
         }
@@ -50,7 +50,7 @@ impl<'i> Ascent<'i> {
         alloc: Global,
         step: i64,
         limit: Option<usize>,
-    ) -> Result<Ascent<'i>, Priced<'i>>
+    ) -> Result<Improvement<'i>, Priced<'i>>
         ensures one_on { IfOk result (λ a. IsOneOn self.entry step a) }
         ensures best { IfErr result (λ f. f ≡ self.entry.best) }
     {
@@ -59,12 +59,12 @@ impl<'i> Ascent<'i> {
             Err(_) => return Err(self.best),
         };
         if next.value() > self.best.value() {
-            Ok(Ascent {
+            Ok(Improvement {
                 best: next,
                 last: None,
             })
         } else {
-            Ok(Ascent {
+            Ok(Improvement {
                 best: self.best,
                 last: Some(next),
             })

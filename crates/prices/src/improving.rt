@@ -3,7 +3,7 @@
 ghost use Rattle.std.specs.Prelude.{◌≡◌};
 ghost use Rattle.prices.specs.Steps.{Improves};
 
-use crate::ascent::Ascent;
+use crate::ascent::Improvement;
 use crate::priced::Priced;
 use std::alloc::Global;
 
@@ -20,7 +20,7 @@ pub fn improve<'i>(
 ) -> Priced<'i>
     ensures { Improves priced.entry steps.now result }
 {
-    let mut ascent = Ascent::new(priced);
+    let mut ascent = Improvement::new(priced);
     for step in steps {
         ascent = match ascent.step(alloc, *step, limit) {
             Ok(ascent) => ascent,

@@ -1,7 +1,7 @@
 //! Routes that are right at any time, and the customers that stand in them.
 
 use crate::drawing::below;
-use crate::side::{Place, Side, UNSEEN};
+use crate::side::{CheapestPlace, Side, UNSEEN};
 use crate::tables::{NOWHERE, Tables};
 use crate::window::Window;
 use rand_core::Rng;
@@ -34,7 +34,7 @@ pub(crate) struct Plan {
     /// By row the slot before the trial; nothing where the customer is absent.
     slot_of: Vec<Option<usize>>,
     /// By row and slot.
-    places: Vec<Place>,
+    places: Vec<CheapestPlace>,
     /// The number of routes.
     pub(crate) routes: usize,
     /// In tenths, before the trial.
@@ -182,7 +182,7 @@ impl Plan {
 
     /// The slot and place of the least detour for a customer; now and then a better one is passed over.
     /// Places are looked for anew in slots that have changed.
-    fn choose<R: Rng>(&mut self, random: &mut R, customer: u16) -> Option<(usize, Place)> {
+    fn choose<R: Rng>(&mut self, random: &mut R, customer: u16) -> Option<(usize, CheapestPlace)> {
         let begin = self.slots.len().saturating_mul(usize::from(customer));
         let end = begin.saturating_add(self.used);
         let places = self.places.as_mut_slice().get_mut(begin..end)?;

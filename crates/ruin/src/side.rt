@@ -22,7 +22,7 @@ const UNKNOWN: i32 = i32::MIN;
 
 /// The cheapest place of a customer in a route.
 #[derive(Clone, Copy)]
-pub(crate) struct Place {
+pub(crate) struct CheapestPlace {
     /// The version of the side for which this holds.
     pub(crate) version: u32,
     /// How many tenths longer the route gets; `NOWHERE` where no place fits.
@@ -32,7 +32,7 @@ pub(crate) struct Place {
 }
 
 /// Nothing is known of a customer's place.
-pub(crate) const UNSEEN: Place = Place {
+pub(crate) const UNSEEN: CheapestPlace = CheapestPlace {
     version: 0,
     detour: NOWHERE,
     position: 0,
@@ -122,7 +122,7 @@ impl Side {
     }
 
     /// Finds the cheapest place of a customer, and answers how many places were passed.
-    pub(crate) fn look(&self, newcomer: &Newcomer<'_>, place: &mut Place) -> usize {
+    pub(crate) fn look(&self, newcomer: &Newcomer<'_>, place: &mut CheapestPlace) -> usize {
         place.version = self.version;
         place.detour = NOWHERE;
         if self.load > newcomer.most_load {

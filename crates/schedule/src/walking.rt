@@ -15,7 +15,7 @@ use tenths::Tenths;
 /// A vehicle that is done at a stop, or about to leave the depot, and what it has cost and loaded
 /// so far. Time and cost are tenths.
 #[derive(Clone, Copy)]
-struct Progress {
+struct Vehicle {
     at: u16,
     time: u64,
     cost: u64,
@@ -33,7 +33,7 @@ pub fn are_customers(instance: &Instance, visits: &[u16]) -> bool
 }
 
 /// Drives to a customer and serves it, or `None` where it is too much to load or too late.
-fn advance(instance: &Instance, vehicle: Progress, stop: u16) -> Option<Progress>
+fn advance(instance: &Instance, vehicle: Vehicle, stop: u16) -> Option<Vehicle>
     requires from { vehicle.at < length instance.now.rows }
     requires to { IsCustomer instance.now stop }
     requires load { vehicle.load ≤ instance.now.capacity }
@@ -58,7 +58,7 @@ fn advance(instance: &Instance, vehicle: Progress, stop: u16) -> Option<Progress
     if load > capacity || start > instance.due(stop) {
         return None;
     }
-    Some(Progress {
+    Some(Vehicle {
         at: stop,
         time: start + instance.service(stop),
         cost: vehicle.cost + arc,
@@ -79,7 +79,7 @@ pub fn walk(instance: &Instance, visits: &[u16]) -> Option<Walk>
     if visits.is_empty() || !are_customers(instance, visits) {
         return None;
     }
-    let mut vehicle = Progress {
+    let mut vehicle = Vehicle {
         at: 0,
         time: instance.ready(0),
         cost: 0,

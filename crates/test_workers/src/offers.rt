@@ -33,9 +33,9 @@ const REPRICED: [(u32, u32, [i64; 2], Result<(), BookFault>); 4] = [
     (1, 1, [200_000, 0], Err(BookFault::NotHigher)),
 ];
 
-/// A desk over a book of an instance, and the share of one worker.
+/// A worker at a desk over a book of an instance, with its share.
 #[derive(Drop)]
-struct Place<'a, 'i, R, J: Naming> {
+struct DeskWorker<'a, 'i, R, J: Naming> {
     rt: &'a R,
     instance: &'i Instance,
     desk: &'a Desk<'i, J>,
@@ -44,11 +44,11 @@ struct Place<'a, 'i, R, J: Naming> {
 
 /// Offers a plan: whether it was better, and the best cost that was known.
 fn offer<R: Abort + Wait + AllocGlobal, J: Naming>(
-    place: &mut Place<'_, '_, R, J>,
+    worker: &mut DeskWorker<'_, '_, R, J>,
     routes: &[&[u16]],
 ) -> Result<(bool, Option<Tenths>), BookFault> {
-    let plan = plan_at(place.rt.alloc(), place.instance, routes).expect(place.rt, "a plan");
-    let reply = match place.desk.offer(place.rt, &mut place.share, plan) {
+    let plan = plan_at(worker.rt.alloc(), worker.instance, routes).expect(worker.rt, "a plan");
+    let reply = match worker.desk.offer(worker.rt, &mut worker.share, plan) {
         Ok(reply) => reply,
         Err((_, fault)) => return Err(fault),
     };
@@ -71,15 +71,15 @@ fn region_of<R: Abort + AllocGlobal>(rt: &R, node: u32) -> Region {
 
 /// Gives a leaf new prices at the region of a node: what comes of it.
 fn reprice<R: Abort + Wait + AllocGlobal, J: Naming>(
-    place: &mut Place<'_, '_, R, J>,
+    worker: &mut DeskWorker<'_, '_, R, J>,
     leaf: u32,
     node: u32,
     prices: [i64; 2],
 ) -> Result<(), BookFault> {
-    let (rt, region) = (place.rt, region_of(place.rt, node));
-    let priced = priced_at(rt.alloc(), place.instance, region, 1, &prices);
+    let (rt, region) = (worker.rt, region_of(worker.rt, node));
+    let priced = priced_at(rt.alloc(), worker.instance, region, 1, &prices);
     let priced = priced.expect(rt, "prices");
-    match place.desk.reprice(rt, &mut place.share, leaf, priced) {
+    match worker.desk.reprice(rt, &mut worker.share, leaf, priced) {
         Ok(()) => Ok(()),
         Err((_, fault)) => Err(fault),
     }
@@ -87,16 +87,16 @@ fn reprice<R: Abort + Wait + AllocGlobal, J: Naming>(
 
 /// Splits a leaf, with prices of zero at both children: their numbers, or the fault.
 fn split<R: Abort + Wait + AllocGlobal, J: Naming>(
-    place: &mut Place<'_, '_, R, J>,
+    worker: &mut DeskWorker<'_, '_, R, J>,
     leaf: u32,
     arc: Arc,
 ) -> Result<(u32, u32), BookFault> {
-    let (rt, region) = (place.rt, region_of(place.rt, leaf));
-    let children = children_at(rt.alloc(), place.instance, &region, 1, arc, &[0, 0]);
+    let (rt, region) = (worker.rt, region_of(worker.rt, leaf));
+    let children = children_at(rt.alloc(), worker.instance, &region, 1, arc, &[0, 0]);
     let (used, unused) = children.expect(rt, "prices");
-    match place
+    match worker
         .desk
-        .split(rt, &mut place.share, leaf, arc, used, unused)
+        .split(rt, &mut worker.share, leaf, arc, used, unused)
     {
         Ok(made) => Ok(made),
         Err((_, _, fault)) => Err(fault),
@@ -105,26 +105,31 @@ fn split<R: Abort + Wait + AllocGlobal, J: Naming>(
 
 /// The value of a leaf.
 fn value<R: Wait, J: Naming>(
-    place: &mut Place<'_, '_, R, J>,
+    worker: &mut DeskWorker<'_, '_, R, J>,
     leaf: u32,
 ) -> Result<i128, LookFault> {
-    Ok(place.desk.look(place.rt, &mut place.share, leaf)?.value())
+    Ok(
+        worker
+            .desk
+            .look(worker.rt, &mut worker.share, leaf)?
+            .value(),
+    )
 }
 
 /// Splits the root, and is refused to split it again. Gives the child without the arc a higher value, and is
 /// refused an equal one and a split to lower ones. For the other child it is refused prices of another
 /// region, and as high ones.
-fn branch<R: Abort + Wait + AllocGlobal, J: Naming>(place: &mut Place<'_, '_, R, J>) {
-    let made = (split(place, 0, ONWARD), split(place, 0, ONWARD));
-    assert_eq!(place.rt; made, (Ok((1, 2)), Err(BookFault::NotALeaf)));
-    let values = (value(place, 1), value(place, 2));
-    assert_eq!(place.rt; values, (Ok(200), Ok(100)));
+fn branch<R: Abort + Wait + AllocGlobal, J: Naming>(worker: &mut DeskWorker<'_, '_, R, J>) {
+    let made = (split(worker, 0, ONWARD), split(worker, 0, ONWARD));
+    assert_eq!(worker.rt; made, (Ok((1, 2)), Err(BookFault::NotALeaf)));
+    let values = (value(worker, 1), value(worker, 2));
+    assert_eq!(worker.rt; values, (Ok(200), Ok(100)));
     for (leaf, node, prices, expected) in REPRICED {
-        let told = reprice(place, leaf, node, prices);
-        assert_eq!(place.rt; told, expected);
+        let told = reprice(worker, leaf, node, prices);
+        assert_eq!(worker.rt; told, expected);
     }
-    let values = (value(place, 2), value(place, 0), split(place, 2, BACK));
-    assert_eq!(place.rt;
+    let values = (value(worker, 2), value(worker, 0), split(worker, 2, BACK));
+    assert_eq!(worker.rt;
         values,
         (Ok(200), Err(LookFault::NotALeaf), Err(BookFault::Lower))
     );
@@ -137,17 +142,17 @@ pub(crate) fn work<'i, J: Naming, R: Abort + Wait + AllocGlobal>(
     share: Share<J>,
     instance: &'i Instance,
 ) -> Share<J> {
-    let mut place = Place {
+    let mut worker = DeskWorker {
         rt,
         instance,
         desk,
         share,
     };
     for (routes, is_better, cost) in OFFERED {
-        let told = offer(&mut place, routes);
+        let told = offer(&mut worker, routes);
         assert_eq!(rt; told, Ok((is_better, cost.map(|cost| Tenths::from(cost)))));
     }
-    branch(&mut place);
-    let Place { share, .. } = place;
+    branch(&mut worker);
+    let DeskWorker { share, .. } = worker;
     share
 }

@@ -8,7 +8,7 @@ use crate::lines::{
     check_fault, file_fault, open_fault, start_fault, tell, tell_verdict, usage_fault,
 };
 use crate::paths::is_same_path;
-use crate::progress::{Progress, Telling};
+use crate::progress::{ProgressGate, Telling};
 use crate::solving::solve_from;
 use crate::starting::StartFault;
 use checker::check;
@@ -43,7 +43,7 @@ fn solve_text<R: Eprint + Threads + Wait + Sync, X: Sink, Y: Sink>(
     if let Some(leaves) = work.closing {
         return close_from(alloc, text, start, settings, leaves, solution, certificate);
     }
-    let gate = Progress::new(rt, settings, work.telling);
+    let gate = ProgressGate::new(rt, settings, work.telling);
     let answer = solve_from(
         rt,
         alloc,

@@ -23,7 +23,7 @@ pub(crate) enum Telling {
 /// A gate that holds nobody, and may tell on standard error how far the turns are: at most once for each
 /// hundredth of them, until cost and bound are as near as is enough. It has no lock.
 #[derive(Drop)]
-pub(crate) struct Progress<'a, R: Eprint> {
+pub(crate) struct ProgressGate<'a, R: Eprint> {
     rt: &'a R,
     telling: Telling,
     turns: u64,
@@ -80,11 +80,11 @@ fn write_progress<R: Eprint>(rt: &R, telling: Telling, stage: Stage, gap: &Gap) 
     )
 }
 
-impl<'a, R: Eprint> Progress<'a, R> {
+impl<'a, R: Eprint> ProgressGate<'a, R> {
     /// For all turns that the settings ask for.
-    pub(crate) fn new(rt: &'a R, settings: &Settings, telling: Telling) -> Progress<'a, R> {
+    pub(crate) fn new(rt: &'a R, settings: &Settings, telling: Telling) -> ProgressGate<'a, R> {
         let workers = u64::from(settings.searchers) + u64::from(settings.bounders);
-        Progress {
+        ProgressGate {
             rt,
             telling,
             turns: workers.saturating_mul(u64::from(settings.turns)).max(1),
@@ -104,7 +104,7 @@ impl<'a, R: Eprint> Progress<'a, R> {
     }
 }
 
-impl<'a, R: Eprint> Gate for Progress<'a, R> {
+impl<'a, R: Eprint> Gate for ProgressGate<'a, R> {
     fn pass(&self, _worker: u16, point: GatePoint) {
         if point == GatePoint::Split {
             self.splits.fetch_add(1, Ordering::SeqCst);

@@ -1,4 +1,4 @@
-//! The reduced cost that all routes are to have at least.
+//! The price of a vehicle.
 
 /// A number that is to be at least 0, in grains, with the multiplier that holds it there.
 #[derive(Clone, Copy)]
@@ -44,31 +44,31 @@ pub fn scaled(multiplier: i64, old: i64, new: i64) -> i64 {
     quotient.clamp(0, i128::from(i64::MAX)) as i64
 }
 
-/// The reduced cost that all routes are to have at least, in grains: what it is above 0, less what it
-/// is below. Both parts are at least 0. The second is left out where no plan needs the whole fleet.
+/// The price of a vehicle in grains, the reduced cost that each route is to have at least: what it is above 0,
+/// less what it is below. Both parts are at least 0. The second is left out where no plan needs the whole fleet.
 #[derive(Clone, Copy)]
-pub struct Floor {
+pub struct VehiclePrice {
     pub(crate) above: Part,
     pub(crate) below: Option<Part>,
 }
 
-impl Floor {
-    /// The floor of 0, which has a part below 0 or not.
+impl VehiclePrice {
+    /// A price of 0, which has a part below 0 or not.
     /// No contract: a rule of search; any prices are sound.
-    pub fn new(has_below: bool) -> Floor {
+    pub fn new(has_below: bool) -> VehiclePrice {
         let zero = Part {
             value: 0,
             multiplier: 0,
         };
-        Floor {
+        VehiclePrice {
             above: zero,
             below: has_below.then_some(zero),
         }
     }
 
-    /// The floor that starts from these parts, moved by their multipliers.
-    pub(crate) fn start(self, above: i64, below: i64) -> Floor {
-        Floor {
+    /// The price that starts from these parts, moved by their multipliers.
+    pub(crate) fn start(self, above: i64, below: i64) -> VehiclePrice {
+        VehiclePrice {
             above: self.above.at(above, self.above.multiplier),
             below: self.below.map(|part| part.at(below, part.multiplier)),
         }
@@ -79,25 +79,25 @@ impl Floor {
         self.below.map_or(0, |part| part.value)
     }
 
-    /// The floor in grains.
+    /// The price in grains.
     /// No contract: a rule of search; any prices are sound.
     pub fn value(self) -> i64 {
         self.above.value.saturating_sub(self.below())
     }
 
-    /// The floor after each part took a change of its sign.
-    pub(crate) fn raised(self, change: i64) -> Floor {
+    /// The price after each part took a change of its sign.
+    pub(crate) fn raised(self, change: i64) -> VehiclePrice {
         let fall = 0i64.saturating_sub(change);
-        Floor {
+        VehiclePrice {
             above: self.above.at(self.above.value, change),
             below: self.below.map(|part| part.at(part.value, fall)),
         }
     }
 
-    /// The floor after the rise has changed.
+    /// The price after the rise has changed.
     /// No contract: a rule of search; any prices are sound.
-    pub fn scaled(self, old: i64, new: i64) -> Floor {
-        Floor {
+    pub fn scaled(self, old: i64, new: i64) -> VehiclePrice {
+        VehiclePrice {
             above: self.above.scaled(old, new),
             below: self.below.map(|part| part.scaled(old, new)),
         }

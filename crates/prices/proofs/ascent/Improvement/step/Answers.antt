@@ -1,7 +1,7 @@
 use Rattle.std.proofs.Common.{◌<◌, ◌≤◌, refl, inl, inr, arith}
 use Rattle.std.proofs.lemmas.Int.{ints, to_z-of_z}
 use mir.Syntax.{w64}
-use Rattle.prices.proofs.ascent.Ascent.step.Goals as goal
+use Rattle.prices.proofs.ascent.Improvement.step.Goals as goal
 
 pub returns-then-value-clause-one_on : goal.returns-then-value-clause-one_on
 returns-then-value-clause-one_on c =
