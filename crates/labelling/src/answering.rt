@@ -17,7 +17,7 @@ use std::alloc::{AllocError, Global};
 /// A step takes about as long as this many looks.
 const LOOKS_OF_STEP: u64 = 4;
 
-/// So many open steps that are looked at before they are made take about as long as one look.
+/// This many open steps, looked at before they are made, take about as long as one look.
 const SCANNED_OF_LOOK: u64 = 2;
 
 /// The stops up to a label, by its parents.

@@ -218,7 +218,7 @@ impl<'t, 'i> Labeller<'t, 'i> {
         }
     }
 
-    /// Adds a label, after which at most so much may be loaded, and drops those that it dominates, unless
+    /// Adds a label, after which at most this much may be loaded, and drops those that it dominates, unless
     /// an active one dominates it.
     pub(crate) fn add_label(&mut self, newer: &Label, room: u32) -> Result<(), LabelFault>
         ensures added { OnOk result (IsAddedTo self.old self.new newer.now) }

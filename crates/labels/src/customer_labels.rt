@@ -12,7 +12,7 @@ use completions::Completions;
 use fronts::Memory;
 use std::alloc::{AllocError, Global};
 
-/// So many labels of a group, which stand side by side, count as one look.
+/// This many labels of a group, which stand side by side, count as one look.
 const LABELS_OF_LOOK: u64 = 4;
 
 /// A label, by what it dominates others of its customer with.

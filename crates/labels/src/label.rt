@@ -28,7 +28,7 @@ pub struct Label {
     pub extended: bool,
 }
 
-/// Whether so much may be loaded beside a load.
+/// Whether this room is left beside a load.
 fn fits(capacity: u16, load: u32, room: u32) -> bool
     ensures { IsTrue result ↔ (load + room ≤ capacity) }
 {

@@ -13,7 +13,7 @@ use std::alloc::AllocError;
 const MOST_MEMORIES: usize = 4;
 
 /// What the label at an index remembers, if its steps were taken, it is no later and no dearer than another one of
-/// its customer, and no heavier than so much, with which there is room for all that the other one may still load.
+/// its customer, and no heavier than a load with which there is room for all that the other one may still load.
 /// The bounds are named by the contract alone.
 pub(crate) fn memory_of(
     _completions: &Completions<'_, '_>,

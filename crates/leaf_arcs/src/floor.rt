@@ -19,7 +19,7 @@ use std::alloc::{AllocError, Global};
 /// The floor where nothing may follow, in grains: above all reduced costs together.
 const NOTHING: i64 = 4_000_000_000_000_000_000;
 
-/// What may follow from a row at a time or later and a load or more adds at least so much. Of what is
+/// What may follow from a row at a time or later and a load or more adds at least this much. Of what is
 /// remembered a floor sees only that a route doesn't come back to a customer at once.
 #[derive(Clone, Copy)]
 pub struct Floor {
@@ -106,7 +106,7 @@ fn step_value(leaf: &Leaf<'_, '_>, arc: &AllowedArc, after: &Floor, floor: &Floo
     Some(value)
 }
 
-/// Lets a floor say of a step to a customer, too, that it adds at least so much.
+/// Lets a floor say of a step to a customer, too, that it adds at least this much.
 fn join(floor: &mut Floor, to: u16, value: i64)
     ensures place { IsAt floor.old.row floor.old.from floor.old.loaded floor.new }
     ensures joined { IsJoined floor.old to value floor.new }

@@ -21,8 +21,8 @@ pub struct Effort {
     pub looks: u64,
 }
 
-/// How far the prices of a leaf are raised: up to a value in tenths, from its first rise, where so much is the least
-/// cost known, if a plan is known, and this many routes count. No contract: any prices are sound.
+/// How far the prices of a leaf are raised: up to a value in tenths, from its first rise, where a plan of this cost is
+/// the cheapest known, or none is, and this many routes count. No contract: any prices are sound.
 pub fn goal_of(
     leaf: &Priced<'_>,
     cost: Option<Tenths>,

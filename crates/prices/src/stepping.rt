@@ -19,7 +19,7 @@ fn count_of(route: &[u16], customer: u16) -> usize
     route.iter().filter(|stop| **stop == customer).count()
 }
 
-/// A price after a step of this many grains, where the route visits the customer so often.
+/// A price after a step of this many grains, where the route visits the customer this often.
 fn price_after(step: i64, count: usize, price: i64) -> i64
     ensures value { result ≡ price_after step count price }
     ensures in_range { IsPrice result }

@@ -18,7 +18,7 @@ const MOST_ROUTES: usize = 20;
 
 const MOST_OF_CUSTOMER: usize = 2;
 
-/// So many labels of a customer, which stand side by side, count as one look.
+/// This many labels of a customer, which stand side by side, count as one look.
 const LABELS_OF_LOOK: u64 = 4;
 
 /// A relaxed route.
@@ -64,7 +64,7 @@ struct QuickSearch<'t, 'i> {
     looks: u64,
 }
 
-/// So many empty lists.
+/// This many empty lists.
 fn lists<T: Drop>(alloc: Global, count: usize) -> Result<Vec<Vec<T>>, AllocError> {
     let mut lists = Vec::new(alloc);
     for _list in 0..count {
@@ -73,7 +73,7 @@ fn lists<T: Drop>(alloc: Global, count: usize) -> Result<Vec<Vec<T>>, AllocError
     Ok(lists)
 }
 
-/// So many rows without labels.
+/// This many rows without labels.
 fn no_stairs(alloc: Global, count: usize) -> Result<Vec<Stairs>, AllocError> {
     let mut stairs = Vec::new(alloc);
     for _row in 0..count {

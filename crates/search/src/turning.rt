@@ -1,4 +1,4 @@
-//! Turns: so much work of ruin and recreate, of which the cheapest plan is descended from.
+//! Turns: a portion of ruin and recreate, and a descent from the cheapest plan that it met.
 
 ghost use Rattle.std.specs.Prelude.{◌≡◌, IfOk, IfSome};
 ghost use Rattle.solomon_reader.specs.Moves.{IsLocalOptimum};

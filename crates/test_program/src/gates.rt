@@ -39,7 +39,7 @@ const POINTS: [GatePoint; 7] = [
 ];
 
 /// A worker that is held at its first passing of a point until another one, or all others together, have passed a
-/// point so often.
+/// point this often.
 #[derive(Drop)]
 struct Hold {
     worker: u16,

@@ -53,9 +53,10 @@ const SOLUTION: &[u8] = b"Route #1: 2\nRoute #2: 1\nCost 30.0\n";
 /// How their certificate begins, whatever the workers do.
 const HEAD: &[u8] = b"VRPTW-CERT 2\nINSTANCE T\nCUSTOMERS 2\nNEIGHBOURS 8\n";
 
-/// With this many writes both texts are whole, and with so few neither.
+/// With this many writes both texts are whole.
 const MANY_WRITES: usize = 200;
 
+/// With this many neither is.
 const FEW_WRITES: usize = 3;
 
 /// Whether sinks of this many writes hold both texts in the end, or else what may stand where the first failed, or

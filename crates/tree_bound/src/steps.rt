@@ -66,7 +66,7 @@ pub(crate) fn extend(leaf: &Leaf<'_, '_>, load: usize, label: &Label, arc: &Allo
     }
 }
 
-/// Whether the best so far is at most a cost with so much more.
+/// Whether the best so far is at most a cost with this much more.
 fn is_dear_with(best: Option<i64>, cost: i64, more: i64) -> bool
     ensures { IsTrue result → (y : ℤ) → (cost +ℤ more) ≤ℤ y → IsAtMost best y }
 {
