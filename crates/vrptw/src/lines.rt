@@ -11,21 +11,28 @@ use std::alloc::{AllocError, Global};
 use std::io;
 use tenths::{Device, Sink, Tenths, write_tenths, write_text};
 
-/// The statuses that the program ends with.
+/// The status of a plan that no plan is cheaper than, of no plan at all, and of help.
 const FOUND: u8 = 0;
 
+/// The status of a plan whose cost isn't the bound, and of a bound alone.
 const UNDECIDED: u8 = 1;
 
+/// The status of words that give no job.
 const USAGE: u8 = 2;
 
+/// The status of a text that is no instance.
 const INSTANCE: u8 = 3;
 
+/// The status of refused memory, and of a refused thread.
 const MEMORY: u8 = 4;
 
+/// The status of a certificate or a plan that isn't right.
 const CHECK: u8 = 5;
 
+/// The status of a file or a stream that fails.
 const FILE: u8 = 6;
 
+/// The status of labels, states or leaves that don't suffice, and of an instance too large to be closed.
 const LIMIT: u8 = 7;
 
 /// Writes a line on standard error, and answers the status that goes with it.
@@ -213,14 +220,17 @@ fn tell_line<X: Sink, Y: Sink>(
     }
 }
 
-/// Prints a verdict, and answers its status.
+/// Prints a verdict, and answers its status: in the words of an answer, but for a bound alone.
 pub(crate) fn tell_verdict<X: Sink, Y: Sink>(verdict: &Verdict, out: &mut X, errors: &mut Y) -> u8 {
-    match *verdict {
-        Verdict::Best { cost } => tell_line("BEST", &[cost], FOUND, out, errors),
-        Verdict::Gap { cost, bound } => tell_line("GAP", &[cost, bound], UNDECIDED, out, errors),
-        Verdict::NoPlan => tell_line("NO PLAN", &[], FOUND, out, errors),
-        Verdict::BoundOnly { bound } => tell_line("BOUND", &[bound], UNDECIDED, out, errors),
-    }
+    let answer = match *verdict {
+        Verdict::Best { cost } => Answer::Best { cost },
+        Verdict::Gap { cost, bound } => Answer::Gap { cost, bound },
+        Verdict::NoPlan => Answer::NoPlan,
+        Verdict::BoundOnly { bound } => {
+            return tell_line("BOUND", &[bound], UNDECIDED, out, errors);
+        }
+    };
+    tell(&answer, out, errors)
 }
 
 /// Prints an answer, and answers its status.
