@@ -17,7 +17,7 @@ use std::alloc::{AllocError, Global};
 const PROGRAM: &str = "vrptw";
 
 /// What `--version` prints behind the program's name.
-const VERSION: &str = "1.8.0 (writes certificates of version 2, reads versions 1 and 2)";
+const VERSION: &str = "1.8.1 (writes certificates of version 2, reads versions 1 and 2)";
 
 /// A path that has to be given.
 fn path<'a>(alloc: Global, id: &'a str, help: &'a str) -> Arg<'a>
@@ -162,7 +162,7 @@ fn with_starting_options<'a>(alloc: Global, command: Command<'a>) -> Result<Comm
             "gap",
             (0, MOST_GAP),
             "0",
-            "Ends the work once cost and bound are no further apart than so many tenths of a percent of the cost, 0 to 1000",
+            "Ends the work once cost and bound are no further apart than this many tenths of a percent of the cost, 0 to 1000",
         ))
 }
 
