@@ -1,4 +1,6 @@
 //! Where labels are looked up.
+//!
+//! What has no contract decides only how fast a search is.
 
 ghost use Rattle.std.specs.Prelude.{IsTrue, IfOk};
 ghost use Rattle.std.specs.List.{All};
@@ -24,7 +26,6 @@ pub struct Lookup {
 
 impl Lookup {
     /// The lookup of the empty beginning alone: a former one of as many customers, or a new one.
-    /// No contract: it decides only how fast a search is.
     pub fn again(
         alloc: Global,
         instance: &Instance,
@@ -69,25 +70,21 @@ impl Lookup {
     }
 
     /// How many labels are active.
-    /// No contract: it decides only how fast a search is.
     pub fn active(&self) -> usize {
         self.active
     }
 
     /// The number of slots of time.
-    /// No contract: it decides only how fast a search is.
     pub fn slots(&self) -> usize {
         self.buckets.slots()
     }
 
     /// Takes the index of a label out of a slot of time.
-    /// No contract: it decides only how fast a search is.
     pub fn take(&mut self, slot: usize) -> Option<usize> {
         self.buckets.take(slot)
     }
 
     /// How often a newer label looked at labels of its customer, and at those together that remember the same.
-    /// No contract: it decides only how fast a search is.
     pub fn looks(&self) -> u64 {
         let mut looks: u64 = 0;
         for labels in &self.customers {
@@ -156,7 +153,6 @@ impl Lookup {
     }
 
     /// Adds a label, which stands at an index.
-    /// No contract: it decides only how fast a search is.
     pub fn add(
         &mut self,
         alloc: Global,

@@ -1,4 +1,6 @@
 //! How much of the routes' multipliers the arcs carry.
+//!
+//! No contract speaks of it: it is a rule of search, and any prices are sound.
 
 use branching::Arc;
 use std::alloc::AllocError;
@@ -14,7 +16,6 @@ pub struct ArcFlow {
 
 impl ArcFlow {
     /// Whether the arc carries more than a fiftieth of a route, and less than all but a fiftieth.
-    /// No contract: a rule of search; any prices are sound.
     pub fn is_divided(self, rise: i64) -> bool {
         let part = rise / 50;
         self.flow > part && self.flow < rise.saturating_sub(part)
@@ -22,7 +23,6 @@ impl ArcFlow {
 
     /// How far the arc is from one half of a route, in grains; somewhat more for an arc of the depot. An
     /// arc that is nearer serves better for branching.
-    /// No contract: a rule of search; any prices are sound.
     pub fn distance_from_half(self, rise: i64) -> u64 {
         let from_half = self.flow.abs_diff(rise / 2);
         if self.arc.from == 0 || self.arc.to == 0 {
@@ -34,7 +34,6 @@ impl ArcFlow {
 }
 
 /// Each arc once, with all that it carries.
-/// No contract: a rule of search; any prices are sound.
 pub fn merge(mut arcs: Vec<ArcFlow>, mut merged: Vec<ArcFlow>) -> Result<Vec<ArcFlow>, AllocError> {
     arcs.sort_by_key(|flow| (flow.arc.from, flow.arc.to))?;
     for flow in &arcs {

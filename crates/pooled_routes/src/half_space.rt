@@ -1,4 +1,6 @@
 //! What a route says of prices.
+//!
+//! No contract speaks of it: it is a rule of search, and any prices are sound.
 
 use crate::fours::Four;
 use crate::pseudocosts::Child;
@@ -26,7 +28,6 @@ pub struct HalfSpace<'r> {
 impl HalfSpace<'_> {
     /// Whether a child by an arc forbids the route: it goes along the arc where that is forbidden, or
     /// leaves or enters a customer of the arc by another one where that is required.
-    /// No contract: a rule of search; any prices are sound.
     pub fn is_forbidden_by(&self, arc: Arc, child: Child) -> bool {
         let mut from = 0;
         for stop in self.stops {

@@ -1,4 +1,6 @@
 //! How prices are judged on the way.
+//!
+//! No contract speaks of it: it is a rule of search, and any prices are sound.
 
 use crate::vehicle_price::VehiclePrice;
 use solomon_reader::Instance;
@@ -22,7 +24,6 @@ fn sum_of(prices: &[i64]) -> i128 {
 
 impl Merit {
     /// The merit by this many routes, at most the fleet.
-    /// No contract: a rule of search; any prices are sound.
     pub fn new(instance: &Instance, routes: u16) -> Merit {
         let fleet = instance.fleet();
         Merit {
@@ -33,13 +34,11 @@ impl Merit {
     }
 
     /// A vehicle's price of 0, which has a part below 0 where the whole fleet counts.
-    /// No contract: a rule of search; any prices are sound.
     pub fn vehicle_price(self) -> VehiclePrice {
         VehiclePrice::new(self.routes == self.fleet)
     }
 
     /// A vehicle's price, from which the next projection starts: the least reduced cost, moved by the rise.
-    /// No contract: a rule of search; any prices are sound.
     pub fn start(self, vehicle_price: VehiclePrice, least: i128, rise: i64) -> VehiclePrice {
         let most = i128::from(i64::MAX);
         let least = least.clamp(-most, most) as i64;
@@ -50,7 +49,6 @@ impl Merit {
     }
 
     /// The merit of prices with this least reduced cost, in grains.
-    /// No contract: a rule of search; any prices are sound.
     pub fn of(self, prices: &[i64], least: i128) -> i128 {
         let gain = least.max(0).saturating_mul(i128::from(self.fewest_routes));
         let loss = least.min(0).saturating_mul(i128::from(self.routes));
@@ -58,7 +56,6 @@ impl Merit {
     }
 
     /// The merit that prices would have if no route's reduced cost were below a vehicle's price, in grains.
-    /// No contract: a rule of search; any prices are sound.
     pub fn promised(self, prices: &[i64], vehicle_price: VehiclePrice) -> i128 {
         let gain = i128::from(vehicle_price.above.value).saturating_mul(i128::from(
             self.fewest_routes,

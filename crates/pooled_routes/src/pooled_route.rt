@@ -1,4 +1,6 @@
 //! A route as a bound on prices.
+//!
+//! No contract speaks of it: it is a rule of search, and any prices are sound.
 
 use crate::arc_flow::ArcFlow;
 use crate::fours::{Four, fours_of};
@@ -44,7 +46,6 @@ pub struct PooledRoute {
 }
 
 /// The cost of an arc in grains, 0 where the instance has no such rows.
-/// No contract: a rule of search; any prices are sound.
 pub fn arc_cost(instance: &Instance, from: u16, to: u16) -> i64 {
     let last = instance.customer_count();
     if from > last || to > last {
@@ -55,7 +56,6 @@ pub fn arc_cost(instance: &Instance, from: u16, to: u16) -> i64 {
 }
 
 /// The cost of a route in grains.
-/// No contract: a rule of search; any prices are sound.
 pub fn cost_of(instance: &Instance, stops: &[u16]) -> i64 {
     let mut cost: i64 = 0;
     let mut from = 0;
@@ -94,7 +94,6 @@ fn are_allowed(rows: &[CustomerSet], stops: &[u16]) -> bool {
 
 impl PooledRoute {
     /// A route that was met as the one of this number, at this pricing.
-    /// No contract: a rule of search; any prices are sound.
     pub fn new(
         alloc: Global,
         instance: &Instance,
@@ -115,7 +114,6 @@ impl PooledRoute {
     }
 
     /// How much of the rise the multiplier is.
-    /// No contract: a rule of search; any prices are sound.
     pub fn share(&self, rise: i64) -> RouteShare {
         RouteShare {
             number: self.number,
@@ -125,7 +123,6 @@ impl PooledRoute {
 
     /// Takes the multiplier that the route has among these shares of the rise, which stand by number, or
     /// none.
-    /// No contract: a rule of search; any prices are sound.
     pub fn take_share(&mut self, shares: &[RouteShare], rise: i64) {
         let place = shares.partition_point(|share| share.number < self.number);
         self.multiplier = match shares.get(place) {
@@ -136,7 +133,6 @@ impl PooledRoute {
 
     /// Whether the route is to make room before another one: it has the lower multiplier, or was of
     /// use longer ago.
-    /// No contract: a rule of search; any prices are sound.
     pub fn yields_to(&self, other: &PooledRoute) -> bool {
         self.multiplier < other.multiplier
             || self.multiplier == other.multiplier && self.last_use < other.last_use
@@ -144,7 +140,6 @@ impl PooledRoute {
 
     /// Lets the route count only where each of its arcs is one of these, from each row to those that may
     /// follow on it.
-    /// No contract: a rule of search; any prices are sound.
     pub fn enter(&mut self, rows: &[CustomerSet]) {
         self.is_allowed = are_allowed(rows, self.stops.as_slice());
         if !self.is_allowed {
@@ -153,7 +148,6 @@ impl PooledRoute {
     }
 
     /// What the route says of prices, which stands at this place of its pool.
-    /// No contract: a rule of search; any prices are sound.
     pub fn half_space(&self, place: usize) -> HalfSpace<'_> {
         HalfSpace {
             stops: self.stops.as_slice(),
@@ -167,7 +161,6 @@ impl PooledRoute {
     }
 
     /// Measures the multiplier by another rise.
-    /// No contract: a rule of search; any prices are sound.
     pub fn scale(&mut self, old: i64, new: i64, pricing: u64) {
         if self.multiplier > 0 {
             self.last_use = pricing;
@@ -176,7 +169,6 @@ impl PooledRoute {
     }
 
     /// Adds the route's arcs with what each carries of the multiplier.
-    /// No contract: a rule of search; any prices are sound.
     pub fn push_arcs(&self, arcs: &mut Vec<ArcFlow>) -> Result<(), AllocError> {
         let flow = self.multiplier;
         let mut from = 0;

@@ -1,4 +1,6 @@
 //! The projection of prices onto what routes say.
+//!
+//! No contract speaks of it: it is a rule of search, and any prices are sound.
 
 use crate::half_space::HalfSpace;
 use crate::sweeps::Sweeps;
@@ -87,7 +89,6 @@ impl<'r> Projection<'r> {
     /// Projects a trial onto what all routes say, nearly, from where the multipliers lead, by at most so
     /// many sweeps. Most routes don't bind, so sweeps go only over those that did or were violated. Where
     /// memory is refused, the multipliers stay as they were.
-    /// No contract: a rule of search; any prices are sound.
     pub fn project(
         &mut self,
         alloc: Global,

@@ -1,4 +1,6 @@
 //! How far the merit rose below arcs that leaves were split on.
+//!
+//! No contract speaks of it: it is a rule of search, and any prices are sound.
 
 use branching::Arc;
 use std::alloc::{AllocError, Global};
@@ -36,7 +38,6 @@ pub struct Pseudocosts {
 
 impl Pseudocosts {
     /// Without any rises.
-    /// No contract: a rule of search; any prices are sound.
     pub fn new(alloc: Global) -> Pseudocosts {
         Pseudocosts {
             rises: Vec::new(alloc),
@@ -51,7 +52,6 @@ impl Pseudocosts {
     }
 
     /// The mean rise in grains, if one was seen.
-    /// No contract: a rule of search; any prices are sound.
     pub fn mean(&self, arc: Arc, child: Child) -> Option<i128> {
         let seen = self.rises.get(self.place(arc, child))?;
         if seen.arc == arc && seen.child == child {
@@ -62,13 +62,11 @@ impl Pseudocosts {
     }
 
     /// Whether rises were seen in both children by an arc.
-    /// No contract: a rule of search; any prices are sound.
     pub fn knows(&self, arc: Arc) -> bool {
         self.mean(arc, Child::Used).is_some() && self.mean(arc, Child::Unused).is_some()
     }
 
     /// Takes in a rise in grains.
-    /// No contract: a rule of search; any prices are sound.
     pub fn note(&mut self, arc: Arc, child: Child, rise: i128) -> Result<(), AllocError> {
         let place = self.place(arc, child);
         match self.rises.get_mut(place) {

@@ -1,4 +1,6 @@
 //! Prices on their way to the next pricing.
+//!
+//! But for the range of prices no contract speaks of it: it is a rule of search, and any prices are sound.
 
 ghost use Rattle.std.specs.Prelude.{◌≡◌, length, IfOk};
 ghost use Rattle.std.specs.List.{AllByRecursion};
@@ -20,7 +22,6 @@ pub struct Trial {
 
 impl Trial {
     /// These prices, that of customer i at i - 1, each of them this much higher.
-    /// No contract: a rule of search; any prices are sound.
     pub fn new(
         alloc: Global,
         prices: &[i64],
@@ -39,7 +40,6 @@ impl Trial {
     }
 
     /// The cost of a route less the prices of its stops, in grains.
-    /// No contract: a rule of search; any prices are sound.
     #[inline(always)]
     pub fn reduced_cost(&self, stops: &[Four], cost: i64) -> i64 {
         reduced(self.prices.as_slice(), stops, cost)

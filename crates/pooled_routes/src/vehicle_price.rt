@@ -1,4 +1,6 @@
 //! The price of a vehicle.
+//!
+//! No contract speaks of it: it is a rule of search, and any prices are sound.
 
 /// A number that is to be at least 0, in grains, with the multiplier that holds it there.
 #[derive(Clone, Copy)]
@@ -34,7 +36,6 @@ impl Part {
 }
 
 /// A multiplier after the rise by which it is measured has changed.
-/// No contract: a rule of search; any prices are sound.
 pub fn scaled(multiplier: i64, old: i64, new: i64) -> i64 {
     if multiplier == 0 {
         return 0;
@@ -54,7 +55,6 @@ pub struct VehiclePrice {
 
 impl VehiclePrice {
     /// A price of 0, which has a part below 0 or not.
-    /// No contract: a rule of search; any prices are sound.
     pub fn new(has_below: bool) -> VehiclePrice {
         let zero = Part {
             value: 0,
@@ -80,7 +80,6 @@ impl VehiclePrice {
     }
 
     /// The price in grains.
-    /// No contract: a rule of search; any prices are sound.
     pub fn value(self) -> i64 {
         self.above.value.saturating_sub(self.below())
     }
@@ -95,7 +94,6 @@ impl VehiclePrice {
     }
 
     /// The price after the rise has changed.
-    /// No contract: a rule of search; any prices are sound.
     pub fn scaled(self, old: i64, new: i64) -> VehiclePrice {
         VehiclePrice {
             above: self.above.scaled(old, new),

@@ -1,4 +1,6 @@
 //! The search.
+//!
+//! No contract speaks of it: it is a rule of search, and who takes its routes checks them.
 
 use crate::cooling::Progress;
 use crate::rule::Rule;
@@ -42,7 +44,6 @@ pub struct RuinSearch<'i> {
 
 impl<'i> RuinSearch<'i> {
     /// The search for an instance, without routes yet. All memory that trials need is taken here.
-    /// No contract: a rule of search; who takes its routes checks them.
     pub fn new(alloc: Global, instance: &'i Instance) -> Result<RuinSearch<'i>, AllocError> {
         let rows = usize::from(instance.customer_count());
         Ok(RuinSearch {
@@ -75,7 +76,6 @@ impl<'i> RuinSearch<'i> {
     /// Goes on from these routes, each its customers in order. Customers that stand in none, or whose place
     /// doesn't fit, are absent. Forgets the cheapest plan, and begins with this one where it is whole. The
     /// temperature stays.
-    /// No contract: a rule of search; who takes its routes checks them.
     pub fn begin_with(&mut self, routes: &[Vec<u16>]) {
         self.trials.plan.clear();
         for route in routes {
@@ -115,7 +115,6 @@ impl<'i> RuinSearch<'i> {
     /// Makes trials until this many steps are done, slots and places seen; each trial counts as one step at
     /// least. Meanwhile the run goes from the first progress to the second, and the temperature with it: from
     /// the first whole plan on it falls twice.
-    /// No contract: a rule of search; who takes its routes checks them.
     pub fn search<R: Rng>(&mut self, random: &mut R, work: u64, from: Progress, to: Progress) {
         self.trials.plan.steps = 0;
         for _ in 0..work {
@@ -137,13 +136,11 @@ impl<'i> RuinSearch<'i> {
     }
 
     /// The cost of the cheapest whole plan that has been met, in tenths.
-    /// No contract: a rule of search; who takes its routes checks them.
     pub fn least_cost(&self) -> Option<u64> {
         self.least.map(|cost| cost.unsigned_abs())
     }
 
     /// The routes of the cheapest whole plan that has been met, each its customers in order.
-    /// No contract: a rule of search; who takes its routes checks them.
     pub fn least_routes(&self, alloc: Global) -> Result<Option<Vec<Vec<u16>>>, AllocError> {
         if self.least.is_none() {
             return Ok(None);
