@@ -11,7 +11,8 @@ use Rattle.solomon_reader.specs.Problem.{IsCustomer, demand, due}
 use Rattle.solomon_reader.specs.States.{Pricing, State, begins, step, Completes, value_with}
 use Rattle.fronts.specs.declared.front.Front.{Front}
 use Rattle.completions.specs.declared.bound.Bound.{Bound}
-use Rattle.completions.specs.Completions.{most_paid, Holds, IsFrom, IsBound, StartsIn, IsBoundAmong, IsBoundWith, IsOnward, IsBelowStep, IsJoined}
+use Rattle.completions.specs.declared.brink.Brink.{Brink}
+use Rattle.completions.specs.Completions.{most_paid, IsSmall, Holds, IsFrom, IsBound, StartsIn, IsBoundAmong, IsEndBound, IsBoundWith, IsOnward, IsBelowStep, IsJoined, IsBrink, IsNoNews}
 use Rattle.fronts.specs.Fronts.{bare_state, IsTask, IsAfter}
 use Rattle.solomon_reader.specs.Memories.{place_of}
 use Rattle.solomon_reader.proofs.Places.{near_at}
@@ -93,7 +94,10 @@ module _ (q : Pricing) (task : IsTask q.problem q.region q.prices) (held : q.pro
             least = reach out.least joined.step_least a s from h;
             other = λ apart. elim joined.other [
               | inl next_is ↦ absurd (apart (sym next_is.0))
-              | inr kept ↦ reach out.other kept.1.1 a s from h
+              | inr kept ↦ elim kept.1.1 [
+                | inl next_is ↦ absurd (apart (omega (arith, next_is, kept.0)))
+                | inr below ↦ reach out.other below a s from h
+              ]
             ];
           }
 
@@ -109,6 +113,28 @@ module _ (q : Pricing) (task : IsTask q.problem q.region q.prices) (held : q.pro
 
       pub bound_yes : IsBoundWith q v t d j b out
       bound_yes = record { small = joined.small; older = older; on = at_step }
+
+    -- a step that brings no news
+    pub bound_same : (j : ℕ) (b : Bound) (next : Front) → IsAfter q.problem q.prices f j next → IsSmall b → IsNoNews q j next b → IsBoundWith q v t d j b b
+    bound_same j b next after small none = record { small = small; older = λ a s h. h; on = on }
+      where
+        on_from : (a : State) → IsFrom v t d a → IsFrom j next.time 0 (step q a j)
+        on_from a from = record {
+          last = refl;
+          later = omega (arith, after.time, begins_no_later a j from.last from.later);
+          heavier = omega arith;
+          remembered = or_left (eqb j j) _ (eq-eqb j j refl);
+        }
+
+        on : (a : State) (s : List ℕ) → IsFrom v t d a → Completes q a (j ∷ s) → Holds q a (j ∷ s) b
+        on a s from h =
+            let far : distance q.problem a.last j ≡ distance q.problem f.last j =
+            omega (arith, ap (λ (i : ℕ). distance q.problem i j) from.last, ap (λ (i : ℕ). distance q.problem i j) last_is) in
+            record {
+              room = omega (arith, none.room (step q a j) s (on_from a from) h.1, after.load, load, sum_by-cons (demand q.problem) j s);
+              least = omega (arith, ints, none.least (step q a j) s (on_from a from) h.1, after.cost, cost, far);
+              other = λ _. omega (arith, ints, none.other (step q a j) s (on_from a from) h.1, after.cost, cost, far);
+            }
 
   pub bound_more : (v t d j : ℕ) (P Q : ℕ → Type 0) (b out : Bound) → ((i : ℕ) → Q i → P i ⊎ (i ≡ j))
       → IsBoundAmong q v t d P b → IsBoundWith q v t d j b out → IsBoundAmong q v t d Q out
@@ -141,6 +167,42 @@ module _ (q : Pricing) (task : IsTask q.problem q.region q.prices) (held : q.pro
           so_far.holds a (i ∷ s) from (reached i h.0.customer (rw from.last at (can_reach q a i h.0)) (rw from.last at h.0.allowed) soon) h
 
 module _ (q : Pricing) where
+  -- what bounds the end, and is no more than a seed
+  pub seeded : (v t d : ℕ) (seed end out : Bound) → IsSmall seed → IsSmall out → out.room ≡ seed.room → out.least ≤ℤ end.least → out.other ≤ℤ end.least
+      → IsEndBound q v t d end → IsEndBound q v t d out
+  seeded v t d seed end out small_seed small room least other is_end = record { small = small; holds = holds }
+    where
+      holds : (a : State) (s : List ℕ) → IsFrom v t d a → StartsIn (λ _. ⊥) s → Completes q a s → Holds q a s out
+      holds a [] from starts h = record {
+        room = omega arith;
+        least = omega (arith, ints, (is_end.holds a [] from tt h).least, least);
+        other = λ _. omega (arith, ints, (is_end.holds a [] from tt h).least, other);
+      }
+      holds a (i ∷ s) from starts h = absurd starts
+
+  pub brink_of : (v t : ℕ) (b : Bound) (z : ℤ) → z ≡ b.least → IsBound q v t 0 b → IsBrink q (record { least = z; from = t; row = v; room = b.room })
+  brink_of v t b z is h = rw is (record {
+    cut = h.small.least;
+    room = λ a s from c. (h.holds a s from c).room;
+    least = λ a s from c. (h.holds a s from c).least;
+  })
+
+  pub no_news : (j : ℕ) (f : Front) (b : Bound) (k : Brink) → IsBrink q k → k.row ≡ j → k.from ≤ f.time → f.load + k.room ≤ b.room
+      → b.least ≤ℤ (f.cost +ℤ k.least) → b.other ≤ℤ (f.cost +ℤ k.least) → IsNoNews q j f b
+  no_news j f b k is row soon room least other = record {
+    room = λ a s from c. omega (arith, is.room a s (on a from) c, room);
+    least = λ a s from c. omega (arith, ints, is.least a s (on a from) c, least);
+    other = λ a s from c. omega (arith, ints, is.least a s (on a from) c, other);
+  }
+    where
+      on : (a : State) → IsFrom j f.time 0 a → IsFrom k.row k.from 0 a
+      on a from = record {
+        last = omega (arith, from.last, row);
+        later = omega (arith, from.later, soon);
+        heavier = from.heavier;
+        remembered = rw row from.remembered;
+      }
+
   pub onward_other : (v j t d : ℕ) (on : Bound) (z : ℤ) → z ≡ on.other → on.next ≡ v → place_of q.problem q.neighbours j v < 16 → IsBound q j t d on → IsOnward q v j t d z
   onward_other v j t d on z is next low h = rw is (record {
     cut = h.small.other;

@@ -3,10 +3,12 @@ use Rattle.std.specs.Prelude.{◌≡◌, ℕ, ◌+◌, ◌*◌, ◌≤◌, List,
 use Rattle.solomon_reader.specs.declared.limits.TheConstants.{MOST_PRICE, MOST_CAPACITY}
 use Rattle.solomon_reader.specs.Plan.{load_of}
 use Rattle.fronts.specs.Tables.{IsTable}
+use Rattle.fronts.specs.declared.front.Front.{Front}
 use Rattle.solomon_reader.specs.Problem.{ready, service}
 use Rattle.solomon_reader.specs.States.{Pricing, State, step, CanStep, Completes, value_with, StartsWith}
 use Rattle.completions.specs.declared.bound.Bound.{Bound}
 use Rattle.completions.specs.declared.bound.RowBound.{RowBound}
+use Rattle.completions.specs.declared.brink.Brink.{Brink}
 use Rattle.completions.specs.declared.part.Part.{Part}
 
 -- all prices of the customers of one vehicle together
@@ -81,7 +83,19 @@ pub record IsJoined (b : Bound) (j load : ℕ) (cost : ℤ) (most : ℕ) (low : 
   pub least : out.least ≤ℤ b.least
   pub step_room : (x : ℕ) → x ≤ load + most → x ≤ MOST_CAPACITY → x ≤ out.room
   pub step_least : IsBelowStep cost low out.least
-  pub other : ((out.next ≡ j) × (out.other ≤ℤ b.least)) ⊎ ((out.next ≡ b.next) × ((out.other ≤ℤ b.other) × IsBelowStep cost low out.other))
+  pub other : ((out.next ≡ j) × (out.other ≤ℤ b.least)) ⊎ ((out.next ≡ b.next) × ((out.other ≤ℤ b.other) × ((j ≡ b.next) ⊎ IsBelowStep cost low out.other)))
+
+-- what is added is no less than the least, and what is loaded no more than the room
+pub record IsBrink (q : Pricing) (b : Brink) : Type 0 where
+  pub cut : IsCut b.least
+  pub room : (a : State) (s : List ℕ) → IsFrom b.row b.from 0 a → Completes q a s → load_of q.problem s ≤ b.room
+  pub least : (a : State) (s : List ℕ) → IsFrom b.row b.from 0 a → Completes q a s → (a.cost +ℤ b.least) ≤ℤ value_with q a s
+
+-- the bound says as little as what follows on a visit of j that ends when the front does or later, with what the front has loaded and cost
+pub record IsNoNews (q : Pricing) (j : ℕ) (f : Front) (b : Bound) : Type 0 where
+  pub room : (a : State) (s : List ℕ) → IsFrom j f.time 0 a → Completes q a s → f.load + load_of q.problem s ≤ b.room
+  pub least : (a : State) (s : List ℕ) → IsFrom j f.time 0 a → Completes q a s → (a.cost +ℤ b.least) ≤ℤ (f.cost +ℤ value_with q a s)
+  pub other : (a : State) (s : List ℕ) → IsFrom j f.time 0 a → Completes q a s → (a.cost +ℤ b.other) ≤ℤ (f.cost +ℤ value_with q a s)
 
 -- what follows on any visit of v that ends at t or later adds no less than z
 pub record IsVisitBound (q : Pricing) (t v : ℕ) (z : ℤ) : Type 0 where

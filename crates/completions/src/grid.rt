@@ -81,6 +81,23 @@ impl<'t> Grid<'t> {
         }
     }
 
+    /// The place of a row's bound in the next slot, where that is what a bound begins as. No contract: a bound may begin
+    /// as any other one.
+    pub(crate) fn later(self, place: usize) -> usize {
+        match self {
+            Grid::Times(_) => place.wrapping_sub(1),
+            Grid::Loads(..) => usize::MAX,
+        }
+    }
+
+    /// For how many rows it is noted what follows on a visit. No contract: what is noted says itself what it bounds.
+    pub(crate) fn noted(self, instance: &Instance) -> usize {
+        match self {
+            Grid::Times(_) => usize::from(instance.customer_count()) + 1,
+            Grid::Loads(..) => 0,
+        }
+    }
+
     /// The last slot.
     pub(crate) fn last(self) -> u32 {
         match self {

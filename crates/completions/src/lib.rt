@@ -2,6 +2,7 @@
 #![tactic(auto)]
 
 mod bound;
+mod brink;
 mod grid;
 mod part;
 mod table;

@@ -6,13 +6,14 @@ ghost use Rattle.std.specs.Prelude.{◌≡◌, ◌+◌, ◌*◌, ◌<◌, ◌≤
 ghost use Rattle.std.specs.List.{All};
 ghost use Rattle.solomon_reader.specs.declared.limits.TheConstants.{MOST_TIME, MOST_CAPACITY};
 ghost use Rattle.solomon_reader.specs.States.{CanEnd, most_grains};
-ghost use Rattle.completions.specs.Completions.{most_paid, IsCut, IsSmall, IsBound, IsEndBound, IsBoundWith, IsRowBound, IsOnward, IsBelowStep, IsJoined, AreVisitBounds, IsPart};
+ghost use Rattle.completions.specs.Completions.{most_paid, IsCut, IsSmall, IsBound, IsEndBound, IsBoundWith, IsRowBound, IsOnward, IsBelowStep, IsJoined, IsBrink, AreVisitBounds, IsPart};
 ghost use Rattle.fronts.specs.Fronts.{bare_state, IsBounded};
 ghost use Rattle.fronts.specs.Steps.{IsOpenStep};
 ghost use Rattle.fronts.specs.Tables.{IsAllowedRow};
 ghost use Rattle.fronts.specs.Tasks.{pricing_of};
 
 use crate::bound::{Bound, RowBound};
+use crate::brink::{Brink, is_no_news};
 use crate::grid::{Corner, Grid, Loads};
 use crate::part::{Part, part_length, parts_of};
 use fronts::{CustomerSet, Front, Step, Task};
@@ -113,6 +114,19 @@ fn next_of(bound: &Bound, j: u16, value: i64) -> u16
     if value < bound.least { j } else { bound.next }
 }
 
+/// What is no more than the least without the next customer, and where customer j is another one, than the lesser of a
+/// bound's least and of what a step to j adds.
+fn other_of(bound: &Bound, j: u16, value: i64) -> i64
+    ensures { let b = bound.now in
+        ((j ≡ b.next) × (result ≡ b.other))
+        ⊎ (((b.least ≤ℤ result) × (value ≤ℤ result)) × ((result ≡ b.least) ⊎ (result ≡ value))) }
+{
+    if j == bound.next {
+        return bound.other;
+    }
+    greater(bound.least, value)
+}
+
 /// What bounds both what a bound does, and a step to customer j of this load and cost with what follows
 /// on it. It has no branch: mostly none can be foreseen.
 fn joined(bound: Bound, j: u16, next: &Front, room: u16, least: i64) -> Bound
@@ -130,7 +144,7 @@ fn joined(bound: Bound, j: u16, next: &Front, room: u16, least: i64) -> Bound
         room: bound.room.max(room),
         next: next_of(&bound, j, value),
         least: lesser(bound.least, value),
-        other: lesser(bound.other, greater(bound.least, value)),
+        other: lesser(bound.other, other_of(&bound, j, value)),
     }
 }
 
@@ -169,12 +183,14 @@ fn with_step(
     task: &Task<'_>,
     grid: Grid<'_>,
     bounds: &[RowBound],
+    brinks: &[Brink],
     front: &Front,
     load: u32,
     step: &Step,
     bound: Bound,
 ) -> Bound
     requires bounds { All (IsRowBound (pricing_of task.now)) bounds.now }
+    requires brinks { All (IsBrink (pricing_of task.now)) brinks.now }
     requires bounded { IsBounded task.now.instance.now front.now }
     requires empty { front.now.load ≡ 0 }
     requires cost { front.now.cost ≡ pos 0 }
@@ -185,15 +201,32 @@ fn with_step(
     ensures { let f = front.now in
         IsBoundWith (pricing_of task.now) f.last f.time load step.now.customer bound result }
 {
+    let next = task.after(front, step);
+    if is_no_news(task, brinks, &next, step, &bound) {
+        return bound;
+    }
     let load = load + u32::from(step.demand);
     if load > u32::from(task.instance.capacity()) {
         return bound;
     }
-    let next = task.after(front, step);
     let place = grid.place_after(step, next.time, load);
     let on = bound_in(task, bounds, place, step.customer, next.time, load);
     let least = least_onward(task, on, front.last, step, next.time, load);
     joined(bound, step.customer, &next, on.room, least)
+}
+
+/// What bounds the end at a front, as another bound does, and is no more than a seed.
+fn with_seed(task: &Task<'_>, front: &Front, end: Bound, seed: Bound) -> Bound
+    requires end { (d : ℕ) → IsEndBound (pricing_of task.now) front.now.last front.now.time d end }
+    requires seed { IsSmall seed }
+    ensures { (d : ℕ) → IsEndBound (pricing_of task.now) front.now.last front.now.time d result }
+{
+    Bound {
+        room: seed.room,
+        next: next_of(&seed, 0, end.least),
+        least: lesser(seed.least, end.least),
+        other: lesser(seed.other, end.least),
+    }
 }
 
 /// What bounds all that may follow from a row from there on, and how many customers were looked at.
@@ -201,10 +234,14 @@ fn bound_from(
     task: &Task<'_>,
     grid: Grid<'_>,
     bounds: &[RowBound],
+    brinks: &[Brink],
     v: u16,
     corner: Corner,
+    seed: Bound,
 ) -> (Bound, u64)
     requires bounds { All (IsRowBound (pricing_of task.now)) bounds.now }
+    requires brinks { All (IsBrink (pricing_of task.now)) brinks.now }
+    requires seed { IsSmall seed }
     requires v { v < length task.now.instance.now.rows }
     requires from { corner.from ≤ 20 * MOST_TIME }
     requires load { corner.load ≤ MOST_CAPACITY }
@@ -219,29 +256,77 @@ fn bound_from(
         cost: 0,
     };
     let load = u32::from(corner.load);
-    let mut bound = end_bound(task, &front, rows);
+    let end = end_bound(task, &front, rows);
+    let mut bound = with_seed(task, &front, end, seed);
     let mut looks: u64 = 0;
     for step in task.steps_from(v) {
         if step.is_late(front.time) {
             return (bound, looks);
         }
-        bound = with_step(task, grid, bounds, &front, load, step, bound);
+        bound = with_step(task, grid, bounds, brinks, &front, load, step, bound);
         looks = looks.saturating_add(1);
     }
     (bound, looks)
 }
 
+/// What the bound of a row begins as: what it is in the next slot, at a place, or what leaves nothing out. Any bound
+/// serves. The task is named by the contract alone.
+fn seed_at(_task: &Task<'_>, bounds: &[RowBound], place: usize, v: u16) -> Bound
+    requires { All (IsRowBound (pricing_of _task.now)) bounds.now }
+    ensures { IsSmall result }
+{
+    if place < bounds.len() && bounds[place].row == v {
+        return bounds[place].bound;
+    }
+    Bound {
+        room: 0,
+        next: 0,
+        least: MOST_PAID,
+        other: MOST_PAID,
+    }
+}
+
+/// Notes what follows on a visit of a row that ends at the corner or later, if it bounds each load. The task is named
+/// by the contract alone.
+fn note(_task: &Task<'_>, brinks: &mut [Brink], bound: &Bound, v: u16, corner: Corner)
+    requires brinks { All (IsBrink (pricing_of _task.now)) brinks.old }
+    requires bound { IsBound (pricing_of _task.now) v corner.from corner.load bound.now }
+    ensures { All (IsBrink (pricing_of _task.now)) brinks.new }
+{
+    let row = usize::from(v);
+    if corner.load > 0 || row >= brinks.len() {
+        return;
+    }
+    brinks[row] = Brink {
+        least: bound.least,
+        from: corner.from,
+        row: v,
+        room: bound.room,
+    };
+}
+
 /// Puts in the bounds of a customer in a slot, if it has some, and says how many customers were looked at.
-fn fill_at(task: &Task<'_>, grid: Grid<'_>, bounds: &mut [RowBound], v: u16, slot: u32) -> u64
+fn fill_at(
+    task: &Task<'_>,
+    grid: Grid<'_>,
+    bounds: &mut [RowBound],
+    brinks: &mut [Brink],
+    v: u16,
+    slot: u32,
+) -> u64
     requires bounds { All (IsRowBound (pricing_of task.now)) bounds.old }
+    requires brinks { All (IsBrink (pricing_of task.now)) brinks.old }
     requires v { v < length task.now.instance.now.rows }
-    ensures { All (IsRowBound (pricing_of task.now)) bounds.new }
+    ensures bounds { All (IsRowBound (pricing_of task.now)) bounds.new }
+    ensures brinks { All (IsBrink (pricing_of task.now)) brinks.new }
 {
     let Some(corner) = grid.corner(v, slot) else {
         return 0;
     };
-    let (bound, looks) = bound_from(task, grid, bounds, v, corner);
     let place = grid.place(v, u64::from(corner.from), u32::from(corner.load));
+    let seed = seed_at(task, bounds, grid.later(place), v);
+    let (bound, looks) = bound_from(task, grid, bounds, brinks, v, corner, seed);
+    note(task, brinks, &bound, v, corner);
     if place < bounds.len() {
         bounds[place] = RowBound {
             bound,
@@ -254,27 +339,36 @@ fn fill_at(task: &Task<'_>, grid: Grid<'_>, bounds: &mut [RowBound], v: u16, slo
 }
 
 /// Puts in the bounds of all customers in a slot, and says how many customers were looked at.
-fn fill_slot(task: &Task<'_>, grid: Grid<'_>, bounds: &mut [RowBound], slot: u32) -> u64
-    requires { All (IsRowBound (pricing_of task.now)) bounds.old }
-    ensures { All (IsRowBound (pricing_of task.now)) bounds.new }
+fn fill_slot(
+    task: &Task<'_>,
+    grid: Grid<'_>,
+    bounds: &mut [RowBound],
+    brinks: &mut [Brink],
+    slot: u32,
+) -> u64
+    requires bounds { All (IsRowBound (pricing_of task.now)) bounds.old }
+    requires brinks { All (IsBrink (pricing_of task.now)) brinks.old }
+    ensures bounds { All (IsRowBound (pricing_of task.now)) bounds.new }
+    ensures brinks { All (IsBrink (pricing_of task.now)) brinks.new }
 {
     let mut looks: u64 = 0;
     for v in 1..task.instance.customer_count() + 1 {
-        looks = looks.saturating_add(fill_at(task, grid, bounds, v, slot));
+        looks = looks.saturating_add(fill_at(task, grid, bounds, brinks, v, slot));
     }
     looks
 }
 
 /// Puts in all bounds, those of the last slot first, and says how many customers were looked at.
-fn fill(task: &Task<'_>, grid: Grid<'_>, bounds: &mut [RowBound]) -> u64
-    requires { All (IsRowBound (pricing_of task.now)) bounds.old }
+fn fill(task: &Task<'_>, grid: Grid<'_>, bounds: &mut [RowBound], brinks: &mut [Brink]) -> u64
+    requires bounds { All (IsRowBound (pricing_of task.now)) bounds.old }
+    requires brinks { All (IsBrink (pricing_of task.now)) brinks.old }
     ensures { All (IsRowBound (pricing_of task.now)) bounds.new }
 {
     let last = grid.last();
     let mut looks: u64 = 0;
     for past in 0..last.saturating_add(1) {
         let slot = last.saturating_sub(past);
-        looks = looks.saturating_add(fill_slot(task, grid, bounds, slot));
+        looks = looks.saturating_add(fill_slot(task, grid, bounds, brinks, slot));
     }
     looks
 }
@@ -283,14 +377,22 @@ fn fill(task: &Task<'_>, grid: Grid<'_>, bounds: &mut [RowBound]) -> u64
 fn bounds_of(task: &Task<'_>, grid: Grid<'_>) -> Result<(Vec<RowBound>, u64), AllocError>
     ensures { IfOk result (λ b. All (IsRowBound (pricing_of task.now)) b.0.items) }
 {
+    let bound = unknown(task);
+    let unseen = Brink {
+        least: bound.least,
+        from: 0,
+        row: 0,
+        room: bound.room,
+    };
     let nothing = RowBound {
-        bound: unknown(task),
+        bound,
         from: 0,
         row: 0,
         load: 0,
     };
     let mut bounds = vec![in task.alloc; nothing; grid.count(task.instance)]?;
-    let looks = fill(task, grid, bounds.as_mut_slice());
+    let mut brinks = vec![in task.alloc; unseen; grid.noted(task.instance)]?;
+    let looks = fill(task, grid, bounds.as_mut_slice(), brinks.as_mut_slice());
     Ok((bounds, looks))
 }
 

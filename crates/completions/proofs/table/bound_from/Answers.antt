@@ -6,7 +6,7 @@ use Rattle.completions.proofs.table.bound_from.Goals as goal
 pub loop-step-init : goal.loop-step-init
 loop-step-init c =
     bound_fewer _ c.args.task.now.task (omega arith) c.args.v c.from.result c.from-load.result (λ _. ⊥) _ _
-    (λ i h. among_none c.steps_from-step-items.result.now i h) (c.end_bound-bound.ensures c.from-load.result)
+    (λ i h. among_none c.steps_from-step-items.result.now i h) (c.with_seed-bound.ensures c.from-load.result)
 
 pub with_step-bound-requires-clause-step : goal.with_step-bound-requires-clause-step
 with_step-bound-requires-clause-step c = c.steps_from-step-items.ensures.each c.loop-step.step-index _ c.loop-step-test.true

@@ -1,10 +1,22 @@
+use Rattle.std.proofs.Common.{arith}
+use Rattle.std.proofs.lemmas.Int.{ints}
 use Rattle.std.proofs.lemmas.List.Elements.{All-replicate}
-use Rattle.completions.specs.Completions.{IsRowBound}
+use Rattle.completions.specs.Completions.{IsRowBound, IsBrink}
+use Rattle.completions.proofs.Following.{brink_of}
 use Rattle.fronts.specs.Tasks.{pricing_of}
 use Rattle.completions.proofs.table.bounds_of.Goals as goal
 
-pub fill-looks-requires : goal.fill-looks-requires
-fill-looks-requires c =
+pub fill-looks-requires-clause-bounds : goal.fill-looks-requires-clause-bounds
+fill-looks-requires-clause-bounds c =
     let task = c.args.task.now in
     rw (c.as_mut_slice.ensures.value, c.in_ok-bounds.ensures.items_if_clones_equal (λ y h. h))
-    (All-replicate (IsRowBound (pricing_of task)) c.count.result (record { bound = c.unknown.result; from = 0; row = 0; load = 0 }) (c.unknown.ensures 0 0 0))
+    (All-replicate (IsRowBound (pricing_of task)) c.count.result (record { bound = c.unknown-bound.result; from = 0; row = 0; load = 0 }) (c.unknown-bound.ensures 0 0 0))
+
+pub fill-looks-requires-clause-brinks : goal.fill-looks-requires-clause-brinks
+fill-looks-requires-clause-brinks c =
+    let task = c.args.task.now in
+    let bound = c.unknown-bound.result in
+    let least = (c.unknown-bound.ensures 0 0 0).small.least in
+    rw (c.as_mut_slice-2.ensures.value, c.in_ok-brinks.ensures.items_if_clones_equal (λ y h. h))
+    (All-replicate (IsBrink (pricing_of task)) c.noted.result _
+    (brink_of _ 0 0 bound _ (omega (arith, ints, least.low, least.high)) (c.unknown-bound.ensures 0 0 0)))
