@@ -35,8 +35,9 @@ pub const WIDEST: Width = Width {
 /// All of a scale, in millionths.
 pub const WHOLE: i64 = 1_000_000;
 
-/// What is held back of the first prices that are priced exactly, in millionths.
-const FIRST_MARGIN: i64 = 15_000;
+/// What is held back of the first prices that are priced exactly, in millionths: much, since a pricing takes long
+/// where quick searches miss routes that pay far more than they cost.
+const FIRST_MARGIN: i64 = 150_000;
 
 /// An exact pricing is dear where it takes this many times the work of a quick search.
 const QUICK_OF_EXACT: u64 = 8;

@@ -10,6 +10,9 @@ use std::alloc::{AllocError, Global};
 /// The grains of a tenth.
 const GRAINS_OF_TENTH: i64 = 1_000;
 
+/// A wait counts as a way of this part of it: it costs nothing but time.
+const WAIT_PART: u64 = 16;
+
 /// Tenths in grains.
 pub(crate) fn grains(tenths: u64) -> i64 {
     tenths.cast_signed().saturating_mul(GRAINS_OF_TENTH)
@@ -25,7 +28,7 @@ pub(crate) struct LikelyStep {
     /// When service may begin, and how long it is, in tenths.
     ready: u64,
     service: u64,
-    /// What the way and the wait take in the best case, in grains.
+    /// What the way takes, and a part of what the wait does in the best case, in grains.
     far: i64,
     /// What the step adds to the reduced cost at the prices chosen last, in grains.
     pub(crate) cost: i64,
@@ -85,7 +88,7 @@ fn step_to(task: &Task<'_>, v: u16, customer: u16) -> Option<LikelyStep>
         way,
         ready: instance.ready(customer),
         service: instance.service(customer),
-        far: grains(way.saturating_add(wait)),
+        far: grains(way.saturating_add(wait / WAIT_PART)),
         cost: grains(way),
         customer,
         demand: u32::from(instance.demand(customer)),
