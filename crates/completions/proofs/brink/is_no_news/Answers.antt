@@ -10,5 +10,5 @@ returns c =
     let low = brink.cut.low in
     let high = brink.cut.high in
     λ _. no_news (pricing_of c.args._task.now) c.args.step.now.customer c.args.next.now c.args.bound.now _ brink (omega arith) (omega arith) (omega arith)
-        (omega (arith, ints, low, high, c.requires.low, c.requires.high))
-        (omega (arith, ints, low, high, c.requires.low, c.requires.high))
+    (omega (arith, ints, low, high, c.requires.low, c.requires.high))
+    (omega (arith, ints, low, high, c.requires.low, c.requires.high))
