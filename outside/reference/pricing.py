@@ -4,7 +4,7 @@ from heapq import heappop, heappush
 
 from reference.bounding import Region, neighbour_lists
 
-# How many labels a leaf may have.
+# How many labels a leaf may have, unless more are allowed.
 MOST_LABELS = 200_000
 
 # How many slots of time there may be; with more, none are made.
@@ -18,10 +18,11 @@ class TooMany(Exception):
 
 
 class Pricing:
-    """What all leaves of a tree have in common: neighbour lists as bits, and the tree's version."""
+    """What all leaves of a tree have in common: neighbour lists as bits, the tree's version, and how many labels a leaf
+    may have."""
 
-    def __init__(self, instance, neighbours, version):
-        self.instance, self.version = instance, version
+    def __init__(self, instance, neighbours, version, most_labels=MOST_LABELS):
+        self.instance, self.version, self.most_labels = instance, version, most_labels
         self.bits = [sum(1 << u for u in near) for near in neighbour_lists(instance, neighbours)]
         self.slot = min((instance.service(i) + instance.arc[i][j] for i in range(1, instance.count + 1)
                          for j in range(1, instance.count + 1) if i != j), default=instance.due(0) + 1)
@@ -64,7 +65,7 @@ class Pricing:
                 if least < found and self.keep(held[j], label):
                     heappush(waiting, (least, *label, j))
                     count += 1
-                    if count > MOST_LABELS:
+                    if count > self.most_labels:
                         raise TooMany
         return None if found == NEVER else found
 

@@ -2,7 +2,7 @@
 import os
 from multiprocessing import Pool
 
-from reference.pricing import Pricing, leaves
+from reference.pricing import MOST_LABELS, Pricing, leaves
 from reference.texts import shown
 from tools.plans import certificate_of
 from tools.stopping import end_by_signals
@@ -35,9 +35,9 @@ class Leaf:
         return self.pricing.value(*leaf)
 
 
-def values_of(instance, certificate, jobs, head):
+def values_of(instance, certificate, jobs, head, most_labels):
     """The values of the leaves in preorder, None where a leaf has too many labels; it is told how far that is."""
-    pricing = Pricing(instance, certificate.neighbours, certificate.version)
+    pricing = Pricing(instance, certificate.neighbours, certificate.version, most_labels)
     found, telling = [], Telling(head)
     rest = list(leaves(instance.count, certificate.tree))
     end_by_signals()
@@ -54,11 +54,11 @@ def values_of(instance, certificate, jobs, head):
     return found
 
 
-def certified(instance, path, jobs=None, head=""):
+def certified(instance, path, jobs=None, head="", most_labels=MOST_LABELS):
     """The certificate, and the values of its leaves. One of another instance is refused, and one whose bound isn't its
     tree's."""
     certificate = of_instance(instance, path)
-    values = values_of(instance, certificate, jobs, head)
+    values = values_of(instance, certificate, jobs, head, most_labels)
     least = min([value for value in values if value is not None] + [instance.ceiling() + 1])
     if least < certificate.bound or least > certificate.bound and None not in values:
         refuse_bound(path, certificate.bound, least)
