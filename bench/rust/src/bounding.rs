@@ -1,10 +1,10 @@
-//! The tree of one bound worker, as `worker_turns` grows it by itself.
+//! The tree of bound workers, as `worker_turns` grows it: one by itself, or several in the order of their looks.
 
 use crate::fronts::Nearness;
 use crate::insertion::{Weights, build_whole};
 use crate::leaf_work::{Effort, goal_of};
 use crate::price_ascent::{
-    ChildStart, Goal, Raised, RoutePool, branch, counted_routes, raise, start_from, start_without_plan,
+    ChildStart, Children, Goal, Raised, RoutePool, branch, counted_routes, raise, start_from, start_without_plan,
 };
 use crate::prices::Priced;
 use crate::shim::Global;
@@ -19,31 +19,83 @@ const LEAST_CUSTOMERS: u64 = 120;
 const CUSTOMERS_OF_PATIENCE: u16 = 150;
 const PRICING_PART: u64 = 28;
 const LEAST_PRICING_TURNS: u64 = 4;
+const FIRST_RISES: usize = 4;
+const LOWEST_PART: i128 = 64;
 
 /// The defaults of the program.
 const NEIGHBOURS: u32 = 8;
 const MOST_LABELS: u64 = 1_000_000;
 
+/// A worker that finds no leaf looks again after as long as so many looks take.
+const LOOKS_OF_WAIT: u64 = 20_000;
+
 /// A node of the tree: a leaf with its prices, or a split with the places of both children.
-enum Node {
-    Leaf(std::vec::Vec<i64>),
+enum Node<'i> {
+    Leaf(Priced<'i>),
     Split { from: u16, to: u16, used: usize, unused: usize },
 }
 
-/// A leaf with its prices, its place among the nodes, and where its ascent starts, if that is known.
-struct Open<'i> {
+/// A leaf's place among the nodes, with its value when it was made, and where its ascent starts, if that is known.
+struct Open {
     place: usize,
-    leaf: Priced<'i>,
+    value: i128,
     start: Option<ChildStart>,
+}
+
+/// What came of a leaf, which the others see when the looks for it are over.
+enum Outcome<'i> {
+    Same,
+    Raised(Priced<'i>),
+    Split(Children<'i>),
+    /// No arc is left to split.
+    Settled,
+}
+
+struct Bounder<'i> {
+    pool: RoutePool<'i>,
+    open: std::vec::Vec<Open>,
+    /// The leaf that others may steal.
+    shared: Option<Open>,
+    /// The root, as long as it goes on there.
+    current: Option<usize>,
+    /// What came of the leaf of this place.
+    outcome: Option<(usize, Outcome<'i>)>,
+    /// How often it took a leaf.
+    taken: u64,
+    /// How many turns in a row raised nothing at the root.
+    idle: u16,
+    /// How long it waited, in looks.
+    waited: u64,
+}
+
+impl<'i> Bounder<'i> {
+    /// How long it has been at work, in looks.
+    fn clock(&self) -> u64 {
+        self.pool.looks() + self.waited
+    }
+
+    fn take_least(&mut self) -> Option<Open> {
+        let place = (0..self.open.len()).min_by_key(|place| self.open[*place].value)?;
+        Some(self.open.swap_remove(place))
+    }
+
+    fn take_back(&mut self) {
+        self.open.extend(self.shared.take());
+    }
+
+    fn take_own(&mut self) -> Option<Open> {
+        self.take_back();
+        let least = self.take_least();
+        self.shared = self.take_least();
+        least
+    }
 }
 
 struct Tree<'i> {
     instance: &'i Instance,
-    pool: RoutePool<'i>,
-    open: Vec<Open<'i>>,
+    bounders: std::vec::Vec<Bounder<'i>>,
     /// All nodes, the root first.
-    nodes: std::vec::Vec<Node>,
-    leaves: usize,
+    nodes: std::vec::Vec<Node<'i>>,
     /// The cost to reach, or one more than any plan's.
     target: u64,
     /// The cost of the plan, if one is known.
@@ -52,16 +104,13 @@ struct Tree<'i> {
     labels: usize,
     /// What all turns are worth, in looks.
     looks: u64,
-    /// How many turns in a row raised nothing at the root.
-    idle: u16,
-    is_again: bool,
     /// The least value of the leaves that no arc is left to split.
     settled: i128,
 }
 
 impl<'i> Tree<'i> {
     /// The tree of the root: with the routes of a built plan, or without one where no cost is given.
-    fn new(nearness: &'i Nearness<'i>, turns: u32, cost: Option<Tenths>) -> Tree<'i> {
+    fn new(nearness: &'i Nearness<'i>, workers: u64, turns: u32, cost: Option<Tenths>) -> Tree<'i> {
         let instance = nearness.instance;
         let plan = build_whole(Global, instance, &Weights::plain()).unwrap().filter(|_| cost.is_some());
         let routes = plan.as_ref().map(|plan| plan.routes());
@@ -72,53 +121,180 @@ impl<'i> Tree<'i> {
             Some(routes) => start_from(Global, nearness, root, routes, Some(labels)),
             None => start_without_plan(Global, nearness, root, Some(labels)),
         };
+        let bounder = |number| Bounder {
+            pool: RoutePool::of_routes(Global, nearness, routes.unwrap_or(&[])).unwrap(),
+            open: vec![Open { place: 0, value: 0, start: None }],
+            shared: None,
+            current: None,
+            outcome: None,
+            taken: 0,
+            idle: 0,
+            waited: number,
+        };
         Tree {
             instance,
-            pool: RoutePool::of_routes(Global, nearness, routes.unwrap_or(&[])).unwrap(),
-            nodes: vec![Node::Leaf(leaf.prices().to_vec())],
-            open: vec![Open { place: 0, leaf, start: None }],
-            leaves: 1,
+            bounders: (0..workers).map(bounder).collect(),
+            nodes: vec![Node::Leaf(leaf)],
             target: cost.map_or(instance.ceiling().get() + 1, |cost| cost.get()),
             cost,
             routes: counted_routes(instance, routes),
             labels,
             looks: worth_of(instance) * u64::from(turns),
-            idle: 0,
-            is_again: false,
             settled: i128::MAX,
         }
     }
 
-    fn bound(&self) -> i128 {
-        let least = self.open.iter().map(|open| open.leaf.value()).min();
-        least.unwrap_or(i128::from(self.target)).min(i128::from(self.target)).min(self.settled)
+    fn leaf(&self, place: usize) -> Option<&Priced<'i>> {
+        match &self.nodes[place] {
+            Node::Leaf(leaf) => Some(leaf),
+            Node::Split { .. } => None,
+        }
     }
 
-    fn goal(&self, leaf: &Priced<'i>) -> Goal {
+    /// The least value of the leaves, if one is left to raise, and at most this much.
+    fn bound(&self, most: i128) -> i128 {
+        let leaves = (0..self.nodes.len()).filter_map(|place| self.leaf(place));
+        leaves.map(|leaf| leaf.value()).min().unwrap_or(most).min(most).min(self.settled)
+    }
+
+    fn leaves(&self) -> usize {
+        self.nodes.len() / 2 + 1
+    }
+
+    fn is_closed(&self) -> bool {
+        self.bound(i128::from(self.target)) >= i128::from(self.target)
+    }
+
+    fn goal(&self, number: usize, leaf: &Priced<'i>, is_again: bool) -> Goal {
         let effort = Effort { root_pricings: ROOT_PRICINGS, labels: Some(self.labels), looks: self.looks };
         let mut goal = goal_of(leaf, self.cost, self.routes, self.target, effort);
-        if self.is_again {
-            goal.rise = self.pool.rise();
+        if is_again {
+            goal.rise = self.bounders[number].pool.rise();
+        } else if leaf.region().is_root() {
+            goal.rise = goal.rise.saturating_mul(1 + (number % FIRST_RISES) as i64);
         }
         goal
     }
 
-    /// Whether the work goes on at the root.
-    fn stays(&mut self, is_raised: bool) -> bool {
-        self.idle = if is_raised { 0 } else { self.idle + 1 };
-        self.idle <= self.instance.customer_count() / CUSTOMERS_OF_PATIENCE
+    /// The leaf that another worker shares, where none of the worker's own is among the lowest.
+    fn steal(&mut self, number: usize) -> Option<Open> {
+        let bound = self.bound(i128::from(self.target));
+        let limit = bound + (i128::from(self.target) - bound) / LOWEST_PART;
+        let (count, bounder) = (self.bounders.len(), &mut self.bounders[number]);
+        bounder.take_back();
+        if bounder.open.iter().any(|open| open.value <= limit) {
+            return None;
+        }
+        let from = bounder.taken as usize;
+        let mut places = (from..from + count).map(|place| place % count);
+        let place = places.find(|place| self.bounders[*place].shared.is_some())?;
+        let stolen = self.bounders[place].shared.take()?;
+        self.bounders[number].shared = self.bounders[number].take_least();
+        Some(Open { start: None, ..stolen })
     }
 
-    fn open_child(&mut self, place: usize, leaf: Priced<'i>, start: Option<ChildStart>) {
-        self.nodes.push(Node::Leaf(leaf.prices().to_vec()));
-        self.open.push(Open { place, leaf, start });
+    /// The leaf that a worker works at next, and whether it was the one before.
+    fn take(&mut self, number: usize) -> Option<(Open, bool)> {
+        self.bounders[number].taken += 1;
+        if let Some(place) = self.bounders[number].current.take() {
+            // The turn ends where the root was split meanwhile.
+            self.leaf(place)?;
+            return Some((Open { place, value: 0, start: None }, true));
+        }
+        let open = self.steal(number).or_else(|| self.bounders[number].take_own())?;
+        Some((open, false))
+    }
+
+    /// Raises a leaf, and splits it, unless its value reaches the cost or it is the root that still rises.
+    fn outcome(&mut self, number: usize, open: Open, is_again: bool) -> Outcome<'i> {
+        let Some(leaf) = self.leaf(open.place).map(|leaf| leaf.try_clone().unwrap()) else { return Outcome::Same };
+        let (target, before, goal) = (i128::from(self.target), leaf.value(), self.goal(number, &leaf, is_again));
+        if before >= target {
+            return Outcome::Same;
+        }
+        let patience = self.instance.customer_count() / CUSTOMERS_OF_PATIENCE;
+        let bounder = &mut self.bounders[number];
+        let Raised { priced: leaf, ascent } = raise(Global, &mut bounder.pool, leaf, open.start, &goal);
+        let is_raised = leaf.value() > before;
+        if leaf.value() >= target {
+            return Outcome::Raised(leaf);
+        }
+        if leaf.region().is_root() {
+            bounder.idle = if is_raised { 0 } else { bounder.idle + 1 };
+            bounder.current = (bounder.idle <= patience || number > 0).then_some(open.place);
+        }
+        if bounder.current.is_some() {
+            return if is_raised { Outcome::Raised(leaf) } else { Outcome::Same };
+        }
+        match branch(Global, &leaf, ascent.as_ref(), &mut bounder.pool, Some(self.labels)) {
+            Ok(Some(children)) => Outcome::Split(children),
+            _ => Outcome::Settled,
+        }
+    }
+
+    fn split(&mut self, number: usize, place: usize, children: Children<'i>) {
+        let Children { arc, used, unused, used_start, unused_start } = children;
+        let least = used.value().min(unused.value());
+        if self.leaf(place).is_none_or(|leaf| leaf.value() > least) {
+            // Another worker raised the root meanwhile: the book refuses.
+            self.bounders[number].current = Some(place);
+            return;
+        }
+        let first = self.nodes.len();
+        let bounder = &mut self.bounders[number];
+        bounder.open.push(Open { place: first, value: used.value(), start: used_start });
+        bounder.open.push(Open { place: first + 1, value: unused.value(), start: unused_start });
+        let lowest = bounder.take_own();
+        bounder.open.extend(lowest);
+        self.nodes[place] = Node::Split { from: arc.from, to: arc.to, used: first, unused: first + 1 };
+        self.nodes.push(Node::Leaf(used));
+        self.nodes.push(Node::Leaf(unused));
+    }
+
+    /// Brings what came of a leaf to the others.
+    fn bring(&mut self, number: usize, place: usize, outcome: Outcome<'i>) {
+        match outcome {
+            Outcome::Same => {}
+            Outcome::Raised(leaf) => {
+                if self.leaf(place).is_some_and(|known| known.value() < leaf.value()) {
+                    self.nodes[place] = Node::Leaf(leaf);
+                }
+            }
+            Outcome::Split(children) => self.split(number, place, children),
+            Outcome::Settled => {
+                let value = self.leaf(place).map_or(0, |leaf| leaf.value());
+                println!("a leaf that isn't split: {value} of {}", self.target);
+                self.settled = self.settled.min(value);
+            }
+        }
+    }
+
+    /// Goes on until each worker has done this many looks, or all is closed.
+    fn work(&mut self, looks: u64) {
+        while let Some(number) = (0..self.bounders.len()).min_by_key(|number| self.bounders[*number].clock()) {
+            if let Some((place, outcome)) = self.bounders[number].outcome.take() {
+                self.bring(number, place, outcome);
+                continue;
+            }
+            if self.bounders[number].clock() > looks || self.is_closed() {
+                return;
+            }
+            match self.take(number) {
+                Some((open, is_again)) => {
+                    let place = open.place;
+                    let outcome = self.outcome(number, open, is_again);
+                    self.bounders[number].outcome = Some((place, outcome));
+                }
+                None => self.bounders[number].waited += LOOKS_OF_WAIT,
+            }
+        }
     }
 
     /// The lines of the nodes from a place on, in preorder.
     fn lines_from(&self, place: usize) -> String {
         match &self.nodes[place] {
-            Node::Leaf(prices) => {
-                let words: std::vec::Vec<String> = prices.iter().map(i64::to_string).collect();
+            Node::Leaf(leaf) => {
+                let words: std::vec::Vec<String> = leaf.prices().iter().map(i64::to_string).collect();
                 format!("P {}\n", words.join(" "))
             }
             Node::Split { from, to, used, unused } => {
@@ -130,40 +306,11 @@ impl<'i> Tree<'i> {
     /// The text of the certificate of the tree as it stands.
     fn certificate(&self) -> String {
         let (above, count) = (i128::from(self.instance.ceiling().get()) + 1, self.instance.customer_count());
-        let bound = self.open.iter().map(|open| open.leaf.value()).min().unwrap_or(above).min(above).min(self.settled);
+        let bound = self.bound(above);
         format!(
             "VRPTW-CERT 2\nINSTANCE {}\nCUSTOMERS {count}\nNEIGHBOURS {NEIGHBOURS}\nBOUND {}.{}\nTREE\n{}END\n",
             self.instance.name, bound / 10, bound % 10, self.lines_from(0)
         )
-    }
-
-    /// Raises the leaf of the least value, and splits it, unless its value reaches the cost or it is the root that
-    /// still rises.
-    fn work(&mut self) {
-        let Some(lowest) = (0..self.open.len()).min_by_key(|place| self.open[*place].leaf.value()) else { return };
-        let Open { place, leaf, start } = self.open.swap_remove(lowest);
-        let (goal, before) = (self.goal(&leaf), leaf.value());
-        let Raised { priced: leaf, ascent } = raise(Global, &mut self.pool, leaf, start, &goal);
-        self.nodes[place] = Node::Leaf(leaf.prices().to_vec());
-        let is_done = leaf.value() >= i128::from(self.target);
-        self.is_again = !is_done && leaf.region().is_root() && self.stays(leaf.value() > before);
-        if self.is_again || is_done {
-            self.open.push(Open { place, leaf, start: None });
-            return;
-        }
-        match branch(Global, &leaf, ascent.as_ref(), &mut self.pool, Some(self.labels)) {
-            Ok(Some(children)) => {
-                self.leaves += 1;
-                let (used, unused) = (self.nodes.len(), self.nodes.len() + 1);
-                self.nodes[place] = Node::Split { from: children.arc.from, to: children.arc.to, used, unused };
-                self.open_child(used, children.used, children.used_start);
-                self.open_child(unused, children.unused, children.unused_start);
-            }
-            _ => {
-                println!("a leaf that isn't split: {} of {}", leaf.value(), self.target);
-                self.settled = self.settled.min(leaf.value());
-            }
-        }
     }
 }
 
@@ -174,17 +321,15 @@ fn worth_of(instance: &Instance) -> u64 {
 
 /// Prints leaves and bound after each tenth of the turns, and the seconds; without a plan where the cost is 0. Writes
 /// the certificate of the tree to a path, if there is one.
-pub fn tell(instance: &Instance, turns: u32, cost: u64, path: Option<&String>) {
+pub fn tell(instance: &Instance, turns: u32, cost: u64, workers: u64, path: Option<&String>) {
     let begin = Instant::now();
     let nearness = Nearness::new(Global, instance, NEIGHBOURS).unwrap();
-    let mut tree = Tree::new(&nearness, turns, Tenths::new(cost).filter(|cost| cost.get() > 0));
+    let mut tree = Tree::new(&nearness, workers, turns, Tenths::new(cost).filter(|cost| cost.get() > 0));
     for turn in 1..=turns {
-        while tree.bound() < i128::from(tree.target) && tree.pool.looks() <= worth_of(instance) * u64::from(turn) {
-            tree.work();
-        }
+        tree.work(worth_of(instance) * u64::from(turn));
         if turn % turns.div_ceil(10) == 0 || turn == turns {
-            let bound = tree.bound();
-            println!("{turn} {} {}.{} {:.1}", tree.leaves, bound / 10, bound % 10, begin.elapsed().as_secs_f64());
+            let bound = tree.bound(i128::from(tree.target));
+            println!("{turn} {} {}.{} {:.1}", tree.leaves(), bound / 10, bound % 10, begin.elapsed().as_secs_f64());
         }
     }
     if let Some(path) = path {

@@ -1,6 +1,7 @@
-//! Turns of one worker: `turns` with an instance, a number of turns and a seed, `bound` with an instance, a number of
-//! turns and the cost of the plan to reach, in tenths, and a path for the certificate, if one is wanted. Pricings of the root: `ascent` with an instance, `labels` with an
-//! instance and a certificate. The bound of a certificate's tree: `check` with an instance and the certificate.
+//! Turns of one search worker: `turns` with an instance, a number of turns and a seed. Turns of bound workers: `bound`
+//! with an instance, a number of turns, the cost of the plan to reach, in tenths, the number of workers, and a path for
+//! the certificate, if one is wanted. Pricings of the root: `ascent` with an instance, `labels` with an instance and a
+//! certificate. The bound of a certificate's tree: `check` with an instance and the certificate.
 #![allow(dead_code, unused)]
 
 mod arrayvec;
@@ -43,7 +44,7 @@ fn main() {
         "ascent" => measuring::tell_ascent(&instance),
         "labels" => measuring::tell_labels(&instance, &words[3]),
         "check" => checking::tell(&instance, &words[3]),
-        "bound" => bounding::tell(&instance, number(3) as u32, number(4), words.get(5)),
+        "bound" => bounding::tell(&instance, number(3) as u32, number(4), number(5), words.get(6)),
         _ => searching::tell(&instance, number(3) as u32, number(4)),
     }
 }
