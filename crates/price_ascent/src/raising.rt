@@ -183,8 +183,9 @@ pub fn raise<'i>(
     ensures neighbours { result.priced.neighbours ≡ priced.entry.neighbours }
     ensures not_lower { priced.entry.value ≤ result.priced.value }
 {
-    if let Some(start) = &start {
-        pool.begin(start);
+    // The root is raised again and again, and goes on with the multipliers that it ended with.
+    if !priced.region().is_root() {
+        pool.begin(start.as_ref());
     }
     if pool.enter(&priced).is_err() {
         return Raised {

@@ -339,10 +339,15 @@ impl<'n> RoutePool<'n> {
         })
     }
 
-    /// Takes the multipliers with which a child starts.
-    pub fn begin(&mut self, start: &ChildStart) {
+    /// Takes the multipliers with which a child starts, or none where its start isn't known: those of the leaf before
+    /// tell nothing of it.
+    pub fn begin(&mut self, start: Option<&ChildStart>) {
+        let shares = match start {
+            Some(start) => start.shares.as_slice(),
+            None => &[],
+        };
         for route in self.routes.iter_mut() {
-            route.take_share(start.shares.as_slice(), self.rise);
+            route.take_share(shares, self.rise);
         }
     }
 
