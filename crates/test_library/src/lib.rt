@@ -15,8 +15,8 @@
 //!   STEPS` improves prices.
 //! - `bounder REGION NEIGHBOURS PRICES NUMBER TURNS LABELS ROOM HOW` has a worker of this number raise the bound over
 //!   a fake of the book that has this leaf; its deque takes this many numbers, and has the root, or another deque
-//!   where it is `stolen`; no number is a leaf's where the fake is `bare`, and it refuses splits by the fault that
-//!   is named. `searcher REGION NEIGHBOURS PRICES FIRST FAULT BOUND` has one look for plans, where from the first of
+//!   where it is `stolen`, or `both`; no number is a leaf's where the fake is `bare`, and it refuses splits by the
+//!   fault that is named. `searcher REGION NEIGHBOURS PRICES FIRST FAULT BOUND` has one look for plans, where from the first of
 //!   these offers on each is refused so.
 //! - `book EVENTS,LEAVES,DEPTH REGION STEPS` opens a book with these limits, of prices of 0 at a region, and takes
 //!   steps there, whose parts stand between strokes: `offer/ROUTE/ROUTE..`, or `foreign/ROUTE..` of a plan of the

@@ -14,28 +14,29 @@ use solomon_reader::Instance;
 use std::alloc::Global;
 use std::sync::atomic::Ordering;
 
-/// The nodes of the worker at the second of two deques, of which its own or the other has the root.
+/// The nodes of the worker at the second of two deques: its own has the root, the other where the worker is to steal
+/// it, or both.
 fn second_nodes<'p>(
     alloc: Global,
     nearness: &'p Nearness<'p>,
     mut hands: Vec<Hand>,
     deques: &'p [Thief],
     mut passes: Vec<Pass>,
-    is_stolen: bool,
+    how: &str,
 ) -> Option<Nodes<'p>>
     requires { All (λ p. All (λ t. FitsAt (deque_at t) p) deques.now) passes.items }
 {
     let mut own = hands.pop()?;
     let mut other = hands.pop()?;
-    let pushed = if is_stolen {
-        other.push(0)
-    } else {
-        own.push(0)
-    };
+    if how != "stolen" {
+        own.push(0).ok()?;
+    }
+    if how == "stolen" || how == "both" {
+        other.push(0).ok()?;
+    }
     let Some(pass) = passes.pop() else {
         return None;
     };
-    pushed.ok()?;
     Nodes::new(alloc, nearness, None, own, deques, pass).ok()
 }
 
@@ -117,7 +118,7 @@ pub(crate) fn tell_bounder<'i>(
     let mut hub = Fake::new(leaf);
     hub.is_bare = how == "bare";
     hub.split_refusal = match how {
-        "own" | "stolen" | "bare" => None,
+        "own" | "stolen" | "both" | "bare" => None,
         fault => Some(fault_of(fault)?),
     };
     let mut settings = Settings::default();
@@ -127,7 +128,7 @@ pub(crate) fn tell_bounder<'i>(
     };
     let deques = deques.as_slice();
     let nearness = Nearness::new(alloc, instance, settings.neighbours).ok()?;
-    let nodes = second_nodes(alloc, &nearness, hands, deques, passes, how == "stolen")?;
+    let nodes = second_nodes(alloc, &nearness, hands, deques, passes, how)?;
     let number = (number.parse().ok()?, 0);
     let done = turns_over(instance, hub, Some(nodes), number, &settings, alloc)?;
     let (turns, raises, looked) = (done.turns, done.raises, done.looked);

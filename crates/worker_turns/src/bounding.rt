@@ -7,7 +7,7 @@ ghost use Rattle.ceiling.specs.Seats.{IsSeatOf};
 use crate::gate::{Gate, GatePoint};
 use crate::hub::Hub;
 use crate::nodes::{Nodes, OpenNode, Taken};
-use crate::pricing::{Rules, goal_at, has_done_enough, pricing_labels, turn_looks};
+use crate::pricing::{Rules, goal_at, has_done_enough, own_limit, pricing_labels, turn_looks};
 use crate::refusal::Refusal;
 use crate::worker::Worker;
 use leaf_work::{met_plan, settled_leaf};
@@ -213,7 +213,8 @@ fn work_on<'i, H: Hub<'i>, G: Gate>(
     if worker.is_closed() || has_done_enough(nodes, made) {
         return Ok(false);
     }
-    let Some(taken) = nodes.wait()? else {
+    let limit = own_limit(worker.gap().bound, worker.target());
+    let Some(taken) = nodes.wait(limit)? else {
         return Ok(false);
     };
     if taken.is_stolen {
@@ -247,8 +248,8 @@ fn turn<'i, H: Hub<'i>, G: Gate>(
 /// Makes as many turns as the settings say, or fewer where a refusal of memory or a full history,
 /// tree or deque ends the work, and answers how many.
 ///
-/// In each turn the worker takes the open node of its own that has the least value or steals one, and
-/// raises the value of the leaf. It gives the leaf the new prices at the root and where the value reaches
+/// In each turn the worker takes the open node of its own that has the least value, or steals one where that is well
+/// above the bound, and raises the value of the leaf. It gives the leaf the new prices at the root and where the value reaches
 /// the ceiling, else splits it; a leaf whose value had reached the ceiling is laid aside. Then it takes the
 /// next one, until it has done as much as the turns so far are worth, or ten leaves. The leaves that are open
 /// at the end are left for others to steal.

@@ -45,6 +45,8 @@ pub struct Nodes<'p> {
     shared: Option<OpenNode>,
     deques: &'p [Thief],
     pass: Pass,
+    /// How often it looked through the deques: each time it begins at the next one.
+    looks: usize,
     /// The leaf to go on with.
     pub(crate) current: Option<u32>,
     /// How many turns in a row raised nothing at the root.
@@ -97,15 +99,20 @@ fn came_back(number: u32, shared: Option<OpenNode>) -> OpenNode {
     }
 }
 
-/// Tries each deque once, until one gives a number. The worker's own is empty then.
-fn steal(deques: &[Thief], pass: &mut Pass) -> Option<u32>
+/// Tries each deque once, from this one on, until one gives a number. The worker's own is empty then.
+fn steal(deques: &[Thief], from: usize, pass: &mut Pass) -> Option<u32>
     requires { All (λ t. FitsAt (deque_at t) pass.old) deques.now }
     ensures { All (λ t. FitsAt (deque_at t) pass.new) deques.now }
 {
-    for other in 0..deques.len() {
-        if let Stolen::One(number) = deques[other].steal(pass) {
+    let mut place = from;
+    for _deque in 0..deques.len() {
+        if place >= deques.len() {
+            place = 0;
+        }
+        if let Stolen::One(number) = deques[place].steal(pass) {
             return Some(number);
         }
+        place += 1;
     }
     None
 }
@@ -133,6 +140,7 @@ impl<'p> Nodes<'p> {
             shared: None,
             deques,
             pass,
+            looks: 0,
             current: None,
             idle_at_root: 0,
             missed: 0,
@@ -165,12 +173,18 @@ impl<'p> Nodes<'p> {
         }
     }
 
+    /// Takes the leaf back that the worker shares, unless somebody stole it.
+    fn take_back(&mut self) -> Result<(), Refusal> {
+        let shared = self.shared.take();
+        match self.own.pop() {
+            Some(number) => self.push(came_back(number, shared)),
+            None => Ok(()),
+        }
+    }
+
     /// Takes the leaf of the least value that the worker made and nobody stole, and shares the next.
     fn take_own(&mut self) -> Result<Option<OpenNode>, Refusal> {
-        let shared = self.shared.take();
-        if let Some(number) = self.own.pop() {
-            self.push(came_back(number, shared))?;
-        }
+        self.take_back()?;
         let Some(least) = take_least(&mut self.open) else {
             return Ok(None);
         };
@@ -204,10 +218,31 @@ impl<'p> Nodes<'p> {
         self.idle_at_root <= self.customers / CUSTOMERS_OF_PATIENCE
     }
 
-    /// The leaf to go on with, else that of the least value of the worker's own, so that the bound
-    /// rises, or one of another worker. Where memory is refused or the deque is full, the worker's work
-    /// ends.
-    fn take(&mut self) -> Result<Option<Taken>, Refusal> {
+    /// Takes a leaf that another worker shares, where none of the worker's own has a value up to a limit, and shares
+    /// the next of its own.
+    fn take_stolen(&mut self, limit: i128) -> Result<Option<Taken>, Refusal> {
+        self.take_back()?;
+        if self.open.iter().any(|node| node.value <= limit) {
+            return Ok(None);
+        }
+        self.looks = self.looks.wrapping_add(1);
+        let from = self.looks % self.deques.len().max(1);
+        let Some(number) = steal(self.deques, from, &mut self.pass) else {
+            return Ok(None);
+        };
+        self.share_next()?;
+        Ok(Some(Taken {
+            number,
+            start: None,
+            is_stolen: true,
+            is_again: false,
+        }))
+    }
+
+    /// The leaf to go on with, else that of the least value of the worker's own, so that the bound rises; where
+    /// that is above a limit, one of another worker comes before it. Where memory is refused or the deque is full,
+    /// the worker's work ends.
+    fn take(&mut self, limit: i128) -> Result<Option<Taken>, Refusal> {
         if let Some(number) = self.current.take() {
             return Ok(Some(Taken {
                 number,
@@ -216,21 +251,16 @@ impl<'p> Nodes<'p> {
                 is_again: true,
             }));
         }
-        if let Some(least) = self.take_own()? {
-            return Ok(Some(Taken {
-                number: least.number,
-                start: least.start,
-                is_stolen: false,
-                is_again: false,
-            }));
+        if let Some(stolen) = self.take_stolen(limit)? {
+            return Ok(Some(stolen));
         }
-        let Some(number) = steal(self.deques, &mut self.pass) else {
+        let Some(least) = self.take_own()? else {
             return Ok(None);
         };
         Ok(Some(Taken {
-            number,
-            start: None,
-            is_stolen: true,
+            number: least.number,
+            start: least.start,
+            is_stolen: false,
             is_again: false,
         }))
     }
@@ -244,17 +274,17 @@ impl<'p> Nodes<'p> {
         }
     }
 
-    /// Takes a node. Where there is none, it looks again and again for one that another worker shares, and now
-    /// and then gives the processor away, so that idle turns aren't used up before the others have leaves to
-    /// share.
-    pub(crate) fn wait(&mut self) -> Result<Option<Taken>, Refusal> {
+    /// Takes a node, one of another worker first where the worker's own have values above a limit. Where there is
+    /// none, it looks again and again for one that another worker shares, and now and then gives the processor away,
+    /// so that idle turns aren't used up before the others have leaves to share.
+    pub(crate) fn wait(&mut self, limit: i128) -> Result<Option<Taken>, Refusal> {
         let looks = if self.missed < MOST_LOOKS {
             LOOKS_OF_TURN
         } else {
             1
         };
         for _look in 0..looks {
-            if let Some(taken) = self.take()? {
+            if let Some(taken) = self.take(limit)? {
                 self.missed = 0;
                 return Ok(Some(taken));
             }

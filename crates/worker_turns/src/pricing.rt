@@ -59,6 +59,16 @@ pub(crate) fn has_done_enough(nodes: &Nodes<'_>, made: u32) -> bool {
     nodes.pool.looks() > turn_looks(nodes.customers).saturating_mul(u64::from(made))
 }
 
+/// Leaves within this part of the gap above the bound count as the lowest ones.
+const LOWEST_PART: u64 = 64;
+
+/// Up to which value in tenths the leaves of a worker's own come before those of others. The bound is that of the
+/// lowest leaf, so that raising those far above it is of little use; and a leaf that is stolen starts from less.
+pub(crate) fn own_limit(bound: Tenths, target: u64) -> i128 {
+    let gap = target.saturating_sub(bound.get());
+    i128::from(bound.get().saturating_add(gap / LOWEST_PART))
+}
+
 /// With this many first rises of the root the bound workers begin in turn.
 const FIRST_RISES: u32 = 4;
 
