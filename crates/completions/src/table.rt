@@ -128,7 +128,7 @@ fn other_of(bound: &Bound, j: u16, value: i64) -> i64
 }
 
 /// What bounds both what a bound does, and a step to customer j of this load and cost with what follows
-/// on it. It has no branch: mostly none can be foreseen.
+/// on it.
 fn joined(bound: Bound, j: u16, next: &Front, room: u16, least: i64) -> Bound
     requires bound { IsSmall bound }
     requires room { room ≤ MOST_CAPACITY }
