@@ -60,8 +60,8 @@ struct Bounder<'i> {
     current: Option<usize>,
     /// What came of the leaf of this place.
     outcome: Option<(usize, Outcome<'i>)>,
-    /// How often it took a leaf.
-    taken: u64,
+    /// How often it looked for a leaf: each time it begins at the next worker.
+    tries: usize,
     /// How many turns in a row raised nothing at the root.
     idle: u16,
     /// How long it waited, in looks.
@@ -127,8 +127,9 @@ impl<'i> Tree<'i> {
             shared: None,
             current: None,
             outcome: None,
-            taken: 0,
+            tries: 0,
             idle: 0,
+            // Each begins a look later than the one before, so that their order is known.
             waited: number,
         };
         Tree {
@@ -185,7 +186,7 @@ impl<'i> Tree<'i> {
         if bounder.open.iter().any(|open| open.value <= limit) {
             return None;
         }
-        let from = bounder.taken as usize;
+        let from = bounder.tries;
         let mut places = (from..from + count).map(|place| place % count);
         let place = places.find(|place| self.bounders[*place].shared.is_some())?;
         let stolen = self.bounders[place].shared.take()?;
@@ -195,7 +196,7 @@ impl<'i> Tree<'i> {
 
     /// The leaf that a worker works at next, and whether it was the one before.
     fn take(&mut self, number: usize) -> Option<(Open, bool)> {
-        self.bounders[number].taken += 1;
+        self.bounders[number].tries += 1;
         if let Some(place) = self.bounders[number].current.take() {
             // The turn ends where the root was split meanwhile.
             self.leaf(place)?;
