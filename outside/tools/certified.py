@@ -35,7 +35,7 @@ class Leaf:
         return self.pricing.value(*leaf)
 
 
-def values_of(instance, certificate, jobs, head, most_labels):
+def values_of(instance, certificate, jobs, head, most_labels=MOST_LABELS):
     """The values of the leaves in preorder, None where a leaf has too many labels; it is told how far that is."""
     pricing = Pricing(instance, certificate.neighbours, certificate.version, most_labels)
     found, telling = [], Telling(head)
