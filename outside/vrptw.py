@@ -8,7 +8,7 @@ Example:
 
 `solve` answers the best plan and the highest bound that it finds, `Solving` is the same as a thing that can be
 cancelled, and `check` judges texts by code that the solver doesn't use. This file needs nothing but the standard
-library and the program: the one built or released beside it, `vrptw` on the path, or the one that `program` names.
+library and the program: the one that the launcher beside it runs, `vrptw` on the path, or the one that `program` names.
 
 Costs and bounds are exact tenths of a unit of the instance. `cost_tenths` has them as whole numbers, and `cost` is the
 nearest float, which prints and compares as the decimal does. Customers are numbered from 1; the depot stands in no
@@ -18,6 +18,7 @@ from __future__ import annotations
 
 import ctypes
 import fcntl
+import functools
 import os
 import re
 import select
@@ -39,8 +40,8 @@ Text = Union[str, "os.PathLike[str]", bytes]
 Plan = Union[Text, "Answer", Sequence[Sequence[int]]]
 
 _HERE = os.path.dirname(os.path.realpath(__file__))
-# Where a proved build and the released program stand.
-_PROGRAMS = (("crates", "program", "out", "program"), ("release", "vrptw-x86_64-linux"))
+# Where the released program stands, and what tells which one the launcher runs.
+_RELEASE = os.path.join(os.path.dirname(_HERE), "release")
 # How long nothing is looked at while the program runs, in seconds, and how much is read at once.
 _OFTEN, _PORTION = 0.1, 1 << 16
 _PROGRESS = re.compile(r"vrptw: ([0-9]+) % of the turns, (?:no plan|cost ([0-9.]+)), bound ([0-9.]+)")
@@ -129,11 +130,18 @@ class Answer:
         return (self.cost_tenths - self.bound_tenths) / self.cost_tenths if self.cost_tenths else 0.0
 
 
+@functools.lru_cache(maxsize=None)
 def program_here() -> str:
-    """The program that was built beside this file, or the released one, or `vrptw` on the path; where there is none,
-    where the released one would stand."""
-    paths = [os.path.join(os.path.dirname(_HERE), *parts) for parts in _PROGRAMS]
-    return next((path for path in paths if os.access(path, os.X_OK)), shutil.which("vrptw") or paths[-1])
+    """The program that the launcher beside this file runs, by the launcher's rule; where there is no launcher, the
+    released program, or `vrptw` on the path, or where the released one would stand. Raises `Fault` where the program
+    has to be built first."""
+    which, released = (os.path.join(_RELEASE, name) for name in ("which", "vrptw-x86_64-linux"))
+    if not os.access(which, os.X_OK):
+        return released if os.access(released, os.X_OK) else shutil.which("vrptw") or released
+    came = Run([which]).ended()
+    if came.status:
+        raise Fault(came.fault, None)
+    return os.fsdecode(came.out).rstrip("\n")
 
 
 def verdict_of(line: str) -> tuple[Optional[str], Optional[int], Optional[int]]:

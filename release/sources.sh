@@ -1,9 +1,12 @@
-# What the released program is made of, for ../vrptw, ../check and ./make, which read this file. It needs $top, the
-# repository's folder, and bash, find, sort and sha256sum.
+# What the released program is made of, and which program runs, for ../vrptw, ../check, ./make and ./which, which read
+# this file. It needs $top, the repository's folder, and bash, find, sort and sha256sum.
 
 released=$top/release/vrptw-x86_64-linux
 # Lines with the sum of the sources that it was made from, the toolchain that made it, and its version.
 made_from=$top/release/made-from
+# The program that was built here, and what it was made of.
+program=$top/crates/program/out/program
+stamp=$top/out/built
 
 # The crates that the program stands on and itself, the lower ones first, in the list crates; what each stands on in
 # stands_on.
@@ -54,4 +57,46 @@ is_release_of() {
 # Whether the released file is the one whose SHA-256 stands beside it.
 is_release_whole() {
   (cd "$top/release" && sha256sum --check --status vrptw-x86_64-linux.sha256) 2>/dev/null
+}
+
+# Ends with a line and a status.
+refuse() {
+  echo "vrptw: $2" >&2
+  exit "$1"
+}
+
+# What the built program is made of: its sources, and the toolchain, where it is on the path.
+made_of() {
+  echo "$sum"
+  if command -v rt >/dev/null; then rt version; else sed -n 2p "$stamp" 2>/dev/null || true; fi
+}
+
+is_built() {
+  [ -x "$program" ] && [ -f "$stamp" ] && [ "$(cat "$stamp")" = "$now" ]
+}
+
+# Why the released program isn't run, where it isn't.
+why_not_released() {
+  if [ -n "${VRPTW_BUILD:-}" ]; then
+    echo "VRPTW_BUILD asks for the proved build"
+  elif [ "$(uname -sm)" != "Linux x86_64" ]; then
+    echo "the released program is for x86-64 Linux, and this machine is $(uname -sm)"
+  elif [ -n "$sum" ] && ! is_release_of "$sum"; then
+    echo "the sources aren't those of the released program"
+  fi
+}
+
+# Sets chosen to the program that runs: the released one, or, where why says why not that, the one that was built of
+# these sources, and nothing where none was. A copy without sources has the released one.
+choose_program() {
+  sum= now= chosen=$released
+  [ ! -e "$top/crates.txt" ] || sum=$(sources_sum)
+  why=$(why_not_released)
+  if [ -z "$why" ]; then
+    is_release_whole ||
+      refuse 126 "release/vrptw-x86_64-linux isn't the released file (its SHA-256 differs); fetch it again, or build by VRPTW_BUILD=1"
+  else
+    now=$(made_of) chosen=$program
+    is_built || chosen=
+  fi
 }

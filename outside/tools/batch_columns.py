@@ -1,6 +1,8 @@
 """The columns of a batch: sets of options, each with its seeds, and how they are kept in its folder."""
 import os
 import re
+import shlex
+from argparse import ArgumentTypeError
 
 from tools.judged import ran
 from tools.tool import Refused, content, quoted
@@ -13,7 +15,7 @@ LABEL = re.compile(r"([A-Za-z0-9][A-Za-z0-9_-]{0,19}):\Z")
 BETWEEN = "@"
 # The option of a step that works in rounds: the program doesn't know it, nor what goes with it.
 SECONDS, NOT_BESIDE = "--seconds", ("--turns", "--close")
-MOST_SEEDS = 1000
+MOST_SEEDS, MOST_JOBS = 1000, 10_000
 
 
 class Column:
@@ -36,6 +38,23 @@ def column_of(line):
     first, *rest = line.split() or [""]
     found = LABEL.match(first.replace(".", ""))
     return Column(first[:-1], rest) if found else Column("", line.split())
+
+
+def words(text):
+    """The reader of an option that takes words, as one."""
+    try:
+        return shlex.split(text)
+    except ValueError as fault:
+        raise ArgumentTypeError(str(fault))
+
+
+def joined(given, options):
+    """The words, of which one behind an option that takes any word belongs to it, though it begins as an option."""
+    found, rest = [], list(given)
+    while rest:
+        word = rest.pop(0)
+        found.append("%s=%s" % (word, rest.pop(0)) if word in options and rest else word)
+    return found
 
 
 def seeds_of(word):

@@ -10,7 +10,7 @@ from tools.batch_columns import OPTIONS
 from tools.judged import judged
 from tools.places import OUTSIDE
 from tools.plans import of_ours
-from tools.tool import Refused, Text, last_words
+from tools.tool import Refused, Text, last_words, make_folder
 
 # What a step leaves, in the order in which it is brought back: the last one says that it is done.
 ANSWERS = ("plan.txt", "certificate.txt", "line.txt", "errors.txt", "done.txt")
@@ -166,10 +166,7 @@ def steps_of(paths, into, columns):
 
 def prepared(steps, into, columns, program):
     """Lays out the folder of a batch; answers what is noted."""
-    try:
-        os.makedirs(into, exist_ok=True)
-    except OSError as fault:
-        raise Refused("%s: %s" % (into, last_words(fault)))
+    make_folder(into)
     put(os.path.join(into, OPTIONS), "".join(column.line() for column in columns).encode())
     for name, source in (("program", program), ("step", os.path.join(OUTSIDE, "tools", "step"))):
         put(os.path.join(into, name), content(source))

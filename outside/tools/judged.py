@@ -1,8 +1,30 @@
 """Runs of the program, by the module for Python: what can't be started is refused in a tool's line."""
+import os
+
 from reference.texts import tenths
 from tools.certified import refuse_bound
 from tools.tool import Refused, told_path
-from vrptw import Fault, Run, run_check
+from vrptw import Fault, Run, program_here, run_check
+
+
+def add_program(words):
+    """Adds the option that names the program."""
+    words.add_argument("--program", metavar="PATH", help="the program; else that of here")
+
+
+def program_of(given):
+    """The program of the option, or that of here; one that can't be run is refused."""
+    try:
+        return demand_program(given.program or program_here())
+    except Fault as fault:
+        raise Refused(fault.line)
+
+
+def demand_program(path):
+    """The path of a program, which is refused where it can't be run."""
+    if not os.path.isfile(path) or not os.access(path, os.X_OK):
+        raise Refused("%s: met no program, wanted one that can be run" % path)
+    return path
 
 
 def ran(words, is_over=lambda: False, tell=None):

@@ -161,6 +161,14 @@ def put(path, text):
         raise Refused("%s: %s" % (path, last_words(fault)))
 
 
+def make_folder(path):
+    """Makes a folder, and those above it, where it isn't there."""
+    try:
+        os.makedirs(path, exist_ok=True)
+    except OSError as fault:
+        raise Refused("%s: %s" % (path, last_words(fault)))
+
+
 def put_all(texts):
     """Writes several files, or none where one of them can't be opened; texts by their paths. Answers what is for
     standard output."""
