@@ -18,6 +18,7 @@ from reference import pricing
 from reference.instances import read
 from reference.texts import TextFault, read_certificate, shown
 from tools.places import TOP
+from tools.tool import Refused, content
 
 # How many leaves are valued to find another one with the least value.
 MOST_SOUGHT = 10
@@ -160,9 +161,7 @@ def judge(task):
 
 def written(program, folder, paths, turns):
     """A certificate of each file with each number of turns; those of one leaf only show the whole."""
-    for path in paths:
-        with open(path, "rb") as file:
-            text = file.read()
+    for path, text in [(path, content(path)) for path in paths]:
         for number in turns:
             options = [] if number == "default" else ["--turns", number]
             status, certificate = solve(program, folder, text, options)[2:5:2]
@@ -187,10 +186,12 @@ def judge_trees(given):
     """Writes certificates for half of the time at most, and judges their check. Answers how many runs don't agree."""
     end, counts, wrong, cases = time.time() + 60 * given.minutes, Counter(), 0, []
     with tempfile.TemporaryDirectory() as folder, ProcessPoolExecutor(given.jobs) as pool:
-        for case in written(given.solver or given.program, folder, given.files, given.turns.split(",")):
+        for case in written(given.solver or given.program, folder, given.files, given.turns):
             cases.append(case)
             if time.time() > end - 60 * given.minutes / 2:
                 break
+        if not cases:
+            raise Refused("%s: met no certificate of it, wanted files that vrptw solves" % given.files[0])
         for kind, differs in judged(given, pool, folder, cases, end):
             counts[kind] += 1
             if differs:

@@ -5,11 +5,11 @@ import shutil
 import signal
 import socket
 import subprocess
-import sys
 import tempfile
 import time
 
 from tools.places import TOP
+from tools.tool import Refused, Words
 
 # The files whose first customers are the instances, and how many customers each has.
 SOURCES, COUNTS = ("c1_25", "rc1_100"), (10, 18, 24)
@@ -22,27 +22,30 @@ LONGEST = 300
 
 def stop_with(words):
     """Ends the trial, whose processes end with it."""
-    raise SystemExit("%s: %s" % (os.path.basename(sys.argv[0]), words))
+    raise Refused(words)
 
 
-def needed(told, programs, packages):
-    """Installs what isn't there where --install is said, else says what is lacking; with --help says what is told."""
-    if sys.argv[1:] in (["-h"], ["--help"]):
-        print(told.strip())
-        sys.exit(0)
-    if sys.argv[1:] not in ([], ["--install"]):
-        stop_with("met %s, wanted --install or nothing" % " ".join(sys.argv[1:]))
+def words_of(tool, told):
+    """The words of a trial."""
+    found = Words(tool, told)
+    found.add_argument("--install", action="store_true", help="has apt-get install what isn't there")
+    return found
+
+
+def needed(installs, programs, packages):
+    """Installs what isn't there where that is asked for, else says what is lacking."""
     paths = os.environ["PATH"] + ":/usr/sbin:/sbin"
     os.environ["PATH"] = paths
     lacks = [program for program in programs if shutil.which(program) is None]
-    if lacks and sys.argv[1:] != ["--install"]:
+    if lacks and not installs:
         stop_with("%s isn't there; --install has apt-get install %s" % (", ".join(lacks), " ".join(packages)))
     if lacks:
         print("installs %s by apt-get" % " ".join(packages), flush=True)
         # The packages' own services aren't started.
         environment = {**os.environ, "DEBIAN_FRONTEND": "noninteractive", "RUNLEVEL": "1"}
-        subprocess.run(["apt-get", "install", "-y", "--no-install-recommends", *packages], check=True, env=environment,
-                       stdout=subprocess.DEVNULL)
+        words = ["apt-get", "install", "-y", "--no-install-recommends", *packages]
+        if shutil.which(words[0]) is None or subprocess.run(words, env=environment, stdout=subprocess.DEVNULL).returncode:
+            stop_with("apt-get didn't install %s" % " ".join(packages))
 
 
 def instances(folder):
