@@ -20,6 +20,7 @@ from judges.judging_fleets import judge_fleets, judge_tight
 from judges.judging_layouts import judge_layout, judge_round_trip, judge_wrong_layout
 from judges.judging_literature import judge_literature
 from judges.judging_module import judge_module
+from judges.judging_options import OPTIONS, judge_options
 from judges.judging_plans import judge_picture, judge_respelled, judge_timetable, judge_wrong_spelling
 from judges.judging_printouts import judge_printout, judge_wrong_printout
 from judges.judging_reports import judge_report
@@ -149,6 +150,9 @@ KINDS = {
                     program_by(judge_batch)),
     "tool_faults": Kind("the tools with files that fail and with wrong words", len(FAULTS),
                         lambda programs, folder, random, seed: judge_fault(folder, seed), is_fixed=True),
+    "options": Kind("each tool with each of its options, by its parser: right values and wrong ones", len(OPTIONS),
+                    lambda programs, folder, random, seed: judge_options(programs.program, folder, seed),
+                    is_fixed=True),
     "launches": Kind("the launcher with one file by two names, and files at fault, on a terminal and without",
                      len(LAUNCHES), lambda programs, folder, random, seed: judge_launch(folder, seed), is_fixed=True),
     "tutorial": Kind("each command of docs/tutorial.md, and each one and each program of docs/embedding.md", 2,

@@ -1,0 +1,207 @@
+"""The tools with each of their options: rows by hand, with what comes of right values, and the line of wrong ones."""
+import shlex
+import sys
+
+from cases.tool_faults import FILES
+
+# What stands for programs of others, in this folder before those that are there. sbatch does the jobs of an array at
+# once, and parallel the steps of its list, so that the options of a batch work where neither is installed.
+FAKES = {
+    "sbatch": '''echo "$*" >asked.txt
+for word; do case $before in --array) last=${word#1-} ;; esac; before=$word; done
+for task in $(seq "${last%%%*}"); do
+  SLURM_ARRAY_JOB_ID=7 SLURM_ARRAY_TASK_ID=$task sh "$before" >"slurm_7_$task.txt" 2>&1
+done
+echo 7''',
+    "squeue": "exit 0",
+    "parallel": '''echo "$*" >asked.txt
+for list; do :; done
+while read -r name; do ./step "$name"; done <"$list"''',
+    "rsync": "exit 0",
+}
+# All that a trial of an engine finds. It would install packages and take minutes, so --install is judged by what it
+# asks of apt-get, and by its refusal.
+FEW = {"apt-get": "exit 1", "python3": 'exec %s "$@"' % shlex.quote(sys.executable)}
+# Files beside those of tool_faults. By hand: the plan of both customers costs 5 + 5 + 10 units, and one alone 5 or 10.
+MORE = {
+    "theirs/C101.TXT": FILES["i.txt"],
+    "best.txt": "i 20.0\n",
+    "published.txt": "C101 2 20.0 hand\n",
+    "machines": "localhost\n",
+    "german.csv": FILES["t.csv"].replace("due", "bis"),
+    "list.txt": "[[0, 1]]\n",
+    "zero.txt": "VRPTW-CERT 2\nINSTANCE T\nCUSTOMERS 2\nNEIGHBOURS 8\nBOUND 0.0\nTREE\nP 0 0\nEND\n",
+    "tree.txt": "VRPTW-CERT 2\nINSTANCE T\nCUSTOMERS 2\nNEIGHBOURS 8\nBOUND 0.0\nTREE\nS 1 2\nP 0 0\nP 0 0\nEND\n",
+}
+# The words of calls, the status of the last one, and what it promises: a file that isn't empty, or behind a colon what
+# stands in it; - is standard output. {program} stands for the program that is judged.
+RIGHT = """
+batch i.txt --into r --options "--turns 2" --jobs 1|0|r/table.csv: i,,2,20.0,20.0,0,1, & -: 1 BEST
+batch i.txt --into r --options "few: --turns 1" --options "more: --turns 2"|0|r/i@few/plan.txt & r/i@more/plan.txt
+batch i.txt --into r --options "--turns 1" --seeds 1,2|0|r/options: s2: --turns 1 --seed 2 & r/i@s1/plan.txt
+batch i.txt --into r --engine here|0|r/i/plan.txt: Cost 20.0
+batch i.txt --into r --engine parallel --sshloginfile machines|0|r/i/plan.txt: Cost 20.0 & r/asked.txt: /machines --
+batch i.txt --into r --engine slurm --slurm-options "--mem=0 --time 1" --jobs 3 --wait|0|r/asked.txt: --array 1-1%3 & \
+r/asked.txt: --mem=0 --time 1 job_0.sh & -: 1 BEST
+batch i.txt --into r --best best.txt|0|-: 1 best known costs: 1 met
+batch i.txt --into r ; batch i.txt --into r --status|0|-: 1 BEST
+batch i.txt --into r --program {program}|0|-: 1 BEST
+carry i.txt p.txt i.txt --names names.csv --changed-names names.csv|0|-: Route #1: 1 2
+convert i.txt o.vrp --to vrplib|0|o.vrp: DIMENSION : 3
+convert i.txt - --to solomon|0|-: CUST NO.
+convert t.csv o.txt --from csv --vehicles 5 --capacity 7 --name Monday|0|o.txt: Monday & o.txt: 5 7
+convert t.csv o.txt --vehicles 5 --capacity 7 --name ""|0|o.txt: 5 7
+convert t.csv o.txt --vehicles 5 --capacity 7 --scale 3|0|o.txt: 1 9 12 1 0 3000 0
+convert c.vrp o.txt --horizon 9 --vehicles 2|0|o.txt: 1 3 4 1 0 9 0
+convert plain.csv o.txt --horizon 06:00-18:00 --vehicles 2 --capacity 5|0|o.txt: 1 0 4 1 360 1080 0
+convert geo.csv o.txt --vehicles 5 --capacity 5 --speed 60 --detour 2|0|o.txt: VEHICLE
+convert german.csv o.txt --vehicles 5 --capacity 5 --column due=bis|0|o.txt: 1 3 4 1 0 1000 0
+convert end.csv o.txt --column due=end --vehicles 5 --capacity 5 --names n.csv|0|n.csv: 1,c
+draw i.txt p.txt --names names.csv|0|-: </svg>
+draw i.txt p.txt --times|0|-: </svg>
+draw i.txt p.txt --tree k.txt|0|-: </svg>
+fewest i.txt --into f --seconds 3 --searchers 1 --bounders 1 --labels 1000 --neighbours 4 --seed 3|0|-: FEWEST 1 BEST
+fewest i.txt --into f --seconds 3 --program {program} ; fewest i.txt --into f --check|0|-: FEWEST 1 BEST 20.0
+large_trees i.txt --minutes 0.005 --turns 2,default --jobs 1 --seed 5 --solver {program}|0|-: 2 certificates, & \
+-: , 0 disagreements
+large_trees i.txt --minutes 0.005 --turns 2 --jobs 1 --program {program}|0|-: 1 certificates, & -: , 0 disagreements
+plan t.csv --into d --seconds 3 --vehicles 2 --capacity 5 --from csv --name Monday --scale 3|0|\
+d/instance.txt: Monday & d/instance.txt: 1 9 12 1 0 3000 0 & d/report.html: </html>
+plan plain.csv --into d --horizon 06:00-18:00 --vehicles 2 --capacity 5 --seconds 3|0|d/timetable.csv: 06:0
+plan geo.csv --into d --vehicles 5 --capacity 5 --speed 60 --detour 2 --seconds 3|0|d/plan.txt: Route #1: 1
+plan german.csv --into d --column due=bis --vehicles 2 --capacity 5 --seconds 3|0|d/plan.txt: Cost 10.0
+plan i.txt --into d --names names.csv --fewest --drivers --seconds 5|0|d/drivers.html: </html> & d/fewest/1.plan & \
+d/names.csv: 2,b & -: No plan does without a vehicle.
+plan i.txt --into d --searchers 1 --bounders 1 --labels 1000 --neighbours 4 --seed 3 --gap 5 --seconds 3|0|\
+d/plan.txt: Cost 20.0
+plan i.txt --into d --seconds 3 --program {program}|0|-: 20.0
+recheck i.txt k.txt p.txt --jobs 1 --labels 1000|0|-: GAP 20.0 0.0
+report i.txt p.txt k.txt --tree --jobs 1 -o r.html|0|r.html: <section id="the-certificates-tree">
+report i.txt p.txt k.txt --tree --names names.csv --output r.html|0|r.html: <section id="the-certificates-tree">
+fewest i.txt --into f --seconds 3 ; report i.txt p.txt k.txt --fewest f -o r.html|0|\
+r.html: No plan does without a vehicle.
+report i.txt p.txt k.txt --program {program}|0|-: </html>
+respell i.txt list.txt --from-zero|0|-: Route #1: 1 2
+respell i.txt named.txt --names names.csv --certificate c.txt|0|c.txt: BOUND 0.0 & -: Cost 20.0
+respell i.txt p.txt --scale 2|0|-: Cost 20.0
+run --minutes 0.03 --kinds medium --jobs 1 --program {program}|0|-: medium: & -: , 0 disagreements
+run --runs 1 --seed 7 --kinds medium --jobs 1|0|-: 1 runs, 0 disagreements
+run --instruments {program} --kinds manual|0|-: 1 runs, 0 disagreements
+sheets i.txt p.txt --names names.csv -o s.html|0|s.html: </html>
+sheets i.txt p.txt --output s.html|0|s.html: </html>
+timetable i.txt p.txt --csv|0|-: 1,1,5.0,0.0,5.0,5.0,1,
+timetable i.txt p.txt --json --names names.csv|0|-: "name": "a"
+why both.txt none.txt --names names.csv|0|-: the certificate proves it
+try_parallel --install|1|-: installs parallel rsync openssh-client openssh-server by apt-get
+try_slurm --install|1|-: installs munge slurmctld slurmd slurm-client by apt-get
+bench/leaves tree.txt 3|0|-: P 0 0
+bench/make_instances made ; bench/make_instances made --check|0|made/c1_25.txt: c1-25-7025
+bench/make_instances theirs --check|1|-: c1_25.txt isn't what is made
+bench/solomon theirs --into l --customers 1,2 --options "--turns 2" --jobs 1 --published published.txt|0|-: met & \
+l/literature.csv: C101,2,20.0,hand,20.0,1,20.0,0,
+bench/solomon theirs --into l --program {program} --customers 2 --options --close|0|l/literature.csv: C101,2,
+"""
+# The words with one wrong value, its option, the status and a part of the one line.
+WRONG = """
+batch i.txt --into p.txt|--into|1|p.txt: File exists
+batch i.txt --into r --options "--turns x"|--options|2|met "x"
+batch i.txt --into r --options "'"|--options|2|No closing quotation
+batch i.txt --into r --seeds 3-1|--seeds|2|met "3-1"
+batch i.txt --into r --engine there|--engine|2|invalid choice: 'there'
+batch i.txt --into r --jobs 0|--jobs|2|met "0"
+batch i.txt --into r --engine parallel --sshloginfile nowhere|--sshloginfile|1|nowhere: No such file
+batch i.txt --into r --engine slurm --slurm-options "'"|--slurm-options|2|No closing quotation
+batch i.txt --into r --best nowhere|--best|1|nowhere: No such file
+batch i.txt --into r --program nowhere|--program|1|nowhere: met no program
+carry i.txt p.txt i.txt --names nowhere|--names|1|nowhere: No such file
+carry i.txt p.txt i.txt --changed-names names2.csv|--changed-names|1|names2.csv: line 3: met no name of number 2
+convert i.txt o.txt --to xml|--to|2|invalid choice: 'xml'
+convert i.txt o.vrp --from xml|--from|2|invalid choice: 'xml'
+convert t.csv o.txt --capacity 5 --vehicles 1001|--vehicles|2|met "1001"
+convert t.csv o.txt --vehicles 5 --capacity 0|--capacity|2|met "0"
+convert t.csv o.txt --vehicles 5 --capacity 5 --scale 0.5|--scale|2|met "0.5"
+convert plain.csv o.txt --vehicles 5 --capacity 5 --horizon 25:77|--horizon|2|met "25:77"
+convert geo.csv o.txt --vehicles 5 --capacity 5 --speed 0|--speed|2|met "0"
+convert geo.csv o.txt --vehicles 5 --capacity 5 --speed 30 --detour x|--detour|2|met "x"
+convert t.csv o.txt --vehicles 5 --capacity 5 --column until=due|--column|2|met "until=due"
+convert end.csv o.txt --column due=end --vehicles 5 --capacity 5 --names nowhere/n.csv|--names|1|nowhere/n.csv: No such
+draw i.txt p.txt --names names2.csv|--names|1|names2.csv: line 3: met no name of number 2
+draw i.txt p.txt --tree p.txt|--tree|1|p.txt: line 1: met
+fewest i.txt --into p.txt|--into|1|p.txt: File exists
+fewest i.txt --into f --seconds 0|--seconds|2|met "0"
+fewest i.txt --into f --searchers 33|--searchers|2|met "33"
+fewest i.txt --into f --bounders 0|--bounders|2|met "0"
+fewest i.txt --into f --labels x|--labels|2|met "x"
+fewest i.txt --into f --neighbours 16|--neighbours|2|met "16"
+fewest i.txt --into f --seed -1|--seed|2|
+fewest i.txt --into f --program nowhere|--program|1|nowhere: met no program
+large_trees i.txt --minutes x|--minutes|2|met "x"
+large_trees i.txt --minutes 0|--minutes|2|met "0"
+large_trees i.txt --turns 5,x|--turns|2|met "5,x"
+large_trees i.txt --jobs 0|--jobs|2|met "0"
+large_trees i.txt --seed x|--seed|2|met "x"
+large_trees i.txt --program nowhere|--program|1|nowhere: met no program
+large_trees i.txt --solver folder|--solver|1|folder: met no program
+plan t.csv --into p.txt --vehicles 2 --capacity 5|--into|1|p.txt: File exists
+plan t.csv --into d --vehicles 2 --capacity 5 --seconds x|--seconds|2|met "x"
+plan t.csv --into d --vehicles 0 --capacity 5|--vehicles|2|met "0"
+plan t.csv --into d --vehicles 2 --capacity 10001|--capacity|2|met "10001"
+plan t.csv --into d --vehicles 2 --capacity 5 --from vrplib|--from|1|t.csv: line 1: met
+plan t.csv --into d --vehicles 2 --capacity 5 --scale 0|--scale|2|met "0"
+plan plain.csv --into d --vehicles 2 --capacity 5 --horizon 0|--horizon|2|met "0"
+plan geo.csv --into d --vehicles 2 --capacity 5 --speed -1|--speed|2|
+plan geo.csv --into d --vehicles 2 --capacity 5 --speed 30 --detour 0|--detour|2|met "0"
+plan t.csv --into d --vehicles 2 --capacity 5 --column due|--column|2|met "due"
+plan i.txt --into d --names names3.csv|--names|1|names3.csv: line 4: met "3"
+plan i.txt --into d --searchers 0|--searchers|2|met "0"
+plan i.txt --into d --bounders 33|--bounders|2|met "33"
+plan i.txt --into d --labels 0|--labels|2|met "0"
+plan i.txt --into d --neighbours x|--neighbours|2|met "x"
+plan i.txt --into d --seed x|--seed|2|met "x"
+plan i.txt --into d --gap 1001|--gap|2|met "1001"
+plan i.txt --into d --program folder|--program|1|folder: met no program
+recheck i.txt k.txt --jobs 0|--jobs|2|met "0"
+recheck i.txt k.txt --labels 0|--labels|2|met "0"
+recheck i.txt k.txt --labels 1|--labels|1|k.txt: 1 of 1 leaves have too many labels
+report i.txt p.txt k.txt -o nowhere/r.html|--output|1|nowhere/r.html: No such file
+report i.txt p.txt k.txt --names nowhere -o r.html|--names|1|nowhere: No such file
+report i.txt p.txt k.txt --fewest p.txt -o r.html|--fewest|1|p.txt: met no folder
+report i.txt p.txt k.txt --tree --jobs x -o r.html|--jobs|2|met "x"
+report i.txt p.txt k.txt --program nowhere -o r.html|--program|1|nowhere: met no program
+respell i.txt p.txt --names nowhere|--names|1|nowhere: No such file
+respell i.txt p.txt --certificate nowhere/c|--certificate|1|nowhere/c: No such file
+respell i.txt p.txt --scale 0|--scale|2|met "0"
+run --kinds manual --minutes -1|--minutes|2|
+run --kinds manual --minutes x|--minutes|2|met "x"
+run --kinds manual --runs 0|--runs|2|met "0"
+run --kinds manual --seed x|--seed|2|met "x"
+run --kinds manual --jobs 0|--jobs|2|met "0"
+run --kinds manual --program nowhere|--program|1|nowhere: met no program
+run --kinds turns --instruments nowhere|--instruments|1|nowhere: met no program
+run --kinds manual,none|--kinds|2|no such kind: none
+sheets i.txt p.txt -o i.txt|--output|1|i.txt: met the file that is read
+sheets i.txt p.txt --names p.txt -o s.html|--names|1|p.txt: line 1: met
+timetable i.txt p.txt --names nowhere|--names|1|nowhere: No such file
+why both.txt none.txt --names names2.csv|--names|1|names2.csv: line 3: met no name of number 2
+bench/leaves tree.txt 0||2|met "0"
+bench/leaves tree.txt 5||1|tree.txt: met 2 arcs between its customers, wanted more for 5 leaves
+bench/leaves p.txt 5||1|p.txt: line 1: met
+bench/solomon theirs --into p.txt|--into|1|p.txt/instances: Not a directory
+bench/solomon theirs --into l --customers 0|--customers|2|met "0"
+bench/solomon theirs --into l --options "--turns x"|--options|2|met "x"
+bench/solomon theirs --into l --jobs 0|--jobs|2|met "0"
+bench/solomon theirs --into l --published p.txt|--published|1|p.txt: line 1: met
+bench/solomon theirs --into l --program nowhere|--program|1|nowhere: met no program
+try_parallel||1|isn't there; --install has apt-get install parallel rsync openssh-client openssh-server
+try_parallel --instal||2|unrecognized
+try_slurm||1|isn't there; --install has apt-get install munge slurmctld slurmd slurm-client
+"""
+# Options that take every value, with the reason.
+ANY = {"--name": "what ours can't hold becomes what it can, and that is noted"}
+
+
+def rows(table):
+    return [[part.strip() for part in line.split("|")] for line in table.strip().split("\n")]
+
+
+OPTION_ROWS = [("right", *row) for row in rows(RIGHT)] + [("wrong", *row) for row in rows(WRONG)]
