@@ -1,7 +1,9 @@
-"""The launcher `./vrptw` with paths that are one file by two names, and with files that are at fault: rows by hand."""
+"""The launcher `./vrptw` with paths that are one file by two names, or the file that a stream goes to, and with files
+that are at fault: rows by hand."""
 import os
 import subprocess
 
+from judges.launching_copies import COPIES, judge_copy, judge_word
 from judges.running import demand, got, put
 from cases.tool_faults import FILES
 from tools.places import TOP
@@ -33,7 +35,33 @@ RIGHT = [
     ("check i.txt k.txt --solution p.txt", 1, "GAP 20.0 0.0\n"),
     ("check i.txt k.txt --solution link.txt", 1, "GAP 20.0 0.0\n"),
 ]
-LAUNCHES = [("wrong", *row) for row in ROWS] + [("right", *row) for row in RIGHT]
+# Words with a stream that goes to a file, which is written, too, and what a terminal is told as above.
+STREAMS = [
+    ("solve i.txt /dev/stdout c.txt >o.txt", "/dev/stdout and standard output are one file"),
+    ("solve i.txt c.txt /dev/stdout >o.txt", "/dev/stdout and standard output are one file"),
+    ("solve i.txt /dev/fd/1 c.txt >>o.txt", "/dev/fd/1 and standard output are one file"),
+    ("solve i.txt /proc/self/fd/1 c.txt >o.txt", "/proc/self/fd/1 and standard output are one file"),
+    ("solve i.txt /dev/fd/3 c.txt >o.txt 3>&1", "/dev/fd/3 and standard output are one file"),
+    ("solve i.txt --turns 1 sub/../o.txt c.txt >o.txt", "sub/../o.txt and standard output are one file"),
+    ("solve --turns 1 i.txt c.txt -- link.txt >>p.txt", "link.txt and standard output are one file"),
+    ("solve i.txt hard.txt c.txt >>p.txt", "hard.txt and standard output are one file"),
+    ("solve i.txt /dev/stderr c.txt 2>o.txt", None),
+    ("solve i.txt c.txt o.txt 2>o.txt", None),
+]
+# Words with streams by which nothing is lost, with the status, and what standard output or the file o.txt has then.
+KEPT = [
+    ("solve i.txt /dev/stdout c.txt --turns 1 | cat", 0, "Route #1: 1 2\nCost 20.0\nBEST 20.0\n"),
+    ("solve i.txt /dev/fd/1 c.txt --turns 1 | cat >o.txt", 0, "Route #1: 1 2\nCost 20.0\nBEST 20.0\n"),
+    ("solve i.txt /dev/stderr c.txt --turns 1", 0, "BEST 20.0\n"),
+    ("solve i.txt /dev/null c.txt --turns 1 >o.txt", 0, "BEST 20.0\n"),
+    ("solve i.txt c.txt /dev/stdout --turns 1 >/dev/null", 0, ""),
+    ("solve i.txt p.txt c.txt --turns 1 >o.txt", 0, "BEST 20.0\n"),
+    ("solve i.txt /dev/stdout >o.txt", 2, ""),
+    ("solve i.txt c.txt --start p.txt >>p.txt", 2, ""),
+    ("check i.txt k.txt --solution p.txt >o.txt", 1, "GAP 20.0 0.0\n"),
+]
+LAUNCHES = ([("wrong", *row) for row in ROWS] + [("right", *row) for row in RIGHT + KEPT]
+            + [("stream", *row) for row in STREAMS] + COPIES)
 
 
 def fitted_out(folder):
@@ -48,8 +76,8 @@ def launched(folder, words, has_terminal):
     """What the launcher says, with standard error a terminal or none, and its status."""
     ours, theirs = os.openpty() if has_terminal else os.pipe()
     try:
-        came = subprocess.run([os.path.join(TOP, "vrptw"), *words.split()], cwd=folder, stdin=subprocess.DEVNULL,
-                              stdout=subprocess.PIPE, stderr=theirs)
+        came = subprocess.run(["/bin/bash", "-o", "pipefail", "-c", "'%s'/vrptw %s" % (TOP, words)], cwd=folder,
+                              stdin=subprocess.DEVNULL, stdout=subprocess.PIPE, stderr=theirs)
         # What stands there is little, and is held by the terminal or the pipe.
         os.write(theirs, b"\0")
         errors = b""
@@ -61,21 +89,33 @@ def launched(folder, words, has_terminal):
     return came.stdout.decode(), errors[:-1].decode().replace("\r\n", "\n"), came.returncode
 
 
+def judge_refused(folder, words, told, has_terminal):
+    """The program's line, and on a terminal the launcher's; nothing is emptied or written."""
+    out, errors, status = launched(folder, words, has_terminal)
+    # Where standard error goes to a file, the line stands there alone.
+    said = (got(os.path.join(folder, "o.txt")) or b"").decode()
+    right = FILE + ("vrptw: %s\n" % told if told and has_terminal else "")
+    demand((out, errors + said, status) == ("", right, 6), "%s: %r, and %r is right" % (words, errors + said, right))
+    for name, text in [*((name, FILES[name].encode()) for name in ("i.txt", "p.txt", "k.txt")), ("c.txt", None)]:
+        demand(got(os.path.join(folder, name)) == text, "%s changed %s" % (words, name))
+
+
+def judge_kept(folder, words, status, right, has_terminal):
+    """The program's answer, on standard output or in a file that takes it; of the launcher no word."""
+    out, errors, came = launched(folder, words, has_terminal)
+    out += (got(os.path.join(folder, "o.txt")) or b"").decode()
+    demand((out, came) == (right, status) and "vrptw: " not in errors, "%s: %r" % (words, (out, errors, came)))
+
+
 def judge_launch(folder, seed):
-    """One row, with a terminal and without."""
+    """One row, with a terminal and without, or one copy of the tree."""
     kind, words, *told = LAUNCHES[seed]
+    if kind in ("copy", "word"):
+        return (judge_copy if kind == "copy" else judge_word)(folder, words, *told)
     for has_terminal in (False, True):
         fitted_out(folder)
-        here = words.replace("%s", folder)
-        out, errors, status = launched(folder, here, has_terminal)
-        if kind == "wrong":
-            right = FILE + ("vrptw: %s\n" % told[0].replace("%s", folder) if has_terminal else "")
-            demand((out, errors, status) == ("", right, 6), "%s: %r, and %r is right" % (here, errors, right))
-            held = [got(os.path.join(folder, name)) for name in ("i.txt", "p.txt", "k.txt")]
-            demand(held == [FILES[name].encode() for name in ("i.txt", "p.txt", "k.txt")], "%s changed a file" % here)
-        else:
-            demand((out, status) == (told[1], told[0]) and ("vrptw: " not in errors), "%s: %r" % (here, (
-                out, errors, status)))
+        here = [part.replace("%s", folder) if isinstance(part, str) else part for part in (words, *told)]
+        (judge_kept if kind == "right" else judge_refused)(folder, *here, has_terminal)
         for name in os.listdir(folder):
             path = os.path.join(folder, name)
             (os.rmdir if os.path.isdir(path) else os.remove)(path)
