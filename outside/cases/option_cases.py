@@ -95,6 +95,8 @@ why both.txt none.txt --names names.csv|0|-: the certificate proves it
 try_parallel --install|1|-: installs parallel rsync openssh-client openssh-server by apt-get
 try_slurm --install|1|-: installs munge slurmctld slurmd slurm-client by apt-get
 bench/leaves tree.txt 3|0|-: P 0 0
+bench/leaves k.txt 4 >many.txt ; recheck i.txt many.txt|0|-: BOUND 0.0
+bench/leaves none.txt 3 >many.txt ; bench/leaves many.txt 1|0|-: P 301000 301000
 bench/make_instances made ; bench/make_instances made --check|0|made/c1_25.txt: c1-25-7025
 bench/make_instances theirs --check|1|-: c1_25.txt isn't what is made
 bench/solomon theirs --into l --customers 1,2 --options "--turns 2" --jobs 1 --published published.txt|0|-: met & \

@@ -30,6 +30,7 @@ fire(document.body, 'mouseover'); tell();
 document.dispatchEvent(new KeyboardEvent('keydown', {key: 'Escape'})); tell();
 document.title = told.join(', ');
 </script></body>"""
+TREE = '<section id="the-certificates-tree">'
 LIT, UNLIT = "3 1 1 1 6 1", "0 0 0 0 0 0"
 
 
@@ -102,8 +103,9 @@ def judge_report(program, folder, random):
     names = [random.choice(NAMES) or (str(i) if i else "depot") for i in range(instance.count + 1)]
     names = names if random.randrange(2) else None
     put(table, table_of(names or []).encode())
+    has_tree = has_certificate and random.randrange(2) == 0
     words = [path, plan, *([certificate] if has_certificate else []), "-o", target,
-             *(["--names", table] if names else [])]
+             *(["--names", table] if names else []), *(["--tree"] if has_tree else [])]
     out, errors, status = tool("report", *words)
     if is_empty and not has_certificate or not is_empty and checking.plan_defect(instance, routes):
         demand((out, status, got(target)) == (b"", 1, None) and errors.count("\n") == 1, "no plan: %r" % errors)
@@ -119,6 +121,7 @@ def judge_report(program, folder, random):
     if is_empty:
         return "without a plan"
     stops = tool("timetable", path, plan, "--csv")[0].decode().split("\n\n")[0].splitlines()[1:]
+    demand((TREE in page) == has_tree, "the tree, asked for: %s" % has_tree)
     judge_page(page, instance, routes, names, [row.split(",") for row in stops])
     if BROWSER:
         judge_pointer(folder, page)
