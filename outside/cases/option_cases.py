@@ -30,7 +30,6 @@ MORE = {
     "machines": "localhost\n",
     "german.csv": FILES["t.csv"].replace("due", "bis"),
     "list.txt": "[[0, 1]]\n",
-    "zero.txt": "VRPTW-CERT 2\nINSTANCE T\nCUSTOMERS 2\nNEIGHBOURS 8\nBOUND 0.0\nTREE\nP 0 0\nEND\n",
     "tree.txt": "VRPTW-CERT 2\nINSTANCE T\nCUSTOMERS 2\nNEIGHBOURS 8\nBOUND 0.0\nTREE\nS 1 2\nP 0 0\nP 0 0\nEND\n",
 }
 # The words of calls, the status of the last one, and what it promises: a file that isn't empty, or behind a colon what

@@ -139,6 +139,11 @@ respell i.txt lkh.txt|lkh.txt|3|met "4", wanted each customer of 2 to 3 once, an
 respell i.txt p.txt --names names2.csv|names2.csv|3|no name of number 2
 respell i.txt p.txt --certificate i.txt|i.txt|0|met the file that is read, wanted another one to write
 respell i.txt p.txt --certificate p.txt|p.txt|0|met the file that is read, wanted another one to write
+respell i.txt p.txt --certificate /dev/stdout >>empty.txt|/dev/stdout|0|\
+met the stream of the plan, wanted another one to write
+respell i.txt p.txt --certificate empty.txt >>empty.txt|empty.txt|0|\
+met the stream of the plan, wanted another one to write
+convert i.txt empty.txt --names - >>empty.txt|-|0|met the file of the instance, wanted another one to write
 respell i.txt p.txt --certificate nowhere/c|nowhere/c|0|No such file or directory
 timetable i.txt cost.txt|cost.txt|2|20.1
 timetable i.txt lacks.txt|lacks.txt|2|no customer 2

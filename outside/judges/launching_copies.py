@@ -12,10 +12,11 @@ from tools.places import TOP
 COPIED = ("vrptw", "crates.txt", "HANDLES", "release", "outside/vrptw.py", "bench/run", "crates/program/src")
 BUILT, STAMP, SOURCE = "crates/program/out/program", "out/built", "crates/program/src/main.rt"
 ASK = "import vrptw; print(vrptw.Run([vrptw.program_here(), '--version']).ended().out.decode(), end='')"
-# Cases: whether a source is changed, whether the built program is of these sources, the variable that asks for the
+# Cases: what became of the sources, whether the built program is of these sources, the variable that asks for the
 # built one, and which program runs.
-CASES = [(False, False, "", "released"), (False, True, "", "released"), (False, True, "1", "built"),
-         (False, False, "1", None), (True, False, "", None), (True, True, "", "built")]
+CASES = [("kept", False, "", "released"), ("kept", True, "", "released"), ("kept", True, "1", "built"),
+         ("kept", False, "1", None), ("changed", False, "", None), ("changed", True, "", "built"),
+         ("gone", False, "", "released")]
 # Stands for rt: it keeps what was said until then.
 RT = '#!/bin/sh\ncp errors.txt "$(dirname "$0")/../seen.txt"\necho no proof\nexit 1\n'
 COPIES = [("copy", *case) for case in CASES] + [("word", "closing"), ("word", "descents")]
@@ -59,10 +60,14 @@ def said(folder, words, more, first=None):
     return came.stdout.decode(), got(os.path.join(folder, "errors.txt")).decode(), came.returncode
 
 
-def judge_copy(folder, is_changed, is_of_these, asks, right):
+def judge_copy(folder, sources, is_of_these, asks, right):
     """Launcher and module run the same program, or both say that none is built of these sources."""
     copied(folder)
-    put(os.path.join(folder, SOURCE), got(os.path.join(folder, SOURCE)) + (b"// changed\n" if is_changed else b""))
+    if sources == "changed":
+        put(os.path.join(folder, SOURCE), got(os.path.join(folder, SOURCE)) + b"// changed\n")
+    elif sources == "gone":
+        shutil.rmtree(os.path.join(folder, "crates"))
+        os.remove(os.path.join(folder, "crates.txt"))
     executable(os.path.join(folder, BUILT), "#!/bin/sh\necho built\n")
     os.makedirs(os.path.join(folder, "out"))
     put(os.path.join(folder, STAMP), ("%s\nof old\n" % (sum_of(folder) if is_of_these else "0")).encode())
@@ -71,8 +76,8 @@ def judge_copy(folder, is_changed, is_of_these, asks, right):
     wanted = {"released": version.decode(), "built": "built\n", None: ""}[right]
     for words in ([os.path.join(folder, "vrptw"), "--version"], [sys.executable, "-B", "-c", ASK]):
         out, errors, status = said(folder, words, more)
-        demand(out == wanted and (status == 0) == (right is not None), "%s, changed %s, of these %s, %r: %r, %r" % (
-            words[-2:], is_changed, is_of_these, asks, out, errors))
+        demand(out == wanted and (status == 0) == (right is not None), "%s, sources %s, of these %s, %r: %r, %r" % (
+            words[-2:], sources, is_of_these, asks, out, errors))
         is_told = "to be built" in errors or "is built of these" in errors or "isn't on the path" in errors
         demand(is_told == (right is None), "%r: %r" % (words, errors))
     return "the %s program" % right if right else "no program of these sources"

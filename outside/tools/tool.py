@@ -10,6 +10,8 @@ NUMBER = re.compile(r"[+-]?([0-9]{1,30}(\.[0-9]{0,30})?|\.[0-9]{1,30})([eE][+-]?
 MOST_SHOWN = 40
 # The path of standard input and output, and what the former is called.
 STREAM, INPUT = "-", "standard input"
+# Standard output, which may go to a file that is written, too.
+OUTPUT = "/dev/stdout"
 
 
 class Refused(Exception):
@@ -192,8 +194,10 @@ def refuse_same(first, second, met="the file that is read"):
     """An output is no input, and no other output; an option's may be None. The streams are two."""
     if None in (first, second) or first == STREAM and met == "the file that is read":
         return
-    is_same = os.path.abspath(first) == os.path.abspath(second)
-    if is_same or os.path.exists(first) and os.path.exists(second) and os.path.samefile(first, second):
+    paths, is_same = [first, second], os.path.abspath(first) == os.path.abspath(second)
+    if STREAM in (first, second) and met != "the file that is read" and os.path.isfile(OUTPUT):
+        paths = [OUTPUT if path == STREAM else path for path in paths]
+    if is_same or all(map(os.path.exists, paths)) and os.path.samefile(*paths):
         raise Refused("%s: met %s, wanted another one to write" % (second, met))
 
 
