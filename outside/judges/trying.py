@@ -44,7 +44,8 @@ def needed(installs, programs, packages):
         # The packages' own services aren't started.
         environment = {**os.environ, "DEBIAN_FRONTEND": "noninteractive", "RUNLEVEL": "1"}
         words = ["apt-get", "install", "-y", "--no-install-recommends", *packages]
-        if shutil.which(words[0]) is None or subprocess.run(words, env=environment, stdout=subprocess.DEVNULL).returncode:
+        if shutil.which(words[0]) is None or subprocess.run(words, env=environment,
+                                                            stdout=subprocess.DEVNULL).returncode:
             stop_with("apt-get didn't install %s" % " ".join(packages))
 
 
