@@ -61,9 +61,9 @@ draw i.txt p.txt --times|0|-: </svg>
 draw i.txt p.txt --tree k.txt|0|-: </svg>
 fewest i.txt --into f --seconds 3 --searchers 1 --bounders 1 --labels 1000 --neighbours 4 --seed 3|0|-: FEWEST 1 BEST
 fewest i.txt --into f --seconds 3 --program {program} ; fewest i.txt --into f --check|0|-: FEWEST 1 BEST 20.0
-large_trees i.txt --minutes 0.005 --turns 2,default --jobs 1 --seed 5 --solver {program}|0|-: 2 certificates, & \
+large_trees i.txt --minutes 0.06 --turns 2,default --jobs 1 --seed 5 --solver {program}|0|-: 2 certificates, & \
 -: , 0 disagreements
-large_trees i.txt --minutes 0.005 --turns 2 --jobs 1 --program {program}|0|-: 1 certificates, & -: , 0 disagreements
+large_trees i.txt --minutes 0.02 --turns 2 --jobs 1 --program {program}|0|-: 1 certificates, & -: , 0 disagreements
 plan t.csv --into d --seconds 3 --vehicles 2 --capacity 5 --from csv --name Monday --scale 3|0|\
 d/instance.txt: Monday & d/instance.txt: 1 9 12 1 0 3000 0 & d/report.html: </html>
 plan plain.csv --into d --horizon 06:00-18:00 --vehicles 2 --capacity 5 --seconds 3|0|d/timetable.csv: 06:0
