@@ -15,7 +15,7 @@ def add_program(words):
 def program_of(given):
     """The program of the option, or that of here; one that can't be run is refused."""
     try:
-        return demand_program(given.program or program_here())
+        return demand_program(program_here() if given.program is None else given.program)
     except Fault as fault:
         raise Refused(fault.line)
 
