@@ -35,6 +35,7 @@ FILES = {
     "geo.csv": "lat,lon,demand,ready,due,service\n52,13,0,0,1000,0\n52.1,13,1,0,1000,0\n",
     "far.csv": "lat,lon,demand,ready,due,service\n52,13,0,0,1000,0\n91,13,1,0,1000,0\n",
     "visits.csv": "x,y,demand,ready,due,service\n0,0,0,0,1000,0\n3,4,0,0,1000,0\n3,4,,0,1000,0\n3,5,1,0,1000,0\n",
+    "full.csv": "name,x,y,demand,ready,due,service\nD,0,0,,0,1000,\nA,10,0,40,0,1000,5\nB,10,5,,0,1000,5\n",
     "units.csv": "# vrptw units: scale=x\nnumber,name\n0,depot\n1,a\n2,b\n",
     "names.csv": "number,name\n0,depot\n1,a\n2,b\n",
     "names2.csv": "number,name\n0,depot\n1,a\n",
@@ -80,7 +81,7 @@ plan t.csv --into r --capacity 5|t.csv|3|--vehicles
 plan geo.csv --into r --vehicles 5 --capacity 5|geo.csv|1|met degrees without a speed, wanted --speed N, in km/h
 convert geo.csv o.txt --vehicles 5 --capacity 5|geo.csv|1|met degrees without a speed
 convert far.csv o.txt --vehicles 5 --capacity 5 --speed 30|far.csv|3|met "91", wanted lat of -90 to 90
-convert visits.csv o.txt --vehicles 5 --capacity 5000|visits.csv|3|met 2 stops without demand, which takes capacity
+convert visits.csv o.txt --vehicles 5 --capacity 3333|visits.csv|3|met 2 stops without demand, which take capacity and demands 3 times as high, up to 10001, wanted at most 10000
 convert t.csv o.txt --vehicles 5 --capacity 5 --column due=bis|t.csv|1|met no column "bis", wanted the one of --column
 timetable i.txt p.txt --names units.csv|units.csv|1|met "scale=x", wanted scale, clock, speed, demands, visits as
 convert nowhere.csv o.txt|nowhere.csv|0|No such file or directory
@@ -263,6 +264,19 @@ why i.txt k.txt p.txt|unrecognized
 # What `why` prints, with its status. The customer of over.txt that is due at 10.0 is at 10.1 from the depot, and at 5.0
 # and 5.0 by the other one. In both.txt two customers are due at once, and there is one vehicle: a route of one of them
 # costs 10.0, so at prices of 30.1 the only leaf has the value 60.2 less 20.1, and the ceiling is 40.0.
+# What comes on standard output. In full.csv one vehicle is full with A and drives by B: 10.0 to A, 5.0 from there to B,
+# and back 11.1, the root of 125 cut to a tenth. With one stop without demand, 40 becomes 80 and a capacity of 40 becomes
+# 81; with the three of visits.csv, of which two are without demand, 1 becomes 3 and a capacity of 3332 becomes 9998.
+HEAD = "VEHICLE\nNUMBER CAPACITY\n%s\nCUSTOMER\nCUST NO. XCOORD. YCOORD. DEMAND READY TIME DUE DATE SERVICE TIME\n"
+DRIVES = "1 vehicle serves all 2 customers and drives 26.1 units, and no plan is shorter.\n"
+PRINTED = [
+    ("convert full.csv - --to ours --vehicles 1 --capacity 40",
+     "full\n" + HEAD % "1 81" + "0 0 0 0 0 1000 0\n1 10 0 80 0 1000 5\n2 10 5 1 0 1000 5\n"),
+    ("convert visits.csv - --to ours --vehicles 5 --capacity 3332",
+     "visits\n" + HEAD % "5 9998" + "0 0 0 0 0 1000 0\n1 3 4 1 0 1000 0\n2 3 4 1 0 1000 0\n3 3 5 3 0 1000 0\n"),
+    ("plan full.csv --into r --vehicles 1 --capacity 40 --seconds 30", DRIVES),
+    ("plan full.csv --into r --vehicles 2 --capacity 40 --seconds 30", DRIVES),
+]
 NONE = "no such reason; the certificate has the proof, if there is no plan"
 LATE = "customer 2 can't be served alone: met a service that begins at 10.0, wanted by %s; over other customers it " \
        "can't either: met 10.0, wanted by %s"
@@ -295,6 +309,7 @@ def rows(table):
 
 FAULTS = ([("refused", *row) for row in rows(REFUSED)] + [("words", *row) for row in rows(WORDS)]
           + [("noted", *row) for row in rows(NOTED)] + [("why", *row) for row in WHY]
+          + [("printed", *row) for row in PRINTED]
           + [("help", tool) for tool in TOOLS]
           + [("full", words) for words in PRINTING]
           + [("closed", words) for words in PRINTING])

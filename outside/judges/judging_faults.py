@@ -54,6 +54,9 @@ def judge_fault(folder, seed):
     elif kind == "why":
         came, right = said(folder, "why " + words), ("\n".join(told[1] + [""]).encode(), "", told[0])
         demand(came == right, "why %s: %r, and %r is right" % (words, came, right))
+    elif kind == "printed":
+        out, errors, status = said(folder, words)
+        demand((shown(out), status) == (told[0], 0), "%s: status %d, %r, %r" % (words, status, out, errors))
     elif kind == "help":
         out, errors, status = said(folder, words + " --help")
         demand((errors, status) == ("", 0) and re.search(rb"\nExample: outside/%s " % words.encode(), out), "help")

@@ -95,11 +95,13 @@ def right_scale(day):
 
 
 def demands_right(day, capacity):
-    """Demands and the capacity as they have to be: whole, and 1 where a stop has none."""
+    """Demands and the capacity as they have to be: whole, and 1 where a stop has none, which the capacity has room
+    for beside any other load."""
     tens = 10 if any(row[3] % 2 for row in day.rows) else 1
     visits = sum(not row[3] for row in day.rows[1:])
     factor = visits + 1 if visits else 1
-    return [0] + [row[3] * tens // 2 * factor or 1 for row in day.rows[1:]], capacity * tens * factor, tens, factor
+    demands = [0] + [row[3] * tens // 2 * factor or 1 for row in day.rows[1:]]
+    return demands, capacity * tens * factor + visits, tens, factor
 
 
 def demand_instance(day, instance, capacity, scale):

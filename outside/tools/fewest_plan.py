@@ -48,8 +48,8 @@ def fewest_told(found, folder, units):
         why = "./vrptw check %s %s shows it" % tuple(
             os.path.join(folder, "%d.%s" % (fewer, ending)) for ending in ("instance", "certificate"))
     else:
-        why = "the demands are %s, and so many hold %s" % tuple(units.load(load) for load in (
-            sum(row[2] for row in instance.rows), fewer * instance.capacity))
+        why = "the demands are %s, and so many hold %s" % (
+            units.load(sum(row[2] for row in instance.rows)), units.room(instance.capacity, fewer))
     vehicles = "%d vehicle%s" % (fewer, "" if fewer == 1 else "s")
     if low == high:
         return "Fewer vehicles don't do: with %s there is no plan (%s)." % (vehicles, why)

@@ -164,21 +164,23 @@ def number_of(text, option, given, there, limit, notes):
 
 
 def with_visits(text, rows, capacity):
-    """Rows and capacity where some stops have no demand: all demands times one more than there are such stops, each of
-    which has 1 then, so that loads fit exactly where they did. Answers the factor, too, and what is noted."""
+    """Rows and capacity where v stops have no demand: each of them has 1, the other demands are v + 1 times as high,
+    and so is the capacity, with room for v more. A load of d with n such stops is (v + 1) d + n, and n is at most v: it
+    is within (v + 1) C + v exactly where d is within C. Answers v + 1, too, and what is noted."""
     visits = [row for row in rows[1:] if not row[2]]
     if not visits:
         return rows, capacity, 1, []
     factor, line = len(visits) + 1, visits[0][2].line
-    most = max([capacity, *(row[2] for row in rows)]) * factor
+    room = capacity * factor + len(visits)
+    most = max([room, *(factor * row[2] for row in rows)])
     if most > MOST_CAPACITY:
-        text.refuse(line, "%d stops without demand, which takes capacity and demands %d times as high, up to %d" % (
-            len(visits), factor, most), "at most %d; a demand of 1 for each may do" % MOST_CAPACITY)
+        text.refuse(line, "%d stops without demand, which take capacity and demands %d times as high, up to %d" % (
+            len(visits), factor, most), "at most %d, as with demands in coarser units" % MOST_CAPACITY)
     found = [(*row[:2], Found(factor * row[2] or int(place > 0), row[2].line), *row[3:])
              for place, row in enumerate(rows)]
-    return found, capacity * factor, factor, [
-        "stops without demand: %d, the first in line %d. Demands and the capacity are multiplied by %d, and each of "
-        "them has 1, so loads fit exactly where they did" % (len(visits), line, factor)]
+    return found, room, factor, [
+        "stops without demand: %d, the first in line %d. Each of them has 1, other demands are multiplied by %d, and a "
+        "capacity of %d becomes %d, so loads fit exactly where they did" % (len(visits), line, factor, capacity, room)]
 
 
 def problem_of(text, quantities, read, given):

@@ -85,11 +85,13 @@ def late(instance, words):
 
 
 def too_much(instance, words):
-    """All demands together, where the fleet doesn't hold them."""
-    whole, room = sum(row[2] for row in instance.rows), instance.fleet * instance.capacity
-    if whole > room:
-        yield Reason("the fleet can't serve all: met a demand of %s, wanted at most %s, which %d vehicles hold" % (
-            words.units.load(whole), words.units.load(room), instance.fleet), True, None)
+    """All demands together, where the fleet doesn't hold them: as they were before some had none, which proves it,
+    too, since parts that are cut to whole ones are together no more than their sum cut so."""
+    units, whole = words.units, sum(row[2] for row in instance.rows)
+    if sum(units.whole(row[2]) for row in instance.rows) > instance.fleet * units.whole(instance.capacity):
+        yield Reason("the fleet can't serve all: met a demand of %s, wanted at most %s, which %s" % (
+            units.load(whole), units.room(instance.capacity, instance.fleet),
+            "1 vehicle holds" if instance.fleet == 1 else "%d vehicles hold" % instance.fleet), True, None)
 
 
 def reasons(instance, names=None):

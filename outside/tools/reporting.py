@@ -125,7 +125,7 @@ def figures(report):
     yield "demand", "%s, and a vehicle holds %s" % (units.load(demand), units.load(instance.capacity))
     if report.cost is not None:
         whole = total([sums_shown(instance, route, units) for route in report.routes])
-        yield "load of the vehicles", percent(demand, len(report.routes) * instance.capacity)
+        yield "load of the vehicles", percent(*units.share(demand, instance.capacity, len(report.routes)))
         yield "duration of all routes", units.span(whole.duration)
         yield "waiting of all", units.span(whole.waiting)
     if report.certificate is not None:
@@ -159,9 +159,9 @@ def vehicles(report):
     instance, units, rows = report.instance, report.units, []
     for number, route in enumerate(report.routes):
         load, first = sum(instance.demand(i) for i in route), stops(instance, route)[0]
-        found = sums_shown(instance, route, units)
+        found, (part, whole) = sums_shown(instance, route, units), units.share(load, instance.capacity)
         filled = '<div class="load"><i style="width:%d%%"></i><b>%s of %s</b></div>' % (
-            100 * load // instance.capacity, units.load(load), units.load(instance.capacity))
+            100 * part // whole, units.load(load), units.load(instance.capacity))
         rows.append('<tr class="route" data-route="%d" tabindex="0">%s</tr>' % (number, row([
             sample(number), number + 1, len(route), filled, units.distance(found.distance),
             units.moment(first.begin - instance.arc[0][first.stop]),

@@ -27,7 +27,7 @@ def decimal(value, digits):
 class Units:
     """`scale` units of the instance are one there. Where times are of the day, one there is a minute since midnight.
     With a speed in km/h one there is a minute of driving. Demands there are multiplied by two factors, of which the
-    second one makes room for stops without demand."""
+    second one makes room for stops without demand: each of them has 1, and all of them less than the factor."""
 
     def __init__(self, scale=1, clock=0, speed=None, demands=1, visits=1):
         self.scale, self.clock, self.speed, self.demands, self.visits = scale, clock, speed, demands, visits
@@ -76,12 +76,22 @@ class Units:
         minutes = abs(tenths) // (10 * self.scale)
         return "%s%d:%02d" % ("-" if tenths < 0 and minutes else "", *divmod(minutes, HOUR))
 
+    def whole(self, number):
+        """A demand, a load or a capacity without what stops without demand take, or have room in."""
+        return number // self.visits
+
     def load(self, number):
-        """A demand or a load as it was there; stops without demand count nothing."""
-        whole = number // self.visits
-        if self.demands == 1:
-            return "%d" % whole
-        return decimal(Fraction(whole, self.demands), len(str(self.demands)) - 1)
+        """A demand, a load or a capacity as it was there; stops without demand count nothing."""
+        return self.room(number, 1)
+
+    def room(self, capacity, fleet):
+        """What so many vehicles hold as it was there."""
+        whole = fleet * self.whole(capacity)
+        return "%d" % whole if self.demands == 1 else decimal(Fraction(whole, self.demands), len(str(self.demands)) - 1)
+
+    def share(self, load, capacity, fleet=1):
+        """A load and what so many vehicles hold, as whole numbers; the latter is at least 1."""
+        return self.whole(load), max(1, fleet * self.whole(capacity))
 
 
 PLAIN = Units()

@@ -60,7 +60,8 @@ def notes(problem):
         yield told(behind, head(problem, behind[0], 4) + "lets a vehicle be back at %s at the earliest, and the depot "
                    "closes at %s" % (units.moment(finish[behind[0]]), units.moment(instance.due(0))))
     total = sum(instance.demand(i) for i in everyone)
-    if not full and total > instance.fleet * instance.capacity:
-        yield "there is no plan: the demands are %s together, and %d vehicles of %s hold %s" % (
-            units.load(total), instance.fleet, units.load(instance.capacity),
-            units.load(instance.fleet * instance.capacity))
+    if not full and units.whole(total) > instance.fleet * units.whole(instance.capacity):
+        yield "there is no plan: the demands are %s together, and %s of %s hold%s %s" % (
+            units.load(total), "1 vehicle" if instance.fleet == 1 else "%d vehicles" % instance.fleet,
+            units.load(instance.capacity), "s" if instance.fleet == 1 else "",
+            units.room(instance.capacity, instance.fleet))
