@@ -29,6 +29,7 @@ from judges.judging_served import judge_served, judge_sheets
 from judges.judging_starts import judge_start
 from judges.judging_tables import judge_foreseen, judge_table, judge_wrong_names
 from judges.judging_times import judge_times
+from judges.judging_visits import judge_visits
 from judges.launching import LAUNCHES, judge_launch
 from judges.refusing import judge_memory
 from judges.running import Disagreement
@@ -114,6 +115,8 @@ KINDS = {
                    tools_by(judge_table)),
     "times": Kind("a table with times of the day, degrees, visits, empty fields and other codes: as it is meant", 30,
                   tools_by(judge_times)),
+    "visits": Kind("a table with stops without demand, by convert: by all plans what fits and costs there fits here", 30,
+                   tools_by(judge_visits)),
     "foreseen": Kind("where convert notes that there is no plan, there is none, by all plans", 30,
                      tools_by(judge_foreseen)),
     "wrong_names": Kind("a table of names with one thing wrong: refused with its line", 30,
