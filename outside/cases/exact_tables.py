@@ -49,14 +49,14 @@ class ExactTable:
         """The places of customers without demand."""
         return [i for i in range(1, self.count + 1) if not self.rows[i][DEMAND]]
 
-    def text(self, random):
-        """The table as a spreadsheet saves it; the field of no demand is 0 or empty."""
-        lines = [",".join(COLUMNS)]
+    def text(self, random, spell=spelled, has_windows=True):
+        """The table as a spreadsheet saves it, times in a spelling; the field of no demand is 0 or empty."""
+        kept = [0, 1 + X, 1 + Y, 1 + DEMAND, *([1 + READY, 1 + DUE] if has_windows else []), 1 + SERVICE]
+        lines = [COLUMNS]
         for i, row in enumerate(self.rows):
-            words = ["c%d" % i, *map(spelled, row)]
-            words[1 + DEMAND] = words[1 + DEMAND] if row[DEMAND] else random.choice(["", "0", "0.0"])
-            lines.append(",".join(words))
-        return "\n".join(lines + [""]).encode()
+            demand = spelled(row[DEMAND]) if row[DEMAND] else random.choice(["", "0", "0.0"])
+            lines.append(["c%d" % i, *map(spelled, row[:DEMAND]), demand, *map(spell, row[READY:])])
+        return "".join(",".join(line[place] for place in kept) + "\n" for line in lines).encode()
 
     def arc(self, i, j):
         fine, square = 10 * self.scale, sum((self.rows[i][axis] - self.rows[j][axis]) ** 2 for axis in (X, Y))

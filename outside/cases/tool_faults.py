@@ -35,6 +35,8 @@ FILES = {
     "geo.csv": "lat,lon,demand,ready,due,service\n52,13,0,0,1000,0\n52.1,13,1,0,1000,0\n",
     "far.csv": "lat,lon,demand,ready,due,service\n52,13,0,0,1000,0\n91,13,1,0,1000,0\n",
     "visits.csv": "x,y,demand,ready,due,service\n0,0,0,0,1000,0\n3,4,0,0,1000,0\n3,4,,0,1000,0\n3,5,1,0,1000,0\n",
+    "moment.csv": "x;y;demand;ready;due;service\n0;0;0;6:00;18:00;0\n3;4;1;6:30:20;6:30:20;5\n",
+    "below.csv": "x,y,demand,ready,due,service\n0,0,0,0,1000,0\n9999.5,0,1,0,1000,-0.4\n",
     "full.csv": "name,x,y,demand,ready,due,service\nD,0,0,,0,1000,\nA,10,0,40,0,1000,5\nB,10,5,,0,1000,5\n",
     "units.csv": "# vrptw units: scale=x\nnumber,name\n0,depot\n1,a\n2,b\n",
     "names.csv": "number,name\n0,depot\n1,a\n2,b\n",
@@ -81,7 +83,11 @@ plan t.csv --into r --capacity 5|t.csv|3|--vehicles
 plan geo.csv --into r --vehicles 5 --capacity 5|geo.csv|1|met degrees without a speed, wanted --speed N, in km/h
 convert geo.csv o.txt --vehicles 5 --capacity 5|geo.csv|1|met degrees without a speed
 convert far.csv o.txt --vehicles 5 --capacity 5 --speed 30|far.csv|3|met "91", wanted lat of -90 to 90
-convert visits.csv o.txt --vehicles 5 --capacity 3333|visits.csv|3|met 2 stops without demand, which take capacity and demands 3 times as high, up to 10001, wanted at most 10000
+convert visits.csv o.txt --vehicles 5 --capacity 3333|visits.csv|3|demands 3 times as high, up to 10001
+convert moment.csv o.txt --vehicles 5 --capacity 5|moment.csv|3|no moment times 100 is whole
+convert below.csv o.txt --vehicles 5 --capacity 5|below.csv|3|met "-0.4", wanted a service time
+convert t.csv o.txt --vehicles 5 --capacity 5 --speed 30|t.csv|0|met --speed and no lat and lon, wanted both or none
+convert i.txt o.vrp --detour 1.2|i.txt|0|met --detour and no lat and lon, wanted both or none
 convert t.csv o.txt --vehicles 5 --capacity 5 --column due=bis|t.csv|1|met no column "bis", wanted the one of --column
 timetable i.txt p.txt --names units.csv|units.csv|1|met "scale=x", wanted scale, clock, speed, demands, visits as
 convert nowhere.csv o.txt|nowhere.csv|0|No such file or directory
@@ -225,6 +231,7 @@ convert t.csv o.txt --column due|met "due", wanted OURS=THEIRS
 convert t.csv o.txt --column due=a --column due=b|met "due=b" again
 convert t.csv o.txt --horizon 25:77|met "25:77"
 convert t.csv o.txt --speed 0|met "0", wanted a number of 0.001 to 1000
+convert t.csv o.txt --speed 33.3333333|met "33.3333333", wanted a number of 0.001 to 1000, of at most 6 decimals
 sheets i.txt|required: SOLUTION
 report i.txt p.txt --tree|--tree goes with a certificate
 recheck i.txt k.txt --jobs 0|met "0"
@@ -265,8 +272,9 @@ why i.txt k.txt p.txt|unrecognized
 # and 5.0 by the other one. In both.txt two customers are due at once, and there is one vehicle: a route of one of them
 # costs 10.0, so at prices of 30.1 the only leaf has the value 60.2 less 20.1, and the ceiling is 40.0.
 # What comes on standard output. In full.csv one vehicle is full with A and drives by B: 10.0 to A, 5.0 from there to B,
-# and back 11.1, the root of 125 cut to a tenth. With one stop without demand, 40 becomes 80 and a capacity of 40 becomes
-# 81; with the three of visits.csv, of which two are without demand, 1 becomes 3 and a capacity of 3332 becomes 9998.
+# and back 11.1, the root of 125 cut to a tenth. With one stop without demand a demand of 40 becomes 80, and a capacity
+# of 40 becomes 81; with the two of visits.csv a demand of 1 becomes 3, and a capacity of 3332 becomes 9998. In half.csv
+# the way is the root of 28.25, cut to a hundredth: 5.31, and so is the way back.
 HEAD = "VEHICLE\nNUMBER CAPACITY\n%s\nCUSTOMER\nCUST NO. XCOORD. YCOORD. DEMAND READY TIME DUE DATE SERVICE TIME\n"
 DRIVES = "1 vehicle serves all 2 customers and drives 26.1 units, and no plan is shorter.\n"
 PRINTED = [
@@ -276,6 +284,8 @@ PRINTED = [
      "visits\n" + HEAD % "5 9998" + "0 0 0 0 0 1000 0\n1 3 4 1 0 1000 0\n2 3 4 1 0 1000 0\n3 3 5 3 0 1000 0\n"),
     ("plan full.csv --into r --vehicles 1 --capacity 40 --seconds 30", DRIVES),
     ("plan full.csv --into r --vehicles 2 --capacity 40 --seconds 30", DRIVES),
+    ("plan half.csv --into r --vehicles 1 --capacity 5 --names names2.csv --seconds 30",
+     "1 vehicle serves all 1 customer and drives 10.62 units, and no plan is shorter.\n"),
 ]
 NONE = "no such reason; the certificate has the proof, if there is no plan"
 LATE = "customer 2 can't be served alone: met a service that begins at 10.0, wanted by %s; over other customers it " \

@@ -3,6 +3,7 @@ decimals, degrees, stops without demand, empty fields, other codes of signs, oth
 import csv
 import math
 import os
+import re
 
 from judges.judging_layouts import demand_notes, tool
 from judges.running import demand, got, put
@@ -10,6 +11,8 @@ from judges.judging_tables import plan_text
 from reference.instances import read, walk_times
 
 DAY = 24 * 60
+# How far off kilometres by the arc of a cosine may be.
+ANGLE = 2e-4
 POWERS = (1, 10, 100, 1000, 10_000)
 HEADINGS = {"name": "Kunde", "address": "Adresse", "x": "Rechts", "y": "Hoch", "demand": "Menge", "ready": "von",
             "due": "bis", "service": "Dauer", "lat": "Breite", "lon": "Länge"}
@@ -121,19 +124,22 @@ def on_globe(first, second):
     return 6371.0088 * math.acos(max(-1.0, min(1.0, angle)))
 
 
-def demand_places(day, instance, scale):
-    """The places are the table's, or as far apart as on the globe, but for half a percent and the rounding."""
+def demand_places(day, instance, scale, errors):
+    """The places are the table's, or as far apart as on the globe, but for what is told, at most half a percent, and
+    the rounding of two places with the cut to a tenth."""
     if not day.has_degrees:
         for i, row in enumerate(day.rows):
             right = [at * scale / 10 ** day.digits for at in row[2]]
             demand(all(abs(at - there) <= 0.5 for at, there in zip(right, instance.rows[i])),
                    "place %d: %r, and %r is right" % (i, instance.rows[i][:2], right))
         return
-    for i in range(day.count + 1):
-        for j in range(i):
-            right = 10 * scale * 60 * 1.3 / day.speed * on_globe(day.rows[i][2], day.rows[j][2])
-            demand(abs(instance.arc[i][j] - right) <= 0.005 * right + 25, "%d to %d: %d, and %.1f is right" % (
-                i, j, instance.arc[i][j], right))
+    tenths, told = 10 * scale * 60 * 1.3 / day.speed, re.search(r"at most ([0-9.]+) km off", errors)
+    pairs = [(i, j, on_globe(day.rows[i][2], day.rows[j][2])) for i in range(day.count + 1) for j in range(i)]
+    demand(told and float(told[1]) <= 0.005 * max(far for _, _, far in pairs) + ANGLE, "how far off: %r" % errors)
+    for i, j, right in pairs:
+        off = abs(instance.arc[i][j] - tenths * right)
+        demand(off <= tenths * (float(told[1]) + ANGLE) + 10 * math.sqrt(2) + 1, "%d to %d: %d, and %.1f is right" % (
+            i, j, instance.arc[i][j], tenths * right))
 
 
 def shown(minutes):
@@ -175,7 +181,7 @@ def judge_times(folder, random):
     scale = (instance.due(0) - instance.ready(0)) // (10 * (day.shuts - day.opens))
     demand(day.has_degrees or scale == right_scale(day), "another scale: %d" % scale)
     demand_instance(day, instance, capacity, scale)
-    demand_places(day, instance, scale)
+    demand_places(day, instance, scale, errors)
     kind = "degrees" if day.has_degrees else "%d digits" % day.digits
     routes = [[i] for i in range(1, instance.count + 1)]
     if not all(walk_times(instance, route) for route in routes):

@@ -20,10 +20,12 @@ from judges.judging_fleets import judge_fleets, judge_tight
 from judges.judging_layouts import judge_layout, judge_round_trip, judge_wrong_layout
 from judges.judging_literature import judge_literature
 from judges.judging_module import judge_module
+from judges.judging_nights import judge_nights
 from judges.judging_options import OPTIONS, judge_options
 from judges.judging_plans import judge_picture, judge_respelled, judge_timetable, judge_wrong_spelling
 from judges.judging_printouts import judge_printout, judge_wrong_printout
 from judges.judging_reports import judge_report
+from judges.judging_roundings import judge_roundings
 from judges.judging_rounds import judge_rounds
 from judges.judging_served import judge_served, judge_sheets
 from judges.judging_starts import judge_start
@@ -115,8 +117,12 @@ KINDS = {
                    tools_by(judge_table)),
     "times": Kind("a table with times of the day, degrees, visits, empty fields and other codes: as it is meant", 30,
                   tools_by(judge_times)),
-    "visits": Kind("a table with stops without demand, by convert: by all plans what fits and costs there fits here", 30,
+    "visits": Kind("a table with stops without demand, by convert: what fits there fits here, by all plans", 30,
                    tools_by(judge_visits)),
+    "roundings": Kind("a table with decimals or seconds, by convert: what fits here is allowed there, by all plans",
+                      30, tools_by(judge_roundings)),
+    "nights": Kind("a table with a depot open over midnight, by convert: the minutes that windows allow", 30,
+                   tools_by(judge_nights)),
     "foreseen": Kind("where convert notes that there is no plan, there is none, by all plans", 30,
                      tools_by(judge_foreseen)),
     "wrong_names": Kind("a table of names with one thing wrong: refused with its line", 30,

@@ -44,8 +44,9 @@ def horizon(word):
 def positive(word):
     """The reader of a number above 0."""
     value = number(word)
-    if value is None or not Fraction(1, 1000) <= value <= 1000:
-        raise argparse.ArgumentTypeError("met %s, wanted a number of 0.001 to 1000" % quoted(word))
+    if value is None or not Fraction(1, 1000) <= value <= 1000 or value.denominator > 10 ** 6:
+        raise argparse.ArgumentTypeError("met %s, wanted a number of 0.001 to 1000, of at most 6 decimals" % (
+            quoted(word)))
     return value
 
 
@@ -79,7 +80,7 @@ def add_words(found):
     found.add_argument("--horizon", type=horizon, metavar="TIME",
                        help="the end of the day, or FROM-TO, for a file without windows")
     found.add_argument("--speed", type=positive, metavar="N", help="km/h, for places by lat and lon")
-    found.add_argument("--detour", type=positive, default=Fraction(13, 10), metavar="N",
+    found.add_argument("--detour", type=positive, metavar="N",
                        help="how much longer roads are than the straight line; else 1.3")
     found.add_argument("--column", dest="columns", type=column, action=Columns, default={}, metavar="OURS=THEIRS",
                        help="a column that has another heading there, as name=Kunde")
@@ -98,7 +99,11 @@ def read_problem(given, source_layout, keeps_names, needs_names):
     """The problem of the file FROM, and what is noted; names are kept, and needed, by `layouts.Quantities`."""
     text = Text(given.source, takes_others=source_layout == "csv")
     quantities = Quantities(text, given, keeps_names, needs_names)
-    problem, notes = problem_of(text, quantities, READERS[source_layout](text, quantities), given)
+    found = READERS[source_layout](text, quantities)
+    for option, value in (("--speed", given.speed), ("--detour", given.detour)):
+        if value is not None and not quantities.is_projected:
+            raise Refused("%s: met %s and no lat and lon, wanted both or none" % (text.path, option))
+    problem, notes = problem_of(text, quantities, found, given)
     return problem, notes + ([quantities.noted_scale()] if (given.scale or 1) > 1 else [])
 
 

@@ -2,9 +2,10 @@
 from fractions import Fraction
 from math import ceil, floor
 
-from tools.layouts import MOST_CAPACITY, MOST_COORDINATE, MOST_TIME
+from tools.layouts import HINT, MOST_CAPACITY, MOST_COORDINATE, MOST_TIME
 from tools.table import decimal, degrees, minutes_of, moment
 from tools.tool import Cell, quoted
+from tools.units import at_most
 
 DAY = 24 * 60
 READERS = {"ready": moment, "due": moment, "service": moment, "lat": degrees, "lon": degrees}
@@ -60,16 +61,22 @@ class Values:
         if None in map(minutes_of, (depot["ready"], depot["due"])) or None in [
                 row[column].value for _, row in self.rows for column in TIMES[:2]]:
             return
-        opens, shuts = depot["ready"].value, depot["due"].value
+        opens, shuts, twice = depot["ready"].value, depot["due"].value, []
         if shuts >= opens or max(opens, shuts) >= DAY:
             return
-        for _, row in self.rows:
+        for line, row in self.rows:
             ready, due = row["ready"].value, row["due"].value
             due += DAY if due < ready else 0
             days = DAY if due < opens else 0
             row["ready"], row["due"] = Cell(row["ready"], ready + days), Cell(row["due"], due + days)
+            hours, taken = (opens, shuts + DAY), (ready + days, due + days)
+            if any(is_lost((ready + other, due + other), hours, taken) for other in (-DAY, 0, DAY)):
+                twice.append(line)
         self.notes.append("the depot's window goes over midnight, from %s to %s, so times before it are of the next day"
                           % (depot["ready"], depot["due"]))
+        if twice:
+            self.notes.append("windows that the depot's hours meet on both days are those of the first day alone: %d, "
+                              "the first in line %d" % (len(twice), twice[0]))
 
     def demand_numbers(self):
         """Refuses the first field that is no number."""
@@ -80,6 +87,12 @@ class Values:
 
     def cells(self, columns):
         return [row[column] for _, row in self.rows for column in columns]
+
+
+def is_lost(window, hours, taken):
+    """Whether a part of a window lies in the depot's hours and not in the window that is taken."""
+    first, last = max(window[0], hours[0]), min(window[1], hours[1])
+    return first <= last and not taken[0] <= first <= last <= taken[1]
 
 
 def is_whole(cells, scale):
@@ -111,26 +124,37 @@ def fitting(values, quantities):
                         if exact[0] > 1 else [])
     if held:
         quantities.scale = held[-1] if not quantities.is_projected else min(held[-1], 100)
-        notes.append(quantities.noted_scale("as finely as the limits allow" if not quantities.is_projected else None))
+        if quantities.scale > 1:
+            notes.append(quantities.noted_scale(None if quantities.is_projected else "as finely as the limits allow"))
         notes += rounded(values, quantities.scale, "minutes" if quantities.is_projected else "units")
     return notes
 
 
+def nearest(value):
+    return floor(value + Fraction(1, 2))
+
+
+# How what isn't whole is rounded: no service begins before its window or after it, or is cut short.
+WAYS = {"x": nearest, "y": nearest, "ready": ceil, "due": floor, "service": ceil}
+
+
 def rounded(values, scale, measure):
-    """Rounds what isn't whole: places to the nearest, windows inwards, services up. Answers what is noted."""
+    """Rounds what isn't whole; a window in which nothing is whole then is refused. Answers what is noted."""
     count, most = 0, Fraction(0)
-    for _, row in values.rows:
-        for column in PLACES + TIMES:
+    for line, row in values.rows:
+        is_window = row["ready"].value <= row["due"].value
+        for column, way in WAYS.items():
             value = row[column].value * scale
-            if value.denominator == 1:
-                continue
-            way = {"due": floor, "ready": ceil, "service": ceil}.get(column, lambda one: floor(one + Fraction(1, 2)))
-            count, most = count + 1, max(most, abs(way(value) - value))
-            row[column] = Cell(row[column], Fraction(way(value), scale))
-        if row["due"].value < row["ready"].value and row["ready"].value - row["due"].value <= Fraction(1, scale):
-            row["ready"] = row["due"]
-    return ["%d numbers are rounded, places by at most %.2g %s, windows inwards" % (
-        count, float(most / scale), measure)]
+            # A time below 0 is refused later.
+            if value.denominator > 1 and (value > 0 or column in PLACES):
+                count, most = count + 1, max(most, abs(way(value) - value))
+                row[column] = Cell(row[column], Fraction(way(value), scale))
+        if is_window and row["due"].value < row["ready"].value:
+            values.text.refuse(line, "a window from %s to %s, in which no moment times %d is whole" % (
+                quoted(row["ready"]), quoted(row["due"]), scale), "one in which one is" + HINT)
+    values.quantities.is_rounded = True
+    return ["%d numbers are rounded, by at most %s %s: places to the nearest, windows inwards, services up. What is "
+            "proved is proved of the rounded numbers" % (count, at_most(most / scale), measure)]
 
 
 def demands(values, quantities):

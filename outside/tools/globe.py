@@ -3,6 +3,7 @@ from fractions import Fraction
 from math import asin, cos, pi, radians, sin, sqrt
 
 from tools.tool import Cell, quoted
+from tools.units import at_most
 
 # Kilometres of a degree on the globe, and of its radius.
 RADIUS = 6371.0088
@@ -56,6 +57,6 @@ def laid_out(values, quantities):
             row[name] = Cell("%.2f" % float(value), value)
     quantities.is_projected = True
     longest, most = worst(places, laid)
-    return ["places are laid out flat about the depot, the farthest two of them %.1f km apart: that is at most %.2g km "
+    return ["places are laid out flat about the depot, the farthest two of them %.1f km apart: that is at most %s km "
             "off, and roads are taken as %s times as long, driven at %s km/h" % (
-                longest, most, "%g" % float(quantities.detour), "%g" % float(quantities.speed))]
+                longest, at_most(most), "%g" % float(quantities.detour), "%g" % float(quantities.speed))]

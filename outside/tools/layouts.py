@@ -6,6 +6,7 @@ depot's. Each number of a row knows its line.
 import os
 import re
 from collections import namedtuple
+from fractions import Fraction
 
 from reference.instances import MOST_CUSTOMERS
 from tools import unservable
@@ -18,6 +19,8 @@ MOST_NAME, MOST_FLEET, MOST_CAPACITY = 32, 1000, 10_000
 MOST_COORDINATE, MOST_DEMAND, MOST_TIME = 10_000, 10_000, 10 ** 6
 MOST_NUMBER, MOST_SCALE = 10 ** 9, 10_000
 FLEET, CAPACITY = ("a number of vehicles", MOST_FLEET), ("a capacity", MOST_CAPACITY)
+# How much longer roads are than the straight line, where no option says it.
+DETOUR = Fraction(13, 10)
 HINT = " (--scale N multiplies coordinates and times)"
 
 # Names are by number, from the depot's on: where the text has none, the numbers there; with them what more a table
@@ -39,7 +42,8 @@ class Quantities:
         if given.horizon is not None:
             self.is_clock = given.horizon.is_clock
         self.keeps_names, self.needs_names, self.renamed = keeps_names, needs_names, given.columns
-        self.speed, self.detour, self.demand_scale, self.is_projected = given.speed, given.detour, 1, False
+        self.speed, self.detour, self.demand_scale = given.speed, given.detour or DETOUR, 1
+        self.is_projected = self.is_rounded = False
 
     def noted_scale(self, why=None):
         """What is noted of a scale."""
@@ -197,4 +201,5 @@ def problem_of(text, quantities, read, given):
     rows, capacity, visits, is_visited = with_visits(text, rows, capacity * units.demands)
     names.units = Units(units.scale, units.clock, units.speed, units.demands, visits)
     found = Problem(name_of(text.path, given.name, read.name, notes), fleet, capacity, rows, names)
-    return found, renumbered + is_moved + notes + is_visited + list(unservable.notes(found))
+    head = "by the rounded numbers " if quantities.is_rounded else ""
+    return found, renumbered + is_moved + notes + is_visited + [head + note for note in unservable.notes(found)]

@@ -119,6 +119,9 @@ class Planner:
             return
         told = [own.called for own in both]
         is_named = all(own.has_names() for own in both)
+        if not is_named and both[0].units.of_places() != both[1].units.of_places():
+            self.note_fault(PLAN, "its places are in other units, and not all of both have names")
+            return
         found, absent = Carried(before, self.instance, both if is_named else (None, None), told), []
         routes = found.carry(routes, absent)
         self.notes += found.notes

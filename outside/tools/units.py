@@ -1,5 +1,6 @@
 """What the numbers of an instance were before it was converted, and how they are shown: `06:30` and not 3900."""
 import re
+from decimal import ROUND_UP, Context, Decimal
 from fractions import Fraction
 
 from reference.texts import shown
@@ -10,6 +11,7 @@ TOLD = re.compile(r'"?# ?vrptw units:(.*)\Z')
 PAIR = re.compile(r"([a-z]+)=([0-9]{1,9}(?:/[0-9]{1,9})?)\Z")
 KEYS = ("scale", "clock", "speed", "demands", "visits")
 HOUR, DAY = 60, 24 * 60
+UPWARDS = Context(prec=2, rounding=ROUND_UP)
 
 
 def signed(tenths):
@@ -22,6 +24,12 @@ def decimal(value, digits):
     whole = int(abs(value) * tens * 2 + 1) // 2
     sign = "-" if value < 0 and whole else ""
     return sign + ("%d.%0*d" % (whole // tens, digits, whole % tens) if digits else "%d" % whole)
+
+
+def at_most(value):
+    """A number of 0 or more in two digits, rounded up."""
+    value = Fraction(value)
+    return format(UPWARDS.divide(Decimal(value.numerator), Decimal(value.denominator)).normalize(), "f")
 
 
 class Units:
@@ -39,6 +47,10 @@ class Units:
                 ("demands", self.demands, 1), ("visits", self.visits, 1)]
         pairs = ["%s=%s" % (key, value) for key, value, usual in told if value != usual]
         return "%s %s\n" % (MARK, " ".join(pairs)) if pairs else ""
+
+    def of_places(self):
+        """What one unit of a place is."""
+        return self.scale, self.speed
 
     def digits(self):
         """How many digits behind the point a tenth of a unit has there."""
