@@ -95,6 +95,9 @@ def judge_layout(folder, random):
     if layout == "vrplib" and random.randrange(4) == 0:
         options += ["--horizon", str(without_windows(random, instance, lines, scale))]
         put(source, joined(random, with_blanks(random, lines)))
+    if layout != "csv" and random.randrange(4) == 0:
+        instance.fleet, instance.capacity = random.randint(1, 1000), random.randint(1, 10_000)
+        options += options_of(instance)
     found = converted(source, target, (layout, "ours"), options)
     demand(is_same(found, instance), "%s: another instance" % layout)
     return "%s by %d" % (layout, scale)

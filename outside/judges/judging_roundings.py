@@ -1,11 +1,13 @@
 """One run of `convert` on a table of few customers with decimals, seconds or places below 0, by the scale that it takes
 or by one that is given: what the instance allows the table allows, by all plans; what was exact is the same."""
+import csv
 import os
 import re
 from fractions import Fraction
 
 from cases.exact_tables import DUE, POWERS, READY, SERVICE, X, Y, ExactTable, all_plans, power_for, spelled
 from judges.judging_layouts import demand_notes, demand_refusal, tool
+from judges.judging_tables import plan_text
 from judges.running import demand, got, put
 from reference.instances import is_plan, plan_cost, read, route_cost, walk
 
@@ -34,7 +36,7 @@ class Drawn:
         self.table = ExactTable([self.row(i, last) for i in range(count + 1)], random.randint(1, 3), 10)
         if random.randrange(4) == 0:
             self.take_horizon()
-        given = random.choice(8 * [None] + [1, 3, 10, 60, 100])
+        given = random.choice(16 * [None] + [1, 3, 10, 60, 100])
         self.scale = self.right_scale() if given is None else given
         self.is_given, self.table.scale = given is not None, self.scale
         self.options += ["--scale", str(given)] if given else []
@@ -45,7 +47,7 @@ class Drawn:
 
     def row(self, i, last):
         random = self.random
-        place = (Fraction(random.randint(-self.far * self.fine if random.randrange(4) == 0 else 0,
+        place = (Fraction(random.randint(-self.far * self.fine if random.randrange(6) == 0 else 0,
                                          self.far * self.fine), self.fine) for _ in "xy")
         ready = self.moment(0, last / 2 if i else 5)
         # Now and then a window of a moment or of less than a unit.
@@ -59,6 +61,9 @@ class Drawn:
         word = "%d:%02d-%d:%02d" % (*divmod(first, 60), *divmod(last, 60)) if first else str(last)
         self.horizon, self.options = (Fraction(first), Fraction(last)), ["--horizon", word]
         self.table.rows = [(*row[:READY], *self.horizon, row[SERVICE]) for row in self.table.rows]
+
+    def is_clock(self):
+        return self.has_clock and self.horizon is None or self.horizon is not None and self.horizon[0] > 0
 
     def whole(self):
         return [row[field] for row in self.table.rows for field in (X, Y, READY, DUE, SERVICE)]
@@ -118,7 +123,7 @@ def demand_allowed(drawn, instance, plan):
     """A plan of the instance begins each service in the table's window, and serves and drives as long as the table
     says, but for what ways are shortened by the rounding of two places and by the cut to a tenth."""
     rows, one = drawn.table.rows, 10 * drawn.scale
-    slack = Fraction(3, 2) + Fraction(1, 10)
+    slack = Fraction(1415, 1000) + Fraction(1, 10)
     for route in plan:
         begins, finish = walk(instance, route)
         at, free = 0, rows[0][READY]
@@ -151,12 +156,39 @@ def demand_plans(drawn, instance, errors):
     return found
 
 
+def told(value, digits):
+    """A number of 0 or more with so many digits, rounded to the nearest."""
+    return "%d.%0*d" % (*divmod(int(nearest(value * 10 ** digits)), 10 ** digits)[:1], digits,
+                        nearest(value * 10 ** digits) % 10 ** digits)
+
+
+def demand_shown(drawn, instance, plan, words):
+    """The timetable has begins and distances in the units of the table: times of the day cut to the minute, else numbers
+    with the digits of a tenth of a unit."""
+    digits, one = len(str(drawn.scale - 1)) + 1 if drawn.scale > 1 else 1, 10 * drawn.scale
+    out, errors, status = tool("timetable", *words, "--csv")
+    demand(status == 0, "timetable: status %d, %r" % (status, errors))
+    stops, sums = (list(csv.DictReader(part.splitlines())) for part in out.decode().split("\n\n"))
+    begins = [time for route in plan for part in [walk(instance, route)] for time in part[0] + [part[1]]]
+    right = ["%02d:%02d" % divmod(time // one, 60) if drawn.is_clock() else told(Fraction(time, one), digits)
+             for time in begins]
+    shown = [row["begin"].split(" ")[0] for row in stops]
+    days = [time // one < 24 * 60 for time in begins]
+    demand(all(here == there for here, there, is_today in zip(shown, right, days) if is_today) and len(shown) == len(
+        right), "begins at %r, and %r is right" % (shown, right))
+    costs = [route_cost(instance, route) for route in plan]
+    demand([row["distance"] for row in sums] == [told(Fraction(cost, one), digits) for cost in costs + [sum(costs)]],
+           "distances: %r of %r" % (sums, costs))
+
+
 def judge_roundings(folder, random):
     """A table by the scale that it takes, or by one that is given."""
     drawn = Drawn(random)
-    source, target = os.path.join(folder, "table.csv"), os.path.join(folder, "instance.txt")
+    source, target, names, plan = (os.path.join(folder, name) for name in (
+        "table.csv", "instance.txt", "names.csv", "plan.txt"))
     put(source, drawn.table.text(random, clock if drawn.has_clock else spelled, drawn.horizon is None))
-    came = tool("convert", source, target, "--vehicles", str(drawn.table.fleet), "--capacity", "10", *drawn.options)
+    came = tool("convert", source, target, "--vehicles", str(drawn.table.fleet), "--capacity", "10", "--names", names,
+                *drawn.options)
     line, (out, errors, status) = drawn.wrong_line(), came
     if line is not None:
         at = re.search(r": line ([0-9]+): met ", errors)
@@ -168,4 +200,8 @@ def judge_roundings(folder, random):
     instance = read(got(target))
     demand_numbers(drawn, instance, errors)
     found = demand_plans(drawn, instance, errors)
+    if found and random.randrange(3) == 0:
+        shown = random.choice(found)
+        put(plan, plan_text(instance, shown))
+        demand_shown(drawn, instance, shown, [target, plan, "--names", names])
     return ("exact" if drawn.is_exact() else "rounded") + (", a plan" if found else ", no plan")

@@ -8,7 +8,7 @@ import re
 from judges.judging_layouts import demand_notes, tool
 from judges.running import demand, got, put
 from judges.judging_tables import plan_text
-from reference.instances import read, walk_times
+from reference.instances import read, route_cost, walk_times
 
 DAY = 24 * 60
 # How far off kilometres by the arc of a cosine may be.
@@ -163,6 +163,15 @@ def demand_timetable(day, instance, scale, out, routes):
                      "load": str(whole) if tens == 1 else "%d.%d" % divmod(whole, 10)}
             told = {key: row[key] for key in right}
             demand(told == right, "%r, and %r is right" % (told, right))
+    if day.has_degrees:
+        demand_kilometres(day, instance, scale, out, routes)
+
+
+def demand_kilometres(day, instance, scale, out, routes):
+    """Distances are kilometres of road, by the minutes of the instance at the speed."""
+    for row, route in zip(csv.DictReader(out.split("\n\n")[1].splitlines()), routes):
+        right = route_cost(instance, route) * day.speed / (600 * scale)
+        demand(abs(float(row["distance"]) - right) <= 0.0501, "%r, and %.3f km is right" % (row, right))
 
 
 def judge_times(folder, random):

@@ -14,6 +14,7 @@ from judges.devices import DEVICES, judge_device
 from judges.judging_batches import judge_batch
 from judges.judging_breaks import judge_break
 from judges.judging_bytes import judge_bytes
+from judges.judging_carried import judge_carried
 from judges.judging_faults import judge_fault
 from judges.judging_fewest import judge_fewest
 from judges.judging_fleets import judge_fleets, judge_tight
@@ -129,6 +130,8 @@ KINDS = {
                         tools_by(judge_wrong_names)),
     "wrong_layouts": Kind("an instance in another layout with one thing wrong: refused with its line", 40,
                           tools_by(judge_wrong_layout)),
+    "carried": Kind("a plan taken to a changed instance, by carry: a plan of that, at its cost, and who is gone or new",
+                    30, tools_by(judge_carried)),
     "respelled": Kind("a plan as other solvers spell it, by respell, and the check of what comes", 30,
                       program_by(judge_respelled)),
     "wrong_spellings": Kind("another solver's spelling with one thing wrong: refused with its line", 40,
