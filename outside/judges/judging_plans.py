@@ -15,7 +15,6 @@ from reference.pricing import leaves
 from reference.texts import read_certificate, shown
 from tools.names import table_of
 from tools.timing import Stop, Sums
-from tools.units import Units
 
 NAMES = ["Café", "a & b", "<School>", 'the "Mill"', "O'Neill", "", "x" * 60, "\u65e5\u672c", "\U0001f600", "]]>", "--"]
 
@@ -50,12 +49,10 @@ def judge_respelled(program, folder, random):
     scale = random.choice([1, 1, 10])
     word, reason = cost_told(random, instance, routes, cost, scale)
     lines = spelled(random, instance.count, routes + [[]] * random.choice([0, 0, 1]), word, from_zero)
-    source, certificate, names = (os.path.join(folder, name) for name in ("elsewhere", "prices", "names"))
+    source, certificate = os.path.join(folder, "elsewhere"), os.path.join(folder, "prices")
     put(source, joined(random, with_blanks(random, lines)))
-    # The scale is told by the option or by the table of names.
-    put(names, table_of(["n%d" % i for i in range(instance.count + 1)], units=Units(scale)).encode())
-    out, errors, status = tool("respell", path, source, "--certificate", certificate, *random.choice([
-        ["--scale", str(scale)], ["--names", names]]), *(["--from-zero"] if from_zero else []))
+    out, errors, status = tool("respell", path, source, "--certificate", certificate, "--scale", str(scale),
+                               *(["--from-zero"] if from_zero else []))
     right = text_of(solution_of(routes, cost))
     demand((out, status) == (right, 0), "respell: %r, status %d, %r" % (out, status, errors))
     demand_notes("respell", errors)

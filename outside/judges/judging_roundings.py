@@ -57,8 +57,8 @@ class Drawn:
 
     def take_horizon(self):
         """Takes the windows away; the day is told by an option instead."""
-        first, last = self.random.choice([0, 0, 6 * 60]), self.random.choice([12 * 60, 18 * 60])
-        word = "%d:%02d-%d:%02d" % (*divmod(first, 60), *divmod(last, 60)) if first else str(last)
+        first, last = self.random.choice([(0, 12 * 60), (0, 18 * 60), (6 * 60, 18 * 60), (18 * 60, 26 * 60)])
+        word = "%d:%02d-%d:%02d" % (*divmod(first, 60), *divmod(last % (24 * 60), 60)) if first else str(last)
         self.horizon, self.options = (Fraction(first), Fraction(last)), ["--horizon", word]
         self.table.rows = [(*row[:READY], *self.horizon, row[SERVICE]) for row in self.table.rows]
 
