@@ -4,11 +4,13 @@ import os
 from xml.etree import ElementTree
 
 from cases.edges import edge_words
+from cases.exact_tables import all_plans
 from cases.random_texts import laid_out
 from judges.judging_breaks import standing
 from judges.judging_layouts import tool
 from judges.judging_plans import NAMES, drawn
 from judges.judging_tables import plan_text
+from judges.judging_visits import table_drawn, wrong_line
 from judges.running import demand, got, put
 from reference import checking
 from reference.instances import Instance, read
@@ -46,22 +48,39 @@ def judge_others(program, folder, instance, into, out):
     return "%d of %d served" % (others.count, instance.count)
 
 
+def instance_given(folder, random):
+    """An instance with a fleet near the edge: the words that give it, and its least cost by all plans, or None."""
+    text, source = laid_out(random, edge_words(random, random.randint(1, MOST_CUSTOMERS))), os.path.join(
+        folder, "source.txt")
+    put(source, text)
+    return [source], least_cost(read(text))
+
+
+def table_given(folder, random):
+    """The same of a table with stops without demand, whose least cost follows from its own numbers."""
+    table = table_drawn(random)
+    while wrong_line(table) is not None:
+        table = table_drawn(random)
+    source = os.path.join(folder, "source.csv")
+    put(source, table.text(random))
+    return [source, "--vehicles", str(table.fleet), "--capacity", str(table.capacity)], min(
+        (10 * table.scale * table.cost(plan) for plan in all_plans(table.count) if table.fits(plan)), default=None)
+
+
 def judge_served(program, folder, random):
     """A plan by the command, or a plan of the others."""
-    text = laid_out(random, edge_words(random, random.randint(1, MOST_CUSTOMERS)))
-    source, into = os.path.join(folder, "source.txt"), os.path.join(folder, "monday")
-    put(source, text)
-    out, errors, status = tool("plan", source, "--into", into, "--seconds", "30", "--program", program)
-    out, instance = out.decode(), read(text)
-    least = least_cost(instance)
+    words, least = random.choice([instance_given, instance_given, table_given])(folder, random)
+    into = os.path.join(folder, "monday")
+    out, errors, status = tool("plan", *words, "--into", into, "--seconds", "30", "--program", program)
+    out = out.decode()
     demand("Traceback" not in errors, "plan: %r" % errors)
-    _, kind, cost, _ = standing(program, folder, into)
+    text, kind, cost, _ = standing(program, folder, into)
     if least is not None:
         demand(status == 0 and cost is not None and cost >= least and (kind != "BEST" or cost == least),
                "status %d, %s %s, and the least cost is %d" % (status, kind, cost, least))
         return kind
     demand(status == 1 and kind in ("NO PLAN", "OPEN"), "status %d, %s, and there is no plan" % (status, kind))
-    return judge_others(program, folder, instance, into, out) if kind == "NO PLAN" else kind
+    return judge_others(program, folder, read(text), into, out) if kind == "NO PLAN" else kind
 
 
 def texts_in(element):
