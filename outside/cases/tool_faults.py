@@ -35,6 +35,7 @@ FILES = {
     "geo.csv": "lat,lon,demand,ready,due,service\n52,13,0,0,1000,0\n52.1,13,1,0,1000,0\n",
     "far.csv": "lat,lon,demand,ready,due,service\n52,13,0,0,1000,0\n91,13,1,0,1000,0\n",
     "visits.csv": "x,y,demand,ready,due,service\n0,0,0,0,1000,0\n3,4,0,0,1000,0\n3,4,,0,1000,0\n3,5,1,0,1000,0\n",
+    "point.csv": "x;y;demand;ready;due;service\n0;0;0;06.00;18.00;0\n1;1;1;06.30;;2\n",
     "moment.csv": "x;y;demand;ready;due;service\n0;0;0;6:00;18:00;0\n3;4;1;6:30:20;6:30:20;5\n",
     "below.csv": "x,y,demand,ready,due,service\n0,0,0,0,1000,0\n9999.5,0,1,0,1000,-0.4\n",
     "full.csv": "name,x,y,demand,ready,due,service\nD,0,0,,0,1000,\nA,10,0,40,0,1000,5\nB,10,5,,0,1000,5\n",
@@ -215,6 +216,7 @@ draw i.txt cr.txt|cr.txt: lines end in a carriage return and a line feed
 recheck i.txt k.txt cr.txt|cr.txt: lines end in a carriage return and a line feed
 carry i.txt cut.txt other.txt|cut.txt: the last line has no line feed
 report i.txt cr.txt k.txt|cr.txt: lines end in a carriage return and a line feed
+convert point.csv - --to ours --vehicles 5 --capacity 5|times such as 06.00 (line 2) are numbers with decimals; those of
 convert half.csv - --to ours --vehicles 5 --capacity 5|multiplied by 10, the least power of ten
 convert - - --from csv --to ours --vehicles 5 --capacity 5 < half.csv|multiplied by 10, the least power of ten
 """

@@ -48,6 +48,7 @@ def table_drawn(random):
 
 
 def place(random, far, tenths):
+    """Coordinates, whole or in tenths."""
     return tuple(Fraction(random.randint(0, far * tenths), tenths) for _ in "xy")
 
 
@@ -86,6 +87,7 @@ def told(load, tens):
 
 
 def demand_timetable(table, plan, tens, words):
+    """The timetable has the load behind each stop."""
     out, _, status = tool("timetable", *words, "--csv")
     demand(status == 0, "timetable: status %d" % status)
     rows = iter(list(csv.DictReader(out.decode().split("\n\n")[0].splitlines())))
@@ -112,6 +114,7 @@ def demand_page(table, plan, tens, words, folder):
 
 
 def demand_sheets(table, plan, tens, words, folder):
+    """The sheets have what is handed over and what is left, and a visit where nothing is."""
     path = os.path.join(folder, "drivers.html")
     out, errors, status = tool("sheets", *words, "-o", path)
     demand((out, status) == (b"", 0), "sheets: status %d, %r" % (status, errors))

@@ -1,4 +1,6 @@
 """A table of customers, as spreadsheets write it: a heading line, the depot, and the customers."""
+import re
+
 from tools.csv_values import Values, fitting
 from tools.globe import laid_out
 from tools.layouts import Read
@@ -12,6 +14,8 @@ COLUMNS = ["x", "y", "demand", "ready", "due", "service"]
 WINDOW, PLACE, DEGREES = ["ready", "due"], ["x", "y"], ["lat", "lon"]
 # Other names of the columns of degrees.
 OTHERS = {"latitude": "lat", "longitude": "lon", "lng": "lon", "long": "lon"}
+# A number with decimals that may be meant as a time of the day.
+POINTED = re.compile(r"(?:[01]?[0-9]|2[0-4])[.,][0-5][0-9]\Z")
 # The columns that may have the customers' names; the first one that is there has them.
 NAMED = ("name", "customer")
 
@@ -39,6 +43,10 @@ def noted_numbers(table):
         return None
     comma = first(DECIMAL_COMMA.match, COLUMNS + DEGREES)
     clock = first(lambda field: minutes_of(field) is not None, WINDOW + ["service"])
+    times = [(fields[table.heading.index(column)], line) for line, fields in table.rows for column in WINDOW
+             if column in table.columns and fields[table.heading.index(column)]]
+    if times and all(POINTED.match(field) for field, _ in times):
+        yield "times such as %s (line %d) are numbers with decimals; those of the day have a colon" % times[0]
     if comma:
         yield "the comma of numbers such as %s parts decimals" % comma
     if clock and table.columns[0] in PLACE:
