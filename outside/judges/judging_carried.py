@@ -18,18 +18,21 @@ FITS_NOWHERE = re.compile(r"outside/carry: customer \S+ of the changed instance 
 def changed(random, instance):
     """The instance with some customers gone, new or changed, and perhaps another fleet or capacity; and the numbers
     before of its customers, None of new ones."""
+    day = max(60, instance.due(0) // 10)
     kept = [i for i in range(1, instance.count + 1) if random.randrange(5)]
     rows, before = [instance.rows[0]], [0]
     for i in kept + random.randint(0 if kept else 1, 3) * [None]:
-        row = instance.rows[i] if i else (random.randrange(60), random.randrange(60))
+        row = instance.rows[i] if i else tuple(
+            max(0, at + random.randint(-3, 3)) for at in random.choice(instance.rows)[:2])
         if i is None or random.randrange(4) == 0:
-            demand_word, *times = customer_words(random, False, 10, 1000, instance.capacity)
+            demand_word, *times = customer_words(random, random.randrange(4) > 0, 3, day, instance.capacity)
             row = (*row[:2], int(demand_word), *(10 * int(word) for word in times))
         rows.append(row)
         before.append(i)
     places = [0] + random.sample(range(1, len(rows)), len(rows) - 1)
-    return Instance(b"changed", random.choice([instance.fleet, instance.fleet, 1, 8]), random.choice(
-        [instance.capacity, instance.capacity, 2]), [rows[at] for at in places]), [before[at] for at in places]
+    return Instance(b"changed", random.choice([instance.fleet, 8, 8, 8, 1]), random.choice(
+        [instance.capacity, instance.capacity, instance.capacity, 2]), [rows[at] for at in places]), [
+            before[at] for at in places]
 
 
 def demand_told(errors, words, right):
