@@ -163,8 +163,8 @@ def told(value, digits):
 
 
 def demand_shown(drawn, instance, plan, words):
-    """The timetable has begins and distances in the units of the table: times of the day cut to the minute, else numbers
-    with the digits of a tenth of a unit."""
+    """The timetable has begins and distances in the units of the table: times of the day cut to the minute, or else
+    numbers with the digits of a tenth of a unit."""
     digits, one = len(str(drawn.scale - 1)) + 1 if drawn.scale > 1 else 1, 10 * drawn.scale
     out, errors, status = tool("timetable", *words, "--csv")
     demand(status == 0, "timetable: status %d, %r" % (status, errors))
