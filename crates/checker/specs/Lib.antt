@@ -1,3 +1,3 @@
-pub mod Served
+pub mod Counted
 pub mod Plans
 pub mod Checking

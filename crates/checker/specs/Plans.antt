@@ -1,8 +1,7 @@
 -- Why routes are refused.
-use Rattle.std.specs.Prelude.{ℕ, ◌≤◌, List}
+use Rattle.std.specs.Prelude.{ℕ, List}
 use Rattle.solomon_reader.specs.Problem.{Problem}
-use Rattle.solomon_reader.specs.Plan.{count_of}
-use Rattle.solomon_reader.specs.PlanDefects.{stops, Defect, empty_route, unknown_customer, twice, missing, over_capacity, late, fleet_exceeded, IsLowestDefect}
+use Rattle.solomon_reader.specs.PlanDefects.{Defect, empty_route, unknown_customer, twice, missing, over_capacity, late, fleet_exceeded, IsLowestDefect}
 use Rattle.checker.specs.declared.fault.CheckFault.{CheckFault}
 use Rattle.checker.specs.declared.fault.CheckFault.TheVariants as fault
 use Rattle.checker.specs.declared.fault.PlanWhy.{PlanWhy}
@@ -26,9 +25,3 @@ abbrev pub RefusesRoutes : Problem → List (List ℕ) → CheckFault → Type 0
 RefusesRoutes p routes fault.Memory = Unit {0}
 RefusesRoutes p routes (fault.PlanRefused why) = IsRefusedFor p routes why
 RefusesRoutes p routes e = ⊥
-
--- a customer stands twice among the stops, or memory is refused
-abbrev pub TellsTwice : List (List ℕ) → CheckFault → Type 0
-TellsTwice routes fault.Memory = Unit {0}
-TellsTwice routes (fault.PlanRefused Twice) = (i : ℕ) × (2 ≤ count_of i (stops routes))
-TellsTwice routes e = ⊥
