@@ -1,10 +1,8 @@
 -- Tallies of lists.
-use Rattle.std.proofs.Common.{◌≡◌, refl, ℕ, ◌+◌, List, [], ◌∷◌, ◌++◌, arith, ap, ◌∙◌, sym, add-zero, add_comm, ◌<◌, length, take, map, Option, ◌-◌}
-use Rattle.std.proofs.lemmas.List.Sums.{sum_by-append, sum_by-cons}
+use Rattle.std.proofs.Common.{◌≡◌, refl, ℕ, ◌+◌, List, [], ◌∷◌, ◌++◌, arith, ap, ◌∙◌, sym, ◌<◌, length, take, map, Option, ◌-◌}
 use Rattle.std.proofs.lemmas.List.{map-append, reverse-append, take_more}
 use Rattle.std.proofs.lemmas.List.FromFn.{map-range_with_len_more}
 use Rattle.std.proofs.Math.ListN.{get_or}
-use Rattle.std.specs.List.{sum_by}
 use Rattle.solomon_reader.specs.History.{Event}
 use Rattle.incumbent_book.specs.Contents.{event_of, past_of}
 use Rattle.incumbent_book.specs.declared.event.Event.{Event as Kept}
@@ -12,98 +10,35 @@ use Rattle.desk.specs.Holding.{Holding}
 use Rattle.desk.specs.Account.{Account, opening_accounts, tally_of_shares}
 use Rattle.desk.specs.Tally.{Tally, plus, each, tally_by, tally_of, tally_of_event}
 
-cons_by : {X : Type 0} (f : X → ℕ) (x : X) (xs : List X) → sum_by f (x ∷ xs) ≡ sum_by f xs + f x
-cons_by f x xs = omega (arith, sum_by-cons f x xs)
+pub plus_none : (a : Tally) → plus a (each 0) ≡ a
+unfolding plus each
+plus_none a = grind arith
+
+plus_swap : (a b : Tally) → plus a b ≡ plus b a
+unfolding plus
+plus_swap a b = grind arith
+
+swapped : (a b c : Tally) → plus (plus a b) c ≡ plus a (plus c b)
+unfolding plus
+swapped a b c = grind arith
+
+turned : (a b c : Tally) → plus (plus a b) c ≡ plus (plus a c) b
+unfolding plus
+turned a b c = grind arith
 
 pub tally_by-cons : {X : Type 0} (f : X → Tally) (x : X) (xs : List X) → tally_by f (x ∷ xs) ≡ plus (tally_by f xs) (f x)
-unfolding tally_by plus
-tally_by-cons f x xs i = record {
-  accepted = cons_by (λ y. (f y).accepted) x xs i;
-  better = cons_by (λ y. (f y).better) x xs i;
-  repriced = cons_by (λ y. (f y).repriced) x xs i;
-  split = cons_by (λ y. (f y).split) x xs i;
-  workers = cons_by (λ y. (f y).workers) x xs i;
-  costs = cons_by (λ y. (f y).costs) x xs i;
-  values = cons_by (λ y. (f y).values) x xs i;
-  repriced_leaves = cons_by (λ y. (f y).repriced_leaves) x xs i;
-  split_leaves = cons_by (λ y. (f y).split_leaves) x xs i;
-  made = cons_by (λ y. (f y).made) x xs i;
-}
-
-one_by : {X : Type 0} (f : X → ℕ) (xs : List X) (x : X) → sum_by f (xs ++ x ∷ []) ≡ sum_by f xs + f x
-one_by f xs x = omega (arith, sum_by-append f xs (x ∷ []))
+unfolding tally_by
+tally_by-cons f x xs = refl
 
 pub tally_by-push : {X : Type 0} (f : X → Tally) (xs : List X) (x : X) → tally_by f (xs ++ x ∷ []) ≡ plus (tally_by f xs) (f x)
-unfolding tally_by plus
-tally_by-push f xs x i = record {
-  accepted = one_by (λ y. (f y).accepted) xs x i;
-  better = one_by (λ y. (f y).better) xs x i;
-  repriced = one_by (λ y. (f y).repriced) xs x i;
-  split = one_by (λ y. (f y).split) xs x i;
-  workers = one_by (λ y. (f y).workers) xs x i;
-  costs = one_by (λ y. (f y).costs) xs x i;
-  values = one_by (λ y. (f y).values) xs x i;
-  repriced_leaves = one_by (λ y. (f y).repriced_leaves) xs x i;
-  split_leaves = one_by (λ y. (f y).split_leaves) xs x i;
-  made = one_by (λ y. (f y).made) xs x i;
-}
+unfolding tally_by
+tally_by-push f [] x = refl
+tally_by-push f (y ∷ ys) x = ap (λ a. plus a (f y)) (tally_by-push f ys x) ∙ turned (tally_by f ys) (f x) (f y)
 
 -- an event more, in the history and in the totals
 pub counted_more : (past : List Event) (event : Event) (before after : Tally) (new : List Event) → tally_of past ≡ before → new ≡ event ∷ past
     → after ≡ plus before (tally_of_event event) → tally_of new ≡ after
 counted_more past event before after new was longer more = rw (longer, tally_by-cons tally_of_event event past, was, more) refl
-
-pub plus_none : (a : Tally) → plus a (each 0) ≡ a
-unfolding plus each
-plus_none a i = record {
-  accepted = add-zero a.accepted i;
-  better = add-zero a.better i;
-  repriced = add-zero a.repriced i;
-  split = add-zero a.split i;
-  workers = add-zero a.workers i;
-  costs = add-zero a.costs i;
-  values = add-zero a.values i;
-  repriced_leaves = add-zero a.repriced_leaves i;
-  split_leaves = add-zero a.split_leaves i;
-  made = add-zero a.made i;
-}
-
-swap_one : (a b c : ℕ) → a + b + c ≡ a + (c + b)
-swap_one a b c = omega arith
-
-swapped : (a b c : Tally) → plus (plus a b) c ≡ plus a (plus c b)
-unfolding plus
-swapped a b c i = record {
-  accepted = swap_one a.accepted b.accepted c.accepted i;
-  better = swap_one a.better b.better c.better i;
-  repriced = swap_one a.repriced b.repriced c.repriced i;
-  split = swap_one a.split b.split c.split i;
-  workers = swap_one a.workers b.workers c.workers i;
-  costs = swap_one a.costs b.costs c.costs i;
-  values = swap_one a.values b.values c.values i;
-  repriced_leaves = swap_one a.repriced_leaves b.repriced_leaves c.repriced_leaves i;
-  split_leaves = swap_one a.split_leaves b.split_leaves c.split_leaves i;
-  made = swap_one a.made b.made c.made i;
-}
-
-pub tally_by-none : {X : Type 0} (f : X → Tally) → tally_by f [] ≡ each 0
-unfolding tally_by each
-tally_by-none f = refl
-
-plus_swap : (a b : Tally) → plus a b ≡ plus b a
-unfolding plus
-plus_swap a b i = record {
-  accepted = add_comm a.accepted b.accepted i;
-  better = add_comm a.better b.better i;
-  repriced = add_comm a.repriced b.repriced i;
-  split = add_comm a.split b.split i;
-  workers = add_comm a.workers b.workers i;
-  costs = add_comm a.costs b.costs i;
-  values = add_comm a.values b.values i;
-  repriced_leaves = add_comm a.repriced_leaves b.repriced_leaves i;
-  split_leaves = add_comm a.split_leaves b.split_leaves i;
-  made = add_comm a.made b.made i;
-}
 
 -- a share more, merged or still among the others
 pub merged : (f : Account → Tally) (xs : List Account) (x : Account) (a : Tally) → plus (plus a (f x)) (tally_by f xs) ≡ plus a (tally_by f (xs ++ x ∷ []))
@@ -120,7 +55,8 @@ gather_more before after share tally are = rw are (merged (λ (s : Account). s.t
 
 -- none of the others
 pub gather_all : (others : List Account) (tally : Tally) → others ≡ [] → plus tally (tally_of_shares others) ≡ tally
-gather_all others tally none = rw (none, tally_by-none (λ (s : Account). s.tally)) (plus_none tally)
+unfolding tally_by
+gather_all others tally none = rw none (plus_none tally)
 
 -- the events so far, and one more
 past_of-more : (history : List Kept) (i : ℕ) (event : Kept) → i < length history → event ≡ get_or history i event

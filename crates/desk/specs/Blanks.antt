@@ -1,35 +1,29 @@
 -- The opening tokens of ten ledgers.
+use Rattle.std.specs.Prelude.{ℕ}
+use Rattle.std.specs.declared.sync.ledger.Blank.{Blank}
 use Rattle.desk.specs.Tally.{Tally}
 use Rattle.desk.specs.declared.blanks.Blanks.{Blanks}
 
+-- a number of each token
+abbrev pub each_of : (Blank → ℕ) → Blanks → Tally
+each_of f b =
+    record {
+      accepted = f b.accepted;
+      better = f b.better;
+      repriced = f b.repriced;
+      split = f b.split;
+      workers = f b.workers;
+      costs = f b.costs;
+      values = f b.values;
+      repriced_leaves = f b.repriced_leaves;
+      split_leaves = f b.split_leaves;
+      made = f b.made;
+    }
+
 -- the names of the ledgers
 abbrev pub names_of : Blanks → Tally
-names_of b =
-    record {
-      accepted = b.accepted.name;
-      better = b.better.name;
-      repriced = b.repriced.name;
-      split = b.split.name;
-      workers = b.workers.name;
-      costs = b.costs.name;
-      values = b.values.name;
-      repriced_leaves = b.repriced_leaves.name;
-      split_leaves = b.split_leaves.name;
-      made = b.made.name;
-    }
+names_of b = each_of (λ t. t.name) b
 
 -- into how many parts they are cut
 abbrev pub parts_of : Blanks → Tally
-parts_of b =
-    record {
-      accepted = b.accepted.parts;
-      better = b.better.parts;
-      repriced = b.repriced.parts;
-      split = b.split.parts;
-      workers = b.workers.parts;
-      costs = b.costs.parts;
-      values = b.values.parts;
-      repriced_leaves = b.repriced_leaves.parts;
-      split_leaves = b.split_leaves.parts;
-      made = b.made.parts;
-    }
+parts_of b = each_of (λ t. t.parts) b

@@ -1,6 +1,5 @@
 -- Counts and sums over a history.
-use Rattle.std.specs.Prelude.{ℕ, ◌+◌, List, if◌then◌else◌}
-use Rattle.std.specs.List.{sum_by}
+use Rattle.std.specs.Prelude.{ℕ, ◌+◌, List, [], ◌∷◌, if◌then◌else◌}
 use Rattle.solomon_reader.specs.History.{Event, offered, repriced, branched}
 
 -- The accepted offers, the better ones, the reprices and the splits; and sums: of the worker's number, once for each accepted call, of the costs offered,
@@ -52,19 +51,8 @@ tally_of_event (branched worker leaf a used unused x y) = split_tally worker lea
 
 -- the sum of the tallies of the elements
 unfoldable pub tally_by : {X : Type 0} → (X → Tally) → List X → Tally
-tally_by f xs =
-    record {
-      accepted = sum_by (λ x. (f x).accepted) xs;
-      better = sum_by (λ x. (f x).better) xs;
-      repriced = sum_by (λ x. (f x).repriced) xs;
-      split = sum_by (λ x. (f x).split) xs;
-      workers = sum_by (λ x. (f x).workers) xs;
-      costs = sum_by (λ x. (f x).costs) xs;
-      values = sum_by (λ x. (f x).values) xs;
-      repriced_leaves = sum_by (λ x. (f x).repriced_leaves) xs;
-      split_leaves = sum_by (λ x. (f x).split_leaves) xs;
-      made = sum_by (λ x. (f x).made) xs;
-    }
+tally_by f [] = each 0
+tally_by f (x ∷ xs) = plus (tally_by f xs) (f x)
 
 -- the counts and sums over a history
 abbrev pub tally_of : List Event → Tally

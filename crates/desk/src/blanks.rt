@@ -4,6 +4,7 @@ ghost use Rattle.std.specs.Prelude.{◌≡◌};
 ghost use Rattle.desk.specs.Tally.{each};
 ghost use Rattle.desk.specs.Blanks.{parts_of};
 
+use crate::each_ledger::each_ledger;
 use std::sync::ledger::Blank;
 
 /// The opening tokens of the ledgers that a desk counts in: of the accepted offers, the better ones,
@@ -38,18 +39,6 @@ impl Blanks {
     pub fn new(workers: u16) -> Blanks
         ensures { parts_of result ≡ each workers }
     {
-        let parts = u64::from(workers);
-        Blanks {
-            accepted: Blank::new(parts),
-            better: Blank::new(parts),
-            repriced: Blank::new(parts),
-            split: Blank::new(parts),
-            workers: Blank::new(parts),
-            costs: Blank::new(parts),
-            values: Blank::new(parts),
-            repriced_leaves: Blank::new(parts),
-            split_leaves: Blank::new(parts),
-            made: Blank::new(parts),
-        }
+        each_ledger!(new u64::from(workers))
     }
 }

@@ -1,115 +1,94 @@
-//! The ledgers of a desk, each cut into a part for each worker.
+//! The ledgers of a desk.
 
 use crate::naming::Naming;
 use std::marker::PhantomData;
 use std::sync::ledger::Ledger;
 
-/// The ledger of the accepted offers.
-pub struct Accepted<J: Naming> {
-    of: PhantomData<J>,
+/// One of the ten things that a desk counts or sums.
+pub trait Counted {
+    ghost use Rattle.std.specs.Prelude.{ℕ};
+    ghost use Rattle.desk.specs.Tally.{Tally};
+
+    ghost place: { Tally → ℕ };
 }
 
-impl<J: Naming> Ledger for Accepted<J> {
-    ghost name = { J.names.accepted };
+/// The ledger of one of them, cut into a part for each worker.
+pub struct LedgerOf<J: Naming, C: Counted> {
+    of: PhantomData<(J, C)>,
+}
+
+impl<J: Naming, C: Counted> Ledger for LedgerOf<J, C> {
+    ghost name = { C.place J.names };
 
     ghost parts = { J.workers };
 }
 
-/// The ledger of the better offers.
-pub struct Better<J: Naming> {
-    of: PhantomData<J>,
+/// The accepted offers.
+pub struct Accepted;
+
+impl Counted for Accepted {
+    ghost place = { λ t. t.accepted };
 }
 
-impl<J: Naming> Ledger for Better<J> {
-    ghost name = { J.names.better };
+/// The better offers.
+pub struct Better;
 
-    ghost parts = { J.workers };
+impl Counted for Better {
+    ghost place = { λ t. t.better };
 }
 
-/// The ledger of the reprices.
-pub struct Repriced<J: Naming> {
-    of: PhantomData<J>,
+/// The reprices.
+pub struct Repriced;
+
+impl Counted for Repriced {
+    ghost place = { λ t. t.repriced };
 }
 
-impl<J: Naming> Ledger for Repriced<J> {
-    ghost name = { J.names.repriced };
+/// The splits.
+pub struct Split;
 
-    ghost parts = { J.workers };
+impl Counted for Split {
+    ghost place = { λ t. t.split };
 }
 
-/// The ledger of the splits.
-pub struct Split<J: Naming> {
-    of: PhantomData<J>,
+/// The workers' numbers, once for each accepted call.
+pub struct Workers;
+
+impl Counted for Workers {
+    ghost place = { λ t. t.workers };
 }
 
-impl<J: Naming> Ledger for Split<J> {
-    ghost name = { J.names.split };
+/// The costs of the accepted offers.
+pub struct Costs;
 
-    ghost parts = { J.workers };
+impl Counted for Costs {
+    ghost place = { λ t. t.costs };
 }
 
-/// The ledger of the workers' numbers, once for each accepted call.
-pub struct Workers<J: Naming> {
-    of: PhantomData<J>,
+/// The reprices' values.
+pub struct Values;
+
+impl Counted for Values {
+    ghost place = { λ t. t.values };
 }
 
-impl<J: Naming> Ledger for Workers<J> {
-    ghost name = { J.names.workers };
+/// The leaves that the reprices named.
+pub struct RepricedLeaves;
 
-    ghost parts = { J.workers };
+impl Counted for RepricedLeaves {
+    ghost place = { λ t. t.repriced_leaves };
 }
 
-/// The ledger of the costs of the accepted offers.
-pub struct Costs<J: Naming> {
-    of: PhantomData<J>,
+/// The leaves that the splits named.
+pub struct SplitLeaves;
+
+impl Counted for SplitLeaves {
+    ghost place = { λ t. t.split_leaves };
 }
 
-impl<J: Naming> Ledger for Costs<J> {
-    ghost name = { J.names.costs };
+/// The numbers that the splits made.
+pub struct Made;
 
-    ghost parts = { J.workers };
-}
-
-/// The ledger of the reprices' values.
-pub struct Values<J: Naming> {
-    of: PhantomData<J>,
-}
-
-impl<J: Naming> Ledger for Values<J> {
-    ghost name = { J.names.values };
-
-    ghost parts = { J.workers };
-}
-
-/// The ledger of the leaves that the reprices named.
-pub struct RepricedLeaves<J: Naming> {
-    of: PhantomData<J>,
-}
-
-impl<J: Naming> Ledger for RepricedLeaves<J> {
-    ghost name = { J.names.repriced_leaves };
-
-    ghost parts = { J.workers };
-}
-
-/// The ledger of the leaves that the splits named.
-pub struct SplitLeaves<J: Naming> {
-    of: PhantomData<J>,
-}
-
-impl<J: Naming> Ledger for SplitLeaves<J> {
-    ghost name = { J.names.split_leaves };
-
-    ghost parts = { J.workers };
-}
-
-/// The ledger of the numbers that the splits made.
-pub struct Made<J: Naming> {
-    of: PhantomData<J>,
-}
-
-impl<J: Naming> Ledger for Made<J> {
-    ghost name = { J.names.made };
-
-    ghost parts = { J.workers };
+impl Counted for Made {
+    ghost place = { λ t. t.made };
 }

@@ -4,6 +4,7 @@
 mod amounts;
 mod blanks;
 mod dealing;
+mod each_ledger;
 mod fault;
 mod ledgers;
 mod locked;

@@ -8,8 +8,10 @@ ghost use Rattle.desk.specs.Blanks.{names_of, parts_of};
 
 use crate::amounts::add_large;
 use crate::blanks::Blanks;
+use crate::each_ledger::each_ledger;
 use crate::ledgers::{
-    Accepted, Better, Costs, Made, Repriced, RepricedLeaves, Split, SplitLeaves, Values, Workers,
+    Accepted, Better, Costs, LedgerOf, Made, Repriced, RepricedLeaves, Split, SplitLeaves, Values,
+    Workers,
 };
 use crate::naming::Naming;
 use incumbent_book::Event;
@@ -19,16 +21,16 @@ use std::sync::ledger;
 /// The totals of what all shares counted.
 #[derive(Drop)]
 pub(crate) struct Totals<J: Naming> {
-    accepted: ledger::Book<Accepted<J>>,
-    better: ledger::Book<Better<J>>,
-    repriced: ledger::Book<Repriced<J>>,
-    split: ledger::Book<Split<J>>,
-    workers: ledger::Book<Workers<J>>,
-    costs: ledger::Book<Costs<J>>,
-    values: ledger::Book<Values<J>>,
-    repriced_leaves: ledger::Book<RepricedLeaves<J>>,
-    split_leaves: ledger::Book<SplitLeaves<J>>,
-    made: ledger::Book<Made<J>>,
+    accepted: ledger::Book<LedgerOf<J, Accepted>>,
+    better: ledger::Book<LedgerOf<J, Better>>,
+    repriced: ledger::Book<LedgerOf<J, Repriced>>,
+    split: ledger::Book<LedgerOf<J, Split>>,
+    workers: ledger::Book<LedgerOf<J, Workers>>,
+    costs: ledger::Book<LedgerOf<J, Costs>>,
+    values: ledger::Book<LedgerOf<J, Values>>,
+    repriced_leaves: ledger::Book<LedgerOf<J, RepricedLeaves>>,
+    split_leaves: ledger::Book<LedgerOf<J, SplitLeaves>>,
+    made: ledger::Book<LedgerOf<J, Made>>,
 }
 
 impl<J: Naming> Model for Totals<J> {
@@ -53,16 +55,16 @@ impl<J: Naming> Model for Totals<J> {
 /// What one share counted.
 #[derive(Drop)]
 pub(crate) struct Tokens<J: Naming> {
-    accepted: ledger::Share<Accepted<J>>,
-    better: ledger::Share<Better<J>>,
-    repriced: ledger::Share<Repriced<J>>,
-    split: ledger::Share<Split<J>>,
-    workers: ledger::Share<Workers<J>>,
-    costs: ledger::Share<Costs<J>>,
-    values: ledger::Share<Values<J>>,
-    repriced_leaves: ledger::Share<RepricedLeaves<J>>,
-    split_leaves: ledger::Share<SplitLeaves<J>>,
-    made: ledger::Share<Made<J>>,
+    accepted: ledger::Share<LedgerOf<J, Accepted>>,
+    better: ledger::Share<LedgerOf<J, Better>>,
+    repriced: ledger::Share<LedgerOf<J, Repriced>>,
+    split: ledger::Share<LedgerOf<J, Split>>,
+    workers: ledger::Share<LedgerOf<J, Workers>>,
+    costs: ledger::Share<LedgerOf<J, Costs>>,
+    values: ledger::Share<LedgerOf<J, Values>>,
+    repriced_leaves: ledger::Share<LedgerOf<J, RepricedLeaves>>,
+    split_leaves: ledger::Share<LedgerOf<J, SplitLeaves>>,
+    made: ledger::Share<LedgerOf<J, Made>>,
 }
 
 impl<J: Naming> Model for Tokens<J> {
@@ -105,40 +107,7 @@ impl<J: Naming> Totals<J> {
         requires { (names_of blanks ≡ J.names) × (parts_of blanks ≡ each J.workers) }
         ensures { (result.0 ≡ each 0) × (result.1 ≡ record { parts = J.workers; tally = each 0 }) }
     {
-        let (accepted, all_accepted) = blanks.accepted.open();
-        let (better, all_better) = blanks.better.open();
-        let (repriced, all_repriced) = blanks.repriced.open();
-        let ((split, all_split), (made, all_made)) = (blanks.split.open(), blanks.made.open());
-        let (workers, all_workers) = blanks.workers.open();
-        let (costs, all_costs) = blanks.costs.open();
-        let (values, all_values) = blanks.values.open();
-        let (repriced_leaves, all_repriced_leaves) = blanks.repriced_leaves.open();
-        let (split_leaves, all_split_leaves) = blanks.split_leaves.open();
-        let totals = Totals {
-            accepted,
-            better,
-            repriced,
-            split,
-            workers,
-            costs,
-            values,
-            repriced_leaves,
-            split_leaves,
-            made,
-        };
-        let tokens = Tokens {
-            accepted: all_accepted,
-            better: all_better,
-            repriced: all_repriced,
-            split: all_split,
-            workers: all_workers,
-            costs: all_costs,
-            values: all_values,
-            repriced_leaves: all_repriced_leaves,
-            split_leaves: all_split_leaves,
-            made: all_made,
-        };
-        (totals, tokens)
+        each_ledger!(open blanks)
     }
 
     /// Counts an event.
@@ -234,16 +203,7 @@ impl<J: Naming> Totals<J> {
         ensures all { all.new ≡ all.old }
         ensures whole { all.old.tally ≡ self.old }
     {
-        self.accepted.audit(&mut all.accepted);
-        self.better.audit(&mut all.better);
-        self.repriced.audit(&mut all.repriced);
-        self.split.audit(&mut all.split);
-        self.workers.audit(&mut all.workers);
-        self.costs.audit(&mut all.costs);
-        self.values.audit(&mut all.values);
-        self.repriced_leaves.audit(&mut all.repriced_leaves);
-        self.split_leaves.audit(&mut all.split_leaves);
-        self.made.audit(&mut all.made);
+        each_ledger!(audit self, all)
     }
 }
 
@@ -256,18 +216,7 @@ impl<J: Naming> Tokens<J> {
         ensures one { result ≡ record { parts = 1; tally = each 0 } }
         ensures rest { self.new ≡ record { parts = self.old.parts - 1; tally = each 0 } }
     {
-        Tokens {
-            accepted: self.accepted.split_off(1, 0),
-            better: self.better.split_off(1, 0),
-            repriced: self.repriced.split_off(1, 0),
-            split: self.split.split_off(1, 0),
-            workers: self.workers.split_off(1, 0),
-            costs: self.costs.split_off(1, 0),
-            values: self.values.split_off(1, 0),
-            repriced_leaves: self.repriced_leaves.split_off(1, 0),
-            split_leaves: self.split_leaves.split_off(1, 0),
-            made: self.made.split_off(1, 0),
-        }
+        each_ledger!(split_off self)
     }
 
     /// Takes other tokens in.
@@ -278,27 +227,6 @@ impl<J: Naming> Tokens<J> {
           tally = plus self.old.tally other.tally;
         } }
     {
-        let Tokens {
-            accepted,
-            better,
-            repriced,
-            split,
-            workers,
-            costs,
-            values,
-            repriced_leaves,
-            split_leaves,
-            made,
-        } = other;
-        self.accepted.merge(accepted);
-        self.better.merge(better);
-        self.repriced.merge(repriced);
-        self.split.merge(split);
-        self.workers.merge(workers);
-        self.costs.merge(costs);
-        self.values.merge(values);
-        self.repriced_leaves.merge(repriced_leaves);
-        self.split_leaves.merge(split_leaves);
-        self.made.merge(made);
+        each_ledger!(merge self, other)
     }
 }

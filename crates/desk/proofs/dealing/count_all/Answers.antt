@@ -1,12 +1,11 @@
-use Rattle.std.proofs.Common.{◌∙◌, ap, sym}
-use Rattle.desk.proofs.Tallies.{tally_by-none, tally_of-more, with, with_more}
-use Rattle.desk.specs.Tally.{tally_of_event}
+use Rattle.std.proofs.Common.{ap}
+use Rattle.desk.proofs.Tallies.{tally_of-more, with, with_more}
+use Rattle.desk.specs.Tally.{tally_by}
 use Rattle.desk.proofs.dealing.count_all.Goals as goal
 
 pub loop-event-init : goal.loop-event-init
-loop-event-init g c =
-    let none = tally_by-none tally_of_event in
-    (c.requires.none ∙ sym none, ap (with c.args.mine.now) (c.requires.mine ∙ sym none))
+unfolding tally_by
+loop-event-init g c = (c.requires.none, ap (with c.args.mine.now) c.requires.mine)
 
 pub loop-event-preserved : goal.loop-event-preserved
 loop-event-preserved g c = (
