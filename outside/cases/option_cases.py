@@ -59,25 +59,25 @@ convert end.csv o.txt --column due=end --vehicles 5 --capacity 5 --names n.csv|0
 draw i.txt p.txt --names names.csv|0|-: </svg>
 draw i.txt p.txt --times|0|-: </svg>
 draw i.txt p.txt --tree k.txt|0|-: </svg>
-fewest i.txt --into f --seconds 3 --searchers 1 --bounders 1 --labels 1000 --neighbours 4 --seed 3|0|-: FEWEST 1 BEST
-fewest i.txt --into f --seconds 3 --program {program} ; fewest i.txt --into f --check|0|-: FEWEST 1 BEST 20.0
+fewest i.txt --into f --seconds 30 --searchers 1 --bounders 1 --labels 1000 --neighbours 4 --seed 3|0|-: FEWEST 1 BEST
+fewest i.txt --into f --seconds 30 --program {program} ; fewest i.txt --into f --check|0|-: FEWEST 1 BEST 20.0
 large_trees i.txt --minutes 0.06 --turns 2,default --jobs 1 --seed 5 --solver {program}|0|-: 2 certificates, & \
 -: , 0 disagreements
 large_trees i.txt --minutes 0.02 --turns 2 --jobs 1 --program {program}|0|-: 1 certificates, & -: , 0 disagreements
-plan t.csv --into d --seconds 3 --vehicles 2 --capacity 5 --from csv --name Monday --scale 3|0|\
+plan t.csv --into d --seconds 30 --vehicles 2 --capacity 5 --from csv --name Monday --scale 3|0|\
 d/instance.txt: Monday & d/instance.txt: 1 9 12 1 0 3000 0 & d/report.html: </html>
-plan plain.csv --into d --horizon 06:00-18:00 --vehicles 2 --capacity 5 --seconds 3|0|d/timetable.csv: 06:0
-plan geo.csv --into d --vehicles 5 --capacity 5 --speed 60 --detour 2 --seconds 3|0|d/plan.txt: Route #1: 1
-plan german.csv --into d --column due=bis --vehicles 2 --capacity 5 --seconds 3|0|d/plan.txt: Cost 10.0
-plan i.txt --into d --names names.csv --fewest --drivers --seconds 5|0|d/drivers.html: </html> & d/fewest/1.plan & \
+plan plain.csv --into d --horizon 06:00-18:00 --vehicles 2 --capacity 5 --seconds 30|0|d/timetable.csv: 06:0
+plan geo.csv --into d --vehicles 5 --capacity 5 --speed 60 --detour 2 --seconds 30|0|d/plan.txt: Route #1: 1
+plan german.csv --into d --column due=bis --vehicles 2 --capacity 5 --seconds 30|0|d/plan.txt: Cost 10.0
+plan i.txt --into d --names names.csv --fewest --drivers --seconds 30|0|d/drivers.html: </html> & d/fewest/1.plan & \
 d/names.csv: 2,b & -: No plan does without a vehicle.
-plan i.txt --into d --searchers 1 --bounders 1 --labels 1000 --neighbours 4 --seed 3 --gap 5 --seconds 3|0|\
+plan i.txt --into d --searchers 1 --bounders 1 --labels 1000 --neighbours 4 --seed 3 --gap 5 --seconds 30|0|\
 d/plan.txt: Cost 20.0
-plan i.txt --into d --seconds 3 --program {program}|0|-: 20.0
+plan i.txt --into d --seconds 30 --program {program}|0|-: 20.0
 recheck i.txt k.txt p.txt --jobs 1 --labels 1000|0|-: GAP 20.0 0.0
 report i.txt p.txt k.txt --tree --jobs 1 -o r.html|0|r.html: <section id="the-certificates-tree">
 report i.txt p.txt k.txt --tree --names names.csv --output r.html|0|r.html: <section id="the-certificates-tree">
-fewest i.txt --into f --seconds 3 ; report i.txt p.txt k.txt --fewest f -o r.html|0|\
+fewest i.txt --into f --seconds 30 ; report i.txt p.txt k.txt --fewest f -o r.html|0|\
 r.html: No plan does without a vehicle.
 report i.txt p.txt k.txt --program {program}|0|-: </html>
 respell i.txt list.txt --from-zero|0|-: Route #1: 1 2
