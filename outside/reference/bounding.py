@@ -1,4 +1,7 @@
-"""Relaxed routes, leaf values and the bounds of trees, by the definitions."""
+"""Relaxed routes, leaf values and the bounds of trees, by the definitions; with prices of sets, too."""
+from collections import namedtuple
+
+from reference.needs import entries
 
 # How many routes or labels are gone through for one leaf.
 MOST_STEPS = 300_000
@@ -6,6 +9,10 @@ MOST_STEPS = 300_000
 
 class TooLong(Exception):
     """A leaf has too many relaxed routes or labels for this program."""
+
+
+# A set of customers with its number in a list, what it needs, and the price at a leaf for each time that it is entered.
+PricedSet = namedtuple("PricedSet", "number customers need price")
 
 
 class Region:
@@ -38,7 +45,7 @@ def neighbour_lists(instance, neighbours):
     return lists
 
 
-def least_by_routes(instance, region, prices, neighbours):
+def least_by_routes(instance, region, prices, neighbours, priced=()):
     """The least reduced cost, by going through all relaxed routes one after the other; None if there is none."""
     lists, found = neighbour_lists(instance, neighbours), None
     stack, steps = [([], instance.ready(0), 0, 0)], 0
@@ -49,7 +56,7 @@ def least_by_routes(instance, region, prices, neighbours):
         route, time, load, cost = stack.pop()
         at = route[-1] if route else 0
         if route and region.allows(at, 0) and time + instance.arc[at][0] <= instance.due(0):
-            whole = cost + 1000 * instance.arc[at][0]
+            whole = cost + 1000 * instance.arc[at][0] - sum(one.price * entries(one.customers, route) for one in priced)
             found = whole if found is None else min(found, whole)
         for j in range(1, instance.count + 1):
             begin = max(time + instance.arc[at][j], instance.ready(j))
@@ -69,10 +76,20 @@ def forgets(route, j, lists):
     return any(j not in lists[w] for w in route[last + 1:])
 
 
-def least_by_labels(instance, region, prices, neighbours):
+def paid_by_steps(prices, priced):
+    """What each step pays, by its two rows: the price of the customer that it comes to, and of each set it enters."""
+    paid = [[0] + list(prices) for _ in range(len(prices) + 1)]
+    for one in priced:
+        for i, row in enumerate(paid):
+            for j in one.customers if i not in one.customers else ():
+                row[j] += one.price
+    return paid
+
+
+def least_by_labels(instance, region, prices, neighbours, priced=()):
     """The least reduced cost, by labels: one is dropped where another one with the same last stop has no greater
     time, load and cost, and remembers nothing more."""
-    lists, found = neighbour_lists(instance, neighbours), None
+    lists, paid, found = neighbour_lists(instance, neighbours), paid_by_steps(prices, priced), None
     buckets = [[] for _ in range(instance.capacity + 1)]
     held = [[] for _ in range(instance.count + 1)]
     buckets[0].append((0, instance.ready(0), 0, frozenset()))
@@ -92,7 +109,7 @@ def least_by_labels(instance, region, prices, neighbours):
                 more = load + instance.demand(j)
                 if j in memory or not region.allows(at, j) or more > instance.capacity or begin > instance.due(j):
                     continue
-                label = (more, begin + instance.service(j), cost + 1000 * instance.arc[at][j] - prices[j - 1],
+                label = (more, begin + instance.service(j), cost + 1000 * instance.arc[at][j] - paid[at][j],
                          (memory & lists[j]) | {j})
                 if any(dominates(other, label) for other in held[j]):
                     continue
@@ -105,19 +122,23 @@ def dominates(a, b):
     return a[0] <= b[0] and a[1] <= b[1] and a[2] <= b[2] and a[3] <= b[3]
 
 
-def leaf_value(instance, region, prices, neighbours, version, least):
-    found = least(instance, region, prices, neighbours)
+def leaf_grains(instance, prices, priced, version, found):
+    """A leaf's value in grains, by the least reduced cost that was found; None where no route is relaxed."""
     found = 0 if found is None else found
-    grains = sum(prices) + instance.fleet * min(0, found)
-    if version == 2:
-        grains += instance.fewest_routes() * max(0, found)
-    return max(0, -(-grains // 1000))
+    grains = sum(prices) + sum(one.price * one.need for one in priced) + instance.fleet * min(0, found)
+    return grains + instance.fewest_routes() * max(0, found) if version == 2 else grains
+
+
+def leaf_value(instance, region, prices, neighbours, version, least, priced=()):
+    found = least(instance, region, prices, neighbours, priced)
+    return max(0, -(-leaf_grains(instance, prices, priced, version, found) // 1000))
 
 
 def tree_bound(instance, region, tree, neighbours, version, least):
-    """A tree is ("P", prices) or ("S", arc, used, unused)."""
+    """A tree is ("P", prices), ("P", prices, priced sets) or ("S", arc, used, unused)."""
     if tree[0] == "P":
-        return min(instance.ceiling() + 1, leaf_value(instance, region, tree[1], neighbours, version, least))
+        value = leaf_value(instance, region, tree[1], neighbours, version, least, *tree[2:])
+        return min(instance.ceiling() + 1, value)
     _, arc, used, unused = tree
     return min(tree_bound(instance, region.used(arc), used, neighbours, version, least),
                tree_bound(instance, region.unused(arc), unused, neighbours, version, least))

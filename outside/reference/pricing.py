@@ -2,7 +2,7 @@
 that can't lead to the least reduced cost stay where they are."""
 from heapq import heappop, heappush
 
-from reference.bounding import Region, neighbour_lists
+from reference.bounding import Region, leaf_grains, neighbour_lists, paid_by_steps
 
 # How many labels a leaf may have, unless more are allowed.
 MOST_LABELS = 200_000
@@ -27,22 +27,19 @@ class Pricing:
         self.slot = min((instance.service(i) + instance.arc[i][j] for i in range(1, instance.count + 1)
                          for j in range(1, instance.count + 1) if i != j), default=instance.due(0) + 1)
 
-    def value(self, region, prices):
+    def value(self, region, prices, priced=()):
         """A leaf's value in tenths, by the definition; None where it has too many labels."""
         try:
-            found = self.least(region, prices)
+            found = self.least(region, prices, priced)
         except TooMany:
             return None
-        found = 0 if found is None else found
-        grains = sum(prices) + self.instance.fleet * min(0, found)
-        if self.version == 2:
-            grains += self.instance.fewest_routes() * max(0, found)
+        grains = leaf_grains(self.instance, prices, priced, self.version, found)
         return min(self.instance.ceiling() + 1, max(0, -(-grains // 1000)))
 
-    def least(self, region, prices):
+    def least(self, region, prices, priced=()):
         """The least reduced cost over all relaxed routes, or None. The label that may lead to the least cost is taken
         first, so that the search is over where none may lead below the route found."""
-        arc, ways, count = self.instance.arc, self.ways(region, prices), 0
+        arc, ways, count = self.instance.arc, self.ways(region, prices, priced), 0
         floors = self.floors(region, ways)
         held, found = [[] for _ in arc], NEVER
         waiting = [(ALWAYS, 0, self.instance.ready(0), 0, 0, 0)]
@@ -97,12 +94,12 @@ class Pricing:
         best, then, other = floors[j][start // self.slot]
         return other if then == at != 0 and self.bits[j] >> at & 1 else best
 
-    def ways(self, region, prices):
+    def ways(self, region, prices, priced):
         """From each stop the customers that the region allows and that a vehicle may reach in time, with the length of
-        the arc and what it costs in grains, less the price."""
-        arc, count = self.instance.arc, self.instance.count
+        the arc and what it costs in grains, less what the step pays."""
+        arc, count, paid = self.instance.arc, self.instance.count, paid_by_steps(prices, priced)
         leave = [self.instance.ready(i) + self.instance.service(i) for i in range(count + 1)]
-        return [[(j, arc[i][j], 1000 * arc[i][j] - prices[j - 1]) for j in range(1, count + 1)
+        return [[(j, arc[i][j], 1000 * arc[i][j] - paid[i][j]) for j in range(1, count + 1)
                  if leave[i] + arc[i][j] <= self.instance.due(j) and region.allows(i, j)] for i in range(count + 1)]
 
     def keep(self, held, label):
@@ -118,11 +115,11 @@ class Pricing:
 
 
 def leaves(count, tree):
-    """The region and the prices of each leaf, in preorder."""
+    """The region and the prices of each leaf, and those of sets where the tree has them, in preorder."""
     rest = [(Region(count), tree)]
     while rest:
         region, tree = rest.pop()
         if tree[0] == "P":
-            yield region, tree[1]
+            yield (region, *tree[1:])
         else:
             rest += [(region.unused(tree[1]), tree[3]), (region.used(tree[1]), tree[2])]
