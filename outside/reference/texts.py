@@ -75,11 +75,8 @@ def field(lines, word, low, high):
     return int(rest)
 
 
-def read_certificate(text, most_customers=400):
-    lines = Lines(text)
-    first = lines.next()
-    if first not in (b"VRPTW-CERT 1", b"VRPTW-CERT 2"):
-        lines.bad()
+def read_head(lines, most_customers=400):
+    """The lines behind the first one, up to the bound: name, customers, neighbours, bound."""
     line = lines.next()
     name = line[9:]
     if line[:9] != b"INSTANCE " or not 1 <= len(name) <= 32 or any(not 0x21 <= b <= 0x7E for b in name):
@@ -90,14 +87,28 @@ def read_certificate(text, most_customers=400):
     bound = tenths(line[6:]) if line[:6] == b"BOUND " else None
     if bound is None:
         lines.bad()
-    if lines.next() != b"TREE":
-        lines.bad()
-    tree = Nodes(lines, count).tree([])
+    return name, count, neighbours, bound
+
+
+def read_end(lines):
+    """The last line, and nothing behind it."""
     if lines.next() != b"END":
         lines.bad()
     if not lines.is_done():
         raise TextFault("Extra")
-    return Certificate(int(first[-1:]), name, count, neighbours, bound, tree)
+
+
+def read_certificate(text, most_customers=400):
+    lines = Lines(text)
+    first = lines.next()
+    if first not in (b"VRPTW-CERT 1", b"VRPTW-CERT 2"):
+        lines.bad()
+    head = read_head(lines, most_customers)
+    if lines.next() != b"TREE":
+        lines.bad()
+    tree = Nodes(lines, head[1]).tree([])
+    read_end(lines)
+    return Certificate(int(first[-1:]), *head, tree)
 
 
 class Nodes:
@@ -109,12 +120,15 @@ class Nodes:
         line = self.lines.next()
         words = line.split(b" ")
         if words[0] == b"P":
-            return ("P", self.prices(words[1:]))
+            return self.leaf(words[1:])
         if words[0] != b"S":
             self.lines.bad()
         arc = self.arc(words[1:], path)
         used = self.tree(path + [arc])
         return ("S", arc, used, self.tree(path + [arc]))
+
+    def leaf(self, words):
+        return ("P", self.prices(words))
 
     def prices(self, words):
         if len(words) != self.count or any(not SIGNED.match(word) for word in words):
