@@ -5,6 +5,7 @@ import traceback
 
 from cases.random_texts import LARGE
 from cases.rows import ROWS
+from cases.set_rows import SET_ROWS
 from cases.spellings import SPELLINGS
 from cases.tool_faults import FAULTS
 from judges import judging
@@ -29,6 +30,7 @@ from judges.judging_reports import judge_report
 from judges.judging_roundings import judge_roundings
 from judges.judging_rounds import judge_rounds
 from judges.judging_served import judge_served, judge_sheets
+from judges.judging_sets import judge_set_row
 from judges.judging_starts import judge_start
 from judges.judging_tables import judge_foreseen, judge_table, judge_wrong_names
 from judges.judging_times import judge_times
@@ -158,6 +160,8 @@ KINDS = {
                    12, tools_by(judge_rounds)),
     "literature": Kind("files named as Solomon's by bench/solomon, beside published costs: least costs by all plans", 6,
                        program_by(judge_literature)),
+    "set_rows": Kind("certificates with sets, and what recheck and the reader say of them, by hand", len(SET_ROWS),
+                     lambda programs, folder, random, seed: judge_set_row(folder, seed), is_fixed=True),
     "batches": Kind("some instances by batch, and again with something changed in between", 6,
                     program_by(judge_batch)),
     "tool_faults": Kind("the tools with files that fail and with wrong words", len(FAULTS),

@@ -62,6 +62,9 @@ def read_solution(text):
 
 
 class Certificate:
+    # Those of versions 1 and 2 have no sets.
+    sets = ()
+
     def __init__(self, version, name, count, neighbours, bound, tree):
         self.version, self.name, self.count = version, name, count
         self.neighbours, self.bound, self.tree = neighbours, bound, tree

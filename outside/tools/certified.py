@@ -2,7 +2,9 @@
 import os
 from multiprocessing import Pool
 
+from reference.needs import need
 from reference.pricing import MOST_LABELS, Pricing, leaves
+from reference.set_texts import FIRST_SET
 from reference.texts import shown
 from tools.plans import certificate_of
 from tools.stopping import end_by_signals
@@ -12,11 +14,16 @@ from vrptw import end_with_parent
 
 
 def of_instance(instance, path):
-    """The certificate of a file; one of another instance is refused."""
+    """The certificate of a file; one of another instance is refused, and one that tells of a set a need that it doesn't
+    have."""
     certificate = certificate_of(path)
     if (certificate.name, certificate.count) != (instance.name, instance.count):
         raise Refused("%s: line 2: met a certificate of another instance, wanted %s with %d customers"
                       % (told_path(path), instance.name.decode(), instance.count))
+    for line, one in enumerate(certificate.sets, FIRST_SET):
+        if one.need > 1 and one.need > need(instance, one.customers):
+            raise Refused("%s: line %d: met a need of %d (NeedTooGreat), wanted at most %d"
+                          % (told_path(path), line, one.need, need(instance, one.customers)))
     return certificate
 
 

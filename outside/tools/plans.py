@@ -1,6 +1,7 @@
 """Our texts as the tools read them: an instance, and a solution that serves each of its customers once."""
 from reference.instances import Fault, plan_cost, read
-from reference.texts import TextFault, read_certificate, read_solution, shown
+from reference.set_texts import is_of_sets, read_either
+from reference.texts import TextFault, read_solution, shown
 from tools.naming import Numbering
 from tools.respelling import customers
 from tools.timing import stops
@@ -10,6 +11,9 @@ from tools.tool import Found, Refused, Text, quoted, remember, told_path
 # What leaves a text empty.
 EMPTY = {"a solution": "a plan (solve leaves the file empty after NO PLAN, OPEN and each fault)",
          "a certificate": "a certificate (solve leaves the file empty after each fault)"}
+WITH_SETS = "a certificate with sets"
+# Where a text is told.
+PAGES = {WITH_SETS: "outside/README.md"}
 
 
 def of_ours(text, reader, what):
@@ -23,12 +27,17 @@ def of_ours(text, reader, what):
         if not text.held and what in EMPTY:
             text.refuse(1, "an empty file", EMPTY[what])
         judge_ends(text, line, name, what)
-        text.refuse(line, "%s (%s)" % (quoted(text.lines[line - 1]), name), "%s of docs/formats.md" % what)
+        text.refuse(line, "%s (%s)" % (quoted(text.lines[line - 1]), name), told_place(what))
+
+
+def told_place(what):
+    """What a text should be, and the page that tells it."""
+    return "%s of %s" % (what, PAGES.get(what, "docs/formats.md"))
 
 
 def judge_ends(text, line, name, what):
     """Refuses a line that our reader doesn't take for its end alone: a carriage return, or no line feed."""
-    if what not in EMPTY or name not in ("BadLine", "Truncated"):
+    if what == "an instance" or name not in ("BadLine", "Truncated"):
         return
     lines = text.held.split(b"\n")
     held = lines[line - 1] if line <= len(lines) else lines[-1]
@@ -36,8 +45,7 @@ def judge_ends(text, line, name, what):
         text.refuse(line, "%s with a carriage return behind it (%s)" % (quoted(text.lines[line - 1]), name),
                     "lines that end in a line feed alone")
     if name == "Truncated" and held:
-        text.refuse(line, "%s without a line feed behind it (Truncated)" % quoted(text.lines[line - 1]),
-                    "%s of docs/formats.md" % what)
+        text.refuse(line, "%s without a line feed behind it (Truncated)" % quoted(text.lines[line - 1]), told_place(what))
 
 
 def instance_of(path):
@@ -49,7 +57,7 @@ def instance_of(path):
 
 def certificate_of(path):
     text = Text(path)
-    found = of_ours(text, read_certificate, "a certificate")
+    found = of_ours(text, read_either, WITH_SETS if is_of_sets(text.held) else "a certificate")
     found.held = text.held
     return found
 

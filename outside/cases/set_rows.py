@@ -1,0 +1,138 @@
+"""Certificates with sets that were worked out by hand: what recheck says of them, and what the reader does."""
+from cases.rows import DEPOT, INSTANCES, instance_text
+
+# apart: customers at 50 and 100 tenths, one in a vehicle, so both need two, and alone they cost 100 and 200. Prices of
+# 0 and 100,000, and of 100,000 for both as a set, leave 100,000 - 100,000 and 200,000 - 100,000 - 100,000: 0 at the
+# least. The value is 100,000 and twice 100,000, or once where the need that is told is 1.
+#
+# slow: three customers 50 tenths from the depot, each due at 200, with a service of 100. In any order service begins at
+# 50, 150 and 250, so two are served by one vehicle, which holds all three, and three aren't. Each route costs 100, and
+# with 100,000 for the set has 0. With 60,000 it has 40,000: twice 60,000 and one route's 40,000 are 160,000. With
+# 150,000 it has -50,000: twice 150,000 less 50,000 for each of three vehicles are 150,000. By prices of customers, one
+# route and a half is all: 50,000 for each of three.
+#
+# over: customers 2 and 3 stand at the depot, where service begins at 200, and 4 at (2,12), where it does at 320. The
+# arc there is the root of 14,800, which is 121 (121 * 121 is 14,641, and 122 * 122 is 14,884): 321 is late. Over
+# customer 1 at (1,6) it takes the root of 3,700 twice, which is 60 (3,600, and 61 * 61 is 3,721): 320 is in time. So
+# 2, 3 and 4 need one vehicle, though by arcs no order of them is in time. The route 2 3 1 4 costs 60 + 60 + 121.
+#
+# room: customers at 10, 20 and 30 tenths on a line, one vehicle for all. With 20,000 for customer 2 and 30,000 for 1
+# and 3 as a set, the route 1 2 3 enters it twice, and has 60,000 - 20,000 - 60,000 = -20,000. 1 has 20,000 - 30,000,
+# 1 2 has 40,000 - 50,000, and no other less: the value is 50,000 - 20,000. With 30,000 for 1 and 2 as a set alone, the
+# route 1 enters it once and has -10,000, 1 2 enters it once and has 40,000 - 30,000, 1 3 2 enters it twice and has
+# 60,000 - 60,000: the value is 30,000 - 10,000.
+BY_HAND = {
+    "apart": INSTANCES["apart"],
+    "slow": instance_text(3, 3, DEPOT, "".join("%d 3 4 1 0 20 10\n" % number for number in (1, 2, 3))),
+    "over": instance_text(1, 4, DEPOT, "1 1 6 1 0 1000 0\n2 0 0 1 20 20 0\n3 0 0 1 20 20 0\n4 2 12 1 32 32 0\n"),
+    "room": INSTANCES["room"],
+}
+# The instance, the bound, the sets and the tree, the solution (none where it is empty), and the line that is printed,
+# or that of the certificate which is refused and what is said of it. A semicolon is a line feed.
+TABLE = """
+apart|30.0|S 2 1 2;TREE;P 0 100000;M 1 100000;|Route #1: 1;Route #2: 2;Cost 30.0;|BEST 30.0
+apart|30.0|S 2 1 2;TREE;P 100000 200000;M;||BOUND 30.0
+apart|20.0|S 1 1 2;TREE;P 0 100000;M 1 100000;|Route #1: 1;Route #2: 2;Cost 30.0;|GAP 30.0 20.0
+apart|30.0|S 1 1 2;TREE;P 0 100000;M 1 100000;||line 5: met a bound of 30.0, wanted that of the tree, 20.0
+apart|30.1|S 2 1 2;TREE;P 0 100000;M 1 100000;||line 5: met a bound of 30.1, wanted that of the tree, 30.0
+apart|40.0|S 3 1 2;TREE;P 0 100000;M 1 100000;||line 6: met a need of 3 (NeedTooGreat), wanted at most 2
+apart|30.0|S 2 1 2;S 4000000 1 2;TREE;P 0 0;M;||line 7: met a need of 4000000 (NeedTooGreat), wanted at most 2
+slow|20.0|S 2 1 2 3;TREE;P 0 0 0;M 1 100000;|Route #1: 3 1;Route #2: 2;Cost 20.0;|BEST 20.0
+slow|16.0|S 2 1 2 3;TREE;P 0 0 0;M 1 60000;||BOUND 16.0
+slow|15.0|S 2 1 2 3;TREE;P 0 0 0;M 1 150000;||BOUND 15.0
+slow|15.0|S 2 1 2 3;TREE;P 50000 50000 50000;M;||BOUND 15.0
+slow|15.0|S 1 1 3;S 2 2 3;TREE;P 50000 50000 50000;M;||line 7: met a need of 2 (NeedTooGreat), wanted at most 1
+slow|20.0|S 3 1 2 3;TREE;P 0 0 0;M 1 100000;||line 6: met a need of 3 (NeedTooGreat), wanted at most 2
+over|0.0|S 1 2 3 4;TREE;P 0 0 0 0;M;|Route #1: 2 3 1 4;Cost 24.1;|GAP 24.1 0.0
+over|0.0|S 2 2 3 4;TREE;P 0 0 0 0;M;||line 6: met a need of 2 (NeedTooGreat), wanted at most 1
+room|3.0|S 1 1 3;TREE;P 0 20000 0;M 1 30000;|Route #1: 1 2 3;Cost 6.0;|GAP 6.0 3.0
+room|2.0|S 1 1 2;TREE;P 0 0 0;M 1 30000;||BOUND 2.0
+room|2.0|S 1 1 2;P 0 0 0;||line 7: met "P 0 0 0" (BadLine), wanted a certificate with sets of outside/README.md
+"""
+
+HEAD = "VRPTW-SETS 1;INSTANCE T;CUSTOMERS 3;NEIGHBOURS 8;BOUND 0.0;"
+# Behind the lines of HEAD, and what the reader says; nothing is said of a text that is written again. A tilde is a
+# carriage return.
+SPELLED = """
+TREE;P 0 0 0;M;END;|
+S 1 1 2;S 4000000 1 2 3;TREE;P 0 0 0;M 1 1 2 1000000000000;END;|
+S 1 1 2;S 1 1 2;TREE;P 0 0 0;M 2 7;END;|
+S 1 1 2;TREE;S 0 1;P 0 0 0;M 1 5;S 1 0;P -1 0 0;M;P 0 0 0;M 1 7;END;|
+S 1 1 2|Truncated
+S 1 1 2;|Truncated
+S 1 1;TREE;P 0 0 0;M;END;|BadLine line 6
+S;TREE;P 0 0 0;M;END;|BadLine line 6
+S 1 1 02;|BadLine line 6
+S 1 -1 2;|BadLine line 6
+S 1 1  2;|BadLine line 6
+S 1 1 2 ;|BadLine line 6
+S 1 1 2~;|BadLine line 6
+P 0 0 0;|BadLine line 6
+TREE ;|BadLine line 6
+END;|BadLine line 6
+S 0 1 2;|NeedRange line 6
+S 4000001 1 2;|NeedRange line 6
+S 99999999999999999999999999 1 2;|NeedRange line 6
+S 0 2 1;|NeedRange line 6
+S 1 2 1;|BadSet line 6
+S 1 1 1;|BadSet line 6
+S 1 0 1;|BadSet line 6
+S 1 1 4;|BadSet line 6
+S 1 1 99999999999999999999999999;|BadSet line 6
+S 1 1 2;S 1 1 3 2;|BadSet line 7
+TREE;P 0 0 0;END;|BadLine line 8
+TREE;P 0 0 0;P 0 0 0;|BadLine line 8
+TREE;P 0 0 0;M 1 5;|BadSet line 8
+TREE;P 0 0;M;|BadLine line 7
+TREE;P 0 0 0 M;|BadLine line 7
+TREE;M;|BadLine line 7
+S 1 1 2;TREE;P 0 0 0;M 1;|BadLine line 9
+S 1 1 2;TREE;P 0 0 0;M 1 -5;|BadLine line 9
+S 1 1 2;TREE;P 0 0 0;M 1 05;|BadLine line 9
+S 1 1 2;TREE;P 0 0 0;M 1 5 ;|BadLine line 9
+S 1 1 2;TREE;P 0 0 0;M 1 5~;|BadLine line 9
+S 1 1 2;TREE;P 0 0 0;M 0 5;|BadSet line 9
+S 1 1 2;TREE;P 0 0 0;M 2 5;|BadSet line 9
+S 1 1 2;TREE;P 0 0 0;M 1 5 1 5;|BadSet line 9
+S 1 1 2;S 1 1 3;TREE;P 0 0 0;M 2 5 1 5;|BadSet line 10
+S 1 1 2;TREE;P 0 0 0;M 2 0;|BadSet line 9
+S 1 1 2;TREE;P 0 0 0;M 1 0;|PriceRange line 9
+S 1 1 2;TREE;P 0 0 0;M 1 1000000000001;|PriceRange line 9
+S 1 1 2;TREE;P 0 0 1000000000001;M 1 5;|PriceRange line 8
+S 1 1 2;TREE;S 0 4;|BadArc line 8
+S 1 1 2;TREE;S 0 1;P 0 0 0;M 1 5;S 0 1;|ArcDecided line 11
+S 1 1 2;TREE;P 0 0 0;M 1 5;M 1 5;|BadLine line 10
+S 1 1 2;TREE;P 0 0 0;M 1 5;END; |Extra
+S 1 1 2;TREE;P 0 0 0;M 1 5;END|Truncated
+"""
+# By HEAD's first word or another one.
+FIRSTS = [("VRPTW-SETS 2", "BadLine line 1"), ("VRPTW-SETS 1 ", "BadLine line 1"), ("VRPTW-SETS 1\r", "BadLine line 1"),
+          ("VRPTW-CERT 2", "BadLine line 6")]
+
+
+def certificate_text(count, bound, rest):
+    """A certificate with the lines of a row."""
+    return ("VRPTW-SETS 1\nINSTANCE T\nCUSTOMERS %d\nNEIGHBOURS 8\nBOUND %s\n%sEND\n"
+            % (count, bound, rest.replace(";", "\n")))
+
+
+def checked(line):
+    """An instance, a certificate and a solution, and what recheck says of them."""
+    name, bound, rest, solution, said = line.split("|")
+    instance = BY_HAND[name]
+    certificate = certificate_text(instance.count("\n") - 7, bound, rest)
+    return "check", instance, certificate, solution.replace(";", "\n"), said
+
+
+def read_rows():
+    """Texts, and what the reader says of them."""
+    for line in SPELLED.strip().split("\n"):
+        rest, said = line.split("|")
+        yield "read", (HEAD + rest).replace(";", "\n").replace("~", "\r"), said
+    for first, said in FIRSTS:
+        yield "read", first + (HEAD + "S 1 1 2;TREE;P 0 0 0;M;END;").replace(";", "\n")[12:], said
+    for many, said in ((1000, ""), (1001, "TooManySets line 1006")):
+        yield "read", (HEAD + many * "S 1 1 2;" + "TREE;P 0 0 0;M 1 1;END;").replace(";", "\n"), said
+
+
+SET_ROWS = [checked(line) for line in TABLE.strip().split("\n")] + list(read_rows())
