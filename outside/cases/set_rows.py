@@ -11,6 +11,9 @@ from cases.rows import DEPOT, INSTANCES, instance_text
 # 150,000 it has -50,000: twice 150,000 less 50,000 for each of three vehicles are 150,000. By prices of customers, one
 # route and a half is all: 50,000 for each of three.
 #
+# eleven: slow with as many. Ten of them need two vehicles, by time, and of more time tells nothing. Without prices the
+# value is the 100 of one route, which all demands need.
+#
 # over: customers 2 and 3 stand at the depot, where service begins at 200, and 4 at (2,12), where it does at 320. The
 # arc there is the root of 14,800, which is 121 (121 * 121 is 14,641, and 122 * 122 is 14,884): 321 is late. Over
 # customer 1 at (1,6) it takes the root of 3,700 twice, which is 60 (3,600, and 61 * 61 is 3,721): 320 is in time. So
@@ -24,6 +27,7 @@ from cases.rows import DEPOT, INSTANCES, instance_text
 BY_HAND = {
     "apart": INSTANCES["apart"],
     "slow": instance_text(3, 3, DEPOT, "".join("%d 3 4 1 0 20 10\n" % number for number in (1, 2, 3))),
+    "eleven": instance_text(11, 11, DEPOT, "".join("%d 3 4 1 0 20 10\n" % number for number in range(1, 12))),
     "over": instance_text(1, 4, DEPOT, "1 1 6 1 0 1000 0\n2 0 0 1 20 20 0\n3 0 0 1 20 20 0\n4 2 12 1 32 32 0\n"),
     "room": INSTANCES["room"],
 }
@@ -43,11 +47,15 @@ slow|15.0|S 2 1 2 3;TREE;P 0 0 0;M 1 150000;||BOUND 15.0
 slow|15.0|S 2 1 2 3;TREE;P 50000 50000 50000;M;||BOUND 15.0
 slow|15.0|S 1 1 3;S 2 2 3;TREE;P 50000 50000 50000;M;||line 7: met a need of 2 (NeedTooGreat), wanted at most 1
 slow|20.0|S 3 1 2 3;TREE;P 0 0 0;M 1 100000;||line 6: met a need of 3 (NeedTooGreat), wanted at most 2
+eleven|10.0|S 2 1 2 3 4 5 6 7 8 9 10;TREE;P 0 0 0 0 0 0 0 0 0 0 0;M;||BOUND 10.0
+eleven|10.0|S 2 1 2 3 4 5 6 7 8 9 10 11;TREE;P 0 0 0 0 0 0 0 0 0 0 0;M;||line 6: met a need of 2 (NeedTooGreat), \
+wanted at most 1
 over|0.0|S 1 2 3 4;TREE;P 0 0 0 0;M;|Route #1: 2 3 1 4;Cost 24.1;|GAP 24.1 0.0
 over|0.0|S 2 2 3 4;TREE;P 0 0 0 0;M;||line 6: met a need of 2 (NeedTooGreat), wanted at most 1
 room|3.0|S 1 1 3;TREE;P 0 20000 0;M 1 30000;|Route #1: 1 2 3;Cost 6.0;|GAP 6.0 3.0
 room|2.0|S 1 1 2;TREE;P 0 0 0;M 1 30000;||BOUND 2.0
-room|2.0|S 1 1 2;P 0 0 0;||line 7: met "P 0 0 0" (BadLine), wanted a certificate with sets of outside/README.md
+room|2.0|S 1 1 2;P 0 0 0;||line 7: met "P 0 0 0" (BadLine), wanted a certificate with sets of \
+outside/README.md
 """
 
 HEAD = "VRPTW-SETS 1;INSTANCE T;CUSTOMERS 3;NEIGHBOURS 8;BOUND 0.0;"

@@ -1,11 +1,27 @@
 """Certificates with sets: what sets need, bounds and texts, by all routes and all plans of a few customers."""
 import os
+import re
+from itertools import permutations
 
+from cases.mutating import changed_bytes, changed_number
+from cases.random_texts import laid_out
+from cases.set_cases import drawn_set, forged, set_certificate, set_words, spoilt_line
 from cases.set_rows import SET_ROWS
 from judges.judging import said_of
-from judges.judging_layouts import tool
+from judges.judging_layouts import text_of, tool
 from judges.running import demand, put
-from reference.set_texts import read_either, written
+from reference import bounding, checking
+from reference.instances import read, walk, walk_times
+from reference.needs import entries, need
+from reference.optimum import least_cost
+from reference.pricing import Pricing, leaves
+from reference.set_texts import FIRST_SET, read_either, written
+from reference.texts import shown
+
+# How many sets, certificates and texts with some bytes changed a run has.
+SETS, CERTIFICATES, CHANGED = 4, 8, 40
+NEVER = float("inf")
+FAULT = re.compile(r"(Truncated|Extra|(BadLine|NeedRange|BadSet|PriceRange|BadArc|ArcDecided) line (\d+))\Z")
 
 
 def said_by_recheck(folder, instance, certificate, solution=b""):
@@ -39,3 +55,144 @@ def judge_set_row(folder, seed):
     came = said_by_recheck(folder, *texts)
     demand(came == said, "%r: %r, and %r is right" % (texts[1], came, said))
     return "recheck: %s" % (said.split(" ")[0])
+
+
+def drawn(random, least, most):
+    return read(laid_out(random, set_words(random, random.randint(least, most))))
+
+
+def entered(customers, route):
+    """How often a route enters a set, by letters: D for the depot, O for a stop outside, I for one inside."""
+    return len(re.findall("[DO]I", "D" + "".join("I" if i in customers else "O" for i in route)))
+
+
+def fewest_entries(instance, routes, customers):
+    """How often all routes of a plan enter a set at the least, by all plans; None where there is none."""
+    by_served, best = {}, {(0, 0): 0}
+    for route in routes:
+        served, times = sum(1 << i - 1 for i in route), entered(customers, route)
+        by_served[served] = min(times, by_served.get(served, times))
+    whole = (1 << instance.count) - 1
+    for served in range(whole):
+        for used in range(instance.fleet if served else 1):
+            for more, times in by_served.items() if (served, used) in best else ():
+                if served & more == 0:
+                    key = (served | more, used + 1)
+                    best[key] = min(best.get(key, NEVER), best[served, used] + times)
+    return min((times for (served, _), times in best.items() if served == whole), default=None)
+
+
+def ways_by_rounds(instance):
+    """The shortest ways over one row more each round."""
+    rows = range(instance.count + 1)
+    way = [[0 if i == j else instance.arc[i][j] for j in rows] for i in rows]
+    for _ in rows:
+        way = [[min(way[i][k] + (0 if k == j else instance.arc[k][j]) for k in rows) for j in rows] for i in rows]
+    return way
+
+
+def is_order_in_time(instance, way, order):
+    """Whether customers in this order are in time on these ways."""
+    at, time = 0, instance.ready(0)
+    for i in order:
+        begin = max(time + way[at][i], instance.ready(i))
+        if begin > instance.due(i):
+            return False
+        at, time = i, begin + instance.service(i)
+    return time + way[at][0] <= instance.due(0)
+
+
+def judge_needs(folder, random):
+    """What some sets of up to 7 customers need: by all orders, by all routes that are in time, and by all plans."""
+    instance = drawn(random, 2, 7)
+    orders = [list(order) for size in range(1, instance.count + 1)
+              for order in permutations(range(1, instance.count + 1), size)]
+    in_time = [order for order in orders if walk_times(instance, order)]
+    routes, way, came = [route for route in in_time if walk(instance, route)], ways_by_rounds(instance), set()
+    for customers in {drawn_set(random, instance.count) for _ in range(SETS)}:
+        by_load = (sum(instance.demand(i) for i in customers) + instance.capacity - 1) // instance.capacity
+        by_time = 1 if any(is_order_in_time(instance, way, order) for order in permutations(customers)) else 2
+        found = need(instance, customers)
+        demand(found == max(by_load, by_time), "%r needs %d: %d by load, %d by time" % (
+            customers, found, by_load, by_time))
+        demand(by_time == 1 or not any(set(customers) <= set(order) for order in in_time), "%r in time" % (customers,))
+        for route in orders:
+            demand(entries(customers, route) == entered(customers, route), "%r enters %r" % (route, customers))
+        fewest = fewest_entries(instance, routes, customers)
+        demand(fewest is None or fewest >= found, "%r needs %d, and a plan enters it %r times" % (
+            customers, found, fewest))
+        came.add("no plan" if fewest is None else "by time" if by_time > by_load else "by load" if by_load > 1 else "1")
+    return ", ".join(sorted(came))
+
+
+def judge_set_bounds(folder, random):
+    """The bounds of some texts: at most the least cost of all plans; each leaf's value by labels is that by all
+    relaxed routes. One of them goes through recheck."""
+    instance = drawn(random, 1, 6)
+    cost, came = least_cost(instance), set()
+    for _ in range(CERTIFICATES):
+        found = set_certificate(random, instance)
+        pricing, most = Pricing(instance, found.neighbours, 2), instance.ceiling() + 1
+        values = []
+        for leaf in leaves(instance.count, found.tree):
+            values.append(min(most, value_of(instance, leaf, found.neighbours, bounding.least_by_routes)))
+            by_labels = min(most, value_of(instance, leaf, found.neighbours, bounding.least_by_labels))
+            demand(values[-1] == by_labels == pricing.value(*leaf), "%r: %d by all routes, %d and %r by labels" % (
+                leaf[1:], values[-1], by_labels, pricing.value(*leaf)))
+        found.bound = min(values)
+        demand(found.bound <= (most if cost is None else cost), "a bound of %d, and a plan costs %r" % (
+            found.bound, cost))
+        came.add("no plan" if cost is None else "the cost" if found.bound == cost else "below it")
+    demand_rechecked(folder, instance, written(found))
+    return ", ".join(sorted(came))
+
+
+def value_of(instance, leaf, neighbours, least):
+    """A leaf's value by one of the ways to find the least reduced cost."""
+    region, prices, priced = leaf
+    return bounding.leaf_value(instance, region, prices, neighbours, 2, least, priced)
+
+
+def wanted_of(instance, text):
+    """What recheck is to say of a text that is read: the first need that is too great, another bound, or the bound."""
+    found = read_either(text)
+    for line, one in enumerate(found.sets, FIRST_SET):
+        if one.need > need(instance, one.customers):
+            return "line %d: met a need of %d (NeedTooGreat), wanted at most %d" % (
+                line, one.need, need(instance, one.customers))
+    bound = checking.tree_bound(instance, found, bounding.least_by_routes)
+    if bound != found.bound:
+        return "line 5: met a bound of %s, wanted that of the tree, %s" % (shown(found.bound), shown(bound))
+    return "NO PLAN" if bound == instance.ceiling() + 1 else "BOUND " + shown(bound)
+
+
+def demand_rechecked(folder, instance, text):
+    """The text through recheck, which says what it is to say. Answers that."""
+    came, wanted = said_by_recheck(folder, text_of(instance), text), wanted_of(instance, text)
+    demand(came == wanted, "recheck: %r, and %r is right" % (came, wanted))
+    return wanted
+
+
+def judge_set_text(folder, random):
+    """A text: read and written again; with bytes changed the same, or a fault in a line that is there; with a line
+    spoilt the fault of that; with a forged number what is right of it."""
+    instance = drawn(random, 1, 5)
+    for _ in range(CERTIFICATES):
+        found = set_certificate(random, instance)
+        found.bound = checking.tree_bound(instance, found, bounding.least_by_routes)
+        if found.bound > 0:
+            break
+    text, again = written(found), read_either(written(found))
+    demand((again.sets, again.tree, again.bound) == (found.sets, found.tree, found.bound), "read: %r" % text)
+    demand_read(text, "")
+    for _ in range(CHANGED):
+        other = random.choice([changed_bytes, changed_bytes, changed_number])(random, text)
+        said = said_of(read_either, other)
+        fault = FAULT.match(said)
+        demand(not said or fault and int(fault[3] or 0) <= other.count(b"\n"), "%r of %r" % (said, other))
+        demand(said or not other.startswith(b"VRPTW-SETS") or written(read_either(other)) == other, "%r" % other)
+    other, said = spoilt_line(random, found, text)
+    demand_read(other, said)
+    kind, other = forged(random, found, text)
+    came = demand_rechecked(folder, instance, other)
+    return "%s: %s" % (kind, "NeedTooGreat" if "NeedTooGreat" in came else came.split(" ")[0])

@@ -30,7 +30,7 @@ from judges.judging_reports import judge_report
 from judges.judging_roundings import judge_roundings
 from judges.judging_rounds import judge_rounds
 from judges.judging_served import judge_served, judge_sheets
-from judges.judging_sets import judge_set_row
+from judges.judging_sets import judge_needs, judge_set_bounds, judge_set_row, judge_set_text
 from judges.judging_starts import judge_start
 from judges.judging_tables import judge_foreseen, judge_table, judge_wrong_names
 from judges.judging_times import judge_times
@@ -160,6 +160,12 @@ KINDS = {
                    12, tools_by(judge_rounds)),
     "literature": Kind("files named as Solomon's by bench/solomon, beside published costs: least costs by all plans", 6,
                        program_by(judge_literature)),
+    "needs": Kind("what sets of up to 7 customers need, by all orders, by all routes and by all plans", 40,
+                  tools_by(judge_needs)),
+    "set_bounds": Kind("bounds with prices of sets: below each plan's cost, the same by labels and by all routes", 40,
+                       tools_by(judge_set_bounds)),
+    "set_texts": Kind("texts with sets, read and written, and with something wrong or forged, by recheck", 40,
+                      tools_by(judge_set_text)),
     "set_rows": Kind("certificates with sets, and what recheck and the reader say of them, by hand", len(SET_ROWS),
                      lambda programs, folder, random, seed: judge_set_row(folder, seed), is_fixed=True),
     "batches": Kind("some instances by batch, and again with something changed in between", 6,

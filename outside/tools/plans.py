@@ -45,7 +45,8 @@ def judge_ends(text, line, name, what):
         text.refuse(line, "%s with a carriage return behind it (%s)" % (quoted(text.lines[line - 1]), name),
                     "lines that end in a line feed alone")
     if name == "Truncated" and held:
-        text.refuse(line, "%s without a line feed behind it (Truncated)" % quoted(text.lines[line - 1]), told_place(what))
+        text.refuse(line, "%s without a line feed behind it (Truncated)" % quoted(text.lines[line - 1]),
+                    told_place(what))
 
 
 def instance_of(path):
