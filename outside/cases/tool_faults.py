@@ -26,6 +26,8 @@ FILES = {
     "high.txt": "VRPTW-CERT 1\nINSTANCE T\nCUSTOMERS 2\nNEIGHBOURS 8\nBOUND 0.1\nTREE\nP 0 0\nEND\n",
     "none.txt": "VRPTW-CERT 2\nINSTANCE T\nCUSTOMERS 2\nNEIGHBOURS 8\nBOUND 40.1\nTREE\nP 301000 301000\nEND\n",
     "worse.txt": "VRPTW-CERT 1\nINSTANCE T\nCUSTOMERS 2\nNEIGHBOURS 8\nBOUND 0.0\nTREE\nP 0 0 0\nEND\n",
+    "digits.txt": ("VRPTW-CERT 1\nINSTANCE T\nCUSTOMERS 2\nNEIGHBOURS 8\nBOUND 0.0\nTREE\nP 0 %s\nEND\n"
+                   % (5000 * "9")),
     "t.csv": "x,y,demand,ready,due,service\n0,0,0,0,1000,0\n3,4,1,0,1000,0\n",
     "half.csv": "x,y,demand,ready,due,service\n0,0,0,0,1000,0\n3.5,4,1,0,1000,0\n",
     "end.csv": "name,x,y,demand,ready,end,service\nd,0,0,0,0,1000,0\nc,3,4,1,0,1000,0\n",
@@ -199,6 +201,7 @@ report i.txt p.txt -o nowhere/r.html|nowhere/r.html|0|No such file or directory
 recheck other.txt k.txt|k.txt|2|another instance
 recheck i.txt high.txt|high.txt|5|met a bound of 0.1, wanted that of the tree, 0.0
 recheck i.txt worse.txt p.txt|worse.txt|7|BadLine
+recheck i.txt digits.txt|digits.txt|7|PriceRange
 recheck i.txt k.txt cost.txt|cost.txt|2|20.1
 recheck few.txt k.txt two.txt|two.txt|2|met one route more than the 1 vehicles,
 recheck i.txt nowhere|nowhere|0|No such file or directory

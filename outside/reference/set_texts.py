@@ -28,7 +28,7 @@ from collections import namedtuple
 
 from reference.bounding import PricedSet
 from reference.texts import (CANONICAL, MOST_PRICE, Certificate, Lines, Nodes, TextFault, read_certificate, read_end,
-                             read_head, shown)
+                             read_head, shown, whole)
 
 FIRST = b"VRPTW-SETS 1"
 # What 400 customers with demands of 10,000 need where a vehicle holds 1.
@@ -86,10 +86,10 @@ def read_sets(lines, count):
 
 
 def numbers(lines, words):
-    """Canonical numbers; of a long one the first digits, which are above each limit."""
+    """Canonical numbers."""
     if any(not CANONICAL.match(word) for word in words):
         lines.bad()
-    return [int(word[:20]) for word in words]
+    return [whole(word) for word in words]
 
 
 def demand_rising(lines, found, most):

@@ -29,6 +29,11 @@ class Lines:
         raise TextFault("BadLine line %d" % self.number)
 
 
+def whole(word):
+    """The value of a canonical number; of a long one the first digits, which are beyond each limit."""
+    return int(word[:20])
+
+
 def tenths(word):
     if not TENTHS.match(word):
         return None
@@ -56,9 +61,9 @@ def read_solution(text):
             return routes, cost
         stops = rest.split(b" ")[1:]
         if (not colon or head != b"Route #%d" % (len(routes) + 1) or not stops or rest[:1] != b" "
-                or any(not CANONICAL.match(word) or not 1 <= int(word) <= 9999 for word in stops)):
+                or any(not CANONICAL.match(word) or not 1 <= whole(word) <= 9999 for word in stops)):
             lines.bad()
-        routes.append([int(word) for word in stops])
+        routes.append([whole(word) for word in stops])
 
 
 class Certificate:
@@ -73,9 +78,9 @@ class Certificate:
 def field(lines, word, low, high):
     line = lines.next()
     head, blank, rest = line.partition(b" ")
-    if head != word or not blank or not CANONICAL.match(rest) or not low <= int(rest) <= high:
+    if head != word or not blank or not CANONICAL.match(rest) or not low <= whole(rest) <= high:
         lines.bad()
-    return int(rest)
+    return whole(rest)
 
 
 def read_head(lines, most_customers=400):
@@ -136,7 +141,7 @@ class Nodes:
     def prices(self, words):
         if len(words) != self.count or any(not SIGNED.match(word) for word in words):
             self.lines.bad()
-        prices = [int(word) for word in words]
+        prices = [whole(word) for word in words]
         if any(abs(price) > MOST_PRICE for price in prices):
             raise TextFault("PriceRange line %d" % self.lines.number)
         self.leaves += 1
@@ -147,7 +152,7 @@ class Nodes:
     def arc(self, words, path):
         if len(words) != 2 or any(not CANONICAL.match(word) for word in words):
             self.lines.bad()
-        arc = (int(words[0]), int(words[1]))
+        arc = (whole(words[0]), whole(words[1]))
         if arc[0] == arc[1] or max(arc) > self.count:
             raise TextFault("BadArc line %d" % self.lines.number)
         if arc in path:
