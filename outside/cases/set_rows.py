@@ -5,6 +5,10 @@ from cases.rows import DEPOT, INSTANCES, instance_text
 # 0 and 100,000, and of 100,000 for both as a set, leave 100,000 - 100,000 and 200,000 - 100,000 - 100,000: 0 at the
 # least. The value is 100,000 and twice 100,000, or once where the need that is told is 1.
 #
+# three: three demands of 1 in vehicles of 2 need two. By docs/formats.md each route costs at least 1,980,000 more than
+# its customers' prices of 10,000, 20,000 and 20,000, and it enters the set of all once. With 1,980,000 for that at
+# least 0 is left, and the value is 50,000 and twice 1,980,000.
+#
 # slow: three customers 50 tenths from the depot, each due at 200, with a service of 100. In any order service begins at
 # 50, 150 and 250, so two are served by one vehicle, which holds all three, and three aren't. Each route costs 100, and
 # with 100,000 for the set has 0. With 60,000 it has 40,000: twice 60,000 and one route's 40,000 are 160,000. With
@@ -26,6 +30,7 @@ from cases.rows import DEPOT, INSTANCES, instance_text
 # 60,000 - 60,000: the value is 30,000 - 10,000.
 BY_HAND = {
     "apart": INSTANCES["apart"],
+    "three": INSTANCES["three"],
     "slow": instance_text(3, 3, DEPOT, "".join("%d 3 4 1 0 20 10\n" % number for number in (1, 2, 3))),
     "eleven": instance_text(11, 11, DEPOT, "".join("%d 3 4 1 0 20 10\n" % number for number in range(1, 12))),
     "over": instance_text(1, 4, DEPOT, "1 1 6 1 0 1000 0\n2 0 0 1 20 20 0\n3 0 0 1 20 20 0\n4 2 12 1 32 32 0\n"),
@@ -41,6 +46,8 @@ apart|30.0|S 1 1 2;TREE;P 0 100000;M 1 100000;||line 5: met a bound of 30.0, wan
 apart|30.1|S 2 1 2;TREE;P 0 100000;M 1 100000;||line 5: met a bound of 30.1, wanted that of the tree, 30.0
 apart|40.0|S 3 1 2;TREE;P 0 100000;M 1 100000;||line 6: met a need of 3 (NeedTooGreat), wanted at most 2
 apart|30.0|S 2 1 2;S 4000000 1 2;TREE;P 0 0;M;||line 7: met a need of 4000000 (NeedTooGreat), wanted at most 2
+three|401.0|S 2 1 2 3;TREE;P 10000 20000 20000;M 1 1980000;|Route #1: 2 1;Route #2: 3;Cost 401.0;|BEST 401.0
+three|401.0|S 3 1 2 3;TREE;P 10000 20000 20000;M 1 1980000;||line 6: met a need of 3 (NeedTooGreat), wanted at most 2
 slow|20.0|S 2 1 2 3;TREE;P 0 0 0;M 1 100000;|Route #1: 3 1;Route #2: 2;Cost 20.0;|BEST 20.0
 slow|16.0|S 2 1 2 3;TREE;P 0 0 0;M 1 60000;||BOUND 16.0
 slow|15.0|S 2 1 2 3;TREE;P 0 0 0;M 1 150000;||BOUND 15.0
