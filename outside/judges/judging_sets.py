@@ -134,11 +134,13 @@ def judge_set_bounds(folder, random):
         found = set_certificate(random, instance)
         pricing, most = Pricing(instance, found.neighbours, 2), instance.ceiling() + 1
         values = []
-        for leaf in leaves(instance.count, found.tree):
-            values.append(min(most, value_of(instance, leaf, found.neighbours, bounding.least_by_routes)))
-            by_labels = min(most, value_of(instance, leaf, found.neighbours, bounding.least_by_labels))
-            demand(values[-1] == by_labels == pricing.value(*leaf), "%r: %d by all routes, %d and %r by labels" % (
-                leaf[1:], values[-1], by_labels, pricing.value(*leaf)))
+        for region, prices, priced in leaves(instance.count, found.tree):
+            values.append(min(most, value_by_routes(instance, region, prices, priced, found.neighbours)))
+            by_labels = min(most, bounding.leaf_value(instance, region, prices, found.neighbours, 2,
+                                                      bounding.least_by_labels, priced))
+            again = pricing.value(region, prices, priced)
+            demand(values[-1] == by_labels == again, "%r %r: %d by all routes, %d and %r by labels" % (
+                prices, priced, values[-1], by_labels, again))
         found.bound = min(values)
         demand(found.bound <= (most if cost is None else cost), "a bound of %d, and a plan costs %r" % (
             found.bound, cost))
@@ -147,10 +149,16 @@ def judge_set_bounds(folder, random):
     return ", ".join(sorted(came))
 
 
-def value_of(instance, leaf, neighbours, least):
-    """A leaf's value by one of the ways to find the least reduced cost."""
-    region, prices, priced = leaf
-    return bounding.leaf_value(instance, region, prices, neighbours, 2, least, priced)
+def value_by_routes(instance, region, prices, priced, neighbours):
+    """A leaf's value in tenths, by the least reduced cost of all relaxed routes."""
+    least = bounding.least_by_routes(instance, region, prices, neighbours, priced) or 0
+    vehicles = instance.fleet if least < 0 else instance.fewest_routes()
+    grains = vehicles * least
+    for price in prices:
+        grains += price
+    for one in priced:
+        grains += one.need * one.price
+    return max(0, (grains + 999) // 1000)
 
 
 def wanted_of(instance, text):
