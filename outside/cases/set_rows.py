@@ -18,6 +18,10 @@ from cases.rows import DEPOT, INSTANCES, instance_text
 # eleven: slow with as many. Ten of them need two vehicles, by time, and of more time tells nothing. Without prices the
 # value is the 100 of one route, which all demands need.
 #
+# shut: two customers 50 tenths from the depot, each with a service of 100. Alone they are back at 200, and both at 300,
+# when the depot has closed at 250. wait: service begins at 300 at the earliest, takes 200, and is due at 400. In both
+# one route serves one, at 100, and with 100,000 for both as a set 0 is left.
+#
 # over: customers 2 and 3 stand at the depot, where service begins at 200, and 4 at (2,12), where it does at 320. The
 # arc there is the root of 14,800, which is 121 (121 * 121 is 14,641, and 122 * 122 is 14,884): 321 is late. Over
 # customer 1 at (1,6) it takes the root of 3,700 twice, which is 60 (3,600, and 61 * 61 is 3,721): 320 is in time. So
@@ -33,6 +37,8 @@ BY_HAND = {
     "three": INSTANCES["three"],
     "slow": instance_text(3, 3, DEPOT, "".join("%d 3 4 1 0 20 10\n" % number for number in (1, 2, 3))),
     "eleven": instance_text(11, 11, DEPOT, "".join("%d 3 4 1 0 20 10\n" % number for number in range(1, 12))),
+    "shut": instance_text(2, 2, "0 0 0 0 0 25 0\n", "1 3 4 1 0 25 10\n2 3 4 1 0 25 10\n"),
+    "wait": instance_text(2, 2, DEPOT, "1 3 4 1 30 40 20\n2 3 4 1 30 40 20\n"),
     "over": instance_text(1, 4, DEPOT, "1 1 6 1 0 1000 0\n2 0 0 1 20 20 0\n3 0 0 1 20 20 0\n4 2 12 1 32 32 0\n"),
     "room": INSTANCES["room"],
 }
@@ -57,6 +63,8 @@ slow|20.0|S 3 1 2 3;TREE;P 0 0 0;M 1 100000;||line 6: met a need of 3 (NeedTooGr
 eleven|10.0|S 2 1 2 3 4 5 6 7 8 9 10;TREE;P 0 0 0 0 0 0 0 0 0 0 0;M;||BOUND 10.0
 eleven|10.0|S 2 1 2 3 4 5 6 7 8 9 10 11;TREE;P 0 0 0 0 0 0 0 0 0 0 0;M;||line 6: met a need of 2 (NeedTooGreat), \
 wanted at most 1
+shut|20.0|S 2 1 2;TREE;P 0 0;M 1 100000;|Route #1: 2;Route #2: 1;Cost 20.0;|BEST 20.0
+wait|20.0|S 2 1 2;TREE;P 0 0;M 1 100000;|Route #1: 1;Route #2: 2;Cost 20.0;|BEST 20.0
 over|0.0|S 1 2 3 4;TREE;P 0 0 0 0;M;|Route #1: 2 3 1 4;Cost 24.1;|GAP 24.1 0.0
 over|0.0|S 2 2 3 4;TREE;P 0 0 0 0;M;||line 6: met a need of 2 (NeedTooGreat), wanted at most 1
 room|3.0|S 1 1 3;TREE;P 0 20000 0;M 1 30000;|Route #1: 1 2 3;Cost 6.0;|GAP 6.0 3.0
