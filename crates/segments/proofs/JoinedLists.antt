@@ -1,12 +1,11 @@
 -- A join is the segment of the joined lists, and a route fits where its segment does.
-use Rattle.std.proofs.Common.{◌≡◌, refl, ℕ, ◌+◌, ◌<◌, ◌≤◌, length, true, false, List, [], ◌∷◌, ◌++◌, ap, sym, ◌∙◌, arith, max, Bool, ◌&&◌, zero, suc, take, drop, get_or, inl, inr}
+use Rattle.std.proofs.Common.{◌≡◌, refl, ℕ, ◌+◌, ◌<◌, ◌≤◌, length, true, false, List, [], ◌∷◌, ◌++◌, ap, sym, ◌∙◌, arith, max, Bool, ◌&&◌}
 use Rattle.std.specs.Prelude.{nat_le, int_le, ℤ, pos, ◌+ℤ◌, ◌-ℤ◌, ◌≤ℤ◌, ◌<ℤ◌, Option, Some, None, option_and_then, if◌then◌else◌}
 use Rattle.std.specs.Int.{int_min, int_max}
 use Rattle.std.proofs.lemmas.Int.{ints, clamps}
 use Rattle.std.proofs.lemmas.Bool.Decides.{nat_tests}
 use Rattle.std.proofs.lemmas.List.Sums.{sum_by-append, sum_by-cons}
 use Rattle.std.specs.List.{AllByRecursion, sum_by}
-use Rattle.std.proofs.lemmas.Bool.{cases_lt}
 use Rattle.solomon_reader.specs.declared.limits.TheConstants.{MOST_DEMAND}
 use Rattle.solomon_reader.specs.Problem.{Problem, customer_count, demand, ready, due, service, IsCustomer}
 use Rattle.solomon_reader.specs.Distance.{distance}
@@ -17,7 +16,6 @@ use Rattle.solomon_reader.specs.Plan.{HasWalk, Walks, arcs_from, Arc}
 use Rattle.segments.specs.Segments.{Summary, IsSegment, NoneFeasible, SomeFeasible, join, joined, follows, leaves, stop, first_of, last_of, last_from, IsBounded}
 use Rattle.segments.specs.Joining.{by_le, le_yes, le_no, yes_le, no_le, follows_yes, yes_follows, same_summary}
 use Rattle.segments.specs.Closing.{closed, IsCostOf}
-use Rattle.segments.specs.Linked.{chain}
 use Rattle.tenths.proofs.Digits.{both}
 
 -- the two meanings, composed

@@ -1,3 +1,4 @@
 pub mod JoinedLists
 pub mod TreeLevels
 pub mod StopJoins
+pub mod RouteChanges

@@ -1,5 +1,5 @@
 -- The routes of a plan visit customers, and the join of a list of single stops is the segment of the list.
-use Rattle.std.proofs.Common.{◌≡◌, refl, ℕ, zero, suc, List, [], ◌∷◌, ◌++◌, map, arith, ◌+◌, ◌<◌, length, sym, ◌∙◌}
+use Rattle.std.proofs.Common.{◌≡◌, refl, ℕ, zero, suc, List, [], ◌∷◌, map, arith, ◌+◌, ◌<◌, length, sym, ◌∙◌}
 use Rattle.std.specs.Prelude.{Vec, ℤ, pos, ◌+ℤ◌, Option, Some, None, option_and_then}
 use Rattle.std.specs.List.{AllByRecursion, All}
 use Rattle.std.specs.declared.alloc.Global.{Global}

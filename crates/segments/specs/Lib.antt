@@ -7,4 +7,5 @@ pub mod Levels
 pub mod Stretches
 pub mod Trees
 pub mod PlanTrees
+pub mod RouteLending
 pub mod Statements

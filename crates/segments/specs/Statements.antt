@@ -1,11 +1,16 @@
--- The laws of segments.
-use Rattle.std.specs.Prelude.{◌≡◌, ℕ, ◌<◌, ◌≤◌, List, ◌∷◌, [], ◌++◌, length, Some, None, option_and_then, map}
+-- The laws of segments and of trees.
+use Rattle.std.specs.Prelude.{◌≡◌, ℕ, ◌<◌, ◌≤◌, List, ◌∷◌, [], ◌++◌, length, Some, None, option_and_then, map, slice_set}
 use Rattle.std.specs.List.{AllByRecursion}
 use Rattle.solomon_reader.specs.Problem.{Problem, IsCustomer, customer_count}
 use Rattle.solomon_reader.specs.Layout.{IsWithinLimits}
 use Rattle.segments.specs.Segments.{Summary, IsSegment, IsSegmentOrNone, NoneFeasible, SomeFeasible, join, stop}
 use Rattle.segments.specs.Closing.{closed, IsCostOf}
 use Rattle.segments.specs.Linked.{IsAssociative, chain}
+use Rattle.segments.specs.Trees.{items_of, IsTree}
+use Rattle.segments.specs.PlanTrees.{problem_of, routes_of, AreTrees}
+use Rattle.segments.specs.RouteLending.{with_route}
+use Rattle.segments.specs.declared.tree.RouteTree.{RouteTree}
+use Rattle.segments.specs.declared.plan_trees.PlanTrees.{PlanTrees}
 
 pub record SegmentLaws : Type 0 where
   -- joining three is the same from both sides
@@ -25,3 +30,10 @@ pub record SegmentLaws : Type 0 where
   pub closing : (p : Problem) (r : List ℕ) (s : Summary) → IsWithinLimits p → AllByRecursion (IsCustomer p) r → IsSegment p r s → IsCostOf p r (closed p s)
   pub route : (p : Problem) (r : List ℕ) → IsWithinLimits p → 0 < length r → AllByRecursion (IsCustomer p) r
       → IsCostOf p r (option_and_then (closed p) (chain (join p) (map (stop p) r)))
+
+-- The laws of a plan's trees.
+pub record TreeLaws : Type 0 where
+  -- a route that is written back is the one that changes
+  pub routes : (t : PlanTrees) (r : ℕ) (w : RouteTree Summary) → routes_of (with_route t r w) ≡ slice_set (routes_of t) r (items_of w)
+  -- and all are trees again where it is one
+  pub trees : (t : PlanTrees) (r : ℕ) (w : RouteTree Summary) → AreTrees t → IsTree (join (problem_of t)) w → AreTrees (with_route t r w)

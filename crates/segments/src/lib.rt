@@ -11,7 +11,7 @@ mod stretch;
 mod tree;
 
 pub use fault::TreeFault;
-pub use laws::laws_of_segments;
+pub use laws::{laws_of_segments, laws_of_trees};
 pub use linked::Linked;
 pub use plan_trees::PlanTrees;
 pub use segment::Segment;

@@ -2,6 +2,7 @@
 
 ghost use Rattle.std.specs.Prelude.{◌≡◌, ◌<◌, ◌≤◌, [], length, map, slice_index_or, IfOk};
 ghost use Rattle.std.specs.List.{All, AllByRecursion};
+ghost use Rattle.std.specs.Borrow.{sem};
 ghost use Rattle.solomon_reader.specs.Problem.{IsCustomer, customer_count};
 ghost use Rattle.solomon_reader.specs.declared.limits.TheConstants.{MOST_CUSTOMERS};
 ghost use Rattle.solomon_reader.specs.Layout.{IsWithinLimits};
@@ -10,6 +11,7 @@ ghost use Rattle.solomon_reader.specs.Lists.{lists};
 ghost use Rattle.segments.specs.Segments.{stop, join};
 ghost use Rattle.segments.specs.Trees.{items_of, IsTree};
 ghost use Rattle.segments.specs.PlanTrees.{problem_of, routes_of, AreTrees};
+ghost use Rattle.segments.specs.RouteLending.{LendsRoute};
 
 use crate::fault::TreeFault;
 use crate::segment::Segment;
@@ -101,5 +103,16 @@ impl<'i> PlanTrees<'i> {
         ensures tree { AreTrees self.now → IsTree (join (problem_of self.now)) result.now }
     {
         &self.routes[r]
+    }
+
+    /// A route by its number, counted from 0, to be changed. What it is left as stands in its place, by
+    /// `laws_of_trees`.
+    pub fn route_mut(&mut self, r: usize) -> &mut RouteTree<Segment>
+        requires { r < length (routes_of self.old) }
+        ensures* writes_back { sem 𝓛 (LendsRoute self.entry r result) }
+        ensures items { items_of result.now ≡ slice_index_or (routes_of self.old) r [] }
+        ensures tree { AreTrees self.old → IsTree (join (problem_of self.old)) result.now }
+    {
+        &mut self.routes[r]
     }
 }
