@@ -81,12 +81,12 @@ impl<'t> Grid<'t> {
         }
     }
 
-    /// The place of a row's bound in the next slot, where that is what a bound begins as. No contract: a bound may begin
-    /// as any other one.
-    pub(crate) fn later(self, place: usize) -> usize {
+    /// The place of a row's bound in the next slot, where that is what a bound begins as. No contract: it may begin as
+    /// any other one.
+    pub(crate) fn later(self, place: usize) -> Option<usize> {
         match self {
-            Grid::Times(_) => place.wrapping_sub(1),
-            Grid::Loads(..) => usize::MAX,
+            Grid::Times(_) => place.checked_sub(1),
+            Grid::Loads(..) => None,
         }
     }
 

@@ -177,40 +177,41 @@ fn end_bound(task: &Task<'_>, front: &Front, rows: &CustomerSet) -> Bound
     }
 }
 
+/// The bounds of a grid, as far as they stand.
+#[derive(Drop)]
+struct Filled<'f, 'i> {
+    task: &'f Task<'i>,
+    grid: Grid<'f>,
+    bounds: &'f [RowBound],
+    brinks: &'f [Brink],
+    ghost at_rows: { All (IsRowBound (pricing_of task.now)) bounds.now },
+    ghost at_brinks: { All (IsBrink (pricing_of task.now)) brinks.now },
+}
+
 /// What bounds a step, too, for which a front is in time, where it has at least this load.
 #[inline(always)]
-fn with_step(
-    task: &Task<'_>,
-    grid: Grid<'_>,
-    bounds: &[RowBound],
-    brinks: &[Brink],
-    front: &Front,
-    load: u32,
-    step: &Step,
-    bound: Bound,
-) -> Bound
-    requires bounds { All (IsRowBound (pricing_of task.now)) bounds.now }
-    requires brinks { All (IsBrink (pricing_of task.now)) brinks.now }
-    requires bounded { IsBounded task.now.instance.now front.now }
+fn with_step(filled: &Filled<'_, '_>, front: &Front, load: u32, step: &Step, bound: Bound) -> Bound
+    requires bounded { IsBounded filled.now.task.now.instance.now front.now }
     requires empty { front.now.load ≡ 0 }
     requires cost { front.now.cost ≡ pos 0 }
     requires load { load ≤ MOST_CAPACITY }
-    requires step { IsOpenStep (pricing_of task.now) front.now.last step.now }
+    requires step { IsOpenStep (pricing_of filled.now.task.now) front.now.last step.now }
     requires soon { front.now.time ≤ step.now.latest }
     requires small { IsSmall bound }
     ensures { let f = front.now in
-        IsBoundWith (pricing_of task.now) f.last f.time load step.now.customer bound result }
+        IsBoundWith (pricing_of filled.now.task.now) f.last f.time load step.now.customer bound result }
 {
+    let task = filled.task;
     let next = task.after(front, step);
-    if is_no_news(task, brinks, &next, step, &bound) {
+    if is_no_news(task, filled.brinks, &next, step, &bound) {
         return bound;
     }
     let load = load + u32::from(step.demand);
     if load > u32::from(task.instance.capacity()) {
         return bound;
     }
-    let place = grid.place_after(step, next.time, load);
-    let on = bound_in(task, bounds, place, step.customer, next.time, load);
+    let place = filled.grid.place_after(step, next.time, load);
+    let on = bound_in(task, filled.bounds, place, step.customer, next.time, load);
     let least = least_onward(task, on, front.last, step, next.time, load);
     joined(bound, step.customer, &next, on.room, least)
 }
@@ -230,23 +231,14 @@ fn with_seed(task: &Task<'_>, front: &Front, end: Bound, seed: Bound) -> Bound
 }
 
 /// What bounds all that may follow from a row from there on, and how many customers were looked at.
-fn bound_from(
-    task: &Task<'_>,
-    grid: Grid<'_>,
-    bounds: &[RowBound],
-    brinks: &[Brink],
-    v: u16,
-    corner: Corner,
-    seed: Bound,
-) -> (Bound, u64)
-    requires bounds { All (IsRowBound (pricing_of task.now)) bounds.now }
-    requires brinks { All (IsBrink (pricing_of task.now)) brinks.now }
+fn bound_from(filled: &Filled<'_, '_>, v: u16, corner: Corner, seed: Bound) -> (Bound, u64)
     requires seed { IsSmall seed }
-    requires v { v < length task.now.instance.now.rows }
+    requires v { v < length filled.now.task.now.instance.now.rows }
     requires from { corner.from ≤ 20 * MOST_TIME }
     requires load { corner.load ≤ MOST_CAPACITY }
-    ensures { IsBound (pricing_of task.now) v corner.from corner.load result.0 }
+    ensures { IsBound (pricing_of filled.now.task.now) v corner.from corner.load result.0 }
 {
+    let task = filled.task;
     task.instance.law_of_limits();
     let rows = task.rows_from(v);
     let front = Front {
@@ -263,20 +255,22 @@ fn bound_from(
         if step.is_late(front.time) {
             return (bound, looks);
         }
-        bound = with_step(task, grid, bounds, brinks, &front, load, step, bound);
+        bound = with_step(filled, &front, load, step, bound);
         looks = looks.saturating_add(1);
     }
     (bound, looks)
 }
 
-/// What the bound of a row begins as: what it is in the next slot, at a place, or what leaves nothing out. Any bound
-/// serves. The task is named by the contract alone.
-fn seed_at(_task: &Task<'_>, bounds: &[RowBound], place: usize, v: u16) -> Bound
+/// What the bound of a row begins as: what it is in the next slot, where that has a place, or what leaves nothing out.
+/// Any bound serves. The task is named by the contract alone.
+fn seed_at(_task: &Task<'_>, bounds: &[RowBound], later: Option<usize>, v: u16) -> Bound
     requires { All (IsRowBound (pricing_of _task.now)) bounds.now }
     ensures { IsSmall result }
 {
-    if place < bounds.len() && bounds[place].row == v {
-        return bounds[place].bound;
+    if let Some(place) = later {
+        if place < bounds.len() && bounds[place].row == v {
+            return bounds[place].bound;
+        }
     }
     Bound {
         room: 0,
@@ -325,7 +319,13 @@ fn fill_at(
     };
     let place = grid.place(v, u64::from(corner.from), u32::from(corner.load));
     let seed = seed_at(task, bounds, grid.later(place), v);
-    let (bound, looks) = bound_from(task, grid, bounds, brinks, v, corner, seed);
+    let filled = Filled {
+        task,
+        grid,
+        bounds,
+        brinks,
+    };
+    let (bound, looks) = bound_from(&filled, v, corner, seed);
     note(task, brinks, &bound, v, corner);
     if place < bounds.len() {
         bounds[place] = RowBound {

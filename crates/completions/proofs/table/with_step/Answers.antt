@@ -5,13 +5,13 @@ use Rattle.completions.proofs.table.with_step.Goals as goal
 
 pub returns : goal.returns
 returns c =
-    bound_yes _ c.args.task.now.task c.requires.bounded.held c.args.front.now _ _ c.args.load refl refl c.requires.empty c.requires.cost
+    bound_yes _ c.args.filled.now.task.now.task c.requires.bounded.held c.args.front.now _ _ c.args.load refl refl c.requires.empty c.requires.cost
     c.args.step.now.customer _ (omega (arith, c.requires.step.0.demand)) c.args.bound c.after-next.result c.bound_in-on.result c.least_onward-least.result _
     (omega (arith, ints, c.least_onward-least.ensures.cut.low, c.least_onward-least.ensures.cut.high)) c.joined.result
     c.after-next.ensures.after c.bound_in-on.ensures c.least_onward-least.ensures c.joined.ensures
 
 pub returns-then-is_no_news : goal.returns-then-is_no_news
 returns-then-is_no_news c =
-    bound_same _ c.args.task.now.task c.requires.bounded.held c.args.front.now _ _ c.args.load refl refl c.requires.empty c.requires.cost
+    bound_same _ c.args.filled.now.task.now.task c.requires.bounded.held c.args.front.now _ _ c.args.load refl refl c.requires.empty c.requires.cost
     c.args.step.now.customer c.args.bound c.after-next.result c.after-next.ensures.after c.requires.small
     (c.is_no_news.ensures c.if-is_no_news.true)
