@@ -2,9 +2,9 @@
 
 use crate::fronts::Nearness;
 use crate::insertion::{Weights, build_whole};
-use crate::leaf_work::{Effort, goal_of};
-use crate::price_ascent::{
-    ChildStart, Children, Goal, Raised, RoutePool, branch, counted_routes, raise, start_from, start_without_plan,
+use crate::leaf_work::{
+    ChildStart, Children, Effort, Goal, PricingState, Raised, RoutePool, branch, counted_routes, goal_of, raise,
+    start_from, start_without_plan,
 };
 use crate::prices::Priced;
 use crate::shim::Global;
@@ -52,7 +52,8 @@ enum Outcome<'i> {
 }
 
 struct Bounder<'i> {
-    pool: RoutePool<'i>,
+    pool: RoutePool,
+    state: PricingState<'i>,
     open: std::vec::Vec<Open>,
     /// The leaf that others may steal.
     shared: Option<Open>,
@@ -71,7 +72,7 @@ struct Bounder<'i> {
 impl<'i> Bounder<'i> {
     /// How long it has been at work, in looks.
     fn clock(&self) -> u64 {
-        self.pool.looks() + self.waited
+        self.state.looks() + self.waited
     }
 
     fn take_least(&mut self) -> Option<Open> {
@@ -122,7 +123,8 @@ impl<'i> Tree<'i> {
             None => start_without_plan(Global, nearness, root, Some(labels)),
         };
         let bounder = |number| Bounder {
-            pool: RoutePool::of_routes(Global, nearness, routes.unwrap_or(&[])).unwrap(),
+            pool: RoutePool::of_routes(Global, instance, routes.unwrap_or(&[])).unwrap(),
+            state: PricingState::new(Global, nearness),
             open: vec![Open { place: 0, value: 0, start: None }],
             shared: None,
             current: None,
@@ -215,7 +217,7 @@ impl<'i> Tree<'i> {
         }
         let patience = self.instance.customer_count() / CUSTOMERS_OF_PATIENCE;
         let bounder = &mut self.bounders[number];
-        let Raised { priced: leaf, ascent } = raise(Global, &mut bounder.pool, leaf, open.start, &goal);
+        let Raised { priced: leaf, ascent } = raise(&mut bounder.pool, &mut bounder.state, leaf, open.start, &goal);
         let is_raised = leaf.value() > before;
         if leaf.value() >= target {
             return Outcome::Raised(leaf);
@@ -227,7 +229,7 @@ impl<'i> Tree<'i> {
         if bounder.current.is_some() {
             return if is_raised { Outcome::Raised(leaf) } else { Outcome::Same };
         }
-        match branch(Global, &leaf, ascent.as_ref(), &mut bounder.pool, Some(self.labels)) {
+        match branch(&leaf, ascent.as_ref(), &mut bounder.pool, &mut bounder.state, Some(self.labels)) {
             Ok(Some(children)) => Outcome::Split(children),
             _ => Outcome::Settled,
         }

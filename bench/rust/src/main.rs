@@ -19,7 +19,6 @@ mod leaf_work;
 mod measuring;
 mod moves;
 mod pooled_routes;
-mod price_ascent;
 mod price_way;
 mod prices;
 mod quick_routes;

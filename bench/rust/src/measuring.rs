@@ -3,7 +3,7 @@
 use crate::branching::Region;
 use crate::fronts::Nearness;
 use crate::labelling::least;
-use crate::price_ascent::{Goal, RoutePool, counted_routes, first_rise, raise};
+use crate::leaf_work::{Goal, PricingState, RoutePool, counted_routes, first_rise, raise};
 use crate::prices::Priced;
 use crate::shim::Global;
 use crate::solomon_reader::Instance;
@@ -29,8 +29,9 @@ pub fn tell_ascent(instance: &Instance) {
             labels: Some(MOST_LABELS),
             looks: u64::MAX,
         };
-        let (begin, mut pool) = (Instant::now(), RoutePool::new(Global, &nearness));
-        let best = raise(Global, &mut pool, root, None, &goal).priced;
+        let (begin, mut pool) = (Instant::now(), RoutePool::new(Global));
+        let mut state = PricingState::new(Global, &nearness);
+        let best = raise(&mut pool, &mut state, root, None, &goal).priced;
         println!("pricings {pricings} value {} ms {}", best.value(), begin.elapsed().as_millis());
     }
 }

@@ -16,8 +16,8 @@ use Rattle.prices.specs.ValuedPrices.{ValuedPrices, IsValued}
 use Rattle.branching.specs.Arcs.{pair}
 use Rattle.branching.specs.Nodes.{node_of, IsListedTree}
 use Rattle.branching.specs.declared.tree_node.TreeNode.{TreeNode}
-use Rattle.price_ascent.specs.Branching.{AreChildren}
-use Rattle.price_ascent.specs.declared.child.Children.{Children}
+use Rattle.leaf_work.specs.Branching.{AreChildren}
+use Rattle.leaf_work.specs.declared.child.Children.{Children}
 use Rattle.solomon_reader.specs.Plan.{Arc}
 use Rattle.solomon_reader.specs.CertificateText.{IsTreeAt, depth_of}
 use Rattle.solomon_reader.specs.ArcOrder.{holds_new, holds_old}

@@ -11,7 +11,7 @@ use crate::growing::grow;
 use crate::growth::Growth;
 use crate::laws::depth_holds;
 use fronts::Nearness;
-use price_ascent::RoutePool;
+use leaf_work::{PricingState, RoutePool};
 use schedule::Feasible;
 use solomon_reader::Instance;
 use std::alloc::Global;
@@ -23,8 +23,8 @@ use std::alloc::Global;
 /// `MOST_LEAVES`, allows. Each customer has this many neighbours in relaxed routes, at most 15. It works
 /// on the caller's thread and waits for nobody.
 ///
-/// `TooLarge` where there are more customers, `LeafLimit` where more leaves are needed, with the least
-/// cost found, if there is one, the bound and the tree, and `Memory`.
+/// `TooLarge` where there are more customers, `LeafLimit` where the tree has that many leaves and its bound is below
+/// the cost of a plan, with that cost, if one was found, the bound and the tree, and `Memory`.
 pub fn close_alone<'i>(
     alloc: Global,
     instance: &'i Instance,
@@ -37,28 +37,10 @@ pub fn close_alone<'i>(
     ensures closed { IfOk result (IsClosed instance.now neighbours leaf_limit) }
     ensures left_open { IfErr result (IsLeftOpen instance.now neighbours leaf_limit) }
 {
-    let (closed, _pricings) = close_counted(alloc, instance, neighbours, leaf_limit)?;
-    Ok(closed)
-}
-
-/// What `close_alone` answers, with how often prices were priced for it; the first prices of a leaf count
-/// once, too. No clause says that it counts right.
-pub fn close_counted<'i>(
-    alloc: Global,
-    instance: &'i Instance,
-    neighbours: u32,
-    leaf_limit: u32,
-) -> Result<(Found<'i>, u64), CloseAloneFault>
-    requires few { neighbours ≤ MOST_NEIGHBOURS }
-    requires some { 1 ≤ leaf_limit }
-    requires most { leaf_limit ≤ MOST_LEAVES }
-    ensures closed { IfOk result (λ r. IsClosed instance.now neighbours leaf_limit r.0) }
-    ensures left_open { IfErr result (IsLeftOpen instance.now neighbours leaf_limit) }
-{
     close_from(alloc, instance, neighbours, leaf_limit, None)
 }
 
-/// What `close_counted` answers where the closing begins with a given plan, if it is cheaper than the one that
+/// What `close_alone` answers where the closing begins with a given plan, if it is cheaper than the one that
 /// an insertion builds. `LeafLimit` tells no cost above the given plan's.
 pub fn close_from<'i>(
     alloc: Global,
@@ -66,12 +48,12 @@ pub fn close_from<'i>(
     neighbours: u32,
     leaf_limit: u32,
     start: Option<Feasible<'i>>,
-) -> Result<(Found<'i>, u64), CloseAloneFault>
+) -> Result<Found<'i>, CloseAloneFault>
     requires few { neighbours ≤ MOST_NEIGHBOURS }
     requires some { 1 ≤ leaf_limit }
     requires most { leaf_limit ≤ MOST_LEAVES }
     requires start { IfSome start (λ f. f.problem ≡ instance.now) }
-    ensures closed { IfOk result (λ r. IsClosed instance.now neighbours leaf_limit r.0) }
+    ensures closed { IfOk result (IsClosed instance.now neighbours leaf_limit) }
     ensures left_open { IfErr result (IsLeftOpen instance.now neighbours leaf_limit) }
     ensures no_dearer { IfErr result (IsNoDearer instance.now start.entry) }
 {
@@ -82,9 +64,10 @@ pub fn close_from<'i>(
     let nearness = Nearness::new(alloc, instance, neighbours)?;
     let root = first_leaf(alloc, instance, neighbours, &nearness, plan.as_ref())?;
     let mut growth = Growth::new(alloc, instance, leaf_limit, plan);
-    let mut pool = RoutePool::of_routes(alloc, &nearness, growth.routes())?;
-    grow(root, None, &mut growth, &mut pool)?;
+    let mut pool = RoutePool::of_routes(alloc, instance, growth.routes())?;
+    let mut state = PricingState::new(alloc, &nearness);
+    grow(root, None, &mut growth, &mut pool, &mut state)?;
     depth_holds();
     let closed = growth.finish(neighbours)?;
-    Ok((closed, pool.pricings()))
+    Ok(closed)
 }

@@ -11,7 +11,7 @@ ghost use Rattle.search.specs.Searching.{plan_of};
 use fronts::Nearness;
 use insertion::{Weights, build_whole};
 use labelling::{Hints, LabelFault};
-use price_ascent::{start_from, start_without_plan};
+use leaf_work::{start_from, start_without_plan};
 use prices::Priced;
 use rand_core::{Rng, SeedableRng};
 use rand_xoshiro::Xoshiro256PlusPlus;

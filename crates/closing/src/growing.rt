@@ -2,12 +2,14 @@
 
 ghost use Rattle.std.specs.Prelude.{◌≡◌, ◌≤◌, false, IfOk, IfNone, IfSome, OnOk};
 ghost use Rattle.branching.specs.Choosing.{IsSettled};
-ghost use Rattle.price_ascent.specs.Branching.{AreChildren};
+ghost use Rattle.leaf_work.specs.Branching.{AreChildren};
 ghost use Rattle.closing.specs.Growing.{Grows, IsGrowth, IsSameTree, Splits, target_of};
 
 use crate::growth::Growth;
-use leaf_work::{Effort, goal_of, met_plan, settled_leaf};
-use price_ascent::{Ascent, ChildStart, Children, Goal, RoutePool, branch, counted_routes, raise};
+use leaf_work::{
+    Ascent, ChildStart, Children, Effort, Goal, PricingState, RoutePool, branch, counted_routes,
+    goal_of, met_plan, raise, settled_leaf,
+};
 use prices::{PriceFault, Priced};
 use std::alloc::AllocError;
 
@@ -29,7 +31,7 @@ fn goal_at(leaf: &Priced<'_>, growth: &Growth<'_>) -> Goal {
 
 /// Takes the routes that make up the prices raised last where they are a plan that is cheaper than the
 /// best.
-fn offer_routes(growth: &mut Growth<'_>, pool: &RoutePool<'_>) -> Result<(), AllocError>
+fn offer_routes(growth: &mut Growth<'_>, pool: &RoutePool) -> Result<(), AllocError>
     requires growth { IsGrowth growth.old }
     requires going { growth.old.is_stopped ≡ false }
     ensures growth { IsGrowth growth.new }
@@ -44,15 +46,15 @@ fn offer_routes(growth: &mut Growth<'_>, pool: &RoutePool<'_>) -> Result<(), All
 
 /// The children of a leaf, or nothing where every arc that its region allows is required.
 fn children<'i>(
-    growth: &Growth<'i>,
     leaf: &Priced<'i>,
     ascent: Option<&Ascent>,
-    pool: &mut RoutePool<'_>,
+    pool: &mut RoutePool,
+    state: &mut PricingState<'_>,
 ) -> Result<Option<Children<'i>>, AllocError>
     ensures settled { IfOk result (λ found. IfNone found (IsSettled leaf.now.region)) }
     ensures children { IfOk result (λ found. IfSome found (AreChildren leaf.now)) }
 {
-    match branch(growth.alloc, leaf, ascent, pool, None) {
+    match branch(leaf, ascent, pool, state, None) {
         Ok(found) => Ok(found),
         Err(PriceFault::Memory) => Err(AllocError),
         Err(_) => unreachable!(),
@@ -87,7 +89,8 @@ fn work_at<'i>(
     leaf: &Priced<'i>,
     ascent: Option<&Ascent>,
     growth: &mut Growth<'i>,
-    pool: &mut RoutePool<'_>,
+    pool: &mut RoutePool,
+    state: &mut PricingState<'_>,
 ) -> Result<Option<Children<'i>>, AllocError>
     requires growth { IsGrowth growth.old }
     requires going { growth.old.is_stopped ≡ false }
@@ -104,7 +107,7 @@ fn work_at<'i>(
         growth.lay_aside(leaf)?;
         return Ok(None);
     }
-    let Some(children) = children(growth, leaf, ascent, pool)? else {
+    let Some(children) = children(leaf, ascent, pool, state)? else {
         settle(leaf, growth)?;
         return Ok(None);
     };
@@ -121,7 +124,8 @@ fn raise_and_work<'i>(
     leaf: Priced<'i>,
     start: Option<ChildStart>,
     growth: &mut Growth<'i>,
-    pool: &mut RoutePool<'_>,
+    pool: &mut RoutePool,
+    state: &mut PricingState<'_>,
 ) -> Result<Option<Children<'i>>, AllocError>
     requires growth { IsGrowth growth.old }
     requires going { growth.old.is_stopped ≡ false }
@@ -134,8 +138,8 @@ fn raise_and_work<'i>(
     ensures least { target_of growth.new ≤ target_of growth.old }
 {
     let goal = goal_at(&leaf, growth);
-    let raised = raise(growth.alloc, pool, leaf, start, &goal);
-    work_at(&raised.priced, raised.ascent.as_ref(), growth, pool)
+    let raised = raise(pool, state, leaf, start, &goal);
+    work_at(&raised.priced, raised.ascent.as_ref(), growth, pool, state)
 }
 
 /// Lists the tree below a leaf, whose ascent starts where it was tried as a child, if it was. It grows first
@@ -144,7 +148,8 @@ pub(crate) fn grow<'i>(
     leaf: Priced<'i>,
     start: Option<ChildStart>,
     growth: &mut Growth<'i>,
-    pool: &mut RoutePool<'_>,
+    pool: &mut RoutePool,
+    state: &mut PricingState<'_>,
 ) -> Result<(), AllocError>
     requires growth { IsGrowth growth.old }
     requires own { leaf.problem ≡ growth.old.instance.now }
@@ -157,11 +162,11 @@ pub(crate) fn grow<'i>(
     if growth.is_stopped {
         return growth.lay_aside(&leaf);
     }
-    let Some(children) = raise_and_work(leaf, start, growth, pool)? else {
+    let Some(children) = raise_and_work(leaf, start, growth, pool, state)? else {
         return Ok(());
     };
-    grow(children.unused, children.unused_start, growth, pool)?;
-    grow(children.used, children.used_start, growth, pool)?;
+    grow(children.unused, children.unused_start, growth, pool, state)?;
+    grow(children.used, children.used_start, growth, pool, state)?;
     growth.list_split(children.arc)?;
     Ok(())
 }

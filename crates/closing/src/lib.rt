@@ -10,7 +10,7 @@ mod growing;
 mod growth;
 mod laws;
 
-pub use close::{close_alone, close_counted, close_from};
+pub use close::{close_alone, close_from};
 pub use fault::{CloseAloneFault, MOST_CLOSED};
 pub use found::Found;
 pub use laws::depth_holds;

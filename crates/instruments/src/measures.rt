@@ -3,7 +3,7 @@
 
 use crate::starts::{Host, WRONG, made};
 use branching::TreeNode;
-use closing::close_counted;
+use closing::close_alone;
 use insertion::{Built, Weights, build};
 use rand_core::SeedableRng;
 use rand_xoshiro::Xoshiro256PlusPlus;
@@ -99,18 +99,18 @@ fn tell_turns<R: Host + Threads>(
     Ok(())
 }
 
-/// Closes an instance, and prints the bound in tenths, the leaves of the tree and the pricings.
+/// Closes an instance, and prints the bound in tenths and the leaves of the tree.
 fn tell_closing<R: Host>(rt: &R, instance: &Instance, neighbours: u32) -> io::Result<()> {
     if neighbours > MOST_NEIGHBOURS {
         return Err(io::Error::from(WRONG));
     }
-    match close_counted(rt.alloc(), instance, neighbours, MOST_LEAVES) {
-        Ok((closed, pricings)) => {
+    match close_alone(rt.alloc(), instance, neighbours, MOST_LEAVES) {
+        Ok(closed) => {
             let (bound, nodes) = (closed.bound.get(), closed.nodes.iter());
             let leaves = nodes
                 .filter(|node| matches!(node, TreeNode::Leaf(_)))
                 .count();
-            println!(rt; "bound {bound} leaves {leaves} pricings {pricings}")
+            println!(rt; "bound {bound} leaves {leaves}")
         }
         Err(fault) => println!(rt; "{fault}"),
     }

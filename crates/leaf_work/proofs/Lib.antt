@@ -1,3 +1,4 @@
+pub mod Narrower
 pub mod Gathered
 pub mod Obeying
 pub mod Settles

@@ -1,2 +1,3 @@
+pub mod Branching
 pub mod Gathering
 pub mod Settling

@@ -1,6 +1,6 @@
 //! How far the prices of a leaf are raised.
 
-use price_ascent::{Goal, IDLE_PRICINGS, rise_at};
+use price_way::{Goal, IDLE_PRICINGS, rise_at};
 use prices::Priced;
 use tenths::Tenths;
 

@@ -1,17 +1,32 @@
-//! The work at a leaf, as closing and bound workers do it: how far its prices are raised, the plan that the routes met
-//! may be, and its value where no arc is left open. Such a region leaves at most one route from each customer, so
-//! prices are told at which the leaf's value is the cost of its one plan, or above the ceiling where it has none.
+//! How a leaf is worked at, as closing and bound workers do it: its prices come near the best bound that it can have, by
+//! projection onto the routes met so far; those routes may be a plan; and it is split by an arc, or has its value where
+//! no arc is left open. Such a region leaves at most one route from each customer, so prices are told at which the
+//! leaf's value is the cost of its one plan, or above the ceiling where it has none.
 #![tactic(auto)]
 
 mod chain;
+mod child;
 mod effort;
 mod fee;
 mod gathering;
 mod leaf;
 mod pool_plan;
+mod pricing;
+mod quick_round;
+mod raising;
+mod refuting;
 mod serving;
 mod settling;
+mod starting;
+mod trying;
 
+pub use child::{Children, branch};
 pub use effort::{Effort, goal_of};
 pub use leaf::settled_leaf;
 pub use pool_plan::met_plan;
+pub use price_way::{
+    Ascent, ChildStart, Goal, PricingState, RoutePool, counted_routes, first_rise,
+};
+pub use raising::{Raised, raise};
+pub use refuting::start_without_plan;
+pub use starting::start_from;

@@ -4,6 +4,7 @@
 
 use crate::centre::Centre;
 use crate::goal::Goal;
+use crate::pricing_state::PricingState;
 use crate::route_pool::RoutePool;
 use pooled_routes::{GRAINS_OF_TENTH, Merit, Trial, VehiclePrice};
 use prices::Priced;
@@ -49,7 +50,7 @@ impl Ascent {
     /// The way from these prices to a goal.
     pub fn new(
         alloc: Global,
-        pool: &mut RoutePool<'_>,
+        pool: &mut RoutePool,
         priced: &Priced<'_>,
         goal: &Goal,
     ) -> Result<Ascent, AllocError> {
@@ -112,27 +113,31 @@ impl Ascent {
     }
 
     /// The centre after the rise, projected onto what the routes of the pool say.
-    pub fn trial(&self, alloc: Global, pool: &mut RoutePool<'_>) -> Result<Trial, AllocError> {
-        let mut trial = self.start(alloc, self.rise)?;
-        pool.project(&mut trial)?;
+    pub fn trial(
+        &self,
+        pool: &mut RoutePool,
+        state: &mut PricingState<'_>,
+    ) -> Result<Trial, AllocError> {
+        let mut trial = self.start(state.alloc, self.rise)?;
+        pool.project(state, &mut trial)?;
         Ok(trial)
     }
 
     /// Measures the multipliers by another rise.
-    fn scale(&mut self, pool: &mut RoutePool<'_>, rise: i64) {
+    fn scale(&mut self, pool: &mut RoutePool, rise: i64) {
         pool.scale(rise);
         self.vehicle_price = self.vehicle_price.scaled(self.rise, rise);
         self.rise = rise;
     }
 
     /// Goes on with a shorter rise: after a null step, or where the prices of a trial had no value.
-    pub fn draw_back(&mut self, pool: &mut RoutePool<'_>) {
+    pub fn draw_back(&mut self, pool: &mut RoutePool) {
         self.scale(pool, rise_in_range(self.rise.saturating_mul(3) / 5));
     }
 
     /// Goes on from a trial with another centre: a serious step where the merit has grown by more than a tenth
     /// of what the trial promised.
-    fn go_on(&mut self, pool: &mut RoutePool<'_>, trial: &Trial, next: Centre) -> bool {
+    fn go_on(&mut self, pool: &mut RoutePool, trial: &Trial, next: Centre) -> bool {
         self.vehicle_price = trial.vehicle_price;
         let before = self.centre.merit;
         let promised = self
@@ -153,7 +158,7 @@ impl Ascent {
     pub fn take_in(
         &mut self,
         alloc: Global,
-        pool: &mut RoutePool<'_>,
+        pool: &mut RoutePool,
         trial: &Trial,
         priced: &Priced<'_>,
     ) -> Result<(), AllocError> {
@@ -168,7 +173,7 @@ impl Ascent {
     /// Takes in the least reduced cost that a quick search found at the prices of a trial.
     pub fn take_in_quick(
         &mut self,
-        pool: &mut RoutePool<'_>,
+        pool: &mut RoutePool,
         trial: &Trial,
         prices: Vec<i64>,
         least: i64,
@@ -181,7 +186,7 @@ impl Ascent {
 
     /// Goes on with another rise from the same centre, whose least reduced cost is known anew, as far as
     /// quick searches know it.
-    pub fn go_on_from(&mut self, pool: &mut RoutePool<'_>, least: i64, rise: i64) {
+    pub fn go_on_from(&mut self, pool: &mut RoutePool, least: i64, rise: i64) {
         self.centre.least = i128::from(least);
         self.centre.merit = self
             .merit

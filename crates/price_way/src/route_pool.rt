@@ -5,14 +5,14 @@
 use crate::ascent::Ascent;
 use crate::child_start::ChildStart;
 use crate::pool_trial::PoolTrial;
-use crate::quick_way::{QuickWay, WHOLE};
+use crate::pricing_state::PricingState;
+use crate::quick_way::WHOLE;
 use crate::rises::trial_rise;
 use branching::{Arc, Region};
-use fronts::{Nearness, allowed_rows};
-use labelling::Kept;
+use fronts::allowed_rows;
 use pooled_routes::{
-    ArcFlow, Child, HalfSpace, PooledRoute, Projection, Pseudocosts, RouteShare, Trial,
-    VehiclePrice, cost_of, merge, scaled,
+    ArcFlow, Child, HalfSpace, PooledRoute, Projection, RouteShare, Trial, VehiclePrice, cost_of,
+    merge, scaled,
 };
 use prices::{Priced, allows_route};
 use solomon_reader::Instance;
@@ -30,61 +30,42 @@ const MOST_SWEEPS: u32 = 60;
 /// The most routes of a trial for each customer.
 const TRIAL_ROUTES: usize = 4;
 
-/// A route that prices are projected onto takes as long as this many looks at customers.
-const LOOKS_AT_ROUTE: u64 = 4;
-
 /// The relaxed routes met so far at an instance's leaves, with what each says of prices. One pool
 /// serves all leaves, since a route doesn't depend on the region.
 #[derive(Drop)]
-pub struct RoutePool<'n> {
+pub struct RoutePool {
     alloc: Global,
-    /// The tables of the instance.
-    pub nearness: &'n Nearness<'n>,
     routes: Vec<PooledRoute>,
     /// How many routes were added.
     met: u64,
     /// The rise by which the multipliers are measured, in grains.
     rise: i64,
-    /// How many pricings were made for it.
-    pricings: u64,
-    /// How much work they, the projections and the trials were, in looks.
-    looks: u64,
-    /// What the last pricing handed on to the next one.
-    pub kept: Kept,
-    /// How an ascent by quick searches goes on, where one was made.
-    pub quick: Option<QuickWay>,
-    /// The rises of merit that were seen.
-    pub pseudocosts: Pseudocosts,
+    /// How many pricings it took in: the age at which a route was of use.
+    age: u64,
 }
 
-impl<'n> RoutePool<'n> {
-    /// A pool without routes, for pricings by these tables. No contract: any prices are sound, whatever stands in a
-    /// pool.
-    pub fn new(alloc: Global, nearness: &'n Nearness<'n>) -> RoutePool<'n> {
+impl RoutePool {
+    /// A pool without routes. No contract: any prices are sound, whatever stands in a pool.
+    pub fn new(alloc: Global) -> RoutePool {
         RoutePool {
             alloc,
-            nearness,
             routes: Vec::new(alloc),
             met: 0,
             rise: 1,
-            pricings: 0,
-            looks: 0,
-            kept: Kept::nothing(alloc),
-            quick: None,
-            pseudocosts: Pseudocosts::new(alloc),
+            age: 0,
         }
     }
 
-    /// A pool of these routes of the tables' instance, each its customers in order, unless memory runs out. No
+    /// A pool of these routes of an instance, each its customers in order, unless memory runs out. No
     /// contract: any prices are sound, whatever stands in a pool.
     pub fn of_routes(
         alloc: Global,
-        nearness: &'n Nearness<'n>,
+        instance: &Instance,
         routes: &[Vec<u16>],
-    ) -> Result<RoutePool<'n>, AllocError> {
-        let mut pool = RoutePool::new(alloc, nearness);
+    ) -> Result<RoutePool, AllocError> {
+        let mut pool = RoutePool::new(alloc);
         for route in routes {
-            pool.add(nearness.instance, route.as_slice())?;
+            pool.add(instance, route.as_slice())?;
         }
         Ok(pool)
     }
@@ -98,7 +79,7 @@ impl<'n> RoutePool<'n> {
         if stops.is_empty() || self.routes.iter().any(is_it) {
             return Ok(());
         }
-        let route = PooledRoute::new(self.alloc, instance, stops, self.met, self.pricings)?;
+        let route = PooledRoute::new(self.alloc, instance, stops, self.met, self.age)?;
         self.met = self.met.saturating_add(1);
         let customers = usize::from(instance.customer_count());
         if self.routes.len() >= MOST_ROUTES.max(customers * ROUTES_OF_CUSTOMER) {
@@ -112,29 +93,6 @@ impl<'n> RoutePool<'n> {
     /// begin with it. No contract: any rise serves.
     pub fn rise(&self) -> i64 {
         self.rise
-    }
-
-    /// How many pricings were made with the pool: those of trials, and of children that don't keep
-    /// their parent's value. No contract: it only measures.
-    pub fn pricings(&self) -> u64 {
-        self.pricings
-    }
-
-    /// How much work the pricings, the projections and the trials were, in looks: of bounds at customers, of
-    /// labels at others, two for a step from a label, and `LOOKS_AT_ROUTE` for a route that prices are
-    /// projected onto. No contract: it only measures.
-    pub fn looks(&self) -> u64 {
-        self.looks
-    }
-
-    /// Counts looks.
-    pub fn count_looks(&mut self, looks: u64) {
-        self.looks = self.looks.saturating_add(looks);
-    }
-
-    /// Counts the looks at routes of projections.
-    pub fn count_routes(&mut self, routes: u64) {
-        self.count_looks(routes.saturating_mul(LOOKS_AT_ROUTE));
     }
 
     /// The customers of the route of least reduced cost at these prices among those that a region allows;
@@ -180,11 +138,15 @@ impl<'n> RoutePool<'n> {
         Ok(least)
     }
 
-    /// Takes in what a pricing kept: counts it, and adds the routes that it met.
-    pub fn take_in(&mut self, instance: &Instance) -> Result<(), AllocError> {
-        self.pricings = self.pricings.saturating_add(1);
-        self.count_looks(self.kept.looks);
-        let met = replace(&mut self.kept.met, Vec::new(self.alloc));
+    /// Takes in the routes that a pricing met and kept, which is counted.
+    pub fn take_in(
+        &mut self,
+        instance: &Instance,
+        state: &mut PricingState<'_>,
+    ) -> Result<(), AllocError> {
+        self.age = self.age.saturating_add(1);
+        state.count_looks(state.kept.looks);
+        let met = replace(&mut state.kept.met, Vec::new(self.alloc));
         for route in &met {
             self.add(instance, route.as_slice())?;
         }
@@ -255,7 +217,7 @@ impl<'n> RoutePool<'n> {
     /// Measures the multipliers by another rise.
     pub fn scale(&mut self, rise: i64) {
         for route in self.routes.iter_mut() {
-            route.scale(self.rise, rise, self.pricings);
+            route.scale(self.rise, rise, self.age);
         }
         self.rise = rise;
     }
@@ -285,9 +247,13 @@ impl<'n> RoutePool<'n> {
     }
 
     /// Projects a trial onto what all routes say, nearly, from where the multipliers lead.
-    pub fn project(&mut self, trial: &mut Trial) -> Result<(), AllocError> {
+    pub fn project(
+        &mut self,
+        state: &mut PricingState<'_>,
+        trial: &mut Trial,
+    ) -> Result<(), AllocError> {
         let (multipliers, routes) = self.projected(trial)?;
-        self.count_routes(routes);
+        state.count_routes(routes);
         for (place, multiplier) in &multipliers {
             if let Some(route) = self.routes.get_mut(*place) {
                 route.multiplier = *multiplier;
@@ -349,12 +315,5 @@ impl<'n> RoutePool<'n> {
         for route in self.routes.iter_mut() {
             route.take_share(shares, self.rise);
         }
-    }
-
-    /// Learns from the ascent of a child how far its merit rose, where its value came to this many
-    /// tenths. Where memory is refused, it doesn't.
-    pub fn learn(&mut self, start: &ChildStart, ascent: &Ascent, value: i128) {
-        let rise = ascent.rise_since(start.merit, value);
-        let _ = self.pseudocosts.note(start.arc, start.child, rise);
     }
 }

@@ -10,8 +10,7 @@ use crate::nodes::{Nodes, OpenNode, Taken};
 use crate::pricing::{Rules, goal_at, has_done_enough, own_limit, pricing_labels, turn_looks};
 use crate::refusal::Refusal;
 use crate::worker::Worker;
-use leaf_work::{met_plan, settled_leaf};
-use price_ascent::{ChildStart, Children, Raised, branch, raise};
+use leaf_work::{ChildStart, Children, Raised, branch, met_plan, raise, settled_leaf};
 use prices::{PriceFault, Priced};
 use run_settings::Settings;
 use schedule::Feasible;
@@ -104,10 +103,10 @@ fn part<'i, H: Hub<'i>, G: Gate>(
         ascent,
     } = raised;
     let children = branch(
-        worker.alloc,
         &leaf,
         ascent.as_ref(),
         &mut nodes.pool,
+        &mut nodes.state,
         Some(labels),
     );
     match children {
@@ -173,7 +172,7 @@ fn raise_leaf<'i, H: Hub<'i>, G: Gate>(
 {
     let cost = worker.gap().cost;
     let goal = goal_at(&leaf, nodes, cost, is_again, worker.target(), rules);
-    raise(worker.alloc, &mut nodes.pool, leaf, start, &goal)
+    raise(&mut nodes.pool, &mut nodes.state, leaf, start, &goal)
 }
 
 /// Raises the value of a leaf, and brings what came of it to the book.
@@ -249,13 +248,13 @@ fn turn<'i, H: Hub<'i>, G: Gate>(
 /// tree or deque ends the work, and answers how many.
 ///
 /// In each turn the worker takes the open node of its own that has the least value, or steals one where that is well
-/// above the bound, and raises the value of the leaf. It gives the leaf the new prices at the root and where the value reaches
-/// the ceiling, else splits it; a leaf whose value had reached the ceiling is laid aside. Then it takes the
-/// next one, until it has done as much as the turns so far are worth, or ten leaves. The leaves that are open
-/// at the end are left for others to steal.
-/// A refusal of the hub ends the turn. Where the words for cost and bound have met, or are near enough, a turn does nothing,
-/// and where the worker has done more than the turns so far are worth, so that dear pricings don't make the
-/// work endless.
+/// above the bound, and raises the value of the leaf. It gives the leaf the new prices at the root and where the value
+/// reaches the ceiling, else splits it; a leaf whose value had reached the ceiling is laid aside. Then it takes the next
+/// one, until it has done as much as the turns so far are worth, or ten leaves. The leaves that are open at the end are
+/// left for others to steal.
+/// A refusal of the hub ends the turn. Where the words for cost and bound have met, or are near enough, a turn does
+/// nothing, and where the worker has done more than the turns so far are worth, so that dear pricings don't make the work
+/// endless.
 pub fn bound_worker<'i, H: Hub<'i>, G: Gate>(
     worker: &mut Worker<'_, 'i, H, G>,
     settings: &Settings,

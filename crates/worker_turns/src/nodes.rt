@@ -7,8 +7,8 @@ ghost use Rattle.node_pool.specs.Ends.{deque_at};
 
 use crate::refusal::Refusal;
 use fronts::Nearness;
+use leaf_work::{ChildStart, PricingState, RoutePool, counted_routes};
 use node_pool::{Hand, Pass, Stolen, Thief};
-use price_ascent::{ChildStart, RoutePool, counted_routes};
 use schedule::Feasible;
 use std::alloc::{AllocError, Global};
 use std::thread::yield_now;
@@ -53,7 +53,8 @@ pub struct Nodes<'p> {
     idle_at_root: u16,
     /// How often the worker looked for a leaf in vain since it had one.
     missed: u32,
-    pub(crate) pool: RoutePool<'p>,
+    pub(crate) pool: RoutePool,
+    pub(crate) state: PricingState<'p>,
     /// How many routes count where prices are raised.
     pub(crate) routes: u16,
     pub(crate) customers: u16,
@@ -133,7 +134,7 @@ impl<'p> Nodes<'p> {
     {
         let routes = plan.map(|plan| plan.routes());
         let instance = nearness.instance;
-        let pool = RoutePool::of_routes(alloc, nearness, routes.unwrap_or(&[]))?;
+        let pool = RoutePool::of_routes(alloc, instance, routes.unwrap_or(&[]))?;
         Ok(Nodes {
             open: Vec::new(alloc),
             own,
@@ -145,6 +146,7 @@ impl<'p> Nodes<'p> {
             idle_at_root: 0,
             missed: 0,
             pool,
+            state: PricingState::new(alloc, nearness),
             routes: counted_routes(instance, routes),
             customers: instance.customer_count(),
         })

@@ -3,8 +3,7 @@
 ghost use Rattle.std.specs.Prelude.{◌≤◌};
 
 use crate::nodes::Nodes;
-use leaf_work::{Effort, goal_of};
-use price_ascent::Goal;
+use leaf_work::{Effort, Goal, goal_of};
 use prices::Priced;
 use run_settings::Settings;
 use tenths::Tenths;
@@ -56,7 +55,7 @@ pub fn pricing_labels(settings: &Settings, customers: u16) -> usize
 
 /// Whether a worker has done more than the turns that it made so far are worth.
 pub(crate) fn has_done_enough(nodes: &Nodes<'_>, made: u32) -> bool {
-    nodes.pool.looks() > turn_looks(nodes.customers).saturating_mul(u64::from(made))
+    nodes.state.looks() > turn_looks(nodes.customers).saturating_mul(u64::from(made))
 }
 
 /// Leaves within this part of the gap above the bound count as the lowest ones.

@@ -3,7 +3,7 @@ use Rattle.std.specs.Prelude.{◌≡◌}
 use Rattle.solomon_reader.specs.Region.{Region, IsUndecided, used_child, unused_child}
 use Rattle.branching.specs.Arcs.{pair}
 use Rattle.prices.specs.ValuedPrices.{ValuedPrices}
-use Rattle.price_ascent.specs.declared.child.Children.{Children}
+use Rattle.leaf_work.specs.declared.child.Children.{Children}
 
 -- prices of the same instance and neighbours at this region
 pub record IsPricedAt (g : Region) (f child : ValuedPrices) : Type 0 where

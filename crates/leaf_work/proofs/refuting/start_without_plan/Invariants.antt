@@ -1,5 +1,5 @@
 use Rattle.std.proofs.Common.{◌≡◌, ◌≤◌}
-use Rattle.price_ascent.proofs.refuting.start_without_plan.Given as goal
+use Rattle.leaf_work.proofs.refuting.start_without_plan.Given as goal
 
 abbrev pub invariant-loop-row : goal.invariant-loop-row
 invariant-loop-row l = record {

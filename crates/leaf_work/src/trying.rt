@@ -2,7 +2,7 @@
 
 use branching::{Arc, Region};
 use pooled_routes::{ArcFlow, Child, Pseudocosts, Trial};
-use price_way::{Ascent, ChildTrial, PoolTrial, RoutePool};
+use price_way::{Ascent, ChildTrial, PoolTrial, PricingState, RoutePool};
 use prices::Priced;
 use std::alloc::AllocError;
 
@@ -125,11 +125,12 @@ fn try_arc(
 pub(crate) fn best_arc(
     leaf: &Priced<'_>,
     ascent: &Ascent,
-    pool: &mut RoutePool<'_>,
+    pool: &RoutePool,
+    state: &mut PricingState<'_>,
 ) -> Result<Option<TriedArc>, AllocError> {
     let mut arcs = candidates(leaf.region(), pool.flows()?, pool.rise())?;
     // Where rises are known, a worth takes no trial, and the best one spares the trials of other arcs.
-    let seen = &pool.pseudocosts;
+    let seen = &state.pseudocosts;
     arcs.sort_by_key(|flow| !seen.knows(flow.arc))?;
     let trials = pool.trials(leaf.instance(), ascent)?;
     let mut best: Option<TriedArc> = None;
@@ -145,7 +146,6 @@ pub(crate) fn best_arc(
             best = Some(tried);
         }
     }
-    drop(trials);
-    pool.count_routes(routes);
+    state.count_routes(routes);
     Ok(best)
 }

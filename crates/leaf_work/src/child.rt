@@ -9,13 +9,13 @@ ghost use Rattle.branching.specs.Arcs.{pair};
 ghost use Rattle.branching.specs.Choosing.{IsSettled};
 ghost use Rattle.prices.specs.Narrowing.{IsNarrower};
 ghost use Rattle.prices.specs.declared.fault.PriceFault.TheVariants.{LabelLimit, PriceRange};
-ghost use Rattle.price_ascent.specs.Branching.{AreChildren, IsPricedAt};
+ghost use Rattle.leaf_work.specs.Branching.{AreChildren, IsPricedAt};
 
 use crate::pricing::price;
 use crate::trying::{TriedArc, best_arc};
 use branching::{Arc, Region, RegionFault};
 use pooled_routes::{Child, GRAINS_OF_TENTH};
-use price_way::{Ascent, ChildStart, RoutePool};
+use price_way::{Ascent, ChildStart, PricingState, RoutePool};
 use prices::{PriceFault, Priced};
 use solomon_reader::Instance;
 use std::alloc::{AllocError, Global};
@@ -68,8 +68,8 @@ fn narrow<'i>(leaf: &Priced<'i>, region: &Region) -> Result<Option<Priced<'i>>, 
 /// isn't allowed there; or where the child has no relaxed route, prices whose value is
 /// above every plan's cost.
 fn price_child<'i>(
-    alloc: Global,
-    pool: &mut RoutePool<'_>,
+    pool: &mut RoutePool,
+    state: &mut PricingState<'_>,
     leaf: &Priced<'i>,
     region: &Region,
     labels: Option<usize>,
@@ -81,14 +81,14 @@ fn price_child<'i>(
 {
     let child = match narrow(leaf, region)? {
         Some(child) => child,
-        None => price(alloc, pool, leaf.task().at(region)?, labels)?,
+        None => price(pool, state, leaf.task().at(region)?, labels)?,
     };
     if child.least().value.is_some() {
         return Ok(child);
     }
-    let prices = high_prices(alloc, leaf.instance())?;
+    let prices = high_prices(state.alloc, leaf.instance())?;
     let task = child.task().with(prices)?;
-    price(alloc, pool, task, labels)
+    price(pool, state, task, labels)
 }
 
 /// The regions of both children by an arc: that in which it is required, and that in which it is
@@ -112,7 +112,7 @@ fn child_regions(region: &Region, arc: Arc) -> Result<(Region, Region), AllocErr
 fn stops_along(
     alloc: Global,
     leaf: &Priced<'_>,
-    pool: &RoutePool<'_>,
+    pool: &RoutePool,
     tried: &Option<TriedArc>,
 ) -> Result<Vec<u16>, AllocError> {
     let instance = leaf.instance();
@@ -129,7 +129,7 @@ fn stops_along(
 /// Where the ascents of the children by an arc start, after one at their leaf: the one in which it is required, and
 /// the other.
 fn starts_of(
-    pool: &RoutePool<'_>,
+    pool: &RoutePool,
     ascent: Option<&Ascent>,
     arc: Arc,
     tried: Option<TriedArc>,
@@ -146,16 +146,16 @@ fn starts_of(
     Ok((Some(used), Some(unused)))
 }
 
-/// The children of a leaf, with its prices or higher ones: by the arc that promises most in a trial over the routes of
-/// the pool, from where the ascent at the leaf has ended, or where none is worth one by that which they
-/// leave most open; nothing where every arc that the leaf's region allows is required. At most this many
-/// labels may be active at once in a pricing, if there is a limit; `LabelLimit` where they don't
-/// suffice, and `Memory`.
+/// The children of a leaf, with its prices, or with high ones where a child has no relaxed route: by the arc that
+/// promises most in a trial over the routes of the pool, from where the ascent at the leaf has ended, or where none is
+/// worth one by that which they leave most open; nothing where every arc that the leaf's region allows is required. That
+/// no value falls is for the book to see. At most this many labels may be active at once in a pricing, if there is a
+/// limit; `LabelLimit` where they don't suffice, and `Memory`.
 pub fn branch<'i>(
-    alloc: Global,
     leaf: &Priced<'i>,
     ascent: Option<&Ascent>,
-    pool: &mut RoutePool<'_>,
+    pool: &mut RoutePool,
+    state: &mut PricingState<'_>,
     labels: Option<usize>,
 ) -> Result<Option<Children<'i>>, PriceFault>
     ensures settled { IfOk result (λ found. IfNone found (IsSettled leaf.now.region)) }
@@ -164,17 +164,17 @@ pub fn branch<'i>(
     ensures unlimited { IfErr result (λ e. e ≡ LabelLimit → labels ≢ None) }
 {
     let tried = match ascent {
-        Some(ascent) => best_arc(leaf, ascent, pool)?,
+        Some(ascent) => best_arc(leaf, ascent, pool, state)?,
         None => None,
     };
-    let stops = stops_along(alloc, leaf, pool, &tried)?;
+    let stops = stops_along(state.alloc, leaf, pool, &tried)?;
     let Some(arc) = leaf.region().choose(stops.as_slice()) else {
         return Ok(None);
     };
     let (used_start, unused_start) = starts_of(pool, ascent, arc, tried)?;
     let (used, unused) = child_regions(leaf.region(), arc)?;
-    let used = price_child(alloc, pool, leaf, &used, labels);
-    let unused = price_child(alloc, pool, leaf, &unused, labels);
+    let used = price_child(pool, state, leaf, &used, labels);
+    let unused = price_child(pool, state, leaf, &unused, labels);
     match (used, unused) {
         (Ok(used), Ok(unused)) => Ok(Some(Children {
             arc,

@@ -4,15 +4,14 @@ ghost use Rattle.std.specs.Prelude.{◌≡◌, ◌≢◌, None, IfOk, IfErr};
 ghost use Rattle.prices.specs.declared.fault.PriceFault.TheVariants.{LabelLimit, PriceRange};
 
 use labelling::{Hints, PricingTask};
-use price_way::RoutePool;
+use price_way::{PricingState, RoutePool};
 use prices::{PriceFault, Priced};
-use std::alloc::Global;
 
 /// A task's prices with their value. The pool says which of its routes costs least there, and takes in the
-/// cheaper ones that the pricing meets, and how much work it was.
+/// cheaper ones that the pricing meets; the state, how much work it was.
 pub(crate) fn price<'i>(
-    alloc: Global,
-    pool: &mut RoutePool<'_>,
+    pool: &mut RoutePool,
+    state: &mut PricingState<'_>,
     task: PricingTask<'i>,
     labels: Option<usize>,
 ) -> Result<Priced<'i>, PriceFault>
@@ -26,11 +25,11 @@ pub(crate) fn price<'i>(
     let instance = task.instance;
     let known = pool.cheapest(&task.region, task.prices.as_slice())?;
     let hints = Hints {
-        nearness: Some(pool.nearness),
+        nearness: Some(state.nearness),
         known,
     };
-    let priced = Priced::by_hints(alloc, task, labels, &hints, &mut pool.kept);
-    pool.take_in(instance)?;
+    let priced = Priced::by_hints(state.alloc, task, labels, &hints, &mut state.kept);
+    pool.take_in(instance, state)?;
     match priced {
         Ok(priced) => Ok(priced),
         Err((_task, fault)) => Err(PriceFault::from(fault)),

@@ -2,8 +2,8 @@ use Rattle.std.proofs.Common.{subst, sym}
 use Rattle.solomon_reader.specs.Region.{Region}
 use Rattle.branching.specs.Arcs.{pair}
 use Rattle.prices.specs.Narrowing.{IsNarrower}
-use Rattle.price_ascent.proofs.Narrower.{used_is_narrower, unused_is_narrower}
-use Rattle.price_ascent.proofs.child.child_regions.Goals as goal
+use Rattle.leaf_work.proofs.Narrower.{used_is_narrower, unused_is_narrower}
+use Rattle.leaf_work.proofs.child.child_regions.Goals as goal
 
 pub returns-in-Ok-Ok-clause-used_narrower : goal.returns-in-Ok-Ok-clause-used_narrower
 returns-in-Ok-Ok-clause-used_narrower c =

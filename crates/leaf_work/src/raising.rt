@@ -1,14 +1,14 @@
 //! The raising of a leaf's value.
 
 ghost use Rattle.std.specs.Prelude.{◌≡◌, ◌≤◌, IfOk, IfSome};
-ghost use Rattle.price_ascent.specs.Branching.{IsPricedAt};
+ghost use Rattle.leaf_work.specs.Branching.{IsPricedAt};
 
 use crate::pricing::price;
 use crate::quick_round::{is_quick_next, quick_round};
 use pooled_routes::Trial;
-use price_way::{Ascent, ChildStart, Goal, RoutePool};
+use price_way::{Ascent, ChildStart, Goal, PricingState, RoutePool};
 use prices::{PriceFault, Priced};
-use std::alloc::{AllocError, Global};
+use std::alloc::AllocError;
 
 /// Raised prices, and the ascent that has ended there, by which their leaf may be split; nothing where memory was
 /// refused to it.
@@ -23,17 +23,17 @@ const MORE_PRICINGS: u32 = 8;
 
 /// The prices of a trial with their value, at the leaf of other prices.
 fn price_trial<'i>(
-    alloc: Global,
-    pool: &mut RoutePool<'_>,
+    pool: &mut RoutePool,
+    state: &mut PricingState<'_>,
     leaf: &Priced<'i>,
     trial: &Trial,
     labels: Option<usize>,
 ) -> Result<Priced<'i>, PriceFault>
     ensures { IfOk result (IsPricedAt leaf.now.region leaf.now) }
 {
-    let prices = trial.prices_in_range(alloc, leaf.instance())?;
+    let prices = trial.prices_in_range(state.alloc, leaf.instance())?;
     let task = leaf.task().with(prices)?;
-    price(alloc, pool, task, labels)
+    price(pool, state, task, labels)
 }
 
 /// Of two prices of one leaf those of the higher value; of equal values the first.
@@ -57,8 +57,8 @@ pub(crate) fn higher<'i>(first: Priced<'i>, second: Priced<'i>) -> Priced<'i>
 /// The prices of a child's trial with their value, at the child; nothing where it wasn't tried, or where
 /// memory or labels don't suffice.
 fn price_start<'i>(
-    alloc: Global,
-    pool: &mut RoutePool<'_>,
+    pool: &mut RoutePool,
+    state: &mut PricingState<'_>,
     child: &Priced<'i>,
     start: &Option<ChildStart>,
     labels: Option<usize>,
@@ -71,7 +71,7 @@ fn price_start<'i>(
     let Some(trial) = &start.trial else {
         return None;
     };
-    price_trial(alloc, pool, child, trial, labels).ok()
+    price_trial(pool, state, child, trial, labels).ok()
 }
 
 /// The higher of two prices of one leaf, if the second are known.
@@ -90,23 +90,23 @@ fn higher_if<'i>(first: Priced<'i>, second: Option<Priced<'i>>) -> Priced<'i>
 
 /// The next prices of an ascent from the best so far, with their value; nothing where labels ran out.
 fn step<'i>(
-    alloc: Global,
-    pool: &mut RoutePool<'_>,
+    pool: &mut RoutePool,
+    state: &mut PricingState<'_>,
     ascent: &mut Ascent,
     best: &Priced<'i>,
     goal: &Goal,
 ) -> Result<Option<Priced<'i>>, AllocError>
     ensures { IfOk result (λ found. IfSome found (IsPricedAt best.now.region best.now)) }
 {
-    if is_quick_next(alloc, pool, best, goal)? {
-        return quick_round(alloc, pool, ascent, best, goal);
+    if is_quick_next(pool, state, best, goal)? {
+        return quick_round(pool, state, ascent, best, goal);
     }
-    ascent.go_back_to(alloc, best)?;
-    let trial = ascent.trial(alloc, pool)?;
-    match price_trial(alloc, pool, best, &trial, goal.labels) {
+    ascent.go_back_to(state.alloc, best)?;
+    let trial = ascent.trial(pool, state)?;
+    match price_trial(pool, state, best, &trial, goal.labels) {
         Ok(next) => {
             // Where memory is refused, these prices still count, and the next step ends the ascent.
-            let _ = ascent.take_in(alloc, pool, &trial, &next);
+            let _ = ascent.take_in(state.alloc, pool, &trial, &next);
             Ok(Some(next))
         }
         Err(PriceFault::LabelLimit) => {
@@ -128,8 +128,8 @@ fn most_pricings(leaf: &Priced<'_>, goal: &Goal) -> u32 {
 
 /// The best of these prices and those that an ascent comes to at their leaf.
 fn climb<'i>(
-    alloc: Global,
-    pool: &mut RoutePool<'_>,
+    pool: &mut RoutePool,
+    state: &mut PricingState<'_>,
     ascent: &mut Ascent,
     priced: Priced<'i>,
     goal: &Goal,
@@ -144,13 +144,13 @@ fn climb<'i>(
     let mut growth: i128 = 0;
     for made in 0..most_pricings(&best, goal) {
         let before = best.value();
-        let is_spent = idle >= goal.idle_pricings || pool.looks() >= goal.looks;
+        let is_spent = idle >= goal.idle_pricings || state.looks() >= goal.looks;
         let is_over = made >= goal.pricings && !ascent.is_near(growth);
         if before >= goal.value || is_spent || is_over {
             return best;
         }
         let merit = ascent.centre.merit;
-        let Ok(next) = step(alloc, pool, ascent, &best, goal) else {
+        let Ok(next) = step(pool, state, ascent, &best, goal) else {
             return best;
         };
         growth = ascent.centre.merit.saturating_sub(merit);
@@ -172,8 +172,8 @@ fn climb<'i>(
 /// does, the best found so far is answered. At the root, where a pricing is dear, quick searches for routes
 /// find the next prices.
 pub fn raise<'i>(
-    alloc: Global,
-    pool: &mut RoutePool<'_>,
+    pool: &mut RoutePool,
+    state: &mut PricingState<'_>,
     priced: Priced<'i>,
     start: Option<ChildStart>,
     goal: &Goal,
@@ -193,8 +193,8 @@ pub fn raise<'i>(
             ascent: None,
         };
     }
-    let tried = price_start(alloc, pool, &priced, &start, goal.labels);
-    let ascent = Ascent::new(alloc, pool, tried.as_ref().unwrap_or(&priced), goal);
+    let tried = price_start(pool, state, &priced, &start, goal.labels);
+    let ascent = Ascent::new(state.alloc, pool, tried.as_ref().unwrap_or(&priced), goal);
     let priced = higher_if(priced, tried);
     let Ok(mut ascent) = ascent else {
         return Raised {
@@ -202,15 +202,15 @@ pub fn raise<'i>(
             ascent: None,
         };
     };
-    let priced = climb(alloc, pool, &mut ascent, priced, goal);
-    if ascent.go_back_to(alloc, &priced).is_err() {
+    let priced = climb(pool, state, &mut ascent, priced, goal);
+    if ascent.go_back_to(state.alloc, &priced).is_err() {
         return Raised {
             priced,
             ascent: None,
         };
     }
     if let Some(start) = &start {
-        pool.learn(start, &ascent, priced.value());
+        state.learn(start, &ascent, priced.value());
     }
     let ascent = Some(ascent);
     Raised { priced, ascent }

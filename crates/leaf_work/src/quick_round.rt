@@ -5,13 +5,13 @@ ghost use Rattle.std.specs.List.{AllByRecursion};
 ghost use Rattle.solomon_reader.specs.Problem.{customer_count};
 ghost use Rattle.solomon_reader.specs.CertificateText.{IsPrice};
 ghost use Rattle.fronts.specs.Fronts.{IsTask};
-ghost use Rattle.price_ascent.specs.Branching.{IsPricedAt};
+ghost use Rattle.leaf_work.specs.Branching.{IsPricedAt};
 
 use crate::pricing::price;
 use branching::Region;
-use fronts::{Nearness, Task};
+use fronts::Task;
 use pooled_routes::{Trial, VehiclePrice};
-use price_way::{Ascent, Goal, QuickWay, RoutePool, WHOLE, WIDEST};
+use price_way::{Ascent, Goal, PricingState, QuickWay, RoutePool, WHOLE, WIDEST};
 use prices::{PriceFault, Priced};
 use quick_routes::{QuickRoutes, Width, quick_routes};
 use std::alloc::{AllocError, Global};
@@ -33,20 +33,20 @@ const LABELS_OF_ROUND: usize = 4;
 
 /// The routes that a quick search of this width finds, or of that which is the next one's.
 fn routes_at(
-    alloc: Global,
-    nearness: &Nearness<'_>,
-    quick: &mut Option<QuickWay>,
+    state: &mut PricingState<'_>,
     region: &Region,
     prices: &[i64],
     width: Option<Width>,
 ) -> Result<QuickRoutes, AllocError>
-    requires { IsTask nearness.now.instance.now region.now prices.now }
+    requires { IsTask state.old.nearness.now.instance.now region.now prices.now }
 {
-    let task = Task::new(alloc, nearness, region, prices)?;
-    if quick.is_none() {
-        *quick = Some(QuickWay::new(&task)?);
+    let task = Task::new(state.alloc, state.nearness, region, prices)?;
+    if state.quick.is_none() {
+        state.quick = Some(QuickWay::new(&task)?);
     }
-    let Some(way) = quick else { unreachable!() };
+    let Some(way) = &mut state.quick else {
+        unreachable!()
+    };
     let found = quick_routes(&task, &way.likely, width.unwrap_or(way.width()))?;
     if width.is_none() {
         way.looks = found.looks;
@@ -57,8 +57,8 @@ fn routes_at(
 /// Searches for routes at these prices, and adds those to the pool whose reduced cost is below this number; answers
 /// the least reduced cost that was found, the greatest number where none was.
 fn search(
-    alloc: Global,
-    pool: &mut RoutePool<'_>,
+    pool: &mut RoutePool,
+    state: &mut PricingState<'_>,
     leaf: &Priced<'_>,
     prices: &[i64],
     most: i64,
@@ -67,20 +67,13 @@ fn search(
     requires count { length prices.now ≡ customer_count leaf.now.problem }
     requires in_range { AllByRecursion IsPrice prices.now }
 {
-    let (instance, nearness) = (leaf.instance(), pool.nearness);
-    if !nearness.is_for(instance, leaf.neighbours()) {
+    let instance = leaf.instance();
+    if !state.nearness.is_for(instance, leaf.neighbours()) {
         return Ok(i64::MAX);
     }
     instance.law_of_limits();
-    let found = routes_at(
-        alloc,
-        nearness,
-        &mut pool.quick,
-        leaf.region(),
-        prices,
-        width,
-    )?;
-    pool.count_looks(found.looks);
+    let found = routes_at(state, leaf.region(), prices, width)?;
+    state.count_looks(found.looks);
     for route in &found.routes {
         if route.reduced_cost < most {
             pool.add(instance, route.stops.as_slice())?;
@@ -97,21 +90,21 @@ fn search(
 /// Whether the next step of an ascent is a round of quick searches: at the root, where an exact pricing is
 /// dear. One search tells how much work it is.
 pub(crate) fn is_quick_next(
-    alloc: Global,
-    pool: &mut RoutePool<'_>,
+    pool: &mut RoutePool,
+    state: &mut PricingState<'_>,
     leaf: &Priced<'_>,
     goal: &Goal,
 ) -> Result<bool, AllocError> {
     let customers = u64::from(leaf.instance().customer_count());
-    let exact = pool.kept.looks;
+    let exact = state.kept.looks;
     if !leaf.region().is_root() || exact < customers.saturating_mul(customers).saturating_mul(8) {
         return Ok(false);
     }
-    if pool.quick.is_none() {
-        search(alloc, pool, leaf, leaf.prices(), 0, None)?;
+    if state.quick.is_none() {
+        search(pool, state, leaf, leaf.prices(), 0, None)?;
     }
     let are_few = exact.saturating_mul(customers / 5) > goal.looks;
-    Ok(match &mut pool.quick {
+    Ok(match &mut state.quick {
         Some(way) => way.is_next(exact, are_few),
         None => false,
     })
@@ -119,16 +112,16 @@ pub(crate) fn is_quick_next(
 
 /// A serious or a null step by a quick search alone; whether it found a route that the prices don't keep to.
 fn quick_step(
-    alloc: Global,
-    pool: &mut RoutePool<'_>,
+    pool: &mut RoutePool,
+    state: &mut PricingState<'_>,
     ascent: &mut Ascent,
     leaf: &Priced<'_>,
 ) -> Result<bool, AllocError> {
-    let trial = ascent.trial(alloc, pool)?;
-    let prices = trial.prices_in_range(alloc, leaf.instance())?;
+    let trial = ascent.trial(pool, state)?;
+    let prices = trial.prices_in_range(state.alloc, leaf.instance())?;
     let known = pool.least(prices.as_slice())?;
     let most = trial.vehicle_price.value().min(known);
-    let found = search(alloc, pool, leaf, prices.as_slice(), most, None)?;
+    let found = search(pool, state, leaf, prices.as_slice(), most, None)?;
     ascent.take_in_quick(pool, &trial, prices, found.min(known));
     Ok(found < most)
 }
@@ -136,19 +129,19 @@ fn quick_step(
 /// Lets searches look more widely, unless they can't; whether they do. The centre is judged by a wider one,
 /// and the rise begins anew.
 fn widen(
-    alloc: Global,
-    pool: &mut RoutePool<'_>,
+    pool: &mut RoutePool,
+    state: &mut PricingState<'_>,
     ascent: &mut Ascent,
     leaf: &Priced<'_>,
 ) -> Result<bool, AllocError> {
-    let is_wider = match &mut pool.quick {
+    let is_wider = match &mut state.quick {
         Some(way) => way.widen(),
         None => false,
     };
     if is_wider {
-        let prices = prices_at(alloc, ascent, leaf, WHOLE)?;
+        let prices = prices_at(state.alloc, ascent, leaf, WHOLE)?;
         let known = pool.least(prices.as_slice())?;
-        let found = search(alloc, pool, leaf, prices.as_slice(), 0, None)?;
+        let found = search(pool, state, leaf, prices.as_slice(), 0, None)?;
         let rise = pool.rise().saturating_mul(3);
         ascent.go_on_from(pool, found.min(known), rise);
     }
@@ -157,25 +150,25 @@ fn widen(
 
 /// Steps by quick searches alone, for this many looks, or until the widest of them lead no further.
 fn quick_steps(
-    alloc: Global,
-    pool: &mut RoutePool<'_>,
+    pool: &mut RoutePool,
+    state: &mut PricingState<'_>,
     ascent: &mut Ascent,
     leaf: &Priced<'_>,
     looks: u64,
 ) -> Result<(), AllocError> {
-    let end = pool.looks().saturating_add(looks);
+    let end = state.looks().saturating_add(looks);
     let mut mark = ascent.centre.merit;
     let mut made: u32 = 0;
     for _ in 0..MOST_STEPS {
-        if pool.looks() >= end || ascent.is_at_target() {
+        if state.looks() >= end || ascent.is_at_target() {
             return Ok(());
         }
-        let is_found = quick_step(alloc, pool, ascent, leaf)?;
+        let is_found = quick_step(pool, state, ascent, leaf)?;
         made = made.saturating_add(1);
         let growth = ascent.centre.merit.saturating_sub(mark);
         let is_slow = made >= STEPS_BETWEEN && growth < mark / 1_000;
         if is_slow || !is_found && made > 3 {
-            if !widen(alloc, pool, ascent, leaf)? {
+            if !widen(pool, state, ascent, leaf)? {
                 return Ok(());
             }
             made = STEPS_BETWEEN;
@@ -211,15 +204,15 @@ fn prices_at(
 /// By how many millionths the centre's prices are to be multiplied so that no route pays more than it costs,
 /// as far as the widest searches know.
 fn scale_of(
-    alloc: Global,
-    pool: &mut RoutePool<'_>,
+    pool: &mut RoutePool,
+    state: &mut PricingState<'_>,
     ascent: &Ascent,
     leaf: &Priced<'_>,
 ) -> Result<i64, AllocError> {
     let mut scale = pool.scale_at(ascent.centre.prices.as_slice())?;
     for _ in 0..SCALINGS {
-        let prices = prices_at(alloc, ascent, leaf, scale)?;
-        search(alloc, pool, leaf, prices.as_slice(), 0, Some(WIDEST))?;
+        let prices = prices_at(state.alloc, ascent, leaf, scale)?;
+        search(pool, state, leaf, prices.as_slice(), 0, Some(WIDEST))?;
         let next = pool.scale_at(ascent.centre.prices.as_slice())?;
         let is_found = next.saturating_add(LEAST_FALL) >= scale;
         scale = next;
@@ -232,7 +225,8 @@ fn scale_of(
 
 /// Learns from the pricing that ended a round, and goes on from the centre that wasn't scaled.
 fn end_round(
-    pool: &mut RoutePool<'_>,
+    pool: &mut RoutePool,
+    state: &mut PricingState<'_>,
     ascent: &mut Ascent,
     leaf: &Priced<'_>,
     next: &Option<Priced<'_>>,
@@ -245,7 +239,7 @@ fn end_round(
         lack = WHOLE.saturating_sub(pool.scale_at(next.prices())?);
         is_raised = next.value() > leaf.value();
     }
-    if let Some(way) = &mut pool.quick {
+    if let Some(way) = &mut state.quick {
         way.learn(is_raised);
         if next.is_some() {
             way.hold_back(lack);
@@ -259,36 +253,37 @@ fn end_round(
 /// Steps by quick searches alone; then an exact pricing of the prices to which they came, scaled so that the
 /// routes met pay at most what they cost. Nothing where labels ran out.
 pub(crate) fn quick_round<'i>(
-    alloc: Global,
-    pool: &mut RoutePool<'_>,
+    pool: &mut RoutePool,
+    state: &mut PricingState<'_>,
     ascent: &mut Ascent,
     leaf: &Priced<'i>,
     goal: &Goal,
 ) -> Result<Option<Priced<'i>>, AllocError>
     ensures { IfOk result (λ found. IfSome found (IsPricedAt leaf.now.region leaf.now)) }
 {
-    let (has_begun, margin) = match &pool.quick {
+    let (has_begun, margin) = match &state.quick {
         Some(way) => (way.has_begun, way.margin),
         None => return Ok(None),
     };
     let looks = if has_begun {
-        pool.kept.looks
+        state.kept.looks
     } else {
         goal.looks / 10 * 3
     };
-    quick_steps(alloc, pool, ascent, leaf, looks)?;
-    let scale = scale_of(alloc, pool, ascent, leaf)?;
-    let prices = prices_at(alloc, ascent, leaf, scale.min(WHOLE).saturating_sub(margin))?;
+    quick_steps(pool, state, ascent, leaf, looks)?;
+    let scale = scale_of(pool, state, ascent, leaf)?;
+    let scale = scale.min(WHOLE).saturating_sub(margin);
+    let prices = prices_at(state.alloc, ascent, leaf, scale)?;
     let task = leaf.task().with(prices)?;
     let labels = match goal.labels {
         Some(labels) => Some(labels.saturating_mul(LABELS_OF_ROUND)),
         None => None,
     };
-    let next = match price(alloc, pool, task, labels) {
+    let next = match price(pool, state, task, labels) {
         Ok(next) => Some(next),
         Err(PriceFault::LabelLimit) => None,
         Err(_) => return Err(AllocError),
     };
-    end_round(pool, ascent, leaf, &next, goal.rise)?;
+    end_round(pool, state, ascent, leaf, &next, goal.rise)?;
     Ok(next)
 }

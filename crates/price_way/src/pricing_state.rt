@@ -1,0 +1,68 @@
+//! What pricings hand on from one to the next, and how much work they were.
+//!
+//! No contract speaks of it: it is a rule of search, and any prices are sound.
+
+use crate::ascent::Ascent;
+use crate::child_start::ChildStart;
+use crate::quick_way::QuickWay;
+use fronts::Nearness;
+use labelling::Kept;
+use pooled_routes::Pseudocosts;
+use std::alloc::Global;
+
+/// A route that prices are projected onto takes as long as this many looks at customers.
+const LOOKS_AT_ROUTE: u64 = 4;
+
+/// What pricings hand on from one to the next, whatever the leaf, beside the routes that they met.
+#[derive(Drop)]
+pub struct PricingState<'n> {
+    /// Where lists stand.
+    pub alloc: Global,
+    /// The tables of the instance.
+    pub nearness: &'n Nearness<'n>,
+    /// What the last pricing handed on to the next one.
+    pub kept: Kept,
+    /// How an ascent by quick searches goes on, where one was made.
+    pub quick: Option<QuickWay>,
+    /// The rises of merit that were seen.
+    pub pseudocosts: Pseudocosts,
+    /// How much work was done, in looks.
+    looks: u64,
+}
+
+impl<'n> PricingState<'n> {
+    /// What the first pricing by these tables begins with. No contract: any prices are sound, whatever was handed on.
+    pub fn new(alloc: Global, nearness: &'n Nearness<'n>) -> PricingState<'n> {
+        PricingState {
+            alloc,
+            nearness,
+            kept: Kept::nothing(alloc),
+            quick: None,
+            pseudocosts: Pseudocosts::new(alloc),
+            looks: 0,
+        }
+    }
+
+    /// How much work the pricings, the projections and the trials were, in looks: those of pricings, and
+    /// `LOOKS_AT_ROUTE` for a route that prices are projected onto. No contract: it only measures.
+    pub fn looks(&self) -> u64 {
+        self.looks
+    }
+
+    /// Counts looks.
+    pub fn count_looks(&mut self, looks: u64) {
+        self.looks = self.looks.saturating_add(looks);
+    }
+
+    /// Counts the looks at routes of projections.
+    pub fn count_routes(&mut self, routes: u64) {
+        self.count_looks(routes.saturating_mul(LOOKS_AT_ROUTE));
+    }
+
+    /// Learns from the ascent of a child how far its merit rose, where its value came to this many
+    /// tenths. Where memory is refused, it doesn't.
+    pub fn learn(&mut self, start: &ChildStart, ascent: &Ascent, value: i128) {
+        let rise = ascent.rise_since(start.merit, value);
+        let _ = self.pseudocosts.note(start.arc, start.child, rise);
+    }
+}
