@@ -17,7 +17,7 @@ use Rattle.incumbent_book.proofs.Histories.{below-cheaper, best-kept}
 use Rattle.desk.specs.Tally.{plus, tally_of_event, Tally}
 use Rattle.desk.specs.Account.{Account, lesser_of, least_of, IsSeen}
 use Rattle.desk.specs.Replies.{after_offer, TellsForeign, IsPricedFor, Offers, Reprices, Splits}
-use Rattle.desk.specs.Opening.{HasPlanIf, IsCounted}
+use Rattle.desk.specs.Opening.{WasOffered, IsCounted}
 use Rattle.desk.proofs.Tallies.{counted_more}
 use Rattle.incumbent_book.specs.Replies as book
 
@@ -104,23 +104,24 @@ tells_foreign b call LeavesFull told = told.1.met ForeignInstance (omega arith)
 tells_foreign b call TooDeep told = told.1.met ForeignInstance (omega arith)
 
 -- an event more takes no offer back
-still_served : (has_plan : Bool) (event : Event) (past : List Event) → HasPlanIf has_plan past → HasPlanIf has_plan (event ∷ past)
-still_served has_plan (offered worker cost better) past served has = λ none. absurd (omega (arith, ap (λ (costs : List ℕ). length costs) none))
-still_served has_plan (repriced worker leaf value) past served has = served has
-still_served has_plan (branched worker leaf a used unused x y) past served has = served has
+still_offered : (most : Option ℕ) (event : Event) (past : List Event) → WasOffered most past → WasOffered most (event ∷ past)
+still_offered None event past was = tt
+still_offered (Some most) (offered worker cost better) past was = (was.0, inr was.1, was.2)
+still_offered (Some most) (repriced worker leaf value) past was = was
+still_offered (Some most) (branched worker leaf a used unused x y) past was = was
 
--- a book of our instance and number of neighbours, with a plan if it is to have one
-module _ (p : Problem) (k : ℕ) (has_plan : Bool) (b : Contents) (before : Tally) (is : IsCounted p k has_plan b before) where
+-- a book of our instance and number of neighbours, with a plan of at most this cost if one is named
+module _ (p : Problem) (k : ℕ) (opening_cost : Option ℕ) (b : Contents) (before : Tally) (is : IsCounted p k opening_cost b before) where
   -- the totals are those of the history again, where both have the same event more
   pub counted_call : (new : Contents) (event : Event) (after : Tally) → new.past ≡ event ∷ b.past → new.problem ≡ b.problem
       → new.neighbours ≡ b.neighbours → after ≡ plus before (tally_of_event event)
-      → IsCounted p k has_plan new after
+      → IsCounted p k opening_cost new after
   counted_call new event after longer problem neighbours more =
       record {
         counted = counted_more b.past event before after new.past is.counted longer more;
         problem = problem ∙ is.problem;
         neighbours = neighbours ∙ is.neighbours;
-        served = rw longer (still_served has_plan event b.past is.served);
+        offered = rw longer (still_offered opening_cost event b.past is.offered);
       }
 
   -- a refusal changes no share

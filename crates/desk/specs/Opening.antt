@@ -1,6 +1,7 @@
 -- What a desk deals out, and what it keeps.
-use Rattle.std.specs.Prelude.{◌≡◌, ◌≢◌, ℕ, Bool, true, List, [], Option}
+use Rattle.std.specs.Prelude.{◌≡◌, ℕ, ◌≤◌, List, Option, Some, None}
 use Rattle.solomon_reader.specs.Problem.{Problem}
+use Rattle.solomon_reader.specs.Region.{Among}
 use Rattle.solomon_reader.specs.History.{Event, costs_of, IsBestCost, IsBound}
 use Rattle.incumbent_book.specs.Contents.{Contents}
 use Rattle.desk.specs.Tally.{Tally, tally_of}
@@ -14,13 +15,14 @@ pub record IsDealt (b : Contents) (workers : ℕ) (shares : List Account) : Type
   pub least : IsBound b.problem b.root b.past bound
   pub are : shares ≡ opening_accounts workers (tally_of b.past) cost bound
 
--- where it is so, a plan was offered
-abbrev pub HasPlanIf : Bool → List Event → Type 0
-HasPlanIf has_plan past = has_plan ≡ true → costs_of past ≢ []
+-- a plan was offered that costs at most this, where a cost is named
+abbrev pub WasOffered : Option ℕ → List Event → Type 0
+WasOffered None past = Unit {0}
+WasOffered (Some most) past = (cost : ℕ) × Among cost (costs_of past) × (cost ≤ most)
 
--- a book of this instance and number of neighbours, which was offered a plan if it is to have one, and whose history has these counts and sums
-pub record IsCounted (p : Problem) (k : ℕ) (has_plan : Bool) (b : Contents) (totals : Tally) : Type 0 where
+-- a book of this instance and number of neighbours, which was offered a plan of at most this cost if one is named, and whose history has these counts and sums
+pub record IsCounted (p : Problem) (k : ℕ) (opening_cost : Option ℕ) (b : Contents) (totals : Tally) : Type 0 where
   pub counted : tally_of b.past ≡ totals
   pub problem : b.problem ≡ p
   pub neighbours : b.neighbours ≡ k
-  pub served : HasPlanIf has_plan b.past
+  pub offered : WasOffered opening_cost b.past

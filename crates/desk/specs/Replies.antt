@@ -8,6 +8,9 @@ use Rattle.schedule.specs.Solution.{Solution}
 use Rattle.prices.specs.ValuedPrices.{ValuedPrices}
 use Rattle.incumbent_book.specs.declared.offered.Offered.{Offered}
 use Rattle.incumbent_book.specs.declared.offered.Offered.TheVariants.{Better, NotBetter}
+use Rattle.incumbent_book.specs.Contents.{Contents}
+use Rattle.incumbent_book.specs.Replies.{IsOptimalityGap}
+use Rattle.incumbent_book.specs.declared.gap.Gap.{Gap}
 use Rattle.incumbent_book.specs.declared.fault.BookFault.{BookFault}
 use Rattle.incumbent_book.specs.declared.fault.BookFault.TheVariants.{Memory, ForeignInstance, JournalFull, NotALeaf, WrongRegion, NotHigher, Lower, LeavesFull, TooDeep}
 use Rattle.desk.specs.Tally.{plus, tally_of_event}
@@ -68,3 +71,16 @@ pub record Tells (p : Problem) (old : Account) (cost : Option ℕ) (bound : ℕ)
   pub below : IsBelowPlans p bound
   pub not_lower : old.bound ≤ bound
   pub seen : new ≡ record { worker = old.worker; tally = old.tally; cost = least_of old.cost (option_to_list cost); bound = max old.bound bound }
+
+-- What is told is no worse than cost and bound of the book as it stands.
+pub record IsOfNow (b : Contents) (told : Gap) : Type 0 where
+  pub now : Gap
+  pub is : IsOptimalityGap b now
+  pub cost : MatchOption now.cost (Unit {0}) (λ best. MatchOption told.cost ⊥ (λ c. c ≤ best))
+  pub bound : now.bound ≤ told.bound
+
+-- a plan that isn't better or is refused comes back
+abbrev pub GivesBack : Solution → Result (Offered × Gap) (Solution × BookFault) → Type 0
+GivesBack plan (Ok (Better before, gap)) = Unit {0}
+GivesBack plan (Ok (NotBetter best returned, gap)) = returned ≡ plan
+GivesBack plan (Err (returned, fault)) = returned ≡ plan

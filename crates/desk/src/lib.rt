@@ -15,6 +15,7 @@ mod tokens;
 
 pub use blanks::Blanks;
 pub use fault::{DeskFault, LookFault};
+pub use locked::Locked;
 pub use naming::Naming;
 pub use share::Share;
 pub use shared::Desk;

@@ -1,11 +1,11 @@
 //! What lies under the lock of a desk.
 
-ghost use Rattle.std.specs.Prelude.{◌≡◌, IfOk};
+ghost use Rattle.std.specs.Prelude.{◌≡◌, IfOk, IfErr};
 ghost use Rattle.solomon_reader.specs.History.{offered};
 ghost use Rattle.branching.specs.Arcs.{pair};
 ghost use Rattle.incumbent_book.specs.Contents.{event_of};
 ghost use Rattle.desk.specs.Opening.{IsCounted};
-ghost use Rattle.desk.specs.Replies.{Offers, Reprices, Splits, Tells, IsPricedFor};
+ghost use Rattle.desk.specs.Replies.{Offers, Reprices, Splits, Tells, IsPricedFor, IsOfNow, GivesBack};
 
 use crate::fault::LookFault;
 use crate::naming::Naming;
@@ -18,9 +18,10 @@ use schedule::Feasible;
 use std::marker::Model;
 use tenths::Tenths;
 
-/// The book, and what all shares together counted of its history. Contracts see what the book has.
+/// What lies under a desk's lock: the book, and what all shares together counted of its history. Contracts see what
+/// the book has.
 #[derive(Drop)]
-pub(crate) struct Locked<'i, J: Naming> {
+pub struct Locked<'i, J: Naming> {
     book: Book<'i>,
     totals: Totals<J>,
 }
@@ -33,7 +34,7 @@ impl<'i, J: Naming> Model for Locked<'i, J> {
 
     ghost view = { λ l. l.book };
 
-    ghost invariant = { λ l. IsCounted J.problem J.neighbours J.has_plan l.book l.totals };
+    ghost invariant = { λ l. IsCounted J.problem J.neighbours J.opening_cost l.book l.totals };
 }
 
 /// The event of an accepted offer.
@@ -57,7 +58,7 @@ fn value_of(priced: &Priced<'_>) -> u128
 impl<'i, J: Naming> Locked<'i, J> {
     /// A book whose history the totals have counted.
     pub(crate) fn new(book: Book<'i>, totals: Totals<J>) -> Locked<'i, J>
-        requires { IsCounted J.problem J.neighbours J.has_plan book totals }
+        requires { IsCounted J.problem J.neighbours J.opening_cost book totals }
     {
         Locked { book, totals }
     }
@@ -65,7 +66,7 @@ impl<'i, J: Naming> Locked<'i, J> {
     /// What the book leaves. The tokens of all shares together have counted its history.
     pub(crate) fn finish(self, mut all: Tokens<J>) -> Outcome<'i>
         requires { all.parts ≡ J.workers }
-        ensures { IsCounted J.problem J.neighbours J.has_plan result all.tally }
+        ensures { IsCounted J.problem J.neighbours J.opening_cost result all.tally }
     {
         let Locked { book, mut totals } = self;
         totals.audit(&mut all);
@@ -145,9 +146,53 @@ impl<'i, J: Naming> Locked<'i, J> {
         Ok(made)
     }
 
-    /// The best cost and the bound of the book.
-    pub(crate) fn gap(&mut self, mine: &mut Share<J>) -> Gap
-        ensures { Tells J.problem mine.old result.cost result.bound mine.new }
+    /// What `Desk::offer` does, and cost and bound as they stand then.
+    pub fn offer_and_tell(
+        &mut self,
+        mine: &mut Share<J>,
+        plan: Feasible<'i>,
+    ) -> Result<(Offered<'i>, Gap), (Feasible<'i>, BookFault)>
+        ensures back { GivesBack plan.entry result }
+        ensures now { IfOk result (λ r. IsOfNow self.new r.1) }
+    {
+        let offered = self.offer(mine, plan)?;
+        Ok((offered, self.gap(mine)))
+    }
+
+    /// What `Desk::reprice` does, and cost and bound as they stand then.
+    pub fn reprice_and_tell(
+        &mut self,
+        mine: &mut Share<J>,
+        leaf: u32,
+        priced: Priced<'i>,
+    ) -> Result<Gap, (Priced<'i>, BookFault)>
+        ensures back { IfErr result (λ e. e.0 ≡ priced.entry) }
+        ensures now { IfOk result (IsOfNow self.new) }
+    {
+        self.reprice(mine, leaf, priced)?;
+        Ok(self.gap(mine))
+    }
+
+    /// What `Desk::split` does, and cost and bound as they stand then.
+    pub fn split_and_tell(
+        &mut self,
+        mine: &mut Share<J>,
+        leaf: u32,
+        arc: Arc,
+        used: Priced<'i>,
+        unused: Priced<'i>,
+    ) -> Result<((u32, u32), Gap), (Priced<'i>, Priced<'i>, BookFault)>
+        ensures back { IfErr result (λ e. (e.0 ≡ used.entry) × (e.1 ≡ unused.entry)) }
+        ensures now { IfOk result (λ r. IsOfNow self.new r.1) }
+    {
+        let made = self.split(mine, leaf, arc, used, unused)?;
+        Ok((made, self.gap(mine)))
+    }
+
+    /// The best cost and the bound of the book, as it stands.
+    pub fn gap(&self, mine: &mut Share<J>) -> Gap
+        ensures told { Tells J.problem mine.old result.cost result.bound mine.new }
+        ensures now { IsOfNow self.now result }
     {
         let gap = self.book.gap();
         if let Some(cost) = gap.cost {
@@ -158,7 +203,7 @@ impl<'i, J: Naming> Locked<'i, J> {
     }
 
     /// A copy of a leaf of the book.
-    pub(crate) fn look(&self, leaf: u32) -> Result<Priced<'i>, LookFault>
+    pub fn look(&self, leaf: u32) -> Result<Priced<'i>, LookFault>
         ensures { IfOk result (λ f. IsPricedFor J.problem J.neighbours f) }
     {
         let Some(priced) = self.book.leaf(leaf) else {

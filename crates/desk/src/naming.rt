@@ -2,16 +2,16 @@
 
 use std::marker::Brand;
 
-/// Which instance and which number of neighbours a desk is about, whether a plan was offered before it
-/// was opened, how many workers it has, and the names of the ledgers that it counts in.
+/// Which instance and which number of neighbours a desk is about, what a plan costs that was offered before it was
+/// opened, if one was, how many workers it has, and the names of the ledgers that it counts in.
 ///
 /// A caller names a desk by a function `f<J: Naming>` that opens it, with the six facts that
 /// `Desk::open` requires as its own. Where it calls `f::<Brand>` with a book and blanks, its
 /// `proofs/` pick what `J` stands for in a definition of `ghosts-f`: the instance and the number of
-/// neighbours of the book, whether it was offered a plan, the number of workers, and `names_of` the
+/// neighbours of the book, the cost of a plan that it was offered, if it was, the number of workers, and `names_of` the
 /// blanks.
 pub trait Naming {
-    ghost use Rattle.std.specs.Prelude.{ℕ, Bool};
+    ghost use Rattle.std.specs.Prelude.{ℕ, Option};
     ghost use Rattle.solomon_reader.specs.Problem.{Problem};
     ghost use Rattle.desk.specs.Tally.{Tally};
 
@@ -19,7 +19,7 @@ pub trait Naming {
 
     ghost neighbours: { ℕ };
 
-    ghost has_plan: { Bool };
+    ghost opening_cost: { Option ℕ };
 
     ghost workers: { ℕ };
 
@@ -27,14 +27,14 @@ pub trait Naming {
 }
 
 impl Naming for Brand {
-    ghost use Rattle.std.specs.Prelude.{false};
+    ghost use Rattle.std.specs.Prelude.{None};
     ghost use Rattle.desk.specs.Empty.{no_names, no_problem};
 
     ghost problem = { no_problem };
 
     ghost neighbours = { 0 };
 
-    ghost has_plan = { false };
+    ghost opening_cost = { None };
 
     ghost workers = { 0 };
 

@@ -6,7 +6,7 @@ ghost use Rattle.desk.specs.Tally.{each, tally_of};
 ghost use Rattle.desk.specs.Blanks.{names_of, parts_of};
 ghost use Rattle.desk.specs.Account.{tally_of_shares};
 ghost use Rattle.desk.specs.Replies.{Offers, Reprices, Splits, Tells, IsPricedFor};
-ghost use Rattle.desk.specs.Opening.{HasPlanIf, IsDealt};
+ghost use Rattle.desk.specs.Opening.{WasOffered, IsDealt};
 ghost use Rattle.desk.specs.declared.fault.DeskFault.TheVariants.{Memory as memory, MissingShare as missing};
 
 use crate::blanks::Blanks;
@@ -22,7 +22,7 @@ use prices::Priced;
 use schedule::Feasible;
 use std::alloc::Global;
 use std::marker::Model;
-use std::sync::{Mutex, Wait};
+use std::sync::{Mutex, MutexGuard, Wait};
 
 /// A book that several workers change, each with its share. Contracts see the number of shares.
 #[derive(Drop)]
@@ -54,7 +54,7 @@ impl<'i, J: Naming> Desk<'i, J> {
         requires some { 0 < workers }
         requires problem { book.problem ≡ J.problem }
         requires neighbours { book.neighbours ≡ J.neighbours }
-        requires served { HasPlanIf J.has_plan book.past }
+        requires offered { WasOffered J.opening_cost book.past }
         requires workers { workers ≡ J.workers }
         requires names { names_of blanks ≡ J.names }
         requires parts { parts_of blanks ≡ each J.workers }
@@ -74,6 +74,12 @@ impl<'i, J: Naming> Desk<'i, J> {
             workers,
         };
         Ok((desk, deal(shares, first, rest, workers, &seen)))
+    }
+
+    /// The book under its lock, for as long as the answer stands: for calls that belong together. No contract: what is
+    /// known of a book under a lock, its type says.
+    pub fn lock<R: Wait>(&self, rt: &R) -> MutexGuard<'_, Locked<'i, J>> {
+        self.locked.lock(rt)
     }
 
     /// Offers a worker's plan to the book, which takes it as its incumbent where it is cheaper than
@@ -156,7 +162,7 @@ impl<'i, J: Naming> Desk<'i, J> {
         ensures counted { IfOk result (λ o. tally_of o.past ≡ tally_of_shares shares.items) }
         ensures problem { IfOk result (λ o. o.problem ≡ J.problem) }
         ensures neighbours { IfOk result (λ o. o.neighbours ≡ J.neighbours) }
-        ensures served { IfOk result (λ o. HasPlanIf J.has_plan o.past) }
+        ensures offered { IfOk result (λ o. WasOffered J.opening_cost o.past) }
         ensures back { IfErr result (λ e. (e.1 ≡ shares) × (e.2 ≡ missing)) }
     {
         if shares.len() != usize::from(self.workers) {

@@ -1,7 +1,7 @@
 //! A desk beside the share of one worker.
 
 ghost use Rattle.std.specs.Prelude.{◌≡◌, IfErr};
-ghost use Rattle.worker_turns.specs.Hubs.{GivesBack};
+ghost use Rattle.desk.specs.Replies.{GivesBack};
 
 use branching::Arc;
 use desk::{Desk, LookFault, Naming, Share};
@@ -20,12 +20,17 @@ pub(crate) struct AtDesk<'d, 'i, R: Wait, J: Naming> {
 }
 
 impl<'d, 'i, R: Wait, J: Naming> Hub<'i> for AtDesk<'d, 'i, R, J> {
-    fn offer(&mut self, plan: Feasible<'i>) -> Result<Offered<'i>, (Feasible<'i>, BookFault)> {
-        self.desk.offer(self.rt, &mut self.share, plan)
+    fn offer(
+        &mut self,
+        plan: Feasible<'i>,
+    ) -> Result<(Offered<'i>, Gap), (Feasible<'i>, BookFault)> {
+        let mut locked = self.desk.lock(self.rt);
+        locked.offer_and_tell(&mut self.share, plan)
     }
 
-    fn reprice(&mut self, leaf: u32, priced: Priced<'i>) -> Result<(), (Priced<'i>, BookFault)> {
-        self.desk.reprice(self.rt, &mut self.share, leaf, priced)
+    fn reprice(&mut self, leaf: u32, priced: Priced<'i>) -> Result<Gap, (Priced<'i>, BookFault)> {
+        let mut locked = self.desk.lock(self.rt);
+        locked.reprice_and_tell(&mut self.share, leaf, priced)
     }
 
     fn split(
@@ -34,13 +39,13 @@ impl<'d, 'i, R: Wait, J: Naming> Hub<'i> for AtDesk<'d, 'i, R, J> {
         arc: Arc,
         used: Priced<'i>,
         unused: Priced<'i>,
-    ) -> Result<(u32, u32), (Priced<'i>, Priced<'i>, BookFault)> {
-        self.desk
-            .split(self.rt, &mut self.share, leaf, arc, used, unused)
+    ) -> Result<((u32, u32), Gap), (Priced<'i>, Priced<'i>, BookFault)> {
+        let mut locked = self.desk.lock(self.rt);
+        locked.split_and_tell(&mut self.share, leaf, arc, used, unused)
     }
 
     fn look(&mut self, leaf: u32) -> Result<Priced<'i>, LookFault> {
-        self.desk.look(self.rt, &mut self.share, leaf)
+        self.desk.lock(self.rt).look(leaf)
     }
 
     fn gap(&mut self) -> Gap {

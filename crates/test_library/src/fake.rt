@@ -38,19 +38,26 @@ impl<'i> Fake<'i> {
 }
 
 impl<'i> Hub<'i> for Fake<'i> {
-    fn offer(&mut self, plan: Feasible<'i>) -> Result<Offered<'i>, (Feasible<'i>, BookFault)> {
+    fn offer(
+        &mut self,
+        plan: Feasible<'i>,
+    ) -> Result<(Offered<'i>, Gap), (Feasible<'i>, BookFault)> {
         self.offers = self.offers.saturating_add(1);
         let (first, fault) = self.refusal;
         if self.offers >= first {
             return Err((plan, fault));
         }
         let best = plan.cost();
-        Ok(Offered::NotBetter { best, plan })
+        let gap = Gap {
+            cost: Some(best),
+            ..self.gap()
+        };
+        Ok((Offered::NotBetter { best, plan }, gap))
     }
 
-    fn reprice(&mut self, _leaf: u32, _priced: Priced<'i>) -> Result<(), (Priced<'i>, BookFault)> {
+    fn reprice(&mut self, _leaf: u32, _priced: Priced<'i>) -> Result<Gap, (Priced<'i>, BookFault)> {
         self.raises = self.raises.saturating_add(1);
-        Ok(())
+        Ok(self.gap())
     }
 
     fn split(
@@ -59,11 +66,11 @@ impl<'i> Hub<'i> for Fake<'i> {
         _arc: Arc,
         used: Priced<'i>,
         unused: Priced<'i>,
-    ) -> Result<(u32, u32), (Priced<'i>, Priced<'i>, BookFault)> {
+    ) -> Result<((u32, u32), Gap), (Priced<'i>, Priced<'i>, BookFault)> {
         self.raises = self.raises.saturating_add(1);
         match self.split_refusal {
             Some(fault) => Err((used, unused, fault)),
-            None => Ok((1, 2)),
+            None => Ok(((1, 2), self.gap())),
         }
     }
 

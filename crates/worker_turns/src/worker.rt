@@ -98,35 +98,35 @@ impl<'i, H: Hub<'i>, G: Gate> Worker<'_, 'i, H, G> {
     pub(crate) fn offer(&mut self, plan: Feasible<'i>) -> Result<(), Refusal>
         ensures { self.new.ceiling ≡ self.old.ceiling }
     {
-        let cost = plan.cost().get();
         match self.hub.offer(plan) {
-            Ok(_) => {
-                let _ = self.ceiling.offer(&mut self.seat, cost);
+            Ok(told) => {
+                self.move_words(told.1);
                 Ok(())
             }
             Err((_, fault)) => Err(Refusal::from(fault)),
         }
     }
 
-    /// Raises the word for the bound to what the book has.
-    fn raise(&mut self)
+    /// Moves the words to what the book has.
+    fn move_words(&mut self, gap: Gap)
         ensures { self.new.ceiling ≡ self.old.ceiling }
     {
-        let bound = self.hub.gap().bound.get();
-        let _ = self.ceiling.raise(&mut self.seat, bound);
+        if let Some(cost) = gap.cost {
+            let _ = self.ceiling.offer(&mut self.seat, cost.get());
+        }
+        let _ = self.ceiling.raise(&mut self.seat, gap.bound.get());
     }
 
     /// Gives a leaf its higher prices.
     pub(crate) fn reprice(&mut self, leaf: u32, priced: Priced<'i>) -> Result<(), Refusal>
         ensures { self.new.ceiling ≡ self.old.ceiling }
     {
-        match self.hub.reprice(leaf, priced) {
-            Ok(()) => {
-                self.raise();
-                Ok(())
-            }
-            Err((_, fault)) => Err(Refusal::from(fault)),
-        }
+        let gap = match self.hub.reprice(leaf, priced) {
+            Ok(gap) => gap,
+            Err((_, fault)) => return Err(Refusal::from(fault)),
+        };
+        self.move_words(gap);
+        Ok(())
     }
 
     /// Splits a leaf by an arc, and answers the numbers of the child that uses it and of the other.
@@ -139,13 +139,12 @@ impl<'i, H: Hub<'i>, G: Gate> Worker<'_, 'i, H, G> {
     ) -> Result<(u32, u32), Refusal>
         ensures { self.new.ceiling ≡ self.old.ceiling }
     {
-        match self.hub.split(leaf, arc, used, unused) {
-            Ok(numbers) => {
-                self.raise();
-                self.pass(GatePoint::Split);
-                Ok(numbers)
-            }
-            Err((_, _, fault)) => Err(Refusal::from(fault)),
-        }
+        let (numbers, gap) = match self.hub.split(leaf, arc, used, unused) {
+            Ok(made) => made,
+            Err((_, _, fault)) => return Err(Refusal::from(fault)),
+        };
+        self.move_words(gap);
+        self.pass(GatePoint::Split);
+        Ok(numbers)
     }
 }
