@@ -1,9 +1,8 @@
 //! Turns: a portion of ruin and recreate, and a descent from the cheapest plan that it met.
 
-ghost use Rattle.std.specs.Prelude.{◌≡◌, IfOk, IfSome};
+ghost use Rattle.std.specs.Prelude.{◌≡◌, true, IfOk, IfSome};
 ghost use Rattle.solomon_reader.specs.Moves.{IsLocalOptimum};
 ghost use Rattle.schedule.specs.Solution.{IsSolution};
-ghost use Rattle.search.specs.Searching.{DescendsTo};
 ghost use Rattle.search.specs.Turning.{IsDescent, IsOptimumBelow};
 
 use crate::descent::{descend, descend_parallel};
@@ -51,22 +50,20 @@ pub fn descended<'i>(alloc: Global, plan: &Feasible<'i>) -> Result<Feasible<'i>,
     Ok(plan)
 }
 
-/// The plan that a descent from a plan comes to, as `Searcher::descend_parallel` makes it. Where memory is refused,
-/// it is the one that the descent has come to, and nothing is known of it.
+/// What `descended` answers, as `Searcher::descend_parallel` makes it: a plan that is known as a local optimum.
 pub fn descended_parallel<'i, W: Threads + Sync>(
     rt: &W,
     alloc: Global,
     mut plan: Feasible<'i>,
-) -> HeldPlan<'i>
-    ensures { DescendsTo plan.entry result.plan }
+) -> Result<HeldPlan<'i>, SearchFault>
+    ensures descent { IfOk result (λ h. IsDescent plan.entry h.plan) }
+    ensures optimum { IfOk result (λ h. h.is_optimum ≡ true) }
 {
-    match descend_parallel(rt, alloc, &mut plan) {
-        Ok(()) => HeldPlan {
-            plan,
-            is_optimum: true,
-        },
-        Err(_) => HeldPlan::any(plan),
-    }
+    descend_parallel(rt, alloc, &mut plan)?;
+    Ok(HeldPlan {
+        plan,
+        is_optimum: true,
+    })
 }
 
 /// The plan that a descent from the cheapest routes of a search comes to, if these are a plan.

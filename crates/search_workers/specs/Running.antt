@@ -1,5 +1,6 @@
 -- What a run begins with, and why it gives no outcome.
-use Rattle.std.specs.Prelude.{◌≡◌, ◌+◌, ◌≤◌, length}
+use Rattle.std.specs.Prelude.{◌≡◌, ◌+◌, ◌≤◌, length, Option, Some, None, MatchOption}
+use Rattle.schedule.specs.Solution.{Solution}
 use Rattle.incumbent_book.specs.Contents.{Contents}
 use Rattle.run_settings.specs.Settings.{IsWithin}
 use Rattle.search_workers.specs.declared.fault.RunFault.{RunFault}
@@ -19,3 +20,8 @@ RefusesSettings settings BadSettings = ¬ IsWithin settings
 RefusesSettings settings Memory = IsWithin settings
 RefusesSettings settings LabelLimit = IsWithin settings
 RefusesSettings settings NoThread = IsWithin settings
+
+-- a plan that costs at most what another one does, if there is that one
+abbrev pub IsNoDearer : Option Solution → Option Solution → Type 0
+IsNoDearer None found = Unit {0}
+IsNoDearer (Some start) found = MatchOption found ⊥ (λ plan. plan.cost ≤ start.cost)

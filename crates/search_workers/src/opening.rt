@@ -1,13 +1,13 @@
 //! What a run begins with: the first plans, the root with its first prices, and the book of both.
 
-ghost use Rattle.std.specs.Prelude.{◌≡◌, ◌≢◌, ◌+◌, ◌<◌, ◌≤◌, ◌⊎◌, [], true, length, is_some, IfOk, IfErr, IfSome, MatchOption, OnOk};
+ghost use Rattle.std.specs.Prelude.{◌≡◌, ◌+◌, ◌<◌, ◌≤◌, ◌⊎◌, Some, true, length, is_some, option_map, IfOk, IfErr, IfSome, MatchOption, OnOk};
 ghost use Rattle.solomon_reader.specs.Problem.{customer_count};
 ghost use Rattle.solomon_reader.specs.History.{costs_of};
-ghost use Rattle.solomon_reader.specs.Region.{root_region};
+ghost use Rattle.solomon_reader.specs.Region.{root_region, Among};
 ghost use Rattle.solomon_reader.specs.declared.limits.TheConstants.{MOST_EVENTS, MOST_NEIGHBOURS};
 ghost use Rattle.insertion.specs.Building.{IsServedAlone};
-ghost use Rattle.desk.specs.Opening.{HasPlanIf};
-ghost use Rattle.search_workers.specs.Running.{IsOneOn};
+ghost use Rattle.desk.specs.Opening.{WasOffered};
+ghost use Rattle.search_workers.specs.Running.{IsOneOn, IsNoDearer};
 ghost use Rattle.search_workers.specs.declared.fault.RunFault.TheVariants.{Memory, LabelLimit};
 
 use crate::fault::RunFault;
@@ -15,7 +15,7 @@ use fronts::Nearness;
 use incumbent_book::{Book, BookFault, OpenFault};
 use insertion::{Weights, build_whole};
 use labelling::{Hints, LabelFault};
-use price_ascent::{start_from, start_without_plan};
+use leaf_work::{start_from, start_without_plan};
 use prices::Priced;
 use run_settings::Settings;
 use schedule::{Feasible, cheaper};
@@ -57,14 +57,16 @@ fn price_root<'i>(
 }
 
 /// The plan that insertion builds, or a given one where that is cheaper.
+#[tactic(auto, using(crate::proofs::Starts::cheaper_no_dearer))]
 fn first_plan<'i>(
     alloc: Global,
     instance: &'i Instance,
     start: Option<Feasible<'i>>,
 ) -> Result<Option<Feasible<'i>>, AllocError>
     requires { IfSome start (λ f. f.problem ≡ instance.now) }
-    ensures { IfOk result (λ plan. MatchOption plan (¬ IsServedAlone instance.now)
+    ensures plan { IfOk result (λ plan. MatchOption plan (¬ IsServedAlone instance.now)
         (λ f. f.problem ≡ instance.now)) }
+    ensures no_dearer { IfOk result (IsNoDearer start.entry) }
 {
     let built = build_whole(alloc, instance, &Weights::plain())?;
     let Some(plan) = cheaper(start, built) else {
@@ -94,7 +96,7 @@ fn offer<'i>(book: &mut Book<'i>, plan: Feasible<'i>) -> Result<(), RunFault>
     requires problem { plan.problem ≡ book.old.problem }
     requires room { length book.old.past < book.old.limits.events }
     ensures one_on { IsOneOn book.old book.new }
-    ensures served { OnOk result (costs_of book.new.past ≢ []) }
+    ensures offered { OnOk result (Among plan.entry.cost (costs_of book.new.past)) }
     ensures memory { IfErr result (λ e. e ≡ Memory) }
 {
     match book.offer(FIRST_WORKER, plan) {
@@ -104,8 +106,9 @@ fn offer<'i>(book: &mut Book<'i>, plan: Feasible<'i>) -> Result<(), RunFault>
     }
 }
 
-/// Offers a plan, and what a descent makes of it where that is cheaper; answers the plan to go on from. Where memory
-/// is refused to the descent, it is the plan that this has come to.
+/// Offers a plan, and what a descent makes of it where that is cheaper; answers the latter, which no single move makes
+/// cheaper.
+#[tactic(auto, using(crate::proofs::Starts::offered_at))]
 fn offer_both<'i, R: Threads + Sync>(
     rt: &R,
     alloc: Global,
@@ -116,13 +119,15 @@ fn offer_both<'i, R: Threads + Sync>(
     requires room { length book.old.past + 1 < book.old.limits.events }
     ensures problem { book.new.problem ≡ book.old.problem }
     ensures neighbours { book.new.neighbours ≡ book.old.neighbours }
-    ensures served { OnOk result (costs_of book.new.past ≢ []) }
+    ensures offered { IfOk result (λ h. WasOffered (Some h.plan.cost) book.new.past) }
+    ensures no_dearer { IfOk result (λ h. h.plan.cost ≤ plan.entry.cost) }
+    ensures optimum { IfOk result (λ h. h.is_optimum ≡ true) }
     ensures memory { IfErr result (λ e. e ≡ Memory) }
 {
     let cost = plan.cost();
     let begun = plan.try_clone()?;
     offer(book, plan)?;
-    let lower = descended_parallel(rt, alloc, begun);
+    let lower = descended_parallel(rt, alloc, begun)?;
     if lower.plan.cost().get() < cost.get() {
         offer(book, lower.plan.try_clone()?)?;
     }
@@ -133,6 +138,7 @@ impl<'i> Opening<'i> {
     /// A book of the root that was offered a first plan and what a descent makes of it, if insertion builds one
     /// or one is given, the cheaper one; else its prices begin where they may show that there is no plan. The tables of
     /// the instance are lent.
+    #[tactic(auto, using(crate::proofs::Starts::still_no_dearer))]
     pub(crate) fn new<R: Threads + Sync>(
         rt: &R,
         alloc: Global,
@@ -145,8 +151,12 @@ impl<'i> Opening<'i> {
         requires start { IfSome start (λ f. f.problem ≡ instance.now) }
         ensures problem { IfOk result (λ o. o.book.problem ≡ instance.now) }
         ensures neighbours { IfOk result (λ o. o.book.neighbours ≡ settings.now.neighbours) }
-        ensures offered { IfOk result (λ o. HasPlanIf (is_some o.plan) o.book.past) }
+        ensures offered { IfOk result (λ o. WasOffered (option_map (λ h. h.plan.cost) o.plan)
+            o.book.past) }
+        ensures no_dearer { IfOk result (λ o. IsNoDearer start.entry
+            (option_map (λ h. h.plan) o.plan)) }
         ensures served { IfOk result (λ o. IsServedAlone instance.now → is_some o.plan ≡ true) }
+        ensures optimum { IfOk result (λ o. IfSome o.plan (λ h. h.is_optimum ≡ true)) }
         ensures refused { IfErr result (λ e. (e ≡ Memory) ⊎ (e ≡ LabelLimit)) }
     {
         let root = price_root(alloc, instance, settings, nearness)?;

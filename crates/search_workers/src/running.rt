@@ -9,9 +9,10 @@ ghost use Rattle.solomon_reader.specs.History.{costs_of};
 ghost use Rattle.insertion.specs.Building.{IsServedAlone};
 ghost use Rattle.desk.specs.Tally.{each};
 ghost use Rattle.desk.specs.Blanks.{names_of, parts_of};
-ghost use Rattle.desk.specs.Opening.{HasPlanIf};
+ghost use Rattle.desk.specs.Opening.{WasOffered};
 ghost use Rattle.run_settings.specs.Settings.{IsWithin};
-ghost use Rattle.search_workers.specs.Running.{RefusesSettings};
+ghost use Rattle.search_workers.specs.Running.{RefusesSettings, IsNoDearer};
+ghost use Rattle.search_workers.specs.Roles.{DrawsFor};
 ghost use Rattle.search_workers.specs.declared.fault.RunFault.TheVariants as refusal;
 
 use crate::at_desk::AtDesk;
@@ -62,7 +63,8 @@ struct Shared<'a, 'i, R: Wait, J: Naming, G> {
     plan: Option<&'a HeldPlan<'i>>,
 }
 
-/// The role of a worker: it raises the bound where it has the end of a deque, else it looks for plans.
+/// The role of a worker: it raises the bound where it has the end of a deque, else it looks for plans by the random
+/// words of its number.
 fn role_of<'a, 'i, R: Wait, J: Naming, G>(
     shared: &Shared<'a, 'i, R, J, G>,
     number: u16,
@@ -70,6 +72,7 @@ fn role_of<'a, 'i, R: Wait, J: Naming, G>(
     pass: Option<Pass>,
 ) -> Result<Role<'a, 'i>, AllocError>
     requires { IfSome pass (λ p. All (λ t. FitsAt (deque_at t) p) shared.now.deques.now) }
+    ensures { IfOk result (DrawsFor shared.now.input.now.settings.now.seed number) }
 {
     let input = shared.input;
     if let (Some(own), Some(pass)) = (own, pass) {
@@ -200,14 +203,14 @@ fn run_at_desk<'i, R: Threads + Wait + Sync, J: Naming + Send + Sync, G: Gate + 
     requires within { IsWithin input.now.settings.now }
     requires problem { opening.book.problem ≡ J.problem }
     requires neighbours { opening.book.neighbours ≡ J.neighbours }
-    requires served { HasPlanIf J.has_plan opening.book.past }
+    requires offered { WasOffered J.opening_cost opening.book.past }
     requires workers { J.workers ≡ input.now.settings.now.searchers +
         input.now.settings.now.bounders }
     requires names { names_of blanks ≡ J.names }
     requires parts { parts_of blanks ≡ each J.workers }
     ensures problem { IfOk result (λ o. o.problem ≡ J.problem) }
     ensures neighbours { IfOk result (λ o. o.neighbours ≡ J.neighbours) }
-    ensures served { IfOk result (λ o. HasPlanIf J.has_plan o.past) }
+    ensures offered { IfOk result (λ o. WasOffered J.opening_cost o.past) }
     ensures refused { IfErr result (λ e. (e ≡ refusal.Memory) ⊎ (e ≡ refusal.NoThread)) }
 {
     let Opening { book, plan } = opening;
@@ -225,6 +228,7 @@ fn run_at_desk<'i, R: Threads + Wait + Sync, J: Naming + Send + Sync, G: Gate + 
 
 /// Lets all workers work from a first plan on, the given one or one that an insertion builds, and answers what they
 /// leave.
+#[tactic(auto, using(crate::proofs::Starts::offered_some, crate::proofs::Starts::incumbent_no_dearer))]
 fn run_within<'i, R: Threads + Wait + Sync, G: Gate + Sync>(
     input: &Input<'_, 'i, R, G>,
     start: Option<Feasible<'i>>,
@@ -235,6 +239,7 @@ fn run_within<'i, R: Threads + Wait + Sync, G: Gate + Sync>(
     ensures neighbours { IfOk result (λ o. o.neighbours ≡ input.now.settings.now.neighbours) }
     ensures served { IfOk result
         (λ o. IsServedAlone input.now.instance.now → costs_of o.past ≢ []) }
+    ensures no_dearer { IfOk result (λ o. IsNoDearer start.entry o.incumbent) }
     ensures refused { IfErr result (λ e. (e ≡ refusal.Memory) ⊎ (e ≡ refusal.LabelLimit)
         ⊎ (e ≡ refusal.NoThread)) }
 {
@@ -248,7 +253,10 @@ fn run_within<'i, R: Threads + Wait + Sync, G: Gate + Sync>(
     } = *input;
     let opening = Opening::new(rt, alloc, instance, settings, nearness, start)?;
     let workers = settings.searchers + settings.bounders;
-    run_at_desk::<R, Brand, G>(input, opening, Blanks::new(workers as u16))
+    let outcome = run_at_desk::<R, Brand, G>(input, opening, Blanks::new(workers as u16))?;
+    // brings in that the incumbent is the cheapest plan offered
+    let _plan = outcome.plan();
+    Ok(outcome)
 }
 
 /// Looks for plans and raises the bound by many workers, each in a thread of its own, at one book, and
@@ -274,7 +282,7 @@ pub fn run<'i, R: Threads + Wait + Sync, G: Gate + Sync>(
 }
 
 /// What `run` answers where the work begins with a given plan, if it is cheaper than the one that an insertion
-/// builds.
+/// builds. The incumbent costs at most what that plan does.
 pub fn run_from<'i, R: Threads + Wait + Sync, G: Gate + Sync>(
     rt: &R,
     alloc: Global,
@@ -287,6 +295,7 @@ pub fn run_from<'i, R: Threads + Wait + Sync, G: Gate + Sync>(
     ensures problem { IfOk result (λ o. o.problem ≡ instance.now) }
     ensures neighbours { IfOk result (λ o. o.neighbours ≡ settings.now.neighbours) }
     ensures served { IfOk result (λ o. IsServedAlone instance.now → costs_of o.past ≢ []) }
+    ensures no_dearer { IfOk result (λ o. IsNoDearer start.entry o.incumbent) }
     ensures within { IfOk result (λ _. IsWithin settings.now) }
     ensures refused { IfErr result (RefusesSettings settings.now) }
 {

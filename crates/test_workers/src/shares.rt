@@ -1,7 +1,7 @@
 //! Calls at a desk: one share makes them, and another asks what came of them.
 
 ghost use Rattle.std.specs.Prelude.{◌≡◌};
-ghost use Rattle.desk.specs.Opening.{HasPlanIf};
+ghost use Rattle.desk.specs.Opening.{WasOffered};
 ghost use Rattle.desk.specs.Tally.{each};
 ghost use Rattle.desk.specs.Blanks.{names_of, parts_of};
 
@@ -55,7 +55,7 @@ fn run<'i, J: Naming + Send, R: Abort + Threads + Wait + Sync + AllocGlobal>(
 ) -> Result<(Gap, Outcome<'i>), Fail>
     requires problem { book.problem ≡ J.problem }
     requires neighbours { book.neighbours ≡ J.neighbours }
-    requires served { HasPlanIf J.has_plan book.past }
+    requires offered { WasOffered J.opening_cost book.past }
     requires workers { J.workers ≡ 2 }
     requires names { names_of blanks ≡ J.names }
     requires parts { parts_of blanks ≡ each J.workers }

@@ -1,7 +1,7 @@
--- From what becomes of what was found to what the solver says: the cheaper of two plans.
+-- From what becomes of what was found to what the solver says.
 use Rattle.std.proofs.Common.{◌≡◌, ◌∙◌, Option, Some, None, inl, inr, refl, sym, List, MatchOption, Result, Ok, Err, ℕ, ◌≤◌, arith}
+use Rattle.std.specs.Prelude.{IfSome, IfOk}
 use Rattle.schedule.specs.Solution.{Solution}
-use Rattle.schedule.specs.Cheaper.{IsCheaper}
 use Rattle.solomon_reader.specs.Problem.{Problem}
 use Rattle.solomon_reader.specs.Layout.{IsInstance}
 use Rattle.solomon_reader.specs.Bound.{version_2}
@@ -17,14 +17,9 @@ use Rattle.vrptw.specs.declared.answer.Answer.TheVariants.{Best, Gap, NoPlan, Op
 use Rattle.vrptw.specs.declared.answer.SolveFault.{SolveFault}
 use Rattle.vrptw.specs.Answers.{Answers, Breaks, Solves}
 use Rattle.vrptw.specs.Found.{IsOf, WritesFound}
+use Rattle.vrptw.specs.Starting.{IsPlanAt, IsAtMost}
+use Rattle.search_workers.specs.Running.{IsNoDearer}
 use Rattle.vrptw.specs.Closing.{AreWithin, HasNoPlan, ClosesWith, Closes}
-
--- where there is none, neither is there a second plan
-pub cheaper_none : (f g r : Option Solution) → IsCheaper f g r → r ≡ None → g ≡ None
-cheaper_none f None r is e = refl
-cheaper_none None (Some g) r is e = sym is ∙ e
-cheaper_none (Some f) (Some g) r (inl (is, less)) e = let bad : Some f ≡ None = sym is ∙ e in cc
-cheaper_none (Some f) (Some g) r (inr (is, less)) e = sym is ∙ e
 
 -- ---- From what becomes of what was found to what the solver says: why no plan was found.
 
@@ -77,3 +72,23 @@ module _ (p : Problem) (k limit : ℕ) (closed : Found) (is : IsClosed p k limit
   closed_text text settings s s' c c' read within same (Err e) (inl (told, first, second)) = rw told (first, second)
   closed_text text settings s s' c c' read within same (Err e) (inr (told, breaks)) =
       rw told (p, read, within, is.small, rw (← same) (breaks_why p k (closed.plan ≡ None) (HasNoPlan p) s s' c c' none_closed breaks))
+
+-- ---- a plan to start from
+
+module _ (p : Problem) (k : ℕ) (f : Solution) (is : IsPlanAt p f) (s s' c c' : Held) (bound : ℕ) where
+  at_most_answer : (found : Option Solution) → MatchOption found ⊥ (λ plan. plan.cost ≤ f.cost) → (answer : Answer) → Answers p k (found ≡ None) s s' c c' answer
+      → IsOf found bound answer → IsAtMost f.cost answer
+  at_most_answer found low (Best cost) answers of = omega (arith, answers.1.is.holds f.routes (rw is.0 at is.1.plan), rw is.0 at is.1.exact)
+  at_most_answer None low (Gap cost b) answers of = absurd low
+  at_most_answer (Some g) low (Gap cost b) answers of = omega (arith, of.1, low)
+  at_most_answer found low NoPlan answers of = absurd (answers.2 f.routes (rw is.0 at is.1.plan))
+  at_most_answer None low (Open b) answers of = absurd low
+  at_most_answer (Some g) low (Open b) answers of = let bad : Some g ≡ None = of.1 in cc
+
+-- the answer costs no more than the start, where the plan that was found doesn't
+pub at_most : (p : Problem) (k : ℕ) (start found : Option Solution) (bound : ℕ) (s s' c c' : Held) → IfSome start (IsPlanAt p) → IsNoDearer start found
+    → (r : Result Answer SolveFault) → WritesFound p k found bound s s' c c' r → IfOk r (λ a. IfSome start (λ f. IsAtMost f.cost a))
+at_most p k None found bound s s' c c' is low (Ok answer) writes = tt
+at_most p k None found bound s s' c c' is low (Err e) writes = tt
+at_most p k (Some f) found bound s s' c c' is low (Ok answer) (answers, of) = at_most_answer p k f is s s' c c' bound found low answer answers of
+at_most p k (Some f) found bound s s' c c' is low (Err e) writes = tt

@@ -45,7 +45,7 @@ IsFaultOfClosing alone.Memory told = told ≡ fault.Memory
 IsFaultOfClosing (alone.LeafLimit cost bound nodes) told = told ≡ fault.LeafLimit
 IsFaultOfClosing alone.TooLarge told = told ≡ fault.TooLarge
 
--- a tree with as many leaves as the limit allows has a bound below the least cost found
+-- a tree with as many leaves as the limit allows has a bound below a cost that some plan has, or at most the ceiling
 abbrev pub NeedsMoreLeaves : Problem → ℕ → ℕ → Type 0
 NeedsMoreLeaves p k limit = (cost : Option ℕ) × ((bound : ℕ) × ((nodes : List TreeNode) × IsStopped p k limit cost bound nodes))
 

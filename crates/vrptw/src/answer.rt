@@ -43,7 +43,7 @@ pub enum SolveFault {
     /// A thread was refused; nothing was written.
     #[error("NoThread")]
     NoThread,
-    /// The tree that closes the instance needs more leaves than the caller allowed; nothing was written.
+    /// The tree has as many leaves as the caller allowed, and cost and bound are still apart; nothing was written.
     #[error("LeafLimit")]
     LeafLimit,
     /// There are more customers than can be closed; nothing was written.

@@ -46,7 +46,7 @@ fn close_instance<'i, X: Sink, Y: Sink>(
         return Err(SolveFault::BadSettings);
     }
     let neighbours = settings.neighbours;
-    let (found, _pricings) = closing::close_from(alloc, instance, neighbours, leaf_limit, start)?;
+    let found = closing::close_from(alloc, instance, neighbours, leaf_limit, start)?;
     write_found(alloc, instance, neighbours, found, solution, certificate)
 }
 
@@ -58,8 +58,8 @@ fn close_instance<'i, X: Sink, Y: Sink>(
 ///
 /// The first refusal that holds is told: `Instance` with the text's first fault, `BadSettings` where a
 /// setting or the number of leaves is outside its range, `TooLarge` where there are more customers,
-/// `LeafLimit` where more leaves are needed, and `Memory` where a growth was refused; these come before
-/// the first write. `Device` where a sink failed, as `solve` tells it.
+/// `LeafLimit` where the tree has that many and cost and bound are still apart, and `Memory` where a growth was
+/// refused; these come before the first write. `Device` where a sink failed, as `solve` tells it.
 pub fn close<X: Sink, Y: Sink>(
     alloc: Global,
     text: &[u8],
@@ -72,19 +72,13 @@ pub fn close<X: Sink, Y: Sink>(
         (X.held solution.old) (X.held solution.new)
         (Y.held certificate.old) (Y.held certificate.new) result }
 {
-    match close_from(
+    let instance = &read_instance(alloc, text)?;
+    let request = Request {
         alloc,
-        text,
-        None,
+        instance,
         settings,
-        leaf_limit,
-        solution,
-        certificate,
-    ) {
-        Ok(answer) => Ok(answer),
-        Err(StartFault::Solve(fault)) => Err(fault),
-        Err(StartFault::Start(_)) => unreachable!(),
-    }
+    };
+    close_instance(request, None, leaf_limit, solution, certificate)
 }
 
 /// What `close` does, from a plan whose text is given, if it is cheaper than what an insertion builds.

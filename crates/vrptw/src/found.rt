@@ -13,7 +13,8 @@ use std::alloc::Global;
 /// What a run found.
 pub(crate) fn found_by<'i>(alloc: Global, outcome: Outcome<'i>) -> Result<Found<'i>, SolveFault>
     ensures found { IfOk result (IsFound outcome.entry.problem outcome.entry.neighbours) }
-    ensures plan { IfOk result (λ f. f.plan ≡ None → costs_of outcome.entry.past ≡ []) }
+    ensures plan { IfOk result (λ f. f.plan ≡ outcome.entry.incumbent) }
+    ensures offered { IfOk result (λ f. f.plan ≡ None → costs_of outcome.entry.past ≡ []) }
     ensures memory { IfErr result (λ e. e ≡ Memory) }
 {
     let (plan, bound, nodes) = outcome.into_parts(alloc)?;

@@ -9,9 +9,8 @@ use crate::answer::{Answer, SolveFault};
 use crate::found::found_by;
 use crate::starting::{StartFault, read_start};
 use crate::writing::write_found;
-use closing::Found;
 use run_settings::Settings;
-use schedule::{Feasible, cheaper};
+use schedule::Feasible;
 use search_workers::run_from;
 use solomon_reader::{Instance, ReadFault, read};
 use std::alloc::Global;
@@ -61,14 +60,8 @@ fn solve_instance<'i, R: Threads + Wait + Sync, G: Gate + Sync, X: Sink, Y: Sink
         instance,
         settings,
     } = request;
-    let copy = match &start {
-        Some(plan) => Some(plan.try_clone()?),
-        None => None,
-    };
-    let outcome = run_from(rt, alloc, instance, settings, gate, copy)?;
-    let Found { plan, bound, nodes } = found_by(alloc, outcome)?;
-    let plan = cheaper(start, plan);
-    let found = Found { plan, bound, nodes };
+    let outcome = run_from(rt, alloc, instance, settings, gate, start)?;
+    let found = found_by(alloc, outcome)?;
     let neighbours = settings.neighbours;
     write_found(alloc, instance, neighbours, found, solution, certificate)
 }
@@ -95,11 +88,13 @@ pub fn solve<R: Threads + Wait + Sync, G: Gate + Sync, X: Sink, Y: Sink>(
         (X.held solution.old) (X.held solution.new)
         (Y.held certificate.old) (Y.held certificate.new) result }
 {
-    match solve_from(rt, alloc, text, None, settings, gate, solution, certificate) {
-        Ok(answer) => Ok(answer),
-        Err(StartFault::Solve(fault)) => Err(fault),
-        Err(StartFault::Start(_)) => unreachable!(),
-    }
+    let instance = &read_instance(alloc, text)?;
+    let request = Request {
+        alloc,
+        instance,
+        settings,
+    };
+    solve_instance(rt, request, None, gate, solution, certificate)
 }
 
 /// What `solve` does, from a plan whose text is given, if it is cheaper than what an insertion builds. Then the

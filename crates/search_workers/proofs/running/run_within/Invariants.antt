@@ -1,4 +1,5 @@
-use Rattle.std.proofs.Common.{◌+◌, is_some}
+use Rattle.std.proofs.Common.{◌+◌}
+use Rattle.std.specs.Prelude.{option_map}
 use Rattle.desk.specs.Blanks.{names_of}
 use Rattle.search_workers.proofs.running.run_within.Given as goal
 
@@ -7,7 +8,7 @@ abbrev pub ghosts-run_at_desk : goal.ghosts-run_at_desk
 ghosts-run_at_desk g a = record {
   problem = a.input.now.instance.now;
   neighbours = a.input.now.settings.now.neighbours;
-  has_plan = is_some a.opening.plan;
+  opening_cost = option_map (λ h. h.plan.cost) a.opening.plan;
   workers = a.input.now.settings.now.searchers + a.input.now.settings.now.bounders;
   names = names_of a.blanks;
 }
