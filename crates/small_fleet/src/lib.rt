@@ -3,9 +3,7 @@
 #![tactic(auto)]
 
 ghost use Rattle.std.specs.Prelude.{IfSome};
-ghost use Rattle.solomon_reader.specs.Problem.{Problem};
-ghost use Rattle.solomon_reader.specs.Layout.{IsInstance};
-ghost use Rattle.checker.specs.Checking.{Means};
+ghost use Rattle.small_fleet.specs.Answers.{Answers};
 
 use checker::{Verdict, check};
 use std::sync::Wait;
@@ -16,13 +14,15 @@ use vrptw::{NoGate, Settings, solve};
 /// The check may hold this many pairs of time and cost at once for a leaf.
 const STATES: usize = 1_000_000;
 
-/// Solves the instance of a text, and answers what the check says of its plan and its certificate: that is true of
-/// every plan. Nothing where the text is no instance, there is no plan, or memory or a thread was refused.
+/// Solves the instance of a text, and answers what the check says of its plan and its certificate: `Best` or `Gap`,
+/// which is true of every plan. Nothing where the text is no instance, where no plan was found, since there is none or
+/// the turns ended before one was, and where memory, a thread, the labels or the states didn't suffice.
+#[tactic(auto, using(crate::proofs::Judged::judged))]
 pub fn solved_and_checked<R: AllocGlobal + Threads + Wait + Sync>(
     rt: &R,
     text: &[u8],
 ) -> Option<Verdict>
-    ensures { IfSome result (λ v. (p : Problem) → IsInstance text.now p → Means p v) }
+    ensures { IfSome result (Answers text.now) }
 {
     let alloc = rt.alloc();
     let settings = Settings::default();
