@@ -8,7 +8,8 @@
 //! - `instance FLEET CAPACITY ROWS` and `bytes TEXT` read an instance, to which later calls refer;
 //!   `line FLEET CAPACITY COUNT,X,Y,STEP ROWS` reads one of the depot, this many customers from (X,Y) on,
 //!   each a step to the right of the one before, and the rows. `same FLEET CAPACITY ROWS` compares one.
-//! - `ceiling`, `walk ROUTE` and `joins` ask the instance, and `build MU LAMBDA A1` builds a plan. A region is
+//! - `ceiling`, `walk ROUTE` and `joins` ask the instance, `build MU LAMBDA A1` builds a plan, `run` lets workers of
+//!   both kinds work at it, and `alone` closes it. A region is
 //!   `root`, `used:FROM,TO` or `unused:FROM,TO`; `leaf REGION NEIGHBOURS PRICES` values prices, with a limit
 //!   of labels if one is behind them, and so does `least` labels; `met REGION NEIGHBOURS PRICES ROUTE` labels
 //!   where a route is known, and tells the reduced costs of further routes; `steps REGION NEIGHBOURS PRICES
@@ -16,8 +17,8 @@
 //! - `bounder REGION NEIGHBOURS PRICES NUMBER TURNS LABELS ROOM HOW` has a worker of this number raise the bound over
 //!   a fake of the book that has this leaf; its deque takes this many numbers, and has the root, or another deque
 //!   where it is `stolen`, or `both`; no number is a leaf's where the fake is `bare`, and it refuses splits by the
-//!   fault that is named. `searcher REGION NEIGHBOURS PRICES FIRST FAULT BOUND` has one look for plans, where from the first of
-//!   these offers on each is refused so.
+//!   fault that is named. `searcher REGION NEIGHBOURS PRICES FIRST FAULT BOUND` has one look for plans, where from the
+//!   first of these offers on each is refused so.
 //! - `book EVENTS,LEAVES,DEPTH REGION STEPS` opens a book with these limits, of prices of 0 at a region, and takes
 //!   steps there, whose parts stand between strokes: `offer/ROUTE/ROUTE..`, or `foreign/ROUTE..` of a plan of the
 //!   instance read before, `reprice/LEAF/REGION/PRICES`, `split/LEAF/ARC/REGION/PRICES`, with these prices at both
@@ -34,6 +35,7 @@ pub mod few;
 mod instances;
 mod joins;
 mod leaves;
+mod outcomes;
 mod plans;
 pub mod script;
 mod words;
@@ -44,6 +46,7 @@ use crate::candidates::{tell_bests, tell_move};
 use crate::instances::{HIGH, tell_build, tell_instance, tell_same, tell_walk, text_by};
 use crate::joins::{tell_joins, tell_lists};
 use crate::leaves::tell_leaf;
+use crate::outcomes::{tell_alone, tell_run};
 use crate::plans::{descend, routes_of, tell_drawn, tell_plan, tell_trees};
 use crate::words::{Routes, pair_of};
 use schedule::Feasible;
@@ -51,6 +54,7 @@ use solomon_reader::{Instance, read};
 use std::alloc::Global;
 use std::io;
 use std::rt::Runtime;
+use std::sync::Wait;
 use std::thread::Threads;
 use tenths::{Point, distance, root};
 use test_starts::{Rows, behind, bytes_meant};
@@ -93,7 +97,7 @@ fn tell_of_plan<R: AllocGlobal + Threads + Sync>(
 }
 
 /// Tells what comes of a call that needs an instance or a plan.
-fn tell_held<R: AllocGlobal + Threads + Sync>(
+fn tell_held<R: AllocGlobal + Threads + Wait + Sync>(
     rt: &R,
     told: &mut String,
     state: &mut State,
@@ -106,6 +110,8 @@ fn tell_held<R: AllocGlobal + Threads + Sync>(
         ["ceiling"] => writeln!(told, "{}", instance.ceiling().get()).ok(),
         ["walk", route] => tell_walk(alloc, told, instance, route),
         ["joins"] => tell_joins(alloc, told, instance),
+        ["run"] => tell_run(rt, told, instance),
+        ["alone"] => tell_alone(alloc, told, instance),
         ["build", mu, lambda, a1] => tell_build(alloc, told, instance, [mu, lambda, a1]),
         [
             call @ ("leaf" | "least" | "met" | "steps" | "bounder" | "searcher"),
@@ -141,7 +147,7 @@ fn read_held(alloc: Global, told: &mut String, state: &mut State, text: &[u8]) -
 }
 
 /// Tells what comes of a call, if it is one.
-fn tell_call<R: AllocGlobal + Threads + Sync>(
+fn tell_call<R: AllocGlobal + Threads + Wait + Sync>(
     rt: &R,
     told: &mut String,
     state: &mut State,
@@ -170,7 +176,7 @@ fn tell_call<R: AllocGlobal + Threads + Sync>(
 }
 
 /// Makes the calls of a script, and prints the rows that don't hold and how many do. No contract: it only prints.
-pub fn tell_rows<R: Runtime + AllocGlobal + Threads + Sync>(
+pub fn tell_rows<R: Runtime + AllocGlobal + Threads + Wait + Sync>(
     rt: &R,
     script: &str,
 ) -> io::Result<()> {

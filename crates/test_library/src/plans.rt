@@ -6,7 +6,7 @@ use rand_core::SeedableRng;
 use rand_xoshiro::Xoshiro256PlusPlus;
 use schedule::Feasible;
 use search::Searcher;
-use segments::PlanTrees;
+use segments::{PlanTrees, RouteTree};
 use solomon_reader::Instance;
 use std::alloc::Global;
 use std::thread::Threads;
@@ -32,14 +32,20 @@ pub(crate) fn tell_plan(
     }
 }
 
-/// Tells how many stops the first tree of a plan has, and its height.
+/// Tells how many stops the first tree of a plan has, and its height, and how many stops stand in its place once an
+/// empty tree was put there.
 pub(crate) fn tell_trees(alloc: Global, told: &mut String, plan: &Feasible<'_>) -> Option<()> {
-    let trees = PlanTrees::new(alloc, plan).ok()?;
+    let mut trees = PlanTrees::new(alloc, plan).ok()?;
     if trees.count() == 0 {
         return None;
     }
     let tree = trees.route(0);
-    writeln!(told, "stops {} height {}", tree.len(), tree.height()).ok()
+    write!(told, "stops {} height {}", tree.len(), tree.height()).ok()?;
+    *trees.route_mut(0) = RouteTree::new(alloc, plan.instance(), Vec::new(alloc)).ok()?;
+    if trees.count() == 0 {
+        return None;
+    }
+    writeln!(told, " left {}", trees.route(0).len()).ok()
 }
 
 /// Descends, tells the costs, and answers the routes at the end of the descent in one thread.

@@ -33,7 +33,8 @@ pub(crate) fn tell_bound<R: Runtime + AllocGlobal>(
         return Ok(writeln!(told, "no certificate")?);
     };
     tell_text(told, "bound", bound_of(text.as_slice()).as_bytes())?;
-    let nodes = cert.parts().nodes.iter();
+    let parts = cert.into_parts();
+    let nodes = parts.nodes.iter();
     let leaves = nodes
         .filter(|node| matches!(node, CertNode::Leaf(_)))
         .count();
