@@ -102,8 +102,8 @@ fn bound_at(
 ///
 /// `state_limit` counts the kept pairs that stand at once for one leaf. A pair stands from when it is
 /// kept until it is found to be dominated, or passed over as dear when its turn comes; one that was worked
-/// stays, among the settled ones. The empty beginning at the depot is none. `StateLimit` where that many stand and one more has to be kept,
-/// `Memory` where a growth was refused.
+/// stays, among the settled ones. The empty beginning at the depot is none. `StateLimit` where that many stand and one
+/// more has to be kept, `Memory` where a growth was refused.
 pub fn bound(
     alloc: Global,
     instance: &Instance,
