@@ -37,13 +37,13 @@ def drawn_options(random, most_turns):
     return {name: value for name, value in drawn.items() if name == "turns" or random.randrange(10)}
 
 
-def least(instance, region, prices, neighbours):
+def least(instance, region, prices, neighbours, priced=()):
     """The least reduced cost, by all relaxed routes where they are few, else by labels."""
     stops = instance.capacity // min(instance.demand(i) for i in range(1, instance.count + 1))
     if neighbours >= instance.count - 1:
         stops = min(stops, instance.count)
     by = bounding.least_by_routes if instance.count ** stops <= FEW_ROUTES else bounding.least_by_labels
-    return by(instance, region, prices, neighbours)
+    return by(instance, region, prices, neighbours, priced)
 
 
 def judge_solve(program, folder, random, count, most_turns, is_small):
