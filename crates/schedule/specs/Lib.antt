@@ -1,4 +1,3 @@
-pub mod Faults
 pub mod Solution
 pub mod Cheaper
 pub mod Marks

@@ -6,13 +6,12 @@ ghost use Rattle.solomon_reader.specs.declared.limits.TheConstants.{MOST_CUSTOME
 ghost use Rattle.solomon_reader.specs.Problem.{IsCustomer};
 ghost use Rattle.solomon_reader.specs.Plan.{IsPlan, IsFitting, HasWalk, load_of, route_cost, plan_cost, count_of};
 ghost use Rattle.solomon_reader.specs.Lists.{lists};
-ghost use Rattle.schedule.specs.Faults.{IsLowestFault};
+ghost use Rattle.solomon_reader.specs.PlanDefects.{IsLowestDefect};
 ghost use Rattle.schedule.specs.Marks.{AreMarks};
 
-use crate::fault::PlanFault;
 use crate::marks::{Marks, marks_of};
 use crate::walking::{are_customers, walk};
-use solomon_reader::Instance;
+use solomon_reader::{Instance, PlanFault};
 use tenths::Tenths;
 
 /// Whether a route serves nobody.
@@ -118,7 +117,7 @@ fn cost_of_all(instance: &Instance, routes: &[Vec<u16>]) -> Option<u128>
 pub fn cost_or_fault(instance: &Instance, routes: &[Vec<u16>]) -> Result<Tenths, PlanFault>
     ensures plan { IfOk result (λ _. IsPlan instance.now (lists routes.now)) }
     ensures cost { IfOk result (λ c. c ≡ plan_cost instance.now (lists routes.now)) }
-    ensures fault { IfErr result (λ f. IsLowestFault instance.now (lists routes.now) f) }
+    ensures fault { IfErr result (λ f. IsLowestDefect instance.now (lists routes.now) f) }
 {
     if has_empty(routes) {
         return Err(PlanFault::EmptyRoute);

@@ -2,7 +2,6 @@
 #![tactic(auto)]
 
 mod cheaper_plan;
-mod fault;
 mod finding;
 mod marks;
 mod plan;
@@ -10,7 +9,7 @@ mod summary;
 mod walking;
 
 pub use cheaper_plan::cheaper;
-pub use fault::PlanFault;
 pub use plan::Feasible;
+pub use solomon_reader::PlanFault;
 pub use summary::Walk;
 pub use walking::walk;

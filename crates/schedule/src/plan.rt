@@ -3,12 +3,11 @@
 ghost use Rattle.std.specs.Prelude.{◌≡◌, ℕ, List, IfOk, IfErr};
 ghost use Rattle.solomon_reader.specs.Plan.{IsPlan};
 ghost use Rattle.solomon_reader.specs.Lists.{lists};
-ghost use Rattle.schedule.specs.Faults.{IsLowestFault};
+ghost use Rattle.solomon_reader.specs.PlanDefects.{IsLowestDefect};
 ghost use Rattle.schedule.specs.Solution.{IsSolution};
 
-use crate::fault::PlanFault;
 use crate::finding::{cost_or_fault, total_cost};
-use solomon_reader::Instance;
+use solomon_reader::{Instance, PlanFault};
 use std::alloc::AllocError;
 use std::marker::Model;
 use tenths::Tenths;
@@ -53,7 +52,7 @@ impl<'i> Feasible<'i> {
         ensures solution { IfOk result (λ f. IsSolution f) }
         ensures refused { IfErr result (λ _. ¬ IsPlan instance.now (lists routes.items)) }
         ensures back { IfErr result (λ e. e.0 ≡ routes) }
-        ensures fault { IfErr result (λ e. IsLowestFault instance.now (lists routes.items) e.1) }
+        ensures fault { IfErr result (λ e. IsLowestDefect instance.now (lists routes.items) e.1) }
     {
         match cost_or_fault(instance, routes.as_slice()) {
             Ok(cost) => Ok(Feasible {

@@ -11,7 +11,9 @@ use Rattle.std.specs.List.{Any, All, AllByRecursion, AllZip}
 use Rattle.solomon_reader.specs.Problem.{Problem, IsCustomer, customers, customer_count}
 use Rattle.solomon_reader.specs.Plan.{IsFitting, IsPlan, HasWalk, load_of, count_of}
 use Rattle.solomon_reader.specs.Lists.{lists}
-use Rattle.solomon_reader.specs.PlanDefects.{Defect, empty_route, unknown_customer, twice, missing, over_capacity, late, fleet_exceeded, stops, HasDefect, rank_of, IsClearBelow, IsLowestDefect}
+use Rattle.solomon_reader.specs.PlanDefects.{stops, HasDefect, rank_of, IsClearBelow, IsLowestDefect}
+use Rattle.solomon_reader.specs.declared.plan_fault.PlanFault.{PlanFault}
+use Rattle.solomon_reader.specs.declared.plan_fault.PlanFault.TheVariants.{EmptyRoute, UnknownCustomer, Twice, Missing, OverCapacity, Late, FleetExceeded}
 use Rattle.solomon_reader.specs.CountLaws.{at_most_once, permutation_from_counts, count-range_below, count-range_above, count-range_within, count_none, All-flat, count_positive}
 
 pub Any-map : {X Y : Type 0} (P : X → Type 0) (f : Y → X) (ys : List Y) → Any (λ y. P (f y)) ys → Any P (map f ys)
@@ -21,32 +23,32 @@ Any-map P f ys a =
 pub no_any : {X : Type 0} (P Q : X → Type 0) (xs : List X) → All P xs → ((x : X) → P x → ¬ Q x) → ¬ Any Q xs
 no_any P Q xs all apart a = apart a.1 (rw a.3 at (all a.0 a.1 a.2)) a.4
 
-defect_at : ℕ → Defect
-defect_at zero = empty_route
-defect_at (suc zero) = unknown_customer
-defect_at (suc (suc zero)) = twice
-defect_at (suc (suc (suc zero))) = missing
-defect_at (suc (suc (suc (suc zero)))) = over_capacity
-defect_at (suc (suc (suc (suc (suc zero))))) = late
-defect_at _ = fleet_exceeded
+defect_at : ℕ → PlanFault
+defect_at zero = EmptyRoute
+defect_at (suc zero) = UnknownCustomer
+defect_at (suc (suc zero)) = Twice
+defect_at (suc (suc (suc zero))) = Missing
+defect_at (suc (suc (suc (suc zero)))) = OverCapacity
+defect_at (suc (suc (suc (suc (suc zero))))) = Late
+defect_at _ = FleetExceeded
 
-back : (f : Defect) → defect_at (rank_of f) ≡ f
+back : (f : PlanFault) → defect_at (rank_of f) ≡ f
 unfolding defect_at
-back empty_route = refl
-back unknown_customer = refl
-back twice = refl
-back missing = refl
-back over_capacity = refl
-back late = refl
-back fleet_exceeded = refl
+back EmptyRoute = refl
+back UnknownCustomer = refl
+back Twice = refl
+back Missing = refl
+back OverCapacity = refl
+back Late = refl
+back FleetExceeded = refl
 
-one_defect : (f g : Defect) → rank_of f ≡ rank_of g → f ≡ g
+one_defect : (f g : PlanFault) → rank_of f ≡ rank_of g → f ≡ g
 one_defect f g e = sym (back f) ∙ ap defect_at e ∙ back g
 
 pub clear_none : (p : Problem) (routes : List (List ℕ)) → IsClearBelow p routes 0
 clear_none p routes = record { clear = λ f h. absurd (omega arith) }
 
-pub clear_more : (p : Problem) (routes : List (List ℕ)) (f : Defect) → IsClearBelow p routes (rank_of f) → ¬ HasDefect p routes f → IsClearBelow p routes (rank_of f + 1)
+pub clear_more : (p : Problem) (routes : List (List ℕ)) (f : PlanFault) → IsClearBelow p routes (rank_of f) → ¬ HasDefect p routes f → IsClearBelow p routes (rank_of f + 1)
 clear_more p routes f below not_here = record {
   clear = λ g h. elim (cases_eq (rank_of g) (rank_of f)) [
     | inl e ↦ rw (one_defect g f e) not_here
@@ -60,10 +62,10 @@ all_stops P routes all = All-flat P (lists routes) (recursion_from_All (AllByRec
     (All-map (AllByRecursion P) (λ v. v.items) routes (λ k d h. recursion_from_All P _ (all k d h))))
 
 module _ (p : Problem) (routes : List (Vec ℕ Global)) where
-  pub no_empty : All (λ v. 0 < length v.items) routes → ¬ HasDefect p (lists routes) empty_route
+  pub no_empty : All (λ v. 0 < length v.items) routes → ¬ HasDefect p (lists routes) EmptyRoute
   no_empty all = no_any (λ r. 0 < length r) (λ r. length r ≡ 0) (lists routes) (All-map (λ r. 0 < length r) (λ v. v.items) routes all) (λ r h e. omega arith)
 
-  pub no_unknown : All (λ v. All (λ i. IsCustomer p i) v.items) routes → ¬ HasDefect p (lists routes) unknown_customer
+  pub no_unknown : All (λ v. All (λ i. IsCustomer p i) v.items) routes → ¬ HasDefect p (lists routes) UnknownCustomer
   no_unknown all = no_any (λ r. All (λ i. IsCustomer p i) r) (λ r. Any (λ i. ¬ IsCustomer p i) r) (lists routes)
       (All-map (λ r. All (λ i. IsCustomer p i) r) (λ v. v.items) routes all)
       (λ r h a. no_any (λ i. IsCustomer p i) (λ i. ¬ IsCustomer p i) r h (λ i y n. n y) a)
@@ -71,19 +73,19 @@ module _ (p : Problem) (routes : List (Vec ℕ Global)) where
   pub all_known : All (λ v. All (λ i. IsCustomer p i) v.items) routes → AllByRecursion (IsCustomer p) (stops (lists routes))
   all_known all = all_stops (IsCustomer p) routes all
 
-  pub no_twice : All (λ v. All (λ i. IsCustomer p i) v.items) routes → ((i : ℕ) → IsCustomer p i → count_of i (stops (lists routes)) ≤ 1) → ¬ HasDefect p (lists routes) twice
+  pub no_twice : All (λ v. All (λ i. IsCustomer p i) v.items) routes → ((i : ℕ) → IsCustomer p i → count_of i (stops (lists routes)) ≤ 1) → ¬ HasDefect p (lists routes) Twice
   no_twice known once found =
       let customer : IsCustomer p found.0 = count_positive found.0 (IsCustomer p) (stops (lists routes)) (all_known known) (omega (arith, found.1)) in
       omega (arith, found.1, once found.0 customer)
 
-  pub no_missing : ((i : ℕ) → IsCustomer p i → 1 ≤ count_of i (stops (lists routes))) → ¬ HasDefect p (lists routes) missing
+  pub no_missing : ((i : ℕ) → IsCustomer p i → 1 ≤ count_of i (stops (lists routes))) → ¬ HasDefect p (lists routes) Missing
   no_missing there found = omega (arith, found.2, there found.0 found.1)
 
-  pub no_overload : All (λ v. load_of p v.items ≤ p.capacity) routes → ¬ HasDefect p (lists routes) over_capacity
+  pub no_overload : All (λ v. load_of p v.items ≤ p.capacity) routes → ¬ HasDefect p (lists routes) OverCapacity
   no_overload all = no_any (λ r. load_of p r ≤ p.capacity) (λ r. p.capacity < load_of p r) (lists routes)
       (All-map (λ r. load_of p r ≤ p.capacity) (λ v. v.items) routes all) (λ r h e. omega arith)
 
-  pub no_late : All (λ v. IsFitting p v.items) routes → ¬ HasDefect p (lists routes) late
+  pub no_late : All (λ v. IsFitting p v.items) routes → ¬ HasDefect p (lists routes) Late
   no_late all = no_any (IsFitting p) (λ r. ¬ HasWalk p r) (lists routes) (All-map (IsFitting p) (λ v. v.items) routes all) (λ r h e. e h.walk)
 
   pub is_plan : All (λ v. All (λ i. IsCustomer p i) v.items) routes → All (λ v. IsFitting p v.items) routes
@@ -108,27 +110,27 @@ module _ (p : Problem) (routes : List (Vec ℕ Global)) where
 
 module _ (p : Problem) (routes : List (Vec ℕ Global)) (some : All (λ v. 0 < length v.items) routes) where
   pub after_empty : IsClearBelow p (lists routes) 1
-  after_empty = clear_more p (lists routes) empty_route (clear_none p (lists routes)) (no_empty p routes some)
+  after_empty = clear_more p (lists routes) EmptyRoute (clear_none p (lists routes)) (no_empty p routes some)
 
   module _ (known : All (λ v. All (λ i. IsCustomer p i) v.items) routes) where
     pub after_unknown : IsClearBelow p (lists routes) 2
-    after_unknown = clear_more p (lists routes) unknown_customer after_empty (no_unknown p routes known)
+    after_unknown = clear_more p (lists routes) UnknownCustomer after_empty (no_unknown p routes known)
 
     module _ (once : (i : ℕ) → IsCustomer p i → count_of i (stops (lists routes)) ≤ 1) where
       pub after_twice : IsClearBelow p (lists routes) 3
-      after_twice = clear_more p (lists routes) twice after_unknown (no_twice p routes known once)
+      after_twice = clear_more p (lists routes) Twice after_unknown (no_twice p routes known once)
 
       module _ (there : (i : ℕ) → IsCustomer p i → 1 ≤ count_of i (stops (lists routes))) where
         pub after_missing : IsClearBelow p (lists routes) 4
-        after_missing = clear_more p (lists routes) missing after_twice (no_missing p routes there)
+        after_missing = clear_more p (lists routes) Missing after_twice (no_missing p routes there)
 
         module _ (light : All (λ v. load_of p v.items ≤ p.capacity) routes) where
           pub after_overload : IsClearBelow p (lists routes) 5
-          after_overload = clear_more p (lists routes) over_capacity after_missing (no_overload p routes light)
+          after_overload = clear_more p (lists routes) OverCapacity after_missing (no_overload p routes light)
 
           module _ (fitting : All (λ v. IsFitting p v.items) routes) where
             pub after_late : IsClearBelow p (lists routes) 6
-            after_late = clear_more p (lists routes) late after_overload (no_late p routes fitting)
+            after_late = clear_more p (lists routes) Late after_overload (no_late p routes fitting)
 
 pub same_lists : (R : Vec ℕ Global → Vec ℕ Global → Type 0) → ((v w : Vec ℕ Global) → R v w → w.items ≡ v.items) → (xs ys : List (Vec ℕ Global))
     → AllZip R xs ys → lists ys ≡ lists xs
@@ -144,16 +146,16 @@ module _ (p : Problem) (routes : List (List ℕ)) (plan : IsPlan p routes) where
   same_count : (i : ℕ) → count_of i (stops routes) ≡ count_of i (customers p)
   same_count i = sum_by-IsPermutation (λ x. cond (x == i) 1 0) (customers p) (stops routes) plan.each_once
 
-  no_defect : (f : Defect) → ¬ HasDefect p routes f
-  no_defect empty_route h = none_of (λ r. length r ≡ 0) (λ r fit e. omega (arith, fit.some)) h
-  no_defect unknown_customer h = none_of (λ r. Any (λ i. ¬ IsCustomer p i) r)
+  no_defect : (f : PlanFault) → ¬ HasDefect p routes f
+  no_defect EmptyRoute h = none_of (λ r. length r ≡ 0) (λ r fit e. omega (arith, fit.some)) h
+  no_defect UnknownCustomer h = none_of (λ r. Any (λ i. ¬ IsCustomer p i) r)
       (λ r fit a. no_any (IsCustomer p) (λ i. ¬ IsCustomer p i) r (All-from_recursion (IsCustomer p) r fit.known) (λ i y n. n y) a) h
-  no_defect twice h = omega (arith, h.1, at_most_once p routes plan h.0)
-  no_defect missing h = omega (arith, h.2, same_count h.0, count-range_within h.0 1 (customer_count p) h.1.0 (omega (arith, h.1.1)))
-  no_defect over_capacity h = none_of (λ r. p.capacity < load_of p r) (λ r fit e. omega (arith, fit.load)) h
-  no_defect late h = none_of (λ r. ¬ HasWalk p r) (λ r fit e. e fit.walk) h
-  no_defect fleet_exceeded h = omega (arith, plan.fleet)
+  no_defect Twice h = omega (arith, h.1, at_most_once p routes plan h.0)
+  no_defect Missing h = omega (arith, h.2, same_count h.0, count-range_within h.0 1 (customer_count p) h.1.0 (omega (arith, h.1.1)))
+  no_defect OverCapacity h = none_of (λ r. p.capacity < load_of p r) (λ r fit e. omega (arith, fit.load)) h
+  no_defect Late h = none_of (λ r. ¬ HasWalk p r) (λ r fit e. e fit.walk) h
+  no_defect FleetExceeded h = omega (arith, plan.fleet)
 
 -- where a defect is found there is no plan
-pub no_plan : (p : Problem) (routes : List (List ℕ)) (f : Defect) → IsLowestDefect p routes f → ¬ IsPlan p routes
+pub no_plan : (p : Problem) (routes : List (List ℕ)) (f : PlanFault) → IsLowestDefect p routes f → ¬ IsPlan p routes
 no_plan p routes f lowest plan = no_defect p routes plan f lowest.holds

@@ -1,5 +1,5 @@
 -- The order of arcs is total.
-use Rattle.std.proofs.Common.{◌≡◌, refl, Bool, true, false, ◌||◌, sym, ◌∙◌, ap, ◌⊎◌, inl, inr}
+use Rattle.std.proofs.Common.{◌≡◌, refl, true, sym, ◌∙◌, ap, ◌⊎◌, inl, inr}
 use Rattle.std.specs.Ordering.{nat_cmp, ordering_then, ordering_reverse, is_eq, eq_by_cmp}
 use Rattle.std.specs.declared.cmp.Ordering.{Ordering}
 use Rattle.std.specs.declared.cmp.Ordering.TheVariants.{Less, Equal, Greater}

@@ -1,6 +1,6 @@
 //! The ceiling of an instance.
 
-ghost use Rattle.std.specs.Prelude.{◌≡◌, ◌*◌, ◌<◌, ◌≤◌, length, map};
+ghost use Rattle.std.specs.Prelude.{◌≡◌, ◌+◌, ◌*◌, ◌<◌, ◌≤◌, length, map};
 ghost use Rattle.std.specs.List.{range_with_len};
 ghost use Rattle.solomon_reader.specs.Distance.{distance};
 ghost use Rattle.solomon_reader.specs.Bound.{greatest_of, greatest_distance, ceiling_of};
@@ -45,5 +45,13 @@ impl Instance {
         ensures bound { result ≤ 2 * MOST_CUSTOMERS * MOST_DISTANCE }
     {
         Tenths::from(2 * u32::from(self.customer_count()) * longest(self))
+    }
+
+    /// The ceiling and one more, in tenths: what each plan costs less than.
+    pub fn above_ceiling(&self) -> u32
+        ensures value { result ≡ ceiling_of self.now + 1 }
+        ensures bound { result ≤ 2 * MOST_CUSTOMERS * MOST_DISTANCE + 1 }
+    {
+        self.ceiling().get() as u32 + 1
     }
 }
