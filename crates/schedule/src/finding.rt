@@ -1,46 +1,44 @@
 //! Looks for faults in a list of routes.
 
-ghost use Rattle.std.specs.Prelude.{◌≡◌, ℕ, ◌*◌, ◌<◌, ◌≤◌, List, length, IsTrue, IsFalse, IfSome, IfNone, IfOk, IfErr};
-ghost use Rattle.std.specs.List.{Any, All};
-ghost use Rattle.solomon_reader.specs.declared.limits.TheConstants.{MOST_CUSTOMERS, MOST_FLEET, MOST_TIME};
+ghost use Rattle.std.specs.Prelude.{◌≡◌, ℕ, ◌*◌, ◌<◌, ◌≤◌, List, length, IsTrue, IsFalse, IfOk, IfErr};
+ghost use Rattle.std.specs.List.{All};
+ghost use Rattle.solomon_reader.specs.declared.limits.TheConstants.{MOST_FLEET, MOST_TIME};
 ghost use Rattle.solomon_reader.specs.Problem.{IsCustomer};
-ghost use Rattle.solomon_reader.specs.Plan.{IsPlan, IsFitting, HasWalk, load_of, route_cost, plan_cost, count_of};
+ghost use Rattle.solomon_reader.specs.Plan.{IsPlan, IsFitting, load_of, route_cost, plan_cost, count_of};
 ghost use Rattle.solomon_reader.specs.Lists.{lists};
-ghost use Rattle.solomon_reader.specs.PlanDefects.{IsLowestDefect};
+ghost use Rattle.solomon_reader.specs.PlanDefects.{stops, IsLowestDefect};
 ghost use Rattle.schedule.specs.Marks.{AreMarks};
 
-use crate::marks::{Marks, marks_of};
+use crate::marks::{Marks, mark_route};
 use crate::walking::{are_customers, walk};
 use solomon_reader::{Instance, PlanFault};
 use tenths::Tenths;
 
-/// Whether a route serves nobody.
-fn has_empty(routes: &[Vec<u16>]) -> bool
-    ensures found { IsTrue result → Any (λ r. length r.items ≡ 0) routes.now }
-    ensures none { IsFalse result → All (λ r. 0 < length r.items) routes.now }
+/// The marks of all stops: `EmptyRoute`, `UnknownCustomer` or `Twice`, the first of them that the routes have.
+fn marks_of(instance: &Instance, routes: &[Vec<u16>]) -> Result<Marks, PlanFault>
+    ensures some { IfOk result (λ _. All (λ r. 0 < length r.items) routes.now) }
+    ensures known { IfOk result (λ _. All
+        (λ r. All (λ i. IsCustomer instance.now i) r.items) routes.now) }
+    ensures marks { IfOk result (λ m. AreMarks (stops (lists routes.now)) m) }
+    ensures fault { IfErr result (λ f. IsLowestDefect instance.now (lists routes.now) f) }
 {
+    let mut marks = Marks::new();
+    let mut known = true;
+    let mut once = true;
     for route in routes {
         if route.is_empty() {
-            return true;
+            return Err(PlanFault::EmptyRoute);
         }
+        known = known && are_customers(instance, route.as_slice());
+        once = once && known && mark_route(&mut marks, route.as_slice());
     }
-    false
-}
-
-/// Whether a route visits a number that is no customer's.
-fn has_unknown(instance: &Instance, routes: &[Vec<u16>]) -> bool
-    ensures found { IsTrue result → Any
-        (λ r. Any (λ i. ¬ IsCustomer instance.now i) r.items) routes.now }
-    ensures none { IsFalse result → All
-        (λ r. All (λ i. IsCustomer instance.now i) r.items) routes.now }
-    ensures small { IsFalse result → All (λ r. All (λ i. i ≤ MOST_CUSTOMERS) r.items) routes.now }
-{
-    for route in routes {
-        if !are_customers(instance, route.as_slice()) {
-            return true;
-        }
+    if !known {
+        return Err(PlanFault::UnknownCustomer);
     }
-    false
+    if !once {
+        return Err(PlanFault::Twice);
+    }
+    Ok(marks)
 }
 
 /// Whether a customer isn't marked.
@@ -56,6 +54,24 @@ fn has_missing(instance: &Instance, marks: &Marks) -> bool
         }
     }
     false
+}
+
+/// Finds out whether the routes serve each customer once, and nobody else. `EmptyRoute`, `UnknownCustomer`,
+/// `Twice` or `Missing`, the first of them that they have.
+fn serve_once(instance: &Instance, routes: &[Vec<u16>]) -> Result<(), PlanFault>
+    ensures some { IfOk result (λ _. All (λ r. 0 < length r.items) routes.now) }
+    ensures known { IfOk result (λ _. All
+        (λ r. All (λ i. IsCustomer instance.now i) r.items) routes.now) }
+    ensures once { IfOk result (λ _. (i : ℕ) → IsCustomer instance.now i → count_of i
+        (stops (lists routes.now)) ≡ 1) }
+    ensures fault { IfErr result (λ f. IsLowestDefect instance.now (lists routes.now) f) }
+{
+    instance.law_of_limits();
+    let marks = marks_of(instance, routes)?;
+    if has_missing(instance, &marks) {
+        return Err(PlanFault::Missing);
+    }
+    Ok(())
 }
 
 /// Whether the demands of a route are more than a vehicle holds.
@@ -75,41 +91,34 @@ fn is_overloaded(instance: &Instance, route: &[u16]) -> bool
     false
 }
 
-/// Whether the demands of some route are more than a vehicle holds.
-fn has_overload(instance: &Instance, routes: &[Vec<u16>]) -> bool
-    requires { All (λ r. All (λ i. IsCustomer instance.now i) r.items) routes.now }
-    ensures found { IsTrue result → Any
-        (λ r. instance.now.capacity < load_of instance.now r.items) routes.now }
-    ensures none { IsFalse result → All
-        (λ r. load_of instance.now r.items ≤ instance.now.capacity) routes.now }
-{
-    for route in routes {
-        if is_overloaded(instance, route.as_slice()) {
-            return true;
-        }
-    }
-    false
-}
-
-/// The cost in tenths of routes that are right in all else, or `None` where one of them comes too late.
-fn cost_of_all(instance: &Instance, routes: &[Vec<u16>]) -> Option<u128>
+/// The cost in tenths of routes that serve each customer once. `OverCapacity` or `Late`, the first of them
+/// that they have.
+fn cost_of_all(instance: &Instance, routes: &[Vec<u16>]) -> Result<u128, PlanFault>
     requires some { All (λ r. 0 < length r.items) routes.now }
     requires known { All (λ r. All (λ i. IsCustomer instance.now i) r.items) routes.now }
-    requires light { All (λ r. load_of instance.now r.items ≤ instance.now.capacity) routes.now }
-    ensures late { IfNone result (Any (λ r. ¬ HasWalk instance.now r.items) routes.now) }
-    ensures fitting { IfSome result (λ _. All (λ r. IsFitting instance.now r.items) routes.now) }
-    ensures cost { IfSome result (λ c. c ≡ plan_cost instance.now (lists routes.now)) }
-    ensures small { IfSome result (λ c. c ≤ 10 * MOST_TIME * length routes.now) }
+    requires once { (i : ℕ) → IsCustomer instance.now i → count_of i
+        (stops (lists routes.now)) ≡ 1 }
+    ensures fitting { IfOk result (λ _. All (λ r. IsFitting instance.now r.items) routes.now) }
+    ensures cost { IfOk result (λ c. c ≡ plan_cost instance.now (lists routes.now)) }
+    ensures small { IfOk result (λ c. c ≤ 10 * MOST_TIME * length routes.now) }
+    ensures fault { IfErr result (λ f. IsLowestDefect instance.now (lists routes.now) f) }
 {
     // however many routes there are, the sum fits
     let mut cost = 0u128;
+    let mut late = false;
     for route in routes {
-        let Some(walked) = walk(instance, route.as_slice()) else {
-            return None;
-        };
-        cost += u128::from(walked.cost.get());
+        if is_overloaded(instance, route.as_slice()) {
+            return Err(PlanFault::OverCapacity);
+        }
+        match walk(instance, route.as_slice()) {
+            Some(walked) => cost += u128::from(walked.cost.get()),
+            None => late = true,
+        }
     }
-    Some(cost)
+    if late {
+        return Err(PlanFault::Late);
+    }
+    Ok(cost)
 }
 
 /// The cost of a plan's routes, each of which is walked once, or the first fault that the routes have in the
@@ -119,24 +128,8 @@ pub fn cost_or_fault(instance: &Instance, routes: &[Vec<u16>]) -> Result<Tenths,
     ensures cost { IfOk result (λ c. c ≡ plan_cost instance.now (lists routes.now)) }
     ensures fault { IfErr result (λ f. IsLowestDefect instance.now (lists routes.now) f) }
 {
-    if has_empty(routes) {
-        return Err(PlanFault::EmptyRoute);
-    }
-    if has_unknown(instance, routes) {
-        return Err(PlanFault::UnknownCustomer);
-    }
-    let Some(marks) = marks_of(routes) else {
-        return Err(PlanFault::Twice);
-    };
-    if has_missing(instance, &marks) {
-        return Err(PlanFault::Missing);
-    }
-    if has_overload(instance, routes) {
-        return Err(PlanFault::OverCapacity);
-    }
-    let Some(cost) = cost_of_all(instance, routes) else {
-        return Err(PlanFault::Late);
-    };
+    serve_once(instance, routes)?;
+    let cost = cost_of_all(instance, routes)?;
     if routes.len() > usize::from(instance.fleet()) {
         return Err(PlanFault::FleetExceeded);
     }

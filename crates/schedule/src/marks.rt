@@ -1,11 +1,9 @@
 //! Marks of customers.
 
-ghost use Rattle.std.specs.Prelude.{◌≡◌, ℕ, ◌+◌, ◌≤◌, List, [], ◌∷◌, ◌++◌, IsTrue, IsFalse, IfSome, IfNone};
+ghost use Rattle.std.specs.Prelude.{◌≡◌, ℕ, ◌+◌, ◌≤◌, List, [], ◌∷◌, ◌++◌, IsTrue, IsFalse};
 ghost use Rattle.std.specs.List.{All};
 ghost use Rattle.solomon_reader.specs.declared.limits.TheConstants.{MOST_CUSTOMERS};
 ghost use Rattle.solomon_reader.specs.Plan.{count_of};
-ghost use Rattle.solomon_reader.specs.Lists.{lists};
-ghost use Rattle.solomon_reader.specs.PlanDefects.{stops};
 ghost use Rattle.schedule.specs.Marks.{is_marked, AreMarks};
 
 use solomon_reader::MOST_CUSTOMERS;
@@ -23,7 +21,7 @@ pub struct Marks {
 
 impl Marks {
     /// No marks.
-    fn new() -> Marks
+    pub fn new() -> Marks
         ensures { AreMarks [] result }
     {
         Marks {
@@ -57,7 +55,7 @@ impl Marks {
 }
 
 /// Marks the stops of a route, and answers whether none of them was marked before.
-fn mark_route(marks: &mut Marks, route: &[u16]) -> bool
+pub fn mark_route(marks: &mut Marks, route: &[u16]) -> bool
     requires { All (λ i. i ≤ MOST_CUSTOMERS) route.now }
     ensures again { (list : List ℕ) → AreMarks list marks.old → IsFalse result → (i : ℕ) ×
         (2 ≤ count_of i (list ++ route.now)) }
@@ -70,19 +68,4 @@ fn mark_route(marks: &mut Marks, route: &[u16]) -> bool
         }
     }
     true
-}
-
-/// The marks of all stops of the routes, or `None` where a customer stands twice among them.
-pub fn marks_of(routes: &[Vec<u16>]) -> Option<Marks>
-    requires { All (λ r. All (λ i. i ≤ MOST_CUSTOMERS) r.items) routes.now }
-    ensures marks { IfSome result (λ m. AreMarks (stops (lists routes.now)) m) }
-    ensures twice { IfNone result ((i : ℕ) × (2 ≤ count_of i (stops (lists routes.now)))) }
-{
-    let mut marks = Marks::new();
-    for route in routes {
-        if !mark_route(&mut marks, route.as_slice()) {
-            return None;
-        }
-    }
-    Some(marks)
 }

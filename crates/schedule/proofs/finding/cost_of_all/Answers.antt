@@ -1,33 +1,60 @@
-use Rattle.std.proofs.Common.{rules, ℕ, sym, get_or, below_more}
+use Rattle.std.proofs.Common.{refl, ℕ, ◌<◌, ◌≤◌, arith, sym, ◌∙◌}
 use Rattle.std.specs.Prelude.{Vec}
 use Rattle.std.specs.declared.alloc.Global.{Global}
-use Rattle.std.proofs.lemmas.List.Elements.{at_read, recursion_from_All}
-use Rattle.solomon_reader.specs.Plan.{IsFitting}
+use Rattle.std.specs.List.{Any}
+use Rattle.std.proofs.lemmas.List.Elements.{recursion_from_All}
+use Rattle.solomon_reader.specs.Plan.{HasWalk, load_of}
 use Rattle.solomon_reader.specs.Problem.{IsCustomer}
-use Rattle.schedule.proofs.FittingRoutes.{one_more}
+use Rattle.solomon_reader.proofs.Planning.{Any-map, after_missing, after_overload}
+use Rattle.solomon_reader.proofs.Passes.{all_more, driven_more}
 use Rattle.schedule.proofs.finding.cost_of_all.Goals as goal
+use Rattle.schedule.proofs.finding.cost_of_all.Goals.{in-Some, in-None}
 
-pub returns-in_default-clause-late : goal.returns-in_default-clause-late
-returns-in_default-clause-late c = (
-  c.loop-route.route-index,
-  c.route-item.result,
-  c.loop-route-test.true,
-  sym c.route-item.is,
-  λ w. c.in_default.ensures.none (rw c.as_slice.ensures.value (record {
-    some = rw c.route-item.is (c.requires.some _ _ c.loop-route-test.true);
-    known = recursion_from_All (IsCustomer c.args.instance.now) _ (rw c.route-item.is (c.requires.known _ _ c.loop-route-test.true));
-    load = rw c.route-item.is (c.requires.light _ _ c.loop-route-test.true);
-    walk = w;
-  })),
-)
+pub returns-then-is_overloaded-clause-fault : goal.returns-then-is_overloaded-clause-fault
+returns-then-is_overloaded-clause-fault c = record {
+  holds = Any-map (λ r. c.args.instance.now.capacity < load_of c.args.instance.now r) (λ (v : Vec ℕ Global). v.items) c.args.routes.now
+      (c.loop-route.route-index, c.route-item.result, c.loop-route-test.true, sym c.route-item.is, rw c.as_slice.ensures.value at (c.if-is_overloaded.ensures.found refl));
+  lowest = after_missing _ _ c.requires.some c.requires.known (λ i h. omega (arith, c.requires.once i h)) (λ i h. omega (arith, c.requires.once i h));
+}
 
 pub loop-route-preserved : goal.loop-route-preserved
 loop-route-preserved c =
-    let fits : IsFitting c.args.instance.now c.route-item.result.items = rw c.as_slice.ensures.value at c.in-Some.ensures.fits in
+    let p = c.args.instance.now in
+    let routes = c.args.routes.now in
+    let place = c.loop-route.route-index in
+    let route = c.route-item.result in
+    let within = c.loop-route-test.true in
+    let light : load_of p route.items ≤ p.capacity = rw c.as_slice.ensures.value at (c.if-is_overloaded.ensures.none refl) in
     record {
-      fitting = λ k d h. below_more (λ (j : ℕ). (d : Vec ℕ Global) → IsFitting c.args.instance.now (get_or c.args.routes.now j d).items) _
-          (λ j l e. c.loop-route.invariant.fitting j e l)
-          (at_read c.args.routes.now (λ v. IsFitting c.args.instance.now v.items) _ c.route-item.result c.loop-route-test.true c.route-item.is fits) k h d;
-      cost = search (rules, one_more c.args.instance.now c.args.routes.now c.loop-route.route-index c.route-item.result c.loop-route-test.true);
-      small = search rules;
+      light = all_more p routes place route within c.route-item.is (λ v. load_of p v.items ≤ p.capacity) c.loop-route.invariant.light light;
+      small = elim c.match-walk.branch [
+        | in-Some w ↦ rw w.cost-is (omega (arith, w.from-cost.ensures, w.in-Some.ensures.small, c.loop-route.invariant.small))
+        | in-None w ↦ rw w.cost-is (omega (arith, c.loop-route.invariant.small))
+      ];
+      late = elim c.match-walk.branch [
+        | in-Some w ↦ rw (w.late-is, w.cost-is) (driven_more p routes place route within c.route-item.is (Any (λ v. ¬ HasWalk p v.items) routes) c.loop-route.cost w.from-cost.result
+            (rw c.as_slice-in-loop-route.ensures.value at w.in-Some.ensures.fits) (w.from-cost.ensures ∙ (w.get.ensures.value ∙ rw c.as_slice-in-loop-route.ensures.value at w.in-Some.ensures.cost)) c.loop-route.late c.loop-route.invariant.late)
+        | in-None w ↦ rw w.late-is (
+          place,
+          route,
+          within,
+          sym c.route-item.is,
+          λ walks. (rw c.as_slice-in-loop-route.ensures.value at w.in-None.ensures.none) (record {
+            some = rw c.route-item.is (c.requires.some _ _ within);
+            known = recursion_from_All (IsCustomer p) _ (rw c.route-item.is (c.requires.known _ _ within));
+            load = light;
+            walk = walks;
+          }),
+        )
+      ];
     }
+
+pub returns-then-late-clause-fault : goal.returns-then-late-clause-fault
+returns-then-late-clause-fault c = record {
+  holds = Any-map (λ r. ¬ HasWalk c.args.instance.now r) (λ (v : Vec ℕ Global). v.items) c.args.routes.now (rw c.if-late.true at c.loop-route.invariant.late);
+  lowest = after_overload _ _ c.requires.some c.requires.known (λ i h. omega (arith, c.requires.once i h)) (λ i h. omega (arith, c.requires.once i h))
+      (λ k d h. c.loop-route.invariant.light k d (omega (arith, h, c.loop-route-test.false)));
+}
+
+pub returns-clause-fitting : goal.returns-clause-fitting
+returns-clause-fitting c = λ k d h. (rw c.if-late.false at c.loop-route.invariant.late).0 k d (omega (arith, h, c.loop-route-test.false))

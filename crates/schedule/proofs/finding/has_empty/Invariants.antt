@@ -1,7 +1,0 @@
-use Rattle.std.proofs.Common.{ℕ, ◌<◌, length, get_or}
-use Rattle.std.specs.Prelude.{Vec}
-use Rattle.std.specs.declared.alloc.Global.{Global}
-use Rattle.schedule.proofs.finding.has_empty.Given as goal
-
-abbrev pub invariant-loop-route : goal.invariant-loop-route
-invariant-loop-route l = (k : ℕ) (d : Vec ℕ Global) → k < l.route-index → 0 < length (get_or l.routes k d).items
