@@ -9,6 +9,9 @@ use Rattle.solomon_reader.specs.Relaxed.{reduced_cost, IsRelaxed}
 use Rattle.solomon_reader.specs.Region.{root_region, used_child, unused_child}
 use Rattle.solomon_reader.specs.Bound.{ceiling_of, version_1, version_2, Tree, leaf, split, IsRoundedUp, IsLeafValue, IsTreeBound}
 use Rattle.solomon_reader.specs.Moves.{after_relocate, after_exchange, after_or_opt, after_two_opt_star, after_cross}
+use Rattle.solomon_reader.specs.CustomerSets.{entries, need_by_load, way_over, CanServe, IsTooMuchInTime, IsNeeded}
+use Rattle.solomon_reader.specs.SetBound.{PricedSet, IsLeafValueWith, set_leaf}
+use Rattle.solomon_reader.specs.SetText.{set_certificate_text}
 use Rattle.solomon_reader.specs.SolutionText.{solution_text}
 use Rattle.solomon_reader.specs.CertificateText.{certificate_text}
 
@@ -75,6 +78,44 @@ pub record WorkedBounds : Type 0 where
   pub used_leaf : IsLeafValue version_2 narrow (used_child (root_region 2) (0, 1)) 8 (pos 100000 ∷ pos 301000 ∷ []) 199
   pub unused_leaf : IsLeafValue version_2 narrow (unused_child (root_region 2) (0, 1)) 8 (pos 401000 ∷ pos 0 ∷ []) 801
   pub remembered : ¬ IsRelaxed revisits (root_region 2) 1 (2 ∷ 1 ∷ 2 ∷ [])
+
+-- customers 1 and 2, who need two vehicles, at a price of 100,000 grains an entry
+abbrev pub pair_priced : PricedSet
+pair_priced = record { members = 1 ∷ 2 ∷ []; need = 2; price = 100000 }
+
+-- two of them far from the depot: 1,010 tenths by 1, 1,011 directly
+abbrev pub by_detour : Problem
+by_detour = problem 1 2 (depot_row ∷ open_row 16 48 ∷ record { x = 32; y = 96; demand = 1; ready = 0; due = 101; service = 0 } ∷ [])
+
+-- three customers at one place, each served for longer than the others are open
+abbrev pub busy_row : Row
+busy_row = record { x = 3; y = 4; demand = 1; ready = 0; due = 10; service = 20 }
+
+abbrev pub busy : Problem
+busy = problem 2 3 (depot_row ∷ busy_row ∷ busy_row ∷ busy_row ∷ [])
+
+-- What sets of customers need, and a leaf at which one has a price.
+pub record WorkedSets : Type 0 where
+  pub from_depot : entries (1 ∷ []) (1 ∷ 2 ∷ []) ≡ 1
+  pub within : entries (1 ∷ 2 ∷ []) (1 ∷ 2 ∷ []) ≡ 1
+  pub again : entries (1 ∷ 2 ∷ []) (1 ∷ 3 ∷ 2 ∷ []) ≡ 2
+  pub passed_by : entries (1 ∷ 2 ∷ []) (3 ∷ []) ≡ 0
+  pub loaded : need_by_load narrow (1 ∷ 2 ∷ []) ≡ 2
+  pub direct : distance by_detour 0 2 ≡ 1011
+  pub detour : way_over by_detour (1 ∷ []) 0 2 ≡ 1010
+  pub in_time : CanServe by_detour 0 0 (2 ∷ [])
+  pub too_much : IsTooMuchInTime busy (1 ∷ 2 ∷ 3 ∷ [])
+  pub two_needed : IsNeeded busy (1 ∷ 2 ∷ 3 ∷ []) 2
+  pub priced : IsLeafValueWith narrow (root_region 2) 8 (pos 0 ∷ pos 100000 ∷ []) (pair_priced ∷ []) 300
+  pub text : set_certificate_text (record {
+    name = codes "T";
+    size = 2;
+    neighbours = 8;
+    bound = 300;
+    sets = record { members = 1 ∷ 2 ∷ []; need = 2 } ∷ [];
+    tree = set_leaf (pos 0 ∷ pos 100000 ∷ []) ((1, 100000) ∷ []);
+  })
+      ≡ codes "VRPTW-SETS 1\nINSTANCE T\nCUSTOMERS 2\nNEIGHBOURS 8\nBOUND 30.0\nS 2 1 2\nTREE\nP 0 100000\nM 1 100000\nEND\n"
 
 -- Each kind of move on small routes.
 pub record WorkedMoves : Type 0 where

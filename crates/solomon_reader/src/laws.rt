@@ -2,7 +2,8 @@
 
 ghost use Rattle.solomon_reader.specs.Duality.{CeilingHolds, NoPlanAbove, TreeBoundHolds, WeakDuality};
 ghost use Rattle.solomon_reader.specs.Laws.{FirstFaultStays, OneBound, OneLeast};
-ghost use Rattle.solomon_reader.specs.Rows.{WorkedBounds, WorkedMoves, WorkedRows};
+ghost use Rattle.solomon_reader.specs.SetDuality.{NeedsHold, SameWithoutSets, SetTreeBoundHolds, SetWeakDuality};
+ghost use Rattle.solomon_reader.specs.Rows.{WorkedBounds, WorkedMoves, WorkedRows, WorkedSets};
 
 /// What the definitions give on small instances: distances, costs, walks, and both texts.
 pub fn worked_rows()
@@ -12,6 +13,11 @@ pub fn worked_rows()
 /// The bound of a tree with two leaves, and a list that comes back too soon to be a relaxed route.
 pub fn worked_bounds()
     ensures { WorkedBounds }
+{}
+
+/// What sets of customers need, and the value of a leaf at which one has a price.
+pub fn worked_sets()
+    ensures { WorkedSets }
 {}
 
 /// The routes that each kind of move leaves.
@@ -45,4 +51,19 @@ pub fn bounds_hold()
     ensures ceiling { CeilingHolds }
     ensures tree { TreeBoundHolds }
     ensures no_plan { NoPlanAbove }
+{}
+
+/// A plan enters a set of customers at least as often as it needs, by load and by time (Laporte and
+/// Nobert 1983; Kohl, Desrosiers, Madsen, Solomon and Soumis 1999).
+pub fn needs_hold()
+    ensures { NeedsHold }
+{}
+
+/// A plan that obeys the region of a leaf costs at least its value with sets, and each plan at least the
+/// bound of a tree with sets, where each set needs what it is said to. Without sets a leaf has its value
+/// of version 2.
+pub fn set_bounds_hold()
+    ensures leaf { SetWeakDuality }
+    ensures tree { SetTreeBoundHolds }
+    ensures without { SameWithoutSets }
 {}

@@ -38,3 +38,9 @@ pub const MOST_LEAVES: u32 = 100_000;
 
 /// The most arcs on a path of a tree.
 pub const MOST_DEPTH: u32 = 600;
+
+/// The most sets of customers that a certificate lists.
+pub const MOST_SETS: u32 = 1_000;
+
+/// The most entries that a listed set needs: what all customers with the greatest demand need where a vehicle holds 1.
+pub const MOST_NEED: u32 = 4_000_000;

@@ -1,4 +1,4 @@
-use Rattle.std.proofs.Common.{refl, arith, ◌≡◌, ℕ, zero, suc, ◌≤◌, List, [], ◌∷◌, ◌++◌, inl, inr, ◌⊎◌, ap, length, length-append}
+use Rattle.std.proofs.Common.{refl, arith, ◌≡◌, ℕ, ◌≤◌, List, [], ◌∷◌, ◌++◌, inl, inr, ap, length, length-append}
 use Rattle.std.specs.Prelude.{pos, neg_ℤ, ◌≤ℤ◌}
 use Rattle.std.proofs.lemmas.Int.{ints}
 use Rattle.std.proofs.lemmas.List.Sums.{sum_by-cons}
@@ -13,38 +13,8 @@ use Rattle.solomon_reader.specs.Relaxed.{IsRelaxed, IsLeast, IsNeighbour, rank, 
 use Rattle.solomon_reader.specs.ArcOrder.{inserted, none_in_empty, arc_cmp_total}
 use Rattle.solomon_reader.specs.Bound.{ceiling_of, IsLeafValue, version_1, version_2}
 use Rattle.solomon_reader.specs.Rows.{one_customer, narrow, revisits}
+use Rattle.solomon_reader.proofs.Narrow.{fitting_single, two_alone, no_repeat}
 use Rattle.solomon_reader.proofs.laws.worked_bounds.Goals as goal
-
-unit_demand : (a : ℕ) → IsCustomer narrow a → demand narrow a ≡ 1
-unit_demand zero h = absurd (omega (arith, h.0))
-unit_demand (suc zero) h = refl
-unit_demand (suc (suc zero)) h = refl
-unit_demand (suc (suc (suc a))) h = absurd (omega (arith, h.1))
-
-single : (a : ℕ) → IsCustomer narrow a → (a ≡ 1) ⊎ (a ≡ 2)
-single zero h = absurd (omega (arith, h.0))
-single (suc zero) h = inl refl
-single (suc (suc zero)) h = inr refl
-single (suc (suc (suc a))) h = absurd (omega (arith, h.1))
-
-fitting_single : (r : List ℕ) → IsFitting narrow r → (r ≡ 1 ∷ []) ⊎ (r ≡ 2 ∷ [])
-fitting_single [] fit = absurd (omega (arith, fit.some))
-fitting_single (a ∷ []) fit = elim (single a fit.known.0) [ inl e ↦ inl (ap (λ x. x ∷ []) e) | inr e ↦ inr (ap (λ x. x ∷ []) e) ]
-fitting_single (a ∷ b ∷ r) fit =
-    absurd (omega (arith, fit.load, sum_by-cons (demand narrow) a (b ∷ r), sum_by-cons (demand narrow) b r, unit_demand a fit.known.0, unit_demand b fit.known.1.0))
-
-two_alone : IsFitting narrow (2 ∷ [])
-unfolding distance distance_of root_of root_below
-two_alone = record {
-  some = omega arith;
-  known = ((omega arith, omega arith), tt);
-  load = omega arith;
-  walk = (200, record { times = 100 ∷ []; walks = (refl, omega arith, refl); closing = omega arith });
-}
-
-no_repeat : (k : ℕ) (x : ℕ) (front between back : List ℕ) (v : ℕ) → x ∷ [] ≡ front ++ (v ∷ (between ++ (v ∷ back))) → (w : ℕ) × Among w between × ¬ IsNeighbour narrow k w v
-no_repeat k x front between back v e =
-    absurd (omega (arith, ap length e, length-append front (v ∷ (between ++ (v ∷ back))), length-append between (v ∷ back)))
 
 abbrev with_first : Region
 with_first = used_child (root_region 2) (0, 1)
