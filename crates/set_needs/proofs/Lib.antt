@@ -1,0 +1,4 @@
+pub mod Tables
+pub mod Detours
+pub mod Leaving
+pub mod Subsets

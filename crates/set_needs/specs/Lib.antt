@@ -1,0 +1,2 @@
+pub mod Quickest
+pub mod Latest
