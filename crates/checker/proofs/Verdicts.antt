@@ -1,6 +1,6 @@
 -- What verdicts and refusals say of the texts, and of every plan: why routes are refused, and the verdict on three texts from what was found of each.
 use Rattle.std.proofs.Common.{◌≡◌, ℕ, List, arith, refl, ap, subst, inl, inr, sym, ◌∙◌}
-use Rattle.std.specs.Prelude.{Option, None, Some, option_map, option_copied, Result, Ok, Err, IfOk, IfErr, ◌⊎◌}
+use Rattle.std.specs.Prelude.{◌≢◌, Option, None, Some, option_map, option_copied, Result, Ok, Err, IfOk, IfErr, ◌⊎◌}
 use Rattle.std.proofs.lemmas.Bool.{cases_lt}
 use Rattle.solomon_reader.specs.Problem.{Problem, customer_count}
 use Rattle.solomon_reader.specs.Plan.{IsPlan, plan_cost}
@@ -11,14 +11,16 @@ use Rattle.sol_writer.specs.Text.{view}
 use Rattle.solomon_reader.specs.Layout.{IsInstance}
 use Rattle.solomon_reader.specs.CertificateText.{Certificate, Content, IsCertificateText, listed}
 use Rattle.solomon_reader.specs.Words.{words}
+use Rattle.solomon_reader.specs.Reading.{reading}
+use Rattle.solomon_reader.specs.declared.fault.ReadFault.{ReadFault}
+use Rattle.solomon_reader.specs.declared.fault.ReadFault.TheVariants as read
 use Rattle.solomon_reader.specs.DualityLaws.{tree_bound_holds, no_plan_above}
 use Rattle.solomon_reader.proofs.Takes.{reading_again}
 use Rattle.solomon_reader.proofs.Bounds.{one_tree_bound}
 use Rattle.checker.specs.declared.fault.CheckFault.{CheckFault}
-use Rattle.checker.specs.Plans.{defect_of}
 use Rattle.checker.specs.declared.verdict.Verdict.{Verdict}
 use Rattle.checker.specs.Checking.{Texts, Spelled, IsSolutionOf, AreTextsOf, IsFor, HasBound, Judges, RefusesBound, RefusesSolution, Refuses, Checks, IsRight, IsRightSolution, Means}
-use Rattle.checker.specs.Checking.{RefusesInstance, RefusesCertificate, RefusesSolutionText, RefusesTexts, RefusesPlan, RefusesContents}
+use Rattle.checker.specs.Checking.{IsFaultOfReader, RefusesInstance, RefusesCertificate, RefusesSolutionText, RefusesTexts, RefusesPlan, RefusesContents}
 use Rattle.checker.specs.declared.verdict.Verdict.TheVariants.{Best, Gap, NoPlan, BoundOnly}
 use Rattle.checker.specs.declared.fault.CheckFault.TheVariants as fault
 use Rattle.certificate.specs.Reading as certificate_reading
@@ -26,6 +28,11 @@ use Rattle.certificate.proofs.Again as certificate
 use Rattle.sol_writer.proofs.Again as solution
 
 -- ---- The verdict on three texts, from what was found of each.
+
+-- the first text is no instance
+pub instance_refused : (t : Texts) (f : ReadFault) (e : CheckFault) → IsFaultOfReader f e → (f ≢ read.Memory → reading (words t.instance) ≡ Err f) → Refuses t e
+instance_refused t f e (inl (is, told)) h = rw told (inl (inl tt))
+instance_refused t f e (inr (other, told)) h = rw told (inl (inl (h other, other)))
 
 module _ (t : Texts) (p : Problem) (x : Content) (s : Option Spelled) (instance : IsInstance t.instance p) (text : IsCertificateText t.certificate x) (is_solution : IsSolutionOf t.solution s) where
   are_texts : AreTextsOf t p text.certificate s
@@ -121,7 +128,7 @@ module _ (p : Problem) where
   plan_wrong (Some text) (Some s) is right fault.Memory h = tt
   plan_wrong (Some text) (Some s) is right (fault.PlanRefused why) h =
       let same = solution.one_text_each right.0 s.0 (plan_cost p right.0) s.1 right.2.shaped is.shaped (sym right.2.spelled ∙ is.spelled) in
-      absurd (no_plan p s.0 (defect_of why) h (subst (λ (routes : List (List ℕ)). IsPlan p routes) same.0 right.1))
+      absurd (no_plan p s.0 why h (subst (λ (routes : List (List ℕ)). IsPlan p routes) same.0 right.1))
   plan_wrong (Some text) (Some s) is right (fault.CostDiffers printed real) h =
       let same = solution.one_text_each right.0 s.0 (plan_cost p right.0) s.1 right.2.shaped is.shaped (sym right.2.spelled ∙ is.spelled) in
       absurd (h.3 (h.1 ∙ sym same.1 ∙ ap (plan_cost p) same.0 ∙ sym h.2))

@@ -5,10 +5,12 @@ use Rattle.solomon_reader.specs.Problem.{Problem, customer_count}
 use Rattle.solomon_reader.specs.Layout.{IsInstance}
 use Rattle.solomon_reader.specs.Reading.{reading}
 use Rattle.solomon_reader.specs.Plan.{IsPlan, plan_cost}
+use Rattle.solomon_reader.specs.PlanDefects.{IsLowestDefect}
 use Rattle.solomon_reader.specs.Bound.{ceiling_of, IsTreeBound}
 use Rattle.solomon_reader.specs.Duality.{IsBelowPlans, IsPlanCost}
 use Rattle.solomon_reader.specs.SolutionText.{IsSolutionText}
 use Rattle.solomon_reader.specs.CertificateText.{Certificate, IsCertificate, certificate_text, IsAccepted}
+use Rattle.solomon_reader.specs.declared.fault.ReadFault.{ReadFault}
 use Rattle.solomon_reader.specs.declared.fault.ReadFault.TheVariants as read
 use Rattle.certificate.specs.Reading as certificate
 use Rattle.certificate.specs.declared.fault.CertFault.TheVariants as cert
@@ -18,7 +20,6 @@ use Rattle.checker.specs.declared.fault.CheckFault.{CheckFault}
 use Rattle.checker.specs.declared.fault.CheckFault.TheVariants as fault
 use Rattle.checker.specs.declared.verdict.Verdict.{Verdict}
 use Rattle.checker.specs.declared.verdict.Verdict.TheVariants.{Best, Gap, NoPlan, BoundOnly}
-use Rattle.checker.specs.Plans.{IsRefusedFor}
 
 -- the texts that the checker is given; a solution may be left out
 pub record Texts : Type 0 where
@@ -87,6 +88,10 @@ Judges p bound (Some s) (Gap cost told) = IsPlan p s.0 × (s.1 ≡ plan_cost p s
 Judges p bound (Some s) NoPlan = ⊥
 Judges p bound (Some s) (BoundOnly told) = ⊥
 
+-- what is told of a fault of the instance's reader
+abbrev pub IsFaultOfReader : ReadFault → CheckFault → Type 0
+IsFaultOfReader f told = ((f ≡ read.Memory) × (told ≡ fault.Memory)) ⊎ ((f ≢ read.Memory) × (told ≡ fault.Instance f))
+
 -- why a text is no instance
 abbrev pub RefusesInstance : List ℕ → CheckFault → Type 0
 RefusesInstance text fault.Memory = Unit {0}
@@ -110,7 +115,7 @@ RefusesSolutionText (Some text) e = ⊥
 abbrev pub RefusesSolution : Problem → Option Spelled → CheckFault → Type 0
 RefusesSolution p None e = ⊥
 RefusesSolution p (Some s) fault.Memory = Unit {0}
-RefusesSolution p (Some s) (fault.PlanRefused why) = IsRefusedFor p s.0 why
+RefusesSolution p (Some s) (fault.PlanRefused why) = IsLowestDefect p s.0 why
 RefusesSolution p (Some s) (fault.CostDiffers printed real) = IsPlan p s.0 × (printed ≡ s.1) × (real ≡ plan_cost p s.0) × (printed ≢ real)
 RefusesSolution p (Some s) e = ⊥
 

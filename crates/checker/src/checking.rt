@@ -5,7 +5,7 @@ ghost use Rattle.solomon_reader.specs.Problem.{Problem};
 ghost use Rattle.solomon_reader.specs.Layout.{IsInstance};
 ghost use Rattle.solomon_reader.specs.CertificateText.{Certificate, IsCertificateText, listed};
 ghost use Rattle.sol_writer.specs.Text.{view};
-ghost use Rattle.checker.specs.Checking.{Checks, IsRight, Means, IsFor, HasBound, IsSolutionOf, Judges, RefusesInstance, RefusesCertificate, RefusesSolutionText, RefusesBound, RefusesSolution};
+ghost use Rattle.checker.specs.Checking.{Checks, IsRight, Means, IsFor, HasBound, IsSolutionOf, Judges, RefusesCertificate, RefusesSolutionText, RefusesBound, RefusesSolution};
 ghost use Rattle.checker.specs.declared.fault.CheckFault.TheVariants.{Memory, StateLimit};
 
 use crate::fault::CheckFault;
@@ -13,22 +13,10 @@ use crate::judging::plan_cost;
 use crate::verdict::Verdict;
 use certificate::{Cert, CertFault};
 use sol_writer::{Sol, SolFault};
-use solomon_reader::{Instance, ReadFault};
+use solomon_reader::Instance;
 use std::alloc::Global;
 use tenths::Tenths;
 use tree_bound::{BoundFault, bound};
-
-/// The instance that a text is.
-fn read_instance(alloc: Global, text: &[u8]) -> Result<Instance, CheckFault>
-    ensures found { IfOk result (λ i. IsInstance text.now i) }
-    ensures refused { IfErr result (RefusesInstance text.now) }
-{
-    match solomon_reader::read(alloc, text) {
-        Ok(instance) => Ok(instance),
-        Err(ReadFault::Memory) => Err(CheckFault::Memory),
-        Err(fault) => Err(CheckFault::Instance(fault)),
-    }
-}
 
 /// The certificate that a text is.
 fn read_certificate(alloc: Global, text: &[u8]) -> Result<Cert, CheckFault>
@@ -94,7 +82,7 @@ fn check_bound(
 fn judge_bound(instance: &Instance, bound: Tenths) -> Verdict
     ensures { Judges instance.now bound None result }
 {
-    if bound.get() == instance.ceiling().get() + 1 {
+    if bound.get() == u64::from(instance.above_ceiling()) {
         return Verdict::NoPlan;
     }
     Verdict::BoundOnly { bound }
@@ -153,7 +141,7 @@ fn check_texts(
       solution = option_map (λ t. t.now) sol.entry;
     }) result }
 {
-    let instance = read_instance(alloc, instance)?;
+    let instance = solomon_reader::read(alloc, instance)?;
     let cert = read_certificate(alloc, cert)?;
     let solution = read_solution(alloc, sol)?;
     check_bound(alloc, &instance, &cert, state_limit)?;

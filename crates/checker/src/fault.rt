@@ -5,37 +5,10 @@ ghost use Rattle.checker.specs.declared.fault.CheckFault.TheVariants.{Memory};
 
 use certificate::CertFault;
 use sol_writer::SolFault;
-use solomon_reader::ReadFault;
+use solomon_reader::{PlanFault, ReadFault};
 use std::alloc::{AllocError, AllocFailed};
 use tenths::Tenths;
 use thiserror::Error;
-
-/// Why routes are no plan. Of several that hold anywhere in the routes, the first in this order is
-/// told.
-#[derive(Clone, Copy, Debug, PartialEq, Eq, Error)]
-pub enum PlanWhy {
-    /// A route serves nobody.
-    #[error("EmptyRoute")]
-    EmptyRoute,
-    /// A route visits a number that is no customer's.
-    #[error("UnknownCustomer")]
-    UnknownCustomer,
-    /// A customer stands twice or more in the routes taken together.
-    #[error("Twice")]
-    Twice,
-    /// A customer stands in no route.
-    #[error("Missing")]
-    Missing,
-    /// The demands of a route are more than a vehicle holds.
-    #[error("OverCapacity")]
-    OverCapacity,
-    /// A route comes too late to a customer, or back to the depot.
-    #[error("Late")]
-    Late,
-    /// There are more routes than vehicles.
-    #[error("FleetExceeded")]
-    FleetExceeded,
-}
 
 /// Why the checker gives no verdict. The first is told in the order instance, certificate, solution,
 /// name, size, bound, plan, cost; `Memory` where a growth was refused, and `StateLimit` before the
@@ -65,7 +38,7 @@ pub enum CheckFault {
     BoundDiffers { printed: Tenths, derived: Tenths },
     /// The routes are no plan.
     #[error("PlanRefused: {0}")]
-    PlanRefused(PlanWhy),
+    PlanRefused(PlanFault),
     /// The printed cost isn't that of the plan.
     #[error("CostDiffers")]
     CostDiffers { printed: Tenths, real: Tenths },
@@ -88,5 +61,18 @@ impl<T: Drop> From<AllocFailed<T>> for CheckFault {
 
     fn from(_e: AllocFailed<T>) -> CheckFault {
         CheckFault::Memory
+    }
+}
+
+impl From<ReadFault> for CheckFault {
+    ghost use Rattle.checker.specs.Checking.{IsFaultOfReader};
+
+    ghost from_gives = { IsFaultOfReader };
+
+    fn from(fault: ReadFault) -> CheckFault {
+        match fault {
+            ReadFault::Memory => CheckFault::Memory,
+            fault => CheckFault::Instance(fault),
+        }
     }
 }

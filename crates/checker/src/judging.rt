@@ -9,10 +9,10 @@ ghost use Rattle.solomon_reader.specs.PlanDefects.{stops};
 ghost use Rattle.solomon_reader.specs.Lists.{lists};
 ghost use Rattle.checker.specs.Plans.{RefusesRoutes};
 
-use crate::fault::{CheckFault, PlanWhy};
+use crate::fault::CheckFault;
 use crate::serving::serve_once;
 use crate::walking::{drive, is_light};
-use solomon_reader::Instance;
+use solomon_reader::{Instance, PlanFault};
 use std::alloc::Global;
 use tenths::Tenths;
 
@@ -32,7 +32,7 @@ fn drive_all(instance: &Instance, routes: &[Vec<u16>]) -> Result<u128, CheckFaul
     let mut late = false;
     for route in routes {
         if !is_light(instance, route.as_slice()) {
-            return Err(CheckFault::PlanRefused(PlanWhy::OverCapacity));
+            return Err(CheckFault::PlanRefused(PlanFault::OverCapacity));
         }
         match drive(instance, route.as_slice()) {
             Some(arcs) => cost += u128::from(arcs),
@@ -40,7 +40,7 @@ fn drive_all(instance: &Instance, routes: &[Vec<u16>]) -> Result<u128, CheckFaul
         }
     }
     if late {
-        return Err(CheckFault::PlanRefused(PlanWhy::Late));
+        return Err(CheckFault::PlanRefused(PlanFault::Late));
     }
     Ok(cost)
 }
@@ -59,7 +59,7 @@ pub(crate) fn plan_cost(
     serve_once(alloc, instance, routes)?;
     let cost = drive_all(instance, routes)?;
     if routes.len() > usize::from(instance.fleet()) {
-        return Err(CheckFault::PlanRefused(PlanWhy::FleetExceeded));
+        return Err(CheckFault::PlanRefused(PlanFault::FleetExceeded));
     }
     let Some(cost) = Tenths::new(cost as u64) else {
         unreachable!()

@@ -1,5 +1,5 @@
 //! A checker of certificates and solutions, apart from the solver: it shares no code with it but the
-//! instance and the readers of the texts.
+//! instance, the readers of the texts and the names of a plan's faults.
 #![tactic(auto)]
 
 mod checking;
@@ -10,5 +10,6 @@ mod verdict;
 mod walking;
 
 pub use checking::check;
-pub use fault::{CheckFault, PlanWhy};
+pub use fault::CheckFault;
+pub use solomon_reader::PlanFault as PlanWhy;
 pub use verdict::Verdict;

@@ -9,8 +9,8 @@ ghost use Rattle.solomon_reader.specs.Lists.{lists};
 ghost use Rattle.checker.specs.Plans.{RefusesRoutes};
 ghost use Rattle.checker.specs.Counted.{AreCounted};
 
-use crate::fault::{CheckFault, PlanWhy};
-use solomon_reader::Instance;
+use crate::fault::CheckFault;
+use solomon_reader::{Instance, PlanFault};
 use std::alloc::{AllocError, Global};
 
 /// Counts of the numbers below this one, with nothing counted.
@@ -74,12 +74,12 @@ fn count_visits(
     let mut known = true;
     for route in routes {
         if route.is_empty() {
-            return Err(CheckFault::PlanRefused(PlanWhy::EmptyRoute));
+            return Err(CheckFault::PlanRefused(PlanFault::EmptyRoute));
         }
         known = known && count_stops(instance, &mut visits, route.as_slice());
     }
     if !known {
-        return Err(CheckFault::PlanRefused(PlanWhy::UnknownCustomer));
+        return Err(CheckFault::PlanRefused(PlanFault::UnknownCustomer));
     }
     Ok(visits)
 }
@@ -103,12 +103,12 @@ pub(crate) fn serve_once(
     for customer in 1..instance.customer_count() + 1 {
         let count = visits[usize::from(customer)];
         if count > 1 {
-            return Err(CheckFault::PlanRefused(PlanWhy::Twice));
+            return Err(CheckFault::PlanRefused(PlanFault::Twice));
         }
         missing = missing || count == 0;
     }
     if missing {
-        return Err(CheckFault::PlanRefused(PlanWhy::Missing));
+        return Err(CheckFault::PlanRefused(PlanFault::Missing));
     }
     Ok(())
 }

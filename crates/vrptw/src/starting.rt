@@ -1,16 +1,14 @@
 //! The plan to start from.
 
 ghost use Rattle.std.specs.Prelude.{◌≡◌, ◌≢◌, Some, IfOk, IfErr, option_map};
-ghost use Rattle.schedule.specs.Faults as schedule;
 ghost use Rattle.sol_writer.specs.Text.{view};
 ghost use Rattle.checker.specs.Checking.{RefusesSolution};
-ghost use Rattle.checker.specs.Plans as checker;
 ghost use Rattle.checker.specs.declared.fault.CheckFault.TheVariants.{Memory};
 ghost use Rattle.vrptw.specs.Starting.{IsStart, IsStartFault, IsPlanOf};
 
 use crate::answer::SolveFault;
-use checker::{CheckFault, PlanWhy};
-use schedule::{Feasible, PlanFault};
+use checker::CheckFault;
+use schedule::Feasible;
 use sol_writer::{Sol, SolFault};
 use solomon_reader::Instance;
 use std::alloc::Global;
@@ -38,21 +36,6 @@ impl From<SolveFault> for StartFault {
     }
 }
 
-/// Why the checker refuses routes with a fault.
-fn why_of(fault: PlanFault) -> PlanWhy
-    ensures { checker.defect_of result ≡ schedule.defect_of fault }
-{
-    match fault {
-        PlanFault::EmptyRoute => PlanWhy::EmptyRoute,
-        PlanFault::UnknownCustomer => PlanWhy::UnknownCustomer,
-        PlanFault::Twice => PlanWhy::Twice,
-        PlanFault::Missing => PlanWhy::Missing,
-        PlanFault::OverCapacity => PlanWhy::OverCapacity,
-        PlanFault::Late => PlanWhy::Late,
-        PlanFault::FleetExceeded => PlanWhy::FleetExceeded,
-    }
-}
-
 /// The plan that routes with a cost are.
 fn plan_of<'i>(instance: &'i Instance, solution: Sol) -> Result<Feasible<'i>, CheckFault>
     ensures plan { IfOk result (IsPlanOf instance.now (view solution)) }
@@ -62,7 +45,7 @@ fn plan_of<'i>(instance: &'i Instance, solution: Sol) -> Result<Feasible<'i>, Ch
     let printed = solution.cost;
     let plan = match Feasible::check(instance, solution.routes) {
         Ok(plan) => plan,
-        Err((_, fault)) => return Err(CheckFault::PlanRefused(why_of(fault))),
+        Err((_, fault)) => return Err(CheckFault::PlanRefused(fault)),
     };
     let real = plan.cost();
     if printed != real {

@@ -3,8 +3,13 @@ use Rattle.std.proofs.Common.{ap}
 use Rattle.std.specs.Prelude.{option_map}
 use Rattle.sol_writer.specs.Text.{view}
 use Rattle.solomon_reader.specs.CertificateText.{Content}
-use Rattle.checker.proofs.Verdicts.{bound_refused, lent, judged}
+use Rattle.checker.proofs.Verdicts.{instance_refused, bound_refused, lent, judged}
 use Rattle.checker.proofs.checking.check_texts.Goals as goal
+
+pub returns-in_err-instance : goal.returns-in_err-instance
+returns-in_err-instance c =
+    let p = err_from_is_err_and c.from_residual.result c.from_residual.ensures.1 in
+    rw p.1 (instance_refused _ c.in_err-instance.field-0.0 p.0 p.2 c.in_err-instance.ensures.exact)
 
 pub returns-in_err-check_bound : goal.returns-in_err-check_bound
 returns-in_err-check_bound c =

@@ -4,7 +4,7 @@ use Rattle.std.specs.declared.alloc.Global.{Global}
 use Rattle.std.specs.List.{Any}
 use Rattle.solomon_reader.specs.Plan.{HasWalk, load_of}
 use Rattle.solomon_reader.proofs.Planning.{Any-map, after_missing, after_overload}
-use Rattle.checker.proofs.Passes.{all_more, driven_more}
+use Rattle.solomon_reader.proofs.Passes.{all_more, driven_more}
 use Rattle.checker.proofs.judging.drive_all.Goals as goal
 use Rattle.checker.proofs.judging.drive_all.Goals.{in-Some, in-None}
 

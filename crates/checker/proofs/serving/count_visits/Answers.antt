@@ -5,7 +5,8 @@ use Rattle.std.specs.List.{Any}
 use Rattle.std.specs.declared.alloc.Global.{Global}
 use Rattle.solomon_reader.specs.Problem.{IsCustomer}
 use Rattle.solomon_reader.proofs.Planning.{Any-map, after_empty}
-use Rattle.checker.proofs.Passes.{all_more, known_more}
+use Rattle.solomon_reader.proofs.Passes.{all_more}
+use Rattle.checker.proofs.Passes.{known_more}
 use Rattle.checker.proofs.serving.count_visits.Goals as goal
 use Rattle.checker.proofs.serving.count_visits.Goals.{then-known, else-known}
 
