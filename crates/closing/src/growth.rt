@@ -38,13 +38,6 @@ pub(crate) struct Growth<'i> {
     pub(crate) is_stopped: bool,
 }
 
-/// The ceiling plus one, in tenths.
-fn above(instance: &Instance) -> u32
-    ensures { result ≡ ceiling_of instance.now + 1 }
-{
-    instance.ceiling().get() as u32 + 1
-}
-
 /// The lesser of a bound and a leaf's value.
 fn lesser(bound: u32, leaf: &Priced<'_>) -> u32
     ensures least { result ≡ min bound leaf.now.value }
@@ -79,14 +72,13 @@ impl<'i> Growth<'i> {
         ensures target { target_of result ≡ known_or_above instance.now (costs best.entry) }
     {
         bounds_hold();
-        let bound = above(instance);
         Growth {
             alloc,
             instance,
             limit,
             nodes: Vec::new(alloc),
             leaves: 1,
-            bound,
+            bound: instance.above_ceiling(),
             best,
             is_stopped: false,
         }
@@ -98,7 +90,7 @@ impl<'i> Growth<'i> {
     {
         match &self.best {
             Some(plan) => plan.cost().get(),
-            None => u64::from(above(self.instance)),
+            None => u64::from(self.instance.above_ceiling()),
         }
     }
 

@@ -34,7 +34,7 @@ impl<'i> Bounded<'i> {
     {
         Bounded {
             instance,
-            above: instance.ceiling().get() as u32 + 1,
+            above: instance.above_ceiling(),
         }
     }
 

@@ -14,5 +14,5 @@ pub(crate) fn fee_of(instance: &Instance) -> u64
     ensures value { result ≡ 1000 * (ceiling_of instance.now + 1) }
     ensures bound { result ≤ MOST_FEE }
 {
-    1_000 * (instance.ceiling().get() + 1)
+    1_000 * u64::from(instance.above_ceiling())
 }

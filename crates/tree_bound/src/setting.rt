@@ -54,7 +54,7 @@ impl<'i> Setting<'i> {
             network: Network::new(alloc, instance, parts.neighbours as u8, leaves)?,
             version: parts.version,
             routes: routes_counted(instance, parts.version),
-            most: instance.ceiling().get() as u32 + 1,
+            most: instance.above_ceiling(),
             state_limit,
         })
     }
