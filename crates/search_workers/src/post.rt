@@ -23,7 +23,7 @@ pub(crate) enum Role<'a, 'i> {
     },
 }
 
-/// A worker at a desk, with its role.
+/// A worker at a desk with its role: all that it takes into its thread.
 #[derive(Drop)]
 pub(crate) struct ReadyWorker<'a, 'i, R: Wait, J: Naming, G> {
     pub(crate) worker: Worker<'a, 'i, AtDesk<'a, 'i, R, J>, G>,

@@ -41,7 +41,7 @@ const PUSHES: usize = 1_000_000;
 /// The number of the root.
 const ROOT: u32 = 0;
 
-/// What a run is given.
+/// What a run is given: each of its steps needs nearly all of it.
 #[derive(Drop)]
 struct Input<'a, 'i, R, G> {
     rt: &'a R,
@@ -53,37 +53,28 @@ struct Input<'a, 'i, R, G> {
     gate: &'a G,
 }
 
-/// What all workers of a run share.
-#[derive(Drop)]
-struct Shared<'a, 'i, R: Wait, J: Naming, G> {
-    input: &'a Input<'a, 'i, R, G>,
-    desk: &'a Desk<'i, J>,
-    ceiling: &'a Ceiling,
-    deques: &'a [Thief],
-    plan: Option<&'a HeldPlan<'i>>,
-}
-
 /// The role of a worker: it raises the bound where it has the end of a deque, else it looks for plans by the random
 /// words of its number.
-fn role_of<'a, 'i, R: Wait, J: Naming, G>(
-    shared: &Shared<'a, 'i, R, J, G>,
+fn role_of<'a, 'i, R, G>(
+    input: &Input<'a, 'i, R, G>,
+    plan: Option<&'a HeldPlan<'i>>,
+    deques: &'a [Thief],
     number: u16,
     own: Option<Hand>,
     pass: Option<Pass>,
 ) -> Result<Role<'a, 'i>, AllocError>
-    requires { IfSome pass (λ p. All (λ t. FitsAt (deque_at t) p) shared.now.deques.now) }
-    ensures { IfOk result (DrawsFor shared.now.input.now.settings.now.seed number) }
+    requires { IfSome pass (λ p. All (λ t. FitsAt (deque_at t) p) deques.now) }
+    ensures { IfOk result (DrawsFor input.now.settings.now.seed number) }
 {
-    let input = shared.input;
     if let (Some(own), Some(pass)) = (own, pass) {
-        let plan = match shared.plan {
+        let plan = match plan {
             Some(held) => Some(&held.plan),
             None => None,
         };
-        let nodes = Nodes::new(input.alloc, input.nearness, plan, own, shared.deques, pass)?;
+        let nodes = Nodes::new(input.alloc, input.nearness, plan, own, deques, pass)?;
         return Ok(Role::Bound { nodes });
     }
-    let plan = match shared.plan {
+    let plan = match plan {
         Some(held) => Some(held.try_clone()?),
         None => None,
     };
@@ -91,45 +82,65 @@ fn role_of<'a, 'i, R: Wait, J: Naming, G>(
     Ok(Role::Search { plan, random })
 }
 
-/// What the workers of a run take, in the order of their numbers: a share and a seat each, and the last
-/// of them the end of a deque and what they steal by.
-#[derive(Drop)]
-struct Tools<J: Naming> {
-    shares: Vec<Share<J>>,
-    seats: Vec<CeilingSeat>,
-    hands: Vec<Hand>,
-    passes: Vec<Pass>,
+/// The roles of this many workers, the last first. The workers from 0 on search; the bound workers follow, each
+/// with the end of a deque and what it steals by.
+fn roles_of<'a, 'i, R, G>(
+    input: &Input<'a, 'i, R, G>,
+    plan: Option<&'a HeldPlan<'i>>,
+    deques: &'a [Thief],
+    mut hands: Vec<Hand>,
+    mut passes: Vec<Pass>,
+    workers: usize,
+) -> Result<Vec<Role<'a, 'i>>, AllocError>
+    requires few { workers ≤ 2 ^ 16 }
+    requires fits { All (λ p. All (λ t. FitsAt (deque_at t) p) deques.now) passes.items }
+    ensures { IfOk result (λ roles. vec_len roles ≡ workers) }
+{
+    let mut roles = Vec::with_capacity(input.alloc, workers)?;
+    while roles.len() < workers {
+        let number = (workers - 1 - roles.len()) as u16;
+        let role = role_of(input, plan, deques, number, hands.pop(), passes.pop())?;
+        roles.push_reserved(role);
+    }
+    Ok(roles)
 }
 
-/// The workers of a run, the last first. The workers from 0 on search; the bound workers follow.
+/// The workers of a run, the last first, with a share, a seat and a role each; the roles are listed so, too.
 fn post_workers<'a, 'i, R: Wait, J: Naming, G>(
-    shared: &Shared<'a, 'i, R, J, G>,
-    mut tools: Tools<J>,
+    input: &Input<'a, 'i, R, G>,
+    desk: &'a Desk<'i, J>,
+    ceiling: &'a Ceiling,
+    mut shares: Vec<Share<J>>,
+    mut seats: Vec<CeilingSeat>,
+    roles: Vec<Role<'a, 'i>>,
 ) -> Result<Vec<ReadyWorker<'a, 'i, R, J, G>>, AllocError>
-    requires few { vec_len tools.shares ≤ 2 ^ 16 }
-    requires seats { vec_len tools.seats ≡ vec_len tools.shares }
-    requires own { All (IsSeatOf shared.now.ceiling.now) tools.seats.items }
-    requires fits { All (λ p. All (λ t. FitsAt (deque_at t) p) shared.now.deques.now)
-        tools.passes.items }
-    ensures { IfOk result (λ crew. vec_len crew ≡ vec_len tools.shares) }
+    requires few { vec_len shares ≤ 2 ^ 16 }
+    requires seats { vec_len seats ≡ vec_len shares }
+    requires roles { vec_len roles ≡ vec_len shares }
+    requires own { All (IsSeatOf ceiling.now) seats.items }
+    ensures { IfOk result (λ crew. vec_len crew ≡ vec_len shares) }
 {
-    let input = shared.input;
-    let mut crew = Vec::with_capacity(input.alloc, tools.shares.len())?;
-    while let (Some(share), Some(seat)) = (tools.shares.pop(), tools.seats.pop()) {
-        let number = tools.shares.len() as u16;
-        let role = role_of(shared, number, tools.hands.pop(), tools.passes.pop())?;
+    let mut crew = Vec::with_capacity(input.alloc, shares.len())?;
+    for role in roles {
+        let Some(share) = shares.pop() else {
+            unreachable!()
+        };
+        let Some(seat) = seats.pop() else {
+            unreachable!()
+        };
+        let number = shares.len() as u16;
         crew.push_reserved(ReadyWorker {
             worker: Worker {
                 alloc: input.alloc,
                 instance: input.instance,
                 hub: AtDesk {
                     rt: input.rt,
-                    desk: shared.desk,
+                    desk,
                     share,
                 },
                 gate: input.gate,
                 number,
-                ceiling: shared.ceiling,
+                ceiling,
                 seat,
                 enough: input.settings.gap,
             },
@@ -169,28 +180,15 @@ fn work_together<'i, R: Threads + Wait + Sync, J: Naming + Send + Sync, G: Gate 
 {
     let cost = match gap.cost {
         Some(cost) => cost.get(),
-        None => input.instance.ceiling().get() + 1,
+        None => u64::from(input.instance.above_ceiling()),
     };
     let Ok((ceiling, seats)) = Ceiling::new(input.alloc, shares.len(), cost, gap.bound.get()) else {
         return Err(RunFault::Memory);
     };
     let (hands, thieves, passes) = deques(input.alloc, input.settings.bounders as usize)?;
-    let shared = Shared {
-        input,
-        desk,
-        ceiling: &ceiling,
-        deques: thieves.as_slice(),
-        plan,
-    };
-    let crew = post_workers(
-        &shared,
-        Tools {
-            shares,
-            seats,
-            hands,
-            passes,
-        },
-    )?;
+    let deques = thieves.as_slice();
+    let roles = roles_of(input, plan, deques, hands, passes, shares.len())?;
+    let crew = post_workers(input, desk, &ceiling, shares, seats, roles)?;
     all_at_once(input.rt, input.alloc, crew)
 }
 

@@ -6,12 +6,12 @@ ghost use Rattle.vrptw.specs.Closing.{AreWithin, Closes};
 ghost use Rattle.vrptw.specs.Starting.{IsAtMost, IsPlanAt, TellsFrom};
 
 use crate::answer::{Answer, SolveFault};
-use crate::solving::{Request, read_instance};
+use crate::solving::read_instance;
 use crate::starting::{StartFault, read_start};
 use crate::writing::write_found;
 use run_settings::Settings;
 use schedule::Feasible;
-use solomon_reader::MOST_LEAVES;
+use solomon_reader::{Instance, MOST_LEAVES};
 use std::alloc::Global;
 use tenths::Sink;
 
@@ -24,24 +24,21 @@ fn are_within(settings: &Settings, leaf_limit: u32) -> bool
 
 /// Closes an instance, from a plan if there is one, and writes what is found.
 fn close_instance<'i, X: Sink, Y: Sink>(
-    request: Request<'_, 'i>,
+    alloc: Global,
+    instance: &'i Instance,
     start: Option<Feasible<'i>>,
+    settings: &Settings,
     leaf_limit: u32,
     solution: &mut X,
     certificate: &mut Y,
 ) -> Result<Answer, SolveFault>
-    requires { IfSome start (IsPlanAt request.instance.now) }
-    ensures closed { (text : List ℕ) → IsInstance text request.entry.instance.now
-        → Closes text request.entry.settings.now leaf_limit
+    requires { IfSome start (IsPlanAt instance.now) }
+    ensures closed { (text : List ℕ) → IsInstance text instance.now
+        → Closes text settings.now leaf_limit
         (X.held solution.old) (X.held solution.new)
         (Y.held certificate.old) (Y.held certificate.new) result }
     ensures at_most { IfOk result (λ a. IfSome start.entry (λ f. IsAtMost f.cost a)) }
 {
-    let Request {
-        alloc,
-        instance,
-        settings,
-    } = request;
     if !are_within(settings, leaf_limit) {
         return Err(SolveFault::BadSettings);
     }
@@ -73,12 +70,15 @@ pub fn close<X: Sink, Y: Sink>(
         (Y.held certificate.old) (Y.held certificate.new) result }
 {
     let instance = &read_instance(alloc, text)?;
-    let request = Request {
+    close_instance(
         alloc,
         instance,
+        None,
         settings,
-    };
-    close_instance(request, None, leaf_limit, solution, certificate)
+        leaf_limit,
+        solution,
+        certificate,
+    )
 }
 
 /// What `close` does, from a plan whose text is given, if it is cheaper than what an insertion builds.
@@ -104,11 +104,14 @@ pub fn close_from<X: Sink, Y: Sink>(
 {
     let instance = &read_instance(alloc, text)?;
     let start = read_start(alloc, instance, start)?;
-    let request = Request {
+    let answer = close_instance(
         alloc,
         instance,
+        start,
         settings,
-    };
-    let answer = close_instance(request, start, leaf_limit, solution, certificate)?;
+        leaf_limit,
+        solution,
+        certificate,
+    )?;
     Ok(answer)
 }

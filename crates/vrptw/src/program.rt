@@ -21,13 +21,30 @@ use std::thread::Threads;
 use std::{fs, io};
 use tenths::{Sink, StdSink};
 
-/// How an instance is solved: within the settings, and where a number of leaves is given, by closing it
-/// with no more of them; and whether to tell how far the turns are.
+/// How an instance is solved, as it is handed on behind the words: the paths, the settings, the most leaves where it
+/// is closed, and whether to tell how far the turns are.
 #[derive(Clone, Copy)]
-struct Work<'a> {
+struct SolveJob<'a> {
+    instance: &'a str,
+    start: Option<&'a str>,
+    solution: &'a str,
+    certificate: &'a str,
     settings: &'a Settings,
     closing: Option<u32>,
     telling: Telling,
+}
+
+impl SolveJob<'_> {
+    /// Whether a file that is to be written is also to be read, or to be written again.
+    fn overwrite(&self) -> bool {
+        let is_read = |path: &str| {
+            is_same_path(self.instance, path)
+                || self.start.is_some_and(|start| is_same_path(start, path))
+        };
+        is_same_path(self.solution, self.certificate)
+            || is_read(self.solution)
+            || is_read(self.certificate)
+    }
 }
 
 /// Closes the instance of a text, or solves it, from a plan if there is one.
@@ -35,15 +52,15 @@ fn solve_text<R: Eprint + Threads + Wait + Sync, X: Sink, Y: Sink>(
     rt: &R,
     alloc: Global,
     (text, start): (&[u8], Option<&[u8]>),
-    work: Work<'_>,
+    job: SolveJob<'_>,
     solution: &mut X,
     certificate: &mut Y,
 ) -> Result<Answer, StartFault> {
-    let settings = work.settings;
-    if let Some(leaves) = work.closing {
+    let settings = job.settings;
+    if let Some(leaves) = job.closing {
         return close_from(alloc, text, start, settings, leaves, solution, certificate);
     }
-    let gate = ProgressGate::new(rt, settings, work.telling);
+    let gate = ProgressGate::new(rt, settings, job.telling);
     let answer = solve_from(
         rt,
         alloc,
@@ -56,28 +73,6 @@ fn solve_text<R: Eprint + Threads + Wait + Sync, X: Sink, Y: Sink>(
     );
     gate.end();
     answer
-}
-
-/// The paths of what is solved.
-#[derive(Clone, Copy)]
-struct Paths<'a> {
-    instance: &'a str,
-    start: Option<&'a str>,
-    solution: &'a str,
-    certificate: &'a str,
-}
-
-impl Paths<'_> {
-    /// Whether a file that is to be written is also to be read, or to be written again.
-    fn overwrite(&self) -> bool {
-        let is_read = |path: &str| {
-            is_same_path(self.instance, path)
-                || self.start.is_some_and(|start| is_same_path(start, path))
-        };
-        is_same_path(self.solution, self.certificate)
-            || is_read(self.solution)
-            || is_read(self.certificate)
-    }
 }
 
 /// The bytes of a file, if one is named.
@@ -93,27 +88,26 @@ fn read_if<R: Files + AllocGlobal>(rt: &R, path: Option<&str>) -> io::Result<Opt
 fn solve_files<R: Eprint + Files + AllocGlobal + Threads + Wait + Sync, X: Sink, Y: Sink>(
     rt: &R,
     alloc: Global,
-    paths: Paths<'_>,
-    work: Work<'_>,
+    job: SolveJob<'_>,
     out: &mut X,
     errors: &mut Y,
 ) -> u8 {
-    if paths.overwrite() {
+    if job.overwrite() {
         return file_fault(errors);
     }
-    let text = match fs::read(rt, paths.instance) {
+    let text = match fs::read(rt, job.instance) {
         Ok(text) => text,
         Err(error) => return open_fault(&error, errors),
     };
-    let start = match read_if(rt, paths.start) {
+    let start = match read_if(rt, job.start) {
         Ok(start) => start,
         Err(error) => return open_fault(&error, errors),
     };
-    let mut solution = match fs::create(rt, paths.solution) {
+    let mut solution = match fs::create(rt, job.solution) {
         Ok(file) => StdSink::new(file),
         Err(error) => return open_fault(&error, errors),
     };
-    let mut certificate = match fs::create(rt, paths.certificate) {
+    let mut certificate = match fs::create(rt, job.certificate) {
         Ok(file) => StdSink::new(file),
         Err(error) => return open_fault(&error, errors),
     };
@@ -122,7 +116,7 @@ fn solve_files<R: Eprint + Files + AllocGlobal + Threads + Wait + Sync, X: Sink,
         None => None,
     };
     let texts = (text.as_slice(), start);
-    match solve_text(rt, alloc, texts, work, &mut solution, &mut certificate) {
+    match solve_text(rt, alloc, texts, job, &mut solution, &mut certificate) {
         Err(fault) => start_fault(alloc, fault, errors),
         Ok(answer) => tell(&answer, out, errors),
     }
@@ -207,18 +201,16 @@ pub fn run_words<R: Eprint + Files + AllocGlobal + Threads + Wait + Sync, X: Sin
             progress,
             live,
         } => {
-            let paths = Paths {
+            let job = SolveJob {
                 instance,
                 start,
                 solution,
                 certificate,
-            };
-            let work = Work {
                 settings: &settings,
                 closing: close.then_some(leaves),
                 telling: telling_of(progress, live),
             };
-            solve_files(rt, alloc, paths, work, out, errors)
+            solve_files(rt, alloc, job, out, errors)
         }
         Job::Check {
             instance,

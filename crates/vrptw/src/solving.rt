@@ -31,35 +31,24 @@ pub(crate) fn read_instance(alloc: Global, text: &[u8]) -> Result<Instance, Solv
     }
 }
 
-/// What a run or a closing is given.
-#[derive(Clone, Copy)]
-pub(crate) struct Request<'a, 'i> {
-    pub(crate) alloc: Global,
-    pub(crate) instance: &'i Instance,
-    pub(crate) settings: &'a Settings,
-}
-
 /// Solves an instance, from a plan if there is one, and writes what is found.
 fn solve_instance<'i, R: Threads + Wait + Sync, G: Gate + Sync, X: Sink, Y: Sink>(
     rt: &R,
-    request: Request<'_, 'i>,
+    alloc: Global,
+    instance: &'i Instance,
     start: Option<Feasible<'i>>,
+    settings: &Settings,
     gate: &G,
     solution: &mut X,
     certificate: &mut Y,
 ) -> Result<Answer, SolveFault>
-    requires { IfSome start (IsPlanAt request.instance.now) }
-    ensures solved { (text : List ℕ) → IsInstance text request.entry.instance.now
-        → Solves text request.entry.settings.now
+    requires { IfSome start (IsPlanAt instance.now) }
+    ensures solved { (text : List ℕ) → IsInstance text instance.now
+        → Solves text settings.now
         (X.held solution.old) (X.held solution.new)
         (Y.held certificate.old) (Y.held certificate.new) result }
     ensures at_most { IfOk result (λ a. IfSome start.entry (λ f. IsAtMost f.cost a)) }
 {
-    let Request {
-        alloc,
-        instance,
-        settings,
-    } = request;
     let outcome = run_from(rt, alloc, instance, settings, gate, start)?;
     let found = found_by(alloc, outcome)?;
     let neighbours = settings.neighbours;
@@ -89,12 +78,16 @@ pub fn solve<R: Threads + Wait + Sync, G: Gate + Sync, X: Sink, Y: Sink>(
         (Y.held certificate.old) (Y.held certificate.new) result }
 {
     let instance = &read_instance(alloc, text)?;
-    let request = Request {
+    solve_instance(
+        rt,
         alloc,
         instance,
+        None,
         settings,
-    };
-    solve_instance(rt, request, None, gate, solution, certificate)
+        gate,
+        solution,
+        certificate,
+    )
 }
 
 /// What `solve` does, from a plan whose text is given, if it is cheaper than what an insertion builds. Then the
@@ -122,11 +115,15 @@ pub fn solve_from<R: Threads + Wait + Sync, G: Gate + Sync, X: Sink, Y: Sink>(
 {
     let instance = &read_instance(alloc, text)?;
     let start = read_start(alloc, instance, start)?;
-    let request = Request {
+    let answer = solve_instance(
+        rt,
         alloc,
         instance,
+        start,
         settings,
-    };
-    let answer = solve_instance(rt, request, start, gate, solution, certificate)?;
+        gate,
+        solution,
+        certificate,
+    )?;
     Ok(answer)
 }

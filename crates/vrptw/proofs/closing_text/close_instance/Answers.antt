@@ -4,5 +4,5 @@ use Rattle.vrptw.proofs.closing_text.close_instance.Goals as goal
 
 pub returns-clause-closed : goal.returns-clause-closed
 returns-clause-closed g c text is =
-    closed_text c.args.request.instance.now c.args.request.settings.now.neighbours c.args.leaf_limit c.in_ok-found.found c.in_ok-found.ensures.closed text c.args.request.settings.now _ _ _ _
+    closed_text c.args.instance.now c.args.settings.now.neighbours c.args.leaf_limit c.in_ok-found.found c.in_ok-found.ensures.closed text c.args.settings.now _ _ _ _
     is (c.are_within.ensures.0 c.if-not-are_within.false) refl c.write_found.result c.write_found.ensures
