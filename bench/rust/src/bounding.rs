@@ -3,8 +3,7 @@
 use crate::fronts::Nearness;
 use crate::insertion::{Weights, build_whole};
 use crate::leaf_work::{
-    ChildStart, Children, Effort, Goal, PricingState, Raised, RoutePool, branch, counted_routes, goal_of, raise,
-    start_from, start_without_plan,
+    ChildStart, Children, Effort, Goal, Parted, PricingState, RoutePool, counted_routes, first_leaf, goal_of, part, raise,
 };
 use crate::prices::Priced;
 use crate::shim::Global;
@@ -117,11 +116,8 @@ impl<'i> Tree<'i> {
         let routes = plan.as_ref().map(|plan| plan.routes());
         let looks = worth_of(instance) * (u64::from(turns) / PRICING_PART).max(LEAST_PRICING_TURNS);
         let labels = (looks / u64::from(instance.customer_count())).min(MOST_LABELS) as usize;
-        let Ok(root) = Priced::root(Global, instance, NEIGHBOURS, None) else { panic!("labels") };
-        let leaf = match routes {
-            Some(routes) => start_from(Global, nearness, root, routes, Some(labels)),
-            None => start_without_plan(Global, nearness, root, Some(labels)),
-        };
+        let first = first_leaf(Global, nearness, instance, NEIGHBOURS, plan.as_ref(), None, Some(labels));
+        let Ok(leaf) = first else { panic!("labels") };
         let bounder = |number| Bounder {
             pool: RoutePool::of_routes(Global, instance, routes.unwrap_or(&[])).unwrap(),
             state: PricingState::new(Global, nearness),
@@ -217,20 +213,20 @@ impl<'i> Tree<'i> {
         }
         let patience = self.instance.customer_count() / CUSTOMERS_OF_PATIENCE;
         let bounder = &mut self.bounders[number];
-        let Raised { priced: leaf, ascent } = raise(&mut bounder.pool, &mut bounder.state, leaf, open.start, &goal);
-        let is_raised = leaf.value() > before;
-        if leaf.value() >= target {
-            return Outcome::Raised(leaf);
+        let raised = raise(&mut bounder.pool, &mut bounder.state, leaf, open.start, &goal);
+        let is_raised = raised.priced.value() > before;
+        if raised.priced.value() >= target {
+            return Outcome::Raised(raised.priced);
         }
-        if leaf.region().is_root() {
+        if raised.priced.region().is_root() {
             bounder.idle = if is_raised { 0 } else { bounder.idle + 1 };
             bounder.current = (bounder.idle <= patience || number > 0).then_some(open.place);
         }
         if bounder.current.is_some() {
-            return if is_raised { Outcome::Raised(leaf) } else { Outcome::Same };
+            return if is_raised { Outcome::Raised(raised.priced) } else { Outcome::Same };
         }
-        match branch(&leaf, ascent.as_ref(), &mut bounder.pool, &mut bounder.state, Some(self.labels)) {
-            Ok(Some(children)) => Outcome::Split(children),
+        match part(&raised, &mut bounder.pool, &mut bounder.state, Some(self.labels)) {
+            Ok(Parted::Split(children)) => Outcome::Split(children),
             _ => Outcome::Settled,
         }
     }

@@ -2,7 +2,7 @@
 
 use crate::branching::Region;
 use crate::fronts::Nearness;
-use crate::labelling::least;
+use crate::labelling::{Hints, least};
 use crate::leaf_work::{Goal, PricingState, RoutePool, counted_routes, first_rise, raise};
 use crate::prices::Priced;
 use crate::shim::Global;
@@ -19,7 +19,9 @@ const MOST_LABELS: usize = 1_000_000;
 pub fn tell_ascent(instance: &Instance) {
     let nearness = Nearness::new(Global, instance, NEIGHBOURS).unwrap();
     for pricings in COUNTS {
-        let Ok(root) = Priced::root(Global, instance, NEIGHBOURS, Some(MOST_LABELS)) else { panic!("labels") };
+        let hints = Hints::near(Global, &nearness);
+        let root = Priced::root(Global, instance, NEIGHBOURS, Some(MOST_LABELS), &hints);
+        let Ok(root) = root else { panic!("labels") };
         let goal = Goal {
             rise: first_rise(instance, None),
             pricings,

@@ -5,13 +5,14 @@ ghost use Rattle.solomon_reader.specs.declared.limits.TheConstants.{MOST_LEAVES,
 ghost use Rattle.closing.specs.Closing.{IsClosed, IsLeftOpen, IsNoDearer};
 
 use crate::fault::{CloseAloneFault, MOST_CLOSED};
-use crate::first::{first_leaf, first_plan};
+use crate::first::first_plan;
 use crate::found::Found;
 use crate::growing::grow;
 use crate::growth::Growth;
 use crate::laws::depth_holds;
 use fronts::Nearness;
-use leaf_work::{PricingState, RoutePool};
+use labelling::LabelFault;
+use leaf_work::{PricingState, RoutePool, first_leaf};
 use schedule::Feasible;
 use solomon_reader::Instance;
 use std::alloc::Global;
@@ -62,7 +63,11 @@ pub fn close_from<'i>(
     }
     let plan = first_plan(alloc, instance, start)?;
     let nearness = Nearness::new(alloc, instance, neighbours)?;
-    let root = first_leaf(alloc, instance, neighbours, &nearness, plan.as_ref())?;
+    let root = match first_leaf(alloc, &nearness, instance, neighbours, plan.as_ref(), None, None) {
+        Ok(root) => root,
+        Err(LabelFault::Memory) => return Err(CloseAloneFault::Memory),
+        Err(LabelFault::LabelLimit) => unreachable!(),
+    };
     let mut growth = Growth::new(alloc, instance, leaf_limit, plan);
     let mut pool = RoutePool::of_routes(alloc, instance, growth.routes())?;
     let mut state = PricingState::new(alloc, &nearness);

@@ -1,18 +1,11 @@
-//! What a closing begins with: a plan, and prices at the root.
+//! The plan that a closing begins with.
 
 ghost use Rattle.std.specs.Prelude.{◌≡◌, ◌≤◌, IfOk, IfSome, MatchOption};
-ghost use Rattle.solomon_reader.specs.Problem.{customer_count};
-ghost use Rattle.solomon_reader.specs.Region.{root_region};
-ghost use Rattle.solomon_reader.specs.declared.limits.TheConstants.{MOST_NEIGHBOURS};
 ghost use Rattle.insertion.specs.Building.{IsServedAlone};
 ghost use Rattle.closing.specs.Closing.{known_or_above, costs};
 ghost use Rattle.search.specs.Searching.{plan_of};
 
-use fronts::Nearness;
 use insertion::{Weights, build_whole};
-use labelling::{Hints, LabelFault};
-use leaf_work::{start_from, start_without_plan};
-use prices::Priced;
 use rand_core::{Rng, SeedableRng};
 use rand_xoshiro::Xoshiro256PlusPlus;
 use schedule::{Feasible, cheaper};
@@ -98,30 +91,4 @@ pub(crate) fn first_plan<'i>(
         return Ok(None);
     };
     Ok(Some(search_from(alloc, plan, random)))
-}
-
-/// The root, with the prices that a plan says to start from, or without one those that may show that there
-/// is none; with prices of zero where these have no lower value. The tables of the instance are lent.
-pub(crate) fn first_leaf<'i>(
-    alloc: Global,
-    instance: &'i Instance,
-    neighbours: u32,
-    nearness: &Nearness<'_>,
-    plan: Option<&Feasible<'i>>,
-) -> Result<Priced<'i>, AllocError>
-    requires few { neighbours ≤ MOST_NEIGHBOURS }
-    ensures problem { IfOk result (λ f. f.problem ≡ instance.now) }
-    ensures region { IfOk result (λ f. f.region ≡ root_region (customer_count instance.now)) }
-    ensures neighbours { IfOk result (λ f. f.neighbours ≡ neighbours) }
-{
-    let hints = Hints::near(alloc, nearness);
-    let root = match Priced::root_by_hints(alloc, instance, neighbours, None, &hints) {
-        Ok(root) => root,
-        Err(LabelFault::Memory) => return Err(AllocError),
-        Err(LabelFault::LabelLimit) => unreachable!(),
-    };
-    match plan {
-        Some(plan) => Ok(start_from(alloc, nearness, root, plan.routes(), None)),
-        None => Ok(start_without_plan(alloc, nearness, root, None)),
-    }
 }

@@ -1,16 +1,17 @@
 //! The tree below a leaf.
 
-ghost use Rattle.std.specs.Prelude.{◌≡◌, ◌≤◌, false, IfOk, IfNone, IfSome, OnOk};
-ghost use Rattle.branching.specs.Choosing.{IsSettled};
-ghost use Rattle.leaf_work.specs.Branching.{AreChildren};
+ghost use Rattle.std.specs.Prelude.{◌≡◌, ◌+◌, ◌≤◌, false, IfOk, IfNone, IfSome, MatchOption, OnOk};
+ghost use Rattle.solomon_reader.specs.Bound.{ceiling_of};
 ghost use Rattle.closing.specs.Growing.{Grows, IsGrowth, IsSameTree, Splits, target_of};
 
 use crate::growth::Growth;
+use labelling::LabelFault;
 use leaf_work::{
-    Ascent, ChildStart, Children, Effort, Goal, PricingState, RoutePool, branch, counted_routes,
-    goal_of, met_plan, raise, settled_leaf,
+    ChildStart, Children, Effort, Goal, Parted, PricingState, Raised, RoutePool, counted_routes,
+    goal_of, met_plan, part, raise,
 };
-use prices::{PriceFault, Priced};
+use prices::Priced;
+use schedule::Feasible;
 use std::alloc::AllocError;
 
 /// The most pricings at the root.
@@ -44,72 +45,65 @@ fn offer_routes(growth: &mut Growth<'_>, pool: &RoutePool) -> Result<(), AllocEr
     Ok(())
 }
 
-/// The children of a leaf, or nothing where every arc that its region allows is required.
-fn children<'i>(
-    leaf: &Priced<'i>,
-    ascent: Option<&Ascent>,
-    pool: &mut RoutePool,
-    state: &mut PricingState<'_>,
-) -> Result<Option<Children<'i>>, AllocError>
-    ensures settled { IfOk result (λ found. IfNone found (IsSettled leaf.now.region)) }
-    ensures children { IfOk result (λ found. IfSome found (AreChildren leaf.now)) }
-{
-    match branch(leaf, ascent, pool, state, None) {
-        Ok(found) => Ok(found),
-        Err(PriceFault::Memory) => Err(AllocError),
-        Err(_) => unreachable!(),
-    }
-}
-
-/// Lists a leaf whose region leaves no arc open, at the cost of the plans that obey it, and takes one of
-/// them where it is cheaper than the best.
-fn settle<'i>(leaf: &Priced<'i>, growth: &mut Growth<'i>) -> Result<(), AllocError>
+/// Takes the plan of a leaf whose region leaves no arc open where it is cheaper than the best, and lists the leaf, whose
+/// value is the plan's cost, or above the ceiling without a plan.
+fn settle<'i>(
+    settled: &Priced<'i>,
+    plan: Option<Feasible<'i>>,
+    growth: &mut Growth<'i>,
+) -> Result<(), AllocError>
     requires growth { IsGrowth growth.old }
     requires going { growth.old.is_stopped ≡ false }
-    requires own { leaf.now.problem ≡ growth.old.instance.now }
-    requires settled { IsSettled leaf.now.region }
+    requires own { settled.now.problem ≡ growth.old.instance.now }
+    requires feasible { IfSome plan (λ f. f.problem ≡ growth.old.instance.now) }
+    requires value { MatchOption plan (ceiling_of growth.old.instance.now + 1 ≤ settled.now.value)
+        (λ f. settled.now.value ≡ f.cost) }
     ensures growth { OnOk result (IsGrowth growth.new) }
-    ensures grows { OnOk result (Grows leaf.now.neighbours leaf.now.region growth.old growth.new) }
+    ensures grows { OnOk result (Grows settled.now.neighbours settled.now.region growth.old
+        growth.new) }
     ensures leaves { OnOk result (growth.new.leaves ≡ growth.old.leaves) }
     ensures least { target_of growth.new ≤ target_of growth.old }
 {
-    let region = leaf.region().try_clone()?;
-    let neighbours = leaf.neighbours();
-    let (settled, plan) = settled_leaf(growth.alloc, growth.instance, region, neighbours)?;
     if let Some(plan) = plan {
         growth.offer(plan);
     }
-    growth.lay_aside(&settled)
+    growth.lay_aside(settled)
 }
 
 /// Takes the routes met where they are a cheaper plan, and lists a leaf whose value reaches the target.
 /// Splits another by the arc that the routes met leave most open, as long as there may be more leaves,
 /// and answers the children; or lists the leaf.
 fn work_at<'i>(
-    leaf: &Priced<'i>,
-    ascent: Option<&Ascent>,
+    raised: &Raised<'i>,
     growth: &mut Growth<'i>,
     pool: &mut RoutePool,
     state: &mut PricingState<'_>,
 ) -> Result<Option<Children<'i>>, AllocError>
     requires growth { IsGrowth growth.old }
     requires going { growth.old.is_stopped ≡ false }
-    requires own { leaf.now.problem ≡ growth.old.instance.now }
+    requires own { raised.now.priced.problem ≡ growth.old.instance.now }
     ensures growth { OnOk result (IsGrowth growth.new) }
     ensures listed { IfOk result (λ found. IfNone found
-        (Grows leaf.now.neighbours leaf.now.region growth.old growth.new)) }
+        (Grows raised.now.priced.neighbours raised.now.priced.region growth.old growth.new)) }
     ensures leaves { IfOk result (λ found. IfNone found (growth.new.leaves ≡ growth.old.leaves)) }
-    ensures split { IfOk result (λ found. IfSome found (Splits leaf.now growth.old growth.new)) }
+    ensures split { IfOk result (λ found. IfSome found
+        (Splits raised.now.priced growth.old growth.new)) }
     ensures least { target_of growth.new ≤ target_of growth.old }
 {
     offer_routes(growth, pool)?;
+    let leaf = &raised.priced;
     if leaf.value() >= i128::from(growth.target()) {
         growth.lay_aside(leaf)?;
         return Ok(None);
     }
-    let Some(children) = children(leaf, ascent, pool, state)? else {
-        settle(leaf, growth)?;
-        return Ok(None);
+    let children = match part(raised, pool, state, None) {
+        Ok(Parted::Split(children)) => children,
+        Ok(Parted::Settled(settled, plan)) => {
+            settle(&settled, plan, growth)?;
+            return Ok(None);
+        }
+        Err(LabelFault::Memory) => return Err(AllocError),
+        Err(LabelFault::LabelLimit) => unreachable!(),
     };
     if growth.leaves >= growth.limit {
         growth.stop_at(leaf)?;
@@ -139,7 +133,7 @@ fn raise_and_work<'i>(
 {
     let goal = goal_at(&leaf, growth);
     let raised = raise(pool, state, leaf, start, &goal);
-    work_at(&raised.priced, raised.ascent.as_ref(), growth, pool, state)
+    work_at(&raised, growth, pool, state)
 }
 
 /// Lists the tree below a leaf, whose ascent starts where it was tried as a child, if it was. It grows first

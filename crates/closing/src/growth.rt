@@ -43,12 +43,7 @@ fn lesser(bound: u32, leaf: &Priced<'_>) -> u32
     ensures least { result ≡ min bound leaf.now.value }
     ensures valued { IsValued leaf.now }
 {
-    let value = leaf.value();
-    if value < i128::from(bound) {
-        value as u32
-    } else {
-        bound
-    }
+    leaf.tenths().min(u128::from(bound)) as u32
 }
 
 impl<'i> Growth<'i> {

@@ -48,13 +48,6 @@ fn offer_of(worker: u16, cost: Tenths, better: bool) -> Event
     }
 }
 
-/// The value of prices, in tenths.
-fn value_of(priced: &Priced<'_>) -> u128
-    ensures { result ≡ priced.now.value }
-{
-    priced.value() as u128
-}
-
 impl<'i, J: Naming> Locked<'i, J> {
     /// A book whose history the totals have counted.
     pub(crate) fn new(book: Book<'i>, totals: Totals<J>) -> Locked<'i, J>
@@ -108,7 +101,7 @@ impl<'i, J: Naming> Locked<'i, J> {
         ensures { Reprices J.problem J.neighbours mine.old leaf priced.entry result mine.new }
     {
         let worker = mine.worker();
-        let value = value_of(&priced);
+        let value = priced.tenths();
         self.book.reprice(worker, leaf, priced)?;
         let event = Event::Repriced {
             worker,
@@ -132,7 +125,7 @@ impl<'i, J: Naming> Locked<'i, J> {
             (pair arc) used.entry unused.entry result mine.new }
     {
         let worker = mine.worker();
-        let values = (value_of(&used), value_of(&unused));
+        let values = (used.tenths(), unused.tenths());
         let made = self.book.split(worker, leaf, arc, used, unused)?;
         let event = Event::Split {
             worker,

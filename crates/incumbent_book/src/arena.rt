@@ -2,7 +2,6 @@
 
 ghost use Rattle.std.specs.Prelude.{◌≡◌, ◌≢◌, ◌+◌, ◌<◌, ◌≤◌, ℕ, ◌/◌, ◌^◌, ◌++◌, ◌∷◌, [], length, map, Some, None, IsSome, IfOk, IfErr, OnOk, OnErr, MatchOption, option_map, slice_set, vec_len};
 ghost use Rattle.std.specs.Vec.{vec_capacity};
-ghost use Rattle.prices.specs.ValuedPrices.{IsValued};
 ghost use Rattle.incumbent_book.specs.Arena.{leaf_at, new_leaf, WithLeaf, IsLeastOf};
 ghost use Rattle.branching.specs.Nodes.{node_of};
 ghost use Rattle.incumbent_book.specs.Forward.{IsForward, GrowsIn};
@@ -43,14 +42,6 @@ impl<'i> Model for Arena<'i> {
     ghost invariant = { λ a. IsIndex a.nodes.items a.index };
 }
 
-/// The value of prices.
-pub(crate) fn value_of(priced: &Priced<'_>) -> u128
-    ensures value { result ≡ priced.now.value }
-    ensures valued { IsValued priced.now }
-{
-    priced.value() as u128
-}
-
 /// The node of a leaf with these prices, above which this many splits stand.
 fn open_node<'i>(depth: u32, priced: Priced<'i>) -> Node<'i>
     ensures { result ≡ Open (new_leaf depth priced.entry) }
@@ -79,7 +70,7 @@ impl<'i> Arena<'i> {
             return Err(root);
         }
         let mut index = BTreeSet::new(alloc);
-        if index.insert((value_of(&root), 0)).is_err() {
+        if index.insert((root.tenths(), 0)).is_err() {
             return Err(root);
         }
         put(&mut nodes, open_node(0, root));
@@ -133,8 +124,8 @@ impl<'i> Arena<'i> {
             unreachable!()
         };
         let depth = leaf.depth;
-        let old = (value_of(&leaf.priced), number);
-        let new = (value_of(&priced), number);
+        let old = (leaf.priced.tenths(), number);
+        let new = (priced.tenths(), number);
         match replace(&mut self.index, old, new) {
             Ok(()) => {
                 self.nodes[number as usize] = open_node(depth, priced);
@@ -168,14 +159,14 @@ impl<'i> Arena<'i> {
             unreachable!()
         };
         let depth = leaf.depth + 1;
-        let old = (value_of(&leaf.priced), number);
+        let old = (leaf.priced.tenths(), number);
         let first = self.nodes.len() as u32;
         let second = first + 1;
         if make_room(&mut self.nodes, 2).is_err() {
             return Err((used, unused));
         }
-        let used_entry = (value_of(&used), first);
-        let unused_entry = (value_of(&unused), second);
+        let used_entry = (used.tenths(), first);
+        let unused_entry = (unused.tenths(), second);
         match replace_by_two(&mut self.index, old, used_entry, unused_entry) {
             Ok(()) => {
                 self.nodes[number as usize] = Node::Split {

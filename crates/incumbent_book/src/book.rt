@@ -11,7 +11,7 @@ ghost use Rattle.solomon_reader.specs.History.{IsBound};
 ghost use Rattle.incumbent_book.specs.Contents.{limits_of, past_of, IsBook};
 ghost use Rattle.incumbent_book.specs.Replies.{Opens, Offers, Reprices, Splits, Shows, IsOptimalityGap};
 
-use crate::arena::{Arena, value_of};
+use crate::arena::Arena;
 use crate::bounded::Bounded;
 use crate::event::Event;
 use crate::fault::{BookFault, OpenFault};
@@ -101,7 +101,7 @@ impl<'i> Book<'i> {
         }
         let bounded = Bounded::new(root.instance());
         let neighbours = root.neighbours();
-        let value = value_of(&root);
+        let value = root.tenths();
         let Ok(history) = Vec::with_capacity(alloc, FIRST_ROOM) else {
             return Err((root, OpenFault::Memory));
         };

@@ -8,7 +8,6 @@ ghost use Rattle.solomon_reader.specs.History.{leaf_count};
 ghost use Rattle.incumbent_book.specs.Keeping.{IsLeafOf};
 ghost use Rattle.incumbent_book.specs.Faults.{IsFirstFault, IsAt, AreChildren, offer, reprice, split};
 
-use crate::arena::value_of;
 use crate::book::Book;
 use crate::fault::BookFault;
 use crate::node::Leaf;
@@ -126,7 +125,7 @@ impl<'i> Book<'i> {
         if !self.is_at(old, priced) {
             return Some(BookFault::WrongRegion);
         }
-        if value_of(priced) <= value_of(&old.priced) {
+        if priced.tenths() <= old.priced.tenths() {
             return Some(BookFault::NotHigher);
         }
         None
@@ -157,7 +156,7 @@ impl<'i> Book<'i> {
         if !self.are_children(old, arc, used, unused) {
             return Some(BookFault::WrongRegion);
         }
-        if value_of(used).min(value_of(unused)) < value_of(&old.priced) {
+        if used.tenths().min(unused.tenths()) < old.priced.tenths() {
             return Some(BookFault::Lower);
         }
         if !self.has_leaves_left() {

@@ -8,7 +8,6 @@ ghost use Rattle.incumbent_book.specs.Contents.{event_of, past_of};
 ghost use Rattle.incumbent_book.specs.Faults.{IsAccepted, reprice, split};
 ghost use Rattle.incumbent_book.specs.Replies.{Offers, Reprices, Splits, with_offer, with_incumbent};
 
-use crate::arena::value_of;
 use crate::book::Book;
 use crate::event::Event;
 use crate::fault::BookFault;
@@ -130,7 +129,7 @@ impl<'i> Book<'i> {
         if make_room(&mut self.history, 1).is_err() {
             return Err((priced, BookFault::Memory));
         }
-        let value = value_of(&priced);
+        let value = priced.tenths();
         match self.arena.reprice(leaf, priced) {
             Ok(()) => {
                 let event = Event::Repriced {
@@ -160,7 +159,7 @@ impl<'i> Book<'i> {
         if make_room(&mut self.history, 1).is_err() {
             return Err((used, unused, BookFault::Memory));
         }
-        let values = (value_of(&used), value_of(&unused));
+        let values = (used.tenths(), unused.tenths());
         match self.arena.split(leaf, arc, used, unused) {
             Ok(made) => {
                 let event = Event::Split {

@@ -9,7 +9,7 @@ use branching::Region;
 use certificate::Cert;
 use checker::check;
 use insertion::{Built, Weights, build};
-use labelling::least;
+use labelling::{Hints, least};
 use moves::{Move, Place, apply};
 use prices::{Priced, improve};
 use schedule::Feasible;
@@ -128,8 +128,9 @@ fn tell_least<R: Host>(rt: &R, instance: &Instance) -> io::Result<()> {
 
 /// Improves the prices of two roots, and prints the best that were found.
 fn tell_improved<R: Host>(rt: &R, instance: &Instance) -> io::Result<()> {
-    let priced = made(Priced::root(rt.alloc(), instance, 1, None).ok())?;
-    let other = made(Priced::root(rt.alloc(), instance, 1, None).ok())?;
+    let hints = Hints::none(rt.alloc());
+    let priced = made(Priced::root(rt.alloc(), instance, 1, None, &hints).ok())?;
+    let other = made(Priced::root(rt.alloc(), instance, 1, None, &hints).ok())?;
     println!(rt; "ready")?;
     for priced in [priced, other] {
         let best = improve(rt.alloc(), priced, &STEPS, None);

@@ -1,3 +1,4 @@
 pub mod Branching
 pub mod Gathering
 pub mod Settling
+pub mod Parting

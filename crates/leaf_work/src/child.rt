@@ -7,16 +7,17 @@ ghost use Rattle.solomon_reader.specs.Region.{IsUndecided, used_child, unused_ch
 ghost use Rattle.solomon_reader.specs.CertificateText.{IsPrice};
 ghost use Rattle.branching.specs.Arcs.{pair};
 ghost use Rattle.branching.specs.Choosing.{IsSettled};
+ghost use Rattle.labelling.specs.declared.fault.LabelFault.TheVariants.{LabelLimit};
 ghost use Rattle.prices.specs.Narrowing.{IsNarrower};
-ghost use Rattle.prices.specs.declared.fault.PriceFault.TheVariants.{LabelLimit, PriceRange};
 ghost use Rattle.leaf_work.specs.Branching.{AreChildren, IsPricedAt};
 
 use crate::pricing::price;
 use crate::trying::{TriedArc, best_arc};
 use branching::{Arc, Region, RegionFault};
+use labelling::LabelFault;
 use pooled_routes::{Child, GRAINS_OF_TENTH};
 use price_way::{Ascent, ChildStart, PricingState, RoutePool};
-use prices::{PriceFault, Priced};
+use prices::Priced;
 use solomon_reader::Instance;
 use std::alloc::{AllocError, Global};
 
@@ -73,10 +74,9 @@ fn price_child<'i>(
     leaf: &Priced<'i>,
     region: &Region,
     labels: Option<usize>,
-) -> Result<Priced<'i>, PriceFault>
+) -> Result<Priced<'i>, LabelFault>
     requires { IsNarrower region.now leaf.now.region }
     ensures priced { IfOk result (IsPricedAt region.now leaf.now) }
-    ensures in_range { IfErr result (λ e. e ≢ PriceRange) }
     ensures unlimited { IfErr result (λ e. e ≡ LabelLimit → labels ≢ None) }
 {
     let child = match narrow(leaf, region)? {
@@ -151,16 +151,15 @@ fn starts_of(
 /// worth one by that which they leave most open; nothing where every arc that the leaf's region allows is required. That
 /// no value falls is for the book to see. At most this many labels may be active at once in a pricing, if there is a
 /// limit; `LabelLimit` where they don't suffice, and `Memory`.
-pub fn branch<'i>(
+pub(crate) fn branch<'i>(
     leaf: &Priced<'i>,
     ascent: Option<&Ascent>,
     pool: &mut RoutePool,
     state: &mut PricingState<'_>,
     labels: Option<usize>,
-) -> Result<Option<Children<'i>>, PriceFault>
+) -> Result<Option<Children<'i>>, LabelFault>
     ensures settled { IfOk result (λ found. IfNone found (IsSettled leaf.now.region)) }
     ensures children { IfOk result (λ found. IfSome found (AreChildren leaf.now)) }
-    ensures in_range { IfErr result (λ e. e ≢ PriceRange) }
     ensures unlimited { IfErr result (λ e. e ≡ LabelLimit → labels ≢ None) }
 {
     let tried = match ascent {

@@ -1,46 +1,63 @@
-//! Leaves that are closed for good.
+//! What a leaf comes to whose raised value stays below the cost to reach.
 
-ghost use Rattle.std.specs.Prelude.{◌≡◌, ◌+◌, ◌≤◌, IfOk, IfSome, MatchOption};
-ghost use Rattle.solomon_reader.specs.Problem.{customer_count};
-ghost use Rattle.solomon_reader.specs.Bound.{ceiling_of};
-ghost use Rattle.solomon_reader.specs.declared.limits.TheConstants.{MOST_NEIGHBOURS};
+ghost use Rattle.std.specs.Prelude.{◌≡◌, ◌≢◌, None, IfOk, IfErr};
+ghost use Rattle.labelling.specs.declared.fault.LabelFault.TheVariants.{LabelLimit};
 ghost use Rattle.branching.specs.Choosing.{IsSettled};
-ghost use Rattle.prices.specs.ValuedPrices.{IsValued};
-ghost use Rattle.leaf_work.specs.Settling.{IsSettledBy};
+ghost use Rattle.leaf_work.specs.Parting.{IsParted};
 
+use crate::child::{Children, branch};
+use crate::pricing::price_alone;
+use crate::raising::Raised;
 use crate::settling::settle;
-use branching::Region;
-use prices::{PriceFault, Priced};
+use labelling::LabelFault;
+use price_way::{PricingState, RoutePool};
+use prices::Priced;
 use schedule::Feasible;
-use solomon_reader::Instance;
-use std::alloc::{AllocError, Global};
 
-/// The leaf of a region whose allowed arcs are all required, with the plan that obeys it. The leaf's
-/// value is the plan's cost in tenths, which is that of every plan that obeys the region; without a
-/// plan it is above the ceiling, and no plan obeys the region. `AllocError` where memory was refused.
-pub fn settled_leaf<'i>(
-    alloc: Global,
-    instance: &'i Instance,
-    region: Region,
-    neighbours: u32,
-) -> Result<(Priced<'i>, Option<Feasible<'i>>), AllocError>
-    requires settled { IsSettled region }
-    requires size { region.size ≡ customer_count instance.now }
-    requires few { neighbours ≤ MOST_NEIGHBOURS }
-    ensures problem { IfOk result (λ l. l.0.problem ≡ instance.now) }
-    ensures region { IfOk result (λ l. l.0.region ≡ region) }
-    ensures neighbours { IfOk result (λ l. l.0.neighbours ≡ neighbours) }
-    ensures priced { IfOk result (λ l. IsValued l.0) }
-    ensures plan { IfOk result (λ l. IfSome l.1 (λ f. f.problem ≡ instance.now)) }
-    ensures value { IfOk result (λ l. MatchOption l.1 (ceiling_of instance.now + 1 ≤ l.0.value)
-        (λ f. l.0.value ≡ f.cost)) }
-    ensures all_plans { IfOk result (λ l. IsSettledBy instance.now region l.0.value l.1) }
+/// What a leaf comes to.
+#[derive(Drop)]
+pub enum Parted<'i> {
+    /// Its children by an arc.
+    Split(Children<'i>),
+    /// The leaf itself, where every arc that its region allows is required, with the plan that obeys it. The leaf's
+    /// value is the plan's cost in tenths, which is that of every plan that obeys the region; without a plan it is
+    /// above the ceiling, and no plan obeys the region.
+    Settled(Priced<'i>, Option<Feasible<'i>>),
+}
+
+/// A leaf whose region leaves no arc open, with the value of its plans.
+fn settle_leaf<'i>(
+    leaf: &Priced<'i>,
+    state: &PricingState<'_>,
+) -> Result<Parted<'i>, LabelFault>
+    requires { IsSettled leaf.now.region }
+    ensures parted { IfOk result (IsParted leaf.now) }
+    ensures unlimited { IfErr result (λ e. e ≢ LabelLimit) }
 {
-    let (prices, plan) = settle(alloc, instance, &region)?;
-    match Priced::of(alloc, instance, region, neighbours, prices, None) {
-        Ok(leaf) => Ok((leaf, plan)),
-        Err((_, _, PriceFault::Memory)) => Err(AllocError),
-        // labels aren't limited, and the prices are in range
-        Err((_, _, PriceFault::LabelLimit | PriceFault::PriceRange)) => unreachable!(),
+    let (prices, plan) = settle(state.alloc, leaf.instance(), leaf.region())?;
+    let task = leaf.task().with(prices)?;
+    let settled = price_alone(state.alloc, state.nearness, task, None)?;
+    Ok(Parted::Settled(settled, plan))
+}
+
+/// A leaf's children by the arc that promises most, or where none is open the leaf with the value of its plans. At most
+/// this many labels may be active at once in a pricing of a child, if there is a limit; `LabelLimit` where they don't
+/// suffice, and `Memory`.
+pub fn part<'i>(
+    raised: &Raised<'i>,
+    pool: &mut RoutePool,
+    state: &mut PricingState<'_>,
+    labels: Option<usize>,
+) -> Result<Parted<'i>, LabelFault>
+    ensures parted { IfOk result (IsParted raised.now.priced) }
+    ensures unlimited { IfErr result (λ e. e ≡ LabelLimit → labels ≢ None) }
+{
+    let Raised {
+        priced: leaf,
+        ascent,
+    } = raised;
+    match branch(leaf, ascent.as_ref(), pool, state, labels)? {
+        Some(children) => Ok(Parted::Split(children)),
+        None => settle_leaf(leaf, state),
     }
 }

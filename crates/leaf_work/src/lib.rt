@@ -8,6 +8,7 @@ mod chain;
 mod child;
 mod effort;
 mod fee;
+mod first;
 mod gathering;
 mod leaf;
 mod pool_plan;
@@ -20,13 +21,12 @@ mod settling;
 mod starting;
 mod trying;
 
-pub use child::{Children, branch};
+pub use child::Children;
 pub use effort::{Effort, goal_of};
-pub use leaf::settled_leaf;
+pub use first::first_leaf;
+pub use leaf::{Parted, part};
 pub use pool_plan::met_plan;
 pub use price_way::{
     Ascent, ChildStart, Goal, PricingState, RoutePool, counted_routes, first_rise,
 };
 pub use raising::{Raised, raise};
-pub use refuting::start_without_plan;
-pub use starting::start_from;

@@ -1,11 +1,14 @@
 //! Pricings for the leaves that a pool serves.
 
 ghost use Rattle.std.specs.Prelude.{◌≡◌, ◌≢◌, None, IfOk, IfErr};
-ghost use Rattle.prices.specs.declared.fault.PriceFault.TheVariants.{LabelLimit, PriceRange};
+ghost use Rattle.labelling.specs.declared.fault.LabelFault.TheVariants.{LabelLimit};
+ghost use Rattle.prices.specs.ValuedPrices.{IsValued};
 
-use labelling::{Hints, PricingTask};
+use fronts::Nearness;
+use labelling::{Hints, Kept, LabelFault, PricingTask};
 use price_way::{PricingState, RoutePool};
-use prices::{PriceFault, Priced};
+use prices::Priced;
+use std::alloc::Global;
 
 /// A task's prices with their value. The pool says which of its routes costs least there, and takes in the
 /// cheaper ones that the pricing meets; the state, how much work it was.
@@ -14,12 +17,11 @@ pub(crate) fn price<'i>(
     state: &mut PricingState<'_>,
     task: PricingTask<'i>,
     labels: Option<usize>,
-) -> Result<Priced<'i>, PriceFault>
+) -> Result<Priced<'i>, LabelFault>
     ensures problem { IfOk result (λ f. f.problem ≡ task.entry.instance.now) }
     ensures region { IfOk result (λ f. f.region ≡ task.entry.region) }
     ensures neighbours { IfOk result (λ f. f.neighbours ≡ task.entry.neighbours) }
     ensures prices { IfOk result (λ f. f.prices ≡ task.entry.prices.items) }
-    ensures in_range { IfErr result (λ e. e ≢ PriceRange) }
     ensures unlimited { IfErr result (λ e. e ≡ LabelLimit → labels ≢ None) }
 {
     let instance = task.instance;
@@ -32,6 +34,28 @@ pub(crate) fn price<'i>(
     pool.take_in(instance, state)?;
     match priced {
         Ok(priced) => Ok(priced),
-        Err((_task, fault)) => Err(PriceFault::from(fault)),
+        Err((_task, fault)) => Err(fault),
+    }
+}
+
+/// A task's prices with their value, of which no pool learns and no work is counted. The tables of the instance are
+/// lent.
+pub(crate) fn price_alone<'i>(
+    alloc: Global,
+    nearness: &Nearness<'_>,
+    task: PricingTask<'i>,
+    labels: Option<usize>,
+) -> Result<Priced<'i>, LabelFault>
+    ensures problem { IfOk result (λ f. f.problem ≡ task.entry.instance.now) }
+    ensures region { IfOk result (λ f. f.region ≡ task.entry.region) }
+    ensures neighbours { IfOk result (λ f. f.neighbours ≡ task.entry.neighbours) }
+    ensures prices { IfOk result (λ f. f.prices ≡ task.entry.prices.items) }
+    ensures valued { IfOk result (λ f. IsValued f) }
+    ensures unlimited { IfErr result (λ e. e ≡ LabelLimit → labels ≢ None) }
+{
+    let (hints, mut kept) = (Hints::near(alloc, nearness), Kept::nothing(alloc));
+    match Priced::by_hints(alloc, task, labels, &hints, &mut kept) {
+        Ok(priced) => Ok(priced),
+        Err((_task, fault)) => Err(fault),
     }
 }

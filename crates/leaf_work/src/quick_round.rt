@@ -10,9 +10,10 @@ ghost use Rattle.leaf_work.specs.Branching.{IsPricedAt};
 use crate::pricing::price;
 use branching::Region;
 use fronts::Task;
+use labelling::LabelFault;
 use pooled_routes::{Trial, VehiclePrice};
 use price_way::{Ascent, Goal, PricingState, QuickWay, RoutePool, WHOLE, WIDEST};
-use prices::{PriceFault, Priced};
+use prices::Priced;
 use quick_routes::{QuickRoutes, Width, quick_routes};
 use std::alloc::{AllocError, Global};
 
@@ -281,8 +282,8 @@ pub(crate) fn quick_round<'i>(
     };
     let next = match price(pool, state, task, labels) {
         Ok(next) => Some(next),
-        Err(PriceFault::LabelLimit) => None,
-        Err(_) => return Err(AllocError),
+        Err(LabelFault::LabelLimit) => None,
+        Err(LabelFault::Memory) => return Err(AllocError),
     };
     end_round(pool, state, ascent, leaf, &next, goal.rise)?;
     Ok(next)

@@ -5,9 +5,10 @@ ghost use Rattle.leaf_work.specs.Branching.{IsPricedAt};
 
 use crate::pricing::price;
 use crate::quick_round::{is_quick_next, quick_round};
+use labelling::LabelFault;
 use pooled_routes::Trial;
 use price_way::{Ascent, ChildStart, Goal, PricingState, RoutePool};
-use prices::{PriceFault, Priced};
+use prices::Priced;
 use std::alloc::AllocError;
 
 /// Raised prices, and the ascent that has ended there, by which their leaf may be split; nothing where memory was
@@ -28,7 +29,7 @@ fn price_trial<'i>(
     leaf: &Priced<'i>,
     trial: &Trial,
     labels: Option<usize>,
-) -> Result<Priced<'i>, PriceFault>
+) -> Result<Priced<'i>, LabelFault>
     ensures { IfOk result (IsPricedAt leaf.now.region leaf.now) }
 {
     let prices = trial.prices_in_range(state.alloc, leaf.instance())?;
@@ -109,11 +110,11 @@ fn step<'i>(
             let _ = ascent.take_in(state.alloc, pool, &trial, &next);
             Ok(Some(next))
         }
-        Err(PriceFault::LabelLimit) => {
+        Err(LabelFault::LabelLimit) => {
             ascent.draw_back(pool);
             Ok(None)
         }
-        Err(_) => Err(AllocError),
+        Err(LabelFault::Memory) => Err(AllocError),
     }
 }
 

@@ -71,7 +71,7 @@ fn prices_against(
 /// The root, with the prices of the highest value that the obstacles to a plan lead to: for a fleet that is
 /// too small for the demands, or a customer whom no vehicle can serve, mostly a value above every plan's cost.
 /// Else the root as it is, also where memory or labels don't suffice. The tables of the instance are lent.
-pub fn start_without_plan<'i>(
+pub(crate) fn start_without_plan<'i>(
     alloc: Global,
     nearness: &Nearness<'_>,
     root: Priced<'i>,

@@ -5,9 +5,9 @@ ghost use Rattle.std.specs.List.{AllByRecursion};
 ghost use Rattle.solomon_reader.specs.Problem.{customer_count};
 ghost use Rattle.solomon_reader.specs.CertificateText.{IsPrice};
 
+use crate::pricing::price_alone;
 use crate::raising::higher;
 use fronts::Nearness;
-use labelling::{Hints, Kept};
 use pooled_routes::arc_cost;
 use prices::Priced;
 use solomon_reader::{Instance, MOST_PRICE};
@@ -79,8 +79,7 @@ pub(crate) fn higher_at<'i>(
     let Ok(task) = leaf.task().with(prices) else {
         return leaf;
     };
-    let (hints, mut kept) = (Hints::near(alloc, nearness), Kept::nothing(alloc));
-    match Priced::by_hints(alloc, task, labels, &hints, &mut kept) {
+    match price_alone(alloc, nearness, task, labels) {
         Ok(other) => higher(leaf, other),
         Err(_) => leaf,
     }
@@ -88,7 +87,7 @@ pub(crate) fn higher_at<'i>(
 
 /// The root with the prices that the routes of a plan say to start from, where their value is higher;
 /// else the root as it is, also where memory or labels don't suffice. The tables of the instance are lent.
-pub fn start_from<'i>(
+pub(crate) fn start_from<'i>(
     alloc: Global,
     nearness: &Nearness<'_>,
     root: Priced<'i>,

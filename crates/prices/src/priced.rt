@@ -138,25 +138,11 @@ impl<'i> Priced<'i> {
             neighbours,
             prices,
         };
-        match Priced::alone(alloc, task, limit) {
+        let (hints, mut kept) = (Hints::none(alloc), Kept::nothing(alloc));
+        match Priced::by_hints(alloc, task, limit, &hints, &mut kept) {
             Ok(priced) => Ok(priced),
             Err((task, fault)) => Err((task.region, task.prices, PriceFault::from(fault))),
         }
-    }
-
-    /// What `by_hints` answers without any, and with nothing kept.
-    fn alone(
-        alloc: Global,
-        task: PricingTask<'i>,
-        limit: Option<usize>,
-    ) -> Result<Priced<'i>, (PricingTask<'i>, LabelFault)>
-        ensures priced { let t = task.entry in
-            IfOk result (IsPricedBy t.instance.now t.region t.neighbours t.prices.items) }
-        ensures unlimited { IfErr result (λ e. e.1 ≡ label.LabelLimit → limit ≢ None) }
-        ensures back { IfErr result (λ e. e.0 ≡ task.entry) }
-    {
-        let (hints, mut kept) = (Hints::none(alloc), Kept::nothing(alloc));
-        Priced::by_hints(alloc, task, limit, &hints, &mut kept)
     }
 
     /// What `of` answers for a task, found sooner where a route of low reduced cost, the tables of the instance or
@@ -179,28 +165,9 @@ impl<'i> Priced<'i> {
         }
     }
 
-    /// The root of an instance at prices of 0, with this many neighbours, at most 15. `LabelLimit`
-    /// where as many labels stand as `limit` allows; `Memory`.
+    /// The root of an instance at prices of 0, with this many neighbours, at most 15, found sooner where the tables of
+    /// the instance are known. `LabelLimit` where as many labels stand as `limit` allows; `Memory`.
     pub fn root(
-        alloc: Global,
-        instance: &'i Instance,
-        neighbours: u32,
-        limit: Option<usize>,
-    ) -> Result<Priced<'i>, LabelFault>
-        requires { neighbours ≤ MOST_NEIGHBOURS }
-        ensures problem { IfOk result (λ f. f.problem ≡ instance.now) }
-        ensures region { IfOk result (λ f. f.region ≡ root_region (customer_count instance.now)) }
-        ensures neighbours { IfOk result (λ f. f.neighbours ≡ neighbours) }
-        ensures prices { IfOk result (λ f. AllByRecursion (λ z. z ≡ pos 0) f.prices) }
-        ensures valued { IfOk result (λ f. IsValued f) }
-        ensures unlimited { IfErr result (λ e. e ≡ label.LabelLimit → limit ≢ None) }
-    {
-        let hints = Hints::none(alloc);
-        Priced::root_by_hints(alloc, instance, neighbours, limit, &hints)
-    }
-
-    /// What `root` answers, found sooner where the tables of the instance are known.
-    pub fn root_by_hints(
         alloc: Global,
         instance: &'i Instance,
         neighbours: u32,
@@ -277,6 +244,14 @@ impl<'i> Priced<'i> {
         ensures valued { IsValued self.now }
     {
         self.value as i128
+    }
+
+    /// The value in tenths, as histories and trees have it.
+    pub fn tenths(&self) -> u128
+        ensures value { result ≡ self.now.value }
+        ensures valued { IsValued self.now }
+    {
+        self.value
     }
 
     /// The least reduced cost over the relaxed routes of the region at these prices, in grains, with

@@ -14,8 +14,8 @@ use crate::fault::RunFault;
 use fronts::Nearness;
 use incumbent_book::{Book, BookFault, OpenFault};
 use insertion::{Weights, build_whole};
-use labelling::{Hints, LabelFault};
-use leaf_work::{start_from, start_without_plan};
+use labelling::LabelFault;
+use leaf_work::first_leaf;
 use prices::Priced;
 use run_settings::Settings;
 use schedule::{Feasible, cheaper};
@@ -33,27 +33,6 @@ const FIRST_WORKER: u16 = 0;
 pub(crate) struct Opening<'i> {
     pub(crate) book: Book<'i>,
     pub(crate) plan: Option<HeldPlan<'i>>,
-}
-
-/// The root with prices of zero. `LabelLimit` where the labels don't suffice for them, and `Memory`.
-fn price_root<'i>(
-    alloc: Global,
-    instance: &'i Instance,
-    settings: &Settings,
-    nearness: &Nearness<'_>,
-) -> Result<Priced<'i>, RunFault>
-    requires few { settings.now.neighbours ≤ MOST_NEIGHBOURS }
-    ensures problem { IfOk result (λ f. f.problem ≡ instance.now) }
-    ensures region { IfOk result (λ f. f.region ≡ root_region (customer_count instance.now)) }
-    ensures neighbours { IfOk result (λ f. f.neighbours ≡ settings.now.neighbours) }
-    ensures refused { IfErr result (λ e. (e ≡ Memory) ⊎ (e ≡ LabelLimit)) }
-{
-    let (limit, hints) = (Some(settings.labels as usize), Hints::near(alloc, nearness));
-    match Priced::root_by_hints(alloc, instance, settings.neighbours, limit, &hints) {
-        Ok(root) => Ok(root),
-        Err(LabelFault::Memory) => Err(RunFault::Memory),
-        Err(LabelFault::LabelLimit) => Err(RunFault::LabelLimit),
-    }
 }
 
 /// The plan that insertion builds, or a given one where that is cheaper.
@@ -159,18 +138,27 @@ impl<'i> Opening<'i> {
         ensures optimum { IfOk result (λ o. IfSome o.plan (λ h. h.is_optimum ≡ true)) }
         ensures refused { IfErr result (λ e. (e ≡ Memory) ⊎ (e ≡ LabelLimit)) }
     {
-        let root = price_root(alloc, instance, settings, nearness)?;
+        let plan = first_plan(alloc, instance, start)?;
+        let root_labels = Some(settings.labels as usize);
         let labels = Some(pricing_labels(settings, instance.customer_count()));
-        let Some(plan) = first_plan(alloc, instance, start)? else {
-            let book = open_book(alloc, start_without_plan(alloc, nearness, root, labels))?;
-            return Ok(Opening { book, plan: None });
+        let root = match first_leaf(
+            alloc,
+            nearness,
+            instance,
+            settings.neighbours,
+            plan.as_ref(),
+            root_labels,
+            labels,
+        ) {
+            Ok(root) => root,
+            Err(LabelFault::Memory) => return Err(RunFault::Memory),
+            Err(LabelFault::LabelLimit) => return Err(RunFault::LabelLimit),
         };
-        let root = start_from(alloc, nearness, root, plan.routes(), labels);
         let mut book = open_book(alloc, root)?;
-        let plan = offer_both(rt, alloc, &mut book, plan)?;
-        Ok(Opening {
-            book,
-            plan: Some(plan),
-        })
+        let plan = match plan {
+            Some(plan) => Some(offer_both(rt, alloc, &mut book, plan)?),
+            None => None,
+        };
+        Ok(Opening { book, plan })
     }
 }

@@ -2,6 +2,7 @@
 
 use branching::{Arc, Region};
 use incumbent_book::{Book, Limits};
+use labelling::Hints;
 use prices::Priced;
 use schedule::Feasible;
 use solomon_reader::{Instance, MOST_NEIGHBOURS};
@@ -73,7 +74,7 @@ pub fn book_of<'i>(
     if neighbours > MOST_NEIGHBOURS {
         return None;
     }
-    let root = Priced::root(alloc, instance, neighbours, None).ok()?;
+    let root = Priced::root(alloc, instance, neighbours, None, &Hints::none(alloc)).ok()?;
     match Book::with_limits(alloc, root, limits) {
         Ok(book) => Some(book),
         Err((_root, _fault)) => None,

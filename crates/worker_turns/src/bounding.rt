@@ -1,7 +1,6 @@
 //! A worker that raises the bound.
 
 ghost use Rattle.std.specs.Prelude.{◌≡◌, ◌≤◌};
-ghost use Rattle.branching.specs.Choosing.{IsSettled};
 ghost use Rattle.ceiling.specs.Seats.{IsSeatOf};
 
 use crate::gate::{Gate, GatePoint};
@@ -10,8 +9,9 @@ use crate::nodes::{Nodes, OpenNode, Taken};
 use crate::pricing::{Rules, goal_at, has_done_enough, own_limit, pricing_labels, turn_looks};
 use crate::refusal::Refusal;
 use crate::worker::Worker;
-use leaf_work::{ChildStart, Children, Raised, branch, met_plan, raise, settled_leaf};
-use prices::{PriceFault, Priced};
+use labelling::LabelFault;
+use leaf_work::{ChildStart, Children, Parted, Raised, met_plan, part, raise};
+use prices::Priced;
 use run_settings::Settings;
 use schedule::Feasible;
 
@@ -66,30 +66,28 @@ fn split<'i, H: Hub<'i>, G: Gate>(
     nodes.push_children(first, second)
 }
 
-/// Gives a leaf whose region leaves no arc open the cost of the plans that obey it, or a value above the
-/// ceiling where there is none; and offers one of them where it is cheaper than those known.
+/// Offers the plan of a leaf whose region leaves no arc open where it is cheaper than those known, and gives the leaf
+/// its settled prices where their value is above this one.
 fn settle<'i, H: Hub<'i>, G: Gate>(
     worker: &mut Worker<'_, 'i, H, G>,
     number: u32,
-    leaf: &Priced<'i>,
+    value: i128,
+    settled: Priced<'i>,
+    plan: Option<Feasible<'i>>,
 ) -> Result<(), Refusal>
-    requires { IsSettled leaf.now.region }
     ensures words { worker.new.ceiling ≡ worker.old.ceiling }
 {
-    let region = leaf.region().try_clone()?;
-    let neighbours = leaf.neighbours();
-    let (settled, plan) = settled_leaf(worker.alloc, leaf.instance(), region, neighbours)?;
     if let Some(plan) = plan {
         offer_if_cheaper(worker, plan)?;
     }
-    if settled.value() > leaf.value() {
+    if settled.value() > value {
         return worker.reprice(number, settled);
     }
     Ok(())
 }
 
 /// Splits a leaf, with the raised prices at both children, or settles it where no arc is left to split.
-fn part<'i, H: Hub<'i>, G: Gate>(
+fn split_or_settle<'i, H: Hub<'i>, G: Gate>(
     worker: &mut Worker<'_, 'i, H, G>,
     number: u32,
     raised: Raised<'i>,
@@ -98,22 +96,16 @@ fn part<'i, H: Hub<'i>, G: Gate>(
 ) -> Result<(), Refusal>
     ensures words { worker.new.ceiling ≡ worker.old.ceiling }
 {
-    let Raised {
-        priced: leaf,
-        ascent,
-    } = raised;
-    let children = branch(
-        &leaf,
-        ascent.as_ref(),
-        &mut nodes.pool,
-        &mut nodes.state,
-        Some(labels),
-    );
-    match children {
-        Ok(Some(children)) => split(worker, number, leaf.region().is_root(), children, nodes),
-        Ok(None) => settle(worker, number, &leaf),
-        Err(PriceFault::LabelLimit | PriceFault::PriceRange) => worker.reprice(number, leaf),
-        Err(PriceFault::Memory) => Err(Refusal::EndsWork),
+    match part(&raised, &mut nodes.pool, &mut nodes.state, Some(labels)) {
+        Ok(Parted::Split(children)) => {
+            let is_root = raised.priced.region().is_root();
+            split(worker, number, is_root, children, nodes)
+        }
+        Ok(Parted::Settled(settled, plan)) => {
+            settle(worker, number, raised.priced.value(), settled, plan)
+        }
+        Err(LabelFault::LabelLimit) => worker.reprice(number, raised.priced),
+        Err(LabelFault::Memory) => Err(Refusal::EndsWork),
     }
 }
 
@@ -142,7 +134,7 @@ fn bring<'i, H: Hub<'i>, G: Gate>(
             Ok(())
         };
     }
-    part(worker, number, raised, rules.labels, nodes)
+    split_or_settle(worker, number, raised, rules.labels, nodes)
 }
 
 /// Offers the routes that make up the prices raised last, where they are a plan that is cheaper than those

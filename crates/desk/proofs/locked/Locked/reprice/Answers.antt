@@ -11,8 +11,8 @@ returns-in_err-reprice g c =
 
 pub invariant_of-self-2 : goal.invariant_of-self-2
 invariant_of-self-2 g c =
-    let more = rw c.value_of-value.ensures at c.count.ensures.totals in
+    let more = rw c.tenths-value.ensures.value at c.count.ensures.totals in
     rw c.in_ok-reprice.ensures.reprices.1 (counted_call _ _ _ _ _ c.self.invariant _ _ _ refl refl refl more)
 
 pub returns : goal.returns
-returns g c = (accepted_reprice _ _ _ _ _ c.self.invariant _ _ c.in_ok-reprice.ensures.reprices.0, rw (c.count.ensures.counted, c.value_of-value.ensures, c.worker-worker.ensures) refl)
+returns g c = (accepted_reprice _ _ _ _ _ c.self.invariant _ _ c.in_ok-reprice.ensures.reprices.0, rw (c.count.ensures.counted, c.tenths-value.ensures.value, c.worker-worker.ensures) refl)

@@ -13,7 +13,7 @@ pub invariant_of-self : goal.invariant_of-self
 invariant_of-self c =
     rw c.open_node.ensures
     (leaf_set _ _ c.self.invariant c.args.number c.in-Some.leaf.now _ _ (rw (← c.as_slice.ensures.value) (sym c.in-Some.ensures))
-    (rw (c.value_of.ensures.value, c.value_of-2.ensures.value) at c.in-Ok.ensures.ok))
+    (rw (c.tenths.ensures.value, c.tenths-2.ensures.value) at c.in-Ok.ensures.ok))
 
 pub returns-in-Ok-clause-ok : goal.returns-in-Ok-clause-ok
 returns-in-Ok-clause-ok c =

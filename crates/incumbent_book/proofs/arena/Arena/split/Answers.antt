@@ -30,7 +30,7 @@ invariant_of-self-in-Ok c =
     let second : c.len-first.result + 1 ≡ length c.self.inside.nodes.items + 1 = omega arith in
     rw (c.put_two.ensures, c.open_node.ensures, c.open_node-in-Ok.ensures, c.make_room.ensures.items)
     (leaf_split _ _ c.self.invariant c.args.number c.in-Some.leaf.now _ _ c.args.arc _ _ _ (rw (← c.as_slice.ensures.value) (sym c.in-Some.ensures)) first second
-    (rw (c.value_of.ensures.value, c.value_of-2.ensures.value, c.value_of-3.ensures.value) at c.in-Ok.ensures.ok))
+    (rw (c.tenths.ensures.value, c.tenths-2.ensures.value, c.tenths-3.ensures.value) at c.in-Ok.ensures.ok))
 
 pub returns-in-Ok-clause-numbers : goal.returns-in-Ok-clause-numbers
 returns-in-Ok-clause-numbers c =

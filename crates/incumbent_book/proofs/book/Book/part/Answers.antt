@@ -21,8 +21,8 @@ invariant_of-self-in-Ok c =
     let count = c.self.invariant.arena.count in
     let first : c.in-Ok.made.0 ≡ used_number s = omega (arith, c.in-Ok.ensures.numbers.0, count) in
     let second : c.in-Ok.made.1 ≡ unused_number s = omega (arith, c.in-Ok.ensures.numbers.1, count) in
-    rw (c.write.ensures, c.make_room.ensures.items, c.value_of.ensures.value, c.value_of-2.ensures.value, first, second, w.2, map-append, map-set)
-    (kept_split _ _ c.self.invariant c.args.worker c.args.leaf c.args.arc c.args.used c.args.unused w.0 acc c.value_of.ensures.valued c.value_of-2.ensures.valued w.1)
+    rw (c.write.ensures, c.make_room.ensures.items, c.tenths.ensures.value, c.tenths-2.ensures.value, first, second, w.2, map-append, map-set)
+    (kept_split _ _ c.self.invariant c.args.worker c.args.leaf c.args.arc c.args.used c.args.unused w.0 acc c.tenths.ensures.valued c.tenths-2.ensures.valued w.1)
 
 pub returns-in-Ok : goal.returns-in-Ok
 returns-in-Ok c =
@@ -34,5 +34,5 @@ returns-in-Ok c =
       c.requires,
       rw (← c.self.view_is) first,
       rw (← c.self.view_is) second,
-      rw (← c.self.view_is, c.write.ensures, c.make_room.ensures.items, c.value_of.ensures.value, c.value_of-2.ensures.value, first, second, w.2, map-append, map-set) refl,
+      rw (← c.self.view_is, c.write.ensures, c.make_room.ensures.items, c.tenths.ensures.value, c.tenths-2.ensures.value, first, second, w.2, map-append, map-set) refl,
     )
