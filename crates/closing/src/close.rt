@@ -63,7 +63,15 @@ pub fn close_from<'i>(
     }
     let plan = first_plan(alloc, instance, start)?;
     let nearness = Nearness::new(alloc, instance, neighbours)?;
-    let root = match first_leaf(alloc, &nearness, instance, neighbours, plan.as_ref(), None, None) {
+    let root = match first_leaf(
+        alloc,
+        &nearness,
+        instance,
+        neighbours,
+        plan.as_ref(),
+        None,
+        None,
+    ) {
         Ok(root) => root,
         Err(LabelFault::Memory) => return Err(CloseAloneFault::Memory),
         Err(LabelFault::LabelLimit) => unreachable!(),

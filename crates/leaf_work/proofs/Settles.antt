@@ -1,6 +1,6 @@
 -- Prices at which all fitting routes on allowed arcs have one reduced cost settle a region: where every allowed arc is required no customer stands twice in the routes that are gathered.
 use Rattle.std.proofs.Common.{◌≡◌, ◌≢◌, refl, ℕ, ◌+◌, ◌*◌, ◌≤◌, List, [], ◌∷◌, length, arith, ◌∙◌, inl, inr, sym, zero, suc, ◌-◌, ◌<◌, get_or, set, get_or-set_other, ap}
-use Rattle.std.specs.Prelude.{ℤ, pos, negsuc, ◌+ℤ◌, ◌-ℤ◌, ◌≤ℤ◌, Some, None, Option, MatchOption}
+use Rattle.std.specs.Prelude.{ℤ, pos, negsuc, ◌+ℤ◌, ◌-ℤ◌, ◌≤ℤ◌, Some, None, Option, IfSome, MatchOption}
 use Rattle.std.specs.List.{AllByRecursion, flat_map}
 use Rattle.std.proofs.lemmas.Int.{ints}
 use Rattle.std.proofs.lemmas.Nat.{mul-le}
@@ -24,6 +24,8 @@ use Rattle.schedule.specs.Solution.{Solution}
 use Rattle.prices.specs.ValuedPrices.{ValuedPrices, IsValued}
 use Rattle.leaf_work.specs.Gathering.{FitsIn, IsGathered, begins, HasRoom}
 use Rattle.leaf_work.specs.declared.fee.TheConstants.{MOST_FEE}
+use Rattle.leaf_work.specs.Branching.{IsPricedAt}
+use Rattle.leaf_work.specs.Parting.{IsSettledLeaf}
 use Rattle.leaf_work.specs.Settling.{IsSettling, IsSettledBy}
 use Rattle.leaf_work.proofs.Obeying.{same_before, same_next}
 
@@ -302,3 +304,15 @@ module _ (p : Problem) (g : Region) (prices : List ℤ) (f : ValuedPrices) (is :
   pub settled_plans : (plan : Option Solution) → IsSettling p g prices plan → IsSettledBy p g f.value plan
   settled_plans None s = s.1
   settled_plans (Some x) s = rw (settled_value (Some x) s) s.1
+
+-- so a leaf without an open arc comes to those prices
+pub settles_leaf : (f settled : ValuedPrices) (prices : List ℤ) (plan : Option Solution) → IsSettled f.region → IsSettling f.problem f.region prices plan
+    → IfSome plan (λ s. s.problem ≡ f.problem) → IsPricedAt f.region f settled → settled.prices ≡ prices → IsValued settled → IsSettledLeaf f settled plan
+settles_leaf f settled prices plan closed settling own at same valued = record {
+  closed = closed;
+  priced = at;
+  valued = valued;
+  own = own;
+  value = settled_value f.problem f.region prices settled valued at.problem at.region same plan settling;
+  all_plans = settled_plans f.problem f.region prices settled valued at.problem at.region same plan settling;
+}

@@ -26,10 +26,7 @@ pub enum Parted<'i> {
 }
 
 /// A leaf whose region leaves no arc open, with the value of its plans.
-fn settle_leaf<'i>(
-    leaf: &Priced<'i>,
-    state: &PricingState<'_>,
-) -> Result<Parted<'i>, LabelFault>
+fn settle_leaf<'i>(leaf: &Priced<'i>, state: &PricingState<'_>) -> Result<Parted<'i>, LabelFault>
     requires { IsSettled leaf.now.region }
     ensures parted { IfOk result (IsParted leaf.now) }
     ensures unlimited { IfErr result (λ e. e ≢ LabelLimit) }
@@ -40,9 +37,10 @@ fn settle_leaf<'i>(
     Ok(Parted::Settled(settled, plan))
 }
 
-/// A leaf's children by the arc that promises most, or where none is open the leaf with the value of its plans. At most
-/// this many labels may be active at once in a pricing of a child, if there is a limit; `LabelLimit` where they don't
-/// suffice, and `Memory`.
+/// What a leaf comes to after an ascent there: its children by the arc that promises most, with its prices, or with high
+/// ones where a child has no relaxed route; or where no arc is open the leaf with the value of its plans. That no value
+/// falls is for the book to see. At most this many labels may be active at once in the pricing of a child, if there is a
+/// limit; `LabelLimit` where they don't suffice, and `Memory`.
 pub fn part<'i>(
     raised: &Raised<'i>,
     pool: &mut RoutePool,
