@@ -14,7 +14,7 @@ finish-requires-clause-tree c =
     let begun = c.new-growth.ensures in
     let end = c.grow.new.growth in
     let p = c.args.instance.now in
-    let grows : Grows c.args.neighbours (root_region (customer_count p)) c.new-growth.result end = rw (c.in_ok-root.ensures.neighbours, c.in_ok-root.ensures.region) at c.in_ok-grow.ensures.grows in
+    let grows : Grows c.args.neighbours (root_region (customer_count p)) c.new-growth.result end = rw (c.in-Ok.ensures.neighbours, c.in-Ok.ensures.region) at c.in_ok-grow.ensures.grows in
     let own : end.instance.now ≡ p = grows.task.instance ∙ begun.instance in
     subst (λ (q : Problem). IsListedTree q c.args.neighbours (reverse end.nodes.items) end.bound end.leaves) (sym own)
     (listed_tree p c.args.neighbours c.new-growth.result end grows begun.instance begun.nodes begun.leaves begun.bound
