@@ -53,28 +53,37 @@ struct Input<'a, 'i, R, G> {
     gate: &'a G,
 }
 
+/// What all workers of a run share: one lifetime for what each takes into its thread.
+#[derive(Drop)]
+struct Shared<'a, 'i, R: Wait, J: Naming, G> {
+    input: &'a Input<'a, 'i, R, G>,
+    desk: &'a Desk<'i, J>,
+    ceiling: &'a Ceiling,
+    deques: &'a [Thief],
+    plan: Option<&'a HeldPlan<'i>>,
+}
+
 /// The role of a worker: it raises the bound where it has the end of a deque, else it looks for plans by the random
 /// words of its number.
-fn role_of<'a, 'i, R, G>(
-    input: &Input<'a, 'i, R, G>,
-    plan: Option<&'a HeldPlan<'i>>,
-    deques: &'a [Thief],
+fn role_of<'a, 'i, R: Wait, J: Naming, G>(
+    shared: &Shared<'a, 'i, R, J, G>,
     number: u16,
     own: Option<Hand>,
     pass: Option<Pass>,
 ) -> Result<Role<'a, 'i>, AllocError>
-    requires { IfSome pass (λ p. All (λ t. FitsAt (deque_at t) p) deques.now) }
-    ensures { IfOk result (DrawsFor input.now.settings.now.seed number) }
+    requires { IfSome pass (λ p. All (λ t. FitsAt (deque_at t) p) shared.now.deques.now) }
+    ensures { IfOk result (DrawsFor shared.now.input.now.settings.now.seed number) }
 {
+    let input = shared.input;
     if let (Some(own), Some(pass)) = (own, pass) {
-        let plan = match plan {
+        let plan = match shared.plan {
             Some(held) => Some(&held.plan),
             None => None,
         };
-        let nodes = Nodes::new(input.alloc, input.nearness, plan, own, deques, pass)?;
+        let nodes = Nodes::new(input.alloc, input.nearness, plan, own, shared.deques, pass)?;
         return Ok(Role::Bound { nodes });
     }
-    let plan = match plan {
+    let plan = match shared.plan {
         Some(held) => Some(held.try_clone()?),
         None => None,
     };
@@ -82,65 +91,39 @@ fn role_of<'a, 'i, R, G>(
     Ok(Role::Search { plan, random })
 }
 
-/// The roles of this many workers, the last first. The workers from 0 on search; the bound workers follow, each
-/// with the end of a deque and what it steals by.
-fn roles_of<'a, 'i, R, G>(
-    input: &Input<'a, 'i, R, G>,
-    plan: Option<&'a HeldPlan<'i>>,
-    deques: &'a [Thief],
-    mut hands: Vec<Hand>,
-    mut passes: Vec<Pass>,
-    workers: usize,
-) -> Result<Vec<Role<'a, 'i>>, AllocError>
-    requires few { workers ≤ 2 ^ 16 }
-    requires fits { All (λ p. All (λ t. FitsAt (deque_at t) p) deques.now) passes.items }
-    ensures { IfOk result (λ roles. vec_len roles ≡ workers) }
-{
-    let mut roles = Vec::with_capacity(input.alloc, workers)?;
-    while roles.len() < workers {
-        let number = (workers - 1 - roles.len()) as u16;
-        let role = role_of(input, plan, deques, number, hands.pop(), passes.pop())?;
-        roles.push_reserved(role);
-    }
-    Ok(roles)
-}
-
-/// The workers of a run, the last first, with a share, a seat and a role each; the roles are listed so, too.
+/// The workers of a run, the last first: a share and a seat for each, in the order of their numbers, and for the last of
+/// them the end of a deque and what they steal by. The workers from 0 on search; the bound workers follow.
 fn post_workers<'a, 'i, R: Wait, J: Naming, G>(
-    input: &Input<'a, 'i, R, G>,
-    desk: &'a Desk<'i, J>,
-    ceiling: &'a Ceiling,
+    shared: &Shared<'a, 'i, R, J, G>,
     mut shares: Vec<Share<J>>,
     mut seats: Vec<CeilingSeat>,
-    roles: Vec<Role<'a, 'i>>,
+    mut hands: Vec<Hand>,
+    mut passes: Vec<Pass>,
 ) -> Result<Vec<ReadyWorker<'a, 'i, R, J, G>>, AllocError>
     requires few { vec_len shares ≤ 2 ^ 16 }
     requires seats { vec_len seats ≡ vec_len shares }
-    requires roles { vec_len roles ≡ vec_len shares }
-    requires own { All (IsSeatOf ceiling.now) seats.items }
+    requires own { All (IsSeatOf shared.now.ceiling.now) seats.items }
+    requires fits { All (λ p. All (λ t. FitsAt (deque_at t) p) shared.now.deques.now)
+        passes.items }
     ensures { IfOk result (λ crew. vec_len crew ≡ vec_len shares) }
 {
+    let input = shared.input;
     let mut crew = Vec::with_capacity(input.alloc, shares.len())?;
-    for role in roles {
-        let Some(share) = shares.pop() else {
-            unreachable!()
-        };
-        let Some(seat) = seats.pop() else {
-            unreachable!()
-        };
+    while let (Some(share), Some(seat)) = (shares.pop(), seats.pop()) {
         let number = shares.len() as u16;
+        let role = role_of(shared, number, hands.pop(), passes.pop())?;
         crew.push_reserved(ReadyWorker {
             worker: Worker {
                 alloc: input.alloc,
                 instance: input.instance,
                 hub: AtDesk {
                     rt: input.rt,
-                    desk,
+                    desk: shared.desk,
                     share,
                 },
                 gate: input.gate,
                 number,
-                ceiling,
+                ceiling: shared.ceiling,
                 seat,
                 enough: input.settings.gap,
             },
@@ -186,9 +169,14 @@ fn work_together<'i, R: Threads + Wait + Sync, J: Naming + Send + Sync, G: Gate 
         return Err(RunFault::Memory);
     };
     let (hands, thieves, passes) = deques(input.alloc, input.settings.bounders as usize)?;
-    let deques = thieves.as_slice();
-    let roles = roles_of(input, plan, deques, hands, passes, shares.len())?;
-    let crew = post_workers(input, desk, &ceiling, shares, seats, roles)?;
+    let shared = Shared {
+        input,
+        desk,
+        ceiling: &ceiling,
+        deques: thieves.as_slice(),
+        plan,
+    };
+    let crew = post_workers(&shared, shares, seats, hands, passes)?;
     all_at_once(input.rt, input.alloc, crew)
 }
 

@@ -7,7 +7,7 @@ ghost use Rattle.vrptw.specs.Starting.{IsAtMost, IsPlanAt, TellsFrom};
 
 use crate::answer::{Answer, SolveFault};
 use crate::solving::read_instance;
-use crate::starting::{StartFault, read_start};
+use crate::starting::{StartFault, no_start, read_start};
 use crate::writing::write_found;
 use run_settings::Settings;
 use schedule::Feasible;
@@ -73,7 +73,7 @@ pub fn close<X: Sink, Y: Sink>(
     close_instance(
         alloc,
         instance,
-        None,
+        no_start(instance),
         settings,
         leaf_limit,
         solution,

@@ -7,7 +7,7 @@ ghost use Rattle.vrptw.specs.Starting.{IsAtMost, IsPlanAt, TellsFrom};
 
 use crate::answer::{Answer, SolveFault};
 use crate::found::found_by;
-use crate::starting::{StartFault, read_start};
+use crate::starting::{StartFault, no_start, read_start};
 use crate::writing::write_found;
 use run_settings::Settings;
 use schedule::Feasible;
@@ -82,7 +82,7 @@ pub fn solve<R: Threads + Wait + Sync, G: Gate + Sync, X: Sink, Y: Sink>(
         rt,
         alloc,
         instance,
-        None,
+        no_start(instance),
         settings,
         gate,
         solution,

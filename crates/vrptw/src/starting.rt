@@ -1,6 +1,6 @@
 //! The plan to start from.
 
-ghost use Rattle.std.specs.Prelude.{◌≡◌, ◌≢◌, Some, IfOk, IfErr, option_map};
+ghost use Rattle.std.specs.Prelude.{◌≡◌, ◌≢◌, None, Some, IfOk, IfErr, option_map};
 ghost use Rattle.sol_writer.specs.Text.{view};
 ghost use Rattle.checker.specs.Checking.{RefusesSolution};
 ghost use Rattle.checker.specs.declared.fault.CheckFault.TheVariants.{Memory};
@@ -52,6 +52,13 @@ fn plan_of<'i>(instance: &'i Instance, solution: Sol) -> Result<Feasible<'i>, Ch
         return Err(CheckFault::CostDiffers { printed, real });
     }
     Ok(plan)
+}
+
+/// No plan of an instance to start from.
+pub(crate) fn no_start<'i>(_instance: &'i Instance) -> Option<Feasible<'i>>
+    ensures { result ≡ None }
+{
+    None
 }
 
 /// The plan that a text to start from is, if there is one.

@@ -1,14 +1,18 @@
-use Rattle.std.proofs.Common.{◌≡◌, ◌≤◌, ◌+◌, length, vec_len, vec_capacity}
+use Rattle.std.proofs.Common.{◌≡◌, ◌≤◌, ◌+◌, vec_len, vec_capacity}
 use Rattle.std.specs.List.{All}
-use Rattle.std.specs.Vec.Iter.{into_iter_items}
 use Rattle.ceiling.specs.Seats.{IsSeatOf}
+use Rattle.node_pool.specs.Deques.{FitsAt}
+use Rattle.node_pool.specs.Ends.{deque_at}
 use Rattle.search_workers.proofs.running.post_workers.Given as goal
 
--- there is a share and a seat for each role that is left, and room for its worker
-abbrev pub invariant-loop-role : goal.invariant-loop-role
-invariant-loop-role g l =
+-- there is a seat for each worker that is left, and room for it
+abbrev pub invariant-loop-share : goal.invariant-loop-share
+invariant-loop-share g l =
     (vec_len l.crew + vec_len l.shares ≡ vec_len l.fn.shares)
     × (vec_len l.fn.shares ≤ vec_capacity l.crew)
     × (vec_len l.seats ≡ vec_len l.shares)
-    × (length (into_iter_items l.role-iterator) ≡ vec_len l.shares)
-    × All (IsSeatOf l.ceiling) l.seats.items
+    × All (IsSeatOf l.shared.ceiling.now) l.seats.items
+    × All (λ p. All (λ t. FitsAt (deque_at t) p) l.shared.deques.now) l.passes.items
+
+abbrev pub decreases-loop-share : goal.decreases-loop-share
+decreases-loop-share g l = vec_len l.shares
