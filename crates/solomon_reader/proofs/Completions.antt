@@ -9,9 +9,9 @@ use Rattle.solomon_reader.specs.Problem.{Problem, IsCustomer, demand, due}
 use Rattle.solomon_reader.specs.Distance.{distance}
 use Rattle.solomon_reader.specs.Plan.{Arc, Walks, load_of, arcs_from}
 use Rattle.solomon_reader.specs.Region.{IsAllowed}
-use Rattle.solomon_reader.specs.Relaxed.{IsRelaxed, int_sum_by, price_of, reduced_cost}
+use Rattle.solomon_reader.specs.Relaxed.{IsRelaxed, paid_from, reduced_cost_by}
 use Rattle.solomon_reader.specs.Remembering.{near, IsFree, Forgets, remember}
-use Rattle.solomon_reader.specs.States.{Pricing, State, start, begins, step, CanStep, Completes, value_with, StartsWith, Reaches, IsAtMost, IsAsGood, IsSameState}
+use Rattle.solomon_reader.specs.States.{Pricing, State, start, arc_value, begins, step, CanStep, Completes, value_with, StartsWith, Reaches, IsAtMost, IsAsGood, IsSameState}
 use Rattle.solomon_reader.proofs.Places.{forgets_of, free_of, near_is, is_near}
 
 abbrev arc_cost : Problem → Arc → ℕ
@@ -82,12 +82,12 @@ module _ (q : Pricing) where
       }
 
   value_from : (r : List ℕ) (a : State)
-      → value_with q a r ≡ a.cost +ℤ (pos (1000 * sum_by (arc_cost q.problem) (arcs_from a.last r)) -ℤ int_sum_by (price_of q.prices) r)
+      → value_with q a r ≡ a.cost +ℤ (pos (1000 * sum_by (arc_cost q.problem) (arcs_from a.last r)) -ℤ paid_from q.paid a.last r)
   value_from [] a = omega (arith, ints, sum_by-cons (arc_cost q.problem) (a.last, 0) [])
   value_from (j ∷ r) a =
       omega (arith, ints, value_from r (step q a j), sum_by-cons (arc_cost q.problem) (a.last, j) (arcs_from j r))
 
-  pub value_is : (r : List ℕ) → value_with q (start q) r ≡ reduced_cost q.problem q.prices r
+  pub value_is : (r : List ℕ) → value_with q (start q) r ≡ reduced_cost_by q.problem q.paid r
   value_is r = omega (arith, ints, value_from r (start q))
 
   pub reaches_none : Reaches q [] (start q)
@@ -161,7 +161,7 @@ module _ (q : Pricing) where
     last = refl;
     time = omega (arith, begins_sooner a b j good);
     load = omega (arith, good.load);
-    cost = omega (arith, ints, good.cost, ap (λ (i : ℕ). distance q.problem i j) good.last);
+    cost = omega (arith, ints, good.cost, ap (λ (i : ℕ). arc_value q.problem q.paid i j) good.last);
     memory = λ u t. remember_less (near q.problem q.neighbours) a.memory b.memory j u good.memory t;
   }
 

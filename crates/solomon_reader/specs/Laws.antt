@@ -6,12 +6,16 @@ use Rattle.solomon_reader.specs.Words.{Token}
 use Rattle.solomon_reader.specs.Reading.{reading}
 use Rattle.solomon_reader.specs.declared.fault.ReadFault.{ReadFault}
 use Rattle.solomon_reader.specs.declared.fault.ReadFault.TheVariants.{Truncated, NoCustomers}
-use Rattle.solomon_reader.specs.Relaxed.{IsLeastOrZero}
+use Rattle.solomon_reader.specs.Relaxed.{IsLeastOrZero, by_customer, reduced_cost, reduced_cost_by}
 use Rattle.solomon_reader.specs.Bound.{Version, Tree, IsTreeBound}
 
 -- there is no other
 abbrev pub OneLeast : Type 0
 OneLeast = (p : Problem) (g : Region) (k : ℕ) (prices : List ℤ) (m n : ℤ) → IsLeastOrZero p g k prices m → IsLeastOrZero p g k prices n → m ≡ n
+
+-- where each step is paid the price of the customer that it leads to, it is the cost less the prices of the stops
+abbrev pub PaidByCustomer : Type 0
+PaidByCustomer = (p : Problem) (prices : List ℤ) (r : List ℕ) → reduced_cost_by p (by_customer prices) r ≡ reduced_cost p prices r
 
 -- the words end too soon
 abbrev pub IsEnd : ReadFault → Type 0

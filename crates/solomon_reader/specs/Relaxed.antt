@@ -41,6 +41,19 @@ price_of prices i = slice_index_or prices (i - 1) (pos 0)
 abbrev pub reduced_cost : Problem → List ℤ → List ℕ → ℤ
 reduced_cost p prices r = pos (1000 * route_cost p r) -ℤ int_sum_by (price_of prices) r
 
+-- a step from i to j is paid the price of j
+abbrev pub by_customer : List ℤ → ℕ → ℕ → ℤ
+by_customer prices i j = price_of prices j
+
+-- what the steps from i over the stops are paid; a return to the depot is paid nothing
+abbrev pub paid_from : (ℕ → ℕ → ℤ) → ℕ → List ℕ → ℤ
+paid_from paid i [] = pos 0
+paid_from paid i (j ∷ r) = paid i j +ℤ paid_from paid j r
+
+-- in grains: the cost less what the steps are paid
+abbrev pub reduced_cost_by : Problem → (ℕ → ℕ → ℤ) → List ℕ → ℤ
+reduced_cost_by p paid r = pos (1000 * route_cost p r) -ℤ paid_from paid 0 r
+
 -- m is the least reduced cost of a relaxed route
 pub record IsLeast (p : Problem) (g : Region) (k : ℕ) (prices : List ℤ) (m : ℤ) : Type 0 where
   pub reached : (r : List ℕ) × IsRelaxed p g k r × (reduced_cost p prices r ≡ m)
@@ -49,3 +62,8 @@ pub record IsLeast (p : Problem) (g : Region) (k : ℕ) (prices : List ℤ) (m :
 -- m is the least reduced cost, or 0 where no route is relaxed
 abbrev pub IsLeastOrZero : Problem → Region → ℕ → List ℤ → ℤ → Type 0
 IsLeastOrZero p g k prices m = IsLeast p g k prices m ⊎ (((r : List ℕ) → ¬ IsRelaxed p g k r) × (m ≡ pos 0))
+
+-- m is the least reduced cost of a relaxed route, where steps are paid
+pub record IsLeastBy (p : Problem) (g : Region) (k : ℕ) (paid : ℕ → ℕ → ℤ) (m : ℤ) : Type 0 where
+  pub reached : (r : List ℕ) × IsRelaxed p g k r × (reduced_cost_by p paid r ≡ m)
+  pub least : (r : List ℕ) → IsRelaxed p g k r → m ≤ℤ reduced_cost_by p paid r

@@ -4,18 +4,19 @@ use Rattle.solomon_reader.specs.declared.limits.TheConstants.{MOST_PRICE, MOST_D
 use Rattle.solomon_reader.specs.Problem.{Problem, IsCustomer, demand, ready, due, service}
 use Rattle.solomon_reader.specs.Distance.{distance}
 use Rattle.solomon_reader.specs.Region.{Region, IsAllowed}
-use Rattle.solomon_reader.specs.Relaxed.{price_of}
+use Rattle.solomon_reader.specs.Relaxed.{by_customer}
 use Rattle.solomon_reader.specs.Remembering.{near, remember}
 
--- prices at a region of an instance, with the number of neighbours that are remembered
+-- what steps are paid at a region of an instance, with the number of neighbours that are remembered
 pub record Pricing : Type 0 where
   pub problem : Problem
   pub region : Region
   pub neighbours : ℕ
-  pub prices : List ℤ
+  pub paid : ℕ → ℕ → ℤ
 
+-- each step is paid the price of the customer that it leads to
 abbrev pub pricing : Problem → Region → ℕ → List ℤ → Pricing
-pricing p g k prices = record { problem = p; region = g; neighbours = k; prices = prices }
+pricing p g k prices = record { problem = p; region = g; neighbours = k; paid = by_customer prices }
 
 pub record State : Type 0 where
   pub last : ℕ
@@ -32,14 +33,14 @@ abbrev pub begins : Problem → State → ℕ → ℕ
 begins p a j = max (a.time + distance p a.last j) (ready p j)
 
 -- what an arc to j adds to the reduced cost
-abbrev pub arc_value : Problem → List ℤ → ℕ → ℕ → ℤ
-arc_value p prices i j = pos (1000 * distance p i j) -ℤ price_of prices j
+abbrev pub arc_value : Problem → (ℕ → ℕ → ℤ) → ℕ → ℕ → ℤ
+arc_value p paid i j = pos (1000 * distance p i j) -ℤ paid i j
 
 -- the most that a stop adds to a reduced cost, or takes from it
 abbrev pub most_grains : ℕ
 most_grains = MOST_PRICE + 1000 * MOST_DISTANCE
 
--- a price in its range
+-- what a step is paid, in its range
 pub record IsPriced (z : ℤ) : Type 0 where
   pub low : pos 0 ≤ℤ (z +ℤ pos MOST_PRICE)
   pub high : z ≤ℤ pos MOST_PRICE
@@ -49,7 +50,7 @@ step q a j = record {
   last = j;
   time = begins q.problem a j + service q.problem j;
   load = a.load + demand q.problem j;
-  cost = a.cost +ℤ arc_value q.problem q.prices a.last j;
+  cost = a.cost +ℤ arc_value q.problem q.paid a.last j;
   memory = remember (near q.problem q.neighbours) a.memory j;
 }
 

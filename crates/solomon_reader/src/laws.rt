@@ -1,7 +1,7 @@
 //! Laws of the definitions, and the definitions at small instances.
 
 ghost use Rattle.solomon_reader.specs.Duality.{CeilingHolds, NoPlanAbove, TreeBoundHolds, WeakDuality};
-ghost use Rattle.solomon_reader.specs.Laws.{FirstFaultStays, OneBound, OneLeast};
+ghost use Rattle.solomon_reader.specs.Laws.{FirstFaultStays, OneBound, OneLeast, PaidByCustomer};
 ghost use Rattle.solomon_reader.specs.SetDuality.{NeedsHold, SameWithoutSets, SetTreeBoundHolds, SetWeakDuality};
 ghost use Rattle.solomon_reader.specs.Rows.{WorkedBounds, WorkedMoves, WorkedRows, WorkedSets};
 
@@ -28,6 +28,12 @@ pub fn worked_moves()
 /// There is one least reduced cost, which is 0 where no route is relaxed.
 pub fn one_least()
     ensures { OneLeast }
+{}
+
+/// Where each step is paid the price of the customer that it leads to, the reduced cost of a list is its cost less the
+/// prices of its stops.
+pub fn paid_by_customer()
+    ensures { PaidByCustomer }
 {}
 
 /// A tree has one bound.

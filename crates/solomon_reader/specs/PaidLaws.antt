@@ -1,0 +1,21 @@
+-- Where steps are paid the prices of the customers that they lead to.
+use Rattle.std.proofs.Common.{◌≡◌, refl, ℕ, List, [], ◌∷◌, arith, sym, ◌∙◌}
+use Rattle.std.specs.Prelude.{ℤ, ◌≤ℤ◌}
+use Rattle.std.proofs.lemmas.Int.{ints}
+use Rattle.solomon_reader.specs.Problem.{Problem}
+use Rattle.solomon_reader.specs.Region.{Region}
+use Rattle.solomon_reader.specs.Relaxed.{int_sum_by, price_of, by_customer, paid_from, reduced_cost, reduced_cost_by, IsLeast, IsLeastBy}
+
+-- the stops are paid their prices
+pub paid_prices : (prices : List ℤ) (i : ℕ) (r : List ℕ) → paid_from (by_customer prices) i r ≡ int_sum_by (price_of prices) r
+paid_prices prices i [] = refl
+paid_prices prices i (j ∷ r) = omega (arith, ints, paid_prices prices j r)
+
+pub reduced_by_customer : (p : Problem) (prices : List ℤ) (r : List ℕ) → reduced_cost_by p (by_customer prices) r ≡ reduced_cost p prices r
+reduced_by_customer p prices r = omega (arith, ints, paid_prices prices 0 r)
+
+pub least_by_customer : (p : Problem) (g : Region) (k : ℕ) (prices : List ℤ) (m : ℤ) → IsLeastBy p g k (by_customer prices) m → IsLeast p g k prices m
+least_by_customer p g k prices m is = record {
+  reached = (is.reached.0, is.reached.1, sym (reduced_by_customer p prices is.reached.0) ∙ is.reached.2);
+  least = λ r h. omega (arith, ints, is.least r h, reduced_by_customer p prices r);
+}
