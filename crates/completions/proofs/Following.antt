@@ -1,5 +1,5 @@
 -- Bounds on what may follow.
-use Rattle.std.proofs.Common.{◌≡◌, refl, ℕ, ◌+◌, ◌*◌, ◌<◌, ◌≤◌, eqb, List, [], ◌∷◌, arith, ap, sym, inl, inr, ◌⊎◌}
+use Rattle.std.proofs.Common.{◌≡◌, refl, ℕ, ◌+◌, ◌*◌, ◌<◌, ◌≤◌, eqb, List, [], ◌∷◌, arith, ap, sym, ◌∙◌, inl, inr, ◌⊎◌}
 use Rattle.std.specs.Prelude.{ℤ, pos, ◌+ℤ◌, ◌-ℤ◌, ◌≤ℤ◌}
 use Rattle.std.proofs.lemmas.Int.{ints}
 use Rattle.std.proofs.lemmas.Bool.{eq-eqb, or_left}
@@ -8,17 +8,17 @@ use Rattle.solomon_reader.specs.declared.limits.TheConstants.{MOST_PRICE, MOST_C
 use Rattle.solomon_reader.specs.Distance.{distance}
 use Rattle.solomon_reader.specs.Plan.{load_of}
 use Rattle.solomon_reader.specs.Problem.{IsCustomer, demand, due}
-use Rattle.solomon_reader.specs.States.{Pricing, State, begins, step, Completes, value_with}
+use Rattle.solomon_reader.specs.States.{Pricing, State, arc_value, begins, step, Completes, value_with}
 use Rattle.fronts.specs.declared.front.Front.{Front}
 use Rattle.completions.specs.declared.bound.Bound.{Bound}
 use Rattle.completions.specs.declared.brink.Brink.{Brink}
 use Rattle.completions.specs.Completions.{most_paid, IsSmall, Holds, IsFrom, IsBound, StartsIn, IsBoundAmong, IsEndBound, IsBoundWith, IsOnward, IsBelowStep, IsJoined, IsBrink, IsNoNews}
-use Rattle.fronts.specs.Fronts.{bare_state, IsTask, IsAfter}
+use Rattle.fronts.specs.Fronts.{bare_state, IsPaid, IsAfter}
 use Rattle.solomon_reader.specs.Memories.{place_of}
 use Rattle.solomon_reader.proofs.Places.{near_at}
 use Rattle.solomon_reader.specs.Region.{IsAllowed}
 use Rattle.fronts.specs.Steps.{IsReachable}
-use Rattle.fronts.proofs.Stepping.{can_reach, price_small}
+use Rattle.fronts.proofs.Stepping.{can_reach}
 use Rattle.solomon_reader.proofs.Completions.{never_back}
 
 module _ (q : Pricing) where
@@ -30,16 +30,16 @@ module _ (q : Pricing) where
   room_whole [] a h = omega arith
   room_whole (j ∷ s) a h = omega (arith, load_fits s (step q a j) h.0.load h.1, sum_by-cons (demand q.problem) j s)
 
-  module _ (task : IsTask q.problem q.region q.prices) where
+  module _ (task : IsPaid q) where
     least_whole : (s : List ℕ) (a : State) → Completes q a s → a.cost ≤ℤ (value_with q a s +ℤ pos (MOST_PRICE * load_of q.problem s))
     least_whole [] a h = omega (arith, ints)
     least_whole (j ∷ s) a h =
-        omega (arith, ints, least_whole s (step q a j) h.1, (price_small q task j h.0.customer).high, task.carried j h.0.customer, sum_by-cons (demand q.problem) j s)
+        omega (arith, ints, least_whole s (step q a j) h.1, (task.priced a.last j h.0.customer).high, task.carried j h.0.customer, sum_by-cons (demand q.problem) j s)
 
     pub paid_little : q.problem.capacity ≤ MOST_CAPACITY → (s : List ℕ) (a : State) → Completes q a s → a.cost ≤ℤ (value_with q a s +ℤ pos most_paid)
     paid_little held s a h = omega (arith, ints, least_whole s a h, room_whole s a h, held)
 
-module _ (q : Pricing) (task : IsTask q.problem q.region q.prices) (held : q.problem.capacity ≤ MOST_CAPACITY) where
+module _ (q : Pricing) (task : IsPaid q) (held : q.problem.capacity ≤ MOST_CAPACITY) where
   -- of anything that may follow
   pub bound_whole : (v t d : ℕ) (b : Bound) → q.problem.capacity ≡ b.room → (b.least +ℤ pos most_paid) ≡ pos 0 → (b.other +ℤ pos most_paid) ≡ pos 0 → IsBound q v t d b
   bound_whole v t d b room least other = record {
@@ -59,7 +59,7 @@ module _ (q : Pricing) (task : IsTask q.problem q.region q.prices) (held : q.pro
     begins_no_later : (a : State) (j : ℕ) → a.last ≡ v → t ≤ a.time → begins q.problem (bare_state f) j ≤ begins q.problem a j
     begins_no_later a j last later = omega (arith, later, time_is, ap (λ (i : ℕ). distance q.problem i j) last, ap (λ (i : ℕ). distance q.problem i j) last_is)
 
-    module _ (j e : ℕ) (sum : e ≡ d + demand q.problem j) (b : Bound) (next : Front) (on : Bound) (least z : ℤ) (is : z ≡ least) (out : Bound) (after : IsAfter q.problem q.prices f j next)
+    module _ (j e : ℕ) (sum : e ≡ d + demand q.problem j) (b : Bound) (next : Front) (on : Bound) (least z : ℤ) (is : z ≡ least) (out : Bound) (after : IsAfter q.problem q.paid f j next)
         (bound : IsBound q j next.time e on) (onward : IsOnward q v j next.time e least) (joined_z : IsJoined b j next.load next.cost on.room z out) where
       joined : IsJoined b j next.load next.cost on.room least out
       joined = rw is at joined_z
@@ -79,8 +79,8 @@ module _ (q : Pricing) (task : IsTask q.problem q.region q.prices) (held : q.pro
       reach : (z : ℤ) → IsBelowStep next.cost least z → (a : State) (s : List ℕ) → IsFrom v t d a → Completes q a (j ∷ s) → (a.cost +ℤ z) ≤ℤ value_with q a (j ∷ s)
       reach z below a s from h =
           let paid = paid_little q task held (j ∷ s) a h in
-          let far : distance q.problem a.last j ≡ distance q.problem f.last j =
-          omega (arith, ap (λ (i : ℕ). distance q.problem i j) from.last, ap (λ (i : ℕ). distance q.problem i j) last_is) in
+          let far : arc_value q.problem q.paid a.last j ≡ arc_value q.problem q.paid f.last j =
+          ap (λ (i : ℕ). arc_value q.problem q.paid i j) (from.last ∙ sym last_is) in
           let low : z ≤ℤ (value_with q a (j ∷ s) -ℤ a.cost) =
           below _ (omega (arith, ints, onward.least a s from.last from.remembered (onward_from a from) h.0 h.1, after.cost, cost, far)) (omega (arith, ints, paid)) in
           omega (arith, ints, low)
@@ -115,7 +115,7 @@ module _ (q : Pricing) (task : IsTask q.problem q.region q.prices) (held : q.pro
       bound_yes = record { small = joined.small; older = older; on = at_step }
 
     -- a step that brings no news
-    pub bound_same : (j : ℕ) (b : Bound) (next : Front) → IsAfter q.problem q.prices f j next → IsSmall b → IsNoNews q j next b → IsBoundWith q v t d j b b
+    pub bound_same : (j : ℕ) (b : Bound) (next : Front) → IsAfter q.problem q.paid f j next → IsSmall b → IsNoNews q j next b → IsBoundWith q v t d j b b
     bound_same j b next after small none = record { small = small; older = λ a s h. h; on = on }
       where
         on_from : (a : State) → IsFrom v t d a → IsFrom j next.time 0 (step q a j)
@@ -128,8 +128,8 @@ module _ (q : Pricing) (task : IsTask q.problem q.region q.prices) (held : q.pro
 
         on : (a : State) (s : List ℕ) → IsFrom v t d a → Completes q a (j ∷ s) → Holds q a (j ∷ s) b
         on a s from h =
-            let far : distance q.problem a.last j ≡ distance q.problem f.last j =
-            omega (arith, ap (λ (i : ℕ). distance q.problem i j) from.last, ap (λ (i : ℕ). distance q.problem i j) last_is) in
+            let far : arc_value q.problem q.paid a.last j ≡ arc_value q.problem q.paid f.last j =
+            ap (λ (i : ℕ). arc_value q.problem q.paid i j) (from.last ∙ sym last_is) in
             record {
               room = omega (arith, none.room (step q a j) s (on_from a from) h.1, after.load, load, sum_by-cons (demand q.problem) j s);
               least = omega (arith, ints, none.least (step q a j) s (on_from a from) h.1, after.cost, cost, far);

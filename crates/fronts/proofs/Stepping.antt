@@ -15,10 +15,12 @@ use Rattle.std.proofs.lemmas.List.{get_or_read, get_or_append_left, get_or_push}
 use Rattle.solomon_reader.specs.declared.limits.TheConstants.{MOST_TIME}
 use Rattle.solomon_reader.specs.Distance.{distance}
 use Rattle.solomon_reader.specs.Problem.{Problem, IsCustomer, due}
-use Rattle.solomon_reader.specs.Relaxed.{price_of}
-use Rattle.solomon_reader.specs.States.{Pricing, State, CanStep, IsPriced}
+use Rattle.solomon_reader.specs.Region.{Region}
+use Rattle.solomon_reader.specs.States.{Pricing, State, CanStep}
 use Rattle.fronts.specs.declared.step.Step.{Step}
-use Rattle.fronts.specs.Fronts.{IsTask}
+use Rattle.fronts.specs.declared.payment.Payment.{Payment}
+use Rattle.fronts.specs.Fronts.{IsTask, IsPaid}
+use Rattle.fronts.specs.Payments.{pricing_for}
 use Rattle.fronts.specs.Steps.{blank, step_at, steps_to, IsReachable, IsFreeStep, AreStepsFrom, IsAmong, IsStepFrom, IsOpenList}
 use Rattle.fronts.specs.Tables.{Rows}
 
@@ -41,9 +43,12 @@ found_at j (s ∷ steps) h =
 pub can_reach : (q : Pricing) (a : State) (j : ℕ) → CanStep q a j → IsReachable q.problem a.last j
 can_reach q a j can = record { load = omega (arith, can.load); window = omega (arith, can.due); way = omega (arith, can.due) }
 
--- the price of a customer is small
-pub price_small : (q : Pricing) → IsTask q.problem q.region q.prices → (j : ℕ) → IsCustomer q.problem j → IsPriced (price_of q.prices j)
-price_small q task j c = task.priced (j - 1) (pos 0) (omega (arith, task.count, c.0, c.1))
+-- what steps are paid is small
+pub paid_of : (p : Problem) (g : Region) (k : ℕ) (x : Payment) → IsTask p g x.prices.now → IsPaid (pricing_for p g k x)
+paid_of p g k x task = record {
+  priced = λ i j c. task.priced (j - 1) (pos 0) (omega (arith, task.count, c.0, c.1));
+  carried = task.carried;
+}
 
 -- the steps to those of the customers below n that may be reached stand there
 pub record HaveBelow (p : Problem) (k v n : ℕ) (steps : List Step) : Type 0 where
@@ -208,8 +213,8 @@ steps_where p k price P Q v steps same are = record {
 }
 
 -- the steps to the rows of a set that was read from a table
-pub open_list : (p : Problem) (k : ℕ) (prices : List ℤ) (table : List Rows) (v i : ℕ) (r : Rows) (steps : Vec Step Global) → i ≡ v → i < length table → r ≡ get_or table i r
-    → AreStepsFrom p k (price_of prices) (λ j. IsTrue (contains r j)) v steps.items → IsOpenList p k prices table v steps
-open_list p k prices table v i r steps same within is h =
+pub open_list : (p : Problem) (k : ℕ) (paid : ℕ → ℕ → ℤ) (table : List Rows) (v i : ℕ) (r : Rows) (steps : Vec Step Global) → i ≡ v → i < length table → r ≡ get_or table i r
+    → AreStepsFrom p k (paid v) (λ j. IsTrue (contains r j)) v steps.items → IsOpenList p k paid table v steps
+open_list p k paid table v i r steps same within is h =
     let at : r ≡ get_or table v empty = rw same at (get_or_read table i r within is empty) in
     rw at at h

@@ -5,7 +5,7 @@ use Rattle.solomon_reader.specs.declared.limits.TheConstants.{MOST_TIME, MOST_CA
 use Rattle.solomon_reader.specs.Problem.{Problem, IsCustomer, customer_count, demand, ready, service}
 use Rattle.solomon_reader.specs.Distance.{distance}
 use Rattle.solomon_reader.specs.Region.{Region}
-use Rattle.solomon_reader.specs.States.{State, arc_value, begins, most_grains, IsPriced}
+use Rattle.solomon_reader.specs.States.{Pricing, State, arc_value, begins, most_grains, IsPriced}
 use Rattle.fronts.specs.declared.front.Front.{Front}
 
 abbrev pub state_of : Front → (ℕ → Bool) → State
@@ -31,11 +31,11 @@ pub record IsStart (p : Problem) (f : Front) : Type 0 where
   pub cost : f.cost ≡ pos 0
 
 -- x is the front after f and a stop at j
-pub record IsAfter (p : Problem) (prices : List ℤ) (f : Front) (j : ℕ) (x : Front) : Type 0 where
+pub record IsAfter (p : Problem) (paid : ℕ → ℕ → ℤ) (f : Front) (j : ℕ) (x : Front) : Type 0 where
   pub last : x.last ≡ j
   pub time : x.time ≡ begins p (bare_state f) j + service p j
   pub load : x.load ≡ f.load + demand p j
-  pub cost : x.cost ≡ f.cost +ℤ arc_value p prices f.last j
+  pub cost : x.cost ≡ f.cost +ℤ arc_value p paid f.last j
 
 -- the reduced cost with the return to the depot
 abbrev pub end_cost : Problem → Front → ℤ
@@ -47,3 +47,8 @@ pub record IsTask (p : Problem) (g : Region) (prices : List ℤ) : Type 0 where
   pub count : length prices ≡ customer_count p
   pub priced : All IsPriced prices
   pub carried : (i : ℕ) → IsCustomer p i → 1 ≤ demand p i
+
+-- what each step to a customer is paid is in its range, and each customer has a demand
+pub record IsPaid (q : Pricing) : Type 0 where
+  pub priced : (i j : ℕ) → IsCustomer q.problem j → IsPriced (q.paid i j)
+  pub carried : (j : ℕ) → IsCustomer q.problem j → 1 ≤ demand q.problem j

@@ -1,4 +1,5 @@
 pub mod Flags
+pub mod Payments
 pub mod Fronts
 pub mod Memories
 pub mod Tables

@@ -9,7 +9,6 @@ use Rattle.solomon_reader.specs.Distance.{distance}
 use Rattle.solomon_reader.specs.Memories.{place_of}
 use Rattle.solomon_reader.specs.Problem.{Problem, IsCustomer, demand, ready, due, service}
 use Rattle.solomon_reader.specs.Region.{IsAllowed}
-use Rattle.solomon_reader.specs.Relaxed.{price_of}
 use Rattle.solomon_reader.specs.States.{Pricing}
 use Rattle.fronts.specs.Tables.{Rows}
 use Rattle.fronts.specs.declared.step.Step.{Step}
@@ -60,21 +59,21 @@ pub record AreStepsFrom (p : Problem) (k : ℕ) (price : ℕ → ℤ) (P : ℕ �
 abbrev pub IsStepList : Problem → ℕ → ℕ → Vec Step Global → Type 0
 IsStepList p k v steps = AreStepsFrom p k (λ _. pos 0) (λ _. Unit {0}) v steps.items
 
--- the list of those to some rows, at these prices
-abbrev pub AreStepsTo : Problem → ℕ → List ℤ → Rows → ℕ → Vec Step Global → Type 0
-AreStepsTo p k prices rows v steps = AreStepsFrom p k (price_of prices) (λ j. IsTrue (contains rows j)) v steps.items
+-- the list of those to some rows, where steps are paid
+abbrev pub AreStepsTo : Problem → ℕ → (ℕ → ℕ → ℤ) → Rows → ℕ → Vec Step Global → Type 0
+AreStepsTo p k paid rows v steps = AreStepsFrom p k (paid v) (λ j. IsTrue (contains rows j)) v steps.items
 
 -- the list of those to the rows that stand at v
-abbrev pub IsOpenList : Problem → ℕ → List ℤ → List Rows → ℕ → Vec Step Global → Type 0
-IsOpenList p k prices table v steps = AreStepsTo p k prices (slice_index_or table v empty) v steps
+abbrev pub IsOpenList : Problem → ℕ → (ℕ → ℕ → ℤ) → List Rows → ℕ → Vec Step Global → Type 0
+IsOpenList p k paid table v steps = AreStepsTo p k paid (slice_index_or table v empty) v steps
 
 -- the step is one that the pricing allows
 abbrev pub IsOpenStep : Pricing → ℕ → Step → Type 0
-IsOpenStep q v s = IsStepFrom q.problem q.neighbours (price_of q.prices) v s × IsAllowed q.region (v, s.customer)
+IsOpenStep q v s = IsStepFrom q.problem q.neighbours (q.paid v) v s × IsAllowed q.region (v, s.customer)
 
 -- the steps are those that the pricing allows
 abbrev pub AreOpenSteps : Pricing → ℕ → List Step → Type 0
-AreOpenSteps q v steps = AreStepsFrom q.problem q.neighbours (price_of q.prices) (λ j. IsAllowed q.region (v, j)) v steps
+AreOpenSteps q v steps = AreStepsFrom q.problem q.neighbours (q.paid v) (λ j. IsAllowed q.region (v, j)) v steps
 
 -- j is the customer of one of the first i steps
 abbrev pub IsAmong : List Step → ℕ → ℕ → Type 0

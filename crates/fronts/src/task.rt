@@ -1,9 +1,10 @@
 //! What a labeller works on.
 
 ghost use Rattle.std.specs.Prelude.{◌≡◌, ◌+◌, ◌<◌, ◌≤◌, length, IfOk, IfSome, IsTrue, IsFalse};
-ghost use Rattle.solomon_reader.specs.States.{pricing, CanStep};
-ghost use Rattle.fronts.specs.Fronts.{IsTask, IsBounded, IsAfter};
+ghost use Rattle.solomon_reader.specs.States.{CanStep};
+ghost use Rattle.fronts.specs.Fronts.{IsTask, IsPaid, IsBounded, IsAfter};
 ghost use Rattle.fronts.specs.Memories.{state_with, ArePlaces, IsWholeList, Keeps};
+ghost use Rattle.fronts.specs.Payments.{paid_by, pricing_for};
 ghost use Rattle.fronts.specs.Steps.{IsOpenList, IsOpenStep, AreOpenSteps};
 ghost use Rattle.fronts.specs.Tables.{IsAllowedRow, IsTable};
 ghost use Rattle.fronts.specs.declared.neighbours.TheConstants.{LIST_SIZE};
@@ -14,6 +15,7 @@ use crate::memory::Memory;
 use crate::nearness::Nearness;
 use crate::neighbours::LIST_SIZE;
 use crate::open_steps::open_steps;
+use crate::payment::Payment;
 use crate::slots::Slots;
 use crate::step::Step;
 use crate::tables::allowed_rows;
@@ -28,7 +30,7 @@ pub struct Task<'i> {
     pub alloc: Global,
     pub instance: &'i Instance,
     pub region: &'i Region,
-    pub prices: &'i [i64],
+    pub payment: Payment<'i>,
     pub neighbours: u32,
     pub places: &'i [Vec<u8>],
     pub neighbour_lists: &'i [[u16; LIST_SIZE as usize]],
@@ -36,37 +38,38 @@ pub struct Task<'i> {
     pub slots: &'i Slots,
     allowed_rows: Vec<CustomerSet>,
     steps: Vec<Vec<Step>>,
-    ghost task: { IsTask instance.now region.now prices.now },
+    ghost task: { IsPaid (pricing_for instance.now region.now neighbours payment) },
     ghost few: { neighbours < LIST_SIZE },
     ghost placed: { IsTable (ArePlaces instance.now neighbours) (length instance.now.rows) places.now },
     ghost near: { IsTable (IsWholeList instance.now neighbours) (length instance.now.rows) neighbour_lists.now },
     ghost allowed: { IsTable (IsAllowedRow region.now) (length instance.now.rows) allowed_rows.items },
-    ghost stepped: { IsTable (IsOpenList instance.now neighbours prices.now allowed_rows.items) (length instance.now.rows) steps.items },
+    ghost stepped: { IsTable (IsOpenList instance.now neighbours (paid_by payment) allowed_rows.items) (length instance.now.rows) steps.items },
 }
 
 impl<'i> Task<'i> {
     /// The task of these.
+    #[tactic(auto, using(crate::proofs::Stepping::paid_of))]
     pub fn new(
         alloc: Global,
         nearness: &'i Nearness<'_>,
         region: &'i Region,
-        prices: &'i [i64],
+        payment: Payment<'i>,
     ) -> Result<Task<'i>, AllocError>
-        requires { IsTask nearness.now.instance.now region.now prices.now }
+        requires { IsTask nearness.now.instance.now region.now payment.prices.now }
         ensures instance { IfOk result (λ t. t.instance.now ≡ nearness.now.instance.now) }
         ensures region { IfOk result (λ t. t.region.now ≡ region.now) }
-        ensures prices { IfOk result (λ t. t.prices.now ≡ prices.now) }
+        ensures payment { IfOk result (λ t. t.payment ≡ payment.entry) }
         ensures neighbours { IfOk result (λ t. t.neighbours ≡ nearness.now.neighbours) }
     {
         let instance = nearness.instance;
         instance.law_of_limits();
         let allowed_rows = allowed_rows(alloc, instance, region)?;
-        let steps = open_steps(alloc, nearness, prices, allowed_rows.as_slice())?;
+        let steps = open_steps(alloc, nearness, &payment, allowed_rows.as_slice())?;
         Ok(Task {
             alloc,
             instance,
             region,
-            prices,
+            payment,
             neighbours: nearness.neighbours,
             places: nearness.places.as_slice(),
             neighbour_lists: nearness.neighbour_lists.as_slice(),
@@ -88,7 +91,7 @@ impl<'i> Task<'i> {
     pub fn steps_from(&self, v: u16) -> &[Step]
         requires { v < length self.now.instance.now.rows }
         ensures { let t = self.now in
-            let q = pricing t.instance.now t.region.now t.neighbours t.prices.now in
+            let q = pricing_for t.instance.now t.region.now t.neighbours t.payment in
             AreOpenSteps q v result.now }
     {
         self.steps[usize::from(v)].as_slice()
@@ -98,7 +101,7 @@ impl<'i> Task<'i> {
     pub fn step_to(&self, v: u16, j: u16) -> Option<Step>
         requires { v < length self.now.instance.now.rows }
         ensures { let t = self.now in
-            let q = pricing t.instance.now t.region.now t.neighbours t.prices.now in
+            let q = pricing_for t.instance.now t.region.now t.neighbours t.payment in
             IfSome result (IsOpenStep q v) }
     {
         for step in self.steps_from(v) {
@@ -112,14 +115,14 @@ impl<'i> Task<'i> {
     /// Whether a route that remembers this may take a step after a front.
     pub fn can_take(&self, front: &Front, memory: Memory, step: &Step) -> bool
         requires step { let t = self.now in
-            let q = pricing t.instance.now t.region.now t.neighbours t.prices.now in
+            let q = pricing_for t.instance.now t.region.now t.neighbours t.payment in
             IsOpenStep q front.now.last step.now }
         requires bounded { IsBounded self.now.instance.now front.now }
         ensures yes { let t = self.now in
-            let q = pricing t.instance.now t.region.now t.neighbours t.prices.now in
+            let q = pricing_for t.instance.now t.region.now t.neighbours t.payment in
             IsTrue result → CanStep q (state_with q front.now memory.bits) step.now.customer }
         ensures no { let t = self.now in
-            let q = pricing t.instance.now t.region.now t.neighbours t.prices.now in
+            let q = pricing_for t.instance.now t.region.now t.neighbours t.payment in
             IsFalse result → ¬ CanStep q (state_with q front.now memory.bits) step.now.customer }
     {
         if memory.contains(step.place) {
@@ -132,13 +135,13 @@ impl<'i> Task<'i> {
     /// The vehicle after a step that it may take after a front.
     pub fn after(&self, front: &Front, step: &Step) -> Front
         requires step { let t = self.now in
-            let q = pricing t.instance.now t.region.now t.neighbours t.prices.now in
+            let q = pricing_for t.instance.now t.region.now t.neighbours t.payment in
             IsOpenStep q front.now.last step.now }
         requires bounded { IsBounded self.now.instance.now front.now }
         requires load { front.now.load + step.now.demand ≤ self.now.instance.now.capacity }
         requires soon { front.now.time ≤ step.now.latest }
         ensures after { let t = self.now in
-            IsAfter t.instance.now t.prices.now front.now step.now.customer result }
+            IsAfter t.instance.now (paid_by t.payment) front.now step.now.customer result }
         ensures bounded { IsBounded self.now.instance.now result }
     {
         let begins = (front.time + u64::from(step.way)).max(u64::from(step.ready));

@@ -14,9 +14,12 @@ pub record Pricing : Type 0 where
   pub neighbours : ℕ
   pub paid : ℕ → ℕ → ℤ
 
+abbrev pub pricing_by : Problem → Region → ℕ → (ℕ → ℕ → ℤ) → Pricing
+pricing_by p g k paid = record { problem = p; region = g; neighbours = k; paid = paid }
+
 -- each step is paid the price of the customer that it leads to
 abbrev pub pricing : Problem → Region → ℕ → List ℤ → Pricing
-pricing p g k prices = record { problem = p; region = g; neighbours = k; paid = by_customer prices }
+pricing p g k prices = pricing_by p g k (by_customer prices)
 
 pub record State : Type 0 where
   pub last : ℕ

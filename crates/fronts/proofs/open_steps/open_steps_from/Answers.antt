@@ -1,8 +1,7 @@
-use Rattle.std.proofs.Common.{◌≡◌, ◌-◌, ◌<◌, ℕ, List, Vec, Global, length, get_or, true, false, arith, ap, sym, ◌∙◌}
+use Rattle.std.proofs.Common.{◌≡◌, ◌<◌, ℕ, List, Vec, Global, length, get_or, true, false, arith, ap, sym, ◌∙◌}
 use Rattle.std.specs.Prelude.{pos}
 use Rattle.std.proofs.lemmas.Int.{ints}
-use Rattle.solomon_reader.specs.Relaxed.{price_of}
-use Rattle.solomon_reader.specs.States.{IsPriced}
+use Rattle.fronts.specs.Payments.{paid_by}
 use Rattle.fronts.specs.Steps.{blank, AreStepsFrom}
 use Rattle.fronts.specs.declared.nearness.Nearness.{Nearness}
 use Rattle.fronts.specs.declared.step.Step.{Step}
@@ -16,14 +15,14 @@ steps_read : (near : Nearness) (v i : ℕ) (row : Vec Step Global) (steps : List
     → AreStepsFrom near.instance.now near.neighbours (λ _. pos 0) (λ _. Unit {0}) v steps
 steps_read near v i row steps within at is items = rw (items, is, at) (near.stepped.each v row within)
 
-pub overflow_sub-from : goal.overflow_sub-from
-overflow_sub-from c =
+pub of_step-paid-requires-clause-some : goal.of_step-paid-requires-clause-some
+of_step-paid-requires-clause-some c =
     let are = steps_read c.args.nearness.now c.args.v c.from.result c.index.result.now c.as_slice-steps.result.now c.requires.v c.from.ensures c.index.ensures c.as_slice-steps.ensures.value in
     let step = (are.each c.loop-step.step-index blank c.loop-step-test.true).0 in
     omega (arith, step.customer.0)
 
-pub bounds-prices-from : goal.bounds-prices-from
-bounds-prices-from c =
+pub of_step-paid-requires-clause-within : goal.of_step-paid-requires-clause-within
+of_step-paid-requires-clause-within c =
     let are = steps_read c.args.nearness.now c.args.v c.from.result c.index.result.now c.as_slice-steps.result.now c.requires.v c.from.ensures c.index.ensures c.as_slice-steps.ensures.value in
     let step = (are.each c.loop-step.step-index blank c.loop-step-test.true).0 in
     omega (arith, step.customer.0, step.customer.1)
@@ -43,16 +42,13 @@ at-requires-clause-high c =
 pub loop-step-preserved : goal.loop-step-preserved
 loop-step-preserved c =
     let near = c.args.nearness.now in
-    let prices = c.args.prices.now in
+    let paid = paid_by c.args.payment.now in
     let are = steps_read near c.args.v c.from.result c.index.result.now c.as_slice-steps.result.now c.requires.v c.from.ensures c.index.ensures c.as_slice-steps.ensures.value in
     let step = (are.each c.loop-step.step-index blank c.loop-step-test.true).0 in
     elim c.if-contains.branch [
       | then-contains+in_ok-push w ↦ (let customer = ap (λ (s : Step). s.customer) w.at.ensures in
-          let price = ap (λ (n : ℕ). price_of prices n) w.from-then-contains.ensures in
-          let priced : IsPriced (price_of prices w.from-then-contains.result) =
-          c.requires.priced (w.from-then-contains.result - 1) (pos 0) (omega (arith, step.customer.0, step.customer.1, w.from-then-contains.ensures)) in
           rw (w.chosen-is, w.in_ok-push.ensures.items) (opened_more _ _ _ _ _ _ _ _ c.loop-step.invariant w.at.result are c.loop-step-test.true
-          (step_at_price near.instance.now near.neighbours c.args.v (price_of prices) _ w.at.result _ step w.at.ensures (omega (arith, ints, price, priced.low, priced.high)))
+          (step_at_price near.instance.now near.neighbours c.args.v (paid c.args.v) _ w.at.result _ step w.at.ensures (omega (arith, ints, w.of_step-paid.ensures)))
           (rw customer (sym c.contains.ensures ∙ w.if-contains.true)) customer (ap (λ (s : Step). s.latest) w.at.ensures)))
       | else-contains w ↦ rw w.chosen-is (opened_same _ _ _ _ _ _ _ _ c.loop-step.invariant (λ h. (let t : true ≡ false = sym h ∙ sym c.contains.ensures ∙ w.if-contains.false in cc)))
     ]
