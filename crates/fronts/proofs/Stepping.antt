@@ -16,11 +16,12 @@ use Rattle.solomon_reader.specs.declared.limits.TheConstants.{MOST_TIME}
 use Rattle.solomon_reader.specs.Distance.{distance}
 use Rattle.solomon_reader.specs.Problem.{Problem, IsCustomer, due}
 use Rattle.solomon_reader.specs.Region.{Region}
-use Rattle.solomon_reader.specs.States.{Pricing, State, CanStep}
+use Rattle.solomon_reader.specs.Relaxed.{by_customer}
+use Rattle.solomon_reader.specs.States.{Pricing, State, CanStep, IsPriced}
 use Rattle.fronts.specs.declared.step.Step.{Step}
 use Rattle.fronts.specs.declared.payment.Payment.{Payment}
 use Rattle.fronts.specs.Fronts.{IsTask, IsPaid}
-use Rattle.fronts.specs.Payments.{pricing_for}
+use Rattle.fronts.specs.Payments.{paid_by, pricing_for}
 use Rattle.fronts.specs.Steps.{blank, step_at, steps_to, IsReachable, IsFreeStep, AreStepsFrom, IsAmong, IsStepFrom, IsOpenList}
 use Rattle.fronts.specs.Tables.{Rows}
 
@@ -44,9 +45,13 @@ pub can_reach : (q : Pricing) (a : State) (j : ℕ) → CanStep q a j → IsReac
 can_reach q a j can = record { load = omega (arith, can.load); window = omega (arith, can.due); way = omega (arith, can.due) }
 
 -- what steps are paid is small
+pub paid_small : (x : Payment) (i j : ℕ) → All IsPriced x.prices.now → 1 ≤ j → j ≤ length x.prices.now → IsPriced (paid_by x i j)
+unfolding by_customer
+paid_small x i j priced some within = priced (j - 1) (pos 0) (omega (arith, some, within))
+
 pub paid_of : (p : Problem) (g : Region) (k : ℕ) (x : Payment) → IsTask p g x.prices.now → IsPaid (pricing_for p g k x)
 paid_of p g k x task = record {
-  priced = λ i j c. task.priced (j - 1) (pos 0) (omega (arith, task.count, c.0, c.1));
+  priced = λ i j c. paid_small x i j task.priced c.0 (omega (arith, task.count, c.1));
   carried = task.carried;
 }
 

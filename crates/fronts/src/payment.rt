@@ -13,6 +13,7 @@ pub struct Payment<'p> {
 impl Payment<'_> {
     /// What a step from a row to a customer is paid, in grains.
     #[inline(always)]
+    #[tactic(auto, unfolding(solomon_reader::specs::Relaxed::by_customer))]
     pub(crate) fn of_step(&self, _from: u16, to: u16) -> i64
         requires some { 1 ≤ to }
         requires within { to ≤ length self.now.prices.now }

@@ -8,9 +8,10 @@ use Rattle.std.proofs.lemmas.Bool.{cases_lt, cases_eq, eq-eqb, or_left}
 use Rattle.std.proofs.lemmas.List.{reverse-append, length-reverse, take_all, drop_all, get_or_read, get_or_append_left, get_or_push, get_or-set_same, get_or-set_other}
 use Rattle.std.proofs.lemmas.Nat.Bits.{bit_at-zero}
 use Rattle.solomon_reader.specs.Problem.{Problem, IsCustomer, due}
-use Rattle.solomon_reader.specs.Region.{IsAllowed}
-use Rattle.solomon_reader.specs.Relaxed.{IsRelaxed, IsLeast, reduced_cost}
-use Rattle.solomon_reader.specs.States.{Pricing, start, arc_value, Completes, value_with, IsAtMost, State, step, CanStep, CanEnd}
+use Rattle.solomon_reader.specs.PaidLaws.{reduced_by_customer, least_by_customer}
+use Rattle.solomon_reader.specs.Region.{Region, IsAllowed}
+use Rattle.solomon_reader.specs.Relaxed.{IsRelaxed, IsLeast, IsLeastBy, reduced_cost, reduced_cost_by, by_customer}
+use Rattle.solomon_reader.specs.States.{Pricing, pricing, start, arc_value, Completes, value_with, IsAtMost, State, step, CanStep, CanEnd}
 use Rattle.solomon_reader.proofs.Completions.{relaxed_completes, value_is, reaches_none, reaches_more, at_most_more, reaches_same}
 use Rattle.completions.specs.Completions.{IsFrom, IsVisitBound}
 use Rattle.fronts.specs.Fronts.{end_cost, IsBounded, IsStart, IsAfter}
@@ -35,23 +36,38 @@ module _ (q : Pricing) where
   abbrev pub IsReached : Option ℤ → List ℕ → Type 0
   IsReached value route = MatchOption value (route ≡ []) (λ z. Completes q (start q) route × (value_with q (start q) route ≡ z))
 
-  value_by : (o : Option ℤ) (route : List ℕ) → IsReached o route → ((r : List ℕ) → IsRelaxed q.problem q.region q.neighbours r → IsAtMost o (reduced_cost q.problem q.prices r))
-      → MatchOption o ((r : List ℕ) → ¬ IsRelaxed q.problem q.region q.neighbours r) (λ z. IsLeast q.problem q.region q.neighbours q.prices z)
+  value_by : (o : Option ℤ) (route : List ℕ) → IsReached o route → ((r : List ℕ) → IsRelaxed q.problem q.region q.neighbours r → IsAtMost o (reduced_cost_by q.problem q.paid r))
+      → MatchOption o ((r : List ℕ) → ¬ IsRelaxed q.problem q.region q.neighbours r) (λ z. IsLeastBy q.problem q.region q.neighbours q.paid z)
   value_by None route found each = λ r relaxed. each r relaxed
   value_by (Some z) route found each =
       record { reached = (route, relaxed_completes q route found.0, sym (value_is q route) ∙ found.1); least = each }
 
   route_by : (o : Option ℤ) (route : List ℕ) → IsReached o route
-      → MatchOption o (route ≡ []) (λ z. IsRelaxed q.problem q.region q.neighbours route × (reduced_cost q.problem q.prices route ≡ z))
+      → MatchOption o (route ≡ []) (λ z. IsRelaxed q.problem q.region q.neighbours route × (reduced_cost_by q.problem q.paid route ≡ z))
   route_by None route found = found
   route_by (Some z) route found = (relaxed_completes q route found.0, sym (value_is q route) ∙ found.1)
 
-  pub least_value : (l : Least) → IsReached l.value l.route.items → ((r : List ℕ) → IsRelaxed q.problem q.region q.neighbours r → IsAtMost l.value (reduced_cost q.problem q.prices r))
-      → HasLeastValue q.problem q.region q.neighbours q.prices l
-  least_value l found each = value_by l.value l.route.items found each
+  pub is_least : (l : Least) → IsReached l.value l.route.items → ((r : List ℕ) → IsRelaxed q.problem q.region q.neighbours r → IsAtMost l.value (reduced_cost_by q.problem q.paid r)) → IsLeastOf q l
+  is_least l found each = record { value = value_by l.value l.route.items found each; route = route_by l.value l.route.items found }
 
-  pub least_route : (l : Least) → IsReached l.value l.route.items → HasItsRoute q.problem q.region q.neighbours q.prices l
-  least_route l found = route_by l.value l.route.items found
+-- ---- Where steps are paid the prices of the customers that they lead to.
+
+module _ (p : Problem) (g : Region) (k : ℕ) (prices : List ℤ) where
+  value_priced : (o : Option ℤ) → MatchOption o ((r : List ℕ) → ¬ IsRelaxed p g k r) (λ z. IsLeastBy p g k (by_customer prices) z)
+      → MatchOption o ((r : List ℕ) → ¬ IsRelaxed p g k r) (λ z. IsLeast p g k prices z)
+  value_priced None none = none
+  value_priced (Some z) is = least_by_customer p g k prices z is
+
+  route_priced : (o : Option ℤ) (route : List ℕ) → MatchOption o (route ≡ []) (λ z. IsRelaxed p g k route × (reduced_cost_by p (by_customer prices) route ≡ z))
+      → MatchOption o (route ≡ []) (λ z. IsRelaxed p g k route × (reduced_cost p prices route ≡ z))
+  route_priced None route none = none
+  route_priced (Some z) route is = (is.0, sym (reduced_by_customer p prices route) ∙ is.1)
+
+  pub least_value : (l : Least) → IsLeastOf (pricing p g k prices) l → HasLeastValue p g k prices l
+  least_value l is = value_priced l.value is.value
+
+  pub least_route : (l : Least) → IsLeastOf (pricing p g k prices) l → HasItsRoute p g k prices l
+  least_route l is = route_priced l.value l.route.items is.route
 
 -- ---- The list of labels grows, labels are dropped and extended, and what was said of it stays.
 
@@ -231,7 +247,7 @@ module _ (q : Pricing) where
     step_dear b dear = record { moved = moved_none q xs; labelled = arena; met = λ can. inr (inl (dear can)) }
 
     -- nothing after the front of the step costs less than the best
-    pub step_passed : (b : Option ℤ) (f : Front) → IsAfter q.problem q.prices l.front j f → IsPassed q b f → TakesStep q b xs xs l j
+    pub step_passed : (b : Option ℤ) (f : Front) → IsAfter q.problem q.paid l.front j f → IsPassed q b f → TakesStep q b xs xs l j
     step_passed b f after passed = record { moved = moved_none q xs; labelled = arena; met = λ can. inr (inl (counted can)) }
       where
         remembers : (i : ℕ) → i ≡ j → IsTrue ((step q (state_at q l) j).memory i)
@@ -326,7 +342,7 @@ module _ (q : Pricing) where
   }
 
 -- a step and what follows on a visit that ends no sooner cost no less than the best
-pub step_beyond : (q : Pricing) (b : Option ℤ) (a : State) (j t : ℕ) (z y : ℤ) → IsVisitBound q t j z → t ≤ a.time → y ≤ℤ (a.cost +ℤ (arc_value q.problem q.prices a.last j +ℤ z)) → IsAtMost b y
+pub step_beyond : (q : Pricing) (b : Option ℤ) (a : State) (j t : ℕ) (z y : ℤ) → IsVisitBound q t j z → t ≤ a.time → y ≤ℤ (a.cost +ℤ (arc_value q.problem q.paid a.last j +ℤ z)) → IsAtMost b y
     → IsStepDear q b a j
 step_beyond q b a j t z y bound later low met = λ can. record {
   dear = λ s h. (let from : IsFrom j t 0 (step q a j) = record { last = refl; later = omega (arith, later); heavier = omega arith; remembered = or_left (eqb j j) _ (eq-eqb j j refl) } in
@@ -585,8 +601,8 @@ module _ (q : Pricing) where
       reached : IsReached q l.value l.route.items
       reached = rw answer.amount (reached_by f.value searched.attained answer.stops)
 
-      each : (r : List ℕ) → IsRelaxed q.problem q.region q.neighbours r → IsAtMost l.value (reduced_cost q.problem q.prices r)
+      each : (r : List ℕ) → IsRelaxed q.problem q.region q.neighbours r → IsAtMost l.value (reduced_cost_by q.problem q.paid r)
       each r relaxed = rw answer.amount (least_at_end q f.value (HasPending q xs) (HasActive q xs) searched.covers (λ a s. swept.each s.index s.within s.within s.unextended) searched.first r relaxed)
 
       pub is_least_at_end : IsLeastOf q l
-      is_least_at_end = record { value = least_value q l reached each; route = least_route q l reached }
+      is_least_at_end = is_least q l reached each

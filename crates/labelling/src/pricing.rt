@@ -19,7 +19,7 @@ use crate::least_cost::Least;
 use crate::pricing_task::PricingTask;
 use branching::Region;
 use completions::Completions;
-use fronts::{Nearness, Task};
+use fronts::{Nearness, Payment, Task};
 use solomon_reader::Instance;
 use std::alloc::{AllocError, Global};
 
@@ -94,7 +94,10 @@ fn least_near(
     ensures unlimited { IfErr result (λ e. e ≡ LabelLimit → limit ≢ None) }
 {
     nearness.instance.law_of_limits();
-    let task = Task::new(alloc, nearness, &task.region, task.prices.as_slice())?;
+    let payment = Payment {
+        prices: task.prices.as_slice(),
+    };
+    let task = Task::new(alloc, nearness, &task.region, payment)?;
     least_of_task(&task, limit, known, kept)
 }
 
@@ -134,6 +137,7 @@ pub fn least(
 
 /// What `least` answers for a task, found sooner where a route of low reduced cost, the tables of the instance or an
 /// earlier search are known. It keeps further routes that were met.
+#[tactic(auto, using(crate::proofs::Advancing::least_value, crate::proofs::Advancing::least_route))]
 pub fn least_by_hints(
     alloc: Global,
     task: &PricingTask<'_>,

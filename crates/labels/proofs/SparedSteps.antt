@@ -66,7 +66,7 @@ module _ (q : Pricing) (few : q.neighbours < 16) (xs : List Label) (l : Label) (
     ahead = record {
       last = refl;
       time = omega (arith, sparing.ahead.time, far);
-      cost = omega (arith, ints, sparing.ahead.cost, far);
+      cost = omega (arith, ints, sparing.ahead.cost, ap (λ (i : ℕ). arc_value q.problem q.paid i j) sparing.ahead.last);
       memory = λ u h. elim (or_cases _ _ h) [
         | inl same ↦ or_left _ _ same
         | inr both ↦ (let parts = and_parts _ _ both in or_right (eqb u j) _ (and_from _ _ (kept_too u parts.1 parts.0) parts.1))

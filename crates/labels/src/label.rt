@@ -3,6 +3,7 @@
 ghost use Rattle.std.specs.Prelude.{◌≡◌, ◌+◌, ◌≤◌, ◌↔◌, IsTrue};
 ghost use Rattle.solomon_reader.specs.States.{CanStep};
 ghost use Rattle.fronts.specs.Fronts.{IsAfter, IsBounded};
+ghost use Rattle.fronts.specs.Payments.{paid_by};
 ghost use Rattle.fronts.specs.Tasks.{pricing_of};
 ghost use Rattle.labels.specs.Arena.{state_at, IsExtension};
 ghost use Rattle.labels.specs.Cover.{IsNoWorse, Carries};
@@ -41,7 +42,7 @@ impl Label {
         requires bounded { IsBounded task.now.instance.now self.now.front }
         requires light { self.now.stops ≤ self.now.front.load }
         requires can { CanStep (pricing_of task.now) (state_at (pricing_of task.now) self.now) j }
-        requires after { IsAfter task.now.instance.now task.now.prices.now self.now.front j front }
+        requires after { IsAfter task.now.instance.now (paid_by task.now.payment) self.now.front j front }
         requires after_bounded { IsBounded task.now.instance.now front }
         requires carried { self.now.front.load + 1 ≤ front.load }
         ensures { IsExtension (pricing_of task.now) self.now index j result }

@@ -8,6 +8,7 @@ use Rattle.solomon_reader.specs.Relaxed.{int_sum_by, price_of, by_customer, paid
 
 -- the stops are paid their prices
 pub paid_prices : (prices : List ℤ) (i : ℕ) (r : List ℕ) → paid_from (by_customer prices) i r ≡ int_sum_by (price_of prices) r
+unfolding by_customer
 paid_prices prices i [] = refl
 paid_prices prices i (j ∷ r) = omega (arith, ints, paid_prices prices j r)
 

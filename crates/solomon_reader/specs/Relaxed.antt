@@ -42,7 +42,7 @@ abbrev pub reduced_cost : Problem → List ℤ → List ℕ → ℤ
 reduced_cost p prices r = pos (1000 * route_cost p r) -ℤ int_sum_by (price_of prices) r
 
 -- a step from i to j is paid the price of j
-abbrev pub by_customer : List ℤ → ℕ → ℕ → ℤ
+unfoldable pub by_customer : List ℤ → ℕ → ℕ → ℤ
 by_customer prices i j = price_of prices j
 
 -- what the steps from i over the stops are paid; a return to the depot is paid nothing

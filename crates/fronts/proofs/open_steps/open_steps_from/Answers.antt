@@ -5,7 +5,7 @@ use Rattle.fronts.specs.Payments.{paid_by}
 use Rattle.fronts.specs.Steps.{blank, AreStepsFrom}
 use Rattle.fronts.specs.declared.nearness.Nearness.{Nearness}
 use Rattle.fronts.specs.declared.step.Step.{Step}
-use Rattle.fronts.proofs.Stepping.{step_at_price, opened_same, opened_more, opened_all}
+use Rattle.fronts.proofs.Stepping.{paid_small, step_at_price, opened_same, opened_more, opened_all}
 use Rattle.fronts.proofs.open_steps.open_steps_from.Goals as goal
 use Rattle.fronts.proofs.open_steps.open_steps_from.Goals.{then-contains+in_ok-push, else-contains}
 
@@ -38,6 +38,13 @@ at-requires-clause-high c =
     let are = steps_read c.args.nearness.now c.args.v c.from.result c.index.result.now c.as_slice-steps.result.now c.requires.v c.from.ensures c.index.ensures c.as_slice-steps.ensures.value in
     let step = (are.each c.loop-step.step-index blank c.loop-step-test.true).0 in
     omega (arith, ints, step.cost, step.way, step.near)
+
+pub at-requires-clause-price : goal.at-requires-clause-price
+at-requires-clause-price c =
+    let are = steps_read c.args.nearness.now c.args.v c.from.result c.index.result.now c.as_slice-steps.result.now c.requires.v c.from.ensures c.index.ensures c.as_slice-steps.ensures.value in
+    let step = (are.each c.loop-step.step-index blank c.loop-step-test.true).0 in
+    let small = paid_small c.args.payment.now c.args.v _ c.requires.priced step.customer.0 (omega (arith, step.customer.1, c.requires.count)) in
+    record { low = omega (arith, ints, c.of_step-paid.ensures, small.low, small.high); high = omega (arith, ints, c.of_step-paid.ensures, small.low, small.high) }
 
 pub loop-step-preserved : goal.loop-step-preserved
 loop-step-preserved c =

@@ -1,7 +1,6 @@
 use Rattle.std.proofs.Common.{◌≡◌, ◌<◌, ℕ, length, get_or, ap, arith, to_z, of_z, w64}
 use Rattle.std.specs.Prelude.{ℤ, pos, ◌+ℤ◌}
 use Rattle.std.proofs.lemmas.Int.{ints, to_z-of_z}
-use Rattle.fronts.proofs.Stepping.{price_small}
 use Rattle.labels.specs.Arena.{state_at}
 use Rattle.labelling.specs.Search.{pricing_in}
 use Rattle.labelling.proofs.Advancing.{step_beyond}
@@ -10,7 +9,7 @@ use Rattle.labelling.proofs.labeller.Labeller.is_step_passed.Goals as goal
 pub overflow_add-value-2 : goal.overflow_add-value-2
 overflow_add-value-2 c =
     let task = c.args.self.now.completions.now.task.now in
-    let price = price_small (pricing_in c.args.self.now) task.task c.args.step.now.customer c.requires.step.0.customer in
+    let price = task.task.priced c.args.label.now.front.last c.args.step.now.customer c.requires.step.0.customer in
     let bound = c.requires.leasts.each c.from-row.result (pos 0) c.if-row-leasts.false in
     omega (arith, ints, bound.cut.low, bound.cut.high, price.low, price.high, c.requires.step.0.cost, c.requires.step.0.near, c.requires.step.0.way)
 
@@ -18,7 +17,7 @@ pub returns-then-value-self : goal.returns-then-value-self
 returns-then-value-self c =
     let q = pricing_in c.args.self.now in
     let task = c.args.self.now.completions.now.task.now in
-    let price = price_small q task.task c.args.step.now.customer c.requires.step.0.customer in
+    let price = task.task.priced c.args.label.now.front.last c.args.step.now.customer c.requires.step.0.customer in
     let least : ℤ = get_or c.args.leasts.now c.args.step.now.customer (pos 0) in
     let same : get_or c.args.leasts.now c.from-row.result (pos 0) ≡ least = ap (λ (i : ℕ). get_or c.args.leasts.now i (pos 0)) c.from-row.ensures in
     let bound = c.requires.leasts.each c.from-row.result (pos 0) c.if-row-leasts.false in
