@@ -9,7 +9,7 @@ ghost use Rattle.leaf_work.specs.Branching.{IsPricedAt};
 
 use crate::pricing::price;
 use branching::Region;
-use fronts::Task;
+use fronts::{Payment, Task};
 use labelling::LabelFault;
 use pooled_routes::{Trial, VehiclePrice};
 use price_way::{Ascent, Goal, PricingState, QuickWay, RoutePool, WHOLE, WIDEST};
@@ -41,7 +41,8 @@ fn routes_at(
 ) -> Result<QuickRoutes, AllocError>
     requires { IsTask state.old.nearness.now.instance.now region.now prices.now }
 {
-    let task = Task::new(state.alloc, state.nearness, region, prices)?;
+    let payment = Payment { prices };
+    let task = Task::new(state.alloc, state.nearness, region, payment)?;
     if state.quick.is_none() {
         state.quick = Some(QuickWay::new(&task)?);
     }

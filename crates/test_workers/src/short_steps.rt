@@ -2,7 +2,7 @@
 
 use branching::Region;
 use completions::Completions;
-use fronts::{Nearness, Task};
+use fronts::{Nearness, Payment, Task};
 use solomon_reader::read;
 use std::test::Fail;
 
@@ -17,7 +17,10 @@ fn a_short_step_leads_into_a_later_slot(rt: HostRuntime) -> Result<(), Fail> {
     let nearness = Nearness::new(alloc, &instance, 0)?;
     let region = Region::root(alloc, instance.customer_count());
     let prices = vec![in alloc; 0; usize::from(instance.customer_count())]?;
-    let task = Task::new(alloc, &nearness, &region, prices.as_slice())?;
+    let payment = Payment {
+        prices: prices.as_slice(),
+    };
+    let task = Task::new(alloc, &nearness, &region, payment)?;
     let completions = Completions::new(&task, 0)?;
     assert_eq!(rt; completions.at(1, 60).least, 50_000);
     Ok(())
