@@ -7,7 +7,7 @@ use Rattle.std.specs.Int.{int_max}
 use Rattle.std.proofs.lemmas.Int.{ints, clamps}
 use Rattle.solomon_reader.specs.Problem.{ready, service}
 use Rattle.solomon_reader.specs.Distance.{distance}
-use Rattle.solomon_reader.specs.States.{Pricing, State, step, CanStep, Completes, value_with, begins}
+use Rattle.solomon_reader.specs.States.{Pricing, State, arc_value, step, CanStep, Completes, value_with, begins}
 use Rattle.solomon_reader.specs.Memories.{place_of}
 use Rattle.solomon_reader.proofs.Places.{near_at}
 use Rattle.solomon_reader.proofs.Completions.{never_back}
@@ -145,7 +145,7 @@ module _ (q : Pricing) where
         pub step_least : h ≤ℤ (arc.value +ℤ after.least) → IsStepFloor q v t d arc.to h
         step_least le = record {
           holds = λ a s last later loaded remembered can completes.
-              omega (arith, ints, le, (on_it a s last later loaded completes).least, is.value_is, ap (λ (i : ℕ). distance q.problem i arc.to) last);
+              omega (arith, ints, le, (on_it a s last later loaded completes).least, is.value_is, ap (λ (i : ℕ). arc_value q.problem q.paid i arc.to) last);
         }
 
         pub step_other : after.next ≡ v → place_of q.problem q.neighbours arc.to v < 16 → h ≤ℤ (arc.value +ℤ after.other) → IsStepFloor q v t d arc.to h
@@ -157,6 +157,6 @@ module _ (q : Pricing) where
                 le,
                 (on_it a s last later loaded completes).other (never_back q a s v arc.to after.next next remembered (near_at q.problem arc.to q.neighbours v low) completes),
                 is.value_is,
-                ap (λ (i : ℕ). distance q.problem i arc.to) last,
+                ap (λ (i : ℕ). arc_value q.problem q.paid i arc.to) last,
               );
         }

@@ -1,12 +1,12 @@
 -- The arcs that a leaf allows, with what a step over them needs.
-use Rattle.std.specs.Prelude.{◌≡◌, ◌↔◌, ℕ, ◌+◌, ◌*◌, ◌<◌, ◌≤◌, List, [], Vec, length, slice_index_or, IsTrue, Bool, true, ◌==◌, ℤ, pos, ◌+ℤ◌, ◌≤ℤ◌}
+use Rattle.std.specs.Prelude.{◌≡◌, ◌↔◌, ℕ, ◌+◌, ◌*◌, ◌<◌, ◌≤◌, List, Vec, length, slice_index_or, IsTrue, Bool, true, ◌==◌, ℤ, pos, ◌+ℤ◌, ◌≤ℤ◌}
 use Rattle.std.specs.declared.alloc.Global.{Global}
 use Rattle.std.specs.List.{All, list_any}
 use Rattle.solomon_reader.specs.declared.limits.TheConstants.{MOST_TIME, MOST_DISTANCE, MOST_DEMAND}
 use Rattle.solomon_reader.specs.Problem.{Problem, IsCustomer, customer_count, demand, ready, due, service}
 use Rattle.solomon_reader.specs.Distance.{distance}
 use Rattle.solomon_reader.specs.Region.{IsAllowed, root_region}
-use Rattle.solomon_reader.specs.States.{Pricing, pricing, arc_value, most_grains, IsPriced}
+use Rattle.solomon_reader.specs.States.{Pricing, pricing_by, arc_value, most_grains, IsPriced}
 use Rattle.leaf_arcs.specs.declared.arcs.AllowedArc.{AllowedArc}
 use Rattle.leaf_arcs.specs.declared.arcs.ArcRow.{ArcRow}
 use Rattle.solomon_reader.specs.Memories.{place_of}
@@ -27,7 +27,7 @@ pub record IsAllowedArc (q : Pricing) (v : ℕ) (h : AllowedArc) : Type 0 where
   pub late : h.due ≤ 10 * MOST_TIME
   pub service_is : h.service ≡ service q.problem h.to
   pub short : h.service ≤ 10 * MOST_TIME
-  pub value_is : h.value ≡ arc_value q.problem q.prices v h.to
+  pub value_is : h.value ≡ arc_value q.problem q.paid v h.to
   pub low : pos 0 ≤ℤ (h.value +ℤ pos most_grains)
   pub high : h.value ≤ℤ pos most_grains
 
@@ -61,9 +61,9 @@ pub record AreArcRows (q : Pricing) (all : List ArcRow) : Type 0 where
   pub count : length all ≡ length q.problem.rows
   pub each : (v : ℕ) (d : ArcRow) → v < length q.problem.rows → IsArcRow q v (slice_index_or all v d)
 
--- where nothing is decided, at prices 0
+-- where nothing is decided, and steps are paid nothing
 abbrev pub free_pricing : Problem → ℕ → Pricing
-free_pricing p k = pricing p (root_region (customer_count p)) k []
+free_pricing p k = pricing_by p (root_region (customer_count p)) k (λ _ _. pos 0)
 
 -- the arcs from each row there
 pub record AreFreeArcs (p : Problem) (k : ℕ) (all : List (Vec AllowedArc Global)) : Type 0 where

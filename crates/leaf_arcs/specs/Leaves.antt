@@ -15,6 +15,6 @@ region_in l = region_of (customer_count (problem_of l)) l.path.now
 abbrev pub pricing_of : Leaf → Pricing
 pricing_of l = pricing (problem_of l) (region_in l) l.network.now.neighbours.k l.prices.now
 
--- where nothing is decided, at prices 0
+-- where nothing is decided, and steps are paid nothing
 abbrev pub free_of : Leaf → Pricing
 free_of l = free_pricing (problem_of l) l.network.now.neighbours.k

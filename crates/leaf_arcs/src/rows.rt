@@ -12,6 +12,7 @@ use crate::leaf::Leaf;
 use std::alloc::{AllocError, Global};
 
 /// An arc from v at the prices of a leaf.
+#[tactic(auto, unfolding(solomon_reader::specs::Relaxed::by_customer))]
 fn priced(leaf: &Leaf<'_, '_>, v: u16, arc: &AllowedArc) -> AllowedArc
     requires arc { IsAllowedArc (free_of leaf.now) v arc.now }
     ensures arc { IsAllowedArc (pricing_of leaf.now) v result }
