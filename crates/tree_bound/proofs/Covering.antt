@@ -2,7 +2,7 @@
 use Rattle.std.proofs.Common.{◌≡◌, ℕ, zero, suc, ◌+◌, ◌<◌, ◌≤◌, List, [], ◌∷◌, length, arith, ap, ◌∙◌, ◌⊎◌, inl, inr, Option, Some}
 use Rattle.std.specs.Prelude.{ℤ, ◌≤ℤ◌}
 use Rattle.std.proofs.lemmas.Int.{ints}
-use Rattle.solomon_reader.specs.Relaxed.{IsRelaxed, reduced_cost}
+use Rattle.solomon_reader.specs.Relaxed.{IsRelaxed, reduced_cost_by}
 use Rattle.solomon_reader.specs.States.{Pricing, State, step, CanStep, CanEnd, Completes, value_with, IsAsGood, IsAtMost}
 use Rattle.solomon_reader.proofs.Completions.{completes_relaxed, relaxed_completes, value_is, at_most_more, completes_too, value_no_greater}
 use Rattle.solomon_reader.specs.Covering.{Witness, IsCovered, CoversAfter, IsDear}
@@ -111,7 +111,7 @@ module _ (q : Pricing) where
 
   -- nothing waits any more
   module _ (Waits : State → Type 0) (none : (a : State) → ¬ Waits a) where
-    at_most_each : (b : Option ℤ) → CoversStart q b Waits → (r : List ℕ) → IsRelaxed q.problem q.region q.neighbours r → IsAtMost b (reduced_cost q.problem q.prices r)
+    at_most_each : (b : Option ℤ) → CoversStart q b Waits → (r : List ℕ) → IsRelaxed q.problem q.region q.neighbours r → IsAtMost b (reduced_cost_by q.problem q.paid r)
     at_most_each b covers r relaxed = elim (covers r (completes_relaxed q r relaxed)) [
       | inl h ↦ rw (← value_is q r) h
       | inr w ↦ absurd (none w.state w.waits)
@@ -120,6 +120,6 @@ module _ (q : Pricing) where
     pub least_at_end : (limit b : Option ℤ) → CoversStart q b Waits → IsFound q limit b → IsLeastBelow q limit b
     least_at_end limit b covers found = record { low = at_most_each b covers; found = by found }
       where
-        by : IsFound q limit b → (b ≡ limit) ⊎ ((r : List ℕ) × (IsRelaxed q.problem q.region q.neighbours r × (b ≡ Some (reduced_cost q.problem q.prices r))))
+        by : IsFound q limit b → (b ≡ limit) ⊎ ((r : List ℕ) × (IsRelaxed q.problem q.region q.neighbours r × (b ≡ Some (reduced_cost_by q.problem q.paid r))))
         by (inl same) = inl same
         by (inr h) = inr (h.0, (relaxed_completes q h.0 h.1.0, h.1.1 ∙ ap (λ (z : ℤ). Some z) (value_is q h.0)))

@@ -1,5 +1,6 @@
 use Rattle.std.proofs.Common.{arith}
 use Rattle.solomon_reader.specs.Problem.{customer_count}
+use Rattle.solomon_reader.specs.PaidLaws.{reduced_by_customer}
 use Rattle.solomon_reader.specs.States.{pricing}
 use Rattle.leaf_arcs.specs.Decisions.{region_of}
 use Rattle.leaf_arcs.proofs.Deciding.{decided}
@@ -16,7 +17,7 @@ returns-then-most-eq0 c =
     let least = least_exists q (λ i j from to. decided _ c.args.path.now i j (omega (arith, from, c.law_of_limits.ensures.rows)) (omega (arith, to, c.law_of_limits.ensures.rows)))
     (is_pricing p c.args.prices.now c.law_of_limits.ensures.limits c.requires.count c.requires.priced).carried (omega (arith, c.law_of_limits.ensures.rows)) in
     let known = found_cost q c.dive-known.result (rw c.in_ok-task.ensures.leaf at c.dive-known.ensures) in
-    lesser_none _ q least.0 least.1 c.args.most c.lowered-most.result c.dive-known.result c.requires.count known c.lowered-most.ensures c.if-most-eq0.true
+    lesser_none _ q c.args.prices.now least.0 least.1 c.args.most c.lowered-most.result c.dive-known.result c.requires.count (reduced_by_customer p c.args.prices.now) known c.lowered-most.ensures c.if-most-eq0.true
 
 pub returns : goal.returns
 returns c =
@@ -26,7 +27,7 @@ returns c =
     (is_pricing p c.args.prices.now c.law_of_limits.ensures.limits c.requires.count c.requires.priced).carried (omega (arith, c.law_of_limits.ensures.rows)) in
     let known = found_cost q c.dive-known.result (rw c.in_ok-task.ensures.leaf at c.dive-known.ensures) in
     rw (c.min.ensures, c.from.ensures)
-    (lesser_found _ q least.0 least.1 c.args.most c.lowered-most.result c.dive-known.result c.requires.count known c.lowered-most.ensures c.limit_of-task.result
+    (lesser_found _ q c.args.prices.now least.0 least.1 c.args.most c.lowered-most.result c.dive-known.result c.requires.count (reduced_by_customer p c.args.prices.now) known c.lowered-most.ensures c.limit_of-task.result
     c.in_ok-found.found.cost c.value_at.result (rw (
       c.in_ok-add_floors.ensures.leaf,
       c.in_ok-add_floors.ensures.limit,
