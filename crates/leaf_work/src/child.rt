@@ -41,7 +41,7 @@ pub struct Children<'i> {
 pub(crate) fn high_price(instance: &Instance) -> i64
     ensures { IsPrice result }
 {
-    (instance.ceiling().get() as i64 + 1) * GRAINS_OF_TENTH
+    i64::from(instance.above_ceiling()) * GRAINS_OF_TENTH
 }
 
 /// The high price for each customer.
