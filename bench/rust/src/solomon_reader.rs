@@ -9,6 +9,18 @@ pub const MOST_FLEET: u16 = 1_000;
 pub const MOST_CAPACITY: u16 = 10_000;
 pub const MOST_PRICE: u64 = 1_000_000_000_000;
 
+/// Why routes are no plan.
+#[derive(Clone, Copy, Debug, PartialEq, Eq)]
+pub enum PlanFault {
+    EmptyRoute,
+    UnknownCustomer,
+    Twice,
+    Missing,
+    OverCapacity,
+    Late,
+    FleetExceeded,
+}
+
 #[derive(Debug, PartialEq, Eq)]
 pub struct Instance {
     pub name: String,
@@ -74,6 +86,10 @@ impl Instance {
 
     pub fn ceiling(&self) -> Tenths {
         Tenths::from(2 * u32::from(self.customer_count()) * self.distances.iter().max().copied().unwrap_or(0))
+    }
+
+    pub fn above_ceiling(&self) -> u32 {
+        self.ceiling().get() as u32 + 1
     }
 
     pub fn law_of_limits(&self) {}
