@@ -22,8 +22,25 @@ while read -r name; do ./step "$name"; done <"$list"''',
 # All that a trial of an engine finds. It would install packages and take minutes, so --install is judged by what it
 # asks of apt-get, and by its refusal.
 FEW = {"apt-get": "exit 1", "python3": 'exec %s "$@"' % shlex.quote(sys.executable)}
+# A certificate with sets of i.txt. By hand: less the prices the route 1 has 100,000 - 50,000 - 50,000, the route 2
+# 200,000 - 100,000 - 50,000, and each of both 200,000 - 150,000 - 50,000: 0 at the least. The value is 150,000 and
+# 50,000.
+SETS = ("VRPTW-SETS 1\nINSTANCE T\nCUSTOMERS 2\nNEIGHBOURS 8\nBOUND 20.0\nS 1 1 2\nTREE\nP 50000 100000\n"
+        "M 1 50000\nEND\n")
+# One of both.txt, whose only vehicle serves one of two customers in time, at 10.0. Both need two, and at 30.1 for each
+# the value is 60.2 less 20.1.
+NO_PLAN = ("VRPTW-SETS 1\nINSTANCE T\nCUSTOMERS 2\nNEIGHBOURS 8\nBOUND 40.1\nS 2 1 2\nTREE\nP 0 0\nM 1 301000\n"
+           "END\n")
 # Files beside those of tool_faults. By hand: the plan of both customers costs 5 + 5 + 10 units, and one alone 5 or 10.
+# Three folders have the certificate with sets in the place of the program's: of a plan, of few vehicles and of a batch.
 MORE = {
+    "sets.txt": SETS,
+    "none_sets.txt": NO_PLAN,
+    "held/instance.txt": FILES["i.txt"], "held/plan.txt": FILES["p.txt"], "held/certificate.txt": SETS,
+    "few_held/1.certificate": SETS,
+    "many/options": "--turns 2\n", "many/i/instance.txt": FILES["i.txt"], "many/i/plan.txt": FILES["p.txt"],
+    "many/i/certificate.txt": SETS, "many/i/line.txt": "BEST 20.0\n", "many/i/errors.txt": "",
+    "many/i/done.txt": "0 12 here\n",
     "theirs/C101.TXT": FILES["i.txt"],
     "best.txt": "i 20.0\n",
     "published.txt": "C101 2 20.0 hand\n",
@@ -33,7 +50,7 @@ MORE = {
     "tree.txt": "VRPTW-CERT 2\nINSTANCE T\nCUSTOMERS 2\nNEIGHBOURS 8\nBOUND 0.0\nTREE\nS 1 2\nP 0 0\nP 0 0\nEND\n",
 }
 # The words of calls, the status of the last one, and what it promises: a file that isn't empty, or behind a colon what
-# stands in it; - is standard output. {program} stands for the program that is judged.
+# stands in it; - is standard output, and -- is standard error. {program} stands for the program that is judged.
 RIGHT = """
 batch i.txt --into r --options "--turns 2" --jobs 1|0|r/table.csv: i,,2,20.0,20.0,0,1, & -: 1 BEST
 batch i.txt --into r --options "few: --turns 1" --options "more: --turns 2"|0|r/i@few/plan.txt & r/i@more/plan.txt
@@ -45,6 +62,9 @@ r/asked.txt: --mem=0 --time 1 job_0.sh & -: 1 BEST
 batch i.txt --into r --best best.txt|0|-: 1 best known costs: 1 met
 batch i.txt --into r ; batch i.txt --into r --status|0|-: 1 BEST
 batch i.txt --into r --program {program}|0|-: 1 BEST
+batch i.txt --into many --status|1|-: wrong: vrptw: certificate: BadLine line 1
+batch i.txt --into many|0|many/i/certificate.txt: VRPTW-CERT 2 & -: 1 BEST & \
+--: i is solved anew: wrong: vrptw: certificate: BadLine line 1
 carry i.txt p.txt i.txt --names names.csv --changed-names names.csv|0|-: Route #1: 1 2
 convert i.txt o.vrp --to vrplib|0|o.vrp: DIMENSION : 3
 convert i.txt - --to solomon|0|-: CUST NO.
@@ -59,8 +79,11 @@ convert end.csv o.txt --column due=end --vehicles 5 --capacity 5 --names n.csv|0
 draw i.txt p.txt --names names.csv|0|-: </svg>
 draw i.txt p.txt --times|0|-: </svg>
 draw i.txt p.txt --tree k.txt|0|-: </svg>
+draw i.txt p.txt --tree sets.txt --names names.csv|0|-: Leaf 1 has the value 20.0,
 fewest i.txt --into f --seconds 30 --searchers 1 --bounders 1 --labels 1000 --neighbours 4 --seed 3|0|-: FEWEST 1 BEST
 fewest i.txt --into f --seconds 30 --program {program} ; fewest i.txt --into f --check|0|-: FEWEST 1 BEST 20.0
+fewest i.txt --into few_held --seconds 30|0|few_held/1.certificate: VRPTW-CERT 2 & -: FEWEST 1 BEST 20.0 & \
+--: 1.certificate isn't gone on from: vrptw: certificate: BadLine line 1
 large_trees i.txt --minutes 0.06 --turns 2,default --jobs 1 --seed 5 --solver {program}|0|-: 2 certificates, & \
 -: , 0 disagreements
 large_trees i.txt --minutes 0.02 --turns 2 --jobs 1 --program {program}|0|-: 1 certificates, & -: , 0 disagreements
@@ -74,7 +97,10 @@ d/names.csv: 2,b & -: No plan does without a vehicle.
 plan i.txt --into d --searchers 1 --bounders 1 --labels 1000 --neighbours 4 --seed 3 --gap 5 --seconds 30|0|\
 d/plan.txt: Cost 20.0
 plan i.txt --into d --seconds 30 --program {program}|0|-: 20.0
+plan i.txt --into held --seconds 30|0|held/certificate.txt: VRPTW-CERT 2 & -: 20.0 & \
+--: held/certificate.txt isn't gone on from: vrptw: certificate: BadLine line 1
 recheck i.txt k.txt p.txt --jobs 1 --labels 1000|0|-: GAP 20.0 0.0
+recheck i.txt sets.txt p.txt --jobs 1 --labels 1000|0|-: BEST 20.0
 report i.txt p.txt k.txt --tree --jobs 1 -o r.html|0|r.html: <section id="the-certificates-tree">
 report i.txt p.txt k.txt --tree --names names.csv --output r.html|0|r.html: <section id="the-certificates-tree">
 fewest i.txt --into f --seconds 30 ; report i.txt p.txt k.txt --fewest f -o r.html|0|\
@@ -91,10 +117,13 @@ sheets i.txt p.txt --output s.html|0|s.html: </html>
 timetable i.txt p.txt --csv|0|-: 1,1,5.0,0.0,5.0,5.0,1,
 timetable i.txt p.txt --json --names names.csv|0|-: "name": "a"
 why both.txt none.txt --names names.csv|0|-: the certificate proves it
+why both.txt none_sets.txt --names names.csv|0|-: the certificate proves it
 try_parallel --install|1|-: installs parallel rsync openssh-client openssh-server by apt-get
 try_slurm --install|1|-: installs munge slurmctld slurmd slurm-client by apt-get
 bench/leaves tree.txt 3|0|-: P 0 0
 bench/leaves k.txt 4 >many.txt ; recheck i.txt many.txt|0|-: BOUND 0.0
+bench/leaves sets.txt 4 >many.txt ; recheck i.txt many.txt p.txt|0|-: BEST 20.0
+bench/leaves sets.txt 4 >many.txt ; bench/leaves many.txt 1|0|-: M 1 50000
 bench/leaves none.txt 3 >many.txt ; bench/leaves many.txt 1|0|-: P 301000 301000
 bench/make_instances made ; bench/make_instances made --check|0|made/c1_25.txt: c1-25-7025
 bench/make_instances theirs --check|1|-: c1_25.txt isn't what is made
@@ -136,6 +165,7 @@ fewest i.txt --into f --labels x|--labels|2|met "x"
 fewest i.txt --into f --neighbours 16|--neighbours|2|met "16"
 fewest i.txt --into f --seed -1|--seed|2|
 fewest i.txt --into f --program nowhere|--program|1|nowhere: met no program
+fewest i.txt --into few_held --check||1|few_held: vrptw check says of 1 vehicles: vrptw: certificate: BadLine line 1
 large_trees i.txt --minutes x|--minutes|2|met "x"
 large_trees i.txt --minutes 0|--minutes|2|met "0"
 large_trees i.txt --turns 5,x|--turns|2|met "5,x"
@@ -169,6 +199,10 @@ report i.txt p.txt k.txt --names nowhere -o r.html|--names|1|nowhere: No such fi
 report i.txt p.txt k.txt --fewest p.txt -o r.html|--fewest|1|p.txt: met no folder
 report i.txt p.txt k.txt --tree --jobs x -o r.html|--jobs|2|met "x"
 report i.txt p.txt k.txt --program nowhere -o r.html|--program|1|nowhere: met no program
+report i.txt p.txt sets.txt -o r.html||1|sets.txt: vrptw check says: vrptw: certificate: BadLine line 1
+report i.txt p.txt sets.txt --tree --jobs 1||1|sets.txt: vrptw check says: vrptw: certificate: BadLine line 1
+report both.txt empty.txt none_sets.txt -o r.html||1|none_sets.txt: vrptw check says: vrptw: certificate: BadLine line 1
+report i.txt p.txt k.txt --fewest few_held -o r.html||1|few_held: vrptw check says of 1 vehicles: vrptw: certificate: Bad
 respell i.txt p.txt --names nowhere|--names|1|nowhere: No such file
 respell i.txt p.txt --certificate nowhere/c|--certificate|1|nowhere/c: No such file
 respell i.txt p.txt --scale 0|--scale|2|met "0"

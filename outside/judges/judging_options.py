@@ -67,9 +67,10 @@ def judge_covered(command):
 def laid_out(folder):
     """Makes the files that the rows are about, and the programs that stand for others."""
     fitted_out(folder)
-    for name in ("theirs", "fakes", "few"):
+    for name in ("fakes", "few"):
         os.mkdir(os.path.join(folder, name))
     for name, text in MORE.items():
+        os.makedirs(os.path.dirname(os.path.join(folder, name)), exist_ok=True)
         put(os.path.join(folder, name), text.encode())
     for place, programs in (("fakes", FAKES), ("few", FEW)):
         for name, text in programs.items():
@@ -97,7 +98,8 @@ def judge_right(folder, program, words, status, promises):
     demand(all(line.startswith(("outside/", "bench/")) for line in errors.splitlines()), "%s: %r" % (words, errors))
     for promise in promises.split(" & "):
         name, _, part = promise.partition(": ")
-        text = out if name == "-" else shown(got(os.path.join(folder, name)) or b"")
+        streams = {"-": out, "--": errors}
+        text = streams[name] if name in streams else shown(got(os.path.join(folder, name)) or b"")
         demand(text and part in text, "%s: %s has %r, and %r is right" % (words, name, text[:500], part or "a text"))
 
 

@@ -5,7 +5,8 @@ import re
 import shutil
 
 from reference.instances import read
-from reference.texts import TextFault, read_certificate, read_solution, shown
+from reference.set_texts import read_either
+from reference.texts import TextFault, read_solution, shown
 from tools.batch_columns import OPTIONS
 from tools.judged import judged
 from tools.places import OUTSIDE
@@ -110,7 +111,7 @@ class Step:
         found = VERDICT.match(told)
         if not found:
             return Outcome("wrong: %s" % told.split("\n")[0])
-        bound = shown(read_certificate(certificate).bound)
+        bound = shown(read_either(certificate).bound)
         cost = shown(read_solution(plan)[1]) if plan else None
         return Outcome({"BOUND": "OPEN"}.get(found[1], found[1]), cost, bound, leaves)
 

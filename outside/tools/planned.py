@@ -1,7 +1,8 @@
 """What is made of a plan that stands: the timetable, the page, a sentence; and the line that tells how far it is."""
 import time
 
-from reference.texts import read_certificate, read_solution
+from reference.set_texts import read_either
+from reference.texts import read_solution
 from tools import sheets
 from tools.drawing import plural
 from tools.names import names_of
@@ -52,7 +53,7 @@ def report_of(planner):
     folder, instance = planner.folder, planner.instance
     names = names_of(folder.at(NAMES), instance.count)
     routes, cost = read_solution(folder.held(PLAN)) if planner.cost is not None else (None, None)
-    certificate = read_certificate(folder.held(CERTIFICATE)) if planner.bound is not None else None
+    certificate = read_either(folder.held(CERTIFICATE)) if planner.bound is not None else None
     if routes is None and certificate is None:
         return None
     paths = [INSTANCE] + ([CERTIFICATE] if certificate else []) + ([PLAN] if routes else [])
