@@ -48,9 +48,9 @@ def set_words(random, count):
     return random.choice(kinds)(random, count)
 
 
-def drawn_set(random, count):
+def drawn_set(random, count, most=400):
     """At least two customers in increasing order."""
-    return tuple(sorted(random.sample(range(1, count + 1), random.randint(2, count))))
+    return tuple(sorted(random.sample(range(1, count + 1), random.randint(2, min(count, most)))))
 
 
 def sets_of(random, instance):
