@@ -37,14 +37,19 @@ class Pricing:
         return min(self.instance.ceiling() + 1, max(0, -(-grains // 1000)))
 
     def least(self, region, prices, priced=()):
-        """The least reduced cost over all relaxed routes, or None. The label that may lead to the least cost is taken
+        """The least reduced cost over all relaxed routes, or None."""
+        return self.cheapest(region, prices, priced, False)[0]
+
+    def cheapest(self, region, prices, priced=(), keeps_routes=True):
+        """The least reduced cost over all relaxed routes, or None, and routes that were met, with theirs: stops are
+        linked, the last one first, where routes are to be kept. The label that may lead to the least cost is taken
         first, so that the search is over where none may lead below the route found."""
         arc, ways, count = self.instance.arc, self.ways(region, prices, priced), 0
-        floors = self.floors(region, ways)
+        floors, routes = self.floors(region, ways), []
         held, found = [[] for _ in arc], NEVER
-        waiting = [(ALWAYS, 0, self.instance.ready(0), 0, 0, 0)]
+        waiting = [(ALWAYS, 0, self.instance.ready(0), 0, 0, 0, ())]
         while waiting:
-            least, load, begin, cost, memory, at = heappop(waiting)
+            least, load, begin, cost, memory, at, stops = heappop(waiting)
             if least >= found:
                 break
             if at and (load, begin, cost, memory) not in held[at]:
@@ -52,6 +57,8 @@ class Pricing:
             leave = begin + self.instance.service(at)
             if at and region.allows(at, 0) and leave + arc[at][0] <= self.instance.due(0):
                 found = min(found, cost + 1000 * arc[at][0])
+                if keeps_routes:
+                    routes.append((cost + 1000 * arc[at][0], stops))
             for j, length, spent in ways[at]:
                 start = max(leave + length, self.instance.ready(j))
                 more = load + self.instance.demand(j)
@@ -60,11 +67,11 @@ class Pricing:
                 least = cost + spent + self.floor(floors, at, j, start)
                 label = (more, start, cost + spent, memory & self.bits[j] | 1 << j)
                 if least < found and self.keep(held[j], label):
-                    heappush(waiting, (least, *label, j))
+                    heappush(waiting, (least, *label, j, (j, stops) if keeps_routes else stops))
                     count += 1
                     if count > self.most_labels:
                         raise TooMany
-        return None if found == NEVER else found
+        return None if found == NEVER else found, routes
 
     def floors(self, region, ways):
         """For each stop and slot of time what it costs at least to come home from there, if service begins at the

@@ -6,7 +6,7 @@ from reference.needs import need
 from reference.pricing import MOST_LABELS, Pricing, leaves
 from reference.set_texts import FIRST_SET
 from reference.texts import shown
-from tools.plans import certificate_of
+from tools.plans import certificate_of, demand_plan, plan_of
 from tools.stopping import end_by_signals
 from tools.telling import Telling
 from tools.tool import Refused, told_path
@@ -70,6 +70,20 @@ def certified(instance, path, jobs=None, head="", most_labels=MOST_LABELS):
     if least < certificate.bound or least > certificate.bound and None not in values:
         refuse_bound(path, certificate.bound, least)
     return certificate, values
+
+
+def cost_of(instance, path):
+    """The cost of a solution, which has to be a plan of the instance."""
+    routes, cost = plan_of(instance, path)
+    demand_plan(instance, routes, path)
+    return cost
+
+
+def verdict(instance, bound, cost):
+    """The line of a bound and the cost of a plan, or None."""
+    if cost is None:
+        return "NO PLAN" if bound == instance.ceiling() + 1 else "BOUND %s" % shown(bound)
+    return "BEST %s" % shown(cost) if cost == bound else "GAP %s %s" % (shown(cost), shown(bound))
 
 
 def lacking(values):
