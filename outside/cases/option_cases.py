@@ -112,6 +112,10 @@ respell i.txt p.txt --scale 2|0|-: Cost 20.0
 run --minutes 0.03 --kinds medium --jobs 1 --program {program}|0|-: medium: & -: , 0 disagreements
 run --runs 1 --seed 7 --kinds medium --jobs 1|0|-: 1 runs, 0 disagreements
 run --instruments {program} --kinds manual|0|-: 1 runs, 0 disagreements
+set_maker i.txt --sets 3 --leaves 2 --neighbours 4 --seed 5 >made.txt ; recheck i.txt made.txt|0|made.txt: NEIGHBOURS 4
+set_prices small.txt c.txt two.txt --rounds 3 --neighbours 4 --seed 5 ; recheck small.txt c.txt two.txt|0|\
+-: BEST 30.0 & c.txt: NEIGHBOURS 4
+set_prices i.txt - --rounds 0|0|-: VRPTW-SETS 1
 sheets i.txt p.txt --names names.csv -o s.html|0|s.html: </html>
 sheets i.txt p.txt --output s.html|0|s.html: </html>
 timetable i.txt p.txt --csv|0|-: 1,1,5.0,0.0,5.0,5.0,1,
@@ -202,7 +206,7 @@ report i.txt p.txt k.txt --program nowhere -o r.html|--program|1|nowhere: met no
 report i.txt p.txt sets.txt -o r.html||1|sets.txt: vrptw check says: vrptw: certificate: BadLine line 1
 report i.txt p.txt sets.txt --tree --jobs 1||1|sets.txt: vrptw check says: vrptw: certificate: BadLine line 1
 report both.txt empty.txt none_sets.txt -o r.html||1|none_sets.txt: vrptw check says: vrptw: certificate: BadLine line 1
-report i.txt p.txt k.txt --fewest few_held -o r.html||1|few_held: vrptw check says of 1 vehicles: vrptw: certificate: Bad
+report i.txt p.txt k.txt --fewest few_held -o r.html||1|few_held: vrptw check says of 1 vehicles: vrptw: certificate:
 respell i.txt p.txt --names nowhere|--names|1|nowhere: No such file
 respell i.txt p.txt --certificate nowhere/c|--certificate|1|nowhere/c: No such file
 respell i.txt p.txt --scale 0|--scale|2|met "0"
@@ -214,6 +218,18 @@ run --kinds manual --jobs 0|--jobs|2|met "0"
 run --kinds manual --program nowhere|--program|1|nowhere: met no program
 run --kinds turns --instruments nowhere|--instruments|1|nowhere: met no program
 run --kinds manual,none|--kinds|2|no such kind: none
+set_maker i.txt --sets 1001|--sets|2|met "1001"
+set_maker i.txt --leaves 0|--leaves|2|met "0"
+set_maker i.txt --leaves 65||1|i.txt: met 65 leaves, wanted at most 64 by its arcs
+set_maker i.txt --neighbours 16|--neighbours|2|met "16"
+set_maker i.txt --seed x|--seed|2|met "x"
+set_prices i.txt c.txt --rounds x|--rounds|2|met "x"
+set_prices i.txt c.txt --neighbours 16|--neighbours|2|met "16"
+set_prices i.txt c.txt --seed -1|--seed|2|
+set_prices i.txt i.txt||1|i.txt: met the file that is read
+set_prices i.txt p.txt p.txt||1|p.txt: met the file that is read
+set_prices i.txt c.txt cost.txt||1|cost.txt: line 2: met a cost of 20.1
+set_prices i.txt nowhere/c.txt||1|nowhere/c.txt: No such file
 sheets i.txt p.txt -o i.txt|--output|1|i.txt: met the file that is read
 sheets i.txt p.txt --names p.txt -o s.html|--names|1|p.txt: line 1: met
 timetable i.txt p.txt --names nowhere|--names|1|nowhere: No such file

@@ -1,4 +1,7 @@
-"""Certificates with sets that were worked out by hand: what recheck says of them, and what the reader does."""
+"""Certificates with sets that were worked out by hand: what recheck says of them, and what the reader does. And some
+that outside/set_prices found, which stand beside."""
+import os
+
 from cases.rows import DEPOT, INSTANCES, instance_text
 
 # apart: customers at 50 and 100 tenths, one in a vehicle, so both need two, and alone they cost 100 and 200. Prices of
@@ -158,4 +161,17 @@ def read_rows():
         yield "read", (HEAD + many * "S 1 1 2;" + "TREE;P 0 0 0;M 1 1;END;").replace(";", "\n"), said
 
 
-SET_ROWS = [checked(line) for line in TABLE.strip().split("\n")] + list(read_rows())
+# What set_prices found for files of bench/instances, with the best plans known.
+FOUND = {"c1_25": "GAP 339.8 339.7", "rc1_25": "BEST 489.8", "c1_50": "GAP 679.8 676.7", "rc1_50": "GAP 908.1 906.5"}
+
+
+def found(name):
+    """An instance of bench, the certificate and the plan that are kept, and what recheck says of them."""
+    here, texts = os.path.dirname(os.path.realpath(__file__)), []
+    for path in ("../../bench/instances/%s.txt", "with_sets/%s.certificate", "with_sets/%s.plan"):
+        with open(os.path.join(here, path % name), encoding="ascii") as file:
+            texts.append(file.read())
+    return ("check", *texts, FOUND[name])
+
+
+SET_ROWS = [checked(line) for line in TABLE.strip().split("\n")] + list(read_rows()) + [found(name) for name in FOUND]

@@ -21,6 +21,7 @@ from judges.judging_fewest import judge_fewest
 from judges.judging_fleets import judge_fleets, judge_tight
 from judges.judging_layouts import judge_layout, judge_round_trip, judge_wrong_layout
 from judges.judging_literature import judge_literature
+from judges.judging_made_sets import judge_made, judge_priced
 from judges.judging_module import judge_module
 from judges.judging_nights import judge_nights
 from judges.judging_options import OPTIONS, judge_options
@@ -166,6 +167,10 @@ KINDS = {
                        tools_by(judge_set_bounds)),
     "set_texts": Kind("texts with sets, read and written, and with something wrong or forged, by recheck", 24,
                       tools_by(judge_set_text)),
+    "made_sets": Kind("texts of set_maker: taken by recheck, and refused with a need, a price or an order changed", 8,
+                      tools_by(judge_made)),
+    "priced_sets": Kind("texts of set_prices: at most the least cost of all plans, and the line of recheck", 6,
+                        tools_by(judge_priced)),
     "set_rows": Kind("certificates with sets, and what recheck and the reader say of them, by hand", len(SET_ROWS),
                      lambda programs, folder, random, seed: judge_set_row(folder, seed), is_fixed=True),
     "batches": Kind("some instances by batch, and again with something changed in between", 6,
