@@ -162,7 +162,8 @@ def read_rows():
 
 
 # What set_prices found for files of bench/instances, with the best plans known.
-FOUND = {"c1_25": "GAP 339.8 339.7", "rc1_25": "BEST 489.8", "c1_50": "GAP 679.8 676.7", "rc1_50": "GAP 908.1 906.5"}
+FOUND = {"c1_25": "GAP 339.8 339.7", "rc1_25": "BEST 489.8", "c1_50": "GAP 679.8 676.7", "rc1_50": "GAP 908.1 906.5",
+         "r1_50": "GAP 1109.2 1098.8"}
 
 
 def found(name):
