@@ -155,10 +155,13 @@ impl<'i> Opening<'i> {
             Err(LabelFault::LabelLimit) => return Err(RunFault::LabelLimit),
         };
         let mut book = open_book(alloc, root)?;
-        let plan = match plan {
-            Some(plan) => Some(offer_both(rt, alloc, &mut book, plan)?),
-            None => None,
+        let Some(plan) = plan else {
+            return Ok(Opening { book, plan: None });
         };
-        Ok(Opening { book, plan })
+        let plan = offer_both(rt, alloc, &mut book, plan)?;
+        Ok(Opening {
+            book,
+            plan: Some(plan),
+        })
     }
 }
