@@ -1,5 +1,5 @@
--- What is read as a certificate is one: each node that is read stands in its line with this very text, and the text is the certificate's text.
-use Rattle.std.proofs.Common.{◌≡◌, ℕ, ◌+◌, ◌≤◌, ◌<◌, Bool, true, false, cond, List, [], ◌∷◌, ◌++◌, length, map, Option, Some, None, Ok, Err, refl, sym, ap, subst, ◌∙◌, arith, inl, inr, ◌^◌}
+-- What is read as a certificate is one: what is read of each line stands in it with this very text, and the text is the certificate's text.
+use Rattle.std.proofs.Common.{◌≡◌, ℕ, ◌≤◌, ◌<◌, Bool, true, false, cond, List, [], ◌∷◌, ◌++◌, length, map, Option, Some, None, Ok, Err, refl, sym, ap, subst, ◌∙◌, arith, inl, inr, ◌^◌}
 use Rattle.std.proofs.Common.{append_assoc, lit<}
 use Rattle.std.specs.Prelude.{nat_le, ◌&&◌, ◌||◌, ◌==◌, codes, decimal, ℤ, nat_abs}
 use Rattle.std.specs.Fmt.{signed_decimal}
@@ -15,21 +15,24 @@ use Rattle.tenths.specs.Lines.{Left, is_end}
 use Rattle.tenths.specs.Numbers.{number_of, signed_of, capped, clamped, tenths_of}
 use Rattle.tenths.proofs.Cuts.{joined, joined-parts, only_end, joined-spaced, joined-lines}
 use Rattle.tenths.proofs.Digits.{signed_takes, clamped_told, number_takes, both, tenths_takes}
-use Rattle.solomon_reader.specs.declared.limits.TheConstants.{MOST_PRICE, MOST_NAME, MOST_CUSTOMERS, MOST_NEIGHBOURS, MOST_LEAVES, MOST_DEPTH}
+use Rattle.solomon_reader.specs.declared.limits.TheConstants.{MOST_PRICE, MOST_NAME, MOST_CUSTOMERS, MOST_NEIGHBOURS, MOST_LEAVES, MOST_DEPTH, MOST_SETS}
 use Rattle.solomon_reader.specs.Plan.{Arc}
 use Rattle.solomon_reader.specs.Region.{IsArc, Among, root_region}
 use Rattle.solomon_reader.specs.CertificateText.{IsPrice, version_text, leaf_count, Certificate, Content, listed, HasText, IsCertificateText}
-use Rattle.solomon_reader.specs.Bound.{Node, leaf_node, split_node, Version, version_1, version_2, Tree, preorder}
+use Rattle.solomon_reader.specs.Bound.{LeafPrices, of_customers, Node, leaf_node, split_node, Version, version_1, version_2, with_sets, listed_sets, Tree, preorder}
 use Rattle.tenths.specs.Reading.{◌>>=◌, check, value_or}
 use Rattle.tenths.proofs.Steps.{bind_ok, test_ok, ok_is}
 use Rattle.solomon_reader.specs.Layout.{IsName}
 use Rattle.solomon_reader.specs.Words.{is_letter}
 use Rattle.certificate.specs.declared.fault.CertFault.TheVariants.{BadLine, BadArc, ArcDecided, PriceRange, Extra}
-use Rattle.certificate.specs.Text.{node_text, text_lines, content_text}
+use Rattle.certificate.specs.Text.{set_prices_text, node_texts, set_text, text_lines, content_text}
 use Rattle.certificate.specs.Reading.{next_at, signed_at, is_price, prices_at, pair_at, is_arc, arc_eq, is_decided, undecided, arc_at, node_in, node_at, fixed_at, second, field_at, is_name}
 use Rattle.certificate.specs.Reading.{name_at, within_from, within_at, bound_at, Head, sizes_at, version_in, version_at, title_at, head_at, tree_at, nodes_at, with_tree, reading}
-use Rattle.certificate.proofs.Steps.{IsNodeOn, IsTreeOn, decides_root, at_from_on, TakesAll, tree_takes}
-use Rattle.certificate.proofs.Again.{text_is}
+use Rattle.certificate.specs.Reading.{listed_at, set_prices_in, leaf_at, set_count, is_some}
+use Rattle.certificate.proofs.Steps.{IsNodeOn, IsTreeOn, decides_root, at_from_on, listed_of, TakesAll, tree_takes}
+use Rattle.certificate.proofs.SetTests.{without_prices}
+use Rattle.certificate.proofs.FoundSets.{capped_told, next_takes, fixed_takes, set_prices_take, IsListedRead, listed_take}
+use Rattle.certificate.proofs.Texts.{text_is}
 use Rattle.solomon_reader.proofs.Scan.{letter_bounds}
 
 -- ---- prices
@@ -77,11 +80,7 @@ prices_take n k ws zs h =
 -- ---- arcs
 
 pub capped_small : (o : Option ℕ) (k n m : ℕ) → value_or (BadLine k) (option_map capped o) ≡ Ok m → m ≤ n → n < 1000000 → o ≡ Some m
-capped_small None k n m h le lt = absurd cc
-capped_small (Some x) k n m h le lt =
-    let e : capped x ≡ m = ok_is (capped x) m h in
-    let same : x ≡ m = omega (arith, e) in
-    ap (λ (y : ℕ). Some y) same
+capped_small o k n m h le lt = capped_told o k m h (omega (arith, le, lt))
 
 pub tests_arc : (n i j : ℕ) → is_arc n (i, j) ≡ true → IsArc n (i, j)
 tests_arc n i j h =
@@ -149,10 +148,19 @@ arc_takes n k path ws a lt h =
     let j = number_takes q.1 a.1 (capped_small (number_of q.1) k n a.1 q.4 le2 lt) (omega arith) in
     (q.2 ∙ ap (λ (x : List ℕ). x ∷ q.1 ∷ []) i ∙ ap (λ (x : List ℕ). decimal a.0 ∷ x ∷ []) j, arc, u.1)
 
--- ---- a node
+-- ---- a node's first line
+
+abbrev first_text : Node → List ℕ
+first_text (leaf_node l) = codes "P" ++ flat_map spaced (map signed_decimal l.customers)
+first_text (split_node a) = codes "S" ++ flat_map spaced (decimal a.0 ∷ decimal a.1 ∷ [])
+
+-- what it says below a path
+abbrev IsLineOn : ℕ → List Arc → Node → Type 0
+IsLineOn n path (leaf_node l) = (length l.customers ≡ n) × AllByRecursion IsPrice l.customers × (l ≡ of_customers l.customers)
+IsLineOn n path (split_node a) = IsArc n a × ¬ Among a path
 
 abbrev IsNodeLine : ℕ → List Arc → List (List ℕ) → Node → Type 0
-IsNodeLine n path ws x = (joined 32 ws ≡ node_text x) × IsNodeOn n path x
+IsNodeLine n path ws x = (joined 32 ws ≡ first_text x) × IsLineOn n path x
 
 node_in_takes : (n k : ℕ) (path : List Arc) (ws : List (List ℕ)) (x : Node) → n < 1000000 → node_in n k path ws ≡ Ok x → IsNodeLine n path ws x
 unfolding node_in
@@ -164,47 +172,68 @@ node_in_takes n k path (w ∷ ws) x lt h = leaf_or (bytes_eq w (codes "P")) refl
     split_or true e f =
         let a = bind_ok (arc_at n k path ws) (λ a. Ok (split_node a)) x f in
         let t = arc_takes n k path ws a.0 lt a.1 in
-        let text : joined 32 (w ∷ ws) ≡ node_text (split_node a.0) = joined-spaced w ws
+        let text : joined 32 (w ∷ ws) ≡ first_text (split_node a.0) = joined-spaced w ws
         ∙ ap (λ (v : List ℕ). v ++ flat_map spaced ws) ((bytes_eq-Decides w (codes "S")).0 e) ∙ ap (λ (v : List (List ℕ)). codes "S" ++ flat_map spaced v) t.0 in
         subst (λ (y : Node). IsNodeLine n path (w ∷ ws) y) (ok_is (split_node a.0) x a.2) (text, (t.1, t.2))
 
-    leaf_or : (t : Bool) → bytes_eq w (codes "P") ≡ t → cond t (prices_at n k ws >>= λ zs. Ok (leaf_node zs))
+    leaf_or : (t : Bool) → bytes_eq w (codes "P") ≡ t → cond t (prices_at n k ws >>= λ zs. Ok (leaf_node (of_customers zs)))
         (cond (bytes_eq w (codes "S")) (arc_at n k path ws >>= λ a. Ok (split_node a)) (Err (BadLine k))) ≡ Ok x → IsNodeLine n path (w ∷ ws) x
     leaf_or false e f = split_or (bytes_eq w (codes "S")) refl f
     leaf_or true e f =
-        let a = bind_ok (prices_at n k ws) (λ zs. Ok (leaf_node zs)) x f in
+        let a = bind_ok (prices_at n k ws) (λ zs. Ok (leaf_node (of_customers zs))) x f in
         let t = prices_take n k ws a.0 a.1 in
-        let text : joined 32 (w ∷ ws) ≡ node_text (leaf_node a.0) = joined-spaced w ws
+        let text : joined 32 (w ∷ ws) ≡ first_text (leaf_node (of_customers a.0)) = joined-spaced w ws
         ∙ ap (λ (v : List ℕ). v ++ flat_map spaced ws) ((bytes_eq-Decides w (codes "P")).0 e) ∙ ap (λ (v : List (List ℕ)). codes "P" ++ flat_map spaced v) t.0 in
-        subst (λ (y : Node). IsNodeLine n path (w ∷ ws) y) (ok_is (leaf_node a.0) x a.2) (text, (t.1, t.2))
+        subst (λ (y : Node). IsNodeLine n path (w ∷ ws) y) (ok_is (leaf_node (of_customers a.0)) x a.2) (text, (t.1, t.2, refl))
 
--- the node's line, and what is left behind it
-abbrev pub TakesNode : Left → Node → Left → Type 0
-TakesNode st x rest = st.1 ≡ node_text x ∷ rest.1
-
-pub next_takes : (k : ℕ) (ps : List (List ℕ)) (l : List ℕ × Left) → next_at (k, ps) ≡ Ok l → ps ≡ l.0 ∷ l.1.1
-next_takes k [] l h = absurd cc
-next_takes k (p ∷ []) l h = absurd cc
-next_takes k (p ∷ m ∷ ps) l h = ap (λ (x : List ℕ × Left). x.0 ∷ x.1.1) (ok_is (p, (k + 1, m ∷ ps)) l h)
-
-pub node_takes : (n : ℕ) → n < 1000000 → (path : List Arc) (st rest : Left) (x : Node) → node_at n path st ≡ Ok (x, rest) → TakesNode st x rest × IsNodeOn n path x
-node_takes n lt path st rest x h =
+line_takes : (n : ℕ) → n < 1000000 → (path : List Arc) (st rest : Left) (x : Node) → node_at n path st ≡ Ok (x, rest) → (st.1 ≡ first_text x ∷ rest.1) × IsLineOn n path x
+line_takes n lt path st rest x h =
     let l = bind_ok (next_at st) (λ l. node_in n st.0 path (parts 32 l.0) >>= λ node. Ok (node, l.1)) (x, rest) h in
     let m = bind_ok (node_in n st.0 path (parts 32 l.0.0)) (λ node. Ok (node, l.0.1)) (x, rest) l.2 in
     let e = ok_is (m.0, l.0.1) (x, rest) m.2 in
     let t = node_in_takes n st.0 path (parts 32 l.0.0) m.0 lt m.1 in
-    let text : l.0.0 ≡ node_text m.0 = sym (joined-parts 32 l.0.0) ∙ t.0 in
-    let lines : st.1 ≡ node_text m.0 ∷ l.0.1.1 = next_takes st.0 st.1 l.0 l.1 ∙ ap (λ (v : List ℕ). v ∷ l.0.1.1) text in
-    (lines ∙ ap (λ (y : Node × Left). node_text y.0 ∷ y.1.1) e, subst (λ (y : Node × Left). IsNodeOn n path y.0) e t.1)
+    let text : l.0.0 ≡ first_text m.0 = sym (joined-parts 32 l.0.0) ∙ t.0 in
+    let lines : st.1 ≡ first_text m.0 ∷ l.0.1.1 = next_takes st.0 st.1 l.0 l.1 ∙ ap (λ (v : List ℕ). v ∷ l.0.1.1) text in
+    (lines ∙ ap (λ (y : Node × Left). first_text y.0 ∷ y.1.1) e, subst (λ (y : Node × Left). IsLineOn n path y.0) e t.1)
+
+-- ---- a node
+
+-- the node's lines, and what is left behind them
+abbrev pub TakesNode : Option ℕ → Left → Node → Left → Type 0
+TakesNode sets st x rest = st.1 ≡ node_texts (is_some sets) x ++ rest.1
+
+abbrev IsLeafTaken : Option ℕ → ℕ → List Arc → Left → Node → Left → Type 0
+IsLeafTaken sets n path st x rest = (prices : LeafPrices) × (x ≡ leaf_node prices) × TakesNode sets st x rest × IsNodeOn (listed_of sets) n path x
+
+leaf_takes : (sets : Option ℕ) (n : ℕ) → n < 1000000 → listed_of sets ≤ MOST_SETS → (path : List Arc) (st mid rest : Left) (zs : List ℤ) (x : Node)
+    → node_at n path st ≡ Ok (leaf_node (of_customers zs), mid) → leaf_at sets zs mid ≡ Ok (x, rest) → IsLeafTaken sets n path st x rest
+unfolding leaf_at
+leaf_takes None n lt few path st mid rest zs x h f =
+    let t = line_takes n lt path st mid (leaf_node (of_customers zs)) h in
+    let e : (leaf_node (of_customers zs), mid) ≡ (x, rest) = ok_is (leaf_node (of_customers zs), mid) (x, rest) f in
+    subst (λ (y : Node × Left). IsLeafTaken None n path st y.0 y.1) e (of_customers zs, refl, t.0, (t.1.0, t.1.1, without_prices 0 zs t.1.1))
+leaf_takes (Some sets) n lt few path st mid rest zs x h f =
+    let below : sets < 65535 = omega (arith, few) in
+    let t = line_takes n lt path st mid (leaf_node (of_customers zs)) h in
+    let l = bind_ok (next_at mid) (λ l. set_prices_in sets zs mid.0 (parts 32 l.0) >>= λ ms. Ok (leaf_node (record { customers = zs; sets = ms }), l.1)) (x, rest) f in
+    let m = bind_ok (set_prices_in sets zs mid.0 (parts 32 l.0.0)) (λ ms. Ok (leaf_node (record { customers = zs; sets = ms }), l.0.1)) (x, rest) l.2 in
+    let prices : LeafPrices = record { customers = zs; sets = m.0 } in
+    let e : (leaf_node prices, l.0.1) ≡ (x, rest) = ok_is (leaf_node prices, l.0.1) (x, rest) m.2 in
+    let s = set_prices_take sets mid.0 zs (parts 32 l.0.0) m.0 below m.1 in
+    let text : l.0.0 ≡ set_prices_text m.0 = sym (joined-parts 32 l.0.0) ∙ s.0 in
+    let second : mid.1 ≡ set_prices_text m.0 ∷ l.0.1.1 = next_takes mid.0 mid.1 l.0 l.1 ∙ ap (λ (v : List ℕ). v ∷ l.0.1.1) text in
+    let lines : st.1 ≡ node_texts true (leaf_node prices) ++ l.0.1.1 = t.0 ∙ ap (λ (v : List (List ℕ)). first_text (leaf_node (of_customers zs)) ∷ v) second in
+    subst (λ (y : Node × Left). IsLeafTaken (Some sets) n path st y.0 y.1) e (prices, refl, lines, (t.1.0, t.1.1, s.1))
+
+split_takes : (sets : Option ℕ) (n : ℕ) → n < 1000000 → (path : List Arc) (st rest : Left) (a : Arc) → node_at n path st ≡ Ok (split_node a, rest)
+    → TakesNode sets st (split_node a) rest × IsNodeOn (listed_of sets) n path (split_node a)
+split_takes None n lt path st rest a h = line_takes n lt path st rest (split_node a) h
+split_takes (Some sets) n lt path st rest a h = line_takes n lt path st rest (split_node a) h
+
+of_line : (n : ℕ) → n < 1000000 → (path : List Arc) (st rest : Left) (prices : LeafPrices) → node_at n path st ≡ Ok (leaf_node prices, rest) → prices ≡ of_customers prices.customers
+of_line n lt path st rest prices h = (line_takes n lt path st rest (leaf_node prices) h).1.2
 
 -- ---- What is read as a certificate is one, and the text is its text.
-
-fixed_takes : (text : List ℕ) (st rest : Left) → fixed_at text st ≡ Ok rest → st.1 ≡ text ∷ rest.1
-unfolding fixed_at
-fixed_takes text st rest h =
-    let l = bind_ok (next_at st) (λ l. check (bytes_eq l.0 text) (BadLine st.0) l.1) rest h in
-    let t = test_ok (bytes_eq l.0.0 text) (BadLine st.0) l.0.1 rest l.2 in
-    next_takes st.0 st.1 l.0 l.1 ∙ ap (λ (x : List ℕ). x ∷ l.0.1.1) ((bytes_eq-Decides l.0.0 text).0 t.0) ∙ ap (λ (x : Left). text ∷ x.1) t.1
 
 second_takes : (k : ℕ) (text : List ℕ) (ws : List (List ℕ)) (w : List ℕ) → second k text ws ≡ Ok w → ws ≡ text ∷ w ∷ []
 second_takes k text [] w h = absurd cc
@@ -267,29 +296,30 @@ bound_takes st f h =
 
 -- ---- the tree
 
-all_taken : (n : ℕ) (lt : n < 1000000) (st : Left) (xs : List Node) (rest : Left) → TakesAll n TakesNode (node_takes n lt) st xs rest → st.1 ≡ map node_text xs ++ rest.1
-all_taken n lt st [] rest h = ap (λ (x : Left). x.1) h
-all_taken n lt st (x ∷ xs) rest h = h.1 ∙ ap (λ (y : List (List ℕ)). node_text x ∷ y) (all_taken n lt h.0 xs rest h.2)
+module _ (sets : Option ℕ) (n : ℕ) (lt : n < 1000000) (few : listed_of sets ≤ MOST_SETS) where
+  all_taken : (st : Left) (xs : List Node) (rest : Left)
+      → TakesAll sets n (TakesNode sets) (leaf_takes sets n lt few) (split_takes sets n lt) (of_line n lt) st xs rest → st.1 ≡ flat_map (node_texts (is_some sets)) xs ++ rest.1
+  all_taken st [] rest h = ap (λ (x : Left). x.1) h
+  all_taken st (x ∷ xs) rest h = h.1 ∙ ap (λ (y : List (List ℕ)). node_texts (is_some sets) x ++ y) (all_taken h.0 xs rest h.2)
+      ∙ sym (append_assoc (node_texts (is_some sets) x) (flat_map (node_texts (is_some sets)) xs) rest.1)
 
-pub record IsTreeRead (n : ℕ) (st : Left) (nodes : List Node) (rest : Left) : Type 0 where
-  pub lines : st.1 ≡ codes "TREE" ∷ (map node_text nodes ++ (codes "END" ∷ rest.1))
-  pub tree : Tree
-  pub preorder : nodes ≡ preorder tree
-  pub shaped : IsTreeOn n [] MOST_DEPTH tree
-  pub leaves : leaf_count tree ≤ MOST_LEAVES
+  pub record IsTreeRead (st : Left) (nodes : List Node) (rest : Left) : Type 0 where
+    pub lines : st.1 ≡ flat_map (node_texts (is_some sets)) nodes ++ (codes "END" ∷ rest.1)
+    pub tree : Tree
+    pub preorder : nodes ≡ preorder tree
+    pub shaped : IsTreeOn (listed_of sets) n [] MOST_DEPTH tree
+    pub leaves : leaf_count tree ≤ MOST_LEAVES
 
-pub nodes_take : (n : ℕ) (st : Left) (f : List Node × Left) → n < 1000000 → nodes_at n st ≡ Ok f → IsTreeRead n st f.0 f.1
-unfolding nodes_at
-nodes_take n st f lt h =
-    let a = bind_ok (fixed_at (codes "TREE") st) (λ a. tree_at n MOST_DEPTH [] MOST_LEAVES a >>= λ t. fixed_at (codes "END") t.1.1 >>= λ b. Ok (t.0, b)) f h in
-    let t = bind_ok (tree_at n MOST_DEPTH [] MOST_LEAVES a.0) (λ t. fixed_at (codes "END") t.1.1 >>= λ b. Ok (t.0, b)) f a.2 in
-    let b = bind_ok (fixed_at (codes "END") t.0.1.1) (λ b. Ok (t.0.0, b)) f t.2 in
-    let r = tree_takes n TakesNode (node_takes n lt) MOST_DEPTH [] MOST_LEAVES a.0 t.0 t.1 in
-    let lines : st.1 ≡ codes "TREE" ∷ (map node_text t.0.0 ++ (codes "END" ∷ b.0.1)) =
-    fixed_takes (codes "TREE") st a.0 a.1 ∙ ap (λ (x : List (List ℕ)). codes "TREE" ∷ x)
-    (all_taken n lt a.0 t.0.0 t.0.1.1 r.spelled ∙ ap (λ (x : List (List ℕ)). map node_text t.0.0 ++ x) (fixed_takes (codes "END") t.0.1.1 b.0 b.1)) in
-    subst (λ (x : List Node × Left). IsTreeRead n st x.0 x.1) (ok_is (t.0.0, b.0) f b.2)
-    (record { lines = lines; tree = r.tree; preorder = r.preorder; shaped = r.shaped; leaves = omega (arith, r.counted) })
+  pub nodes_take : (st : Left) (f : List Node × Left) → nodes_at sets n st ≡ Ok f → IsTreeRead st f.0 f.1
+  unfolding nodes_at
+  nodes_take st f h =
+      let t = bind_ok (tree_at sets n MOST_DEPTH [] MOST_LEAVES st) (λ t. fixed_at (codes "END") t.1.1 >>= λ b. Ok (t.0, b)) f h in
+      let b = bind_ok (fixed_at (codes "END") t.0.1.1) (λ b. Ok (t.0.0, b)) f t.2 in
+      let r = tree_takes sets n (TakesNode sets) (leaf_takes sets n lt few) (split_takes sets n lt) (of_line n lt) MOST_DEPTH [] MOST_LEAVES st t.0 t.1 in
+      let lines : st.1 ≡ flat_map (node_texts (is_some sets)) t.0.0 ++ (codes "END" ∷ b.0.1) =
+      all_taken st t.0.0 t.0.1.1 r.spelled ∙ ap (λ (x : List (List ℕ)). flat_map (node_texts (is_some sets)) t.0.0 ++ x) (fixed_takes (codes "END") t.0.1.1 b.0 b.1) in
+      subst (λ (x : List Node × Left). IsTreeRead st x.0 x.1) (ok_is (t.0.0, b.0) f b.2)
+      (record { lines = lines; tree = r.tree; preorder = r.preorder; shaped = r.shaped; leaves = omega (arith, r.counted) })
 
 -- ---- the lines before the tree
 
@@ -317,12 +347,18 @@ pub record IsHeadRead (st : Left) (h : Head) (rest : Left) : Type 0 where
 version_is : (k : ℕ) (v : Version) (l : List ℕ) → version_in k l ≡ Ok v → l ≡ version_text v
 version_is k v l h = first (bytes_eq l (version_text version_1)) refl h
   where
-    second_of : (t : Bool) → bytes_eq l (version_text version_2) ≡ t → cond t (Ok version_2) (Err (BadLine k)) ≡ Ok v → l ≡ version_text v
-    second_of false e f = absurd cc
+    third : (t : Bool) → bytes_eq l (version_text (with_sets [])) ≡ t → cond t (Ok (with_sets [])) (Err (BadLine k)) ≡ Ok v → l ≡ version_text v
+    third false e f = absurd cc
+    third true e f = (bytes_eq-Decides l (version_text (with_sets []))).0 e ∙ ap version_text (ok_is (with_sets []) v f)
+
+    second_of : (t : Bool) → bytes_eq l (version_text version_2) ≡ t
+        → cond t (Ok version_2) (cond (bytes_eq l (version_text (with_sets []))) (Ok (with_sets [])) (Err (BadLine k))) ≡ Ok v → l ≡ version_text v
+    second_of false e f = third (bytes_eq l (version_text (with_sets []))) refl f
     second_of true e f = (bytes_eq-Decides l (version_text version_2)).0 e ∙ ap version_text (ok_is version_2 v f)
 
     first : (t : Bool) → bytes_eq l (version_text version_1) ≡ t
-        → cond t (Ok version_1) (cond (bytes_eq l (version_text version_2)) (Ok version_2) (Err (BadLine k))) ≡ Ok v → l ≡ version_text v
+        → cond t (Ok version_1) (cond (bytes_eq l (version_text version_2)) (Ok version_2) (cond (bytes_eq l (version_text (with_sets []))) (Ok (with_sets [])) (Err (BadLine k)))) ≡ Ok v
+        → l ≡ version_text v
     first false e f = second_of (bytes_eq l (version_text version_2)) refl f
     first true e f = (bytes_eq-Decides l (version_text version_1)).0 e ∙ ap version_text (ok_is version_1 v f)
 
@@ -377,42 +413,75 @@ head_takes st f h =
 
 -- ---- the whole
 
-abbrev built : Head → Tree → Certificate
-built h tree = record { version = h.version; name = h.name; size = h.size; neighbours = h.neighbours; bound = h.bound; tree = tree }
+abbrev built : Version → Head → Tree → Certificate
+built v h tree = record { version = v; name = h.name; size = h.size; neighbours = h.neighbours; bound = h.bound; tree = tree }
 
-same_content : (h : Head) (nodes : List Node) (tree : Tree) → nodes ≡ preorder tree → with_tree h nodes ≡ listed (built h tree)
-same_content h nodes tree f = ap (with_tree h) f
+same_content : (v : Version) (h : Head) (nodes : List Node) (tree : Tree) → nodes ≡ preorder tree → with_tree v h nodes ≡ listed (built v h tree)
+same_content v h nodes tree f = ap (with_tree v h) f
 
-put_together : (text : List ℕ) (h : Head) (nodes : List Node) (mid rest : Left) → IsHeadRead (1, parts 10 text) h mid
-    → IsTreeRead h.size mid nodes rest → rest.1 ≡ [] ∷ [] → IsCertificateText text (with_tree h nodes)
-put_together text h nodes mid rest a t e =
-    let x = with_tree h nodes in
-    let tail : codes "TREE" ∷ (map node_text nodes ++ (codes "END" ∷ rest.1)) ≡ codes "TREE" ∷ ((map node_text nodes ++ (codes "END" ∷ [])) ++ ([] ∷ [])) =
-    ap (λ (x : List (List ℕ)). codes "TREE" ∷ (map node_text nodes ++ (codes "END" ∷ x))) e
-    ∙ ap (λ (x : List (List ℕ)). codes "TREE" ∷ x) (sym (append_assoc (map node_text nodes) (codes "END" ∷ []) ([] ∷ []))) in
-    let lines : parts 10 text ≡ text_lines x ++ ([] ∷ []) = a.lines
-    ∙ ap (λ (x : List (List ℕ)). version_text h.version ∷ (codes "INSTANCE" ++ spaced h.name) ∷ (codes "CUSTOMERS" ++ spaced (decimal h.size))
-    ∷ (codes "NEIGHBOURS" ++ spaced (decimal h.neighbours)) ∷ (codes "BOUND" ++ spaced (tenths_text h.bound)) ∷ x) (t.lines ∙ tail) in
-    let spelled : text ≡ content_text x = sym (joined-parts 10 text) ∙ ap (λ (x : List (List ℕ)). joined 10 x) lines ∙ joined-lines (text_lines x) in
-    let same = same_content h nodes t.tree t.preorder in
-    let at = at_from_on t.tree (root_region h.size) [] MOST_DEPTH (decides_root h.size) t.shaped in
-    record {
-      certificate = built h t.tree;
-      shaped = record { name = name_is h.name a.name; size = a.size; neighbours = a.neighbours.1; bound = omega (arith, a.bound); tree = at.0; leaves = t.leaves; depth = at.1 };
-      is = same;
-      spelled = spelled ∙ ap content_text same ∙ text_is (built h t.tree);
-    }
+count_is : (v : Version) → listed_of (set_count v) ≡ length (listed_sets v)
+count_is version_1 = refl
+count_is version_2 = refl
+count_is (with_sets sets) = refl
+
+grouped : (a b : List (List ℕ)) → a ++ (codes "TREE" ∷ (b ++ (codes "END" ∷ ([] ∷ [])))) ≡ ((a ++ (codes "TREE" ∷ [])) ++ (b ++ (codes "END" ∷ []))) ++ ([] ∷ [])
+grouped a b = simp append_assoc
+
+module _ (text : List ℕ) (h : Head) (v : Version) (nodes : List Node) (st mid rest : Left) (a : IsHeadRead (1, parts 10 text) h st) (l : IsListedRead h.size h.version st v mid)
+    (lt : h.size < 1000000) (few : listed_of (set_count v) ≤ MOST_SETS) (t : IsTreeRead (set_count v) h.size lt few mid nodes rest) (e : rest.1 ≡ [] ∷ []) where
+  abbrev shown : List (List ℕ) → List (List ℕ)
+  shown x = version_text v ∷ (codes "INSTANCE" ++ spaced h.name) ∷ (codes "CUSTOMERS" ++ spaced (decimal h.size))
+      ∷ (codes "NEIGHBOURS" ++ spaced (decimal h.neighbours)) ∷ (codes "BOUND" ++ spaced (tenths_text h.bound)) ∷ x
+
+  all_lines : parts 10 text ≡ text_lines (with_tree v h nodes) ++ ([] ∷ [])
+  all_lines =
+      let sets = map set_text (listed_sets v) in
+      let spelled = flat_map (node_texts (is_some (set_count v))) nodes in
+      let tail : st.1 ≡ ((sets ++ (codes "TREE" ∷ [])) ++ (spelled ++ (codes "END" ∷ []))) ++ ([] ∷ []) =
+      l.lines ∙ ap (λ (x : List (List ℕ)). sets ++ (codes "TREE" ∷ x)) t.lines
+      ∙ ap (λ (x : List (List ℕ)). sets ++ (codes "TREE" ∷ (spelled ++ (codes "END" ∷ x)))) e ∙ grouped sets spelled in
+      a.lines ∙ ap (λ (x : List ℕ). x ∷ (codes "INSTANCE" ++ spaced h.name) ∷ (codes "CUSTOMERS" ++ spaced (decimal h.size))
+      ∷ (codes "NEIGHBOURS" ++ spaced (decimal h.neighbours)) ∷ (codes "BOUND" ++ spaced (tenths_text h.bound)) ∷ st.1) l.first ∙ ap shown tail
+
+  put_together : IsCertificateText text (with_tree v h nodes)
+  put_together =
+      let x = with_tree v h nodes in
+      let spelled : text ≡ content_text x = sym (joined-parts 10 text) ∙ ap (λ (y : List (List ℕ)). joined 10 y) all_lines ∙ joined-lines (text_lines x) in
+      let same = same_content v h nodes t.tree t.preorder in
+      let shaped : IsTreeOn (length (listed_sets v)) h.size [] MOST_DEPTH t.tree = subst (λ (m : ℕ). IsTreeOn m h.size [] MOST_DEPTH t.tree) (count_is v) t.shaped in
+      let at = at_from_on v t.tree (root_region h.size) [] MOST_DEPTH (decides_root h.size) shaped in
+      record {
+        certificate = built v h t.tree;
+        shaped = record {
+          name = name_is h.name a.name;
+          size = a.size;
+          neighbours = a.neighbours.1;
+          bound = omega (arith, a.bound);
+          listed = l.listed;
+          sets = l.few;
+          tree = at.0;
+          leaves = t.leaves;
+          depth = at.1;
+        };
+        is = same;
+        spelled = spelled ∙ ap content_text same ∙ text_is (built v h t.tree);
+      }
 
 pub reading_takes : (text : List ℕ) (x : Content) → reading text ≡ Ok x → IsCertificateText text x
 unfolding reading
 reading_takes text x h =
-    let a = bind_ok (head_at (1, parts 10 text)) (λ h. nodes_at h.0.size h.1 >>= λ t. check (is_end t.1.1) Extra (with_tree h.0 t.0)) x h in
-    let t = bind_ok (nodes_at a.0.0.size a.0.1) (λ t. check (is_end t.1.1) Extra (with_tree a.0.0 t.0)) x a.2 in
-    let e = test_ok (is_end t.0.1.1) Extra (with_tree a.0.0 t.0.0) x t.2 in
+    let a = bind_ok (head_at (1, parts 10 text))
+    (λ h. listed_at h.0.size h.0.version h.1 >>= λ v. nodes_at (set_count v.0) h.0.size v.1 >>= λ t. check (is_end t.1.1) Extra (with_tree v.0 h.0 t.0)) x h in
+    let v = bind_ok (listed_at a.0.0.size a.0.0.version a.0.1) (λ v. nodes_at (set_count v.0) a.0.0.size v.1 >>= λ t. check (is_end t.1.1) Extra (with_tree v.0 a.0.0 t.0)) x a.2 in
+    let t = bind_ok (nodes_at (set_count v.0.0) a.0.0.size v.0.1) (λ t. check (is_end t.1.1) Extra (with_tree v.0.0 a.0.0 t.0)) x v.2 in
+    let e = test_ok (is_end t.0.1.1) Extra (with_tree v.0.0 a.0.0 t.0.0) x t.2 in
     let p = head_takes (1, parts 10 text) a.0 a.1 in
     let size : a.0.0.size ≤ MOST_CUSTOMERS = p.size.1 in
-    let q = nodes_take a.0.0.size a.0.1 t.0 (omega (arith, size)) t.1 in
-    subst (λ (x : Content). IsCertificateText text x) e.1 (put_together text a.0.0 t.0.0 a.0.1 t.0.1 p q (only_end t.0.1.1 e.0))
+    let l = listed_take a.0.0.size a.0.0.version a.0.1 v.0 (omega (arith, size)) v.1 in
+    let lt : a.0.0.size < 1000000 = omega (arith, size) in
+    let few : listed_of (set_count v.0.0) ≤ MOST_SETS = subst (λ (m : ℕ). m ≤ MOST_SETS) (sym (count_is v.0.0)) l.few in
+    let q = nodes_take (set_count v.0.0) a.0.0.size lt few v.0.1 t.0 t.1 in
+    subst (λ (x : Content). IsCertificateText text x) e.1 (put_together text a.0.0 v.0.0 t.0.0 a.0.1 v.0.1 t.0.1 p l lt few q (only_end t.0.1.1 e.0))
 
 -- what has this text is a certificate
 pub text_has : (text : List ℕ) (x : Content) → IsCertificateText text x → HasText x

@@ -1,5 +1,5 @@
 -- Reading a certificate line by line, with the first fault that is met.
-use Rattle.std.specs.Prelude.{ℕ, zero, suc, Bool, true, false, List, [], ◌∷◌, ◌++◌, length, Option, codes, Result, Ok, Err, nat_le, ◌==◌, ◌&&◌, if◌then◌else◌, ℤ, nat_abs}
+use Rattle.std.specs.Prelude.{ℕ, zero, suc, ◌+◌, min, Bool, true, false, List, [], ◌∷◌, ◌++◌, length, map, Option, Some, None, codes, Result, Ok, Err, nat_le, nat_lt, ◌==◌, ◌&&◌, if◌then◌else◌, ℤ, nat_abs}
 use Rattle.std.specs.List.{list_all, list_any}
 use Rattle.std.specs.Option.{option_map}
 use Rattle.std.specs.Str.{bytes_eq}
@@ -8,12 +8,13 @@ use Rattle.tenths.specs.Parts.{parts}
 use Rattle.tenths.specs.Lines.{Left, line_at, is_end}
 use Rattle.tenths.specs.Numbers.{number_of, signed_of, tenths_of, capped, clamped}
 use Rattle.certificate.specs.declared.fault.CertFault.{CertFault}
-use Rattle.certificate.specs.declared.fault.CertFault.TheVariants.{Memory, BadLine, Truncated, Extra, BadArc, ArcDecided, PriceRange, TooDeep, TooManyLeaves}
-use Rattle.solomon_reader.specs.declared.limits.TheConstants.{MOST_NAME, MOST_CUSTOMERS, MOST_NEIGHBOURS, MOST_PRICE, MOST_LEAVES, MOST_DEPTH}
+use Rattle.certificate.specs.declared.fault.CertFault.TheVariants.{Memory, BadLine, Truncated, Extra, BadArc, ArcDecided, PriceRange, TooDeep, TooManyLeaves, NeedRange, BadSet, TooManySets}
+use Rattle.solomon_reader.specs.declared.limits.TheConstants.{MOST_NAME, MOST_CUSTOMERS, MOST_NEIGHBOURS, MOST_PRICE, MOST_LEAVES, MOST_DEPTH, MOST_SETS, MOST_NEED}
 use Rattle.solomon_reader.specs.Words.{is_letter}
 use Rattle.solomon_reader.specs.Plan.{Arc}
-use Rattle.solomon_reader.specs.Bound.{Version, version_1, version_2, Node, leaf_node, split_node}
-use Rattle.solomon_reader.specs.CertificateText.{Content, version_text}
+use Rattle.solomon_reader.specs.SetPrices.{ListedSet, SetPrice}
+use Rattle.solomon_reader.specs.Bound.{Version, version_1, version_2, with_sets, of_customers, Node, leaf_node, split_node}
+use Rattle.solomon_reader.specs.CertificateText.{Content, version_text, set_prices_sum}
 
 -- What a function returned, seen by view, is what reading gives, unless memory ran out.
 abbrev pub Gives : {X Y : Type 0} → (X → Y) → Result X CertFault → Result Y CertFault → Type 0
@@ -22,6 +23,25 @@ Gives view result read = GivesUnless Memory view result read
 -- the next line
 abbrev pub next_at : Left → Result (List ℕ × Left) CertFault
 next_at left = value_or Truncated (line_at left)
+
+-- ---- numbers of customers and of sets
+
+-- cut, above each customer and each set
+abbrev pub small : ℕ → ℕ
+small m = min (capped m) 65535
+
+-- the words of a line that are left are canonical numbers
+unfoldable pub members_at : ℕ → List (List ℕ) → Result (List ℕ) CertFault
+members_at k [] = Ok []
+members_at k (w ∷ ws) = do
+  i ← value_or (BadLine k) (option_map small (number_of w))
+  members ← members_at k ws
+  Ok (i ∷ members)
+
+-- each is above the one before, the first above low, and none above most
+abbrev pub is_rising : ℕ → ℕ → List ℕ → Bool
+is_rising low most [] = true
+is_rising low most (i ∷ s) = nat_lt low i && nat_le i most && is_rising i most s
 
 -- ---- a leaf
 
@@ -42,6 +62,50 @@ prices_at n k ws = do
   zs ← signed_at k ws
   some ← check (length zs == n) (BadLine k) zs
   check (list_all is_price some) (PriceRange k) some
+
+-- how many sets are listed, where the text is one with sets
+abbrev pub set_count : Version → Option ℕ
+set_count version_1 = None
+set_count version_2 = None
+set_count (with_sets sets) = Some (length sets)
+
+abbrev pub is_some : {X : Type 0} → Option X → Bool
+is_some None = false
+is_some (Some x) = true
+
+-- the words of a line that are left are canonical numbers in pairs: sets with their prices
+unfoldable pub pairs_at : ℕ → List (List ℕ) → Result (List SetPrice) CertFault
+pairs_at k [] = Ok []
+pairs_at k (v ∷ []) = Err (BadLine k)
+pairs_at k (v ∷ w ∷ ws) = do
+  i ← value_or (BadLine k) (option_map small (number_of v))
+  m ← value_or (BadLine k) (option_map capped (number_of w))
+  pairs ← pairs_at k ws
+  Ok ((i, m) ∷ pairs)
+
+-- sets of this many, in increasing order
+abbrev pub are_listed : ℕ → List SetPrice → Bool
+are_listed sets ms = is_rising 0 sets (map (λ m. m.0) ms)
+
+-- each is a grain or more, and together they are within the range of a price beside each customer's
+abbrev pub are_set_prices : List ℤ → List SetPrice → Bool
+are_set_prices zs ms = list_all (λ m. nat_le 1 m.1 && nat_le m.1 MOST_PRICE) ms && list_all (λ z. nat_le (set_prices_sum ms + nat_abs z) MOST_PRICE) zs
+
+-- the prices of sets: first the words, then which sets, then their range
+unfoldable pub set_prices_in : ℕ → List ℤ → ℕ → List (List ℕ) → Result (List SetPrice) CertFault
+set_prices_in sets zs k [] = Err (BadLine k)
+set_prices_in sets zs k (w ∷ ws) = do
+  pairs ← (if bytes_eq w (codes "M") then pairs_at k ws else Err (BadLine k))
+  some ← check (are_listed sets pairs) (BadSet k) pairs
+  check (are_set_prices zs some) (PriceRange k) some
+
+-- behind the line of the customers' prices: a line of sets' prices, where the text is one with sets
+unfoldable pub leaf_at : Option ℕ → List ℤ → Left → Result (Node × Left) CertFault
+leaf_at None zs st = Ok (leaf_node (of_customers zs), st)
+leaf_at (Some sets) zs st = do
+  l ← next_at st
+  ms ← set_prices_in sets zs st.0 (parts 32 l.0)
+  Ok (leaf_node (record { customers = zs; sets = ms }), l.1)
 
 -- ---- a split
 
@@ -76,10 +140,10 @@ arc_at n k path ws = do
 
 -- ---- a node's line
 
--- the limits of a whole tree are looked at behind the line's own faults
+-- the limits of a whole tree are looked at behind the line's own faults; a leaf has no prices of sets yet
 unfoldable pub node_in : ℕ → ℕ → List Arc → List (List ℕ) → Result Node CertFault
 node_in n k path [] = Err (BadLine k)
-node_in n k path (w ∷ ws) = if bytes_eq w (codes "P") then (prices_at n k ws >>= λ zs. Ok (leaf_node zs))
+node_in n k path (w ∷ ws) = if bytes_eq w (codes "P") then (prices_at n k ws >>= λ zs. Ok (leaf_node (of_customers zs)))
     else if bytes_eq w (codes "S") then (arc_at n k path ws >>= λ a. Ok (split_node a))
     else Err (BadLine k)
 
@@ -92,22 +156,22 @@ node_at n path left = next_at left >>= λ l. node_in n left.0 path (parts 32 l.0
 abbrev pub Below : Type 0
 Below = List Node × (ℕ × Left)
 
-abbrev pub one_leaf : ℕ → List ℤ → ℕ → Left → Result Below CertFault
-one_leaf k zs zero rest = Err (TooManyLeaves k)
-one_leaf k zs (suc leaves) rest = Ok (leaf_node zs ∷ [], (leaves, rest))
+abbrev pub one_leaf : Option ℕ → ℕ → List ℤ → ℕ → Left → Result Below CertFault
+one_leaf sets k zs zero rest = Err (TooManyLeaves k)
+one_leaf sets k zs (suc leaves) rest = leaf_at sets zs rest >>= λ x. Ok (x.0 ∷ [], (leaves, x.1))
 
 -- behind the node's line: a leaf, or both children
-abbrev pub below : ℕ → ℕ → (Arc → Left → Result Below CertFault) → Node → Left → Result Below CertFault
-below k leaves children (leaf_node zs) rest = one_leaf k zs leaves rest
-below k leaves children (split_node a) rest = children a rest
+abbrev pub below : Option ℕ → ℕ → ℕ → (Arc → Left → Result Below CertFault) → Node → Left → Result Below CertFault
+below sets k leaves children (leaf_node prices) rest = one_leaf sets k prices.customers leaves rest
+below sets k leaves children (split_node a) rest = children a rest
 
 abbrev pub both : Arc → List Node → Below → Below
 both a used unused = (split_node a ∷ (used ++ unused.0), unused.1)
 
-unfoldable pub tree_at : ℕ → ℕ → List Arc → ℕ → Left → Result Below CertFault
-tree_at n zero path leaves st = node_at n path st >>= λ x. below st.0 leaves (λ a rest. Err (TooDeep st.0)) x.0 x.1
-tree_at n (suc left) path leaves st = node_at n path st >>= λ x. below st.0 leaves
-    (λ a rest. tree_at n left (path ++ (a ∷ [])) leaves rest >>= λ used. tree_at n left (path ++ (a ∷ [])) used.1.0 used.1.1 >>= λ unused. Ok (both a used.0 unused)) x.0 x.1
+unfoldable pub tree_at : Option ℕ → ℕ → ℕ → List Arc → ℕ → Left → Result Below CertFault
+tree_at sets n zero path leaves st = node_at n path st >>= λ x. below sets st.0 leaves (λ a rest. Err (TooDeep st.0)) x.0 x.1
+tree_at sets n (suc left) path leaves st = node_at n path st >>= λ x. below sets st.0 leaves
+    (λ a rest. tree_at sets n left (path ++ (a ∷ [])) leaves rest >>= λ used. tree_at sets n left (path ++ (a ∷ [])) used.1.0 used.1.1 >>= λ unused. Ok (both a used.0 unused)) x.0 x.1
 
 -- ---- the whole
 
@@ -154,7 +218,7 @@ bound_at st = do
   t ← value_or (BadLine st.0) (tenths_of w.0)
   Ok (t, w.1)
 
--- the lines before the tree
+-- the first five lines; sets aren't listed yet
 pub record Head : Type 0 where
   pub version : Version
   pub name : List ℕ
@@ -169,7 +233,8 @@ sizes_at st = do
   Ok ((n.0, k.0), k.1)
 
 abbrev pub version_in : ℕ → List ℕ → Result Version CertFault
-version_in k l = if bytes_eq l (version_text version_1) then Ok version_1 else if bytes_eq l (version_text version_2) then Ok version_2 else Err (BadLine k)
+version_in k l = if bytes_eq l (version_text version_1) then Ok version_1 else if bytes_eq l (version_text version_2) then Ok version_2
+    else if bytes_eq l (version_text (with_sets [])) then Ok (with_sets []) else Err (BadLine k)
 
 unfoldable pub version_at : Left → Result (Version × Left) CertFault
 version_at st = do
@@ -191,23 +256,51 @@ head_at st = do
   bound ← bound_at sizes.1
   Ok (record { version = title.0.0; name = title.0.1; size = sizes.0.0; neighbours = sizes.0.1; bound = bound.0 }, bound.1)
 
--- the tree between its lines
-unfoldable pub nodes_at : ℕ → Left → Result (List Node × Left) CertFault
-nodes_at n st = do
-  a ← fixed_at (codes "TREE") st
-  t ← tree_at n MOST_DEPTH [] MOST_LEAVES a
+-- ---- the sets
+
+-- the need and the members: first the words, then the need's range, then the members
+unfoldable pub set_in : ℕ → ℕ → List (List ℕ) → Result ListedSet CertFault
+set_in n k [] = Err (BadLine k)
+set_in n k (w ∷ []) = Err (BadLine k)
+set_in n k (w ∷ v ∷ ws) = do
+  need ← value_or (BadLine k) (option_map capped (number_of v))
+  members ← members_at k ws
+  some ← check (bytes_eq w (codes "S") && nat_le 2 (length members)) (BadLine k) members
+  held ← check (nat_le 1 need && nat_le need MOST_NEED) (NeedRange k) need
+  check (is_rising 0 n some) (BadSet k) (record { members = some; need = held })
+
+-- the sets up to the line that begins the tree, of which so many may still come
+unfoldable pub sets_at : ℕ → ℕ → Left → Result (List ListedSet × Left) CertFault
+sets_at n zero st = do
+  l ← next_at st
+  if bytes_eq l.0 (codes "TREE") then Ok ([], l.1) else (set_in n st.0 (parts 32 l.0) >>= λ s. Err (TooManySets st.0))
+sets_at n (suc left) st = do
+  l ← next_at st
+  if bytes_eq l.0 (codes "TREE") then Ok ([], l.1) else (set_in n st.0 (parts 32 l.0) >>= λ s. sets_at n left l.1 >>= λ more. Ok (s ∷ more.0, more.1))
+
+-- what stands between the first five lines and the nodes
+unfoldable pub listed_at : ℕ → Version → Left → Result (Version × Left) CertFault
+listed_at n version_1 st = fixed_at (codes "TREE") st >>= λ a. Ok (version_1, a)
+listed_at n version_2 st = fixed_at (codes "TREE") st >>= λ a. Ok (version_2, a)
+listed_at n (with_sets sets) st = sets_at n MOST_SETS st >>= λ a. Ok (with_sets a.0, a.1)
+
+-- the nodes, and the line behind them
+unfoldable pub nodes_at : Option ℕ → ℕ → Left → Result (List Node × Left) CertFault
+nodes_at sets n st = do
+  t ← tree_at sets n MOST_DEPTH [] MOST_LEAVES st
   b ← fixed_at (codes "END") t.1.1
   Ok (t.0, b)
 
-abbrev pub with_tree : Head → List Node → Content
-with_tree h nodes = record { version = h.version; name = h.name; size = h.size; neighbours = h.neighbours; bound = h.bound; nodes = nodes }
+abbrev pub with_tree : Version → Head → List Node → Content
+with_tree version h nodes = record { version = version; name = h.name; size = h.size; neighbours = h.neighbours; bound = h.bound; nodes = nodes }
 
 -- the certificate that a text is, or its first fault
 unfoldable pub reading : List ℕ → Result Content CertFault
 reading text = do
   h ← head_at (1, parts 10 text)
-  t ← nodes_at h.0.size h.1
-  check (is_end t.1.1) Extra (with_tree h.0 t.0)
+  v ← listed_at h.0.size h.0.version h.1
+  t ← nodes_at (set_count v.0) h.0.size v.1
+  check (is_end t.1.1) Extra (with_tree v.0 h.0 t.0)
 
 -- the nodes before a tree, and those of the tree
 abbrev pub with_nodes : List Node → Result Below CertFault → Result Below CertFault

@@ -13,7 +13,7 @@ use solomon_reader::{MOST_CUSTOMERS, MOST_NAME, MOST_NEIGHBOURS};
 use std::alloc::Global;
 use tenths::{Lines, Parts, Tenths, number, read_tenths};
 
-/// What stands before the tree.
+/// What the first five lines say; sets aren't listed yet.
 #[derive(Drop)]
 pub struct Head {
     pub version: Version,
@@ -114,7 +114,7 @@ fn bound(lines: &mut Lines<'_>) -> Result<Tenths, CertFault>
 
 /// The first line.
 #[tactic(auto, unfolding(crate::specs::Reading::version_at))]
-fn version(lines: &mut Lines<'_>) -> Result<Version, CertFault>
+fn version(alloc: Global, lines: &mut Lines<'_>) -> Result<Version, CertFault>
     ensures { Gives (λ v. (version_of v, lines.new)) result (version_at lines.old) }
 {
     let number = lines.number();
@@ -127,10 +127,13 @@ fn version(lines: &mut Lines<'_>) -> Result<Version, CertFault>
     if line == b"VRPTW-CERT 2".as_slice() {
         return Ok(Version::Two);
     }
+    if line == b"VRPTW-SETS 1".as_slice() {
+        return Ok(Version::WithSets(Vec::new(alloc)));
+    }
     Err(CertFault::BadLine { line: number })
 }
 
-/// The lines before the tree.
+/// The first five lines.
 #[tactic(auto, unfolding(crate::specs::Reading::head_at, crate::specs::Reading::title_at, crate::specs::Reading::sizes_at))]
 pub fn head_lines(alloc: Global, lines: &mut Lines<'_>) -> Result<Head, CertFault>
     ensures { Gives (λ h. (
@@ -145,7 +148,7 @@ pub fn head_lines(alloc: Global, lines: &mut Lines<'_>) -> Result<Head, CertFaul
     ))
         result (head_at lines.old) }
 {
-    let version = version(lines)?;
+    let version = version(alloc, lines)?;
     let name = name(alloc, lines)?;
     let size = within(lines, b"CUSTOMERS", 1, u64::from(MOST_CUSTOMERS))? as u16;
     let neighbours = within(lines, b"NEIGHBOURS", 0, u64::from(MOST_NEIGHBOURS))? as u32;

@@ -6,7 +6,8 @@ ghost use Rattle.certificate.specs.Tree.{nodes_of};
 
 use crate::fault::CertFault;
 use crate::node::CertNode;
-use crate::words::node;
+use crate::set_prices::leaf;
+use crate::words::{NodeLine, node};
 use std::alloc::Global;
 use tenths::Lines;
 
@@ -15,6 +16,8 @@ use tenths::Lines;
 pub struct Nodes<'a> {
     pub lines: Lines<'a>,
     pub size: u16,
+    /// How many sets are listed, where the text is one with sets.
+    pub sets: Option<u16>,
     pub path: Vec<(u16, u16)>,
     pub leaves: u32,
     pub nodes: Vec<CertNode>,
@@ -27,21 +30,23 @@ pub fn tree(alloc: Global, state: &mut Nodes<'_>, left: u32) -> Result<(), CertF
       (state.new.leaves, state.new.lines),
     )) result
         (with_nodes (nodes_of state.old.nodes.items)
-        (tree_at state.old.size left state.old.path.items state.old.leaves state.old.lines)) }
+        (tree_at state.old.sets state.old.size left state.old.path.items state.old.leaves state.old.lines)) }
     ensures path { OnOk result (state.new.path.items ≡ state.old.path.items) }
     ensures size { OnOk result (state.new.size ≡ state.old.size) }
+    ensures sets { OnOk result (state.new.sets ≡ state.old.sets) }
 {
     let line = state.lines.number();
     match node(alloc, state.size, &state.path, &mut state.lines)? {
-        CertNode::Leaf(prices) => {
+        NodeLine::Prices(prices) => {
             if state.leaves == 0 {
                 return Err(CertFault::TooManyLeaves { line });
             }
-            state.nodes.push(CertNode::Leaf(prices))?;
+            let leaf = leaf(alloc, state.sets, prices, &mut state.lines)?;
+            state.nodes.push(leaf)?;
             state.leaves -= 1;
             Ok(())
         }
-        CertNode::Split { from, to } => {
+        NodeLine::Arc(from, to) => {
             if left == 0 {
                 return Err(CertFault::TooDeep { line });
             }

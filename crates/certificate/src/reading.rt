@@ -12,23 +12,25 @@ use crate::head::{fixed, head_lines};
 use crate::node::CertNode;
 use crate::nodes::{Nodes, tree};
 use crate::parts::CertParts;
+use crate::set_lines::listed;
 use solomon_reader::{MOST_DEPTH, MOST_LEAVES};
 use std::alloc::Global;
 use tenths::Lines;
 
-/// The nodes between the lines of the tree, and the lines behind.
+/// The nodes, and the lines behind the one that ends them.
 #[tactic(auto, unfolding(crate::specs::Reading::nodes_at))]
 fn nodes<'a>(
     alloc: Global,
+    sets: Option<u16>,
     size: u16,
-    mut lines: Lines<'a>,
+    lines: Lines<'a>,
 ) -> Result<(Vec<CertNode>, Lines<'a>), CertFault>
-    ensures { Gives (λ x. (nodes_of x.0.items, x.1)) result (nodes_at size lines.entry) }
+    ensures { Gives (λ x. (nodes_of x.0.items, x.1)) result (nodes_at sets size lines.entry) }
 {
-    fixed(&mut lines, b"TREE")?;
     let mut state = Nodes {
         lines,
         size,
+        sets,
         path: Vec::new(alloc),
         leaves: MOST_LEAVES,
         nodes: Vec::new(alloc),
@@ -50,12 +52,13 @@ fn parts_of(alloc: Global, text: &[u8]) -> Result<CertParts, CertFault>
 {
     let mut lines = Lines::new(text);
     let head = head_lines(alloc, &mut lines)?;
-    let (nodes, lines) = nodes(alloc, head.size, lines)?;
+    let version = listed(alloc, head.size, head.version, &mut lines)?;
+    let (nodes, lines) = nodes(alloc, version.set_count(), head.size, lines)?;
     if !lines.is_done() {
         return Err(CertFault::Extra);
     }
     Ok(CertParts {
-        version: head.version,
+        version,
         name: head.name,
         size: head.size,
         neighbours: head.neighbours,
@@ -67,8 +70,9 @@ fn parts_of(alloc: Global, text: &[u8]) -> Result<CertParts, CertFault>
 /// The certificate that a text is, or its first fault. The text is read line by line: `BadLine`
 /// where a line isn't what stands there, `Truncated` where no line feed is left for it, `Extra`
 /// where bytes follow the last line. Of a node's line it is the first of `BadLine`, `PriceRange` and
-/// `TooManyLeaves`, or of `BadLine`, `BadArc`, `ArcDecided` and `TooDeep`. `Memory` where a growth
-/// was refused.
+/// `TooManyLeaves`, or of `BadLine`, `BadArc`, `ArcDecided` and `TooDeep`; of a set's line the first of
+/// `BadLine`, `NeedRange`, `BadSet` and `TooManySets`; of a line of sets' prices the first of `BadLine`,
+/// `BadSet` and `PriceRange`. `Memory` where a growth was refused.
 pub fn read(alloc: Global, text: &[u8]) -> Result<Cert, CertFault>
     // The text is that of what is read.
     ensures found { IfOk result (λ c. IsCertificateText text.now c) }

@@ -5,13 +5,12 @@ ghost use Rattle.std.specs.List.{list_all};
 ghost use Rattle.certificate.specs.Reading.{Gives, signed_at, prices_at, pair_at, arc_at, is_arc, is_price, is_decided, arc_eq, node_in, node_at};
 ghost use Rattle.tenths.specs.Reading.{value_or};
 ghost use Rattle.certificate.specs.declared.fault.CertFault.TheVariants.{BadLine};
-ghost use Rattle.certificate.specs.Tree.{node_of};
+ghost use Rattle.certificate.specs.Lines.{line_of};
 ghost use Rattle.std.specs.Option.{option_map};
 ghost use Rattle.tenths.specs.Numbers.{number_of, signed_of, capped, clamped};
 ghost use Rattle.tenths.specs.Parts.{parts};
 
 use crate::fault::CertFault;
-use crate::node::CertNode;
 use solomon_reader::MOST_PRICE;
 use std::alloc::Global;
 use tenths::{Lines, Parts, number, signed};
@@ -103,15 +102,24 @@ fn arc(
     Ok(arc)
 }
 
-/// The next node.
+/// The first line of a node.
+#[derive(Drop)]
+pub enum NodeLine {
+    /// The prices of a leaf's customers.
+    Prices(Vec<i64>),
+    /// The arc of a split.
+    Arc(u16, u16),
+}
+
+/// The first line of the next node.
 #[tactic(auto, unfolding(crate::specs::Reading::node_in))]
 pub fn node(
     alloc: Global,
     size: u16,
     path: &[(u16, u16)],
     lines: &mut Lines<'_>,
-) -> Result<CertNode, CertFault>
-    ensures { Gives (λ x. (node_of x, lines.new)) result (node_at size path.now lines.old) }
+) -> Result<NodeLine, CertFault>
+    ensures { Gives (λ x. (line_of x, lines.new)) result (node_at size path.now lines.old) }
 {
     let line = lines.number();
     let Some(text) = lines.next() else {
@@ -120,11 +128,11 @@ pub fn node(
     let mut words = Parts::new(text, b' ');
     match words.next() {
         Some(word) if word == b"P".as_slice() => {
-            Ok(CertNode::Leaf(prices(alloc, size, line, &mut words)?))
+            Ok(NodeLine::Prices(prices(alloc, size, line, &mut words)?))
         }
         Some(word) if word == b"S".as_slice() => {
             let (from, to) = arc(size, line, path, &mut words)?;
-            Ok(CertNode::Split { from, to })
+            Ok(NodeLine::Arc(from, to))
         }
         _ => Err(CertFault::BadLine { line }),
     }

@@ -1,5 +1,5 @@
 -- What verdicts and refusals say of the texts, and of every plan: why routes are refused, and the verdict on three texts from what was found of each.
-use Rattle.std.proofs.Common.{◌≡◌, ℕ, List, arith, refl, ap, subst, inl, inr, sym, ◌∙◌}
+use Rattle.std.proofs.Common.{◌≡◌, ℕ, zero, suc, List, [], ◌∷◌, arith, refl, ap, subst, inl, inr, sym, ◌∙◌}
 use Rattle.std.specs.Prelude.{◌≢◌, Option, None, Some, option_map, option_copied, Result, Ok, Err, IfOk, IfErr, ◌⊎◌}
 use Rattle.std.proofs.lemmas.Bool.{cases_lt}
 use Rattle.solomon_reader.specs.Problem.{Problem, customer_count}
@@ -9,7 +9,11 @@ use denote.Bor.{Bor}
 use Rattle.sol_writer.specs.declared.sol.Sol.{Sol}
 use Rattle.sol_writer.specs.Text.{view}
 use Rattle.solomon_reader.specs.Layout.{IsInstance}
-use Rattle.solomon_reader.specs.CertificateText.{Certificate, Content, IsCertificateText, listed}
+use Rattle.std.specs.List.{AllByRecursion}
+use Rattle.solomon_reader.specs.CustomerSets.{IsNeeded}
+use Rattle.solomon_reader.specs.SetPrices.{ListedSet, AreTrueNeeds}
+use Rattle.solomon_reader.specs.Bound.{listed_sets}
+use Rattle.solomon_reader.specs.CertificateText.{Certificate, Content, IsListedSet, IsCertificateText, listed}
 use Rattle.solomon_reader.specs.Words.{words}
 use Rattle.solomon_reader.specs.Reading.{reading}
 use Rattle.solomon_reader.specs.declared.fault.ReadFault.{ReadFault}
@@ -19,8 +23,9 @@ use Rattle.solomon_reader.proofs.Takes.{reading_again}
 use Rattle.solomon_reader.proofs.Bounds.{one_tree_bound}
 use Rattle.checker.specs.declared.fault.CheckFault.{CheckFault}
 use Rattle.checker.specs.declared.verdict.Verdict.{Verdict}
-use Rattle.checker.specs.Checking.{Texts, Spelled, IsSolutionOf, AreTextsOf, IsFor, HasBound, Judges, RefusesBound, RefusesSolution, Refuses, Checks, IsRight, IsRightSolution, Means}
+use Rattle.checker.specs.Checking.{Texts, Spelled, IsSolutionOf, AreTextsOf, IsFor, HasNeeds, HasBound, Judges, RefusesBound, RefusesSolution, Refuses, Checks, IsRight, IsRightSolution, Means}
 use Rattle.checker.specs.Checking.{IsFaultOfReader, RefusesInstance, RefusesCertificate, RefusesSolutionText, RefusesTexts, RefusesPlan, RefusesContents}
+use Rattle.checker.specs.Needs.{IsNeededAt}
 use Rattle.checker.specs.declared.verdict.Verdict.TheVariants.{Best, Gap, NoPlan, BoundOnly}
 use Rattle.checker.specs.declared.fault.CheckFault.TheVariants as fault
 use Rattle.certificate.specs.Reading as certificate_reading
@@ -42,15 +47,15 @@ module _ (t : Texts) (p : Problem) (x : Content) (s : Option Spelled) (instance 
   pub bound_refused : (e : CheckFault) → ((c : Certificate) → x ≡ listed c → RefusesBound p c e) → Refuses t e
   bound_refused e h = inr (record { problem = p; contents = text.certificate; solution = s; are = are_texts; refused = inl (h text.certificate text.is) })
 
-  module _ (accepted : (c : Certificate) → x ≡ listed c → IsFor p c × HasBound p c c.bound) where
+  module _ (accepted : (c : Certificate) → x ≡ listed c → IsFor p c × HasNeeds p c × HasBound p c c.bound) where
     -- the certificate is accepted, and the solution judged
     pub judged : (r : Result Verdict CheckFault) → IfOk r (Judges p x.bound s) → IfErr r (RefusesSolution p s) → Checks t r
     judged (Ok v) ok err =
         let good = accepted text.certificate text.is in
-        (p, text.certificate, s, are_texts, good.0, good.1, subst (λ (b : ℕ). Judges p b s v) (ap (λ (y : Content). y.bound) text.is) ok)
+        (p, text.certificate, s, are_texts, good.0, good.1, good.2, subst (λ (b : ℕ). Judges p b s v) (ap (λ (y : Content). y.bound) text.is) ok)
     judged (Err e) ok err =
         let good = accepted text.certificate text.is in
-        inr (record { problem = p; contents = text.certificate; solution = s; are = are_texts; refused = inr (record { fits = good.0; bound = good.1; refused = err }) })
+        inr (record { problem = p; contents = text.certificate; solution = s; are = are_texts; refused = inr (record { fits = good.0; needed = good.1; bound = good.2; refused = err }) })
 
 -- what is lent of a solution is what is had
 pub lent : (r : Option (Bor Sol)) (o : Option Sol) → option_copied r ≡ o → option_map (λ s. view s.now) r ≡ option_map view o
@@ -73,6 +78,7 @@ limit_or_not fault.Memory = inl refl
 limit_or_not fault.StateLimit = inr (inl refl)
 limit_or_not fault.OtherName = inr (inr (λ h. h))
 limit_or_not fault.OtherSize = inr (inr (λ h. h))
+limit_or_not (fault.NeedTooGreat line) = inr (inr (λ h. h))
 limit_or_not (fault.BoundDiffers printed derived) = inr (inr (λ h. h))
 limit_or_not (fault.Instance f) = inr (inr (λ h. h))
 limit_or_not (fault.Certificate f) = inr (inr (λ h. h))
@@ -88,6 +94,12 @@ ok_is {A = A} {B = B} r x y e f = subst (λ (z : Result A B). IfOk z (λ w. x �
 
 one_problem : (text : List ℕ) (p q : Problem) → IsInstance text p → IsInstance text q → p ≡ q
 one_problem text p q a b = ok_is _ p q (reading_again (words text) p a.0 a.1) (reading_again (words text) q b.0 b.1)
+
+-- each set of a list needs what it is said to, and what stands behind the list needs nothing
+needed_at : (p : Problem) (sets : List ListedSet) (m : ℕ) → AllByRecursion (λ s. IsNeeded p s.members s.need) sets → IsNeededAt p sets m
+needed_at p [] m are = inl (omega arith)
+needed_at p (s ∷ sets) zero are = are.0
+needed_at p (s ∷ sets) (suc m) are = needed_at p sets m are.1
 
 -- ---- what is right, seen from what was read
 
@@ -107,12 +119,16 @@ module _ (t : Texts) (p : Problem) (c : Certificate) (s : Option Spelled) (are :
   right_bound : HasBound p c c.bound
   right_bound = subst (λ (q : Problem). HasBound q c c.bound) same_problem (subst (λ (x : Certificate). HasBound right.problem x x.bound) same_certificate right.accepted.is_bound)
 
+  right_needs : HasNeeds p c
+  right_needs = subst (λ (q : Problem). HasNeeds q c) same_problem (subst (λ (x : Certificate). HasNeeds right.problem x) same_certificate right.accepted.needed)
+
   bound_wrong : (e : CheckFault) → RefusesBound p c e → IsLimit e
   bound_wrong fault.Memory h = tt
   bound_wrong fault.StateLimit h = tt
   bound_wrong fault.OtherName h = absurd (h right_name)
   bound_wrong fault.OtherSize h = absurd (h.1 right_size)
-  bound_wrong (fault.BoundDiffers printed derived) h = absurd (h.3 (h.2 ∙ one_tree_bound c.version p c.neighbours c.tree c.bound derived right_bound h.1))
+  bound_wrong (fault.NeedTooGreat line) h = absurd (h.1.less (needed_at p (listed_sets c.version) h.1.place right_needs))
+  bound_wrong (fault.BoundDiffers printed derived) h = absurd (h.4 (h.3 ∙ one_tree_bound c.version p c.neighbours c.tree c.bound derived right_bound h.2))
   bound_wrong (fault.Instance f) h = absurd h
   bound_wrong (fault.Certificate f) h = absurd h
   bound_wrong (fault.Solution f) h = absurd h
@@ -135,6 +151,7 @@ module _ (p : Problem) where
   plan_wrong (Some text) (Some s) is right fault.StateLimit h = absurd h
   plan_wrong (Some text) (Some s) is right fault.OtherName h = absurd h
   plan_wrong (Some text) (Some s) is right fault.OtherSize h = absurd h
+  plan_wrong (Some text) (Some s) is right (fault.NeedTooGreat line) h = absurd h
   plan_wrong (Some text) (Some s) is right (fault.BoundDiffers printed derived) h = absurd h
   plan_wrong (Some text) (Some s) is right (fault.Instance f) h = absurd h
   plan_wrong (Some text) (Some s) is right (fault.Certificate f) h = absurd h
@@ -149,6 +166,7 @@ module _ (p : Problem) where
   text_wrong (Some text) right fault.StateLimit h = absurd h
   text_wrong (Some text) right fault.OtherName h = absurd h
   text_wrong (Some text) right fault.OtherSize h = absurd h
+  text_wrong (Some text) right (fault.NeedTooGreat line) h = absurd h
   text_wrong (Some text) right (fault.BoundDiffers printed derived) h = absurd h
   text_wrong (Some text) right (fault.Instance f) h = absurd h
   text_wrong (Some text) right (fault.Certificate f) h = absurd h
@@ -162,6 +180,7 @@ module _ (t : Texts) (right : IsRight t) where
   instance_wrong fault.StateLimit h = absurd h
   instance_wrong fault.OtherName h = absurd h
   instance_wrong fault.OtherSize h = absurd h
+  instance_wrong (fault.NeedTooGreat line) h = absurd h
   instance_wrong (fault.BoundDiffers printed derived) h = absurd h
   instance_wrong (fault.Solution f) h = absurd h
   instance_wrong (fault.Certificate f) h = absurd h
@@ -175,6 +194,7 @@ module _ (t : Texts) (right : IsRight t) where
   certificate_wrong fault.StateLimit h = absurd h
   certificate_wrong fault.OtherName h = absurd h
   certificate_wrong fault.OtherSize h = absurd h
+  certificate_wrong (fault.NeedTooGreat line) h = absurd h
   certificate_wrong (fault.BoundDiffers printed derived) h = absurd h
   certificate_wrong (fault.Instance f) h = absurd h
   certificate_wrong (fault.Solution f) h = absurd h
@@ -208,28 +228,34 @@ not_right t (Err e) h = elim (limit_or_not e) [
 
 -- ---- what a verdict means
 
-judged_means : (p : Problem) (c : Certificate) (s : Option Spelled) (v : Verdict) → HasBound p c c.bound → Judges p c.bound s v → Means p v
-judged_means p c None NoPlan bound h = λ routes plan. no_plan_above c.version p c.neighbours c.tree routes (subst (λ (b : ℕ). HasBound p c b) h bound) plan
-judged_means p c None (BoundOnly told) bound h = λ routes plan. omega (arith, h.0, tree_bound_holds c.version p c.neighbours c.tree c.bound routes bound plan)
-judged_means p c None (Best cost) bound h = absurd h
-judged_means p c None (Gap cost told) bound h = absurd h
-judged_means p c (Some s) (Best cost) bound h = (
+-- sets of customers that are needed have true needs
+true_needs : (p : Problem) (n : ℕ) (sets : List ListedSet) → n ≡ customer_count p → AllByRecursion (IsListedSet n) sets → AllByRecursion (λ s. IsNeeded p s.members s.need) sets → AreTrueNeeds p sets
+true_needs p n [] same listed needed = tt
+true_needs p n (s ∷ sets) same listed needed = (record { set = rw same at listed.0.customers; needed = needed.0 }, true_needs p n sets same listed.1 needed.1)
+
+judged_means : (p : Problem) (c : Certificate) (s : Option Spelled) (v : Verdict) → AreTrueNeeds p (listed_sets c.version) → HasBound p c c.bound → Judges p c.bound s v → Means p v
+judged_means p c None NoPlan needs bound h = λ routes plan. no_plan_above c.version p c.neighbours c.tree routes needs (subst (λ (b : ℕ). HasBound p c b) h bound) plan
+judged_means p c None (BoundOnly told) needs bound h = λ routes plan. omega (arith, h.0, tree_bound_holds c.version p c.neighbours c.tree c.bound routes needs bound plan)
+judged_means p c None (Best cost) needs bound h = absurd h
+judged_means p c None (Gap cost told) needs bound h = absurd h
+judged_means p c (Some s) (Best cost) needs bound h = (
   record { routes = s.0; plan = h.0; exact = h.2 ∙ h.1 },
-  λ routes plan. omega (arith, h.2, h.3, tree_bound_holds c.version p c.neighbours c.tree c.bound routes bound plan),
+  λ routes plan. omega (arith, h.2, h.3, tree_bound_holds c.version p c.neighbours c.tree c.bound routes needs bound plan),
 )
-judged_means p c (Some s) (Gap cost told) bound h = (
+judged_means p c (Some s) (Gap cost told) needs bound h = (
   record { routes = s.0; plan = h.0; exact = h.2 ∙ h.1 },
-  λ routes plan. omega (arith, h.3, tree_bound_holds c.version p c.neighbours c.tree c.bound routes bound plan),
+  λ routes plan. omega (arith, h.3, tree_bound_holds c.version p c.neighbours c.tree c.bound routes needs bound plan),
   elim (cases_lt told cost) [
     | inl below ↦ below
-    | inr above ↦ absurd (h.4 (omega (arith, h.1, h.2, h.3, tree_bound_holds c.version p c.neighbours c.tree c.bound s.0 bound h.0)))
+    | inr above ↦ absurd (h.4 (omega (arith, h.1, h.2, h.3, tree_bound_holds c.version p c.neighbours c.tree c.bound s.0 needs bound h.0)))
   ],
 )
-judged_means p c (Some s) NoPlan bound h = absurd h
-judged_means p c (Some s) (BoundOnly told) bound h = absurd h
+judged_means p c (Some s) NoPlan needs bound h = absurd h
+judged_means p c (Some s) (BoundOnly told) needs bound h = absurd h
 
 -- what a verdict says of every plan
 pub means_here : (t : Texts) (r : Result Verdict CheckFault) → Checks t r → IfOk r (λ v. (p : Problem) → IsInstance t.instance p → Means p v)
 means_here t (Err e) h = tt
 means_here t (Ok v) h = λ p is.
-    subst (λ (q : Problem). Means q v) (one_problem t.instance h.0 p h.3.instance is) (judged_means h.0 h.1 h.2 v h.5 h.6)
+    let needs = true_needs h.0 h.1.size (listed_sets h.1.version) h.4.size h.3.shaped.listed h.5 in
+    subst (λ (q : Problem). Means q v) (one_problem t.instance h.0 p h.3.instance is) (judged_means h.0 h.1 h.2 v needs h.6 h.7)

@@ -1,12 +1,14 @@
 -- What the checker makes of an instance, a certificate and a solution.
 use Rattle.std.specs.Prelude.{◌≡◌, ◌≢◌, ℕ, ◌+◌, ◌<◌, List, Option, Some, None, Result, Ok, Err, ◌⊎◌}
+use Rattle.std.specs.List.{AllByRecursion}
 use Rattle.solomon_reader.specs.Words.{words}
 use Rattle.solomon_reader.specs.Problem.{Problem, customer_count}
 use Rattle.solomon_reader.specs.Layout.{IsInstance}
 use Rattle.solomon_reader.specs.Reading.{reading}
 use Rattle.solomon_reader.specs.Plan.{IsPlan, plan_cost}
 use Rattle.solomon_reader.specs.PlanDefects.{IsLowestDefect}
-use Rattle.solomon_reader.specs.Bound.{ceiling_of, IsTreeBound}
+use Rattle.solomon_reader.specs.Bound.{listed_sets, ceiling_of, IsTreeBound}
+use Rattle.solomon_reader.specs.CustomerSets.{IsNeeded}
 use Rattle.solomon_reader.specs.Duality.{IsBelowPlans, IsPlanCost}
 use Rattle.solomon_reader.specs.SolutionText.{IsSolutionText}
 use Rattle.solomon_reader.specs.CertificateText.{Certificate, IsCertificate, certificate_text, IsAccepted}
@@ -18,6 +20,7 @@ use Rattle.sol_writer.specs.Reading as solution
 use Rattle.sol_writer.specs.declared.fault.SolFault.TheVariants as sol
 use Rattle.checker.specs.declared.fault.CheckFault.{CheckFault}
 use Rattle.checker.specs.declared.fault.CheckFault.TheVariants as fault
+use Rattle.checker.specs.Needs.{IsFirstUnneeded}
 use Rattle.checker.specs.declared.verdict.Verdict.{Verdict}
 use Rattle.checker.specs.declared.verdict.Verdict.TheVariants.{Best, Gap, NoPlan, BoundOnly}
 
@@ -73,6 +76,10 @@ pub record IsFor (p : Problem) (c : Certificate) : Type 0 where
   pub name : c.name ≡ p.name
   pub size : c.size ≡ customer_count p
 
+-- its sets need what they are said to
+abbrev pub HasNeeds : Problem → Certificate → Type 0
+HasNeeds p c = AllByRecursion (λ s. IsNeeded p s.members s.need) (listed_sets c.version)
+
 -- b is the bound of the certificate's tree
 abbrev pub HasBound : Problem → Certificate → ℕ → Type 0
 HasBound p c b = IsTreeBound c.version p c.neighbours c.tree b
@@ -124,8 +131,9 @@ abbrev pub RefusesBound : Problem → Certificate → CheckFault → Type 0
 RefusesBound p c fault.Memory = IsFor p c
 RefusesBound p c fault.OtherName = c.name ≢ p.name
 RefusesBound p c fault.OtherSize = (c.name ≡ p.name) × (c.size ≢ customer_count p)
-RefusesBound p c (fault.BoundDiffers printed derived) = IsFor p c × HasBound p c derived × (printed ≡ c.bound) × (printed ≢ derived)
-RefusesBound p c fault.StateLimit = IsFor p c
+RefusesBound p c (fault.NeedTooGreat line) = IsFor p c × IsFirstUnneeded p (listed_sets c.version) line
+RefusesBound p c (fault.BoundDiffers printed derived) = IsFor p c × HasNeeds p c × HasBound p c derived × (printed ≡ c.bound) × (printed ≢ derived)
+RefusesBound p c fault.StateLimit = IsFor p c × HasNeeds p c
 RefusesBound p c e = ⊥
 
 -- the first text is an instance, and the second a certificate
@@ -146,6 +154,7 @@ RefusesTexts t e =
 -- the certificate is accepted, and the solution refused
 pub record RefusesPlan (p : Problem) (c : Certificate) (s : Option Spelled) (e : CheckFault) : Type 0 where
   pub fits : IsFor p c
+  pub needed : HasNeeds p c
   pub bound : HasBound p c c.bound
   pub refused : RefusesSolution p s e
 
@@ -162,5 +171,5 @@ Refuses t e = RefusesTexts t e ⊎ RefusesContents t e
 
 -- What the checker answers: a verdict on texts that are right, or the first fault.
 abbrev pub Checks : Texts → Result Verdict CheckFault → Type 0
-Checks t (Ok v) = (p : Problem) × (c : Certificate) × (s : Option Spelled) × AreTextsOf t p c s × IsFor p c × HasBound p c c.bound × Judges p c.bound s v
+Checks t (Ok v) = (p : Problem) × (c : Certificate) × (s : Option Spelled) × AreTextsOf t p c s × IsFor p c × HasNeeds p c × HasBound p c c.bound × Judges p c.bound s v
 Checks t (Err e) = Refuses t e

@@ -1,3 +1,4 @@
 pub mod Counted
 pub mod Plans
+pub mod Needs
 pub mod Checking

@@ -5,11 +5,12 @@ ghost use Rattle.solomon_reader.specs.Problem.{Problem};
 ghost use Rattle.solomon_reader.specs.Layout.{IsInstance};
 ghost use Rattle.solomon_reader.specs.CertificateText.{Certificate, IsCertificateText, listed};
 ghost use Rattle.sol_writer.specs.Text.{view};
-ghost use Rattle.checker.specs.Checking.{Checks, IsRight, Means, IsFor, HasBound, IsSolutionOf, Judges, RefusesCertificate, RefusesSolutionText, RefusesBound, RefusesSolution};
+ghost use Rattle.checker.specs.Checking.{Checks, IsRight, Means, IsFor, HasNeeds, HasBound, IsSolutionOf, Judges, RefusesCertificate, RefusesSolutionText, RefusesBound, RefusesSolution};
 ghost use Rattle.checker.specs.declared.fault.CheckFault.TheVariants.{Memory, StateLimit};
 
 use crate::fault::CheckFault;
 use crate::judging::plan_cost;
+use crate::needs::check_needs;
 use crate::verdict::Verdict;
 use certificate::{Cert, CertFault};
 use sol_writer::{Sol, SolFault};
@@ -46,7 +47,7 @@ fn read_solution(alloc: Global, text: Option<&[u8]>) -> Result<Option<Sol>, Chec
     }
 }
 
-/// Whether a certificate is for an instance, and has the bound of its tree.
+/// Whether a certificate is for an instance, its sets need what they are said to, and it has the bound of its tree.
 fn check_bound(
     alloc: Global,
     instance: &Instance,
@@ -54,7 +55,7 @@ fn check_bound(
     state_limit: usize,
 ) -> Result<(), CheckFault>
     ensures accepted { OnOk result ((c : Certificate) → cert.now ≡ listed c → IsFor instance.now c
-        × HasBound instance.now c c.bound) }
+        × HasNeeds instance.now c × HasBound instance.now c c.bound) }
     ensures refused { IfErr result (λ e. (c : Certificate) → cert.now ≡ listed c
         → RefusesBound instance.now c e) }
 {
@@ -65,6 +66,7 @@ fn check_bound(
     if parts.size != instance.customer_count() {
         return Err(CheckFault::OtherSize);
     }
+    check_needs(alloc, instance, parts.version.sets())?;
     let printed = parts.bound;
     match bound(alloc, instance, cert, state_limit) {
         Err(BoundFault::Memory) => Err(CheckFault::Memory),
@@ -150,12 +152,12 @@ fn check_texts(
 
 /// Checks the text of a certificate, and that of a solution if it is handed in, against the text of
 /// an instance. It is Ok exactly where the first text is an instance, which accepts the certificate
-/// (the name and the number of customers are the instance's, and the printed bound is that of the
-/// tree by definition, in the certificate's version), and the solution is the text of a plan and of
+/// (the name and the number of customers are the instance's, each set needs what its line says, and the
+/// printed bound is that of the tree by definition, in the certificate's version), and the solution is the text of a plan and of
 /// its cost. Then the verdict holds for every plan of the instance.
 ///
 /// The first fault is told in the order `Instance`, `Certificate`, `Solution`, `OtherName`,
-/// `OtherSize`, `BoundDiffers`, `PlanRefused`, `CostDiffers`. `Memory` where a growth was refused;
+/// `OtherSize`, `NeedTooGreat`, `BoundDiffers`, `PlanRefused`, `CostDiffers`. `Memory` where a growth was refused;
 /// `StateLimit` before the bound is known, where `state_limit` pairs of time and cost stand at once
 /// for one leaf and one more has to be kept.
 pub fn check(

@@ -11,7 +11,7 @@ use tenths::Tenths;
 use thiserror::Error;
 
 /// Why the checker gives no verdict. The first is told in the order instance, certificate, solution,
-/// name, size, bound, plan, cost; `Memory` where a growth was refused, and `StateLimit` before the
+/// name, size, needs, bound, plan, cost; `Memory` where a growth was refused, and `StateLimit` before the
 /// bound is known. Costs and bounds are tenths of a unit.
 #[derive(Clone, Copy, Debug, PartialEq, Eq, Error)]
 pub enum CheckFault {
@@ -33,6 +33,10 @@ pub enum CheckFault {
     /// The certificate is for another number of customers.
     #[error("OtherSize")]
     OtherSize,
+    /// A set isn't known to need so many entries as its line says: neither its demands fill so many
+    /// vehicles, nor, for a need of two, is it too much for one vehicle in time.
+    #[error("NeedTooGreat line {line}")]
+    NeedTooGreat { line: u64 },
     /// The printed bound isn't that of the tree.
     #[error("BoundDiffers")]
     BoundDiffers { printed: Tenths, derived: Tenths },

@@ -5,6 +5,7 @@
 mod checking;
 mod fault;
 mod judging;
+mod needs;
 mod serving;
 mod verdict;
 mod walking;

@@ -11,7 +11,7 @@ use Rattle.std.proofs.lemmas.Bool.Decides.{nat_tests}
 use Rattle.solomon_reader.specs.declared.limits.TheConstants.{MOST_LEAVES}
 use Rattle.solomon_reader.specs.Problem.{Problem, customer_count}
 use Rattle.solomon_reader.specs.Region.{Region, used_child, unused_child, root_region, Holds, Among, IsUndecided}
-use Rattle.solomon_reader.specs.Bound.{version_2, Tree, leaf, split, leaf_node, split_node, preorder, HasBound, ceiling_of}
+use Rattle.solomon_reader.specs.Bound.{Version, version_2, of_customers, Tree, leaf, split, leaf_node, split_node, preorder, HasBound, ceiling_of}
 use Rattle.prices.specs.ValuedPrices.{ValuedPrices, IsValued}
 use Rattle.branching.specs.Arcs.{pair}
 use Rattle.branching.specs.Nodes.{node_of, IsListedTree}
@@ -20,6 +20,7 @@ use Rattle.leaf_work.specs.Branching.{AreChildren}
 use Rattle.leaf_work.specs.declared.child.Children.{Children}
 use Rattle.solomon_reader.specs.Plan.{Arc}
 use Rattle.solomon_reader.specs.CertificateText.{IsTreeAt, depth_of}
+use Rattle.solomon_reader.specs.LeafLaws.{priced_alone}
 use Rattle.solomon_reader.specs.ArcOrder.{holds_new, holds_old}
 use Rattle.closing.specs.Depths.{DepthHolds}
 use Rattle.closing.specs.Growing.{Grows, IsSameTask, IsSameTree, Splits}
@@ -27,15 +28,15 @@ use Rattle.closing.specs.declared.growth.Growth.{Growth}
 
 -- a leaf that was listed has grown
 pub leaf_grows : (f : ValuedPrices) (old new : Growth) (node : TreeNode) → IsValued f → f.problem ≡ old.instance.now → IsSameTask old new
-    → node_of node ≡ leaf_node f.prices → new.nodes.items ≡ old.nodes.items ++ (node ∷ [])
+    → node_of node ≡ leaf_node (of_customers f.prices) → new.nodes.items ≡ old.nodes.items ++ (node ∷ [])
     → old.bound ≤ ceiling_of old.instance.now + 1 → new.bound ≡ min old.bound f.value → new.leaves ≡ old.leaves → Grows f.neighbours f.region old new
 leaf_grows f old new node is own task item e low least leaves = record {
   task = task;
-  tree = leaf f.prices;
+  tree = leaf (of_customers f.prices);
   nodes = ap (λ ns. map node_of ns) e ∙ map-append node_of old.nodes.items (node ∷ []) ∙ ap (λ i. map node_of old.nodes.items ++ (i ∷ [])) item;
   value = min (ceiling_of old.instance.now + 1) f.value;
   bound = (f.value, rw (sym own) is.valued, refl);
-  shaped = (is.valued.priced ∙ sym is.size, is.priced);
+  shaped = (is.valued.priced ∙ sym is.size, is.priced, priced_alone 0 f.prices is.priced);
   least = omega (arith, least, low);
   leaves = omega (arith, leaves);
 }
@@ -160,7 +161,7 @@ listed_tree p k old new grows own none one high small few deep =
       is_bound = rw same has;
       counted = omega (arith, grows.leaves, one);
       few = few;
-      depth = omega (arith, deep (customer_count p) grows.tree grows.shaped, room);
+      depth = omega (arith, deep version_2 (customer_count p) grows.tree grows.shaped, room);
     }
 
 -- ---- How many arcs of a region are undecided: each split leaves fewer.
@@ -285,10 +286,10 @@ unused_fewer g a is =
     fewer g (unused_child g a) a is refl (λ b h. h) (λ b h. holds_old g.forbidden a b h)
     (rw (holds_new g.forbidden a) (free_none_forbidden (a.0 == a.1) (contains g.required a)))
 
-depth_le : (tree : Tree) (g : Region) → IsTreeAt g tree → depth_of tree ≤ undecided g
-depth_le (leaf prices) g is = omega arith
-depth_le (split a used unused) g is =
-    omega (arith, used_fewer g a is.0, unused_fewer g a is.0, depth_le used (used_child g a) is.1.0, depth_le unused (unused_child g a) is.1.1)
+depth_le : (version : Version) (tree : Tree) (g : Region) → IsTreeAt version g tree → depth_of tree ≤ undecided g
+depth_le version (leaf prices) g is = omega arith
+depth_le version (split a used unused) g is =
+    omega (arith, used_fewer g a is.0, unused_fewer g a is.0, depth_le version used (used_child g a) is.1.0, depth_le version unused (unused_child g a) is.1.1)
 
 row_most : (g : Region) (i : ℕ) → i < 0 + (g.size + 1) → row g i ≤ g.size
 row_most g i h =
@@ -299,4 +300,4 @@ undecided_most : (g : Region) → undecided g ≤ (g.size + 1) * g.size
 undecided_most g = sum_most (row g) g.size 0 (g.size + 1) (row_most g)
 
 pub depth_holds : DepthHolds
-depth_holds n tree is = omega (arith, depth_le tree (root_region n) is, undecided_most (root_region n))
+depth_holds version n tree is = omega (arith, depth_le version tree (root_region n) is, undecided_most (root_region n))

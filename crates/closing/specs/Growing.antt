@@ -52,7 +52,7 @@ pub record Grows (k : ℕ) (g : Region) (old new : Growth) : Type 0 where
   pub nodes : map node_of new.nodes.items ≡ map node_of old.nodes.items ++ reverse (preorder tree)
   pub value : ℕ
   pub bound : HasBound version_2 old.instance.now k g tree value
-  pub shaped : IsTreeAt g tree
+  pub shaped : IsTreeAt version_2 g tree
   pub least : new.bound ≡ min old.bound value
   pub leaves : new.leaves + 1 ≡ old.leaves + leaf_count tree
 

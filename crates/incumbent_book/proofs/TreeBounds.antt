@@ -4,8 +4,9 @@ use Rattle.std.specs.Prelude.{min}
 use Rattle.std.proofs.lemmas.Bool.{cases_eq, cases_lt}
 use Rattle.solomon_reader.specs.Problem.{customer_count}
 use Rattle.solomon_reader.specs.Region.{used_child, unused_child, root_region, Obeys}
-use Rattle.solomon_reader.specs.Bound.{version_2, ceiling_of, Tree, leaf, split, HasBound}
+use Rattle.solomon_reader.specs.Bound.{version_2, of_customers, ceiling_of, Tree, leaf, split, HasBound}
 use Rattle.solomon_reader.specs.CertificateText.{IsTreeAt}
+use Rattle.solomon_reader.specs.LeafLaws.{priced_alone}
 use Rattle.branching.specs.Arcs.{pair}
 use Rattle.prices.specs.ValuedPrices.{ValuedPrices}
 use Rattle.solomon_reader.specs.History.{Event, offered, repriced, branched, split_count, used_number, unused_number, last_number, split_of, IsLeaf, region_of, depth_of, value_of, IsBound}
@@ -49,7 +50,7 @@ module _ (b : Contents) (nodes : List Node) (is : IsConsistent b nodes) where
   grows_at : (m : ℕ) (tree : Tree) → GrowsIn nodes m tree → GrowsAt b.past b.prices m tree
   grows_at m (leaf ps) g =
       let at : leaf_at nodes m ≡ Some g.0 = ap open_leaf g.1 in
-      (leaf_is b.problem b.neighbours b.root b.past nodes is.arena m g.0 at, g.2 ∙ ap (λ (f : ValuedPrices). f.prices) (leaf_pricing b nodes is m g.0 at))
+      (leaf_is b.problem b.neighbours b.root b.past nodes is.arena m g.0 at, g.2 ∙ ap (λ (f : ValuedPrices). of_customers f.prices) (leaf_pricing b nodes is m g.0 at))
   grows_at m (split a x y) g =
       let arc = g.0 in
       let i = g.1.0 in
@@ -151,8 +152,8 @@ module _ (b : Contents) (book : IsBook b) where
         ),
       )
 
-  shaped_at : (m : ℕ) (tree : Tree) → Grows m tree → IsTreeAt (region_of n b.past m) tree
-  shaped_at m (leaf ps) g = let f = book.leaves m g.0 in (rw g.1 (f.valued.priced ∙ sym f.size), rw g.1 f.priced)
+  shaped_at : (m : ℕ) (tree : Tree) → Grows m tree → IsTreeAt version_2 (region_of n b.past m) tree
+  shaped_at m (leaf ps) g = let f = book.leaves m g.0 in (rw g.1 (f.valued.priced ∙ sym f.size), rw g.1 f.priced, rw g.1 (priced_alone 0 _ f.priced))
   shaped_at m (split a x y) g =
       let f = split_facts n b.root b.past m g.0 a book.legal g.1 in
       (f.undecided, (rw (← f.used) (shaped_at (used_number g.0) x g.2), rw (← f.unused) (shaped_at (unused_number g.0) y g.3)))

@@ -4,7 +4,7 @@ use Rattle.std.specs.Prelude.{slice_get, ℤ, slice_set}
 use Rattle.std.proofs.lemmas.Bool.{cases_eq, cases_lt}
 use Rattle.std.proofs.lemmas.Option.{slice_get-get_or, slice_get_past}
 use Rattle.solomon_reader.specs.Region.{IsUndecided, used_child, unused_child}
-use Rattle.solomon_reader.specs.Bound.{Tree, leaf, split, leaf_node, split_node, preorder}
+use Rattle.solomon_reader.specs.Bound.{LeafPrices, of_customers, Tree, leaf, split, leaf_node, split_node, preorder}
 use Rattle.branching.specs.declared.arc.Arc.{Arc}
 use Rattle.branching.specs.Arcs.{pair}
 use Rattle.solomon_reader.specs.History.{Event, offered, repriced, branched, split_count, used_number, unused_number, split_of, region_of, depth_of, IsLegal, last_number, IsLeaf, value_of}
@@ -89,11 +89,11 @@ split_facts n v (branched worker l b i k x y ∷ past) m j a legal e = elim (cas
 ]
 
 -- the nodes that a list of nodes gives at a number
-pub listed_open : (nodes : List Node) (m : ℕ) (l : Leaf) (tree : Tree) → slice_get nodes m ≡ Some (Open l) → GrowsIn nodes m tree → preorder tree ≡ leaf_node l.priced.prices ∷ []
+pub listed_open : (nodes : List Node) (m : ℕ) (l : Leaf) (tree : Tree) → slice_get nodes m ≡ Some (Open l) → GrowsIn nodes m tree → preorder tree ≡ leaf_node (of_customers l.priced.prices) ∷ []
 listed_open nodes m l (leaf ps) e g =
     let both : Some (Open l) ≡ Some (Open g.0) = sym e ∙ g.1 in
     let same : l ≡ g.0 = cc in
-    ap (λ (ps : List ℤ). leaf_node ps ∷ []) (g.2 ∙ ap (λ (k : Leaf). k.priced.prices) (sym same))
+    ap (λ (ps : LeafPrices). leaf_node ps ∷ []) (g.2 ∙ ap (λ (k : Leaf). of_customers k.priced.prices) (sym same))
 listed_open nodes m l (split a x y) e g =
     let both : Some (Open l) ≡ Some (Split g.0 g.1.0 g.1.1.0) = sym e ∙ g.1.1.1.0 in absurd cc
 
@@ -119,7 +119,7 @@ grown_by : (nodes : List Node) → IsForward nodes → (m : ℕ) → m < length 
     → (o : Option Node) → slice_get nodes m ≡ o → (tree : Tree) × GrowsIn nodes m tree
 grown_by nodes is m h behind None e =
     absurd (let s = slice_get-get_or nodes m (Split (record { from = 0; to = 0 }) 0 0) h in let c : None ≡ Some _ = sym e ∙ s in cc)
-grown_by nodes is m h behind (Some (Open l)) e = (leaf l.priced.prices, (l, e, refl))
+grown_by nodes is m h behind (Some (Open l)) e = (leaf (of_customers l.priced.prices), (l, e, refl))
 grown_by nodes is m h behind (Some (Split arc i j)) e =
     let u = is.used m arc i j e in
     let w = is.unused m arc i j e in

@@ -1,7 +1,7 @@
 //! The nodes of a tree in preorder.
 
 ghost use Rattle.std.specs.Prelude.{◌≡◌, ◌<◌, ◌++◌, ◌∷◌, [], map, length, OnOk, OnErr};
-ghost use Rattle.solomon_reader.specs.Bound.{Tree, preorder, leaf_node, split_node};
+ghost use Rattle.solomon_reader.specs.Bound.{Tree, of_customers, preorder, leaf_node, split_node};
 ghost use Rattle.incumbent_book.specs.Forward.{IsForward, GrowsIn};
 ghost use Rattle.branching.specs.Nodes.{node_of};
 ghost use Rattle.branching.specs.Arcs.{pair};
@@ -13,7 +13,7 @@ use std::alloc::{AllocError, Global};
 /// Adds a leaf with these prices.
 fn add_leaf(alloc: Global, out: &mut Vec<TreeNode>, prices: &[i64]) -> Result<(), AllocError>
     ensures { OnOk result (map node_of out.new.items ≡ map node_of out.old.items ++ leaf_node
-        prices.now ∷ []) }
+        (of_customers prices.now) ∷ []) }
 {
     let prices = prices.to_vec(alloc)?;
     out.push(TreeNode::Leaf(prices))?;

@@ -1,3 +1,4 @@
 pub mod Deciding
 pub mod Remembered
 pub mod Flooring
+pub mod Entering

@@ -1,15 +1,18 @@
 -- The arcs that a leaf allows, with what a step over them needs.
-use Rattle.std.specs.Prelude.{◌≡◌, ◌↔◌, ℕ, ◌+◌, ◌*◌, ◌<◌, ◌≤◌, List, Vec, length, slice_index_or, IsTrue, Bool, true, ◌==◌, ℤ, pos, ◌+ℤ◌, ◌≤ℤ◌}
+use Rattle.std.specs.Prelude.{◌≡◌, ◌↔◌, ℕ, ◌+◌, ◌*◌, ◌<◌, ◌≤◌, List, Vec, length, slice_index_or, IsTrue, Bool, true, ◌==◌, ℤ, pos, ◌+ℤ◌, ◌≤ℤ◌, nat_abs}
 use Rattle.std.specs.declared.alloc.Global.{Global}
-use Rattle.std.specs.List.{All, list_any}
-use Rattle.solomon_reader.specs.declared.limits.TheConstants.{MOST_TIME, MOST_DISTANCE, MOST_DEMAND}
+use Rattle.std.specs.List.{AllByRecursion, list_any}
+use Rattle.solomon_reader.specs.declared.limits.TheConstants.{MOST_TIME, MOST_DISTANCE, MOST_DEMAND, MOST_PRICE}
 use Rattle.solomon_reader.specs.Problem.{Problem, IsCustomer, customer_count, demand, ready, due, service}
 use Rattle.solomon_reader.specs.Distance.{distance}
 use Rattle.solomon_reader.specs.Region.{IsAllowed, root_region}
-use Rattle.solomon_reader.specs.States.{Pricing, pricing_by, arc_value, most_grains, IsPriced}
+use Rattle.solomon_reader.specs.States.{Pricing, pricing_by, arc_value, most_grains}
+use Rattle.solomon_reader.specs.CustomerSets.{IsCustomerSet}
+use Rattle.solomon_reader.specs.SetPrices.{PricedSet}
 use Rattle.leaf_arcs.specs.declared.arcs.AllowedArc.{AllowedArc}
 use Rattle.leaf_arcs.specs.declared.arcs.ArcRow.{ArcRow}
 use Rattle.solomon_reader.specs.Memories.{place_of}
+use Rattle.leaf_arcs.specs.Sets.{price_sum}
 
 -- the arc from v has what a step over it needs
 pub record IsAllowedArc (q : Pricing) (v : ℕ) (h : AllowedArc) : Type 0 where
@@ -70,8 +73,9 @@ pub record AreFreeArcs (p : Problem) (k : ℕ) (all : List (Vec AllowedArc Globa
   pub count : length all ≡ length p.rows
   pub each : (v : ℕ) (d : Vec AllowedArc Global) → v < length p.rows → AreAllowedArcs (free_pricing p k) v (slice_index_or all v d).items
 
--- there is a price for each customer, and each has a demand
-pub record IsPricing (p : Problem) (prices : List ℤ) : Type 0 where
+-- there is a price for each customer, which is within its range together with those of sets, and each has a demand
+pub record IsPricing (p : Problem) (prices : List ℤ) (sets : List PricedSet) : Type 0 where
   pub count : length prices ≡ customer_count p
-  pub priced : All IsPriced prices
+  pub within : AllByRecursion (λ z. price_sum sets + nat_abs z ≤ MOST_PRICE) prices
+  pub sets_are : AllByRecursion (λ s. IsCustomerSet (customer_count p) s.members) sets
   pub carried : (i : ℕ) → IsCustomer p i → 1 ≤ demand p i

@@ -1,9 +1,12 @@
 //! Leaves.
 
 ghost use Rattle.leaf_arcs.specs.Arcs.{IsPricing};
+ghost use Rattle.leaf_arcs.specs.Props.{props};
+ghost use Rattle.leaf_arcs.specs.Sets.{sets_of};
 
 use crate::decision::Decision;
 use crate::network::Network;
+use crate::priced_set::PricedSet;
 
 /// A leaf of a tree for an instance.
 #[derive(Clone, Copy)]
@@ -14,5 +17,7 @@ pub struct Leaf<'a, 'i> {
     pub path: &'a [Decision],
     /// The price of customer i in grains, at i - 1.
     pub prices: &'a [i64],
-    ghost pricing: { IsPricing network.now.neighbours.instance.now prices.now },
+    /// The sets that have a price.
+    pub sets: &'a [PricedSet<'a>],
+    ghost pricing: { IsPricing network.now.neighbours.instance.now prices.now (sets_of sets.now) } by { Prim.hlevel props },
 }

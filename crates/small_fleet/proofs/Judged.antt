@@ -16,7 +16,7 @@ has_plan p bound text (Some s) (BoundOnly told) of judges = absurd judges
 
 pub judged : (instance certificate text : List ℕ) (v : Verdict) → Checks (record { instance = instance; certificate = certificate; solution = Some text }) (Ok v)
     → ((p : Problem) → IsInstance instance p → Means p v) → Answers instance v
-judged instance certificate text v (p, c, s, are, for, bound, judges) means = record {
+judged instance certificate text v (p, c, s, are, for, needs, bound, judges) means = record {
   problem = p;
   instance = are.instance;
   has_plan = has_plan p c.bound text s v are.solution judges;

@@ -7,11 +7,18 @@ use Rattle.solomon_reader.specs.Distance.{distance}
 use Rattle.solomon_reader.specs.Plan.{Arc}
 use Rattle.solomon_reader.specs.Region.{Region, IsUndecided, used_child, unused_child, root_region}
 use Rattle.solomon_reader.specs.Relaxed.{IsLeastOrZero, int_sum}
+use Rattle.solomon_reader.specs.SetPrices.{ListedSet, PricedSet, SetPrice, IsLeastOrZeroWith, paid_for_needs, priced_sets}
 
--- which rule gives the value of a leaf
+-- which rule gives the value of a leaf; by the last one sets of this list may have prices
 pub data Version : Type 0 where
   version_1 : Version
   version_2 : Version
+  with_sets : List ListedSet → Version
+
+abbrev pub listed_sets : Version → List ListedSet
+listed_sets version_1 = []
+listed_sets version_2 = []
+listed_sets (with_sets sets) = sets
 
 -- v is the least whole number of tenths that covers z grains, so 0 where z is negative
 pub record IsRoundedUp (z : ℤ) (v : ℕ) : Type 0 where
@@ -26,6 +33,7 @@ fewest_routes p = div_ceil (sum_by (demand p) (customers p)) p.capacity
 abbrev pub routes_counted : Version → Problem → ℕ
 routes_counted version_1 p = 0
 routes_counted version_2 p = fewest_routes p
+routes_counted (with_sets sets) p = fewest_routes p
 
 -- in grains: the prices, less what each vehicle may win back where the least reduced cost is below 0, and what each route counted on costs at least where it is above
 abbrev pub grains_of : Version → Problem → List ℤ → ℤ → ℤ
@@ -37,6 +45,13 @@ pub record IsLeafValue (version : Version) (p : Problem) (g : Region) (k : ℕ) 
   pub least : ℤ
   pub is_least : IsLeastOrZero p g k prices least
   pub rounded : IsRoundedUp (grains_of version p prices least) v
+
+-- the same where routes are paid for entering sets, with what all needed entries are paid
+pub record IsLeafValueWith (version : Version) (p : Problem) (g : Region) (k : ℕ) (prices : List ℤ) (sets : List PricedSet) (v : ℕ) : Type 0 where
+  pub priced : length prices ≡ customer_count p
+  pub least : ℤ
+  pub is_least : IsLeastOrZeroWith p g k prices sets least
+  pub rounded : IsRoundedUp (grains_of version p prices least +ℤ pos (paid_for_needs sets)) v
 
 abbrev pub greatest_of : List ℕ → ℕ
 greatest_of [] = 0
@@ -52,14 +67,29 @@ greatest_distance p =
 abbrev pub ceiling_of : Problem → ℕ
 ceiling_of p = 2 * customer_count p * greatest_distance p
 
+-- the prices at a leaf: of each customer, and of some sets
+pub record LeafPrices : Type 0 where
+  pub customers : List ℤ
+  pub sets : List SetPrice
+
+-- where no set has one
+abbrev pub of_customers : List ℤ → LeafPrices
+of_customers prices = record { customers = prices; sets = [] }
+
+-- v is the value of a leaf at these prices, in tenths
+abbrev pub IsValueAt : Version → Problem → Region → ℕ → LeafPrices → ℕ → Type 0
+IsValueAt version_1 p g k prices v = IsLeafValue version_1 p g k prices.customers v
+IsValueAt version_2 p g k prices v = IsLeafValue version_2 p g k prices.customers v
+IsValueAt (with_sets sets) p g k prices v = IsLeafValueWith (with_sets sets) p g k prices.customers (priced_sets sets prices.sets) v
+
 -- a tree of branchings: prices at a leaf, or an arc with the tree where it is used and the tree where it isn't
 pub data Tree : Type 0 where
-  leaf : List ℤ → Tree
+  leaf : LeafPrices → Tree
   split : Arc → Tree → Tree → Tree
 
 -- one node of a tree: the prices of a leaf, or the arc of a split
 pub data Node : Type 0 where
-  leaf_node : List ℤ → Node
+  leaf_node : LeafPrices → Node
   split_node : Arc → Node
 
 -- the nodes in preorder, the tree where the arc is used first
@@ -69,7 +99,7 @@ preorder (split a used unused) = split_node a ∷ (preorder used ++ preorder unu
 
 -- b is the least of the ceiling plus one and the values of the tree's leaves, where the tree stands at the region g
 abbrev pub HasBound : Version → Problem → ℕ → Region → Tree → ℕ → Type 0
-HasBound version p k g (leaf prices) b = (v : ℕ) × IsLeafValue version p g k prices v × (b ≡ min (ceiling_of p + 1) v)
+HasBound version p k g (leaf prices) b = (v : ℕ) × IsValueAt version p g k prices v × (b ≡ min (ceiling_of p + 1) v)
 HasBound version p k g (split a used unused) b =
     IsUndecided g a × ((x : ℕ) × ((y : ℕ) × (HasBound version p k (used_child g a) used x × HasBound version p k (unused_child g a) unused y × (b ≡ min x y))))
 

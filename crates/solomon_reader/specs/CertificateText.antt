@@ -1,14 +1,16 @@
 -- Certificates of a lower bound, their texts, and which texts an instance accepts.
-use Rattle.std.specs.Prelude.{◌≡◌, ℕ, ◌+◌, ◌≤◌, List, ◌++◌, length, ℤ, codes, nat_abs, max, decimal}
+use Rattle.std.specs.Prelude.{◌≡◌, ℕ, ◌+◌, ◌≤◌, List, ◌++◌, map, length, ℤ, codes, nat_abs, max, decimal}
 use Rattle.std.specs.Fmt.{signed_decimal}
-use Rattle.std.specs.List.{flat_map, AllByRecursion}
+use Rattle.std.specs.List.{flat_map, sum_by, AllByRecursion}
 use Rattle.tenths.specs.Text.{line, spaced, tenths_text}
 use Rattle.tenths.specs.declared.value.TheConstants.{MOST_TENTHS}
-use Rattle.solomon_reader.specs.declared.limits.TheConstants.{MOST_CUSTOMERS, MOST_NEIGHBOURS, MOST_PRICE, MOST_LEAVES, MOST_DEPTH}
+use Rattle.solomon_reader.specs.declared.limits.TheConstants.{MOST_CUSTOMERS, MOST_NEIGHBOURS, MOST_PRICE, MOST_LEAVES, MOST_DEPTH, MOST_SETS, MOST_NEED}
 use Rattle.solomon_reader.specs.Problem.{Problem, customer_count}
 use Rattle.solomon_reader.specs.Layout.{IsName}
 use Rattle.solomon_reader.specs.Region.{Region, IsUndecided, used_child, unused_child, root_region}
-use Rattle.solomon_reader.specs.Bound.{Version, version_1, version_2, Tree, leaf, split, Node, preorder, IsTreeBound}
+use Rattle.solomon_reader.specs.CustomerSets.{IsCustomerSet, IsNeeded}
+use Rattle.solomon_reader.specs.SetPrices.{ListedSet, SetPrice}
+use Rattle.solomon_reader.specs.Bound.{Version, version_1, version_2, with_sets, listed_sets, LeafPrices, Tree, leaf, split, Node, preorder, IsTreeBound}
 
 pub record Certificate : Type 0 where
   pub version : Version
@@ -32,10 +34,26 @@ depth_of (split a used unused) = 1 + max (depth_of used) (depth_of unused)
 abbrev pub IsPrice : ℤ → Type 0
 IsPrice z = nat_abs z ≤ MOST_PRICE
 
--- at the region each leaf has a price for each customer, and each split decides an arc that isn't decided
-abbrev pub IsTreeAt : Region → Tree → Type 0
-IsTreeAt g (leaf prices) = (length prices ≡ g.size) × AllByRecursion IsPrice prices
-IsTreeAt g (split a used unused) = IsUndecided g a × (IsTreeAt (used_child g a) used × IsTreeAt (unused_child g a) unused)
+-- a listed set: at least two of the customers 1 to n
+pub record IsListedSet (n : ℕ) (s : ListedSet) : Type 0 where
+  pub need : (1 ≤ s.need) × (s.need ≤ MOST_NEED)
+  pub some : 2 ≤ length s.members
+  pub customers : IsCustomerSet n s.members
+
+-- what the sets at a leaf are paid together for an entry
+abbrev pub set_prices_sum : List SetPrice → ℕ
+set_prices_sum prices = sum_by (λ m. m.1) prices
+
+-- prices of some of this many sets, from a grain on; together with a customer's they are within the range of a price
+pub record AreSetPrices (sets : ℕ) (prices : LeafPrices) : Type 0 where
+  pub numbers : IsCustomerSet sets (map (λ m. m.0) prices.sets)
+  pub some : AllByRecursion (λ m. 1 ≤ m.1) prices.sets
+  pub within : AllByRecursion (λ z. set_prices_sum prices.sets + nat_abs z ≤ MOST_PRICE) prices.customers
+
+-- at the region each leaf has a price for each customer, and prices of sets that are listed; each split decides an arc that isn't decided
+abbrev pub IsTreeAt : Version → Region → Tree → Type 0
+IsTreeAt version g (leaf prices) = (length prices.customers ≡ g.size) × AllByRecursion IsPrice prices.customers × AreSetPrices (length (listed_sets version)) prices
+IsTreeAt version g (split a used unused) = IsUndecided g a × (IsTreeAt version (used_child g a) used × IsTreeAt version (unused_child g a) unused)
 
 -- what has a text
 pub record IsCertificate (c : Certificate) : Type 0 where
@@ -43,7 +61,9 @@ pub record IsCertificate (c : Certificate) : Type 0 where
   pub size : (1 ≤ c.size) × (c.size ≤ MOST_CUSTOMERS)
   pub neighbours : c.neighbours ≤ MOST_NEIGHBOURS
   pub bound : c.bound ≤ MOST_TENTHS
-  pub tree : IsTreeAt (root_region c.size) c.tree
+  pub listed : AllByRecursion (IsListedSet c.size) (listed_sets c.version)
+  pub sets : length (listed_sets c.version) ≤ MOST_SETS
+  pub tree : IsTreeAt c.version (root_region c.size) c.tree
   pub leaves : leaf_count c.tree ≤ MOST_LEAVES
   pub depth : depth_of c.tree ≤ MOST_DEPTH
 
@@ -55,15 +75,30 @@ leaf_line prices = line (codes "P" ++ flat_map (λ z. spaced (signed_decimal z))
 abbrev pub split_line : ℕ × ℕ → List ℕ
 split_line a = line (codes "S" ++ spaced (decimal a.0) ++ spaced (decimal a.1))
 
+-- as `M 1 5000 4 20`: numbers of sets, each with its price
+abbrev pub set_prices_line : List SetPrice → List ℕ
+set_prices_line prices = line (codes "M" ++ flat_map (λ m. spaced (decimal m.0) ++ spaced (decimal m.1)) prices)
+
+-- the prices of a leaf: where sets may have some, theirs stand on a line of their own
+abbrev pub leaf_lines : Version → LeafPrices → List ℕ
+leaf_lines version_1 prices = leaf_line prices.customers
+leaf_lines version_2 prices = leaf_line prices.customers
+leaf_lines (with_sets sets) prices = leaf_line prices.customers ++ set_prices_line prices.sets
+
 -- the nodes of a tree in preorder, the tree where the arc is used first
-abbrev pub node_lines : Tree → List ℕ
-node_lines (leaf prices) = leaf_line prices
-node_lines (split a used unused) = split_line a ++ node_lines used ++ node_lines unused
+abbrev pub node_lines : Version → Tree → List ℕ
+node_lines version (leaf prices) = leaf_lines version prices
+node_lines version (split a used unused) = split_line a ++ node_lines version used ++ node_lines version unused
+
+-- as `S 2 3 5 8`: the need, and the customers
+abbrev pub set_line : ListedSet → List ℕ
+set_line s = line (codes "S" ++ spaced (decimal s.need) ++ flat_map (λ i. spaced (decimal i)) s.members)
 
 -- how a text of the version begins
 abbrev pub version_text : Version → List ℕ
 version_text version_1 = codes "VRPTW-CERT 1"
 version_text version_2 = codes "VRPTW-CERT 2"
+version_text (with_sets sets) = codes "VRPTW-SETS 1"
 
 abbrev pub first_line : Version → List ℕ
 first_line version = line (version_text version)
@@ -71,10 +106,11 @@ first_line version = line (version_text version)
 -- the lines before the nodes
 abbrev pub head_lines : Certificate → List ℕ
 head_lines c = first_line c.version ++ line (codes "INSTANCE " ++ c.name) ++ line (codes "CUSTOMERS " ++ decimal c.size)
-    ++ line (codes "NEIGHBOURS " ++ decimal c.neighbours) ++ line (codes "BOUND " ++ tenths_text c.bound) ++ line (codes "TREE")
+    ++ line (codes "NEIGHBOURS " ++ decimal c.neighbours) ++ line (codes "BOUND " ++ tenths_text c.bound)
+    ++ flat_map set_line (listed_sets c.version) ++ line (codes "TREE")
 
 abbrev pub certificate_text : Certificate → List ℕ
-certificate_text c = head_lines c ++ node_lines c.tree ++ line (codes "END")
+certificate_text c = head_lines c ++ node_lines c.version c.tree ++ line (codes "END")
 
 -- what a certificate holds, its tree as a list of nodes
 pub record Content : Type 0 where
@@ -102,11 +138,12 @@ pub record IsCertificateText (text : List ℕ) (x : Content) : Type 0 where
   pub is : x ≡ listed certificate
   pub spelled : text ≡ certificate_text certificate
 
--- The instance accepts the text: it is that of a certificate with the instance's name and size, and with the bound of its tree.
+-- The instance accepts the text: it is that of a certificate with the instance's name and size, whose sets need what they are said to, and with the bound of its tree.
 pub record IsAccepted (p : Problem) (text : List ℕ) : Type 0 where
   pub certificate : Certificate
   pub shaped : IsCertificate certificate
   pub spelled : text ≡ certificate_text certificate
   pub name : certificate.name ≡ p.name
   pub size : certificate.size ≡ customer_count p
+  pub needed : AllByRecursion (λ s. IsNeeded p s.members s.need) (listed_sets certificate.version)
   pub is_bound : IsTreeBound certificate.version p certificate.neighbours certificate.tree certificate.bound

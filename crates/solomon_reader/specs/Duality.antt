@@ -3,7 +3,8 @@ use Rattle.std.specs.Prelude.{◌≡◌, ℕ, ◌+◌, ◌≤◌, List, ℤ}
 use Rattle.solomon_reader.specs.Problem.{Problem, customer_count}
 use Rattle.solomon_reader.specs.Plan.{IsPlan, plan_cost}
 use Rattle.solomon_reader.specs.Region.{Region, Obeys}
-use Rattle.solomon_reader.specs.Bound.{Version, IsLeafValue, ceiling_of, Tree, IsTreeBound}
+use Rattle.solomon_reader.specs.Bound.{Version, listed_sets, IsLeafValue, ceiling_of, Tree, IsTreeBound}
+use Rattle.solomon_reader.specs.SetPrices.{AreTrueNeeds}
 
 -- a plan that obeys the region of a leaf costs at least the leaf's value
 abbrev pub WeakDuality : Type 0
@@ -14,14 +15,15 @@ WeakDuality = (version : Version) (p : Problem) (g : Region) (k : ℕ) (prices :
 abbrev pub CeilingHolds : Type 0
 CeilingHolds = (p : Problem) (routes : List (List ℕ)) → IsPlan p routes → plan_cost p routes ≤ ceiling_of p
 
--- a plan costs at least the bound of a tree
+-- a plan costs at least the bound of a tree, where its sets need what they are said to
 abbrev pub TreeBoundHolds : Type 0
 TreeBoundHolds = (version : Version) (p : Problem) (k : ℕ) (tree : Tree) (b : ℕ) (routes : List (List ℕ))
-    → IsTreeBound version p k tree b → IsPlan p routes → b ≤ plan_cost p routes
+    → AreTrueNeeds p (listed_sets version) → IsTreeBound version p k tree b → IsPlan p routes → b ≤ plan_cost p routes
 
 -- where the bound of a tree is above the ceiling, there is no plan
 abbrev pub NoPlanAbove : Type 0
-NoPlanAbove = (version : Version) (p : Problem) (k : ℕ) (tree : Tree) (routes : List (List ℕ)) → IsTreeBound version p k tree (ceiling_of p + 1) → ¬ IsPlan p routes
+NoPlanAbove = (version : Version) (p : Problem) (k : ℕ) (tree : Tree) (routes : List (List ℕ))
+    → AreTrueNeeds p (listed_sets version) → IsTreeBound version p k tree (ceiling_of p + 1) → ¬ IsPlan p routes
 
 -- no plan costs less than b
 abbrev pub IsBelowPlans : Problem → ℕ → Type 0

@@ -8,7 +8,7 @@ use Rattle.std.proofs.lemmas.List.Sums.{sum_by-append}
 use Rattle.std.proofs.lemmas.List.Sorted.{sum_by-IsPermutation}
 use Rattle.solomon_reader.specs.Problem.{Problem, customers, demand}
 use Rattle.solomon_reader.specs.Plan.{IsPlan, IsFitting}
-use Rattle.solomon_reader.specs.Bound.{Version, version_1, version_2, routes_counted}
+use Rattle.solomon_reader.specs.Bound.{Version, version_1, version_2, with_sets, routes_counted, fewest_routes}
 
 loads_le : (p : Problem) (routes : List (List ℕ)) → AllByRecursion (IsFitting p) routes → sum_by (demand p) (flat_map (λ r. r) routes) ≤ length routes * p.capacity
 loads_le p [] fits = omega arith
@@ -21,8 +21,12 @@ quotient-le total count (suc c) h =
     let below : div_ceil total (suc c) * suc c < (count + 1) * suc c = omega (arith, near.1) in
     omega (arith, lt_of_mul-lt-mul_right (suc c) below)
 
-pub counted-le : (version : Version) (p : Problem) (routes : List (List ℕ)) → IsPlan p routes → routes_counted version p ≤ length routes
-counted-le version_1 p routes plan = omega arith
-counted-le version_2 p routes plan =
+fewest-le : (p : Problem) (routes : List (List ℕ)) → IsPlan p routes → fewest_routes p ≤ length routes
+fewest-le p routes plan =
     let same : sum_by (demand p) (flat_map (λ r. r) routes) ≡ sum_by (demand p) (customers p) = sum_by-IsPermutation (demand p) (customers p) (flat_map (λ r. r) routes) plan.each_once in
     quotient-le (sum_by (demand p) (customers p)) (length routes) p.capacity (omega (arith, same, loads_le p routes plan.fitting))
+
+pub counted-le : (version : Version) (p : Problem) (routes : List (List ℕ)) → IsPlan p routes → routes_counted version p ≤ length routes
+counted-le version_1 p routes plan = omega arith
+counted-le version_2 p routes plan = fewest-le p routes plan
+counted-le (with_sets sets) p routes plan = fewest-le p routes plan

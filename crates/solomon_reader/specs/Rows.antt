@@ -7,11 +7,10 @@ use Rattle.solomon_reader.specs.Distance.{distance}
 use Rattle.solomon_reader.specs.Plan.{route_cost, plan_cost, Finishes}
 use Rattle.solomon_reader.specs.Relaxed.{reduced_cost, IsRelaxed}
 use Rattle.solomon_reader.specs.Region.{root_region, used_child, unused_child}
-use Rattle.solomon_reader.specs.Bound.{ceiling_of, version_1, version_2, Tree, leaf, split, IsRoundedUp, IsLeafValue, IsTreeBound}
+use Rattle.solomon_reader.specs.Bound.{ceiling_of, version_1, version_2, with_sets, of_customers, Tree, leaf, split, IsRoundedUp, IsLeafValue, IsLeafValueWith, IsTreeBound}
 use Rattle.solomon_reader.specs.Moves.{after_relocate, after_exchange, after_or_opt, after_two_opt_star, after_cross}
 use Rattle.solomon_reader.specs.CustomerSets.{entries, need_by_load, way_over, CanServe, IsTooMuchInTime, IsNeeded}
-use Rattle.solomon_reader.specs.SetBound.{PricedSet, IsLeafValueWith, set_leaf}
-use Rattle.solomon_reader.specs.SetText.{set_certificate_text}
+use Rattle.solomon_reader.specs.SetPrices.{PricedSet}
 use Rattle.solomon_reader.specs.SolutionText.{solution_text}
 use Rattle.solomon_reader.specs.CertificateText.{certificate_text}
 
@@ -63,16 +62,16 @@ pub record WorkedRows : Type 0 where
   pub cycle_relaxed : IsRelaxed revisits (root_region 2) 0 (2 ∷ 1 ∷ 2 ∷ [])
   pub rounded : IsRoundedUp (pos 99001) 100
   pub solution : solution_text ((1 ∷ []) ∷ []) 100 ≡ codes "Route #1: 1\nCost 10.0\n"
-  pub certificate : certificate_text (record { version = version_1; name = codes "T"; size = 1; neighbours = 8; bound = 100; tree = leaf (pos 100000 ∷ []) })
+  pub certificate : certificate_text (record { version = version_1; name = codes "T"; size = 1; neighbours = 8; bound = 100; tree = leaf (of_customers (pos 100000 ∷ [])) })
       ≡ codes "VRPTW-CERT 1\nINSTANCE T\nCUSTOMERS 1\nNEIGHBOURS 8\nBOUND 10.0\nTREE\nP 100000\nEND\n"
 
 -- a price at each leaf
 abbrev pub parted : Tree
-parted = split (0, 1) (leaf (pos 100000 ∷ pos 301000 ∷ [])) (leaf (pos 401000 ∷ pos 0 ∷ []))
+parted = split (0, 1) (leaf (of_customers (pos 100000 ∷ pos 301000 ∷ []))) (leaf (of_customers (pos 401000 ∷ pos 0 ∷ [])))
 
 pub record WorkedBounds : Type 0 where
-  pub free_1 : IsTreeBound version_1 one_customer 8 (leaf (pos 0 ∷ [])) 0
-  pub free_2 : IsTreeBound version_2 one_customer 8 (leaf (pos 0 ∷ [])) 100
+  pub free_1 : IsTreeBound version_1 one_customer 8 (leaf (of_customers (pos 0 ∷ []))) 0
+  pub free_2 : IsTreeBound version_2 one_customer 8 (leaf (of_customers (pos 0 ∷ []))) 100
   pub parted_1 : IsTreeBound version_1 narrow 8 parted 199
   pub parted_2 : IsTreeBound version_2 narrow 8 parted 199
   pub used_leaf : IsLeafValue version_2 narrow (used_child (root_region 2) (0, 1)) 8 (pos 100000 ∷ pos 301000 ∷ []) 199
@@ -106,14 +105,14 @@ pub record WorkedSets : Type 0 where
   pub in_time : CanServe by_detour 0 0 (2 ∷ [])
   pub too_much : IsTooMuchInTime busy (1 ∷ 2 ∷ 3 ∷ [])
   pub two_needed : IsNeeded busy (1 ∷ 2 ∷ 3 ∷ []) 2
-  pub priced : IsLeafValueWith narrow (root_region 2) 8 (pos 0 ∷ pos 100000 ∷ []) (pair_priced ∷ []) 300
-  pub text : set_certificate_text (record {
+  pub priced : IsLeafValueWith version_2 narrow (root_region 2) 8 (pos 0 ∷ pos 100000 ∷ []) (pair_priced ∷ []) 300
+  pub text : certificate_text (record {
+    version = with_sets (record { members = 1 ∷ 2 ∷ []; need = 2 } ∷ []);
     name = codes "T";
     size = 2;
     neighbours = 8;
     bound = 300;
-    sets = record { members = 1 ∷ 2 ∷ []; need = 2 } ∷ [];
-    tree = set_leaf (pos 0 ∷ pos 100000 ∷ []) ((1, 100000) ∷ []);
+    tree = leaf (record { customers = pos 0 ∷ pos 100000 ∷ []; sets = (1, 100000) ∷ [] });
   })
       ≡ codes "VRPTW-SETS 1\nINSTANCE T\nCUSTOMERS 2\nNEIGHBOURS 8\nBOUND 30.0\nS 2 1 2\nTREE\nP 0 100000\nM 1 100000\nEND\n"
 

@@ -26,7 +26,7 @@ holds_low : (s : List ℕ) (low i : ℕ) → IsRisingFrom low s → i ≤ low �
 holds_low [] low i h k = refl
 holds_low (j ∷ s) low i h k = or_from (j == i) (holds s i) (ne_eqb j i (λ e. omega (arith, h.0, k, e))) (holds_low s j i h.1 (omega (arith, h.0, k)))
 
-depot_outside : (n : ℕ) (s : List ℕ) → IsCustomerSet n s → holds s 0 ≡ false
+pub depot_outside : (n : ℕ) (s : List ℕ) → IsCustomerSet n s → holds s 0 ≡ false
 depot_outside n s set = holds_low s 0 0 set.rising (omega arith)
 
 count_no : (s : List ℕ) (i : ℕ) → holds s i ≡ false → count_of i s ≡ 0
@@ -149,12 +149,16 @@ members p s routes set plan = permutation_from_counts s (kept s (stops routes)) 
 
 -- ---- entries
 
-entries_from : List ℕ → ℕ → List ℕ → ℕ
+pub entries_from : List ℕ → ℕ → List ℕ → ℕ
 entries_from s i r = sum_by (λ a. cond (enters s a) 1 0) (arcs_from i r)
 
-entries_more : (s : List ℕ) (i j : ℕ) (r : List ℕ) → entries_from s i (j ∷ r) ≡ cond (enters s (i, j)) 1 0 + entries_from s j r
+pub entries_more : (s : List ℕ) (i j : ℕ) (r : List ℕ) → entries_from s i (j ∷ r) ≡ cond (enters s (i, j)) 1 0 + entries_from s j r
 unfolding entries_from
 entries_more s i j r = sum_by-cons (λ a. cond (enters s a) 1 0) (i, j) (arcs_from j r)
+
+pub entries_end : (s : List ℕ) (i : ℕ) → entries_from s i [] ≡ cond (enters s (i, 0)) 1 0
+unfolding entries_from
+entries_end s i = omega (arith, sum_by-cons (λ a. cond (enters s a) 1 0) (i, 0) [])
 
 entered : (s : List ℕ) (i j : ℕ) → holds s j ≡ true → holds s i ≡ false → suc zero ≡ cond (enters s (i, j)) 1 0
 entered s i j there out = rw (there, out) refl
@@ -168,7 +172,7 @@ none_kept s i (j ∷ r) out none =
       | inr outside ↦ kept_same s j r outside ∙ none_kept s j r outside (omega (arith, none, entries_more s i j r))
     ]
 
-entries_is : (s r : List ℕ) → entries s r ≡ entries_from s 0 r
+pub entries_is : (s r : List ℕ) → entries s r ≡ entries_from s 0 r
 unfolding entries_from
 entries_is s r = refl
 

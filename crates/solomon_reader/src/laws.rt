@@ -2,7 +2,7 @@
 
 ghost use Rattle.solomon_reader.specs.Duality.{CeilingHolds, NoPlanAbove, TreeBoundHolds, WeakDuality};
 ghost use Rattle.solomon_reader.specs.Laws.{FirstFaultStays, OneBound, OneLeast, PaidByCustomer};
-ghost use Rattle.solomon_reader.specs.SetDuality.{NeedsHold, SameWithoutSets, SetTreeBoundHolds, SetWeakDuality};
+ghost use Rattle.solomon_reader.specs.SetDuality.{NeedsHold, PaidBySets, SameWithoutSets, SetWeakDuality};
 ghost use Rattle.solomon_reader.specs.Rows.{WorkedBounds, WorkedMoves, WorkedRows, WorkedSets};
 
 /// What the definitions give on small instances: distances, costs, walks, and both texts.
@@ -51,8 +51,8 @@ pub fn weak_duality()
     ensures { WeakDuality }
 {}
 
-/// A plan costs at most the ceiling, and at least the bound of a tree; where that is above the
-/// ceiling, there is no plan.
+/// A plan costs at most the ceiling, and at least the bound of a tree whose sets need what they are said
+/// to; where that is above the ceiling, there is no plan.
 pub fn bounds_hold()
     ensures ceiling { CeilingHolds }
     ensures tree { TreeBoundHolds }
@@ -65,11 +65,11 @@ pub fn needs_hold()
     ensures { NeedsHold }
 {}
 
-/// A plan that obeys the region of a leaf costs at least its value with sets, and each plan at least the
-/// bound of a tree with sets, where each set needs what it is said to. Without sets a leaf has its value
-/// of version 2.
+/// A plan that obeys the region of a leaf costs at least its value with sets that need what they are said
+/// to; without sets that is its value. Where steps are paid for entering sets, the reduced cost of a list
+/// is its cost less the prices of its stops and entries.
 pub fn set_bounds_hold()
     ensures leaf { SetWeakDuality }
-    ensures tree { SetTreeBoundHolds }
     ensures without { SameWithoutSets }
+    ensures steps { PaidBySets }
 {}

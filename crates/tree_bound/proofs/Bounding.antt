@@ -1,22 +1,19 @@
 -- The nodes of a tree, read in preorder.
 use Rattle.std.proofs.Common.{◌≡◌, refl, ℕ, zero, suc, ◌+◌, ◌<◌, ◌≤◌, min, Bool, true, false, List, [], ◌∷◌, ◌++◌}
 use Rattle.std.proofs.Common.{length, length-append, length-drop, drop, take, get_or, arith, ap, sym, ◌∙◌, append_assoc, append-nil}
-use Rattle.std.specs.Prelude.{ℤ}
 use Rattle.std.proofs.lemmas.List.{length-map}
 use Rattle.std.proofs.Math.Seq.{take-append_seam}
-use Rattle.std.specs.List.{AllByRecursion}
 use Rattle.solomon_reader.specs.Problem.{Problem, customer_count}
 use Rattle.solomon_reader.specs.Plan.{Arc}
 use Rattle.solomon_reader.specs.Region.{Region, IsUndecided, used_child, unused_child, root_region}
-use Rattle.solomon_reader.specs.Bound.{Version, Tree, leaf, split, Node, leaf_node, split_node, preorder, ceiling_of, HasBound, IsTreeBound}
-use Rattle.solomon_reader.specs.CertificateText.{IsTreeAt, IsPrice, Content, HasText}
+use Rattle.solomon_reader.specs.Bound.{Version, LeafPrices, Tree, leaf, split, Node, leaf_node, split_node, preorder, ceiling_of, HasBound, IsTreeBound}
+use Rattle.solomon_reader.specs.CertificateText.{IsTreeAt, Content, HasText}
 use Rattle.leaf_arcs.specs.declared.decision.Decision.{Decision}
 use Rattle.certificate.specs.declared.node.CertNode.{CertNode}
 use Rattle.certificate.specs.Tree.{node_of, nodes_of}
 use Rattle.leaf_arcs.specs.Decisions.{child, region_after, region_of}
 use Rattle.certificate.proofs.Steps.{one_tree}
-use Rattle.tree_bound.specs.Grains.{IsLesserValue}
-use Rattle.tree_bound.specs.Nodes.{Begins, IsBoundOf}
+use Rattle.tree_bound.specs.Nodes.{Begins, IsBoundOf, IsLeafAt, IsLesserAt}
 
 pub region_push : (ds : List Decision) (g : Region) (d : Decision) → region_after g (ds ++ (d ∷ [])) ≡ child (region_after g ds) d
 region_push [] g d = refl
@@ -50,12 +47,12 @@ tree_some : (tree : Tree) → 1 ≤ length (preorder tree)
 tree_some (leaf prices) = omega arith
 tree_some (split a used unused) = omega (arith, length-append (preorder used) (preorder unused))
 
-pub begins_some : (g : Region) (nodes : List CertNode) (at : ℕ) → Begins g (drop at (nodes_of nodes)) → at < length nodes
-begins_some g nodes at h =
+pub begins_some : (version : Version) (g : Region) (nodes : List CertNode) (at : ℕ) → Begins version g (drop at (nodes_of nodes)) → at < length nodes
+begins_some version g nodes at h =
     omega (arith, ap (λ (xs : List Node). length xs) h.is, tree_some h.tree, length-append (preorder h.tree) h.rest, length-drop at (nodes_of nodes), length-map nodes node_of)
 
 module _ (version : Version) (p : Problem) (k : ℕ) (g : Region) where
-  leaf_begun : (prices : List ℤ) (more : List Node) (tree : Tree) (rest : List Node) → leaf_node prices ∷ more ≡ preorder tree ++ rest → IsTreeAt g tree
+  leaf_begun : (prices : LeafPrices) (more : List Node) (tree : Tree) (rest : List Node) → leaf_node prices ∷ more ≡ preorder tree ++ rest → IsTreeAt version g tree
       → (tree ≡ leaf prices) × (more ≡ rest)
   leaf_begun prices more (leaf ps) rest e h = (ap leaf (sym (prices_eq e)), more_eq e)
     where
@@ -66,10 +63,10 @@ module _ (version : Version) (p : Problem) (k : ℕ) (g : Region) where
       more_eq e = cc
   leaf_begun prices more (split a u w) rest e h = cc
 
-  pub leaf_shaped : (prices : List ℤ) (more : List Node) → Begins g (leaf_node prices ∷ more) → (length prices ≡ g.size) × AllByRecursion IsPrice prices
+  pub leaf_shaped : (prices : LeafPrices) (more : List Node) → Begins version g (leaf_node prices ∷ more) → IsLeafAt version g.size prices
   leaf_shaped prices more h = let b = leaf_begun prices more h.tree h.rest h.is h.shaped in let e = b.0 in rw e at h.shaped
 
-  pub leaf_bounded : (prices : List ℤ) (more : List Node) (most b : ℕ) → most ≤ ceiling_of p + 1 → IsLesserValue version p g k prices most b
+  pub leaf_bounded : (prices : LeafPrices) (more : List Node) (most b : ℕ) → most ≤ ceiling_of p + 1 → IsLesserAt version p g k prices most b
       → IsBoundOf version p k g (leaf_node prices ∷ more) most b more
   leaf_bounded prices more most b low h tree rest is shaped =
       let s = leaf_begun prices more tree rest is shaped in
@@ -83,10 +80,10 @@ module _ (version : Version) (p : Problem) (k : ℕ) (g : Region) where
     pub is : tree ≡ split a used unused
     pub nodes : more ≡ preorder used ++ (preorder unused ++ rest)
     pub undecided : IsUndecided g a
-    pub used_shaped : IsTreeAt (used_child g a) used
-    pub unused_shaped : IsTreeAt (unused_child g a) unused
+    pub used_shaped : IsTreeAt version (used_child g a) used
+    pub unused_shaped : IsTreeAt version (unused_child g a) unused
 
-  split_begun : (a : Arc) (more : List Node) (tree : Tree) (rest : List Node) → split_node a ∷ more ≡ preorder tree ++ rest → IsTreeAt g tree → Below a more tree rest
+  split_begun : (a : Arc) (more : List Node) (tree : Tree) (rest : List Node) → split_node a ∷ more ≡ preorder tree ++ rest → IsTreeAt version g tree → Below a more tree rest
   split_begun a more (leaf ps) rest e h = cc
   split_begun a more (split b u w) rest e h =
       let same : b ≡ a = same_arc e in
@@ -106,11 +103,11 @@ module _ (version : Version) (p : Problem) (k : ℕ) (g : Region) where
       more_eq : split_node a ∷ more ≡ split_node b ∷ ((preorder u ++ preorder w) ++ rest) → more ≡ (preorder u ++ preorder w) ++ rest
       more_eq e = cc
 
-  pub used_begins : (a : Arc) (more : List Node) → Begins g (split_node a ∷ more) → Begins (used_child g a) more
+  pub used_begins : (a : Arc) (more : List Node) → Begins version g (split_node a ∷ more) → Begins version (used_child g a) more
   used_begins a more h = let b = split_begun a more h.tree h.rest h.is h.shaped in record { tree = b.used; rest = preorder b.unused ++ h.rest; is = b.nodes; shaped = b.used_shaped }
 
-  pub unused_begins : (a : Arc) (more left : List Node) (most x : ℕ) → Begins g (split_node a ∷ more)
-      → IsBoundOf version p k (used_child g a) more most x left → Begins (unused_child g a) left
+  pub unused_begins : (a : Arc) (more left : List Node) (most x : ℕ) → Begins version g (split_node a ∷ more)
+      → IsBoundOf version p k (used_child g a) more most x left → Begins version (unused_child g a) left
   unused_begins a more left most x h bound =
       let b = split_begun a more h.tree h.rest h.is h.shaped in
       record { tree = b.unused; rest = h.rest; is = (bound b.used (preorder b.unused ++ h.rest) b.nodes b.used_shaped).1; shaped = b.unused_shaped }
@@ -126,14 +123,14 @@ module _ (version : Version) (p : Problem) (k : ℕ) (g : Region) where
 
 -- the same of a list of nodes from a place on
 module _ (version : Version) (p : Problem) (k : ℕ) (ds : List Decision) (nodes : List CertNode) (at : ℕ) (n : CertNode) (within : at < length nodes) (is : n ≡ get_or nodes at n)
-    (begins : Begins (region_of (customer_count p) ds) (drop at (nodes_of nodes))) where
-  pub leaf_at : (prices : List ℤ) → node_of n ≡ leaf_node prices → (length prices ≡ customer_count p) × AllByRecursion IsPrice prices
+    (begins : Begins version (region_of (customer_count p) ds) (drop at (nodes_of nodes))) where
+  pub leaf_at : (prices : LeafPrices) → node_of n ≡ leaf_node prices → IsLeafAt version (customer_count p) prices
   leaf_at prices e =
       let here : drop at (nodes_of nodes) ≡ leaf_node prices ∷ drop (at + 1) (nodes_of nodes) = front nodes at n within is ∙ ap (λ m. m ∷ drop (at + 1) (nodes_of nodes)) e in
       let h = leaf_shaped version p k (region_of (customer_count p) ds) prices (drop (at + 1) (nodes_of nodes)) (rw here at begins) in
-      (h.0 ∙ region_size (customer_count p) ds, h.1)
+      (h.0 ∙ region_size (customer_count p) ds, h.1, h.2)
 
-  pub leaf_bound_at : (prices : List ℤ) (most b : ℕ) → node_of n ≡ leaf_node prices → most ≤ ceiling_of p + 1 → IsLesserValue version p (region_of (customer_count p) ds) k prices most b
+  pub leaf_bound_at : (prices : LeafPrices) (most b : ℕ) → node_of n ≡ leaf_node prices → most ≤ ceiling_of p + 1 → IsLesserAt version p (region_of (customer_count p) ds) k prices most b
       → IsBoundOf version p k (region_of (customer_count p) ds) (drop at (nodes_of nodes)) most b (drop (at + 1) (nodes_of nodes))
   leaf_bound_at prices most b e low lesser =
       let here : drop at (nodes_of nodes) ≡ leaf_node prices ∷ drop (at + 1) (nodes_of nodes) = front nodes at n within is ∙ ap (λ m. m ∷ drop (at + 1) (nodes_of nodes)) e in
@@ -152,11 +149,11 @@ module _ (version : Version) (p : Problem) (k : ℕ) (ds : List Decision) (nodes
     unused_region : region_of (customer_count p) (decided false) ≡ unused_child (region_of (customer_count p) ds) (from, to)
     unused_region = region_push ds _ _
 
-    pub used_at : Begins (region_of (customer_count p) (decided true)) (drop (at + 1) (nodes_of nodes))
+    pub used_at : Begins version (region_of (customer_count p) (decided true)) (drop (at + 1) (nodes_of nodes))
     used_at = rw used_region (used_begins version p k (region_of (customer_count p) ds) (from, to) (drop (at + 1) (nodes_of nodes)) (rw here at begins))
 
     module _ (most x next : ℕ) (first : IsBoundOf version p k (region_of (customer_count p) (decided true)) (drop (at + 1) (nodes_of nodes)) most x (drop next (nodes_of nodes))) where
-      pub unused_at : Begins (region_of (customer_count p) (decided false)) (drop next (nodes_of nodes))
+      pub unused_at : Begins version (region_of (customer_count p) (decided false)) (drop next (nodes_of nodes))
       unused_at = rw unused_region (unused_begins version p k (region_of (customer_count p) ds) (from, to) (drop (at + 1) (nodes_of nodes))
           (drop next (nodes_of nodes)) most x (rw here at begins) (rw used_region at first))
 
@@ -176,10 +173,13 @@ module _ (x : Content) (text : HasText x) (p : Problem) (size : x.size ≡ custo
   listed_nodes : x.nodes ≡ preorder text.certificate.tree
   listed_nodes = ap (λ (y : Content). y.nodes) text.is
 
-  shaped : IsTreeAt (root_region (customer_count p)) text.certificate.tree
-  shaped = let e : text.certificate.size ≡ customer_count p = sym (ap (λ (y : Content). y.size) text.is) ∙ size in rw e at text.shaped.tree
+  shaped : IsTreeAt x.version (root_region (customer_count p)) text.certificate.tree
+  shaped =
+      let e : text.certificate.size ≡ customer_count p = sym (ap (λ (y : Content). y.size) text.is) ∙ size in
+      let v : x.version ≡ text.certificate.version = ap (λ (y : Content). y.version) text.is in
+      rw v (rw e at text.shaped.tree)
 
-  pub nodes_begin : Begins (root_region (customer_count p)) nodes
+  pub nodes_begin : Begins x.version (root_region (customer_count p)) nodes
   nodes_begin = record { tree = text.certificate.tree; rest = []; is = is ∙ (listed_nodes ∙ sym (append-nil (preorder text.certificate.tree))); shaped = shaped }
 
   pub whole_bound : (most b : ℕ) (left : List Node) → most ≡ ceiling_of p + 1 → IsBoundOf x.version p x.neighbours (root_region (customer_count p)) nodes most b left

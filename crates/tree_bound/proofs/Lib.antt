@@ -1,5 +1,7 @@
 pub mod Working
+pub mod Sets
 pub mod Valuing
+pub mod AtLeaf
 pub mod Bounding
 pub mod Covering
 pub mod Existing

@@ -6,11 +6,9 @@ use Rattle.std.proofs.lemmas.Bool.{cases_lt, cases_eq}
 use Rattle.std.proofs.Math.ListN.{set, length-set}
 use Rattle.std.proofs.lemmas.Int.{ints}
 use Rattle.std.proofs.lemmas.List.{get_or_append_left, get_or_push, get_or-set_same, get_or-set_other, get_or_past, get_or-replicate, length-replicate}
-use Rattle.std.specs.List.{AllByRecursion}
-use Rattle.std.proofs.lemmas.List.Elements.{All-from_recursion, All-weaker}
-use Rattle.solomon_reader.specs.Problem.{IsCustomer, Problem, customer_count, ready, service}
+use Rattle.solomon_reader.specs.Problem.{IsCustomer, Problem, ready, service}
 use Rattle.solomon_reader.specs.Region.{IsAllowed}
-use Rattle.solomon_reader.specs.States.{Pricing, State, step, CanStep, IsAsGood, start, CanEnd, IsSameState, IsPriced, IsAtMost}
+use Rattle.solomon_reader.specs.States.{Pricing, State, step, CanStep, IsAsGood, start, CanEnd, IsSameState, IsAtMost}
 use Rattle.solomon_reader.proofs.Completions.{reaches_more, reaches_none, relaxed_completes, value_is, good_itself, good_same, good_through, reaches_same, completes_too, value_no_greater}
 use Rattle.leaf_arcs.specs.declared.arcs.AllowedArc.{AllowedArc}
 use Rattle.solomon_reader.specs.Memories.{place_of}
@@ -18,7 +16,7 @@ use Rattle.leaf_arcs.specs.Arcs.{arc_in, IsPricing, AreAllowedArcs, IsInTime}
 use Rattle.solomon_reader.specs.Covering.{IsDear}
 use Rattle.solomon_reader.specs.declared.row.Row.{Row}
 use Rattle.solomon_reader.specs.Layout.{IsWithinLimits, AreRows}
-use Rattle.solomon_reader.specs.CertificateText.{IsPrice}
+use Rattle.solomon_reader.specs.SetPrices.{PricedSet}
 use Rattle.solomon_reader.proofs.BoundedRows.{customer_row}
 use Rattle.leaf_arcs.proofs.Deciding.{leads_index}
 use Rattle.leaf_arcs.proofs.Remembered.{has_nothing}
@@ -27,6 +25,7 @@ use Rattle.tree_bound.specs.Labels.{label_in, labels_at, state_of, Dominates, Is
 use Rattle.tree_bound.specs.Labels.{AreLabels, Waits}
 use Rattle.tree_bound.specs.Steps.{CanExtend, IsExtension, IsCared, TakesStep, TakesSteps, ClosesRoute, IsDone, IsSettled, AreSettled, Remains, IsPassed, IsWorked, IsSwept, route_value}
 use Rattle.tree_bound.specs.Cover.{IsFound, IsRouteCost, IsLeastBelow}
+use Rattle.tree_bound.specs.Grains.{ArePrices}
 use Rattle.tree_bound.proofs.Covering.{covers_moved, covers_itself, covers_worked, covers_passed, covers_dear, least_at_end}
 
 pub dominating_good : (q : Pricing) (d r : ℕ) → d ≤ r → (a b : Label) → Dominates a b → IsAsGood (state_of q d a) (state_of q r b)
@@ -461,12 +460,5 @@ depot_service p limits = by p.rows limits.rows
     by [] h = absurd h
     by (depot ∷ rs) h = omega (arith, h.0.2)
 
-priced : (z : ℤ) → IsPrice z → IsPriced z
-priced z h = record { low = omega (arith, ints, h); high = omega (arith, ints, h) }
-
-pub is_pricing : (p : Problem) (prices : List ℤ) → IsWithinLimits p → length prices ≡ customer_count p → AllByRecursion IsPrice prices → IsPricing p prices
-is_pricing p prices limits count all = record {
-  count = count;
-  priced = All-weaker IsPrice IsPriced priced prices (All-from_recursion IsPrice prices all);
-  carried = λ i h. (customer_row p i limits h).1;
-}
+pub is_pricing : (p : Problem) (prices : List ℤ) (sets : List PricedSet) → IsWithinLimits p → ArePrices p prices sets → IsPricing p prices sets
+is_pricing p prices sets limits are = record { count = are.count; within = are.within; sets_are = are.sets_are; carried = λ i h. (customer_row p i limits h).1 }

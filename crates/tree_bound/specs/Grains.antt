@@ -1,25 +1,56 @@
 -- The value of a leaf as a number of grains.
-use Rattle.std.specs.Prelude.{◌≡◌, ℕ, ◌≤◌, min, List, ℤ, Option, None}
-use Rattle.solomon_reader.specs.Problem.{Problem}
+use Rattle.std.specs.Prelude.{◌≡◌, ℕ, ◌+◌, ◌*◌, ◌≤◌, min, List, length, nat_abs, ℤ, pos, ◌+ℤ◌, ◌-ℤ◌, ◌*ℤ◌, Option, None}
+use Rattle.std.specs.Int.{int_min, int_max}
+use Rattle.std.specs.List.{AllByRecursion}
+use Rattle.solomon_reader.specs.declared.limits.TheConstants.{MOST_CUSTOMERS, MOST_NEED, MOST_PRICE}
+use Rattle.solomon_reader.specs.Problem.{Problem, customer_count}
 use Rattle.solomon_reader.specs.Region.{Region}
-use Rattle.solomon_reader.specs.Bound.{Version, grains_of, routes_counted, IsRoundedUp, IsLeafValue}
+use Rattle.solomon_reader.specs.Relaxed.{int_sum}
+use Rattle.solomon_reader.specs.CustomerSets.{IsCustomerSet}
+use Rattle.solomon_reader.specs.SetPrices.{PricedSet, paid_for_needs}
+use Rattle.solomon_reader.specs.Bound.{Version, routes_counted, IsRoundedUp, IsLeafValueWith}
+use Rattle.leaf_arcs.specs.Sets.{price_sum}
+use Rattle.tree_bound.specs.declared.difference.Difference.{Difference}
 use Rattle.tree_bound.specs.Cover.{or_zero}
 
+-- a price for each customer, within the range together with those of sets, and sets that need what a listed one may
+pub record ArePrices (p : Problem) (prices : List ℤ) (sets : List PricedSet) : Type 0 where
+  pub count : length prices ≡ customer_count p
+  pub within : AllByRecursion (λ z. price_sum sets + nat_abs z ≤ MOST_PRICE) prices
+  pub sets_are : AllByRecursion (λ s. IsCustomerSet (customer_count p) s.members) sets
+  pub needs : AllByRecursion (λ s. s.need ≤ MOST_NEED) sets
+
+-- the prices, and what all needed entries are paid
+abbrev pub leaf_sum : List ℤ → List PricedSet → ℤ
+leaf_sum prices sets = int_sum prices +ℤ pos (paid_for_needs sets)
+
+abbrev pub sum_in : Difference → ℤ
+sum_in d = pos d.above -ℤ pos d.below
+
+-- the sides of a difference are small enough for sums with them
+pub record IsSmall (d : Difference) : Type 0 where
+  pub above : d.above ≤ MOST_CUSTOMERS * MOST_PRICE + MOST_PRICE * MOST_NEED
+  pub below : d.below ≤ MOST_CUSTOMERS * MOST_PRICE
+
+-- the grains of a leaf whose prices and needed entries make up a sum
+abbrev pub grains_by : Version → Problem → ℤ → ℤ → ℤ
+grains_by version p sum least = (sum +ℤ (pos p.fleet *ℤ int_min (pos 0) least)) +ℤ (pos (routes_counted version p) *ℤ int_max (pos 0) least)
+
 -- a leaf whose least reduced cost is t has a value of at least so much
-pub record IsWorth (version : Version) (p : Problem) (prices : List ℤ) (t : ℤ) (most : ℕ) : Type 0 where
+pub record IsWorth (version : Version) (p : Problem) (sum : ℤ) (t : ℤ) (most : ℕ) : Type 0 where
   pub value : ℕ
-  pub rounded : IsRoundedUp (grains_of version p prices t) value
+  pub rounded : IsRoundedUp (grains_by version p sum t) value
   pub high : most ≤ value
 
 -- b is the lesser of a number and a value that no leaf exceeds: that at a known reduced cost of a relaxed route, or where no routes are counted on that without any
-pub record IsLowered (version : Version) (p : Problem) (prices : List ℤ) (known : Option ℤ) (most b : ℕ) : Type 0 where
+pub record IsLowered (version : Version) (p : Problem) (sum : ℤ) (known : Option ℤ) (most b : ℕ) : Type 0 where
   pub value : ℕ
-  pub rounded : IsRoundedUp (grains_of version p prices (or_zero known)) value
+  pub rounded : IsRoundedUp (grains_by version p sum (or_zero known)) value
   pub why : known ≡ None → routes_counted version p ≡ 0
   pub lesser : b ≡ min most value
 
 -- b is the lesser of a number and the value of a leaf
-pub record IsLesserValue (version : Version) (p : Problem) (g : Region) (k : ℕ) (prices : List ℤ) (most b : ℕ) : Type 0 where
+pub record IsLesserValue (version : Version) (p : Problem) (g : Region) (k : ℕ) (prices : List ℤ) (sets : List PricedSet) (most b : ℕ) : Type 0 where
   pub value : ℕ
-  pub is_value : IsLeafValue version p g k prices value
+  pub is_value : IsLeafValueWith version p g k prices sets value
   pub lesser : b ≡ min most value

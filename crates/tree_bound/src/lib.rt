@@ -3,9 +3,11 @@
 #![tactic(auto)]
 
 mod bucket;
+mod difference;
 mod dive;
 mod fault;
 mod label;
+mod leaf_sets;
 mod setting;
 mod steps;
 mod table;

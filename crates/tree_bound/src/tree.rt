@@ -1,23 +1,21 @@
 //! The bound of a tree.
 
-ghost use Rattle.tree_bound.specs.Settings.{neighbours_in, problem_in};
-ghost use Rattle.std.specs.Prelude.{◌≡◌, ◌+◌, ◌<◌, ◌≤◌, length, drop, min, IfOk};
-ghost use Rattle.std.specs.List.{AllByRecursion};
+ghost use Rattle.tree_bound.specs.Settings.{neighbours_in, problem_in, version_in, BeginsIn, IsBoundIn};
+ghost use Rattle.std.specs.Prelude.{◌≡◌, ◌<◌, ◌≤◌, [], ◌∷◌, ◌++◌, length, drop, IfOk};
 ghost use Rattle.solomon_reader.specs.Problem.{customer_count};
-ghost use Rattle.solomon_reader.specs.CertificateText.{IsPrice};
-ghost use Rattle.solomon_reader.specs.Bound.{Tree, leaf, preorder, HasBound, IsTreeBound};
-ghost use Rattle.certificate.specs.Text.{version_of};
+ghost use Rattle.solomon_reader.specs.Bound.{Tree, leaf, preorder, IsTreeBound};
 ghost use Rattle.certificate.specs.Tree.{nodes_of};
 ghost use Rattle.leaf_arcs.specs.Decisions.{region_of};
-ghost use Rattle.tree_bound.specs.Nodes.{Begins, IsBoundOf};
+ghost use Rattle.tree_bound.specs.Nodes.{IsLeafAt, IsLesserAt, prices_of};
 
 use crate::fault::BoundFault;
+use crate::leaf_sets::priced_sets;
 use crate::setting::Setting;
 use crate::value::lesser_value;
-use certificate::{Cert, CertNode};
+use certificate::{Cert, CertNode, SetPrice};
 use leaf_arcs::Decision;
 use solomon_reader::Instance;
-use std::alloc::Global;
+use std::alloc::{AllocFailed, Global};
 use tenths::Tenths;
 
 /// The least of a number of tenths and a tree's bound, the index after the tree's nodes, and how fine floors
@@ -27,6 +25,47 @@ struct Subtree {
     bound: u32,
     next: usize,
     level: usize,
+}
+
+/// The lesser of a number of tenths and the value of a leaf below the decisions of a path, with the index after
+/// the leaf's node.
+fn bound_at_leaf(
+    alloc: Global,
+    setting: &Setting<'_>,
+    path: &[Decision],
+    prices: &[i64],
+    set_prices: &[SetPrice],
+    next: usize,
+    most: u32,
+    level: usize,
+) -> Result<Subtree, BoundFault>
+    requires shaped { IsLeafAt (version_in setting.now) (customer_count (problem_in setting.now))
+        (prices_of prices.now set_prices.now) }
+    ensures next { IfOk result (λ t. t.next ≡ next) }
+    ensures lesser { IfOk result (λ t. IsLesserAt
+        (version_in setting.now) (problem_in setting.now)
+        (region_of (customer_count (problem_in setting.now)) path.now)
+        (neighbours_in setting.now) (prices_of prices.now set_prices.now) most t.bound) }
+{
+    let sets = priced_sets(alloc, setting.version.sets(), set_prices)?;
+    let lesser = lesser_value(alloc, setting, path, prices, sets.as_slice(), most, level)?;
+    Ok(Subtree {
+        bound: lesser.bound,
+        next,
+        level: lesser.level,
+    })
+}
+
+/// Adds a decision to a path.
+fn decide(
+    path: &mut Vec<Decision>,
+    from: u16,
+    to: u16,
+    required: bool,
+) -> Result<(), AllocFailed<Decision>>
+    ensures { IfOk result (λ _. path.new.items ≡ path.old.items ++ (record { from = from; to = to; required = required } ∷ [])) }
+{
+    path.push(Decision { from, to, required })
 }
 
 /// The lesser of a number of tenths and the bound of the tree whose nodes begin at an index, below the
@@ -42,46 +81,46 @@ fn bound_at(
 ) -> Result<Subtree, BoundFault>
     requires most { most ≤ setting.now.most }
     requires within { at < length nodes.now }
-    requires begins { Begins (region_of (customer_count (problem_in setting.now)) path.old.items)
-        (drop at (nodes_of nodes.now)) }
+    requires begins { BeginsIn setting.now path.old.items (drop at (nodes_of nodes.now)) }
     ensures path { IfOk result (λ _. path.new.items ≡ path.old.items) }
     ensures onward { IfOk result (λ t. at < t.next) }
     ensures less { IfOk result (λ t. t.bound ≤ most) }
-    ensures bound { IfOk result (λ t. IsBoundOf
-        (version_of setting.now.version) (problem_in setting.now) (neighbours_in setting.now)
-        (region_of (customer_count (problem_in setting.now)) path.old.items)
+    ensures bound { IfOk result (λ t. IsBoundIn setting.now path.old.items
         (drop at (nodes_of nodes.now)) most t.bound (drop t.next (nodes_of nodes.now))) }
 {
     match &nodes[at] {
         CertNode::Leaf(prices) => {
-            let found = lesser_value(
+            let found = bound_at_leaf(
                 alloc,
                 setting,
                 path.as_slice(),
                 prices.as_slice(),
+                &[],
+                at + 1,
                 most,
                 level,
             )?;
-            Ok(Subtree {
-                bound: found.bound,
-                next: at + 1,
-                level: found.level,
-            })
+            Ok(found)
+        }
+        CertNode::SetLeaf { prices, set_prices } => {
+            let found = bound_at_leaf(
+                alloc,
+                setting,
+                path.as_slice(),
+                prices.as_slice(),
+                set_prices.as_slice(),
+                at + 1,
+                most,
+                level,
+            )?;
+            Ok(found)
         }
         CertNode::Split { from, to } => {
             let depth = path.len();
-            path.push(Decision {
-                from: *from,
-                to: *to,
-                required: true,
-            })?;
+            decide(path, *from, *to, true)?;
             let used = bound_at(alloc, setting, nodes, at + 1, path, most, level)?;
             path.truncate(depth);
-            path.push(Decision {
-                from: *from,
-                to: *to,
-                required: false,
-            })?;
+            decide(path, *from, *to, false)?;
             let unused = bound_at(
                 alloc, setting, nodes, used.next, path, used.bound, used.level,
             )?;
@@ -96,7 +135,8 @@ fn bound_at(
 /// ceiling, there is no plan.
 ///
 /// The value of a leaf follows from its prices and the least reduced cost of a relaxed route that the
-/// decisions on its path allow, as the certificate's version says. Whether it is less than the least so
+/// decisions on its path allow, as the certificate's version says. Where sets have a price at the leaf, a route is
+/// paid it at each entry, and the value has it for all needed entries. Whether it is less than the least so
 /// far is found by keeping, for each last customer, load and memory, the pairs of time and cost that no
 /// other dominates, and from which a route may still come that lowers it.
 ///

@@ -1,32 +1,28 @@
 //! The value of a leaf.
 
-ghost use Rattle.tree_bound.specs.Settings.{neighbours_in, problem_in};
+ghost use Rattle.tree_bound.specs.Settings.{neighbours_in, problem_in, version_in};
 ghost use Rattle.std.specs.Prelude.{◌≡◌, ◌+◌, ◌*◌, ◌<◌, ◌≤◌, ◌^◌, ◌⊎◌, length, None, IfOk, IfSome, pos, ◌-ℤ◌};
 ghost use Rattle.std.specs.List.{AllByRecursion};
 ghost use Rattle.solomon_reader.specs.Problem.{customer_count};
 ghost use Rattle.solomon_reader.specs.Relaxed.{int_sum};
-ghost use Rattle.solomon_reader.specs.Bound.{IsRoundedUp, grains_of};
+ghost use Rattle.solomon_reader.specs.Bound.{IsRoundedUp};
+ghost use Rattle.solomon_reader.specs.SetPrices.{paid_for_needs};
 ghost use Rattle.solomon_reader.specs.CertificateText.{IsPrice};
-ghost use Rattle.solomon_reader.specs.declared.limits.TheConstants.{MOST_CUSTOMERS, MOST_PRICE};
-ghost use Rattle.certificate.specs.Text.{version_of};
+ghost use Rattle.solomon_reader.specs.declared.limits.TheConstants.{MOST_CUSTOMERS, MOST_NEED, MOST_PRICE};
 ghost use Rattle.tree_bound.specs.Cover.{or_zero};
 ghost use Rattle.leaf_arcs.specs.Decisions.{region_of};
+ghost use Rattle.leaf_arcs.specs.Sets.{price_sum, sets_of};
 ghost use Rattle.solomon_reader.specs.SumLaws.{up, down};
-ghost use Rattle.tree_bound.specs.Grains.{IsWorth, IsLowered, IsLesserValue};
+ghost use Rattle.tree_bound.specs.Grains.{ArePrices, IsSmall, IsWorth, IsLowered, IsLesserValue, grains_by, leaf_sum, sum_in};
 
+use crate::difference::Difference;
 use crate::dive::dive;
 use crate::fault::BoundFault;
 use crate::setting::Setting;
 use crate::work::least;
-use leaf_arcs::{Decision, Leaf, Task};
+use leaf_arcs::{Decision, Leaf, PricedSet, Task};
+use solomon_reader::Instance;
 use std::alloc::Global;
-
-/// A number of grains, as a difference.
-#[derive(Clone, Copy)]
-struct Difference {
-    above: u64,
-    below: u64,
-}
 
 /// The sum of the prices.
 fn sum_of(prices: &[i64]) -> Difference
@@ -46,6 +42,34 @@ fn sum_of(prices: &[i64]) -> Difference
         }
     }
     Difference { above, below }
+}
+
+/// What all needed entries of sets are paid.
+fn needs_of(sets: &[PricedSet<'_>]) -> u64
+    requires within { price_sum (sets_of sets.now) ≤ MOST_PRICE }
+    requires needs { AllByRecursion (λ s. s.need ≤ MOST_NEED) (sets_of sets.now) }
+    ensures value { result ≡ paid_for_needs (sets_of sets.now) }
+    ensures bound { result ≤ MOST_PRICE * MOST_NEED }
+{
+    let mut grains: u64 = 0;
+    for set in sets {
+        grains += set.price * u64::from(set.need);
+    }
+    grains
+}
+
+/// The sum of the prices, and of what all needed entries of sets are paid.
+fn leaf_sum(instance: &Instance, prices: &[i64], sets: &[PricedSet<'_>]) -> Difference
+    requires { ArePrices instance.now prices.now (sets_of sets.now) }
+    ensures value { sum_in result ≡ leaf_sum prices.now (sets_of sets.now) }
+    ensures small { IsSmall result }
+{
+    instance.law_of_limits();
+    let sum = sum_of(prices);
+    Difference {
+        above: sum.above + needs_of(sets),
+        below: sum.below,
+    }
 }
 
 /// The least reduced cost, 0 where there is none, as a difference of which one side is 0.
@@ -84,27 +108,22 @@ fn round_up(sum: Difference, fleet: u16, routes: u32, least: Difference) -> u128
     above.saturating_sub(below).div_ceil(1000)
 }
 
-/// The value of a leaf with these prices, in tenths, if this is its least reduced cost; `None` stands for 0.
-fn value_at(setting: &Setting<'_>, prices: &[i64], least: Option<i64>) -> u128
-    requires count { length prices.now ≡ customer_count (problem_in setting.now) }
-    requires priced { AllByRecursion IsPrice prices.now }
-    ensures { IsRoundedUp (grains_of (version_of setting.now.version)
-        (problem_in setting.now) prices.now (or_zero least)) result }
+/// The value of a leaf with this sum, in tenths, if this is its least reduced cost; `None` stands for 0.
+fn value_at(setting: &Setting<'_>, sum: Difference, least: Option<i64>) -> u128
+    ensures { IsRoundedUp (grains_by (version_in setting.now)
+        (problem_in setting.now) (sum_in sum) (or_zero least)) result }
 {
     let instance = setting.network.neighbours.instance;
     instance.law_of_limits();
-    let sum = sum_of(prices);
     round_up(sum, instance.fleet(), setting.routes, difference_of(least))
 }
 
 /// About the least reduced cost with which a leaf's value is this many tenths: nothing is said of it.
-fn guess_limit(setting: &Setting<'_>, prices: &[i64], most: u32) -> i64
-    requires count { length prices.now ≡ customer_count (problem_in setting.now) }
-    requires priced { AllByRecursion IsPrice prices.now }
+fn guess_limit(setting: &Setting<'_>, sum: Difference, most: u32) -> i64
+    requires { IsSmall sum }
 {
     let instance = setting.network.neighbours.instance;
     instance.law_of_limits();
-    let sum = sum_of(prices);
     let wanted = (1000 * u64::from(most) + sum.below).saturating_sub(999);
     let fleet = u64::from(instance.fleet()).max(1);
     if sum.above >= wanted {
@@ -117,20 +136,19 @@ fn guess_limit(setting: &Setting<'_>, prices: &[i64], most: u32) -> i64
 
 /// A reduced cost with which a leaf's value is this many tenths or more; `None` where no relaxed route is known
 /// and the value without any is less.
-fn limit_of(setting: &Setting<'_>, prices: &[i64], most: u32, known: Option<i64>) -> Option<i64>
-    requires count { length prices.now ≡ customer_count (problem_in setting.now) }
-    requires priced { AllByRecursion IsPrice prices.now }
+fn limit_of(setting: &Setting<'_>, sum: Difference, most: u32, known: Option<i64>) -> Option<i64>
+    requires { IsSmall sum }
     ensures worth { IfSome result (λ t. IsWorth
-        (version_of setting.now.version) (problem_in setting.now) prices.now t most) }
+        (version_in setting.now) (problem_in setting.now) (sum_in sum) t most) }
     ensures routeless { IfSome result (λ _. known ≡ None
-        → IsWorth (version_of setting.now.version) (problem_in setting.now) prices.now
+        → IsWorth (version_in setting.now) (problem_in setting.now) (sum_in sum)
         (pos 0) most) }
 {
-    if known.is_none() && value_at(setting, prices, None) < u128::from(most) {
+    if known.is_none() && value_at(setting, sum, None) < u128::from(most) {
         return None;
     }
-    let limit = Some(guess_limit(setting, prices, most));
-    if value_at(setting, prices, limit) >= u128::from(most) {
+    let limit = Some(guess_limit(setting, sum, most));
+    if value_at(setting, sum, limit) >= u128::from(most) {
         return limit;
     }
     None
@@ -138,16 +156,14 @@ fn limit_of(setting: &Setting<'_>, prices: &[i64], most: u32, known: Option<i64>
 
 /// A number of tenths, or less where the leaf's value is known to be less: by the reduced cost of a relaxed
 /// route, or, where no routes are counted on, as one without relaxed routes.
-fn lowered(setting: &Setting<'_>, prices: &[i64], most: u32, known: Option<i64>) -> u32
-    requires count { length prices.now ≡ customer_count (problem_in setting.now) }
-    requires priced { AllByRecursion IsPrice prices.now }
+fn lowered(setting: &Setting<'_>, sum: Difference, most: u32, known: Option<i64>) -> u32
     ensures { (result ≡ most) ⊎ IsLowered
-        (version_of setting.now.version) (problem_in setting.now) prices.now known most result }
+        (version_in setting.now) (problem_in setting.now) (sum_in sum) known most result }
 {
     if known.is_none() && setting.routes > 0 {
         return most;
     }
-    u128::from(most).min(value_at(setting, prices, known)) as u32
+    u128::from(most).min(value_at(setting, sum, known)) as u32
 }
 
 /// The lesser of a number of tenths and the value of a leaf, and how fine floors of the next one are to be.
@@ -157,41 +173,43 @@ pub(crate) struct Lesser {
     pub(crate) level: usize,
 }
 
-/// The lesser of a number of tenths and the value of the leaf with these decisions on its path and these
-/// prices. Where the value isn't less, it isn't found.
+/// The lesser of a number of tenths and the value of the leaf with these decisions on its path, these prices
+/// and these sets. Where the value isn't less, it isn't found.
 pub(crate) fn lesser_value(
     alloc: Global,
     setting: &Setting<'_>,
     path: &[Decision],
     prices: &[i64],
+    sets: &[PricedSet<'_>],
     most: u32,
     level: usize,
 ) -> Result<Lesser, BoundFault>
-    requires count { length prices.now ≡ customer_count (problem_in setting.now) }
-    requires priced { AllByRecursion IsPrice prices.now }
+    requires { ArePrices (problem_in setting.now) prices.now (sets_of sets.now) }
     ensures { IfOk result (λ b. IsLesserValue
-        (version_of setting.now.version) (problem_in setting.now)
+        (version_in setting.now) (problem_in setting.now)
         (region_of (customer_count (problem_in setting.now)) path.now)
-        (neighbours_in setting.now) prices.now most b.bound) }
+        (neighbours_in setting.now) prices.now (sets_of sets.now) most b.bound) }
 {
     let network = &setting.network;
     network.neighbours.instance.law_of_limits();
+    let sum = leaf_sum(network.neighbours.instance, prices, sets);
     let leaf = Leaf {
         network,
         path,
         prices,
+        sets,
     };
     let mut task = Task::new(alloc, leaf)?;
     let known = dive(&task);
-    let most = lowered(setting, prices, most, known);
+    let most = lowered(setting, sum, most, known);
     if most == 0 {
         return Ok(Lesser { bound: 0, level });
     }
-    task.limit = limit_of(setting, prices, most, known);
+    task.limit = limit_of(setting, sum, most, known);
     task.add_floors(alloc, level)?;
     let found = least(alloc, &mut task, setting.state_limit)?;
     Ok(Lesser {
-        bound: u128::from(most).min(value_at(setting, prices, found.cost)) as u32,
+        bound: u128::from(most).min(value_at(setting, sum, found.cost)) as u32,
         level: found.level,
     })
 }

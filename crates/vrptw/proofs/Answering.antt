@@ -56,7 +56,7 @@ module _ (p : Problem) (k limit : ℕ) (closed : Found) (is : IsClosed p k limit
   none_closed : closed.plan ≡ None → HasNoPlan p
   none_closed e routes plan =
       let above = rw e at is.meets in
-      absurd (omega (arith, above, tree_bound_holds version_2 p k is.tree.tree closed.bound routes is.tree.is_bound plan, ceiling_holds p routes plan))
+      absurd (omega (arith, above, tree_bound_holds version_2 p k is.tree.tree closed.bound routes tt is.tree.is_bound plan, ceiling_holds p routes plan))
 
   closes_with : (s s' c c' : Held) (answer : Answer) → Answers p k (closed.plan ≡ None) s s' c c' answer → IsOf closed.plan closed.bound answer → ClosesWith p k s s' c c' answer
   closes_with s s' c c' (Best cost) answers of = answers

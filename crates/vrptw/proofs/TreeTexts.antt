@@ -47,6 +47,8 @@ module _ (p : Problem) (k bound leaves : ℕ) (nodes : List TreeNode) (listed : 
     size = sized p.rows limits.rows;
     neighbours = few;
     bound = within;
+    listed = tt;
+    sets = omega arith;
     tree = listed.shaped;
     leaves = omega (arith, listed.counted, listed.few);
     depth = listed.depth;
@@ -109,12 +111,13 @@ module _ (p : Problem) (k : ℕ) (x : Content) (certified : IsCertified p k x) w
       spelled = refl;
       name = certified.name;
       size = certified.size;
+      needed = rw certified.version tt;
       is_bound = tree_bound;
     };
     version = certified.version;
     neighbours = certified.neighbours;
     printed = rw certified.is refl;
-    holds = rw certified.is (λ routes plan. tree_bound_holds version_2 p k certified.certificate.tree certified.certificate.bound routes certified.is_bound plan);
+    holds = rw certified.is (λ routes plan. tree_bound_holds version_2 p k certified.certificate.tree certified.certificate.bound routes tt certified.is_bound plan);
   }
 
   -- a bound above the ceiling is the ceiling plus one, and leaves no plan

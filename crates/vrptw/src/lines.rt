@@ -164,13 +164,12 @@ pub(crate) fn check_fault<Y: Sink>(alloc: Global, fault: CheckFault, errors: &mu
         CheckFault::StateLimit => fail(errors, "vrptw: limit: StateLimit\n", LIMIT),
         CheckFault::OtherName => fail(errors, "vrptw: check: OtherName\n", CHECK),
         CheckFault::OtherSize => fail(errors, "vrptw: check: OtherSize\n", CHECK),
+        CheckFault::NeedTooGreat { .. } => {
+            fail_as(errors, format!(in alloc; "vrptw: check: {fault}\n"), CHECK)
+        }
         CheckFault::BoundDiffers { printed, derived } => {
-            fail_with(
-                errors,
-                "vrptw: check: BoundDiffers",
-                &[printed, derived],
-                CHECK,
-            )
+            let numbers = [printed, derived];
+            fail_with(errors, "vrptw: check: BoundDiffers", &numbers, CHECK)
         }
         CheckFault::CostDiffers { printed, real } => {
             fail_with(errors, "vrptw: check: CostDiffers", &[printed, real], CHECK)

@@ -15,7 +15,8 @@ use Rattle.solomon_reader.specs.Relaxed.{IsRelaxed}
 use Rattle.solomon_reader.specs.ArcOrder.{none_in_empty}
 use Rattle.solomon_reader.specs.CountLaws.{mark-same, count-cons, count_positive}
 use Rattle.solomon_reader.specs.CustomerSets.{CanServe, IsTooMuchInTime}
-use Rattle.solomon_reader.specs.SetBound.{reduced_cost_with, IsLeastWith, IsLeafValueWith}
+use Rattle.solomon_reader.specs.SetPrices.{reduced_cost_with, IsLeastWith}
+use Rattle.solomon_reader.specs.Bound.{version_2, IsLeafValueWith}
 use Rattle.solomon_reader.specs.Rows.{narrow, by_detour, busy, pair_priced}
 use Rattle.solomon_reader.proofs.Narrow.{fitting_single, two_alone, no_repeat}
 use Rattle.solomon_reader.proofs.laws.worked_sets.Goals as goal
@@ -67,7 +68,7 @@ least : IsLeastWith narrow (root_region 2) 8 (pos 0 ∷ pos 100000 ∷ []) (pair
 unfolding distance distance_of root_of root_below
 least = record { reached = (2 ∷ [], relaxed, omega (arith, ints)); least = lowest }
 
-value : IsLeafValueWith narrow (root_region 2) 8 (pos 0 ∷ pos 100000 ∷ []) (pair_priced ∷ []) 300
+value : IsLeafValueWith version_2 narrow (root_region 2) 8 (pos 0 ∷ pos 100000 ∷ []) (pair_priced ∷ []) 300
 value = record { priced = refl; least = pos 0; is_least = inl least; rounded = record { covers = omega (arith, ints); least = λ w h. omega (arith, ints) } }
 
 in_time : CanServe by_detour 0 0 (2 ∷ [])

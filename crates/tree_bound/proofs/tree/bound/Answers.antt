@@ -7,11 +7,11 @@ use Rattle.tree_bound.proofs.tree.bound.Goals as goal
 pub bound_at-requires-clause-begins : goal.bound_at-requires-clause-begins
 bound_at-requires-clause-begins c =
     let nodes : nodes_of c.as_slice-nodes.result.now ≡ c.args.cert.now.nodes = ap nodes_of c.as_slice-nodes.ensures.value ∙ ap (λ (x : Content). x.nodes) c.parts.ensures.value in
-    rw (c.in_ok-setting.ensures.instance, c.new-path.ensures.items)
+    rw (c.in_ok-setting.ensures.instance, c.in_ok-setting.ensures.version, c.new-path.ensures.items)
     (nodes_begin c.args.cert.now c.parts.ensures.has_text c.args.instance.now c.requires.size (nodes_of c.as_slice-nodes.result.now) nodes)
 
 pub bound_at-requires-clause-within : goal.bound_at-requires-clause-within
-bound_at-requires-clause-within c = begins_some _ c.as_slice-nodes.result.now 0 (bound_at-requires-clause-begins c)
+bound_at-requires-clause-within c = begins_some _ _ c.as_slice-nodes.result.now 0 (bound_at-requires-clause-begins c)
 
 pub returns : goal.returns
 returns c =

@@ -1,0 +1,8 @@
+use Rattle.std.proofs.Common.{take, ◌++◌, decimal}
+use Rattle.std.specs.List.{flat_map}
+use Rattle.tenths.specs.Sink.{Takes}
+use Rattle.tenths.specs.Text.{spaced}
+use Rattle.certificate.proofs.writing.write_each_price.Given as goal
+
+abbrev pub invariant-loop-priced : goal.invariant-loop-priced
+invariant-loop-priced g l = Takes (g.W.Sink.held l.fn.sink) (g.W.Sink.held l.sink) (flat_map (λ m. spaced (decimal m.set) ++ spaced (decimal m.price)) (take l.priced-index l.set_prices))

@@ -1,0 +1,6 @@
+use Rattle.leaf_arcs.specs.Sets.{set_of}
+use Rattle.leaf_arcs.proofs.Entering.{Entering}
+use Rattle.leaf_arcs.proofs.entries.enter.Given as goal
+
+abbrev pub invariant-loop-member : goal.invariant-loop-member
+invariant-loop-member l = Entering (set_of l.set) l.initial.paid l.paid l.member-index

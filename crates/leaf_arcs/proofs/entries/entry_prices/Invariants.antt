@@ -1,0 +1,5 @@
+use Rattle.leaf_arcs.proofs.Entering.{Paying}
+use Rattle.leaf_arcs.proofs.entries.entry_prices.Given as goal
+
+abbrev pub invariant-loop-set : goal.invariant-loop-set
+invariant-loop-set l = Paying l.leaf.sets.now l.v l.count l.grains l.set-index

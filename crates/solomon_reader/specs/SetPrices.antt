@@ -1,0 +1,65 @@
+-- Sets of customers that have prices, and what a route is paid for entering them.
+use Rattle.std.specs.Prelude.{◌≡◌, ℕ, ◌-◌, ◌*◌, cond, List, [], map, slice_index_or, ℤ, pos, ◌+ℤ◌, ◌-ℤ◌, ◌≤ℤ◌, ◌⊎◌}
+use Rattle.std.specs.List.{sum_by, AllByRecursion}
+use Rattle.solomon_reader.specs.Problem.{Problem, customer_count}
+use Rattle.solomon_reader.specs.Plan.{Arc}
+use Rattle.solomon_reader.specs.Region.{Region}
+use Rattle.solomon_reader.specs.Relaxed.{IsRelaxed, reduced_cost, price_of}
+use Rattle.solomon_reader.specs.CustomerSets.{enters, entries, IsCustomerSet, IsNeeded}
+
+-- a set of customers, and how many entries it is said to need
+pub record ListedSet : Type 0 where
+  pub members : List ℕ
+  pub need : ℕ
+
+-- the same with a price in grains, which a route is paid at each entry
+pub record PricedSet : Type 0 where
+  pub members : List ℕ
+  pub need : ℕ
+  pub price : ℕ
+
+-- the price of a set at a leaf: the set's place in the list of sets, from 1, and grains
+abbrev pub SetPrice : Type 0
+SetPrice = ℕ × ℕ
+
+-- the sets that have a price at a leaf, out of the list of sets
+abbrev pub priced_sets : List ListedSet → List SetPrice → List PricedSet
+priced_sets sets prices = map (λ m. (let s = slice_index_or sets (m.0 - 1) (record { members = []; need = 0 }) in
+    record { members = s.members; need = s.need; price = m.1 })) prices
+
+-- a set of the instance's customers that needs as many entries as it is said to
+pub record IsTrueNeed (p : Problem) (members : List ℕ) (need : ℕ) : Type 0 where
+  pub set : IsCustomerSet (customer_count p) members
+  pub needed : IsNeeded p members need
+
+abbrev pub AreTrueNeeds : Problem → List ListedSet → Type 0
+AreTrueNeeds p sets = AllByRecursion (λ s. IsTrueNeed p s.members s.need) sets
+
+-- what a route is paid for its entries, in grains
+abbrev pub paid_for_entries : List PricedSet → List ℕ → ℕ
+paid_for_entries sets r = sum_by (λ s. s.price * entries s.members r) sets
+
+-- what all needed entries are paid, in grains
+abbrev pub paid_for_needs : List PricedSet → ℕ
+paid_for_needs sets = sum_by (λ s. s.price * s.need) sets
+
+-- in grains: the cost less the prices of the stops and of the sets, each as often as the route enters it
+abbrev pub reduced_cost_with : Problem → List ℤ → List PricedSet → List ℕ → ℤ
+reduced_cost_with p prices sets r = reduced_cost p prices r -ℤ pos (paid_for_entries sets r)
+
+-- m is the least reduced cost of a relaxed route
+pub record IsLeastWith (p : Problem) (g : Region) (k : ℕ) (prices : List ℤ) (sets : List PricedSet) (m : ℤ) : Type 0 where
+  pub reached : (r : List ℕ) × IsRelaxed p g k r × (reduced_cost_with p prices sets r ≡ m)
+  pub least : (r : List ℕ) → IsRelaxed p g k r → m ≤ℤ reduced_cost_with p prices sets r
+
+-- m is the least reduced cost, or 0 where no route is relaxed
+abbrev pub IsLeastOrZeroWith : Problem → Region → ℕ → List ℤ → List PricedSet → ℤ → Type 0
+IsLeastOrZeroWith p g k prices sets m = IsLeastWith p g k prices sets m ⊎ (((r : List ℕ) → ¬ IsRelaxed p g k r) × (m ≡ pos 0))
+
+-- what a step over the arc is paid for the sets that it enters, in grains
+abbrev pub paid_over : List PricedSet → Arc → ℕ
+paid_over sets a = sum_by (λ s. cond (enters s.members a) s.price 0) sets
+
+-- a step from i to j is paid the price of j, and those of the sets that it enters
+unfoldable pub by_sets : List ℤ → List PricedSet → ℕ → ℕ → ℤ
+by_sets prices sets i j = price_of prices j +ℤ pos (paid_over sets (i, j))
