@@ -17,7 +17,7 @@ use std::alloc::{AllocError, Global};
 const PROGRAM: &str = "vrptw";
 
 /// What `--version` prints behind the program's name.
-const VERSION: &str = "1.12.0 (writes certificates of version 2, reads versions 1 and 2)";
+const VERSION: &str = "1.13.0 (writes certificates of version 2, reads 1, 2 and those with sets)";
 
 /// A path that has to be given.
 fn path<'a>(alloc: Global, id: &'a str, help: &'a str) -> Arg<'a>
