@@ -62,9 +62,8 @@ r/asked.txt: --mem=0 --time 1 job_0.sh & -: 1 BEST
 batch i.txt --into r --best best.txt|0|-: 1 best known costs: 1 met
 batch i.txt --into r ; batch i.txt --into r --status|0|-: 1 BEST
 batch i.txt --into r --program {program}|0|-: 1 BEST
-batch i.txt --into many --status|1|-: wrong: vrptw: certificate: BadLine line 1
-batch i.txt --into many|0|many/i/certificate.txt: VRPTW-CERT 2 & -: 1 BEST & \
---: i is solved anew: wrong: vrptw: certificate: BadLine line 1
+batch i.txt --into many --status|0|-: 1 BEST
+batch i.txt --into many|0|many/i/certificate.txt: VRPTW-SETS 1 & -: 1 BEST
 carry i.txt p.txt i.txt --names names.csv --changed-names names.csv|0|-: Route #1: 1 2
 convert i.txt o.vrp --to vrplib|0|o.vrp: DIMENSION : 3
 convert i.txt - --to solomon|0|-: CUST NO.
@@ -82,8 +81,9 @@ draw i.txt p.txt --tree k.txt|0|-: </svg>
 draw i.txt p.txt --tree sets.txt --names names.csv|0|-: Leaf 1 has the value 20.0,
 fewest i.txt --into f --seconds 30 --searchers 1 --bounders 1 --labels 1000 --neighbours 4 --seed 3|0|-: FEWEST 1 BEST
 fewest i.txt --into f --seconds 30 --program {program} ; fewest i.txt --into f --check|0|-: FEWEST 1 BEST 20.0
-fewest i.txt --into few_held --seconds 30|0|few_held/1.certificate: VRPTW-CERT 2 & -: FEWEST 1 BEST 20.0 & \
---: 1.certificate isn't gone on from: vrptw: certificate: BadLine line 1
+fewest i.txt --into few_held --seconds 30|0|few_held/1.certificate: VRPTW-SETS 1 & -: FEWEST 1 BEST 20.0
+fewest i.txt --into few_held --check|1|-: FEWEST 1 OPEN
+report i.txt p.txt k.txt --fewest few_held -o r.html|0|r.html: </html>
 large_trees i.txt --minutes 0.06 --turns 2,default --jobs 1 --seed 5 --solver {program}|0|-: 2 certificates, & \
 -: , 0 disagreements
 large_trees i.txt --minutes 0.02 --turns 2 --jobs 1 --program {program}|0|-: 1 certificates, & -: , 0 disagreements
@@ -97,8 +97,7 @@ d/names.csv: 2,b & -: No plan does without a vehicle.
 plan i.txt --into d --searchers 1 --bounders 1 --labels 1000 --neighbours 4 --seed 3 --gap 5 --seconds 30|0|\
 d/plan.txt: Cost 20.0
 plan i.txt --into d --seconds 30 --program {program}|0|-: 20.0
-plan i.txt --into held --seconds 30|0|held/certificate.txt: VRPTW-CERT 2 & -: 20.0 & \
---: held/certificate.txt isn't gone on from: vrptw: certificate: BadLine line 1
+plan i.txt --into held --seconds 30|0|held/certificate.txt: VRPTW-SETS 1 & -: 20.0
 recheck i.txt k.txt p.txt --jobs 1 --labels 1000|0|-: GAP 20.0 0.0
 recheck i.txt sets.txt p.txt --jobs 1 --labels 1000|0|-: BEST 20.0
 report i.txt p.txt k.txt --tree --jobs 1 -o r.html|0|r.html: <section id="the-certificates-tree">
@@ -106,6 +105,9 @@ report i.txt p.txt k.txt --tree --names names.csv --output r.html|0|r.html: <sec
 fewest i.txt --into f --seconds 30 ; report i.txt p.txt k.txt --fewest f -o r.html|0|\
 r.html: No plan does without a vehicle.
 report i.txt p.txt k.txt --program {program}|0|-: </html>
+report i.txt p.txt sets.txt -o r.html|0|r.html: </html>
+report i.txt p.txt sets.txt --tree --jobs 1|0|-: <section id="the-certificates-tree">
+report both.txt empty.txt none_sets.txt -o r.html|0|r.html: </html>
 respell i.txt list.txt --from-zero|0|-: Route #1: 1 2
 respell i.txt named.txt --names names.csv --certificate c.txt|0|c.txt: BOUND 0.0 & -: Cost 20.0
 respell i.txt p.txt --scale 2|0|-: Cost 20.0
@@ -169,7 +171,6 @@ fewest i.txt --into f --labels x|--labels|2|met "x"
 fewest i.txt --into f --neighbours 16|--neighbours|2|met "16"
 fewest i.txt --into f --seed -1|--seed|2|
 fewest i.txt --into f --program nowhere|--program|1|nowhere: met no program
-fewest i.txt --into few_held --check||1|few_held: vrptw check says of 1 vehicles: vrptw: certificate: BadLine line 1
 large_trees i.txt --minutes x|--minutes|2|met "x"
 large_trees i.txt --minutes 0|--minutes|2|met "0"
 large_trees i.txt --turns 5,x|--turns|2|met "5,x"
@@ -203,10 +204,6 @@ report i.txt p.txt k.txt --names nowhere -o r.html|--names|1|nowhere: No such fi
 report i.txt p.txt k.txt --fewest p.txt -o r.html|--fewest|1|p.txt: met no folder
 report i.txt p.txt k.txt --tree --jobs x -o r.html|--jobs|2|met "x"
 report i.txt p.txt k.txt --program nowhere -o r.html|--program|1|nowhere: met no program
-report i.txt p.txt sets.txt -o r.html||1|sets.txt: vrptw check says: vrptw: certificate: BadLine line 1
-report i.txt p.txt sets.txt --tree --jobs 1||1|sets.txt: vrptw check says: vrptw: certificate: BadLine line 1
-report both.txt empty.txt none_sets.txt -o r.html||1|none_sets.txt: vrptw check says: vrptw: certificate: BadLine line 1
-report i.txt p.txt k.txt --fewest few_held -o r.html||1|few_held: vrptw check says of 1 vehicles: vrptw: certificate:
 respell i.txt p.txt --names nowhere|--names|1|nowhere: No such file
 respell i.txt p.txt --certificate nowhere/c|--certificate|1|nowhere/c: No such file
 respell i.txt p.txt --scale 0|--scale|2|met "0"

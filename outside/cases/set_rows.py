@@ -73,7 +73,7 @@ over|0.0|S 2 2 3 4;TREE;P 0 0 0 0;M;||line 6: met a need of 2 (NeedTooGreat), wa
 room|3.0|S 1 1 3;TREE;P 0 20000 0;M 1 30000;|Route #1: 1 2 3;Cost 6.0;|GAP 6.0 3.0
 room|2.0|S 1 1 2;TREE;P 0 0 0;M 1 30000;||BOUND 2.0
 room|2.0|S 1 1 2;P 0 0 0;||line 7: met "P 0 0 0" (BadLine), wanted a certificate with sets of \
-outside/README.md
+docs/formats.md
 """
 
 HEAD = "VRPTW-SETS 1;INSTANCE T;CUSTOMERS 3;NEIGHBOURS 8;BOUND 0.0;"
@@ -81,7 +81,7 @@ HEAD = "VRPTW-SETS 1;INSTANCE T;CUSTOMERS 3;NEIGHBOURS 8;BOUND 0.0;"
 # carriage return.
 SPELLED = """
 TREE;P 0 0 0;M;END;|
-S 1 1 2;S 4000000 1 2 3;TREE;P 0 0 0;M 1 1 2 1000000000000;END;|
+S 1 1 2;S 4000000 1 2 3;TREE;P 0 0 0;M 1 1 2 999999999999;END;|
 S 1 1 2;S 1 1 2;TREE;P 0 0 0;M 2 7;END;|
 S 1 1 2;TREE;S 0 1;P 0 0 0;M 1 5;S 1 0;P -1 0 0;M;P 0 0 0;M 1 7;END;|
 S 1 1 2|Truncated
@@ -124,6 +124,9 @@ S 1 1 2;S 1 1 3;TREE;P 0 0 0;M 2 5 1 5;|BadSet line 10
 S 1 1 2;TREE;P 0 0 0;M 2 0;|BadSet line 9
 S 1 1 2;TREE;P 0 0 0;M 1 0;|PriceRange line 9
 S 1 1 2;TREE;P 0 0 0;M 1 1000000000001;|PriceRange line 9
+S 1 1 2;TREE;P 0 0 -1;M 1 1000000000000;|PriceRange line 9
+S 1 1 2;S 1 1 3;TREE;P 0 0 0;M 1 500000000000 2 500000000001;|PriceRange line 10
+S 1 1 2;S 1 1 3;TREE;P 0 1 0;M 1 500000000000 2 499999999999;END;|
 S 1 1 2;TREE;P 0 0 1000000000001;M 1 5;|PriceRange line 8
 S 1 1 2;TREE;S 0 4;|BadArc line 8
 S 1 1 2;TREE;S 0 1;P 0 0 0;M 1 5;S 0 1;|ArcDecided line 11

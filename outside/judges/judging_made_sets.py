@@ -2,7 +2,7 @@
 import os
 
 from judges.judging_layouts import text_of, tool
-from judges.judging_sets import drawn, said_by_recheck
+from judges.judging_sets import demand_checked, drawn, said_by_recheck
 from judges.running import demand, got, put
 from reference import bounding, checking
 from reference.instances import read
@@ -51,23 +51,25 @@ def with_words(text, at, change):
     return "\n".join(lines).encode(), lines[at]
 
 
-def demand_said(folder, instance, text, said):
+def demand_said(program, folder, instance, text, said):
+    """What recheck says of a text, and the program's check."""
     came = said_by_recheck(folder, text_of(instance), text)
     demand(came == said, "recheck: %r, and %r is right" % (came, said))
+    demand_checked(program, folder, text_of(instance), text, said)
 
 
-def judge_need(folder, random, instance, text):
+def judge_need(program, folder, random, instance, text):
     """One need above what the set needs."""
     at = random.randrange(len(read_either(text).sets))
     most = need(instance, read_either(text).sets[at].customers)
     more = most + random.choice([1, 1, 1, 1000])
     other, _ = with_words(text, FIRST_SET - 1 + at, lambda words: words.__setitem__(1, str(more)))
-    demand_said(folder, instance, other, "line %d: met a need of %d (NeedTooGreat), wanted at most %d" % (
+    demand_said(program, folder, instance, other, "line %d: met a need of %d (NeedTooGreat), wanted at most %d" % (
         FIRST_SET + at, more, most))
     return "need"
 
 
-def judge_order(folder, random, instance, text):
+def judge_order(program, folder, random, instance, text):
     """One set whose customers don't increase."""
     at, place = random.randrange(len(read_either(text).sets)), random.randint(2, 3)
 
@@ -77,12 +79,12 @@ def judge_order(folder, random, instance, text):
         else:
             words[2], words[3] = words[3], words[2]
     other, line = with_words(text, FIRST_SET - 1 + at, change)
-    demand_said(folder, instance, other, "line %d: met %s (BadSet), wanted a certificate with sets of "
-                "outside/README.md" % (FIRST_SET + at, quoted(line)))
+    demand_said(program, folder, instance, other, "line %d: met %s (BadSet), wanted a certificate with sets of "
+                "docs/formats.md" % (FIRST_SET + at, quoted(line)))
     return "order"
 
 
-def judge_price(folder, random, instance, text):
+def judge_price(program, folder, random, instance, text):
     """One price of a customer or a set changed, so that the bound is another one."""
     lines, bound = text.decode().split("\n"), read_either(text).bound
     places = [(at, place) for at, line in enumerate(lines) if at >= lines.index("TREE") and line[:2] in ("P ", "M ")
@@ -95,13 +97,13 @@ def judge_price(folder, random, instance, text):
         other, _ = with_words(text, at, lambda words: words.__setitem__(place, str(price)))
         least = bound_of(instance, other)
         if least != bound:
-            demand_said(folder, instance, other, "line 5: met a bound of %s, wanted that of the tree, %s" % (
+            demand_said(program, folder, instance, other, "line 5: met a bound of %s, wanted that of the tree, %s" % (
                 shown(bound), shown(least)))
             return "price of a %s" % ("set" if lines[at][0] == "M" else "customer")
     return "no price that counts"
 
 
-def judge_made(folder, random):
+def judge_made(program, folder, random):
     """A text of the maker: as asked for and each time the same, with the bound of its tree; then one thing wrong."""
     if random.randrange(8):
         instance = drawn(random, 1, 6)
@@ -122,12 +124,12 @@ def judge_made(folder, random):
         bound, cost = checking.tree_bound(instance, found, bounding.least_by_routes), least_cost(instance)
         demand(found.bound == bound and (cost is None or bound <= cost), "a bound of %d, by all routes %d, and a plan "
                "costs %r" % (found.bound, bound, cost))
-    demand_said(folder, instance, certificate, verdict(instance, found.bound))
+    demand_said(program, folder, instance, certificate, verdict(instance, found.bound))
     wrong = [judge_price] + ([judge_need, judge_order] if found.sets else [])
-    return random.choice(wrong)(folder, random, instance, certificate)
+    return random.choice(wrong)(program, folder, random, instance, certificate)
 
 
-def judge_priced(folder, random):
+def judge_priced(program, folder, random):
     """A certificate of set_prices: its bound is no higher than the least cost of all plans, and no lower than without
     sets; recheck says the same line of it."""
     instance = drawn(random, 2, 6)
@@ -141,7 +143,7 @@ def judge_priced(folder, random):
                "set_prices: status %d, %r" % (status, errors))
         found = read_either(got(paths[1]))
         demand(out.decode() == verdict(instance, found.bound) + "\n", "%r, and a bound of %d" % (out, found.bound))
-        demand_said(folder, instance, got(paths[1]), verdict(instance, found.bound))
+        demand_said(program, folder, instance, got(paths[1]), verdict(instance, found.bound))
         bounds.append(found.bound)
     bound = checking.tree_bound(instance, found, bounding.least_by_routes)
     demand(bounds[0] <= bounds[1] == bound and (cost is None or bound <= cost), "bounds of %r, by all routes %d, and a "

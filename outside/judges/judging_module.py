@@ -8,7 +8,6 @@ from judges.running import demand, put
 from reference.building import build
 from reference.instances import is_plan, plan_cost, read
 from reference.optimum import least_cost
-from reference.set_texts import SetCertificate, written
 from reference.texts import read_certificate, read_solution
 from tools.respelling import text_of
 import vrptw
@@ -60,12 +59,6 @@ def judge_cancelled(random, text, instance, cost, options):
     return "cancelled"
 
 
-def with_sets(text):
-    """A certificate with sets of the instance, which the program doesn't take."""
-    instance = read(text)
-    return written(SetCertificate(instance.name, instance.count, 8, 0, [], ("P", instance.count * [0], ())))
-
-
 def judge_faults(program, text, routes):
     """What the program says is raised with its line and its status."""
     for call, status, words in (
@@ -73,7 +66,7 @@ def judge_faults(program, text, routes):
             (lambda: vrptw.solve(text, turns=0, program=program), 2, "0 is not in 1..=1000000"),
             (lambda: vrptw.solve(text, start=b"x\n", program=program), 5, "vrptw: solution: BadLine line 1"),
             (lambda: vrptw.check(text, b"VRPTW-CERT 3\n", program=program), 5, "vrptw: certificate: BadLine line 1"),
-            (lambda: vrptw.check(text, with_sets(text), program=program), 5, "vrptw: certificate: BadLine line 1"),
+            (lambda: vrptw.check(text, b"VRPTW-SETS 1\n", program=program), 5, "vrptw: certificate: Truncated"),
             (lambda: vrptw.check(text, plan=routes + routes[:1], program=program), 5, "vrptw: plan: "),
             (lambda: vrptw.solve(text, program=os.devnull), None, "Permission denied")):
         try:

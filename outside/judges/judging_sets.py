@@ -4,14 +4,14 @@ import re
 from itertools import permutations
 
 from cases.mutating import changed_bytes, changed_number
-from cases.random_texts import laid_out
+from cases.random_texts import laid_out, plan_of, solution_of
 from cases.set_cases import drawn_set, forged, set_certificate, set_words, spoilt_line
-from cases.set_rows import SET_ROWS
+from cases.set_rows import BY_HAND, SET_ROWS
 from judges.judging import said_of
 from judges.judging_layouts import text_of, tool
-from judges.running import demand, put
+from judges.running import demand, put, run_check
 from reference import bounding, checking
-from reference.instances import read, walk, walk_times
+from reference.instances import plan_cost, read, walk, walk_times
 from reference.needs import entries, need
 from reference.optimum import least_cost
 from reference.pricing import Pricing, leaves
@@ -45,15 +45,38 @@ def demand_read(text, said):
     demand(said or written(read_either(text)) == text, "written again: %r" % text[-200:])
 
 
-def judge_set_row(folder, seed):
+def program_says(said):
+    """How the program's check begins what recheck or the reader says: on both streams."""
+    line = re.match(r"line (\d+): met a (need|bound) of", said)
+    if line:
+        return "", "vrptw: check: " + ("NeedTooGreat line %s\n" % line[1] if line[2] == "need" else "BoundDiffers ")
+    fault = re.match(r"line (\d+): met .* \((\w+)\), wanted a certificate", said)
+    if fault:
+        return "", "vrptw: certificate: %s line %s\n" % (fault[2], fault[1])
+    return said + "\n", ""
+
+
+def demand_checked(program, folder, instance, certificate, said, solution=b""):
+    """The program's check says of three texts what recheck says."""
+    out, errors, _ = run_check(program, folder, instance, certificate, solution or None)
+    wanted = program_says(said)
+    demand(out == wanted[0] and errors.startswith(wanted[1]) and bool(errors) == bool(wanted[1]),
+           "check: %r, %r, and %r is right" % (out, errors, wanted))
+
+
+def judge_set_row(program, folder, seed):
     """A row that was worked out by hand."""
     kind, *texts, said = SET_ROWS[seed]
     texts = [text.encode() for text in texts]
     if kind == "read":
         demand_read(texts[0], said)
+        errors = run_check(program, folder, BY_HAND["three"].encode(), texts[0], None)[1]
+        demand(errors == "vrptw: certificate: %s\n" % said if said else not errors.startswith("vrptw: certificate"),
+               "check: %r, and %r is right" % (errors, said))
         return "read: %s" % (said.split(" ")[0] or "whole")
     came = said_by_recheck(folder, *texts)
     demand(came == said, "%r: %r, and %r is right" % (texts[1], came, said))
+    demand_checked(program, folder, texts[0], texts[1], said, texts[2])
     return "recheck: %s" % (said.split(" ")[0])
 
 
@@ -204,3 +227,36 @@ def judge_set_text(folder, random):
     kind, other = forged(random, found, text)
     came = demand_rechecked(folder, instance, other)
     return "%s: %s" % (kind, "NeedTooGreat" if "NeedTooGreat" in came else came.split(" ")[0])
+
+
+def changed(random, found, text):
+    """A certificate's text whole, or with something wrong or forged."""
+    way = random.randrange(5)
+    if way == 0:
+        return text
+    if way == 1:
+        return spoilt_line(random, found, text)[0]
+    if way == 2:
+        return forged(random, found, text)[1]
+    for _ in range(random.choice([1, 1, 3])):
+        text = random.choice([changed_bytes, changed_number])(random, text)
+    return text
+
+
+def judge_set_check(program, folder, random):
+    """A certificate with sets and often a plan, whole or with something wrong, through check, beside the reference."""
+    instance = drawn(random, 1, 5)
+    found = set_certificate(random, instance)
+    found.bound = max(0, checking.tree_bound(instance, found, bounding.least_by_routes) + random.choice([0, 0, 0, 1, -1]))
+    certificate, solution = changed(random, found, written(found)), None
+    if random.randrange(2):
+        routes = plan_of(random, instance)
+        cost = plan_cost(instance, [[i for i in route if i <= instance.count] for route in routes])
+        solution = "".join(line + "\n" for line in solution_of(routes, cost)).encode()
+    try:
+        wanted = checking.check(text_of(instance), certificate, solution, bounding.least_by_labels)
+    except bounding.TooLong:
+        return "too many labels"
+    got = run_check(program, folder, text_of(instance), certificate, solution)
+    demand(got == wanted, "check: %r, and %r is right" % (got, wanted))
+    return " ".join(word for word in (wanted[0] or wanted[1]).split() if word.isalpha() or word.endswith(":"))

@@ -31,7 +31,7 @@ from judges.judging_reports import judge_report
 from judges.judging_roundings import judge_roundings
 from judges.judging_rounds import judge_rounds
 from judges.judging_served import judge_served, judge_sheets
-from judges.judging_sets import judge_needs, judge_set_bounds, judge_set_row, judge_set_text
+from judges.judging_sets import judge_needs, judge_set_bounds, judge_set_check, judge_set_row, judge_set_text
 from judges.judging_starts import judge_start
 from judges.judging_tables import judge_foreseen, judge_table, judge_wrong_names
 from judges.judging_times import judge_times
@@ -167,12 +167,14 @@ KINDS = {
                        tools_by(judge_set_bounds)),
     "set_texts": Kind("texts with sets, read and written, and with something wrong or forged, by recheck", 24,
                       tools_by(judge_set_text)),
+    "set_checks": Kind("certificates with sets and plans, right or with something wrong, through check", 40,
+                       program_by(judge_set_check)),
     "made_sets": Kind("texts of set_maker: taken by recheck, and refused with a need, a price or an order changed", 8,
-                      tools_by(judge_made)),
+                      program_by(judge_made)),
     "priced_sets": Kind("texts of set_prices: at most the least cost of all plans, and the line of recheck", 6,
-                        tools_by(judge_priced)),
+                        program_by(judge_priced)),
     "set_rows": Kind("certificates with sets, and what recheck and the reader say of them, by hand", len(SET_ROWS),
-                     lambda programs, folder, random, seed: judge_set_row(folder, seed), is_fixed=True),
+                     lambda programs, folder, random, seed: judge_set_row(programs.program, folder, seed), is_fixed=True),
     "batches": Kind("some instances by batch, and again with something changed in between", 6,
                     program_by(judge_batch)),
     "tool_faults": Kind("the tools with files that fail and with wrong words", len(FAULTS),

@@ -1,7 +1,9 @@
 """A checker of certificates and solutions, by the definitions and without speed."""
 from reference import bounding
 from reference.instances import Fault, plan_cost, read, walk_times
-from reference.texts import TextFault, read_certificate, read_solution, shown
+from reference.needs import need
+from reference.set_texts import FIRST_SET, read_either
+from reference.texts import TextFault, read_solution, shown
 
 
 def plan_defect(instance, routes):
@@ -31,7 +33,7 @@ def check(instance_text, certificate_text, solution_text, least):
     except Fault as fault:
         return "", "vrptw: instance: %s\n" % fault, 3
     try:
-        certificate = read_certificate(certificate_text)
+        certificate = read_either(certificate_text)
     except TextFault as fault:
         return "", "vrptw: certificate: %s\n" % fault, 5
     try:
@@ -42,12 +44,23 @@ def check(instance_text, certificate_text, solution_text, least):
         return "", "vrptw: check: OtherName\n", 5
     if certificate.count != instance.count:
         return "", "vrptw: check: OtherSize\n", 5
+    line = line_of_great_need(instance, certificate.sets)
+    if line is not None:
+        return "", "vrptw: check: NeedTooGreat line %d\n" % line, 5
     bound = tree_bound(instance, certificate, least)
     if bound != certificate.bound:
         return "", "vrptw: check: BoundDiffers %s %s\n" % (shown(certificate.bound), shown(bound)), 5
     if solution is None:
         return ("NO PLAN\n", "", 0) if bound == instance.ceiling() + 1 else ("BOUND %s\n" % shown(bound), "", 1)
     return check_plan(instance, bound, *solution)
+
+
+def line_of_great_need(instance, sets):
+    """The line of the first set that doesn't need what it is said to; None where each does."""
+    for line, one in enumerate(sets, FIRST_SET):
+        if one.need > need(instance, one.customers):
+            return line
+    return None
 
 
 def tree_bound(instance, certificate, least):

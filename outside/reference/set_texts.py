@@ -13,7 +13,8 @@
 A set has a need of 1 to 4,000,000 and at least two customers in increasing order, all canonical numbers. Sets are
 numbered from 1; there are at most 1,000. A split is that of version 2. A leaf has two lines: the prices of version 2,
 and directly below them `M s1 m1 s2 m2 ..` with the number and the price of each set that has one, a canonical number of
-1 to 10^12, in increasing order of the sets; `M` alone where none has one. Items have one blank between, and lines end
+1 to 10^12, in increasing order of the sets; `M` alone where none has one. All prices of sets together and that of any
+customer, without its sign, are at most 10^12. Items have one blank between, and lines end
 in a line feed, so each certificate has one text. Faults are those of version 2, and with the line, in this order:
 
     BadLine         before TREE neither TREE nor S with three canonical numbers or more
@@ -22,7 +23,7 @@ in a line feed, so each certificate has one text. Faults are those of version 2,
     TooManySets     else S after 1,000 sets
     BadLine         below a leaf's prices no M with canonical numbers in pairs
     BadSet          M whose sets don't increase, or one that is 0 or above their number
-    PriceRange      M with a price out of range
+    PriceRange      M with a price out of range, or prices too great beside that of a customer
 """
 from collections import namedtuple
 
@@ -110,16 +111,17 @@ class NodesWithSets(Nodes):
         self.sets = [(frozenset(one.customers), one.need) for one in sets]
 
     def leaf(self, words):
-        return super().leaf(words) + (self.priced(),)
+        kind, prices = super().leaf(words)
+        return kind, prices, self.priced(max(abs(price) for price in prices))
 
-    def priced(self):
-        """The sets that have a price, from the line below the customers' prices."""
+    def priced(self, most):
+        """The sets that have a price, from the line below the customers' prices, of which this is the greatest."""
         word, *words = self.lines.next().split(b" ")
         if word != b"M" or len(words) % 2:
             self.lines.bad()
         found = numbers(self.lines, words)
         demand_rising(self.lines, found[::2], len(self.sets))
-        if any(not 1 <= price <= MOST_PRICE for price in found[1::2]):
+        if any(price < 1 for price in found[1::2]) or sum(found[1::2]) + most > MOST_PRICE:
             fault(self.lines, "PriceRange")
         return tuple(PricedSet(number, *self.sets[number - 1], price) for number, price in zip(found[::2], found[1::2]))
 

@@ -12,8 +12,6 @@ from tools.tool import Found, Refused, Text, quoted, remember, told_path
 EMPTY = {"a solution": "a plan (solve leaves the file empty after NO PLAN, OPEN and each fault)",
          "a certificate": "a certificate (solve leaves the file empty after each fault)"}
 WITH_SETS = "a certificate with sets"
-# Where a text is told.
-PAGES = {WITH_SETS: "outside/README.md"}
 
 
 def of_ours(text, reader, what):
@@ -32,7 +30,7 @@ def of_ours(text, reader, what):
 
 def told_place(what):
     """What a text should be, and the page that tells it."""
-    return "%s of %s" % (what, PAGES.get(what, "docs/formats.md"))
+    return "%s of docs/formats.md" % what
 
 
 def judge_ends(text, line, name, what):

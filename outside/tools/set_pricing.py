@@ -31,6 +31,10 @@ class Prices:
             return [round((1 - part) * a + part * b) for a, b in zip(own, other)]
         return Prices(mix(self.customers, best.customers), mix(self.sets, best.sets))
 
+    def are_in_range(self):
+        """Whether a leaf may have them."""
+        return sum(self.sets) + max(map(abs, self.customers)) <= MOST_PRICE
+
 
 def stops_of(linked):
     """A route's stops in order, by those of its label."""
@@ -66,12 +70,12 @@ class Raising:
                      for number, price in enumerate(prices.sets, 1) if price > 0)
 
     def find_value(self, prices):
-        """Finds the value of prices, and keeps them where it is the best one. Answers the routes that were met, the
+        """Finds the value of prices, and keeps them where it is the best one in range. Answers the routes that were met, the
         cheapest ones first."""
         priced = self.priced(prices)
         least, routes = self.pricing.cheapest(self.region, prices.customers, priced)
         grains = leaf_grains(self.instance, prices.customers, priced, 2, least)
-        if self.grains is None or grains > self.grains:
+        if self.grains is None or grains > self.grains and prices.are_in_range():
             self.best, self.grains = prices, grains
         return [stops_of(linked) for _, linked in sorted(routes)[:MOST_LOOKED_AT]]
 
