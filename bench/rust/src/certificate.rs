@@ -3,16 +3,39 @@
 use crate::shim::Vec;
 use crate::tenths::Tenths;
 
+#[derive(Debug)]
+pub struct ListedSet {
+    pub members: Vec<u16>,
+    pub need: u32,
+}
+
 #[derive(Clone, Copy, Debug, PartialEq, Eq)]
+pub struct SetPrice {
+    pub set: u16,
+    pub price: u64,
+}
+
+#[derive(Debug)]
 pub enum Version {
     One,
     Two,
+    WithSets(Vec<ListedSet>),
+}
+
+impl Version {
+    pub fn sets(&self) -> &[ListedSet] {
+        match self {
+            Version::One | Version::Two => &[],
+            Version::WithSets(sets) => sets.as_slice(),
+        }
+    }
 }
 
 #[derive(Debug)]
 pub enum CertNode {
     Split { from: u16, to: u16 },
     Leaf(Vec<i64>),
+    SetLeaf { prices: Vec<i64>, set_prices: Vec<SetPrice> },
 }
 
 #[derive(Debug)]
@@ -35,10 +58,10 @@ impl Cert {
         let tenths = word("BOUND ").replace('.', "").parse().unwrap();
         Cert {
             parts: CertParts {
-                version: if word("VRPTW-CERT ") == "1" { Version::One } else { Version::Two },
+                version: version_of(&text),
                 neighbours: word("NEIGHBOURS ").parse().unwrap(),
                 bound: Tenths::new(tenths).unwrap(),
-                nodes: Vec(text.lines().filter_map(node_of).collect()),
+                nodes: nodes_of(&text),
             },
         }
     }
@@ -48,13 +71,48 @@ impl Cert {
     }
 }
 
-/// The node of a line, if it has one.
-fn node_of(line: &str) -> Option<CertNode> {
-    let (head, words) = line.split_once(' ')?;
-    let mut numbers = words.split(' ').map_while(|word| word.parse::<i64>().ok());
-    match head {
-        "S" => Some(CertNode::Split { from: numbers.next()? as u16, to: numbers.next()? as u16 }),
-        "P" => Some(CertNode::Leaf(Vec(numbers.collect()))),
-        _ => None,
+/// The numbers of a line behind its first word.
+fn numbers(line: &str) -> impl Iterator<Item = i64> + '_ {
+    line.split(' ').skip(1).map(|word| word.parse().unwrap())
+}
+
+/// The version, with the sets that stand before the tree.
+fn version_of(text: &str) -> Version {
+    let mut lines = text.lines();
+    match lines.next() {
+        Some("VRPTW-CERT 1") => Version::One,
+        Some("VRPTW-CERT 2") => Version::Two,
+        _ => Version::WithSets(Vec(lines.skip(4).take_while(|line| *line != "TREE").map(set_of).collect())),
     }
+}
+
+fn set_of(line: &str) -> ListedSet {
+    let mut words = numbers(line);
+    let need = words.next().unwrap() as u32;
+    ListedSet { need, members: Vec(words.map(|i| i as u16).collect()) }
+}
+
+/// The nodes; the prices of a leaf's sets stand in a line of their own.
+fn nodes_of(text: &str) -> Vec<CertNode> {
+    let mut nodes = std::vec::Vec::new();
+    for line in text.lines().skip_while(|line| *line != "TREE") {
+        let mut words = numbers(line);
+        match line.split(' ').next() {
+            Some("S") => nodes.push(CertNode::Split {
+                from: words.next().unwrap() as u16,
+                to: words.next().unwrap() as u16,
+            }),
+            Some("P") => nodes.push(CertNode::Leaf(Vec(words.collect()))),
+            Some("M") => {
+                let Some(CertNode::Leaf(prices)) = nodes.pop() else {
+                    panic!("M without P");
+                };
+                let pairs: std::vec::Vec<i64> = words.collect();
+                let set_prices = pairs.chunks(2).map(|m| SetPrice { set: m[0] as u16, price: m[1] as u64 });
+                nodes.push(CertNode::SetLeaf { prices, set_prices: Vec(set_prices.collect()) });
+            }
+            _ => {}
+        }
+    }
+    Vec(nodes)
 }
