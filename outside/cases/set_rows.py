@@ -164,16 +164,19 @@ def read_rows():
         yield "read", (HEAD + many * "S 1 1 2;" + "TREE;P 0 0 0;M 1 1;END;").replace(";", "\n"), said
 
 
-# What set_prices found for files of bench/instances, with the best plans known.
+# What set_prices found for files of bench/instances, with the best plans known; and trees that bench/as_rust closed
+# with bench/rust/sets.patch.
 FOUND = {"c1_25": "GAP 339.8 339.7", "rc1_25": "BEST 489.8", "c1_50": "GAP 679.8 676.7", "rc1_50": "GAP 908.1 906.5",
-         "r1_50": "GAP 1109.2 1098.8"}
+         "r1_50": "GAP 1109.2 1098.8", "c1_50_closed": "BEST 679.8", "rc1_50_closed": "BEST 908.1"}
 
 
 def found(name):
     """An instance of bench, the certificate and the plan that are kept, and what recheck says of them."""
     here, texts = os.path.dirname(os.path.realpath(__file__)), []
-    for path in ("../../bench/instances/%s.txt", "with_sets/%s.certificate", "with_sets/%s.plan"):
-        with open(os.path.join(here, path % name), encoding="ascii") as file:
+    file_of = name.replace("_closed", "")
+    for path in ("../../bench/instances/%s.txt" % file_of, "with_sets/%s.certificate" % name,
+                 "with_sets/%s.plan" % file_of):
+        with open(os.path.join(here, path), encoding="ascii") as file:
             texts.append(file.read())
     return ("check", *texts, FOUND[name])
 
