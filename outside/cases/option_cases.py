@@ -126,6 +126,7 @@ why both.txt none.txt --names names.csv|0|-: the certificate proves it
 why both.txt none_sets.txt --names names.csv|0|-: the certificate proves it
 try_parallel --install|1|-: installs parallel rsync openssh-client openssh-server by apt-get
 try_slurm --install|1|-: installs munge slurmctld slurmd slurm-client by apt-get
+bench/contracts HEAD set_needs|0|-: 3 of 3 contracts of HEAD stand word for word
 bench/leaves tree.txt 3|0|-: P 0 0
 bench/leaves k.txt 4 >many.txt ; recheck i.txt many.txt|0|-: BOUND 0.0
 bench/leaves sets.txt 4 >many.txt ; recheck i.txt many.txt p.txt|0|-: BEST 20.0
@@ -231,6 +232,8 @@ sheets i.txt p.txt -o i.txt|--output|1|i.txt: met the file that is read
 sheets i.txt p.txt --names p.txt -o s.html|--names|1|p.txt: line 1: met
 timetable i.txt p.txt --names nowhere|--names|1|nowhere: No such file
 why both.txt none.txt --names names2.csv|--names|1|names2.csv: line 3: met no name of number 2
+bench/contracts nowhere||1|git: fatal: Not a valid object name nowhere
+bench/contracts HEAD nowhere||1|HEAD: met no contract there
 bench/leaves tree.txt 0||2|met "0"
 bench/leaves tree.txt 5||1|tree.txt: met 2 arcs between its customers, wanted more for 5 leaves
 bench/leaves p.txt 5||1|p.txt: line 1: met
