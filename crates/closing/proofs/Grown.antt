@@ -1,9 +1,9 @@
 -- Trees that were added, and how many arcs of a region are undecided: each split leaves fewer.
 use Rattle.std.proofs.Common.{◌≡◌, refl, ℕ, ◌+◌, ◌*◌, ◌≤◌, min, List, [], ◌∷◌, ◌++◌, map, reverse, append_assoc, arith, ap, sym, subst, ◌∙◌, ◌≢◌, zero, suc, ◌<◌, Bool, true, false, inl, inr}
-use Rattle.std.specs.Prelude.{Option, None, Some, Result, Ok, Err, IfOk, IfSome, ◌==◌}
+use Rattle.std.specs.Prelude.{ℤ, Option, None, Some, Result, Ok, Err, IfOk, IfSome, ◌==◌}
 use Rattle.std.proofs.lemmas.List.{map-append, reverse-append, reverse-reverse}
 use Rattle.std.proofs.lemmas.Nat.{mul-le}
-use Rattle.std.specs.List.{sum_by, range_with_len}
+use Rattle.std.specs.List.{sum_by, range_with_len, AllByRecursion}
 use Rattle.std.specs.FinSet.{contains}
 use Rattle.std.proofs.lemmas.List.Sums.{sum_by-cons}
 use Rattle.std.proofs.lemmas.Bool.{cases_eq}
@@ -14,29 +14,43 @@ use Rattle.solomon_reader.specs.Region.{Region, used_child, unused_child, root_r
 use Rattle.solomon_reader.specs.Bound.{Version, version_2, of_customers, Tree, leaf, split, leaf_node, split_node, preorder, HasBound, ceiling_of}
 use Rattle.prices.specs.ValuedPrices.{ValuedPrices, IsValued}
 use Rattle.branching.specs.Arcs.{pair}
-use Rattle.branching.specs.Nodes.{node_of, IsListedTree}
+use Rattle.branching.specs.Nodes.{node_of, set_price_of, IsListedTree}
+use Rattle.branching.specs.declared.tree_node.SetPrice.{SetPrice}
 use Rattle.branching.specs.declared.tree_node.TreeNode.{TreeNode}
 use Rattle.leaf_work.specs.Branching.{AreChildren}
 use Rattle.leaf_work.specs.declared.child.Children.{Children}
 use Rattle.solomon_reader.specs.Plan.{Arc}
-use Rattle.solomon_reader.specs.CertificateText.{IsTreeAt, depth_of}
+use Rattle.solomon_reader.specs.CertificateText.{IsTreeAt, IsPrice, depth_of}
+use Rattle.solomon_reader.specs.AmongLaws.{weaker}
+use Rattle.solomon_reader.specs.SetPrices.{PricedSet}
+use Rattle.solomon_reader.specs.SetDualityLaws.{same_without_sets}
+use Rattle.priced_sets.specs.Sets.{IsWithin}
 use Rattle.solomon_reader.specs.LeafLaws.{priced_alone}
 use Rattle.solomon_reader.specs.ArcOrder.{holds_new, holds_old}
 use Rattle.closing.specs.Depths.{DepthHolds}
 use Rattle.closing.specs.Growing.{Grows, IsSameTask, IsSameTree, Splits}
 use Rattle.closing.specs.declared.growth.Growth.{Growth}
 
+-- prices beside those of sets are in their range
+in_range : (sets : List PricedSet) (prices : List ℤ) → AllByRecursion (IsWithin sets) prices → AllByRecursion IsPrice prices
+in_range sets prices all = weaker (IsWithin sets) IsPrice (λ z h. omega (arith, h)) prices all
+
+-- the node of a leaf where no set has a price
+pub bare_node : (prices customers : List ℤ) (sets : List SetPrice) → customers ≡ prices → sets ≡ []
+    → leaf_node (record { customers = customers; sets = map set_price_of sets }) ≡ leaf_node (of_customers prices)
+bare_node prices customers sets same none = rw (same, none) refl
+
 -- a leaf that was listed has grown
-pub leaf_grows : (f : ValuedPrices) (old new : Growth) (node : TreeNode) → IsValued f → f.problem ≡ old.instance.now → IsSameTask old new
+pub leaf_grows : (f : ValuedPrices) (old new : Growth) (node : TreeNode) → IsValued f → f.sets ≡ [] → f.problem ≡ old.instance.now → IsSameTask old new
     → node_of node ≡ leaf_node (of_customers f.prices) → new.nodes.items ≡ old.nodes.items ++ (node ∷ [])
     → old.bound ≤ ceiling_of old.instance.now + 1 → new.bound ≡ min old.bound f.value → new.leaves ≡ old.leaves → Grows f.neighbours f.region old new
-leaf_grows f old new node is own task item e low least leaves = record {
+leaf_grows f old new node is none own task item e low least leaves = record {
   task = task;
   tree = leaf (of_customers f.prices);
   nodes = ap (λ ns. map node_of ns) e ∙ map-append node_of old.nodes.items (node ∷ []) ∙ ap (λ i. map node_of old.nodes.items ++ (i ∷ [])) item;
   value = min (ceiling_of old.instance.now + 1) f.value;
-  bound = (f.value, rw (sym own) is.valued, refl);
-  shaped = (is.valued.priced ∙ sym is.size, is.priced, priced_alone 0 f.prices is.priced);
+  bound = (f.value, (same_without_sets version_2 old.instance.now f.region f.neighbours f.prices f.value).0 (rw (sym own, sym none) is.valued), refl);
+  shaped = (is.valued.priced ∙ sym is.size, in_range f.sets f.prices is.priced, priced_alone 0 f.prices (in_range f.sets f.prices is.priced));
   least = omega (arith, least, low);
   leaves = omega (arith, leaves);
 }
@@ -149,7 +163,7 @@ map_reverse f (x ∷ xs) = ap (λ ys. map f ys) (reverse-append (x ∷ []) xs) �
 -- a tree that has grown from the root alone is the instance's
 pub listed_tree : (p : Problem) (k : ℕ) (old new : Growth) → Grows k (root_region (customer_count p)) old new → old.instance.now ≡ p
     → old.nodes.items ≡ [] → old.leaves ≡ 1 → old.bound ≡ ceiling_of p + 1
-    → customer_count p ≤ 24 → new.leaves ≤ MOST_LEAVES → DepthHolds → IsListedTree p k (reverse new.nodes.items) new.bound new.leaves
+    → customer_count p ≤ 24 → new.leaves ≤ MOST_LEAVES → DepthHolds → IsListedTree version_2 p k (reverse new.nodes.items) new.bound new.leaves
 listed_tree p k old new grows own none one high small few deep =
     let has : HasBound version_2 p k (root_region (customer_count p)) grows.tree grows.value =
     subst (λ (q : Problem). HasBound version_2 q k (root_region (customer_count p)) grows.tree grows.value) own grows.bound in

@@ -1,8 +1,8 @@
 -- What it is to close an instance.
-use Rattle.std.specs.Prelude.{◌≡◌, ℕ, ◌+◌, ◌<◌, ◌≤◌, List, Option, Some, None, option_map, IfSome, MatchOption}
+use Rattle.std.specs.Prelude.{◌≡◌, ℕ, ◌+◌, ◌<◌, ◌≤◌, List, [], Option, Some, None, option_map, IfSome, MatchOption}
 use Rattle.solomon_reader.specs.Problem.{Problem, customer_count}
 use Rattle.solomon_reader.specs.Duality.{IsPlanCost}
-use Rattle.solomon_reader.specs.Bound.{ceiling_of}
+use Rattle.solomon_reader.specs.Bound.{ceiling_of, version_2}
 use Rattle.schedule.specs.Solution.{Solution}
 use Rattle.insertion.specs.Building.{IsServedAlone}
 use Rattle.branching.specs.Nodes.{IsListedTree}
@@ -26,8 +26,9 @@ pub record IsClosed (p : Problem) (k limit : ℕ) (c : Found) : Type 0 where
   pub plan : IfSome c.plan (λ f. f.problem ≡ p)
   pub meets : c.bound ≡ known_or_above p (costs c.plan)
   pub most : c.bound ≤ ceiling_of p + 1
+  pub no_sets : c.sets.items ≡ []
   pub leaves : ℕ
-  pub tree : IsListedTree p k c.nodes.items c.bound leaves
+  pub tree : IsListedTree version_2 p k c.nodes.items c.bound leaves
   pub within : leaves ≤ limit
 
 -- A tree with exactly as many leaves as the limit allows, whose bound is below the cost told, which a plan has, or at
@@ -37,7 +38,7 @@ pub record IsStopped (p : Problem) (k limit : ℕ) (cost : Option ℕ) (bound : 
   pub small : customer_count p ≤ MOST_CLOSED
   pub plan : MatchOption cost (¬ IsServedAlone p) (IsPlanCost p)
   pub below : bound < known_or_above p cost
-  pub tree : IsListedTree p k nodes bound limit
+  pub tree : IsListedTree version_2 p k nodes bound limit
 
 -- No cost is told above that of the plan that a closing begins with; where there is such a plan, a cost is told, since
 -- no plan costs more than the ceiling.

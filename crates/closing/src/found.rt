@@ -1,6 +1,7 @@
 //! What is found for an instance.
 
 use branching::TreeNode;
+use priced_sets::ListedSet;
 use schedule::Feasible;
 use tenths::Tenths;
 
@@ -11,6 +12,8 @@ pub struct Found<'i> {
     pub plan: Option<Feasible<'i>>,
     /// The bound, in tenths; of a closed instance without a plan the ceiling of plans' costs and one.
     pub bound: Tenths,
+    /// The sets that the tree names; of a closed instance none.
+    pub sets: Vec<ListedSet>,
     /// The tree with that bound, in preorder.
     pub nodes: Vec<TreeNode>,
 }

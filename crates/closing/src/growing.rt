@@ -1,9 +1,10 @@
 //! The tree below a leaf.
 
-ghost use Rattle.std.specs.Prelude.{◌≡◌, ◌+◌, ◌≤◌, false, IfOk, IfNone, IfSome, MatchOption, OnOk};
+ghost use Rattle.std.specs.Prelude.{◌≡◌, ◌+◌, ◌≤◌, false, [], IfOk, IfNone, IfSome, MatchOption, OnOk};
 ghost use Rattle.solomon_reader.specs.Bound.{ceiling_of};
 ghost use Rattle.closing.specs.Growing.{Grows, IsGrowth, IsSameTree, Splits, target_of};
 
+use crate::bare::{raised_without_sets, without_sets};
 use crate::growth::Growth;
 use labelling::LabelFault;
 use leaf_work::{
@@ -23,6 +24,7 @@ fn goal_at(leaf: &Priced<'_>, growth: &Growth<'_>) -> Goal {
     let routes = growth.best.as_ref().map(|plan| plan.routes());
     let effort = Effort {
         root_pricings: ROOT_PRICINGS,
+        sets: 0,
         labels: None,
         looks: u64::MAX,
     };
@@ -55,6 +57,7 @@ fn settle<'i>(
     requires growth { IsGrowth growth.old }
     requires going { growth.old.is_stopped ≡ false }
     requires own { settled.now.problem ≡ growth.old.instance.now }
+    requires bare { settled.now.sets ≡ [] }
     requires feasible { IfSome plan (λ f. f.problem ≡ growth.old.instance.now) }
     requires value { MatchOption plan (ceiling_of growth.old.instance.now + 1 ≤ settled.now.value)
         (λ f. settled.now.value ≡ f.cost) }
@@ -82,6 +85,7 @@ fn work_at<'i>(
     requires growth { IsGrowth growth.old }
     requires going { growth.old.is_stopped ≡ false }
     requires own { raised.now.priced.problem ≡ growth.old.instance.now }
+    requires bare { raised.now.priced.sets ≡ [] }
     ensures growth { OnOk result (IsGrowth growth.new) }
     ensures listed { IfOk result (λ found. IfNone found
         (Grows raised.now.priced.neighbours raised.now.priced.region growth.old growth.new)) }
@@ -113,7 +117,7 @@ fn work_at<'i>(
     Ok(Some(children))
 }
 
-/// Raises the value of a leaf, and works at it.
+/// Raises the value of a leaf, and works at it with the prices of customers alone.
 fn raise_and_work<'i>(
     leaf: Priced<'i>,
     start: Option<ChildStart>,
@@ -133,7 +137,8 @@ fn raise_and_work<'i>(
 {
     let goal = goal_at(&leaf, growth);
     let raised = raise(pool, state, leaf, start, &goal);
-    work_at(&raised, growth, pool, state)
+    let bare = raised_without_sets(growth.alloc, raised)?;
+    work_at(&bare, growth, pool, state)
 }
 
 /// Lists the tree below a leaf, whose ascent starts where it was tried as a child, if it was. It grows first
@@ -154,6 +159,7 @@ pub(crate) fn grow<'i>(
     ensures least { target_of growth.new ≤ target_of growth.old }
 {
     if growth.is_stopped {
+        let leaf = without_sets(growth.alloc, leaf)?;
         return growth.lay_aside(&leaf);
     }
     let Some(children) = raise_and_work(leaf, start, growth, pool, state)? else {

@@ -2,7 +2,7 @@
 
 ghost use Rattle.std.specs.Prelude.{◌≡◌, ◌+◌, ◌<◌, ◌≤◌, min, false, true, [], MatchOption, OnOk, ◌++◌, ◌∷◌, map, reverse, IfOk, IfErr};
 ghost use Rattle.solomon_reader.specs.Problem.{customer_count};
-ghost use Rattle.solomon_reader.specs.Bound.{ceiling_of, split_node};
+ghost use Rattle.solomon_reader.specs.Bound.{ceiling_of, split_node, version_2};
 ghost use Rattle.branching.specs.Arcs.{pair};
 ghost use Rattle.branching.specs.Nodes.{node_of, IsListedTree};
 ghost use Rattle.insertion.specs.Building.{IsServedAlone};
@@ -13,7 +13,7 @@ ghost use Rattle.closing.specs.Growing.{Grows, IsGrowth, IsSameTask, IsSameTree,
 
 use crate::fault::CloseAloneFault;
 use crate::found::Found;
-use branching::{Arc, TreeNode};
+use branching::{Arc, LeafPrices, TreeNode};
 use prices::Priced;
 use schedule::Feasible;
 use solomon_reader::{Instance, bounds_hold};
@@ -113,9 +113,10 @@ impl<'i> Growth<'i> {
         }
     }
 
-    /// Lists a leaf.
+    /// Lists a leaf where no set has a price.
     fn list(&mut self, leaf: &Priced<'i>) -> Result<(), AllocError>
         requires own { leaf.now.problem ≡ self.old.instance.now }
+        requires bare { leaf.now.sets ≡ [] }
         requires low { self.old.bound ≤ ceiling_of self.old.instance.now + 1 }
         ensures grows { OnOk result (Grows leaf.now.neighbours leaf.now.region self.old self.new) }
         ensures least { OnOk result (self.new.bound ≡ min self.old.bound leaf.now.value) }
@@ -124,8 +125,10 @@ impl<'i> Growth<'i> {
         ensures stopped { self.new.is_stopped ≡ self.old.is_stopped }
         ensures task { IsSameTask self.old self.new }
     {
-        let prices = leaf.prices().to_vec(self.alloc)?;
-        self.nodes.push(TreeNode::Leaf(prices))?;
+        let customers = leaf.prices().to_vec(self.alloc)?;
+        let sets = Vec::new(self.alloc);
+        self.nodes
+            .push(TreeNode::Leaf(LeafPrices { customers, sets }))?;
         self.bound = lesser(self.bound, leaf);
         Ok(())
     }
@@ -135,6 +138,7 @@ impl<'i> Growth<'i> {
     pub(crate) fn lay_aside(&mut self, leaf: &Priced<'i>) -> Result<(), AllocError>
         requires growth { IsGrowth self.old }
         requires own { leaf.now.problem ≡ self.old.instance.now }
+        requires bare { leaf.now.sets ≡ [] }
         requires reaches { self.old.is_stopped ≡ false → target_of self.old ≤ leaf.now.value }
         ensures growth { OnOk result (IsGrowth self.new) }
         ensures grows { OnOk result (Grows leaf.now.neighbours leaf.now.region self.old self.new) }
@@ -148,6 +152,7 @@ impl<'i> Growth<'i> {
     pub(crate) fn stop_at(&mut self, leaf: &Priced<'i>) -> Result<(), AllocError>
         requires growth { IsGrowth self.old }
         requires own { leaf.now.problem ≡ self.old.instance.now }
+        requires bare { leaf.now.sets ≡ [] }
         requires full { self.old.leaves ≡ self.old.limit }
         requires below { leaf.now.value < target_of self.old }
         ensures growth { OnOk result (IsGrowth self.new) }
@@ -193,7 +198,7 @@ impl<'i> Growth<'i> {
     pub(crate) fn finish(mut self, neighbours: u32) -> Result<Found<'i>, CloseAloneFault>
         requires growth { IsGrowth self }
         requires small { customer_count self.instance.now ≤ MOST_CLOSED }
-        requires tree { IsListedTree self.instance.now neighbours
+        requires tree { IsListedTree version_2 self.instance.now neighbours
             (reverse self.nodes.items) self.bound self.leaves }
         ensures closed { IfOk result (IsClosed self.entry.instance.now neighbours
             self.entry.limit) }
@@ -218,6 +223,7 @@ impl<'i> Growth<'i> {
         Ok(Found {
             plan: self.best,
             bound,
+            sets: Vec::new(self.alloc),
             nodes: self.nodes,
         })
     }

@@ -2,6 +2,7 @@
 //! no plan.
 #![tactic(auto)]
 
+mod bare;
 mod close;
 mod fault;
 mod first;

@@ -53,8 +53,8 @@ no_closing rows none (Solve instance solution certificate start settings close l
 no_closing rows none (Check instance certificate solution states) says = absurd (one_name (codes "solve") refl says.0)
 
 -- settings by their numbers
-abbrev with_numbers : ℕ → ℕ → ℕ → ℕ → ℕ → ℕ → ℕ → Settings
-with_numbers searchers bounders turns seed neighbours labels gap = record {
+abbrev with_numbers : ℕ → ℕ → ℕ → ℕ → ℕ → ℕ → ℕ → ℕ → Settings
+with_numbers searchers bounders turns seed neighbours labels gap sets = record {
   searchers = searchers;
   bounders = bounders;
   turns = turns;
@@ -62,18 +62,19 @@ with_numbers searchers bounders turns seed neighbours labels gap = record {
   neighbours = neighbours;
   labels = labels;
   gap = gap;
+  sets = sets;
 }
 
 same_settings : (rows : List Row) (a b : Settings) → HasSettings rows a → HasSettings rows b → a ≡ b
 same_settings rows a b p q =
-    ap₂ (λ s o. with_numbers s o a.turns a.seed a.neighbours a.labels a.gap)
+    ap₂ (λ s o. with_numbers s o a.turns a.seed a.neighbours a.labels a.gap a.sets)
     (same_number _ rows _ _ p.searchers_are q.searchers_are) (same_number _ rows _ _ p.bounders_are q.bounders_are)
-    ∙ (ap₂ (λ t s. with_numbers b.searchers b.bounders t s a.neighbours a.labels a.gap)
+    ∙ (ap₂ (λ t s. with_numbers b.searchers b.bounders t s a.neighbours a.labels a.gap a.sets)
     (same_number _ rows _ _ p.turns_are q.turns_are) (same_number _ rows _ _ p.seed_is q.seed_is)
-    ∙ (ap₂ (λ n l. with_numbers b.searchers b.bounders b.turns b.seed n l a.gap)
+    ∙ (ap₂ (λ n l. with_numbers b.searchers b.bounders b.turns b.seed n l a.gap a.sets)
     (same_number _ rows _ _ p.neighbours_are q.neighbours_are) (same_number _ rows _ _ p.labels_are q.labels_are)
-    ∙ ap (with_numbers b.searchers b.bounders b.turns b.seed b.neighbours b.labels)
-    (same_number _ rows _ _ p.gap_is q.gap_is)))
+    ∙ ap₂ (with_numbers b.searchers b.bounders b.turns b.seed b.neighbours b.labels)
+    (same_number _ rows _ _ p.gap_is q.gap_is) (same_number _ rows _ _ p.sets_are q.sets_are)))
 
 -- what a command and its rows say is one job
 pub same_job : (named : Option (Text × List Row)) (found other : Job) → SaysAny named found → SaysAny named other → IsSameJob found other

@@ -22,6 +22,16 @@ adds_two before made after first second one two step is own next also owned app 
     adds_rule made after second (with_rule app one) two
     (adds_rule before made first app one was step is own) next also owned
 
+-- the same of three
+pub adds_three : (before made more after : Command) (first second third : Arg) (one two three : Rule)
+    → AddsArg before first made → rule_of first ≡ one → first.global ≡ false
+    → AddsArg made second more → rule_of second ≡ two → second.global ≡ false
+    → AddsArg more third after → rule_of third ≡ three → third.global ≡ false
+    → AddsRules (one ∷ two ∷ three ∷ []) before after
+adds_three before made more after first second third one two three step is own next also owned last as_well its app was =
+    adds_rule more after third (with_rule (with_rule app one) two) three
+    (adds_two before made more first second one two step is own next also owned app was) last as_well its
+
 -- `Command::subcommand`, of a command with no subcommands of its own
 pub adds_shape : (before after sub : Command) (app : App) (shape : Shape) → app_of before ≡ app
     → HasShape (record { top = shape; subs = [] }) sub → AddsSubcommand before sub after

@@ -5,7 +5,7 @@ use Rattle.clap.specs.Words.{App, Row, Rule, Shape, Text, app_of, first_of, new_
 use Rattle.clap.specs.declared.ArgAction.TheVariants.{SetTrue}
 use Rattle.clap.specs.declared.builder.ValueParser.{ValueParser}
 use Rattle.clap.specs.declared.builder.ValueParser.TheVariants as parser
-use Rattle.solomon_reader.specs.declared.limits.TheConstants.{MOST_LEAVES, MOST_NEIGHBOURS}
+use Rattle.solomon_reader.specs.declared.limits.TheConstants.{MOST_LEAVES, MOST_NEIGHBOURS, MOST_SETS}
 use Rattle.run_settings.specs.declared.settings.TheConstants.{MOST_BOUNDERS, MOST_GAP, MOST_LABELS, MOST_SEARCHERS, MOST_TURNS}
 use Rattle.command_line.specs.declared.jobs.TheConstants.{MOST_STATES}
 use Rattle.clap.specs.declared.Command.{Command}
@@ -44,7 +44,8 @@ search_rules = number_option_rule (codes "turns") (between 1 MOST_TURNS) (codes 
 -- how the bound is priced
 abbrev pub pricing_rules : List Rule
 pricing_rules = number_option_rule (codes "neighbours") (between 0 MOST_NEIGHBOURS) (codes "8")
-    ∷ number_option_rule (codes "labels") (between 1 MOST_LABELS) (codes "1000000") ∷ []
+    ∷ number_option_rule (codes "labels") (between 1 MOST_LABELS) (codes "1000000")
+    ∷ number_option_rule (codes "sets") (between 0 MOST_SETS) (codes "0") ∷ []
 
 -- whether the instance is to be closed, and with how many leaves at most
 abbrev pub closing_rules : List Rule

@@ -22,6 +22,7 @@ pub record HasSettings (rows : List Row) (settings : Settings) : Type 0 where
   pub neighbours_are : HasNumber (codes "neighbours") rows settings.neighbours
   pub labels_are : HasNumber (codes "labels") rows settings.labels
   pub gap_is : HasNumber (codes "gap") rows settings.gap
+  pub sets_are : HasNumber (codes "sets") rows settings.sets
   pub within : IsWithin settings
 
 -- the rows of the arguments of `solve` say whether to close the instance, and with how many leaves at most, which is within its range

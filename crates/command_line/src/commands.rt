@@ -11,13 +11,14 @@ use clap::builder::ValueParser;
 use clap::error::ErrorKind;
 use clap::{Arg, ArgAction, ArgMatches, Command};
 use run_settings::{MOST_BOUNDERS, MOST_GAP, MOST_LABELS, MOST_SEARCHERS, MOST_TURNS, Settings};
-use solomon_reader::{MOST_LEAVES, MOST_NEIGHBOURS};
+use solomon_reader::{MOST_LEAVES, MOST_NEIGHBOURS, MOST_SETS};
 use std::alloc::{AllocError, Global};
 
 const PROGRAM: &str = "vrptw";
 
 /// What `--version` prints behind the program's name.
-const VERSION: &str = "1.13.0 (writes certificates of version 2, reads 1, 2 and those with sets)";
+const VERSION: &str =
+    "1.14.0 (writes certificates of version 2 or with sets, reads 1, 2 and those with sets)";
 
 /// A path that has to be given.
 fn path<'a>(alloc: Global, id: &'a str, help: &'a str) -> Arg<'a>
@@ -125,6 +126,13 @@ fn with_pricing_options<'a>(alloc: Global, command: Command<'a>) -> Result<Comma
             (1, MOST_LABELS),
             "1000000",
             "How many labels may be active at once in a pricing, 1 to 100000000",
+        ))?
+        .arg(number_option(
+            alloc,
+            "sets",
+            (0, MOST_SETS),
+            "0",
+            "How many sets of customers may have prices in the tree, 0 to 1000; from 1 on the certificate is one with sets",
         ))
 }
 
@@ -136,7 +144,7 @@ fn with_closing_options<'a>(alloc: Global, command: Command<'a>) -> Result<Comma
         .arg(flag(
             alloc,
             "close",
-            "Closes an instance of at most 24 customers by one thread; of the other options only --neighbours, --leaves and --start count",
+            "Closes an instance of at most 24 customers by one thread; of the other options only --neighbours, --sets, --leaves and --start count",
         ))?
         .arg(number_option(
             alloc,
@@ -291,6 +299,7 @@ fn settings_of(found: &ArgMatches<'_>) -> Option<Settings>
     let neighbours = number_of(found, "neighbours")?;
     let labels = number_of(found, "labels")?;
     let gap = number_of(found, "gap")?;
+    let sets = number_of(found, "sets")?;
     let settings = Settings {
         searchers,
         bounders,
@@ -299,6 +308,7 @@ fn settings_of(found: &ArgMatches<'_>) -> Option<Settings>
         neighbours,
         labels,
         gap,
+        sets,
     };
     // clap has refused other numbers; the proof knows it from here.
     if !settings.is_within() {

@@ -12,7 +12,7 @@ use Rattle.prices.specs.ValuedPrices.{ValuedPrices}
 use Rattle.incumbent_book.specs.Contents.{Contents, IsBook, IsOfProblem}
 use Rattle.incumbent_book.specs.Faults.{Call, offer, reprice, split, IsOfInstance, IsAccepted, IsRefusedFor}
 use Rattle.incumbent_book.specs.declared.fault.BookFault.{BookFault}
-use Rattle.incumbent_book.specs.declared.fault.BookFault.TheVariants.{Memory, ForeignInstance, JournalFull, NotALeaf, WrongRegion, NotHigher, Lower, LeavesFull, TooDeep}
+use Rattle.incumbent_book.specs.declared.fault.BookFault.TheVariants.{Memory, ForeignInstance, JournalFull, NotALeaf, WrongRegion, NotHigher, Lower, LeavesFull, TooDeep, SetsFull}
 use Rattle.incumbent_book.proofs.Histories.{below-cheaper, best-kept}
 use Rattle.desk.specs.Tally.{plus, tally_of_event, Tally}
 use Rattle.desk.specs.Account.{Account, lesser_of, least_of, IsSeen}
@@ -102,6 +102,7 @@ tells_foreign b call NotHigher told = told.1.met ForeignInstance (omega arith)
 tells_foreign b call Lower told = told.1.met ForeignInstance (omega arith)
 tells_foreign b call LeavesFull told = told.1.met ForeignInstance (omega arith)
 tells_foreign b call TooDeep told = told.1.met ForeignInstance (omega arith)
+tells_foreign b call SetsFull told = told.0.met ForeignInstance (omega arith)
 
 -- an event more takes no offer back
 still_offered : (most : Option ℕ) (event : Event) (past : List Event) → WasOffered most past → WasOffered most (event ∷ past)
@@ -111,16 +112,17 @@ still_offered (Some most) (repriced worker leaf value) past was = was
 still_offered (Some most) (branched worker leaf a used unused x y) past was = was
 
 -- a book of our instance and number of neighbours, with a plan of at most this cost if one is named
-module _ (p : Problem) (k : ℕ) (opening_cost : Option ℕ) (b : Contents) (before : Tally) (is : IsCounted p k opening_cost b before) where
+module _ (p : Problem) (k most : ℕ) (opening_cost : Option ℕ) (b : Contents) (before : Tally) (is : IsCounted p k most opening_cost b before) where
   -- the totals are those of the history again, where both have the same event more
   pub counted_call : (new : Contents) (event : Event) (after : Tally) → new.past ≡ event ∷ b.past → new.problem ≡ b.problem
-      → new.neighbours ≡ b.neighbours → after ≡ plus before (tally_of_event event)
-      → IsCounted p k opening_cost new after
-  counted_call new event after longer problem neighbours more =
+      → new.neighbours ≡ b.neighbours → new.most_sets ≡ b.most_sets → after ≡ plus before (tally_of_event event)
+      → IsCounted p k most opening_cost new after
+  counted_call new event after longer problem neighbours listed more =
       record {
         counted = counted_more b.past event before after new.past is.counted longer more;
         problem = problem ∙ is.problem;
         neighbours = neighbours ∙ is.neighbours;
+        sets = listed ∙ is.sets;
         offered = rw longer (still_offered opening_cost event b.past is.offered);
       }
 

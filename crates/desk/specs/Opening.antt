@@ -20,9 +20,10 @@ abbrev pub WasOffered : Option ℕ → List Event → Type 0
 WasOffered None past = Unit {0}
 WasOffered (Some most) past = (cost : ℕ) × Among cost (costs_of past) × (cost ≤ most)
 
--- a book of this instance and number of neighbours, which was offered a plan of at most this cost if one is named, and whose history has these counts and sums
-pub record IsCounted (p : Problem) (k : ℕ) (opening_cost : Option ℕ) (b : Contents) (totals : Tally) : Type 0 where
+-- a book of this instance, number of neighbours and most sets, which was offered a plan of at most this cost if one is named, and whose history has these counts and sums
+pub record IsCounted (p : Problem) (k most : ℕ) (opening_cost : Option ℕ) (b : Contents) (totals : Tally) : Type 0 where
   pub counted : tally_of b.past ≡ totals
   pub problem : b.problem ≡ p
   pub neighbours : b.neighbours ≡ k
+  pub sets : b.most_sets ≡ most
   pub offered : WasOffered opening_cost b.past

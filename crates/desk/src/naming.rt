@@ -2,13 +2,13 @@
 
 use std::marker::Brand;
 
-/// Which instance and which number of neighbours a desk is about, what a plan costs that was offered before it was
+/// Which instance and which number of neighbours a desk is about, how many sets its book may list, what a plan costs that was offered before it was
 /// opened, if one was, how many workers it has, and the names of the ledgers that it counts in.
 ///
-/// A caller names a desk by a function `f<J: Naming>` that opens it, with the six facts that
+/// A caller names a desk by a function `f<J: Naming>` that opens it, with the seven facts that
 /// `Desk::open` requires as its own. Where it calls `f::<Brand>` with a book and blanks, its
-/// `proofs/` pick what `J` stands for in a definition of `ghosts-f`: the instance and the number of
-/// neighbours of the book, the cost of a plan that it was offered, if it was, the number of workers, and `names_of` the
+/// `proofs/` pick what `J` stands for in a definition of `ghosts-f`: the instance and the numbers of
+/// neighbours and of sets of the book, the cost of a plan that it was offered, if it was, the number of workers, and `names_of` the
 /// blanks.
 pub trait Naming {
     ghost use Rattle.std.specs.Prelude.{ℕ, Option};
@@ -18,6 +18,8 @@ pub trait Naming {
     ghost problem: { Problem };
 
     ghost neighbours: { ℕ };
+
+    ghost sets: { ℕ };
 
     ghost opening_cost: { Option ℕ };
 
@@ -33,6 +35,8 @@ impl Naming for Brand {
     ghost problem = { no_problem };
 
     ghost neighbours = { 0 };
+
+    ghost sets = { 0 };
 
     ghost opening_cost = { None };
 

@@ -54,6 +54,7 @@ impl<'i, J: Naming> Desk<'i, J> {
         requires some { 0 < workers }
         requires problem { book.problem ≡ J.problem }
         requires neighbours { book.neighbours ≡ J.neighbours }
+        requires sets { book.most_sets ≡ J.sets }
         requires offered { WasOffered J.opening_cost book.past }
         requires workers { workers ≡ J.workers }
         requires names { names_of blanks ≡ J.names }
@@ -98,7 +99,7 @@ impl<'i, J: Naming> Desk<'i, J> {
 
     /// Gives a leaf of the book new prices of a higher value at its region. A refusal changes nothing
     /// and gives the prices back: `ForeignInstance`, `JournalFull`, `NotALeaf`, `WrongRegion`,
-    /// `NotHigher`, or `Memory`.
+    /// `NotHigher`, `SetsFull`, or `Memory`.
     pub fn reprice<R: Wait>(
         &self,
         rt: &R,
@@ -114,7 +115,7 @@ impl<'i, J: Naming> Desk<'i, J> {
     /// Splits a leaf of the book by an arc, with prices of no lower value at both children, and
     /// answers their numbers, that of the used child first. A refusal changes nothing and gives the
     /// prices back: `ForeignInstance`, `JournalFull`, `NotALeaf`, `WrongRegion`, `Lower`,
-    /// `LeavesFull`, `TooDeep`, or `Memory`.
+    /// `LeavesFull`, `TooDeep`, `SetsFull`, or `Memory`.
     pub fn split<R: Wait>(
         &self,
         rt: &R,
@@ -162,6 +163,7 @@ impl<'i, J: Naming> Desk<'i, J> {
         ensures counted { IfOk result (λ o. tally_of o.past ≡ tally_of_shares shares.items) }
         ensures problem { IfOk result (λ o. o.problem ≡ J.problem) }
         ensures neighbours { IfOk result (λ o. o.neighbours ≡ J.neighbours) }
+        ensures sets { IfOk result (λ o. o.most_sets ≡ J.sets) }
         ensures offered { IfOk result (λ o. WasOffered J.opening_cost o.past) }
         ensures back { IfErr result (λ e. (e.1 ≡ shares) × (e.2 ≡ missing)) }
     {

@@ -1,7 +1,7 @@
 -- The steps from a row, in the order of when it has to be left for them, and those of them that a region allows, with their reduced costs.
-use Rattle.std.proofs.Common.{◌≡◌, ℕ, suc, ◌+◌, ◌*◌, ◌-◌, ◌<◌, ◌≤◌, cond, List, [], ◌∷◌, ◌++◌, length, arith, sym, inl, inr, ◌⊎◌, ◌↔◌, length-append, get_or}
-use Rattle.std.specs.Prelude.{◌==◌, ℤ, pos, ◌-ℤ◌, IsTrue, Vec}
-use Rattle.std.specs.List.{All}
+use Rattle.std.proofs.Common.{◌≡◌, refl, ℕ, suc, ◌+◌, ◌*◌, ◌-◌, ◌<◌, ◌≤◌, cond, List, [], ◌∷◌, ◌++◌, length, arith, sym, inl, inr, ◌⊎◌, ◌↔◌, length-append, get_or}
+use Rattle.std.specs.Prelude.{◌==◌, ℤ, pos, negsuc, ◌+ℤ◌, ◌-ℤ◌, nat_abs, IsTrue, Vec}
+use Rattle.std.specs.List.{All, AllByRecursion}
 use Rattle.std.specs.List.Sorted.{IsPermutation, IsNonDecreasingBy}
 use Rattle.std.proofs.lemmas.List.Elements.{All-push, All-weaker}
 use Rattle.std.proofs.lemmas.List.Sums.{sum_by-cons, sum_by_push}
@@ -12,11 +12,15 @@ use Rattle.std.specs.declared.alloc.Global.{Global}
 use Rattle.std.specs.FinSet.{contains, empty}
 use Rattle.std.proofs.lemmas.Int.{ints}
 use Rattle.std.proofs.lemmas.List.{get_or_read, get_or_append_left, get_or_push}
-use Rattle.solomon_reader.specs.declared.limits.TheConstants.{MOST_TIME}
+use Rattle.solomon_reader.specs.declared.limits.TheConstants.{MOST_TIME, MOST_PRICE}
 use Rattle.solomon_reader.specs.Distance.{distance}
 use Rattle.solomon_reader.specs.Problem.{Problem, IsCustomer, due}
 use Rattle.solomon_reader.specs.Region.{Region}
-use Rattle.solomon_reader.specs.Relaxed.{by_customer}
+use Rattle.solomon_reader.specs.Relaxed.{price_of}
+use Rattle.solomon_reader.specs.SetPrices.{by_sets, paid_over, price_sum}
+use Rattle.solomon_reader.specs.EntryPrices.{ArePaid}
+use Rattle.solomon_reader.specs.EntryLaws.{paid_low, price_within}
+use Rattle.priced_sets.specs.Sets.{sets_of, IsWithin}
 use Rattle.solomon_reader.specs.States.{Pricing, State, CanStep, IsPriced}
 use Rattle.fronts.specs.declared.step.Step.{Step}
 use Rattle.fronts.specs.declared.payment.Payment.{Payment}
@@ -44,14 +48,40 @@ found_at j (s ∷ steps) h =
 pub can_reach : (q : Pricing) (a : State) (j : ℕ) → CanStep q a j → IsReachable q.problem a.last j
 can_reach q a j can = record { load = omega (arith, can.load); window = omega (arith, can.due); way = omega (arith, can.due) }
 
--- what steps are paid is small
-pub paid_small : (x : Payment) (i j : ℕ) → All IsPriced x.prices.now → 1 ≤ j → j ≤ length x.prices.now → IsPriced (paid_by x i j)
-unfolding by_customer
-paid_small x i j priced some within = priced (j - 1) (pos 0) (omega (arith, some, within))
+-- ---- what steps are paid
 
-pub paid_of : (p : Problem) (g : Region) (k : ℕ) (x : Payment) → IsTask p g x.prices.now → IsPaid (pricing_for p g k x)
+-- a price with what is paid beside it
+in_range : (z : ℤ) (paid sum : ℕ) → sum + nat_abs z ≤ MOST_PRICE → paid ≤ sum → IsPriced (z +ℤ pos paid)
+in_range (pos n) paid sum within low = record { low = omega (arith, ints, within, low); high = omega (arith, ints, within, low) }
+in_range (negsuc n) paid sum within low = record { low = omega (arith, ints, within, low); high = omega (arith, ints, within, low) }
+
+-- what steps are paid is small
+pub paid_small : (x : Payment) (i j : ℕ) → AllByRecursion (IsWithin (sets_of x.sets.now)) x.prices.now → 1 ≤ j → j ≤ length x.prices.now → IsPriced (paid_by x i j)
+unfolding by_sets
+paid_small x i j priced some within =
+    in_range (price_of x.prices.now j) (paid_over (sets_of x.sets.now) (i, j)) (price_sum (sets_of x.sets.now))
+    (price_within (price_sum (sets_of x.sets.now)) MOST_PRICE x.prices.now (j - 1) (omega (arith, some, within)) priced) (paid_low (sets_of x.sets.now) (i, j))
+
+-- what a list says that a step is paid for the sets that it enters is within range with the price
+pub entry_small : (x : Payment) (v n j : ℕ) (entries : List ℕ) → ArePaid (sets_of x.sets.now) v n entries → AllByRecursion (IsWithin (sets_of x.sets.now)) x.prices.now
+    → n ≡ length x.prices.now → 1 ≤ j → j ≤ n → get_or entries j 0 + nat_abs (price_of x.prices.now j) ≤ MOST_PRICE
+entry_small x v n j entries paid priced count some within =
+    omega (
+      arith,
+      paid.each j within,
+      price_within (price_sum (sets_of x.sets.now)) MOST_PRICE x.prices.now (j - 1) (omega (arith, some, within, count)) priced,
+      paid_low (sets_of x.sets.now) (v, j),
+    )
+
+-- a step is paid the price and what the list says
+pub paid_is : (x : Payment) (v n j : ℕ) (entries : List ℕ) → ArePaid (sets_of x.sets.now) v n entries → j ≤ n
+    → paid_by x v j ≡ price_of x.prices.now j +ℤ pos (get_or entries j 0)
+unfolding by_sets
+paid_is x v n j entries paid within = rw (paid.each j within) refl
+
+pub paid_of : (p : Problem) (g : Region) (k : ℕ) (x : Payment) → IsTask p g x → IsPaid (pricing_for p g k x)
 paid_of p g k x task = record {
-  priced = λ i j c. paid_small x i j task.priced c.0 (omega (arith, task.count, c.1));
+  priced = λ i j c. paid_small x i j task.within c.0 (omega (arith, task.count, c.1));
   carried = task.carried;
 }
 

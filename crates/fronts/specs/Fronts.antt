@@ -1,7 +1,11 @@
 -- Fronts as states, and what the caller hands in.
-use Rattle.std.specs.Prelude.{◌≡◌, ℕ, ◌+◌, ◌*◌, ◌<◌, ◌≤◌, Bool, false, List, length, ℤ, pos, ◌+ℤ◌, ◌≤ℤ◌}
-use Rattle.std.specs.List.{All}
-use Rattle.solomon_reader.specs.declared.limits.TheConstants.{MOST_TIME, MOST_CAPACITY}
+use Rattle.std.specs.Prelude.{◌≡◌, ℕ, ◌+◌, ◌*◌, ◌<◌, ◌≤◌, Bool, false, length, ℤ, pos, ◌+ℤ◌, ◌≤ℤ◌}
+use Rattle.std.specs.List.{AllByRecursion}
+use Rattle.solomon_reader.specs.declared.limits.TheConstants.{MOST_TIME, MOST_CAPACITY, MOST_PRICE}
+use Rattle.solomon_reader.specs.CustomerSets.{IsCustomerSet}
+use Rattle.solomon_reader.specs.SetPrices.{price_sum}
+use Rattle.priced_sets.specs.Sets.{sets_of, IsWithin}
+use Rattle.fronts.specs.declared.payment.Payment.{Payment}
 use Rattle.solomon_reader.specs.Problem.{Problem, IsCustomer, customer_count, demand, ready, service}
 use Rattle.solomon_reader.specs.Distance.{distance}
 use Rattle.solomon_reader.specs.Region.{Region}
@@ -41,11 +45,13 @@ pub record IsAfter (p : Problem) (paid : ℕ → ℕ → ℤ) (f : Front) (j : �
 abbrev pub end_cost : Problem → Front → ℤ
 end_cost p f = f.cost +ℤ pos (1000 * distance p f.last 0)
 
--- what the caller hands in
-pub record IsTask (p : Problem) (g : Region) (prices : List ℤ) : Type 0 where
+-- what the caller hands in: a price for each customer, in its range together with those of the sets
+pub record IsTask (p : Problem) (g : Region) (x : Payment) : Type 0 where
   pub size : g.size ≡ customer_count p
-  pub count : length prices ≡ customer_count p
-  pub priced : All IsPriced prices
+  pub count : length x.prices.now ≡ customer_count p
+  pub known : AllByRecursion (λ s. IsCustomerSet (customer_count p) s.members) (sets_of x.sets.now)
+  pub low : price_sum (sets_of x.sets.now) ≤ MOST_PRICE
+  pub within : AllByRecursion (IsWithin (sets_of x.sets.now)) x.prices.now
   pub carried : (i : ℕ) → IsCustomer p i → 1 ≤ demand p i
 
 -- what each step to a customer is paid is in its range, and each customer has a demand

@@ -2,13 +2,14 @@
 use Rattle.std.specs.Prelude.{ℕ, ℤ}
 use Rattle.solomon_reader.specs.Problem.{Problem}
 use Rattle.solomon_reader.specs.Region.{Region}
-use Rattle.solomon_reader.specs.Relaxed.{by_customer}
+use Rattle.solomon_reader.specs.SetPrices.{by_sets}
 use Rattle.solomon_reader.specs.States.{Pricing, pricing_by}
+use Rattle.priced_sets.specs.Sets.{sets_of}
 use Rattle.fronts.specs.declared.payment.Payment.{Payment}
 
 -- for a step from i to j
 abbrev pub paid_by : Payment → ℕ → ℕ → ℤ
-paid_by x i j = by_customer x.prices.now i j
+paid_by x i j = by_sets x.prices.now (sets_of x.sets.now) i j
 
 abbrev pub pricing_for : Problem → Region → ℕ → Payment → Pricing
 pricing_for p g k x = pricing_by p g k (paid_by x)

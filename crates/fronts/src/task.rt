@@ -55,7 +55,7 @@ impl<'i> Task<'i> {
         region: &'i Region,
         payment: Payment<'i>,
     ) -> Result<Task<'i>, AllocError>
-        requires { IsTask nearness.now.instance.now region.now payment.prices.now }
+        requires { IsTask nearness.now.instance.now region.now payment }
         ensures instance { IfOk result (λ t. t.instance.now ≡ nearness.now.instance.now) }
         ensures region { IfOk result (λ t. t.region.now ≡ region.now) }
         ensures payment { IfOk result (λ t. t.payment ≡ payment.entry) }

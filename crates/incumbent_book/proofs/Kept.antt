@@ -1,27 +1,49 @@
 -- A book stays a book when an event is added. Which demands a call meets, one after the other.
-use Rattle.std.proofs.Common.{◌≡◌, ℕ, ◌+◌, ◌<◌, true, false, List, [], ◌∷◌, ◌++◌, Option, Some, None, length, refl, ap, sym, subst, ◌∙◌, arith, inl, inr}
-use Rattle.std.specs.Prelude.{slice_get, slice_set, option_map, ℤ}
-use Rattle.std.proofs.lemmas.Option.{slice_get-map, get_or_from_slice_get}
+use Rattle.std.proofs.Common.{◌≡◌, ℕ, zero, suc, ◌+◌, ◌<◌, ◌≤◌, true, false, List, [], ◌∷◌, ◌++◌, Option, Some, None, Result, Ok, Err, length, refl, ap, sym, subst, ◌∙◌, arith, inl, inr, length-append}
+use Rattle.std.specs.Prelude.{slice_get, slice_set, option_map, map}
+use Rattle.std.specs.List.{AllByRecursion}
+use Rattle.std.specs.Result.{OnOk}
+use Rattle.std.proofs.lemmas.Bool.{cases_eq, cases_lt}
+use Rattle.std.proofs.lemmas.Option.{slice_get-map, get_or_from_slice_get, slice_get_past}
 use Rattle.std.proofs.lemmas.List.{map-set, map-append}
 use Rattle.std.proofs.Math.ListN.{length-map}
-use Rattle.solomon_reader.specs.Problem.{customer_count}
+use Rattle.solomon_reader.specs.Problem.{Problem, customer_count}
+use Rattle.solomon_reader.specs.Region.{Among}
+use Rattle.solomon_reader.specs.AmongLaws.{weaker, among_all}
+use Rattle.solomon_reader.specs.SetPrices.{ListedSet, PricedSet, listed_of}
+use Rattle.priced_sets.specs.Sets.{MayBeListed}
+use Rattle.solomon_reader.specs.Plan.{Arc as Pair}
 use Rattle.schedule.specs.Solution.{Solution, IsSolution}
 use Rattle.branching.specs.declared.arc.Arc.{Arc}
 use Rattle.branching.specs.Arcs.{pair}
 use Rattle.prices.specs.ValuedPrices.{ValuedPrices, IsValued}
-use Rattle.solomon_reader.specs.History.{IsLeaf, IsCheaper, value_of, depth_of, split_count, used_number, unused_number}
-use Rattle.incumbent_book.specs.Contents.{Contents, IsBook, pricing_at}
-use Rattle.incumbent_book.specs.Faults.{IsAccepted, reprice, split, Call, MeetsBelow, IsLowestFault, IsRefusedFor, IsFirstFault}
-use Rattle.incumbent_book.specs.Replies.{with_offer, with_incumbent, with_prices, with_split}
-use Rattle.incumbent_book.specs.Arena.{leaf_at, new_leaf, prices_of}
+use Rattle.solomon_reader.specs.History.{Limits, IsLeaf, IsCheaper, value_of, depth_of, split_count, used_number, unused_number}
+use Rattle.incumbent_book.specs.Contents.{Contents, OwnPrices, own_prices, no_prices, IsBook, AreListed, pricing_at}
+use Rattle.incumbent_book.specs.Faults.{IsAccepted, reprice, split, Call, sets_of_call, MeetsBelow, IsLowestFault, IsRefusedFor, IsFirstFault}
+use Rattle.incumbent_book.specs.Replies.{opened, IsRoot, AreOpen, with_offer, with_incumbent, with_prices, with_split, IsListing}
+use Rattle.incumbent_book.specs.SetLists.{IsGrown, IsUnlistedFor}
+use Rattle.incumbent_book.specs.Arena.{open_leaf, leaf_at, new_leaf, prices_of, StandsAt}
 use Rattle.incumbent_book.specs.Keeping.{IsConsistent, IsLeafOf}
-use Rattle.incumbent_book.specs.declared.fault.BookFault.TheVariants.{ForeignInstance, JournalFull, NotALeaf, WrongRegion, NotHigher, Lower, LeavesFull, TooDeep, Memory}
+use Rattle.incumbent_book.specs.declared.fault.BookFault.TheVariants.{ForeignInstance, JournalFull, NotALeaf, WrongRegion, NotHigher, Lower, LeavesFull, TooDeep, Memory, SetsFull}
 use Rattle.incumbent_book.specs.declared.node.Leaf.{Leaf}
 use Rattle.incumbent_book.specs.declared.node.Node.{Node}
 use Rattle.incumbent_book.specs.declared.node.Node.TheVariants.{Open, Split}
 use Rattle.incumbent_book.specs.declared.fault.BookFault.{BookFault}
 use Rattle.incumbent_book.proofs.Histories.{best-better, best-kept, which_number, same_depth, used_depth, unused_depth}
+use Rattle.incumbent_book.proofs.SetLists.{still_listed, all_both, all_left, all_right}
+use Rattle.incumbent_book.proofs.Leaves.{get_set_same, get_set_other, get_front, get_behind, leaf_within}
 use Rattle.incumbent_book.proofs.Trees.{open_node, open_at, leaf_is, leaf_there, no_leaf, after_offer, after_prices, after_split}
+
+-- what is added to a list may be listed, where that holds of the sets
+known_after : (p : Problem) (listed : List ListedSet) (sets : List PricedSet) (more : List ListedSet) → AllByRecursion (MayBeListed p) listed
+    → AllByRecursion (λ s. MayBeListed p (listed_of s)) sets → IsListing listed sets more → AllByRecursion (MayBeListed p) (listed ++ more)
+known_after p listed sets more before may listing =
+    all_both (MayBeListed p) listed more before
+    (weaker (λ l. (¬ Among l listed) × Among l (map listed_of sets)) (MayBeListed p) (λ l k. among_all (MayBeListed p) (map listed_of sets) (all_mapped p sets may) l k.1) more listing.only)
+  where
+    all_mapped : (p : Problem) (sets : List PricedSet) → AllByRecursion (λ s. MayBeListed p (listed_of s)) sets → AllByRecursion (MayBeListed p) (map listed_of sets)
+    all_mapped p [] h = tt
+    all_mapped p (s ∷ sets) h = (h.0, all_mapped p sets h.1)
 
 module _ (b : Contents) (nodes : List Node) (is : IsConsistent b nodes) where
   abbrev n : ℕ
@@ -30,10 +52,10 @@ module _ (b : Contents) (nodes : List Node) (is : IsConsistent b nodes) where
   pub leaf_pricing : (m : ℕ) (leaf : Leaf) → leaf_at nodes m ≡ Some leaf → leaf.priced ≡ pricing_at b m
   leaf_pricing m leaf e =
       let o = open_at b.problem b.neighbours b.root b.past nodes is.arena m leaf e in
-      let got : slice_get b.prices m ≡ Some leaf.priced.prices =
-      ap (λ (ps : List (List ℤ)). slice_get ps m) is.prices ∙ (slice_get-map prices_of nodes m ∙ ap (option_map prices_of) (open_node nodes m leaf e)) in
-      let prices = sym (get_or_from_slice_get b.prices m leaf.priced.prices [] got) in
-      λ i. record { problem = o.problem i; region = o.region i; neighbours = o.neighbours i; prices = prices i; value = o.value i }
+      let got : slice_get b.prices m ≡ Some (own_prices leaf.priced) =
+      ap (λ (ps : List OwnPrices). slice_get ps m) is.prices ∙ (slice_get-map prices_of nodes m ∙ ap (option_map prices_of) (open_node nodes m leaf e)) in
+      let own = sym (get_or_from_slice_get b.prices m (own_prices leaf.priced) no_prices got) in
+      λ i. record { problem = o.problem i; region = o.region i; neighbours = o.neighbours i; prices = (own i).customers; sets = (own i).sets; value = o.value i }
 
   pub kept_book : IsBook b
   kept_book = record {
@@ -42,10 +64,15 @@ module _ (b : Contents) (nodes : List Node) (is : IsConsistent b nodes) where
     within = is.within;
     plan = is.plan;
     best = is.best;
-    count = ap (λ (ps : List (List ℤ)). length ps) is.prices ∙ (length-map nodes prices_of ∙ is.arena.count);
+    count = ap (λ (ps : List OwnPrices). length ps) is.prices ∙ (length-map nodes prices_of ∙ is.arena.count);
     leaves = λ m at.
         (let l = leaf_there b.problem b.neighbours b.root b.past nodes is.arena m at in
         subst IsValued (leaf_pricing m l.0 l.1) (open_at b.problem b.neighbours b.root b.past nodes is.arena m l.0 l.1).pricing);
+    few = is.few;
+    known = is.known;
+    named = λ m at.
+        (let l = leaf_there b.problem b.neighbours b.root b.past nodes is.arena m at in
+        subst (λ (f : ValuedPrices). AreListed b.listed f.sets) (leaf_pricing m l.0 l.1) (is.named m l.0 l.1));
   }
 
   -- the leaf that the nodes have at a number is that of the book
@@ -73,6 +100,9 @@ module _ (b : Contents) (nodes : List Node) (is : IsConsistent b nodes) where
     best = best-kept b.past worker cost (option_map (λ s. s.cost) b.incumbent) is.best dearer;
     arena = after_offer b.problem b.neighbours b.root b.past nodes is.arena worker cost false;
     prices = is.prices;
+    few = is.few;
+    known = is.known;
+    named = is.named;
   }
 
   pub kept_replace : (worker : ℕ) (plan : Solution) → length b.past < b.limits.events → IsSolution plan → plan.problem ≡ b.problem
@@ -85,11 +115,15 @@ module _ (b : Contents) (nodes : List Node) (is : IsConsistent b nodes) where
     best = best-better b.past worker plan.cost cheaper;
     arena = after_offer b.problem b.neighbours b.root b.past nodes is.arena worker plan.cost true;
     prices = is.prices;
+    few = is.few;
+    known = is.known;
+    named = is.named;
   }
 
   pub kept_raise : (worker m : ℕ) (f : ValuedPrices) (old : Leaf) → IsAccepted b (reprice m f) → IsValued f → leaf_at nodes m ≡ Some old
-      → IsConsistent (with_prices b worker m f) (slice_set nodes m (Open (new_leaf old.depth f)))
-  kept_raise worker m f old accepted pricing was =
+      → (more : List ListedSet) → IsListing b.listed f.sets more → length (b.listed ++ more) ≤ b.most_sets
+      → IsConsistent (with_prices b worker m f more) (slice_set nodes m (Open (new_leaf old.depth f)))
+  kept_raise worker m f old accepted pricing was more listing few =
       let room = accepted.met JournalFull (omega arith) in
       let at = accepted.met WrongRegion (omega arith) in record {
         legal = (record { leaf = accepted.met NotALeaf (omega arith); higher = accepted.met NotHigher (omega arith) }, is.legal);
@@ -99,13 +133,70 @@ module _ (b : Contents) (nodes : List Node) (is : IsConsistent b nodes) where
         best = is.best;
         arena =
             after_prices b.problem b.neighbours b.root b.past nodes is.arena worker m old f was (accepted.met ForeignInstance (omega arith)) at.region at.neighbours pricing;
-        prices = ap (λ (ps : List (List ℤ)). slice_set ps m f.prices) is.prices ∙ sym (map-set prices_of nodes m (Open (new_leaf old.depth f)));
+        prices = ap (λ (ps : List OwnPrices). slice_set ps m (own_prices f)) is.prices ∙ sym (map-set prices_of nodes m (Open (new_leaf old.depth f)));
+        few = (few, is.few.1);
+        known = known_after b.problem b.listed f.sets more is.known (rw (accepted.met ForeignInstance (omega arith)) at pricing.sets_are.listed) listing;
+        named = λ j l e. elim (cases_eq j m) [
+          | inl s ↦
+              (let same : Some (new_leaf old.depth f) ≡ Some l =
+              ap open_leaf (sym (get_set_same nodes m (Open (new_leaf old.depth f)) (leaf_within nodes m old was))) ∙ (sym (ap (leaf_at (slice_set nodes m (Open (new_leaf old.depth f)))) s) ∙ e) in
+              let one : new_leaf old.depth f ≡ l = cc in
+              subst (λ (k : Leaf). AreListed (b.listed ++ more) k.priced.sets) one listing.all)
+          | inr d ↦ still_listed b.listed more l.priced.sets (is.named j l (ap open_leaf (sym (get_set_other nodes m j (Open (new_leaf old.depth f)) d)) ∙ e))
+        ];
       }
 
+  -- the same with a list that grew
+  pub raised_is : (worker m : ℕ) (f : ValuedPrices) (more new : List ListedSet) → new ≡ b.listed ++ more
+      → record (with_prices b worker m f []) { listed = new } ≡ with_prices b worker m f more
+  raised_is worker m f more new e = ap (λ (l : List ListedSet). record (with_prices b worker m f []) { listed = l }) e
+
+  pub split_is : (worker m : ℕ) (a : Pair) (x y : ValuedPrices) (more new : List ListedSet) → new ≡ b.listed ++ more
+      → record (with_split b worker m a x y []) { listed = new } ≡ with_split b worker m a x y more
+  split_is worker m a x y more new e = ap (λ (l : List ListedSet). record (with_split b worker m a x y []) { listed = l }) e
+
+  -- each leaf's sets are listed after a split
+  named_split : (m : ℕ) (arc : Arc) (x y : ValuedPrices) (old : Leaf) (more : List ListedSet) → leaf_at nodes m ≡ Some old → IsListing b.listed (x.sets ++ y.sets) more
+      → (j : ℕ) (l : Leaf)
+      → leaf_at (slice_set nodes m (Split arc (length nodes) (length nodes + 1)) ++ Open (new_leaf (old.depth + 1) x) ∷ Open (new_leaf (old.depth + 1) y) ∷ []) j ≡ Some l
+      → AreListed (b.listed ++ more) l.priced.sets
+  named_split m arc x y old more was listing j l e =
+      let node : Node = Split arc (length nodes) (length nodes + 1) in
+      let front : List Node = slice_set nodes m node in
+      let first : Leaf = new_leaf (old.depth + 1) x in
+      let second : Leaf = new_leaf (old.depth + 1) y in
+      let back : List Node = Open first ∷ Open second ∷ [] in
+      elim (cases_lt j (length front)) [
+        | inl h ↦
+            (let got : leaf_at front j ≡ Some l = ap open_leaf (sym (get_front front back j h)) ∙ e in
+            elim (cases_eq j m) [
+              | inl s ↦
+                  absurd (let none : leaf_at front m ≡ None = ap open_leaf (get_set_same nodes m node (leaf_within nodes m old was)) in
+                  let c : None ≡ Some l = sym none ∙ (sym (ap (leaf_at front) s) ∙ got) in cc)
+              | inr d ↦ still_listed b.listed more l.priced.sets (is.named j l (ap open_leaf (sym (get_set_other nodes m j node d)) ∙ got))
+            ])
+        | inr h ↦ elim (cases_eq j (length front + 0)) [
+          | inl u ↦
+              (let same : Some first ≡ Some l = ap open_leaf (sym (get_behind front back j 0 u)) ∙ e in
+              let one : first ≡ l = cc in
+              subst (λ (k : Leaf). AreListed (b.listed ++ more) k.priced.sets) one (all_left (λ s. Among (listed_of s) (b.listed ++ more)) x.sets y.sets listing.all))
+          | inr nu ↦ elim (cases_eq j (length front + 1)) [
+            | inl w ↦
+                (let same : Some second ≡ Some l = ap open_leaf (sym (get_behind front back j 1 w)) ∙ e in
+                let one : second ≡ l = cc in
+                subst (λ (k : Leaf). AreListed (b.listed ++ more) k.priced.sets) one (all_right (λ s. Among (listed_of s) (b.listed ++ more)) x.sets y.sets listing.all))
+            | inr nw ↦
+                (let far : length (front ++ back) ≤ j = omega (arith, length-append front back) in
+                absurd (let c : None ≡ Some l = sym (ap open_leaf (slice_get_past (front ++ back) j far)) ∙ e in cc))
+          ]
+        ]
+      ]
+
   pub kept_split : (worker m : ℕ) (arc : Arc) (x y : ValuedPrices) (old : Leaf) → IsAccepted b (split m (pair arc) x y) → IsValued x → IsValued y → leaf_at nodes m ≡ Some old
-      → IsConsistent (with_split b worker m (pair arc) x y)
+      → (more : List ListedSet) → IsListing b.listed (x.sets ++ y.sets) more → length (b.listed ++ more) ≤ b.most_sets
+      → IsConsistent (with_split b worker m (pair arc) x y more)
       (slice_set nodes m (Split arc (length nodes) (length nodes + 1)) ++ Open (new_leaf (old.depth + 1) x) ∷ Open (new_leaf (old.depth + 1) y) ∷ [])
-  kept_split worker m arc x y old accepted xv yv was =
+  kept_split worker m arc x y old accepted xv yv was more listing few =
       let room = accepted.met JournalFull (omega arith) in
       let leaves = accepted.met LeavesFull (omega arith) in
       let deep = accepted.met TooDeep (omega arith) in
@@ -142,9 +233,13 @@ module _ (b : Contents) (nodes : List Node) (is : IsConsistent b nodes) where
         arena =
             after_split b.problem b.neighbours b.root b.past nodes is.arena is.legal worker m arc old x y was problems.0 problems.1 children.used.region children.unused.region
             children.used.neighbours children.unused.neighbours xv yv;
-        prices = ap (λ (ps : List (List ℤ)). slice_set ps m [] ++ x.prices ∷ y.prices ∷ []) is.prices
+        prices = ap (λ (ps : List OwnPrices). slice_set ps m no_prices ++ own_prices x ∷ own_prices y ∷ []) is.prices
             ∙ sym (map-append prices_of (slice_set nodes m (Split arc (length nodes) (length nodes + 1))) (Open (new_leaf (old.depth + 1) x) ∷ Open (new_leaf (old.depth + 1) y) ∷ [])
-            ∙ ap (λ (ps : List (List ℤ)). ps ++ x.prices ∷ y.prices ∷ []) (map-set prices_of nodes m (Split arc (length nodes) (length nodes + 1))));
+            ∙ ap (λ (ps : List OwnPrices). ps ++ own_prices x ∷ own_prices y ∷ []) (map-set prices_of nodes m (Split arc (length nodes) (length nodes + 1))));
+        few = (few, is.few.1);
+        known = known_after b.problem b.listed (x.sets ++ y.sets) more is.known
+            (all_both (λ s. MayBeListed b.problem (listed_of s)) x.sets y.sets (rw problems.0 at xv.sets_are.listed) (rw problems.1 at yv.sets_are.listed)) listing;
+        named = named_split m arc x y old more was listing;
       }
 
 -- ---- Which demands a call meets, one after the other.
@@ -160,7 +255,57 @@ told b call NotHigher low = low
 told b call Lower low = low
 told b call LeavesFull low = low
 told b call TooDeep low = low
+told b call SetsFull low = absurd (low.0 tt)
+
+-- what was refused for its sets
+pub unlisted_told : (b : Contents) (call : Call) (f : BookFault) → IsAccepted b call → IsUnlistedFor b.most_sets (sets_of_call call) b.listed f → IsRefusedFor b call f
+unlisted_told b call Memory accepted u = accepted
+unlisted_told b call SetsFull accepted u = (accepted, record { unlisted = u.unlisted; full = u.full })
+unlisted_told b call ForeignInstance accepted u = absurd u
+unlisted_told b call JournalFull accepted u = absurd u
+unlisted_told b call NotALeaf accepted u = absurd u
+unlisted_told b call WrongRegion accepted u = absurd u
+unlisted_told b call NotHigher accepted u = absurd u
+unlisted_told b call Lower accepted u = absurd u
+unlisted_told b call LeavesFull accepted u = absurd u
+unlisted_told b call TooDeep accepted u = absurd u
+
+-- what is ensured where nothing is refused
+pub no_error : {T E P : Type 0} (r : Result T E) → ((e : E) → r ≡ Err e → ⊥) → OnOk r P → P
+no_error (Ok x) none holds = holds
+no_error (Err e) none holds = absurd (none e refl)
 
 pub none_told : (b : Contents) (call : Call) (r : Option BookFault) → IsFirstFault b call r → ((f : BookFault) → r ≡ Some f → ⊥) → MeetsBelow b call 10
 none_told b call None is none = is
 none_told b call (Some f) is none = absurd (none f refl)
+
+-- ---- A new book.
+
+new_node : (root : ValuedPrices) (m : ℕ) (node : Node) → slice_get (Open (new_leaf 0 root) ∷ []) m ≡ Some node → (m ≡ 0) × (Open (new_leaf 0 root) ≡ node)
+new_node root zero node e = (refl, cc)
+new_node root (suc m) node e = absurd (let c : None ≡ Some node = e in cc)
+
+pub kept_new : (root : ValuedPrices) (limits : Limits) (sets : ℕ) (listed : List ListedSet) → IsRoot root → AreOpen root limits sets → IsValued root → IsGrown sets root.sets [] listed
+    → IsConsistent (opened root limits sets listed) (Open (new_leaf 0 root) ∷ [])
+kept_new root limits sets listed at opens valued grown =
+    let limited = opens.limits_are in record {
+      legal = tt;
+      limits = limited;
+      within = record { events = omega arith; leaves = omega (arith, limited.leaves.0); depth = λ m h. omega arith };
+      plan = tt;
+      best = refl;
+      arena = record {
+        count = refl;
+        stand = λ m node e.
+            (let n = new_node root m node e in
+            subst (StandsAt root.problem root.neighbours root.value [] m) n.1
+            (record { whole = refl; depth = refl; problem = refl; region = at; neighbours = refl; value = refl; pricing = valued }));
+      };
+      prices = refl;
+      few = (grown.few, opens.most);
+      known = rw grown.is (known_after root.problem [] root.sets grown.more tt valued.sets_are.listed grown.listing);
+      named = λ m l e.
+          (let n = new_node root m (Open l) (open_node (Open (new_leaf 0 root) ∷ []) m l e) in
+          let one : new_leaf 0 root ≡ l = cc in
+          subst (λ (k : Leaf). AreListed listed k.priced.sets) one (rw grown.is grown.listing.all));
+    }

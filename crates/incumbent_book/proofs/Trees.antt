@@ -1,16 +1,14 @@
 -- The tree of a book, and its nodes: they are what its history says, after each event.
-use Rattle.std.proofs.Common.{◌≡◌, ℕ, zero, suc, ◌+◌, ◌<◌, ◌≤◌, List, [], ◌∷◌, ◌++◌, Option, Some, None, length, refl, ap, sym, subst, ◌∙◌, arith, inl, inr, length-set, length-append}
-use Rattle.std.specs.Prelude.{slice_get, ℤ, slice_set}
+use Rattle.std.proofs.Common.{◌≡◌, ℕ, ◌+◌, ◌<◌, ◌≤◌, List, [], ◌∷◌, ◌++◌, Option, Some, None, length, refl, ap, sym, ◌∙◌, arith, inl, inr, length-set, length-append}
+use Rattle.std.specs.Prelude.{slice_get, slice_set}
 use Rattle.std.proofs.lemmas.Bool.{cases_eq, cases_lt}
 use Rattle.std.proofs.lemmas.Option.{slice_get-get_or, slice_get_past}
 use Rattle.solomon_reader.specs.Region.{IsUndecided, used_child, unused_child}
-use Rattle.solomon_reader.specs.Bound.{LeafPrices, of_customers, Tree, leaf, split, leaf_node, split_node, preorder}
 use Rattle.branching.specs.declared.arc.Arc.{Arc}
 use Rattle.branching.specs.Arcs.{pair}
 use Rattle.solomon_reader.specs.History.{Event, offered, repriced, branched, split_count, used_number, unused_number, split_of, region_of, depth_of, IsLegal, last_number, IsLeaf, value_of}
 use Rattle.solomon_reader.specs.Problem.{Problem, customer_count}
 use Rattle.prices.specs.ValuedPrices.{ValuedPrices, IsValued}
-use Rattle.incumbent_book.specs.Forward.{IsForward, GrowsIn}
 use Rattle.incumbent_book.specs.declared.node.Leaf.{Leaf}
 use Rattle.incumbent_book.specs.declared.node.Node.{Node}
 use Rattle.incumbent_book.specs.declared.node.Node.TheVariants.{Open, Split}
@@ -87,51 +85,6 @@ split_facts n v (branched worker l b i k x y ∷ past) m j a legal e = elim (cas
         unused_deep = same_depth n v past worker l b i k x y (unused_number j) (omega arith) ∙ (f.unused_deep ∙ ap (λ d. d + 1) (sym (same_depth n v past worker l b i k x y m (omega arith))));
       })
 ]
-
--- the nodes that a list of nodes gives at a number
-pub listed_open : (nodes : List Node) (m : ℕ) (l : Leaf) (tree : Tree) → slice_get nodes m ≡ Some (Open l) → GrowsIn nodes m tree → preorder tree ≡ leaf_node (of_customers l.priced.prices) ∷ []
-listed_open nodes m l (leaf ps) e g =
-    let both : Some (Open l) ≡ Some (Open g.0) = sym e ∙ g.1 in
-    let same : l ≡ g.0 = cc in
-    ap (λ (ps : LeafPrices). leaf_node ps ∷ []) (g.2 ∙ ap (λ (k : Leaf). of_customers k.priced.prices) (sym same))
-listed_open nodes m l (split a x y) e g =
-    let both : Some (Open l) ≡ Some (Split g.0 g.1.0 g.1.1.0) = sym e ∙ g.1.1.1.0 in absurd cc
-
-pub listed_split : (nodes : List Node) (m : ℕ) (arc : Arc) (i j : ℕ) (tree : Tree) → slice_get nodes m ≡ Some (Split arc i j) → GrowsIn nodes m tree
-    → (x : Tree) × (y : Tree) × GrowsIn nodes i x × GrowsIn nodes j y × (preorder tree ≡ split_node (pair arc) ∷ (preorder x ++ preorder y))
-listed_split nodes m arc i j (leaf ps) e g =
-    let both : Some (Split arc i j) ≡ Some (Open g.0) = sym e ∙ g.1 in absurd cc
-listed_split nodes m arc i j (split a x y) e g =
-    let h = g.1.1.1 in
-    let both : Some (Split arc i j) ≡ Some (Split g.0 g.1.0 g.1.1.0) = sym e ∙ h.0 in
-    let one : g.1.0 ≡ i = cc in
-    let two : g.1.1.0 ≡ j = cc in
-    let same : g.0 ≡ arc = cc in (
-      x,
-      y,
-      subst (λ (k : ℕ). GrowsIn nodes k x) one h.2,
-      subst (λ (k : ℕ). GrowsIn nodes k y) two h.3,
-      ap (λ (b : Pair). split_node b ∷ (preorder x ++ preorder y)) (h.1 ∙ ap pair same),
-    )
-
--- a tree stands at a node where one stands at each node behind it
-grown_by : (nodes : List Node) → IsForward nodes → (m : ℕ) → m < length nodes → ((i : ℕ) → m < i → i < length nodes → (tree : Tree) × GrowsIn nodes i tree)
-    → (o : Option Node) → slice_get nodes m ≡ o → (tree : Tree) × GrowsIn nodes m tree
-grown_by nodes is m h behind None e =
-    absurd (let s = slice_get-get_or nodes m (Split (record { from = 0; to = 0 }) 0 0) h in let c : None ≡ Some _ = sym e ∙ s in cc)
-grown_by nodes is m h behind (Some (Open l)) e = (leaf (of_customers l.priced.prices), (l, e, refl))
-grown_by nodes is m h behind (Some (Split arc i j)) e =
-    let u = is.used m arc i j e in
-    let w = is.unused m arc i j e in
-    let x = behind i u.0 u.1 in
-    let y = behind j w.0 w.1 in
-    (split (pair arc) x.0 y.0, (arc, (i, (j, (e, refl, x.1, y.1)))))
-
--- a tree stands at each node
-pub grown : (nodes : List Node) → IsForward nodes → (fuel m : ℕ) → m < length nodes → length nodes ≤ m + fuel → (tree : Tree) × GrowsIn nodes m tree
-grown nodes is zero m h k = absurd (omega arith)
-grown nodes is (suc fuel) m h k =
-    grown_by nodes is m h (λ i behind inside. grown nodes is fuel i inside (omega arith)) (slice_get nodes m) refl
 
 -- ---- The nodes of a book are what its history says, after each event.
 

@@ -1,19 +1,20 @@
 -- The nodes of a book by their numbers.
-use Rattle.std.specs.Prelude.{◌≡◌, ℕ, ◌+◌, ◌≤◌, ◌==◌, Bool, false, List, [], length, ℤ, Option, Some, None, slice_get, IsTrue, MatchOption}
+use Rattle.std.specs.Prelude.{◌≡◌, ℕ, ◌+◌, ◌≤◌, ◌==◌, Bool, false, List, length, Option, Some, None, slice_get, IsTrue, MatchOption}
 use Rattle.solomon_reader.specs.Problem.{Problem, customer_count}
 use Rattle.solomon_reader.specs.Region.{arc_cmp}
 use Rattle.std.specs.BTreeSet.{BTreeSet, contains}
 use Rattle.branching.specs.Arcs.{pair}
 use Rattle.prices.specs.ValuedPrices.{ValuedPrices, IsValued}
 use Rattle.solomon_reader.specs.History.{Event, split_of, last_number, region_of, depth_of, value_of, used_number, unused_number}
+use Rattle.incumbent_book.specs.Contents.{OwnPrices, own_prices, no_prices}
 use Rattle.incumbent_book.specs.declared.node.Leaf.{Leaf}
 use Rattle.incumbent_book.specs.declared.node.Node.{Node}
 use Rattle.incumbent_book.specs.declared.node.Node.TheVariants.{Open, Split}
 
 -- the prices of a leaf; a node that was split has none
-abbrev pub prices_of : Node → List ℤ
-prices_of (Open leaf) = leaf.priced.prices
-prices_of (Split arc used unused) = []
+abbrev pub prices_of : Node → OwnPrices
+prices_of (Open leaf) = own_prices leaf.priced
+prices_of (Split arc used unused) = no_prices
 
 -- the leaf of an open node
 abbrev pub open_leaf : Option Node → Option Leaf

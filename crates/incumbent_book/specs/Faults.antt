@@ -1,14 +1,15 @@
 -- What a book demands of a call, and for which fault it refuses one.
-use Rattle.std.specs.Prelude.{◌≡◌, ℕ, ◌<◌, ◌≤◌, length, Option, Some, None}
+use Rattle.std.specs.Prelude.{◌≡◌, ℕ, ◌+◌, ◌<◌, ◌≤◌, List, [], ◌++◌, length, Option, Some, None}
 use Rattle.solomon_reader.specs.Problem.{customer_count}
 use Rattle.solomon_reader.specs.Plan.{Arc}
 use Rattle.solomon_reader.specs.Region.{Region, IsUndecided, used_child, unused_child}
 use Rattle.schedule.specs.Solution.{Solution}
+use Rattle.solomon_reader.specs.SetPrices.{PricedSet}
 use Rattle.prices.specs.ValuedPrices.{ValuedPrices}
 use Rattle.solomon_reader.specs.History.{IsLeaf, leaf_count, region_of, depth_of, value_of}
-use Rattle.incumbent_book.specs.Contents.{Contents}
+use Rattle.incumbent_book.specs.Contents.{Contents, AreListed}
 use Rattle.incumbent_book.specs.declared.fault.BookFault.{BookFault}
-use Rattle.incumbent_book.specs.declared.fault.BookFault.TheVariants.{Memory, ForeignInstance, JournalFull, NotALeaf, WrongRegion, NotHigher, Lower, LeavesFull, TooDeep}
+use Rattle.incumbent_book.specs.declared.fault.BookFault.TheVariants.{Memory, ForeignInstance, JournalFull, NotALeaf, WrongRegion, NotHigher, Lower, LeavesFull, TooDeep, SetsFull}
 
 -- a plan; a number with new prices; a number with an arc, and prices where it is used and where it isn't
 pub data Call : Type 0 where
@@ -65,7 +66,7 @@ HasDepthLeft b (offer plan) = Unit {0}
 HasDepthLeft b (reprice m f) = Unit {0}
 HasDepthLeft b (split m a x y) = depth_of b.past m < b.limits.depth
 
--- the demand whose lack is this fault; memory stands outside
+-- the demand whose lack is this fault; memory and room for sets stand outside
 abbrev pub Meets : Contents → Call → BookFault → Type 0
 Meets b call Memory = Unit {0}
 Meets b call ForeignInstance = IsOfInstance b call
@@ -76,6 +77,7 @@ Meets b call NotHigher = IsHigher b call
 Meets b call Lower = IsNotLower b call
 Meets b call LeavesFull = HasLeavesLeft b call
 Meets b call TooDeep = HasDepthLeft b call
+Meets b call SetsFull = Unit {0}
 
 -- the order in which faults are told
 abbrev pub rank_of : BookFault → ℕ
@@ -88,6 +90,7 @@ rank_of NotHigher = 6
 rank_of Lower = 7
 rank_of LeavesFull = 8
 rank_of TooDeep = 9
+rank_of SetsFull = 10
 
 -- the call meets each demand of a rank below r
 pub record MeetsBelow (b : Contents) (call : Call) (r : ℕ) : Type 0 where
@@ -101,9 +104,21 @@ IsAccepted b call = MeetsBelow b call 10
 abbrev pub IsLowestFault : Contents → Call → BookFault → Type 0
 IsLowestFault b call f = (¬ Meets b call f) × MeetsBelow b call (rank_of f)
 
--- want of memory is told only where all demands are met
+-- the sets of the call's prices
+abbrev pub sets_of_call : Call → List PricedSet
+sets_of_call (offer plan) = []
+sets_of_call (reprice m f) = f.sets
+sets_of_call (split m a x y) = x.sets ++ y.sets
+
+-- some set isn't listed, and there is no room for as many as the call has
+pub record LacksRoom (b : Contents) (sets : List PricedSet) : Type 0 where
+  pub unlisted : ¬ AreListed b.listed sets
+  pub full : b.most_sets < length b.listed + length sets
+
+-- want of memory, or of room for sets, is told only where all demands are met
 abbrev pub IsRefusedFor : Contents → Call → BookFault → Type 0
 IsRefusedFor b call Memory = IsAccepted b call
+IsRefusedFor b call SetsFull = IsAccepted b call × LacksRoom b (sets_of_call call)
 IsRefusedFor b call f = IsLowestFault b call f
 
 -- the fault that is told, if there is one

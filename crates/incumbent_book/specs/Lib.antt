@@ -6,3 +6,4 @@ pub mod Keeping
 pub mod Laws
 pub mod Trees
 pub mod Forward
+pub mod SetLists

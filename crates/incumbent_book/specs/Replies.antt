@@ -1,5 +1,5 @@
 -- What a book replies, and what it holds then.
-use Rattle.std.specs.Prelude.{◌≡◌, ℕ, [], ◌∷◌, ◌++◌, slice_set, true, false, Some, None, Option, MatchOption, Result, Ok, Err}
+use Rattle.std.specs.Prelude.{◌≡◌, ℕ, [], ◌∷◌, ◌++◌, map, length, List, ◌≤◌, slice_set, true, false, Some, None, Option, MatchOption, Result, Ok, Err}
 use Rattle.solomon_reader.specs.Plan.{Arc}
 use Rattle.solomon_reader.specs.Problem.{customer_count}
 use Rattle.schedule.specs.Solution.{Solution}
@@ -8,26 +8,51 @@ use Rattle.incumbent_book.specs.declared.fault.OpenFault.{OpenFault}
 use Rattle.incumbent_book.specs.declared.fault.OpenFault.TheVariants as fault
 use Rattle.solomon_reader.specs.Region.{root_region}
 use Rattle.solomon_reader.specs.History.{Limits, offered, repriced, branched, IsCheaper, IsBestCost, IsBound, IsLeaf, split_count, used_number, unused_number}
-use Rattle.incumbent_book.specs.Contents.{Contents, AreLimits, pricing_at}
+use Rattle.std.specs.List.{AllByRecursion}
+use Rattle.solomon_reader.specs.Region.{Among}
+use Rattle.solomon_reader.specs.SetPrices.{ListedSet, PricedSet, listed_of}
+use Rattle.solomon_reader.specs.declared.limits.TheConstants.{MOST_SETS}
+use Rattle.incumbent_book.specs.Contents.{Contents, AreLimits, AreListed, own_prices, no_prices, pricing_at}
 use Rattle.incumbent_book.specs.Faults.{offer, reprice, split, IsAccepted, IsRefusedFor}
 use Rattle.incumbent_book.specs.declared.offered.Offered.{Offered}
 use Rattle.incumbent_book.specs.declared.offered.Offered.TheVariants.{Better, NotBetter}
 use Rattle.incumbent_book.specs.declared.fault.BookFault.{BookFault}
 use Rattle.incumbent_book.specs.declared.gap.Gap.{Gap}
 
--- a new book
-abbrev pub opened : ValuedPrices → Limits → Contents
-opened root limits = record { problem = root.problem; neighbours = root.neighbours; root = root.value; limits = limits; incumbent = None; past = []; prices = root.prices ∷ [] }
+-- a new book, in which so many sets may be listed
+abbrev pub opened : ValuedPrices → Limits → ℕ → List ListedSet → Contents
+opened root limits sets listed = record {
+  problem = root.problem;
+  neighbours = root.neighbours;
+  root = root.value;
+  limits = limits;
+  most_sets = sets;
+  incumbent = None;
+  past = [];
+  listed = listed;
+  prices = own_prices root ∷ [];
+}
 
 abbrev pub IsRoot : ValuedPrices → Type 0
 IsRoot root = root.region ≡ root_region (customer_count root.problem)
 
+-- these sets are listed in addition to those of a list: all of the sets stand there then, and no others were added
+pub record IsListing (old : List ListedSet) (sets : List PricedSet) (more : List ListedSet) : Type 0 where
+  pub all : AreListed (old ++ more) sets
+  pub only : AllByRecursion (λ l. (¬ Among l old) × Among l (map listed_of sets)) more
+
+-- within the greatest limits, also for sets, and those of the root have room
+pub record AreOpen (root : ValuedPrices) (limits : Limits) (sets : ℕ) : Type 0 where
+  pub limits_are : AreLimits limits
+  pub most : sets ≤ MOST_SETS
+  pub room : length root.sets ≤ sets
+
 -- what becomes of an opening: a decided arc comes first, then bad limits
-abbrev pub Opens : ValuedPrices → Limits → Result Contents (ValuedPrices × OpenFault) → Type 0
-Opens root limits (Ok b) = IsRoot root × AreLimits limits × (b ≡ opened root limits)
-Opens root limits (Err (returned, fault.Memory)) = IsRoot root × AreLimits limits × (returned ≡ root)
-Opens root limits (Err (returned, fault.NotRoot)) = (¬ IsRoot root) × (returned ≡ root)
-Opens root limits (Err (returned, fault.BadLimits)) = IsRoot root × (¬ AreLimits limits) × (returned ≡ root)
+abbrev pub Opens : ValuedPrices → Limits → ℕ → Result Contents (ValuedPrices × OpenFault) → Type 0
+Opens root limits sets (Ok b) = IsRoot root × AreOpen root limits sets × ((listed : List ListedSet) × IsListing [] root.sets listed × (b ≡ opened root limits sets listed))
+Opens root limits sets (Err (returned, fault.Memory)) = IsRoot root × AreOpen root limits sets × (returned ≡ root)
+Opens root limits sets (Err (returned, fault.NotRoot)) = (¬ IsRoot root) × (returned ≡ root)
+Opens root limits sets (Err (returned, fault.BadLimits)) = IsRoot root × (¬ AreOpen root limits sets) × (returned ≡ root)
 
 -- the book after an offer that wasn't cheaper
 abbrev pub with_offer : Contents → ℕ → ℕ → Contents
@@ -38,15 +63,17 @@ abbrev pub with_incumbent : Contents → ℕ → Solution → Contents
 with_incumbent old worker plan = record old { incumbent = Some plan; past = offered worker plan.cost true ∷ old.past }
 
 -- the book after new prices for a leaf
-abbrev pub with_prices : Contents → ℕ → ℕ → ValuedPrices → Contents
-with_prices old worker m f = record old { past = repriced worker m f.value ∷ old.past; prices = slice_set old.prices m f.prices }
+abbrev pub with_prices : Contents → ℕ → ℕ → ValuedPrices → List ListedSet → Contents
+with_prices old worker m f more =
+    record old { past = repriced worker m f.value ∷ old.past; listed = old.listed ++ more; prices = slice_set old.prices m (own_prices f) }
 
 -- the book after a split of a leaf
-abbrev pub with_split : Contents → ℕ → ℕ → Arc → ValuedPrices → ValuedPrices → Contents
-with_split old worker m a x y =
+abbrev pub with_split : Contents → ℕ → ℕ → Arc → ValuedPrices → ValuedPrices → List ListedSet → Contents
+with_split old worker m a x y more =
     record old {
       past = branched worker m a (used_number (split_count old.past)) (unused_number (split_count old.past)) x.value y.value ∷ old.past;
-      prices = slice_set old.prices m [] ++ x.prices ∷ y.prices ∷ [];
+      listed = old.listed ++ more;
+      prices = slice_set old.prices m no_prices ++ own_prices x ∷ own_prices y ∷ [];
     }
 
 -- the reply to an accepted offer: the plan is the incumbent where it is cheaper than every earlier one
@@ -61,13 +88,15 @@ Offers old worker plan (Err (returned, why)) new = IsRefusedFor old (offer plan)
 
 -- what becomes of new prices for a leaf
 abbrev pub Reprices : Contents → ℕ → ℕ → ValuedPrices → Result (Unit {0}) (ValuedPrices × BookFault) → Contents → Type 0
-Reprices old worker m f (Ok done) new = IsAccepted old (reprice m f) × (new ≡ with_prices old worker m f)
+Reprices old worker m f (Ok done) new =
+    IsAccepted old (reprice m f) × ((more : List ListedSet) × IsListing old.listed f.sets more × (new ≡ with_prices old worker m f more))
 Reprices old worker m f (Err (returned, why)) new = IsRefusedFor old (reprice m f) why × (returned ≡ f) × (new ≡ old)
 
 -- what becomes of a split: it makes the next two numbers
 abbrev pub Splits : Contents → ℕ → ℕ → Arc → ValuedPrices → ValuedPrices → Result (ℕ × ℕ) (ValuedPrices × ValuedPrices × BookFault) → Contents → Type 0
 Splits old worker m a x y (Ok (used, unused)) new =
-    IsAccepted old (split m a x y) × (used ≡ used_number (split_count old.past)) × (unused ≡ unused_number (split_count old.past)) × (new ≡ with_split old worker m a x y)
+    IsAccepted old (split m a x y) × (used ≡ used_number (split_count old.past)) × (unused ≡ unused_number (split_count old.past))
+    × ((more : List ListedSet) × IsListing old.listed (x.sets ++ y.sets) more × (new ≡ with_split old worker m a x y more))
 Splits old worker m a x y (Err (used, unused, why)) new = IsRefusedFor old (split m a x y) why × (used ≡ x) × (unused ≡ y) × (new ≡ old)
 
 -- a leaf with its prices, exactly where the number is one

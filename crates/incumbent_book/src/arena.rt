@@ -4,7 +4,8 @@ ghost use Rattle.std.specs.Prelude.{◌≡◌, ◌≢◌, ◌+◌, ◌<◌, ◌�
 ghost use Rattle.std.specs.Vec.{vec_capacity};
 ghost use Rattle.incumbent_book.specs.Arena.{leaf_at, new_leaf, WithLeaf, IsLeastOf};
 ghost use Rattle.branching.specs.Nodes.{node_of};
-ghost use Rattle.incumbent_book.specs.Forward.{IsForward, GrowsIn};
+ghost use Rattle.incumbent_book.specs.Forward.{IsForward, GrowsIn, HasSetsOf};
+ghost use Rattle.priced_sets.specs.Sets.{listed_set};
 ghost use Rattle.solomon_reader.specs.Bound.{Tree, preorder};
 ghost use Rattle.incumbent_book.specs.declared.node.Node.TheVariants.{Open, Split};
 
@@ -14,6 +15,7 @@ use crate::listing::add_tree;
 use crate::node::{Leaf, Node};
 use crate::room::{make_room, put, put_two};
 use branching::{Arc, TreeNode};
+use priced_sets::ListedSet;
 use prices::Priced;
 use std::alloc::{AllocError, Global};
 use std::collections::BTreeSet;
@@ -84,15 +86,20 @@ impl<'i> Arena<'i> {
         leaf_in(self.nodes.as_slice(), number)
     }
 
-    /// The nodes of the tree at the root, in preorder.
-    pub(crate) fn list(&self, alloc: Global) -> Result<Vec<TreeNode>, AllocError>
+    /// The nodes of the tree at the root, in preorder, with the sets by their places in a list.
+    pub(crate) fn list(
+        &self,
+        alloc: Global,
+        listed: &[ListedSet],
+    ) -> Result<Vec<TreeNode>, AllocError>
         requires forward { IsForward self.now }
         requires root { 0 < length self.now }
-        ensures { IfOk result (λ v. (tree : Tree) → GrowsIn self.now 0 tree
-            → map node_of v.items ≡ preorder tree) }
+        requires sets { HasSetsOf (map listed_set listed.now) self.now }
+        ensures { IfOk result (λ v. (tree : Tree) × GrowsIn self.now (map listed_set listed.now) 0 tree
+            × (map node_of v.items ≡ preorder tree)) }
     {
         let mut out = Vec::new(alloc);
-        add_tree(alloc, self.nodes.as_slice(), 0, &mut out)?;
+        add_tree(alloc, self.nodes.as_slice(), listed, 0, &mut out)?;
         Ok(out)
     }
 

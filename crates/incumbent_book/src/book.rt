@@ -1,6 +1,9 @@
 //! The book.
 
-ghost use Rattle.std.specs.Prelude.{◌≡◌, ◌+◌, ◌≤◌, ℕ, List, option_map, IfOk, map};
+ghost use Rattle.std.specs.Prelude.{◌≡◌, ◌+◌, ◌≤◌, ℕ, List, [], option_map, IfOk, map};
+ghost use Rattle.std.specs.Bool.{Decides};
+ghost use Rattle.priced_sets.specs.Sets.{sets_of, listed_set};
+ghost use Rattle.incumbent_book.specs.SetLists.{IsGrown};
 ghost use Rattle.branching.specs.Arcs.{pair};
 ghost use Rattle.tenths.specs.declared.value.TheConstants.{MOST_TENTHS};
 ghost use Rattle.branching.specs.Nodes.{node_of};
@@ -9,7 +12,7 @@ ghost use Rattle.solomon_reader.specs.Bound.{Tree, preorder};
 ghost use Rattle.solomon_reader.specs.Plan.{IsPlan, plan_cost};
 ghost use Rattle.solomon_reader.specs.History.{IsBound};
 ghost use Rattle.incumbent_book.specs.Contents.{limits_of, past_of, IsBook};
-ghost use Rattle.incumbent_book.specs.Replies.{Opens, Offers, Reprices, Splits, Shows, IsOptimalityGap};
+ghost use Rattle.incumbent_book.specs.Replies.{AreOpen, Opens, Offers, Reprices, Splits, Shows, IsOptimalityGap};
 
 use crate::arena::Arena;
 use crate::bounded::Bounded;
@@ -19,9 +22,12 @@ use crate::gap::{Gap, Steps};
 use crate::limits::Limits;
 use crate::offered::Offered;
 use crate::outcome::Outcome;
+use crate::set_list::list_sets;
 use branching::{Arc, TreeNode};
+use priced_sets::{ListedSet, PricedSet};
 use prices::Priced;
 use schedule::Feasible;
+use solomon_reader::MOST_SETS;
 use std::alloc::{AllocError, Global};
 use std::marker::Model;
 use tenths::Tenths;
@@ -30,16 +36,19 @@ use tenths::Tenths;
 const FIRST_ROOM: usize = 16;
 
 /// The book of a search for a cheapest plan: the incumbent, the tree of the branchings with prices
-/// at its leaves, and the history of what was accepted. Contracts see the instance, the number of
-/// neighbours, the root's first value, the limits, the incumbent, the history and the prices.
+/// at its leaves, the list of all sets that had a price there, and the history of what was accepted.
+/// Contracts see the instance, the number of neighbours, the root's first value, the limits, how many
+/// sets may be listed, the incumbent, the history, the list and the prices.
 #[derive(Drop)]
 pub struct Book<'i> {
     pub(crate) bounded: Bounded<'i>,
     pub(crate) neighbours: u32,
     pub(crate) root: u128,
     pub(crate) limits: Limits,
+    pub(crate) sets: u32,
     pub(crate) incumbent: Option<Feasible<'i>>,
     pub(crate) history: Vec<Event>,
+    pub(crate) listed: Vec<ListedSet>,
     pub(crate) arena: Arena<'i>,
 }
 
@@ -48,6 +57,7 @@ impl<'i> Model for Book<'i> {
     ghost use Rattle.incumbent_book.specs.Contents.{Contents, limits_of, past_of};
     ghost use Rattle.incumbent_book.specs.Arena.{prices_of};
     ghost use Rattle.incumbent_book.specs.Keeping.{IsConsistent};
+    ghost use Rattle.priced_sets.specs.Sets.{listed_set};
 
     ghost Value = { Contents };
 
@@ -56,8 +66,10 @@ impl<'i> Model for Book<'i> {
       neighbours = b.neighbours;
       root = b.root;
       limits = limits_of b.limits;
+      most_sets = b.sets;
       incumbent = b.incumbent;
       past = past_of b.history.items;
+      listed = map listed_set b.listed.items;
       prices = map prices_of b.arena;
     } };
 
@@ -67,36 +79,69 @@ impl<'i> Model for Book<'i> {
           neighbours = b.neighbours;
           root = b.root;
           limits = limits_of b.limits;
+          most_sets = b.sets;
           incumbent = b.incumbent;
           past = past_of b.history.items;
+          listed = map listed_set b.listed.items;
           prices = map prices_of b.arena;
         }) b.arena };
 }
 
+/// Whether limits, also that of sets, are good, and the sets of the prices have room.
+fn are_open(root: &Priced<'_>, limits: Limits, sets: u32) -> bool
+    ensures { Decides result (AreOpen root.now (limits_of limits) sets) }
+{
+    limits.are_good() && sets <= MOST_SETS && root.sets().len() <= sets as usize
+}
+
+/// A list of these sets.
+fn first_list(alloc: Global, most: u32, sets: &[PricedSet]) -> Result<Vec<ListedSet>, BookFault>
+    ensures { IfOk result (λ list. IsGrown most (sets_of sets.now) [] (map listed_set list.items)) }
+{
+    let mut list = Vec::new(alloc);
+    list_sets(&mut list, most, sets, &[])?;
+    Ok(list)
+}
+
 impl<'i> Book<'i> {
-    /// A book of these prices at the root, with the greatest limits. `NotRoot` where an arc is
-    /// decided, and `Memory`; a refusal gives the prices back.
+    /// A book of these prices at the root, with the greatest limits and no sets. `NotRoot` where an arc is
+    /// decided, `BadLimits` where a set has a price, and `Memory`; a refusal gives the prices back.
     pub fn new(alloc: Global, root: Priced<'i>) -> Result<Book<'i>, (Priced<'i>, OpenFault)>
-        ensures opens { Opens root.entry (limits_of Limits.MOST) result }
+        ensures opens { Opens root.entry (limits_of Limits.MOST) 0 result }
         ensures book { IfOk result (λ b. IsBook b) }
     {
         Book::with_limits(alloc, root, Limits::MOST)
     }
 
-    /// A book of these prices at the root, with limits of its own. `NotRoot` where an arc is
-    /// decided, else `BadLimits` where a limit is 0 or above the greatest, and `Memory`.
+    /// A book of these prices at the root, with limits of its own and no sets. `NotRoot` where an arc is
+    /// decided, else `BadLimits` where a limit is 0 or above the greatest or a set has a price, and `Memory`.
     pub fn with_limits(
         alloc: Global,
         root: Priced<'i>,
         limits: Limits,
     ) -> Result<Book<'i>, (Priced<'i>, OpenFault)>
-        ensures opens { Opens root.entry (limits_of limits) result }
+        ensures opens { Opens root.entry (limits_of limits) 0 result }
+        ensures book { IfOk result (λ b. IsBook b) }
+    {
+        Book::with_sets(alloc, root, limits, 0)
+    }
+
+    /// A book of these prices at the root, with limits of its own, in which at most so many sets are listed, 0 to 1,000.
+    /// `NotRoot` where an arc is decided, else `BadLimits` where a limit is 0 or above the greatest or the prices have more
+    /// sets, and `Memory`.
+    pub fn with_sets(
+        alloc: Global,
+        root: Priced<'i>,
+        limits: Limits,
+        sets: u32,
+    ) -> Result<Book<'i>, (Priced<'i>, OpenFault)>
+        ensures opens { Opens root.entry (limits_of limits) sets result }
         ensures book { IfOk result (λ b. IsBook b) }
     {
         if !root.region().is_root() {
             return Err((root, OpenFault::NotRoot));
         }
-        if !limits.are_good() {
+        if !are_open(&root, limits, sets) {
             return Err((root, OpenFault::BadLimits));
         }
         let bounded = Bounded::new(root.instance());
@@ -105,14 +150,19 @@ impl<'i> Book<'i> {
         let Ok(history) = Vec::with_capacity(alloc, FIRST_ROOM) else {
             return Err((root, OpenFault::Memory));
         };
+        let Ok(listed) = first_list(alloc, sets, root.sets()) else {
+            return Err((root, OpenFault::Memory));
+        };
         match Arena::new(alloc, root) {
             Ok(arena) => Ok(Book {
                 bounded,
                 neighbours,
                 root: value,
                 limits,
+                sets,
                 incumbent: None,
                 history,
+                listed,
                 arena,
             }),
             Err(root) => Err((root, OpenFault::Memory)),
@@ -136,8 +186,8 @@ impl<'i> Book<'i> {
     }
 
     /// Gives a leaf new prices of a higher value at its region. A refusal changes nothing and gives
-    /// the prices back: `ForeignInstance`, `JournalFull`, `NotALeaf`, `WrongRegion`, `NotHigher`, or
-    /// `Memory`.
+    /// the prices back: `ForeignInstance`, `JournalFull`, `NotALeaf`, `WrongRegion`, `NotHigher`,
+    /// `SetsFull`, or `Memory`.
     pub fn reprice(
         &mut self,
         worker: u16,
@@ -158,7 +208,7 @@ impl<'i> Book<'i> {
     /// Splits a leaf by an arc, with prices of no lower value at both children, and answers their
     /// numbers, that of the child in which the arc is required first. A refusal changes nothing and
     /// gives the prices back: `ForeignInstance`, `JournalFull`, `NotALeaf`, `WrongRegion`, `Lower`,
-    /// `LeavesFull`, `TooDeep`, or `Memory`.
+    /// `LeavesFull`, `TooDeep`, `SetsFull`, or `Memory`.
     pub fn split(
         &mut self,
         worker: u16,
@@ -245,7 +295,7 @@ impl<'i> Book<'i> {
         ensures { IfOk result (λ v. (tree : Tree) × IsTreeOf self.now tree ×
             (map node_of v.items ≡ preorder tree)) }
     {
-        self.arena.list(alloc)
+        self.arena.list(alloc, self.listed.as_slice())
     }
 
     /// The least of the leaves' values and the ceiling plus one, in tenths.

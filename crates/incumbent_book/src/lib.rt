@@ -17,6 +17,7 @@ mod node;
 mod offered;
 mod outcome;
 mod room;
+mod set_list;
 mod taking;
 
 pub use book::Book;

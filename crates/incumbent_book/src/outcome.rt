@@ -7,11 +7,13 @@ ghost use Rattle.tenths.specs.declared.value.TheConstants.{MOST_TENTHS};
 ghost use Rattle.solomon_reader.specs.Bound.{Tree, preorder};
 ghost use Rattle.solomon_reader.specs.Plan.{IsPlan, plan_cost};
 ghost use Rattle.solomon_reader.specs.History.{IsBound};
+ghost use Rattle.priced_sets.specs.Sets.{listed_set};
 ghost use Rattle.incumbent_book.specs.Contents.{past_of, IsBook};
 
 use crate::book::Book;
 use crate::event::Event;
 use branching::TreeNode;
+use priced_sets::ListedSet;
 use schedule::Feasible;
 use solomon_reader::Instance;
 use std::alloc::{AllocError, Global};
@@ -78,22 +80,30 @@ impl<'i> Outcome<'i> {
         self.book.nodes(alloc)
     }
 
-    /// The incumbent, if there is one, the bound of `bound` and the nodes of `nodes`. `AllocError` where memory
-    /// is refused.
+    /// The sets that ever had a price at a leaf, by which `nodes` names them.
+    pub fn sets(&self) -> &[ListedSet]
+        ensures { map listed_set result.now ≡ self.now.listed }
+    {
+        self.book.listed.as_slice()
+    }
+
+    /// The incumbent, if there is one, the bound of `bound`, the sets of `sets` and the nodes of `nodes`. `AllocError`
+    /// where memory is refused.
     pub fn into_parts(
         self,
         alloc: Global,
-    ) -> Result<(Option<Feasible<'i>>, Tenths, Vec<TreeNode>), AllocError>
+    ) -> Result<(Option<Feasible<'i>>, Tenths, Vec<ListedSet>, Vec<TreeNode>), AllocError>
         ensures plan { IfOk result (λ r. r.0 ≡ self.entry.incumbent) }
         ensures bound { IfOk result (λ r. IsBound self.entry.problem self.entry.root
             self.entry.past r.1) }
+        ensures sets { IfOk result (λ r. map listed_set r.2.items ≡ self.entry.listed) }
         ensures nodes { IfOk result (λ r. (tree : Tree) × IsTreeOf self.entry tree
-            × (map node_of r.2.items ≡ preorder tree)) }
+            × (map node_of r.3.items ≡ preorder tree)) }
         ensures book { IsBook self.entry }
     {
         let bound = self.bound();
         let nodes = self.nodes(alloc)?;
-        Ok((self.book.incumbent, bound, nodes))
+        Ok((self.book.incumbent, bound, self.book.listed, nodes))
     }
 
     /// The accepted calls, in order.

@@ -13,6 +13,7 @@ use crate::event::Event;
 use crate::fault::BookFault;
 use crate::offered::Offered;
 use crate::room::{make_room, put};
+use crate::set_list::list_sets;
 use branching::Arc;
 use prices::Priced;
 use schedule::Feasible;
@@ -116,7 +117,7 @@ impl<'i> Book<'i> {
         Some(self.incumbent.as_ref()?.cost())
     }
 
-    /// Gives a leaf new prices that are accepted, unless memory is refused.
+    /// Gives a leaf new prices that are accepted, unless memory or room for sets is refused.
     pub(crate) fn raise(
         &mut self,
         worker: u16,
@@ -129,6 +130,10 @@ impl<'i> Book<'i> {
         if make_room(&mut self.history, 1).is_err() {
             return Err((priced, BookFault::Memory));
         }
+        let before = self.listed.len();
+        if let Err(fault) = list_sets(&mut self.listed, self.sets, priced.sets(), &[]) {
+            return Err((priced, fault));
+        }
         let value = priced.tenths();
         match self.arena.reprice(leaf, priced) {
             Ok(()) => {
@@ -140,11 +145,14 @@ impl<'i> Book<'i> {
                 write(&mut self.history, event);
                 Ok(())
             }
-            Err(priced) => Err((priced, BookFault::Memory)),
+            Err(priced) => {
+                self.listed.truncate(before);
+                Err((priced, BookFault::Memory))
+            }
         }
     }
 
-    /// Splits a leaf by an arc where that is accepted, unless memory is refused.
+    /// Splits a leaf by an arc where that is accepted, unless memory or room for sets is refused.
     pub(crate) fn part(
         &mut self,
         worker: u16,
@@ -158,6 +166,10 @@ impl<'i> Book<'i> {
     {
         if make_room(&mut self.history, 1).is_err() {
             return Err((used, unused, BookFault::Memory));
+        }
+        let before = self.listed.len();
+        if let Err(fault) = list_sets(&mut self.listed, self.sets, used.sets(), unused.sets()) {
+            return Err((used, unused, fault));
         }
         let values = (used.tenths(), unused.tenths());
         match self.arena.split(leaf, arc, used, unused) {
@@ -173,7 +185,10 @@ impl<'i> Book<'i> {
                 write(&mut self.history, event);
                 Ok(made)
             }
-            Err((used, unused)) => Err((used, unused, BookFault::Memory)),
+            Err((used, unused)) => {
+                self.listed.truncate(before);
+                Err((used, unused, BookFault::Memory))
+            }
         }
     }
 }

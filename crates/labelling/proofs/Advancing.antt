@@ -8,10 +8,9 @@ use Rattle.std.proofs.lemmas.Bool.{cases_lt, cases_eq, eq-eqb, or_left}
 use Rattle.std.proofs.lemmas.List.{reverse-append, length-reverse, take_all, drop_all, get_or_read, get_or_append_left, get_or_push, get_or-set_same, get_or-set_other}
 use Rattle.std.proofs.lemmas.Nat.Bits.{bit_at-zero}
 use Rattle.solomon_reader.specs.Problem.{Problem, IsCustomer, due}
-use Rattle.solomon_reader.specs.PaidLaws.{reduced_by_customer, least_by_customer}
-use Rattle.solomon_reader.specs.Region.{Region, IsAllowed}
-use Rattle.solomon_reader.specs.Relaxed.{IsRelaxed, IsLeast, IsLeastBy, reduced_cost, reduced_cost_by, by_customer}
-use Rattle.solomon_reader.specs.States.{Pricing, pricing, start, arc_value, Completes, value_with, IsAtMost, State, step, CanStep, CanEnd}
+use Rattle.solomon_reader.specs.Region.{IsAllowed}
+use Rattle.solomon_reader.specs.Relaxed.{IsRelaxed, IsLeastBy, reduced_cost_by}
+use Rattle.solomon_reader.specs.States.{Pricing, start, arc_value, Completes, value_with, IsAtMost, State, step, CanStep, CanEnd}
 use Rattle.solomon_reader.proofs.Completions.{relaxed_completes, value_is, reaches_none, reaches_more, at_most_more, reaches_same}
 use Rattle.completions.specs.Completions.{IsFrom, IsVisitBound}
 use Rattle.fronts.specs.Fronts.{end_cost, IsBounded, IsStart, IsAfter}
@@ -21,14 +20,14 @@ use Rattle.labels.specs.declared.label.Label.{Label}
 use Rattle.labels.specs.Arena.{label_in, state_at, trace, IsLabel, IsArena, IsPending, HasActive, HasPending, IsDominated, inactive, IsPruned, IsExtension, IsAdded, IsSameStop, IsLater, HasExtended, IsSparedStep}
 use Rattle.labels.specs.Arena.{IsGrown, IsMoved, IsMet, TakesStep, TakesSteps, CountsEnd, EndsAt, IsAttained, IsComplete, IsOnward, NonePending, IsAnswer, IsInList, IsFirst, blank}
 use Rattle.solomon_reader.specs.Covering.{IsDear}
-use Rattle.labels.specs.Cover.{CoversAll, CoversFewer, Carries, CarriesBy, IsPassed, IsStepDear}
+use Rattle.labels.specs.Cover.{CoversAll, CoversFewer, Carries, IsPassed, IsStepDear}
 use Rattle.fronts.specs.Steps.{IsReachable}
 use Rattle.fronts.proofs.Stepping.{can_reach}
 use Rattle.fronts.specs.declared.front.Front.{Front}
 use Rattle.solomon_reader.specs.Memories.{place_of}
 use Rattle.labels.proofs.Carrying.{carries_itself, carries_same, carries_through}
 use Rattle.labelling.specs.declared.least_cost.Least.{Least}
-use Rattle.labelling.specs.Answer.{HasLeastValue, HasItsRoute, IsLeastOf}
+use Rattle.labelling.specs.Answer.{IsLeastOf}
 use Rattle.labelling.proofs.Cover.{covers_grown, covers_retired, fewer_grown, fewer_retired, least_at_end}
 
 -- the best is that of a completion of the start, and at most what each relaxed route costs
@@ -49,25 +48,6 @@ module _ (q : Pricing) where
 
   pub is_least : (l : Least) → IsReached l.value l.route.items → ((r : List ℕ) → IsRelaxed q.problem q.region q.neighbours r → IsAtMost l.value (reduced_cost_by q.problem q.paid r)) → IsLeastOf q l
   is_least l found each = record { value = value_by l.value l.route.items found each; route = route_by l.value l.route.items found }
-
--- ---- Where steps are paid the prices of the customers that they lead to.
-
-module _ (p : Problem) (g : Region) (k : ℕ) (prices : List ℤ) where
-  value_priced : (o : Option ℤ) → MatchOption o ((r : List ℕ) → ¬ IsRelaxed p g k r) (λ z. IsLeastBy p g k (by_customer prices) z)
-      → MatchOption o ((r : List ℕ) → ¬ IsRelaxed p g k r) (λ z. IsLeast p g k prices z)
-  value_priced None none = none
-  value_priced (Some z) is = least_by_customer p g k prices z is
-
-  route_priced : (o : Option ℤ) (route : List ℕ) → MatchOption o (route ≡ []) (λ z. IsRelaxed p g k route × (reduced_cost_by p (by_customer prices) route ≡ z))
-      → MatchOption o (route ≡ []) (λ z. IsRelaxed p g k route × (reduced_cost p prices route ≡ z))
-  route_priced None route none = none
-  route_priced (Some z) route is = (is.0, sym (reduced_by_customer p prices route) ∙ is.1)
-
-  pub least_value : (l : Least) → IsLeastOf (pricing p g k prices) l → HasLeastValue p g k prices l
-  least_value l is = value_priced l.value is.value
-
-  pub least_route : (l : Least) → IsLeastOf (pricing p g k prices) l → HasItsRoute p g k prices l
-  least_route l is = route_priced l.value l.route.items is.route
 
 -- ---- The list of labels grows, labels are dropped and extended, and what was said of it stays.
 

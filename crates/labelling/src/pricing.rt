@@ -5,9 +5,10 @@ ghost use Rattle.std.specs.Prelude.{◌≡◌, ◌≢◌, ◌≤◌, length, IfO
 ghost use Rattle.std.specs.List.{AllByRecursion};
 ghost use Rattle.solomon_reader.specs.Problem.{customer_count};
 ghost use Rattle.solomon_reader.specs.CertificateText.{IsPrice};
-ghost use Rattle.solomon_reader.specs.States.{pricing};
 ghost use Rattle.solomon_reader.specs.declared.limits.TheConstants.{MOST_NEIGHBOURS};
-ghost use Rattle.labelling.specs.Answer.{HasLeastValue, HasItsRoute, IsLeastOf};
+ghost use Rattle.labelling.specs.Answer.{HasLeastValue, HasItsRoute, HasLeastValueWith, HasItsRouteWith, IsLeastOf};
+ghost use Rattle.labelling.specs.Pricings.{pricing_at};
+ghost use Rattle.priced_sets.specs.Sets.{ArePriced};
 ghost use Rattle.fronts.specs.Tasks.{pricing_of};
 ghost use Rattle.labelling.specs.declared.fault.LabelFault.TheVariants.{LabelLimit};
 
@@ -20,6 +21,7 @@ use crate::pricing_task::PricingTask;
 use branching::Region;
 use completions::Completions;
 use fronts::{Nearness, Payment, Task};
+use priced_sets::PricedSets;
 use solomon_reader::Instance;
 use std::alloc::{AllocError, Global};
 
@@ -90,12 +92,15 @@ fn least_near(
     requires instance { nearness.now.instance.now ≡ task.now.instance.now }
     requires neighbours { nearness.now.neighbours ≡ task.now.neighbours }
     ensures least { let t = task.now in
-        IfOk result (IsLeastOf (pricing t.instance.now t.region t.neighbours t.prices.items)) }
+        IfOk result (IsLeastOf (pricing_at t)) }
+    ensures sets { let s = task.now.sets in
+        IfOk result (λ l. ArePriced s.problem s.sets) }
     ensures unlimited { IfErr result (λ e. e ≡ LabelLimit → limit ≢ None) }
 {
     nearness.instance.law_of_limits();
     let payment = Payment {
         prices: task.prices.as_slice(),
+        sets: task.sets.as_slice(),
     };
     let task = Task::new(alloc, nearness, &task.region, payment)?;
     least_of_task(&task, limit, known, kept)
@@ -109,6 +114,7 @@ fn least_near(
 /// lists of this many neighbours, at most 15. `LabelLimit` where as many labels are active as `limit`
 /// allows, the empty beginning not counted; `Memory` where a growth was refused. A refusal leaves
 /// nothing behind.
+#[tactic(auto, using(crate::proofs::Paying::within_none, crate::proofs::Paying::value_alone, crate::proofs::Paying::route_alone))]
 pub fn least(
     alloc: Global,
     instance: &Instance,
@@ -130,6 +136,7 @@ pub fn least(
         region: region.try_clone()?,
         neighbours,
         prices: prices.to_vec(alloc)?,
+        sets: PricedSets::none(alloc, instance),
     };
     let (hints, mut kept) = (Hints::none(alloc), Kept::nothing(alloc));
     least_by_hints(alloc, &task, limit, &hints, &mut kept)
@@ -137,7 +144,7 @@ pub fn least(
 
 /// What `least` answers for a task, found sooner where a route of low reduced cost, the tables of the instance or an
 /// earlier search are known. It keeps further routes that were met.
-#[tactic(auto, using(crate::proofs::Advancing::least_value, crate::proofs::Advancing::least_route))]
+#[tactic(auto, using(crate::proofs::Paying::least_value, crate::proofs::Paying::least_route))]
 pub fn least_by_hints(
     alloc: Global,
     task: &PricingTask<'_>,
@@ -146,9 +153,9 @@ pub fn least_by_hints(
     kept: &mut Kept,
 ) -> Result<Least, LabelFault>
     ensures value { let t = task.now in
-        IfOk result (HasLeastValue t.instance.now t.region t.neighbours t.prices.items) }
+        IfOk result (HasLeastValueWith t.instance.now t.region t.neighbours t.prices.items t.sets.sets) }
     ensures route { let t = task.now in
-        IfOk result (HasItsRoute t.instance.now t.region t.neighbours t.prices.items) }
+        IfOk result (HasItsRouteWith t.instance.now t.region t.neighbours t.prices.items t.sets.sets) }
     ensures unlimited { IfErr result (λ e. e ≡ LabelLimit → limit ≢ None) }
 {
     let (instance, known) = (task.instance, hints.known.as_slice());

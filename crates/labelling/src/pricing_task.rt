@@ -5,9 +5,11 @@ ghost use Rattle.std.proofs.Props.{props};
 ghost use Rattle.std.specs.List.{AllByRecursion};
 ghost use Rattle.solomon_reader.specs.Problem.{customer_count};
 ghost use Rattle.solomon_reader.specs.CertificateText.{IsPrice};
+ghost use Rattle.priced_sets.specs.Sets.{IsWithin};
 ghost use Rattle.solomon_reader.specs.declared.limits.TheConstants.{MOST_NEIGHBOURS};
 
 use branching::Region;
+use priced_sets::PricedSets;
 use solomon_reader::Instance;
 use std::alloc::AllocError;
 
@@ -22,10 +24,14 @@ pub struct PricingTask<'i> {
     pub neighbours: u32,
     /// The prices in grains; that of customer i stands at i - 1.
     pub prices: Vec<i64>,
+    /// The sets that have a price.
+    pub sets: PricedSets<'i>,
     ghost size: { region.size ≡ customer_count instance.now },
     ghost count: { length prices.items ≡ customer_count instance.now },
     ghost priced: { AllByRecursion IsPrice prices.items } by { Prim.hlevel props },
     ghost few: { neighbours ≤ MOST_NEIGHBOURS },
+    ghost same: { sets.problem ≡ instance.now },
+    ghost within: { AllByRecursion (IsWithin sets.sets) prices.items } by { Prim.hlevel props },
 }
 
 impl<'i> PricingTask<'i> {
@@ -36,29 +42,39 @@ impl<'i> PricingTask<'i> {
         ensures region { IfOk result (λ t. t.region ≡ region.now) }
         ensures neighbours { IfOk result (λ t. t.neighbours ≡ self.now.neighbours) }
         ensures prices { IfOk result (λ t. t.prices.items ≡ self.now.prices.items) }
+        ensures sets { IfOk result (λ t. t.sets ≡ self.now.sets) }
     {
         Ok(PricingTask {
             instance: self.instance,
             region: region.try_clone()?,
             neighbours: self.neighbours,
             prices: self.prices.clone()?,
+            sets: self.sets.try_clone()?,
         })
     }
 
-    /// Other prices at the same region, in grains, unless memory runs out.
-    pub fn with(&self, prices: Vec<i64>) -> Result<PricingTask<'i>, AllocError>
+    /// Other prices of customers and sets at the same region, in grains, unless memory runs out.
+    #[tactic(auto, using(crate::proofs::Paying::priced_within))]
+    pub fn with(
+        &self,
+        prices: Vec<i64>,
+        sets: PricedSets<'i>,
+    ) -> Result<PricingTask<'i>, AllocError>
         requires count { length prices.items ≡ customer_count self.now.instance.now }
-        requires in_range { AllByRecursion IsPrice prices.items }
+        requires same { sets.problem ≡ self.now.instance.now }
+        requires in_range { AllByRecursion (IsWithin sets.sets) prices.items }
         ensures instance { IfOk result (λ t. t.instance.now ≡ self.now.instance.now) }
         ensures region { IfOk result (λ t. t.region ≡ self.now.region) }
         ensures neighbours { IfOk result (λ t. t.neighbours ≡ self.now.neighbours) }
         ensures prices { IfOk result (λ t. t.prices ≡ prices) }
+        ensures sets { IfOk result (λ t. t.sets ≡ sets.entry) }
     {
         Ok(PricingTask {
             instance: self.instance,
             region: self.region.try_clone()?,
             neighbours: self.neighbours,
             prices,
+            sets,
         })
     }
 }

@@ -1,4 +1,3 @@
 pub mod Deciding
 pub mod Remembered
 pub mod Flooring
-pub mod Entering

@@ -8,11 +8,10 @@ use Rattle.solomon_reader.specs.Distance.{distance}
 use Rattle.solomon_reader.specs.Region.{IsAllowed, root_region}
 use Rattle.solomon_reader.specs.States.{Pricing, pricing_by, arc_value, most_grains}
 use Rattle.solomon_reader.specs.CustomerSets.{IsCustomerSet}
-use Rattle.solomon_reader.specs.SetPrices.{PricedSet}
+use Rattle.solomon_reader.specs.SetPrices.{PricedSet, price_sum}
 use Rattle.leaf_arcs.specs.declared.arcs.AllowedArc.{AllowedArc}
 use Rattle.leaf_arcs.specs.declared.arcs.ArcRow.{ArcRow}
 use Rattle.solomon_reader.specs.Memories.{place_of}
-use Rattle.leaf_arcs.specs.Sets.{price_sum}
 
 -- the arc from v has what a step over it needs
 pub record IsAllowedArc (q : Pricing) (v : ℕ) (h : AllowedArc) : Type 0 where

@@ -5,7 +5,8 @@ ghost use Rattle.solomon_reader.specs.declared.limits.TheConstants.{MOST_PRICE};
 ghost use Rattle.solomon_reader.specs.Problem.{customer_count};
 ghost use Rattle.solomon_reader.specs.CustomerSets.{IsCustomerSet};
 ghost use Rattle.leaf_arcs.specs.Leaves.{problem_of, sets_in};
-ghost use Rattle.leaf_arcs.specs.Sets.{set_of, IsEntered, ArePaid};
+ghost use Rattle.leaf_arcs.specs.Sets.{set_of};
+ghost use Rattle.solomon_reader.specs.EntryPrices.{IsEntered, ArePaid};
 
 use crate::leaf::Leaf;
 use crate::priced_set::PricedSet;

@@ -7,7 +7,8 @@ ghost use Rattle.solomon_reader.specs.States.{IsPriced};
 ghost use Rattle.leaf_arcs.specs.Decisions.{AreAllowed};
 ghost use Rattle.leaf_arcs.specs.Arcs.{IsAllowedArc, AreAllowedArcs, IsArcRow, AreArcRows};
 ghost use Rattle.leaf_arcs.specs.Leaves.{problem_of, pricing_of, free_of, sets_in};
-ghost use Rattle.leaf_arcs.specs.Sets.{price_sum, ArePaid};
+ghost use Rattle.solomon_reader.specs.EntryPrices.{ArePaid};
+ghost use Rattle.solomon_reader.specs.SetPrices.{price_sum};
 
 use crate::arcs::{AllowedArc, ArcRow};
 use crate::decision::allowed_rows;

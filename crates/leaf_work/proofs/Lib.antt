@@ -2,3 +2,4 @@ pub mod Narrower
 pub mod Gathered
 pub mod Obeying
 pub mod Settles
+pub mod Within

@@ -13,6 +13,7 @@ use Rattle.solomon_reader.specs.Bound.{Version, routes_counted, IsLeafValue, cei
 use Rattle.solomon_reader.specs.SumLaws.{up, down, int_sum-permutation, prices_sum, times_down, times_up}
 use Rattle.solomon_reader.specs.RelaxedLaws.{is_relaxed, reduced_sum}
 use Rattle.solomon_reader.specs.DualityLaws.{ceiling_holds}
+use Rattle.solomon_reader.specs.SetDualityLaws.{same_without_sets}
 use Rattle.branching.specs.Choosing.{IsSettled}
 use Rattle.solomon_reader.specs.PlanDefects.{stops}
 use Rattle.solomon_reader.specs.AmongLaws.{weaker}
@@ -293,9 +294,9 @@ module _ (p : Problem) (g : Region) (size : g.size ≡ customer_count p) where
 
 -- ---- The value of a leaf with the prices that settle its region.
 
-module _ (p : Problem) (g : Region) (prices : List ℤ) (f : ValuedPrices) (is : IsValued f) (problem : f.problem ≡ p) (region : f.region ≡ g) (priced : f.prices ≡ prices) where
+module _ (p : Problem) (g : Region) (prices : List ℤ) (f : ValuedPrices) (is : IsValued f) (problem : f.problem ≡ p) (region : f.region ≡ g) (priced : f.prices ≡ prices) (none : f.sets ≡ []) where
   valued : IsLeafValue version_2 p g f.neighbours prices f.value
-  valued = rw (problem, region, priced) at is.valued
+  valued = (same_without_sets version_2 p g f.neighbours prices f.value).0 (rw (problem, region, priced, none) at is.valued)
 
   pub settled_value : (plan : Option Solution) → IsSettling p g prices plan → MatchOption plan (ceiling_of p + 1 ≤ f.value) (λ s. f.value ≡ s.cost)
   settled_value None s = s.0 version_2 f.neighbours f.value valued
@@ -307,12 +308,13 @@ module _ (p : Problem) (g : Region) (prices : List ℤ) (f : ValuedPrices) (is :
 
 -- so a leaf without an open arc comes to those prices
 pub settles_leaf : (f settled : ValuedPrices) (prices : List ℤ) (plan : Option Solution) → IsSettled f.region → IsSettling f.problem f.region prices plan
-    → IfSome plan (λ s. s.problem ≡ f.problem) → IsPricedAt f.region f settled → settled.prices ≡ prices → IsValued settled → IsSettledLeaf f settled plan
-settles_leaf f settled prices plan closed settling own at same valued = record {
+    → IfSome plan (λ s. s.problem ≡ f.problem) → IsPricedAt f.region f settled → settled.prices ≡ prices → settled.sets ≡ [] → IsValued settled → IsSettledLeaf f settled plan
+settles_leaf f settled prices plan closed settling own at same none valued = record {
   closed = closed;
   priced = at;
+  sets = none;
   valued = valued;
   own = own;
-  value = settled_value f.problem f.region prices settled valued at.problem at.region same plan settling;
-  all_plans = settled_plans f.problem f.region prices settled valued at.problem at.region same plan settling;
+  value = settled_value f.problem f.region prices settled valued at.problem at.region same none plan settling;
+  all_plans = settled_plans f.problem f.region prices settled valued at.problem at.region same none plan settling;
 }

@@ -2,6 +2,7 @@
 use Rattle.std.specs.Prelude.{◌≡◌}
 use Rattle.solomon_reader.specs.Region.{Region, IsUndecided, used_child, unused_child}
 use Rattle.branching.specs.Arcs.{pair}
+use Rattle.labelling.specs.declared.pricing_task.PricingTask.{PricingTask}
 use Rattle.prices.specs.ValuedPrices.{ValuedPrices}
 use Rattle.leaf_work.specs.declared.child.Children.{Children}
 
@@ -10,6 +11,12 @@ pub record IsPricedAt (g : Region) (f child : ValuedPrices) : Type 0 where
   pub problem : child.problem ≡ f.problem
   pub region : child.region ≡ g
   pub neighbours : child.neighbours ≡ f.neighbours
+
+-- what is to be priced at the region of the same instance and neighbours
+pub record IsTaskAt (f : ValuedPrices) (t : PricingTask) : Type 0 where
+  pub problem : t.instance.now ≡ f.problem
+  pub region : t.region ≡ f.region
+  pub neighbours : t.neighbours ≡ f.neighbours
 
 -- prices at both children of a leaf's region by an arc that it has not decided
 pub record AreChildren (f : ValuedPrices) (c : Children) : Type 0 where

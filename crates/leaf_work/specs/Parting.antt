@@ -1,5 +1,5 @@
 -- What a leaf comes to.
-use Rattle.std.specs.Prelude.{◌≡◌, ◌+◌, ◌≤◌, Option, IfSome, MatchOption}
+use Rattle.std.specs.Prelude.{◌≡◌, ◌+◌, ◌≤◌, [], Option, IfSome, MatchOption}
 use Rattle.solomon_reader.specs.Bound.{ceiling_of}
 use Rattle.schedule.specs.Solution.{Solution}
 use Rattle.branching.specs.Choosing.{IsSettled}
@@ -9,10 +9,11 @@ use Rattle.leaf_work.specs.Settling.{IsSettledBy}
 use Rattle.leaf_work.specs.declared.leaf.Parted.{Parted}
 use Rattle.leaf_work.specs.declared.leaf.Parted.TheVariants.{Split, Settled}
 
--- Prices of a leaf whose region leaves no arc open: their value is the cost of the plan, which is that of all plans that obey the region; without a plan it is above the ceiling, and none obeys.
+-- Prices of customers alone, at a leaf whose region leaves no arc open: their value is the cost of the plan, which is that of all plans that obey the region; without a plan it is above the ceiling, and none obeys.
 pub record IsSettledLeaf (f settled : ValuedPrices) (plan : Option Solution) : Type 0 where
   pub closed : IsSettled f.region
   pub priced : IsPricedAt f.region f settled
+  pub sets : settled.sets ≡ []
   pub valued : IsValued settled
   pub own : IfSome plan (λ s. s.problem ≡ f.problem)
   pub value : MatchOption plan (ceiling_of f.problem + 1 ≤ settled.value) (λ s. settled.value ≡ s.cost)

@@ -11,7 +11,7 @@ ghost use Rattle.labelling.specs.declared.fault.LabelFault.TheVariants.{LabelLim
 ghost use Rattle.prices.specs.Narrowing.{IsNarrower};
 ghost use Rattle.leaf_work.specs.Branching.{AreChildren, IsPricedAt};
 
-use crate::pricing::price;
+use crate::pricing::{price, task_without_sets};
 use crate::trying::{TriedArc, best_arc};
 use branching::{Arc, Region, RegionFault};
 use labelling::LabelFault;
@@ -66,7 +66,40 @@ fn narrow<'i>(leaf: &Priced<'i>, region: &Region) -> Result<Option<Priced<'i>>, 
 }
 
 /// The leaf's prices at a child's region, priced anew only where the route of the least reduced cost
-/// isn't allowed there; or where the child has no relaxed route, prices whose value is
+/// isn't allowed there.
+fn price_same<'i>(
+    pool: &mut RoutePool,
+    state: &mut PricingState<'_>,
+    leaf: &Priced<'i>,
+    region: &Region,
+    labels: Option<usize>,
+) -> Result<Priced<'i>, LabelFault>
+    requires { IsNarrower region.now leaf.now.region }
+    ensures priced { IfOk result (IsPricedAt region.now leaf.now) }
+    ensures unlimited { IfErr result (λ e. e ≡ LabelLimit → labels ≢ None) }
+{
+    match narrow(leaf, region)? {
+        Some(child) => Ok(child),
+        None => price(pool, state, leaf.task().at(region)?, labels),
+    }
+}
+
+/// High prices at a leaf.
+fn price_high<'i>(
+    pool: &mut RoutePool,
+    state: &mut PricingState<'_>,
+    leaf: &Priced<'i>,
+    labels: Option<usize>,
+) -> Result<Priced<'i>, LabelFault>
+    ensures priced { IfOk result (IsPricedAt leaf.now.region leaf.now) }
+    ensures unlimited { IfErr result (λ e. e ≡ LabelLimit → labels ≢ None) }
+{
+    let prices = high_prices(state.alloc, leaf.instance())?;
+    let task = task_without_sets(state.alloc, leaf, prices)?;
+    price(pool, state, task, labels)
+}
+
+/// The leaf's prices at a child's region; or where the child has no relaxed route, prices whose value is
 /// above every plan's cost.
 fn price_child<'i>(
     pool: &mut RoutePool,
@@ -79,16 +112,11 @@ fn price_child<'i>(
     ensures priced { IfOk result (IsPricedAt region.now leaf.now) }
     ensures unlimited { IfErr result (λ e. e ≡ LabelLimit → labels ≢ None) }
 {
-    let child = match narrow(leaf, region)? {
-        Some(child) => child,
-        None => price(pool, state, leaf.task().at(region)?, labels)?,
-    };
+    let child = price_same(pool, state, leaf, region, labels)?;
     if child.least().value.is_some() {
         return Ok(child);
     }
-    let prices = high_prices(state.alloc, leaf.instance())?;
-    let task = child.task().with(prices)?;
-    price(pool, state, task, labels)
+    price_high(pool, state, &child, labels)
 }
 
 /// The regions of both children by an arc: that in which it is required, and that in which it is

@@ -15,6 +15,8 @@ const PRICINGS_WITHOUT_PLAN: u32 = 100;
 pub struct Effort {
     /// The most pricings at the root, beside the one that its ascent starts from.
     pub root_pricings: u32,
+    /// The most sets that a worker finds in all.
+    pub sets: usize,
     /// The most labels that may be active at once in a pricing, if there is a limit.
     pub labels: Option<usize>,
     /// Prices rise no further where the work of all leaves so far comes to this many looks.
@@ -43,6 +45,7 @@ pub fn goal_of(
         idle_pricings: IDLE_PRICINGS,
         value: i128::from(target),
         routes,
+        sets: effort.sets,
         labels: effort.labels,
         looks: effort.looks,
     }

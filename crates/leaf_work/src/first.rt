@@ -1,6 +1,6 @@
 //! The first prices of a root.
 
-ghost use Rattle.std.specs.Prelude.{◌≡◌, ◌≢◌, ◌≤◌, None, IfOk, IfErr};
+ghost use Rattle.std.specs.Prelude.{◌≡◌, ◌≢◌, ◌≤◌, [], None, IfOk, IfErr};
 ghost use Rattle.solomon_reader.specs.Problem.{customer_count};
 ghost use Rattle.solomon_reader.specs.Region.{root_region};
 ghost use Rattle.solomon_reader.specs.declared.limits.TheConstants.{MOST_NEIGHBOURS};
@@ -33,6 +33,7 @@ pub fn first_leaf<'i>(
     ensures problem { IfOk result (λ f. f.problem ≡ instance.now) }
     ensures region { IfOk result (λ f. f.region ≡ root_region (customer_count instance.now)) }
     ensures neighbours { IfOk result (λ f. f.neighbours ≡ neighbours) }
+    ensures sets { IfOk result (λ f. f.sets ≡ []) }
     ensures unlimited { IfErr result (λ e. e ≡ LabelLimit → root_labels ≢ None) }
 {
     let hints = Hints::near(alloc, nearness);

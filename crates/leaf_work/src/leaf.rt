@@ -6,7 +6,7 @@ ghost use Rattle.branching.specs.Choosing.{IsSettled};
 ghost use Rattle.leaf_work.specs.Parting.{IsParted};
 
 use crate::child::{Children, branch};
-use crate::pricing::price_alone;
+use crate::pricing::{price_alone, task_without_sets};
 use crate::raising::Raised;
 use crate::settling::settle;
 use labelling::LabelFault;
@@ -32,7 +32,7 @@ fn settle_leaf<'i>(leaf: &Priced<'i>, state: &PricingState<'_>) -> Result<Parted
     ensures unlimited { IfErr result (λ e. e ≢ LabelLimit) }
 {
     let (prices, plan) = settle(state.alloc, leaf.instance(), leaf.region())?;
-    let task = leaf.task().with(prices)?;
+    let task = task_without_sets(state.alloc, leaf, prices)?;
     let settled = price_alone(state.alloc, state.nearness, task, None)?;
     Ok(Parted::Settled(settled, plan))
 }
@@ -53,6 +53,7 @@ pub fn part<'i>(
     let Raised {
         priced: leaf,
         ascent,
+        added: _,
     } = raised;
     match branch(leaf, ascent.as_ref(), pool, state, labels)? {
         Some(children) => Ok(Parted::Split(children)),

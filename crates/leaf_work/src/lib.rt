@@ -17,8 +17,10 @@ mod quick_round;
 mod raising;
 mod refuting;
 mod serving;
+mod set_round;
 mod settling;
 mod starting;
+mod tasks;
 mod trying;
 
 pub use child::Children;

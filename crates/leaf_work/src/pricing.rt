@@ -1,14 +1,37 @@
 //! Pricings for the leaves that a pool serves.
 
-ghost use Rattle.std.specs.Prelude.{◌≡◌, ◌≢◌, None, IfOk, IfErr};
+ghost use Rattle.std.specs.Prelude.{◌≡◌, ◌≢◌, length, None, [], IfOk, IfErr};
+ghost use Rattle.std.specs.List.{AllByRecursion};
+ghost use Rattle.solomon_reader.specs.Problem.{customer_count};
+ghost use Rattle.solomon_reader.specs.CertificateText.{IsPrice};
 ghost use Rattle.labelling.specs.declared.fault.LabelFault.TheVariants.{LabelLimit};
 ghost use Rattle.prices.specs.ValuedPrices.{IsValued};
 
 use fronts::Nearness;
 use labelling::{Hints, Kept, LabelFault, PricingTask};
 use price_way::{PricingState, RoutePool};
+use priced_sets::PricedSets;
 use prices::Priced;
-use std::alloc::Global;
+use std::alloc::{AllocError, Global};
+
+/// Other prices of customers at a leaf, in grains, that of customer i at i - 1, and none of sets.
+#[tactic(auto, using(prices::proofs::Values::within_none))]
+pub(crate) fn task_without_sets<'i>(
+    alloc: Global,
+    leaf: &Priced<'i>,
+    prices: Vec<i64>,
+) -> Result<PricingTask<'i>, AllocError>
+    requires count { length prices.items ≡ customer_count leaf.now.problem }
+    requires in_range { AllByRecursion IsPrice prices.items }
+    ensures instance { IfOk result (λ t. t.instance.now ≡ leaf.now.problem) }
+    ensures region { IfOk result (λ t. t.region ≡ leaf.now.region) }
+    ensures neighbours { IfOk result (λ t. t.neighbours ≡ leaf.now.neighbours) }
+    ensures prices { IfOk result (λ t. t.prices.items ≡ prices.items) }
+    ensures sets { IfOk result (λ t. t.sets.sets ≡ []) }
+{
+    let none = PricedSets::none(alloc, leaf.instance());
+    leaf.task().with(prices, none)
+}
 
 /// A task's prices with their value. The pool says which of its routes costs least there, and takes in the
 /// cheaper ones that the pricing meets; the state, how much work it was.
@@ -22,10 +45,14 @@ pub(crate) fn price<'i>(
     ensures region { IfOk result (λ f. f.region ≡ task.entry.region) }
     ensures neighbours { IfOk result (λ f. f.neighbours ≡ task.entry.neighbours) }
     ensures prices { IfOk result (λ f. f.prices ≡ task.entry.prices.items) }
+    ensures sets { IfOk result (λ f. f.sets ≡ task.entry.sets.sets) }
     ensures unlimited { IfErr result (λ e. e ≡ LabelLimit → labels ≢ None) }
 {
     let instance = task.instance;
-    let known = pool.cheapest(&task.region, task.prices.as_slice())?;
+    let rows = pool
+        .sets
+        .rows_of(task.prices.as_slice(), task.sets.as_slice())?;
+    let known = pool.cheapest(&task.region, rows.as_slice())?;
     let hints = Hints {
         nearness: Some(state.nearness),
         known,
@@ -50,6 +77,7 @@ pub(crate) fn price_alone<'i>(
     ensures region { IfOk result (λ f. f.region ≡ task.entry.region) }
     ensures neighbours { IfOk result (λ f. f.neighbours ≡ task.entry.neighbours) }
     ensures prices { IfOk result (λ f. f.prices ≡ task.entry.prices.items) }
+    ensures sets { IfOk result (λ f. f.sets ≡ task.entry.sets.sets) }
     ensures valued { IfOk result (λ f. IsValued f) }
     ensures unlimited { IfErr result (λ e. e ≡ LabelLimit → labels ≢ None) }
 {

@@ -1,21 +1,16 @@
 //! Rounds of quick searches, each with an exact pricing at its end.
 
-ghost use Rattle.std.specs.Prelude.{◌≡◌, ◌≢◌, length, IfOk, IfSome};
-ghost use Rattle.std.specs.List.{AllByRecursion};
-ghost use Rattle.solomon_reader.specs.Problem.{customer_count};
-ghost use Rattle.solomon_reader.specs.CertificateText.{IsPrice};
-ghost use Rattle.fronts.specs.Fronts.{IsTask};
-ghost use Rattle.leaf_work.specs.Branching.{IsPricedAt};
+ghost use Rattle.std.specs.Prelude.{◌≡◌, ◌≢◌, IfOk, IfSome};
+ghost use Rattle.leaf_work.specs.Branching.{IsPricedAt, IsTaskAt};
 
 use crate::pricing::price;
-use branching::Region;
+use crate::tasks::trial_task;
 use fronts::{Payment, Task};
-use labelling::LabelFault;
-use pooled_routes::{Trial, VehiclePrice};
+use labelling::{LabelFault, PricingTask};
 use price_way::{Ascent, Goal, PricingState, QuickWay, RoutePool, WHOLE, WIDEST};
 use prices::Priced;
 use quick_routes::{QuickRoutes, Width, quick_routes};
-use std::alloc::{AllocError, Global};
+use std::alloc::AllocError;
 
 /// The most steps of a round.
 const MOST_STEPS: u32 = 10_000;
@@ -35,14 +30,17 @@ const LABELS_OF_ROUND: usize = 4;
 /// The routes that a quick search of this width finds, or of that which is the next one's.
 fn routes_at(
     state: &mut PricingState<'_>,
-    region: &Region,
-    prices: &[i64],
+    priced: &PricingTask<'_>,
     width: Option<Width>,
 ) -> Result<QuickRoutes, AllocError>
-    requires { IsTask state.old.nearness.now.instance.now region.now prices.now }
+    requires { priced.now.instance.now ≡ state.old.nearness.now.instance.now }
 {
-    let payment = Payment { prices };
-    let task = Task::new(state.alloc, state.nearness, region, payment)?;
+    priced.instance.law_of_limits();
+    let payment = Payment {
+        prices: priced.prices.as_slice(),
+        sets: priced.sets.as_slice(),
+    };
+    let task = Task::new(state.alloc, state.nearness, &priced.region, payment)?;
     if state.quick.is_none() {
         state.quick = Some(QuickWay::new(&task)?);
     }
@@ -61,20 +59,15 @@ fn routes_at(
 fn search(
     pool: &mut RoutePool,
     state: &mut PricingState<'_>,
-    leaf: &Priced<'_>,
-    prices: &[i64],
+    task: &PricingTask<'_>,
     most: i64,
     width: Option<Width>,
-) -> Result<i64, AllocError>
-    requires count { length prices.now ≡ customer_count leaf.now.problem }
-    requires in_range { AllByRecursion IsPrice prices.now }
-{
-    let instance = leaf.instance();
-    if !state.nearness.is_for(instance, leaf.neighbours()) {
+) -> Result<i64, AllocError> {
+    let instance = task.instance;
+    if !state.nearness.is_for(instance, task.neighbours) {
         return Ok(i64::MAX);
     }
-    instance.law_of_limits();
-    let found = routes_at(state, leaf.region(), prices, width)?;
+    let found = routes_at(state, task, width)?;
     state.count_looks(found.looks);
     for route in &found.routes {
         if route.reduced_cost < most {
@@ -87,6 +80,12 @@ fn search(
             .first()
             .map_or(i64::MAX, |route| route.reduced_cost),
     )
+}
+
+/// The prices of a task's customers, and behind them those of the pool's sets.
+fn rows_of(pool: &RoutePool, task: &PricingTask<'_>) -> Result<Vec<i64>, AllocError> {
+    pool.sets
+        .rows_of(task.prices.as_slice(), task.sets.as_slice())
 }
 
 /// Whether the next step of an ascent is a round of quick searches: at the root, where an exact pricing is
@@ -103,7 +102,7 @@ pub(crate) fn is_quick_next(
         return Ok(false);
     }
     if state.quick.is_none() {
-        search(pool, state, leaf, leaf.prices(), 0, None)?;
+        search(pool, state, leaf.task(), 0, None)?;
     }
     let are_few = exact.saturating_mul(customers / 5) > goal.looks;
     Ok(match &mut state.quick {
@@ -120,11 +119,12 @@ fn quick_step(
     leaf: &Priced<'_>,
 ) -> Result<bool, AllocError> {
     let trial = ascent.trial(pool, state)?;
-    let prices = trial.prices_in_range(state.alloc, leaf.instance())?;
-    let known = pool.least(prices.as_slice())?;
+    let task = trial_task(pool, state, leaf, &trial)?;
+    let rows = rows_of(pool, &task)?;
+    let known = pool.least(rows.as_slice())?;
     let most = trial.vehicle_price.value().min(known);
-    let found = search(pool, state, leaf, prices.as_slice(), most, None)?;
-    ascent.take_in_quick(pool, &trial, prices, found.min(known));
+    let found = search(pool, state, &task, most, None)?;
+    ascent.take_in_quick(pool, &trial, rows, found.min(known));
     Ok(found < most)
 }
 
@@ -141,9 +141,9 @@ fn widen(
         None => false,
     };
     if is_wider {
-        let prices = prices_at(state.alloc, ascent, leaf, WHOLE)?;
-        let known = pool.least(prices.as_slice())?;
-        let found = search(pool, state, leaf, prices.as_slice(), 0, None)?;
+        let task = task_of_centre(pool, state, ascent, leaf, WHOLE)?;
+        let known = pool.least(rows_of(pool, &task)?.as_slice())?;
+        let found = search(pool, state, &task, 0, None)?;
         let rise = pool.rise().saturating_mul(3);
         ascent.go_on_from(pool, found.min(known), rise);
     }
@@ -183,24 +183,24 @@ fn quick_steps(
     Ok(())
 }
 
-/// The centre's prices, multiplied by this many millionths.
-fn prices_at(
-    alloc: Global,
+/// The centre's prices at a leaf, multiplied by this many millionths.
+fn task_of_centre<'i>(
+    pool: &RoutePool,
+    state: &mut PricingState<'_>,
     ascent: &Ascent,
-    leaf: &Priced<'_>,
+    leaf: &Priced<'i>,
     scale: i64,
-) -> Result<Vec<i64>, AllocError>
-    ensures count { IfOk result (λ v. length v.items ≡ customer_count leaf.now.problem) }
-    ensures in_range { IfOk result (λ v. AllByRecursion IsPrice v.items) }
+) -> Result<PricingTask<'i>, AllocError>
+    ensures { IfOk result (IsTaskAt leaf.now) }
 {
     let most = i128::from(i64::MAX);
-    let mut prices = Vec::new(alloc);
+    let mut prices = Vec::new(state.alloc);
     for price in &ascent.centre.prices {
         let product = i128::from(*price).saturating_mul(i128::from(scale.min(WHOLE)));
         prices.push((product / i128::from(WHOLE)).clamp(-most, most) as i64)?;
     }
-    let trial = Trial::new(alloc, prices.as_slice(), 0, VehiclePrice::new(false))?;
-    trial.prices_in_range(alloc, leaf.instance())
+    let trial = ascent.at(state.alloc, prices.as_slice())?;
+    trial_task(pool, state, leaf, &trial)
 }
 
 /// By how many millionths the centre's prices are to be multiplied so that no route pays more than it costs,
@@ -213,8 +213,8 @@ fn scale_of(
 ) -> Result<i64, AllocError> {
     let mut scale = pool.scale_at(ascent.centre.prices.as_slice())?;
     for _ in 0..SCALINGS {
-        let prices = prices_at(state.alloc, ascent, leaf, scale)?;
-        search(pool, state, leaf, prices.as_slice(), 0, Some(WIDEST))?;
+        let task = task_of_centre(pool, state, ascent, leaf, scale)?;
+        search(pool, state, &task, 0, Some(WIDEST))?;
         let next = pool.scale_at(ascent.centre.prices.as_slice())?;
         let is_found = next.saturating_add(LEAST_FALL) >= scale;
         scale = next;
@@ -238,7 +238,8 @@ fn end_round(
     let mut is_raised = false;
     if let Some(next) = next {
         pool.add(next.instance(), next.least().route.as_slice())?;
-        lack = WHOLE.saturating_sub(pool.scale_at(next.prices())?);
+        let rows = rows_of(pool, next.task())?;
+        lack = WHOLE.saturating_sub(pool.scale_at(rows.as_slice())?);
         is_raised = next.value() > leaf.value();
     }
     if let Some(way) = &mut state.quick {
@@ -275,8 +276,7 @@ pub(crate) fn quick_round<'i>(
     quick_steps(pool, state, ascent, leaf, looks)?;
     let scale = scale_of(pool, state, ascent, leaf)?;
     let scale = scale.min(WHOLE).saturating_sub(margin);
-    let prices = prices_at(state.alloc, ascent, leaf, scale)?;
-    let task = leaf.task().with(prices)?;
+    let task = task_of_centre(pool, state, ascent, leaf, scale)?;
     let labels = match goal.labels {
         Some(labels) => Some(labels.saturating_mul(LABELS_OF_ROUND)),
         None => None,

@@ -1,10 +1,12 @@
 //! The raising of a leaf's value.
 
-ghost use Rattle.std.specs.Prelude.{◌≡◌, ◌≤◌, IfOk, IfSome};
+ghost use Rattle.std.specs.Prelude.{◌≡◌, ◌≤◌, [], IfOk, IfSome};
 ghost use Rattle.leaf_work.specs.Branching.{IsPricedAt};
 
 use crate::pricing::price;
 use crate::quick_round::{is_quick_next, quick_round};
+use crate::set_round::SetRounds;
+use crate::tasks::{start_task, trial_task};
 use labelling::LabelFault;
 use pooled_routes::Trial;
 use price_way::{Ascent, ChildStart, Goal, PricingState, RoutePool};
@@ -17,10 +19,15 @@ use std::alloc::AllocError;
 pub struct Raised<'i> {
     pub priced: Priced<'i>,
     pub ascent: Option<Ascent>,
+    /// How many sets were added.
+    pub added: usize,
 }
 
 /// How many pricings more there may be below the root while the value to stop at is near.
 const MORE_PRICINGS: u32 = 8;
+
+/// A pool's set that had no price at so many leaves in a row is dropped.
+const MOST_IDLE: u32 = 30;
 
 /// The prices of a trial with their value, at the leaf of other prices.
 fn price_trial<'i>(
@@ -32,8 +39,7 @@ fn price_trial<'i>(
 ) -> Result<Priced<'i>, LabelFault>
     ensures { IfOk result (IsPricedAt leaf.now.region leaf.now) }
 {
-    let prices = trial.prices_in_range(state.alloc, leaf.instance())?;
-    let task = leaf.task().with(prices)?;
+    let task = trial_task(pool, state, leaf, trial)?;
     price(pool, state, task, labels)
 }
 
@@ -47,6 +53,7 @@ pub(crate) fn higher<'i>(first: Priced<'i>, second: Priced<'i>) -> Priced<'i>
     ensures neighbours { result.neighbours ≡ first.entry.neighbours }
     ensures not_below_first { first.entry.value ≤ result.value }
     ensures not_below_second { second.entry.value ≤ result.value }
+    ensures no_sets { first.entry.sets ≡ [] → second.entry.sets ≡ [] → result.sets ≡ [] }
 {
     if second.value() > first.value() {
         second
@@ -72,7 +79,8 @@ fn price_start<'i>(
     let Some(trial) = &start.trial else {
         return None;
     };
-    price_trial(pool, state, child, trial, labels).ok()
+    let task = start_task(pool, state, child, start, trial).ok()?;
+    price(pool, state, task, labels).ok()
 }
 
 /// The higher of two prices of one leaf, if the second are known.
@@ -102,12 +110,12 @@ fn step<'i>(
     if is_quick_next(pool, state, best, goal)? {
         return quick_round(pool, state, ascent, best, goal);
     }
-    ascent.go_back_to(state.alloc, best)?;
+    ascent.go_back_to(pool, best)?;
     let trial = ascent.trial(pool, state)?;
     match price_trial(pool, state, best, &trial, goal.labels) {
         Ok(next) => {
             // Where memory is refused, these prices still count, and the next step ends the ascent.
-            let _ = ascent.take_in(state.alloc, pool, &trial, &next);
+            let _ = ascent.take_in(pool, &trial, &next);
             Ok(Some(next))
         }
         Err(LabelFault::LabelLimit) => {
@@ -132,6 +140,7 @@ fn climb<'i>(
     pool: &mut RoutePool,
     state: &mut PricingState<'_>,
     ascent: &mut Ascent,
+    rounds: &mut SetRounds,
     priced: Priced<'i>,
     goal: &Goal,
 ) -> Priced<'i>
@@ -150,6 +159,9 @@ fn climb<'i>(
         if before >= goal.value || is_spent || is_over {
             return best;
         }
+        if rounds.before_pricing(pool, state, ascent).is_err() {
+            return best;
+        }
         let merit = ascent.centre.merit;
         let Ok(next) = step(pool, state, ascent, &best, goal) else {
             return best;
@@ -159,6 +171,8 @@ fn climb<'i>(
         let gains = best.value() > before;
         idle = if gains { 0 } else { idle.saturating_add(1) };
     }
+    // Where memory is refused, the prices stay what they are.
+    let _ = rounds.at_end(pool, state, ascent);
     best
 }
 
@@ -188,31 +202,40 @@ pub fn raise<'i>(
     if !priced.region().is_root() {
         pool.begin(start.as_ref());
     }
-    if pool.enter(&priced).is_err() {
+    if pool.enter_sets(&priced, MOST_IDLE).is_err() || pool.enter(&priced).is_err() {
         return Raised {
             priced,
             ascent: None,
+            added: 0,
         };
     }
     let tried = price_start(pool, state, &priced, &start, goal.labels);
-    let ascent = Ascent::new(state.alloc, pool, tried.as_ref().unwrap_or(&priced), goal);
+    let ascent = Ascent::new(pool, tried.as_ref().unwrap_or(&priced), goal);
     let priced = higher_if(priced, tried);
     let Ok(mut ascent) = ascent else {
         return Raised {
             priced,
             ascent: None,
+            added: 0,
         };
     };
-    let priced = climb(pool, state, &mut ascent, priced, goal);
-    if ascent.go_back_to(state.alloc, &priced).is_err() {
+    let mut rounds = SetRounds::new(&priced, goal);
+    let priced = climb(pool, state, &mut ascent, &mut rounds, priced, goal);
+    let added = rounds.added;
+    if ascent.go_back_to(pool, &priced).is_err() {
         return Raised {
             priced,
             ascent: None,
+            added,
         };
     }
     if let Some(start) = &start {
         state.learn(start, &ascent, priced.value());
     }
     let ascent = Some(ascent);
-    Raised { priced, ascent }
+    Raised {
+        priced,
+        ascent,
+        added,
+    }
 }

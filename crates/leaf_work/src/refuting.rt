@@ -1,6 +1,6 @@
 //! Prices to start from where no plan is known, which may show that there is none.
 
-ghost use Rattle.std.specs.Prelude.{◌≡◌, ◌+◌, ◌<◌, ◌≤◌, length, IfOk};
+ghost use Rattle.std.specs.Prelude.{◌≡◌, ◌+◌, ◌<◌, ◌≤◌, [], length, IfOk};
 ghost use Rattle.std.specs.List.{AllByRecursion};
 ghost use Rattle.solomon_reader.specs.Problem.{customer_count};
 ghost use Rattle.solomon_reader.specs.CertificateText.{IsPrice};
@@ -81,6 +81,7 @@ pub(crate) fn start_without_plan<'i>(
     ensures region { result.region ≡ root.entry.region }
     ensures neighbours { result.neighbours ≡ root.entry.neighbours }
     ensures not_lower { root.entry.value ≤ result.value }
+    ensures no_sets { root.entry.sets ≡ [] → result.sets ≡ [] }
 {
     let instance = root.instance();
     let ceiling = i128::from(instance.ceiling().get());

@@ -1,11 +1,11 @@
 //! Prices to start from.
 
-ghost use Rattle.std.specs.Prelude.{◌≡◌, ◌≤◌, length, IfOk};
+ghost use Rattle.std.specs.Prelude.{◌≡◌, ◌≤◌, [], length, IfOk};
 ghost use Rattle.std.specs.List.{AllByRecursion};
 ghost use Rattle.solomon_reader.specs.Problem.{customer_count};
 ghost use Rattle.solomon_reader.specs.CertificateText.{IsPrice};
 
-use crate::pricing::price_alone;
+use crate::pricing::{price_alone, task_without_sets};
 use crate::raising::higher;
 use fronts::Nearness;
 use pooled_routes::arc_cost;
@@ -75,8 +75,9 @@ pub(crate) fn higher_at<'i>(
     ensures region { result.region ≡ leaf.entry.region }
     ensures neighbours { result.neighbours ≡ leaf.entry.neighbours }
     ensures not_lower { leaf.entry.value ≤ result.value }
+    ensures no_sets { leaf.entry.sets ≡ [] → result.sets ≡ [] }
 {
-    let Ok(task) = leaf.task().with(prices) else {
+    let Ok(task) = task_without_sets(alloc, &leaf, prices) else {
         return leaf;
     };
     match price_alone(alloc, nearness, task, labels) {
@@ -98,6 +99,7 @@ pub(crate) fn start_from<'i>(
     ensures region { result.region ≡ root.entry.region }
     ensures neighbours { result.neighbours ≡ root.entry.neighbours }
     ensures not_lower { root.entry.value ≤ result.value }
+    ensures no_sets { root.entry.sets ≡ [] → result.sets ≡ [] }
 {
     match first_prices(alloc, root.instance(), routes) {
         Ok(prices) => higher_at(alloc, nearness, root, prices, labels),

@@ -25,7 +25,19 @@ pub struct HalfSpace<'r> {
     pub place: usize,
 }
 
+/// A route without sets takes as long as this many looks at customers.
+const LOOKS_AT_ROUTE: u64 = 4;
+
 impl HalfSpace<'_> {
+    /// How many looks prices that are projected onto the route take: more where it enters sets.
+    pub fn looks(&self) -> u64 {
+        let more = self
+            .fours
+            .len()
+            .saturating_sub(self.stops.len().div_ceil(4));
+        LOOKS_AT_ROUTE.saturating_add(more as u64)
+    }
+
     /// Whether a child by an arc forbids the route: it goes along the arc where that is forbidden, or
     /// leaves or enters a customer of the arc by another one where that is required.
     pub fn is_forbidden_by(&self, arc: Arc, child: Child) -> bool {

@@ -5,6 +5,7 @@
 use crate::arc_flow::ArcFlow;
 use crate::fours::{Four, fours_of};
 use crate::half_space::HalfSpace;
+use crate::pooled_set::PooledSet;
 use crate::vehicle_price::scaled;
 use branching::Arc;
 use fronts::CustomerSet;
@@ -31,11 +32,11 @@ pub struct PooledRoute {
     number: u64,
     /// The customers, in order.
     pub stops: Vec<u16>,
-    /// The same, four by four, and behind them the depot.
+    /// The same and the rows of the sets that the route enters, four by four, and behind them the depot.
     pub fours: Vec<Four>,
     /// In grains.
     pub cost: i64,
-    /// The sum of the squares of how often each customer is visited.
+    /// The sum of the squares of how often each customer is visited and each set is entered.
     weight: i64,
     /// How far the prices were moved by this route, in grains.
     pub multiplier: i64,
@@ -76,6 +77,24 @@ fn weight_of(stops: &[u16]) -> i64 {
     weight
 }
 
+/// The stops, and behind them a row for each entry of a set: the first set's follows on the last customer's.
+fn rows_of(
+    alloc: Global,
+    count: u16,
+    stops: &[u16],
+    sets: &[PooledSet],
+) -> Result<Vec<u16>, AllocError> {
+    let mut rows = Vec::from_slice(alloc, stops)?;
+    let mut row = count;
+    for set in sets {
+        row = row.saturating_add(1);
+        for _entry in 0..set.entries(stops) {
+            rows.push(row)?;
+        }
+    }
+    Ok(rows)
+}
+
 /// Whether each arc of a route is one of these, from each row to those that may follow on it.
 fn are_allowed(rows: &[CustomerSet], stops: &[u16]) -> bool {
     let is_one = |from: u16, to: u16| match rows.get(usize::from(from)) {
@@ -98,19 +117,34 @@ impl PooledRoute {
         alloc: Global,
         instance: &Instance,
         stops: &[u16],
+        sets: &[PooledSet],
         number: u64,
         pricing: u64,
     ) -> Result<PooledRoute, AllocError> {
+        let rows = rows_of(alloc, instance.customer_count(), stops, sets)?;
         Ok(PooledRoute {
             number,
             stops: Vec::from_slice(alloc, stops)?,
-            fours: fours_of(alloc, stops)?,
+            fours: fours_of(alloc, rows.as_slice())?,
             cost: cost_of(instance, stops),
-            weight: weight_of(stops),
+            weight: weight_of(rows.as_slice()),
             multiplier: 0,
             last_use: pricing,
             is_allowed: true,
         })
+    }
+
+    /// Goes by these sets from now on.
+    pub fn take_sets(
+        &mut self,
+        alloc: Global,
+        count: u16,
+        sets: &[PooledSet],
+    ) -> Result<(), AllocError> {
+        let rows = rows_of(alloc, count, self.stops.as_slice(), sets)?;
+        self.fours = fours_of(alloc, rows.as_slice())?;
+        self.weight = weight_of(rows.as_slice());
+        Ok(())
     }
 
     /// How much of the rise the multiplier is.

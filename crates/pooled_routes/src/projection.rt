@@ -18,7 +18,7 @@ const SWEEPS_BETWEEN: u32 = 10;
 pub struct Projection<'r> {
     /// What the routes say.
     pub spaces: Vec<HalfSpace<'r>>,
-    /// How often a route was looked at.
+    /// How much work it was, in looks.
     pub looks: u64,
 }
 
@@ -37,9 +37,9 @@ impl<'r> Projection<'r> {
 
     /// Makes the violated routes active, and answers whether there were any.
     fn activate(&mut self, sweeps: &mut Sweeps<'r>, trial: &mut Trial) -> Result<bool, AllocError> {
-        self.looks = self.looks.saturating_add(self.spaces.len() as u64);
         let mut is_any = false;
         for (place, space) in self.spaces.iter_mut().enumerate() {
+            self.looks = self.looks.saturating_add(space.looks());
             if !space.is_active && trial.slack(space) <= -(ENOUGH as i64) {
                 space.is_active = true;
                 is_any = true;
@@ -57,7 +57,7 @@ impl<'r> Projection<'r> {
     /// and whether the last one was enough.
     fn sweep_on(&mut self, sweeps: &mut Sweeps<'r>, trial: &mut Trial, most: u32) -> (u32, bool) {
         for made in 0..most {
-            self.looks = self.looks.saturating_add(sweeps.count());
+            self.looks = self.looks.saturating_add(sweeps.looks());
             if sweeps.sweep(trial) < ENOUGH {
                 return (made + 1, true);
             }

@@ -9,6 +9,8 @@ use std::alloc::{AllocError, Global};
 #[derive(Drop)]
 pub(crate) struct Sweeps<'r> {
     bindings: Vec<Binding<'r>>,
+    /// How many looks a sweep takes.
+    looks: u64,
     /// How many parts a vehicle's price has.
     parts: u8,
 }
@@ -18,6 +20,7 @@ impl<'r> Sweeps<'r> {
     pub(crate) fn new(alloc: Global, trial: &Trial) -> Sweeps<'r> {
         Sweeps {
             bindings: Vec::new(alloc),
+            looks: 0,
             parts: if trial.vehicle_price.below.is_some() {
                 2
             } else {
@@ -26,15 +29,16 @@ impl<'r> Sweeps<'r> {
         }
     }
 
-    /// How many routes are swept over.
-    pub(crate) fn count(&self) -> u64 {
-        self.bindings.len() as u64
+    /// How many looks a sweep takes.
+    pub(crate) fn looks(&self) -> u64 {
+        self.looks
     }
 
     /// Sweeps over a half-space, too, that stands at this place.
     pub(crate) fn add(&mut self, space: &HalfSpace<'r>, place: usize) -> Result<(), AllocError> {
         let parts = u64::from(self.parts);
         self.bindings.push(Binding::of(space, place, parts))?;
+        self.looks = self.looks.saturating_add(space.looks());
         Ok(())
     }
 
@@ -66,7 +70,8 @@ impl<'r> Sweeps<'r> {
             farthest = binding.distance(fall).max(farthest);
         }
         trial.vehicle_price = trial.vehicle_price.raised(risen);
-        trial.vehicle_price.project().max(farthest)
+        let farthest = trial.vehicle_price.project().max(farthest);
+        trial.project_sets().max(farthest)
     }
 
     /// Gives the half-spaces the multipliers.

@@ -2,39 +2,52 @@
 //!
 //! But for the range of prices no contract speaks of it: it is a rule of search, and any prices are sound.
 
-ghost use Rattle.std.specs.Prelude.{◌≡◌, length, IfOk};
+ghost use Rattle.std.specs.Prelude.{◌≡◌, ◌≤◌, length, nat_abs, IfOk};
 ghost use Rattle.std.specs.List.{AllByRecursion};
 ghost use Rattle.solomon_reader.specs.Problem.{customer_count};
-ghost use Rattle.solomon_reader.specs.CertificateText.{IsPrice};
 
 use crate::fours::{Four, price, raise, reduced};
 use crate::half_space::HalfSpace;
+use crate::pooled_set::SetPart;
 use crate::vehicle_price::VehiclePrice;
 use solomon_reader::{Instance, MOST_PRICE};
 use std::alloc::{AllocError, Global};
 
-/// Prices in grains, that of row i at i and 0 for the depot, also outside their range, and a vehicle's price.
+/// A set's price is at most this much, in grains: so those of 1,000 sets are half of the greatest price.
+const MOST_SET_PRICE: i64 = MOST_PRICE as i64 / 2_000;
+
+/// Prices in grains, that of row i at i and 0 for the depot, and behind those of the customers that of each set, also
+/// outside their range, and a vehicle's price.
 #[derive(Drop)]
 pub struct Trial {
     pub prices: Vec<i64>,
+    pub sets: Vec<SetPart>,
     pub vehicle_price: VehiclePrice,
 }
 
 impl Trial {
-    /// These prices, that of customer i at i - 1, each of them this much higher.
+    /// These prices, that of customer i at i - 1, and behind them those of sets. Each is this much higher, and a set's is
+    /// as much for each entry that it needs, and moved by its multiplier.
     pub fn new(
         alloc: Global,
         prices: &[i64],
+        sets: Vec<SetPart>,
         rise: i64,
         vehicle_price: VehiclePrice,
     ) -> Result<Trial, AllocError> {
         let mut raised = Vec::with_capacity(alloc, prices.len().saturating_add(1))?;
         raised.push(0)?;
-        for price in prices {
-            raised.push(price.saturating_add(rise))?;
+        let first = prices.len().saturating_sub(sets.len());
+        for (place, price) in prices.iter().enumerate() {
+            let step = match sets.get(place.wrapping_sub(first)) {
+                Some(set) => rise.saturating_mul(set.need).saturating_add(set.multiplier),
+                None => rise,
+            };
+            raised.push(price.saturating_add(step))?;
         }
         Ok(Trial {
             prices: raised,
+            sets,
             vehicle_price,
         })
     }
@@ -58,27 +71,54 @@ impl Trial {
         raise(self.prices.as_mut_slice(), stops, change);
     }
 
-    /// The price of a customer, cut to the range of prices.
-    fn price_in_range(&self, customer: u16) -> i64
-        ensures { IsPrice result }
+    /// Projects the price of each set onto the numbers from 0 on, as far as its multiplier allows, and answers the
+    /// farthest.
+    pub(crate) fn project_sets(&mut self) -> u64 {
+        let first = self.prices.len().saturating_sub(self.sets.len());
+        let mut farthest = 0;
+        for (place, set) in self.sets.iter_mut().enumerate() {
+            if let Some(price) = self.prices.get_mut(first.saturating_add(place)) {
+                let fall = set.multiplier.min(*price);
+                *price = price.saturating_sub(fall);
+                set.multiplier = set.multiplier.saturating_sub(fall);
+                farthest = fall.unsigned_abs().max(farthest);
+            }
+        }
+        farthest
+    }
+
+    /// The prices of the sets, in their range.
+    pub fn set_prices(&self, alloc: Global) -> Result<Vec<u64>, AllocError> {
+        let first = self.prices.len().saturating_sub(self.sets.len());
+        let mut prices = Vec::new(alloc);
+        for price in self.prices.iter().skip(first) {
+            prices.push((*price).clamp(0, MOST_SET_PRICE).unsigned_abs())?;
+        }
+        Ok(prices)
+    }
+
+    /// The price of a customer, cut so that it is at most this far from 0.
+    fn price_within(&self, customer: u16, most: u64) -> i64
+        ensures { nat_abs result ≤ most }
     {
-        let most = MOST_PRICE as i64;
+        let most = most.min(MOST_PRICE) as i64;
         price(self.prices.as_slice(), customer).clamp(-most, most)
     }
 
-    /// The prices of an instance's customers, cut to their range.
-    pub fn prices_in_range(
+    /// The prices of an instance's customers, cut so that each is at most this far from 0.
+    pub fn prices_within(
         &self,
         alloc: Global,
         instance: &Instance,
+        most: u64,
     ) -> Result<Vec<i64>, AllocError>
         ensures count { IfOk result (λ v. length v.items ≡ customer_count instance.now) }
-        ensures in_range { IfOk result (λ v. AllByRecursion IsPrice v.items) }
+        ensures within { IfOk result (λ v. AllByRecursion (λ z. nat_abs z ≤ most) v.items) }
     {
         let end = instance.customer_count() + 1;
         let mut prices = Vec::new(alloc);
         for customer in 1..end {
-            prices.push(self.price_in_range(customer))?;
+            prices.push(self.price_within(customer, most))?;
         }
         Ok(prices)
     }

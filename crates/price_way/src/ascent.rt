@@ -6,7 +6,7 @@ use crate::centre::Centre;
 use crate::goal::Goal;
 use crate::pricing_state::PricingState;
 use crate::route_pool::RoutePool;
-use pooled_routes::{GRAINS_OF_TENTH, Merit, Trial, VehiclePrice};
+use pooled_routes::{GRAINS_OF_TENTH, Merit, SetPart, Trial, VehiclePrice, scaled};
 use prices::Priced;
 use std::alloc::{AllocError, Global};
 
@@ -29,9 +29,13 @@ pub struct Ascent {
     pub centre: Centre,
     merit: Merit,
     vehicle_price: VehiclePrice,
+    /// The pool's sets, with the multipliers of their prices.
+    sets: Vec<SetPart>,
     rise: i64,
     /// The value in tenths at which to stop.
     pub target: i128,
+    /// How much merit the last trial promised, in grains.
+    promise: i128,
     /// Whether only quick searches know the centre's least reduced cost.
     is_quick: bool,
 }
@@ -49,13 +53,13 @@ fn rise_in_range(rise: i64) -> i64 {
 impl Ascent {
     /// The way from these prices to a goal.
     pub fn new(
-        alloc: Global,
         pool: &mut RoutePool,
         priced: &Priced<'_>,
         goal: &Goal,
     ) -> Result<Ascent, AllocError> {
         let merit = Merit::new(priced.instance(), goal.routes);
-        let centre = Centre::new(alloc, priced, merit)?;
+        let sets = pool.sets.parts()?;
+        let centre = Centre::new(pool, priced, sets.as_slice(), merit)?;
         let rise = rise_in_range(goal.rise);
         pool.scale(rise);
         pool.add(priced.instance(), priced.least().route.as_slice())?;
@@ -63,8 +67,10 @@ impl Ascent {
             centre,
             merit,
             vehicle_price: merit.vehicle_price(),
+            sets,
             rise,
             target: goal.value,
+            promise: i128::MAX,
             is_quick: false,
         })
     }
@@ -102,13 +108,28 @@ impl Ascent {
     pub fn start(&self, alloc: Global, rise: i64) -> Result<Trial, AllocError> {
         let vehicle_price = self.vehicle_price.scaled(self.rise, rise);
         let vehicle_price = self.merit.start(vehicle_price, self.centre.least, rise);
-        Trial::new(alloc, self.centre.prices.as_slice(), rise, vehicle_price)
+        let mut sets = Vec::from_slice(alloc, self.sets.as_slice())?;
+        for set in sets.iter_mut() {
+            set.multiplier = scaled(set.multiplier, self.rise, rise);
+        }
+        let prices = self.centre.prices.as_slice();
+        Trial::new(alloc, prices, sets, rise, vehicle_price)
+    }
+
+    /// These prices of customers and sets as those of a trial.
+    pub fn at(&self, alloc: Global, prices: &[i64]) -> Result<Trial, AllocError> {
+        let mut sets = Vec::from_slice(alloc, self.sets.as_slice())?;
+        for set in sets.iter_mut() {
+            set.multiplier = 0;
+        }
+        Trial::new(alloc, prices, sets, 0, VehiclePrice::new(false))
     }
 
     /// How far the merit rises from the centre to the prices of a trial with this least reduced cost,
     /// in grains.
     pub fn rise_to(&self, trial: &Trial, least: i64) -> i128 {
-        let merit = self.merit.of(trial.prices.as_slice(), i128::from(least));
+        let (prices, sets) = (trial.prices.as_slice(), trial.sets.as_slice());
+        let merit = self.merit.of(prices, sets, i128::from(least));
         merit.saturating_sub(self.centre.merit)
     }
 
@@ -127,6 +148,9 @@ impl Ascent {
     fn scale(&mut self, pool: &mut RoutePool, rise: i64) {
         pool.scale(rise);
         self.vehicle_price = self.vehicle_price.scaled(self.rise, rise);
+        for set in self.sets.iter_mut() {
+            set.multiplier = scaled(set.multiplier, self.rise, rise);
+        }
         self.rise = rise;
     }
 
@@ -139,10 +163,16 @@ impl Ascent {
     /// of what the trial promised.
     fn go_on(&mut self, pool: &mut RoutePool, trial: &Trial, next: Centre) -> bool {
         self.vehicle_price = trial.vehicle_price;
+        for (set, moved) in self.sets.iter_mut().zip(trial.sets.iter()) {
+            set.multiplier = moved.multiplier;
+        }
         let before = self.centre.merit;
-        let promised = self
-            .merit
-            .promised(next.prices.as_slice(), self.vehicle_price);
+        let promised = self.merit.promised(
+            next.prices.as_slice(),
+            self.sets.as_slice(),
+            self.vehicle_price,
+        );
+        self.promise = promised.saturating_sub(before);
         let growth = next.merit.saturating_sub(before);
         let is_serious = growth.saturating_mul(10) > promised.saturating_sub(before);
         if is_serious {
@@ -157,12 +187,11 @@ impl Ascent {
     /// Takes in what the prices of a trial led to.
     pub fn take_in(
         &mut self,
-        alloc: Global,
         pool: &mut RoutePool,
         trial: &Trial,
         priced: &Priced<'_>,
     ) -> Result<(), AllocError> {
-        let next = Centre::new(alloc, priced, self.merit)?;
+        let next = Centre::new(pool, priced, self.sets.as_slice(), self.merit)?;
         if next.least < i128::from(trial.vehicle_price.value()) {
             pool.add(priced.instance(), priced.least().route.as_slice())?;
         }
@@ -178,7 +207,7 @@ impl Ascent {
         prices: Vec<i64>,
         least: i64,
     ) {
-        let next = Centre::at(prices, i128::from(least), self.merit);
+        let next = Centre::at(prices, self.sets.as_slice(), i128::from(least), self.merit);
         if self.go_on(pool, trial, next) {
             self.is_quick = true;
         }
@@ -188,20 +217,37 @@ impl Ascent {
     /// quick searches know it.
     pub fn go_on_from(&mut self, pool: &mut RoutePool, least: i64, rise: i64) {
         self.centre.least = i128::from(least);
-        self.centre.merit = self
-            .merit
-            .of(self.centre.prices.as_slice(), self.centre.least);
+        self.centre.merit = self.merit.of(
+            self.centre.prices.as_slice(),
+            self.sets.as_slice(),
+            self.centre.least,
+        );
         self.is_quick = true;
         self.scale(pool, rise_in_range(rise));
     }
 
     /// Goes back to these prices as the centre, unless that was priced exactly.
-    pub fn go_back_to(&mut self, alloc: Global, priced: &Priced<'_>) -> Result<(), AllocError> {
+    pub fn go_back_to(&mut self, pool: &RoutePool, priced: &Priced<'_>) -> Result<(), AllocError> {
         if self.is_quick {
-            self.centre = Centre::new(alloc, priced, self.merit)?;
+            self.centre = Centre::new(pool, priced, self.sets.as_slice(), self.merit)?;
             self.is_quick = false;
         }
         Ok(())
+    }
+
+    /// Takes in the sets that were added to the pool: their prices begin at 0, and the centre stays.
+    pub fn take_sets(&mut self, pool: &RoutePool) -> Result<(), AllocError> {
+        let parts = pool.sets.parts()?;
+        for place in self.sets.len()..parts.len() {
+            self.centre.prices.push(0)?;
+            self.sets.push(parts[place])?;
+        }
+        Ok(())
+    }
+
+    /// How much merit the last trial promised beyond the centre before it, in grains.
+    pub fn promise(&self) -> i128 {
+        self.promise
     }
 
     /// Whether the merit has come to the target.

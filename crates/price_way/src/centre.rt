@@ -2,13 +2,15 @@
 //!
 //! No contract speaks of it: it is a rule of search, and any prices are sound.
 
-use pooled_routes::Merit;
+use crate::route_pool::RoutePool;
+use pooled_routes::{Merit, SetPart};
 use prices::Priced;
-use std::alloc::{AllocError, Global};
+use std::alloc::AllocError;
 
 /// The prices that a rise starts from, in grains, with their least reduced cost and their merit.
 #[derive(Drop)]
 pub struct Centre {
+    /// Those of the customers, and behind them those of the pool's sets.
     pub prices: Vec<i64>,
     /// 0 where there is no relaxed route.
     pub least: i128,
@@ -17,18 +19,23 @@ pub struct Centre {
 
 impl Centre {
     /// The centre at prices with this least reduced cost.
-    pub fn at(prices: Vec<i64>, least: i128, merit: Merit) -> Centre {
+    pub fn at(prices: Vec<i64>, sets: &[SetPart], least: i128, merit: Merit) -> Centre {
         Centre {
-            merit: merit.of(prices.as_slice(), least),
+            merit: merit.of(prices.as_slice(), sets, least),
             prices,
             least,
         }
     }
 
-    /// The centre at these prices.
-    pub fn new(alloc: Global, priced: &Priced<'_>, merit: Merit) -> Result<Centre, AllocError> {
+    /// The centre at these prices, among the sets of a pool.
+    pub fn new(
+        pool: &RoutePool,
+        priced: &Priced<'_>,
+        sets: &[SetPart],
+        merit: Merit,
+    ) -> Result<Centre, AllocError> {
         let least = priced.least().value.unwrap_or(0);
-        let prices = Vec::from_slice(alloc, priced.prices())?;
-        Ok(Centre::at(prices, least, merit))
+        let prices = pool.sets.rows_of(priced.prices(), priced.sets())?;
+        Ok(Centre::at(prices, sets, least, merit))
     }
 }

@@ -33,6 +33,8 @@ pub struct Goal {
     /// How many routes count where the least reduced cost is below 0, at most the fleet;
     /// `counted_routes` serves well.
     pub routes: u16,
+    /// The most sets that may have prices beside those that are known.
+    pub sets: usize,
     /// The most labels that may be active at once in a pricing.
     pub labels: Option<usize>,
     /// Stops where the pool's work so far comes to this many looks.

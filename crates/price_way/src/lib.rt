@@ -10,6 +10,7 @@ mod pricing_state;
 mod quick_way;
 mod rises;
 mod route_pool;
+mod set_pool;
 
 pub use ascent::Ascent;
 pub use child_start::ChildStart;
@@ -19,3 +20,4 @@ pub use pricing_state::PricingState;
 pub use quick_way::{QuickWay, WHOLE, WIDEST};
 pub use rises::{first_rise, rise_at};
 pub use route_pool::RoutePool;
+pub use set_pool::SetPool;

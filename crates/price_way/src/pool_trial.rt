@@ -26,8 +26,8 @@ pub struct ChildTrial {
     pub prices: Trial,
     /// How far the merit rose above that of the leaf, in grains; nothing where no route is left.
     pub rise: Option<i128>,
-    /// How often a route was looked at.
-    pub routes: u64,
+    /// How much work it was, in looks.
+    pub looks: u64,
 }
 
 /// Routes of lower rank serve better: those that make up the prices, and then those of the least
@@ -52,7 +52,7 @@ impl<'r> PoolTrial<'r> {
     ) -> Result<PoolTrial<'r>, AllocError> {
         if spaces.len() > most {
             let prices = ascent.centre.prices.as_slice();
-            let prices = Trial::new(alloc, prices, 0, VehiclePrice::new(false))?;
+            let prices = Trial::new(alloc, prices, Vec::new(alloc), 0, VehiclePrice::new(false))?;
             spaces.sort_by_key(|space| rank(space, &prices))?;
             spaces.truncate(most);
         }
@@ -88,7 +88,7 @@ impl<'r> PoolTrial<'r> {
             .min();
         Ok(ChildTrial {
             rise: least.map(|least| self.ascent.rise_to(&trial, least)),
-            routes: projection.looks,
+            looks: projection.looks,
             prices: trial,
         })
     }

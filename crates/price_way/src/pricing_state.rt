@@ -8,10 +8,8 @@ use crate::quick_way::QuickWay;
 use fronts::Nearness;
 use labelling::Kept;
 use pooled_routes::Pseudocosts;
-use std::alloc::Global;
-
-/// A route that prices are projected onto takes as long as this many looks at customers.
-const LOOKS_AT_ROUTE: u64 = 4;
+use set_finding::SetSearch;
+use std::alloc::{AllocError, Global};
 
 /// What pricings hand on from one to the next, whatever the leaf, beside the routes that they met.
 #[derive(Drop)]
@@ -24,6 +22,8 @@ pub struct PricingState<'n> {
     pub kept: Kept,
     /// How an ascent by quick searches goes on, where one was made.
     pub quick: Option<QuickWay>,
+    /// The search for sets, where one was made.
+    set_search: Option<SetSearch<'n>>,
     /// The rises of merit that were seen.
     pub pseudocosts: Pseudocosts,
     /// How much work was done, in looks.
@@ -38,25 +38,32 @@ impl<'n> PricingState<'n> {
             nearness,
             kept: Kept::nothing(alloc),
             quick: None,
+            set_search: None,
             pseudocosts: Pseudocosts::new(alloc),
             looks: 0,
         }
     }
 
     /// How much work the pricings, the projections and the trials were, in looks: those of pricings, and
-    /// `LOOKS_AT_ROUTE` for a route that prices are projected onto. No contract: it only measures.
+    /// some for a route that prices are projected onto. No contract: it only measures.
     pub fn looks(&self) -> u64 {
         self.looks
+    }
+
+    /// The search for sets, which knows which are needed. `AllocError` where memory was refused.
+    pub fn set_search(&mut self) -> Result<&mut SetSearch<'n>, AllocError> {
+        if self.set_search.is_none() {
+            self.set_search = Some(SetSearch::new(self.alloc, self.nearness.instance)?);
+        }
+        match &mut self.set_search {
+            Some(search) => Ok(search),
+            None => unreachable!(),
+        }
     }
 
     /// Counts looks.
     pub fn count_looks(&mut self, looks: u64) {
         self.looks = self.looks.saturating_add(looks);
-    }
-
-    /// Counts the looks at routes of projections.
-    pub fn count_routes(&mut self, routes: u64) {
-        self.count_looks(routes.saturating_mul(LOOKS_AT_ROUTE));
     }
 
     /// Learns from the ascent of a child how far its merit rose, where its value came to this many

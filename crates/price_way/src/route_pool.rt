@@ -8,6 +8,7 @@ use crate::pool_trial::PoolTrial;
 use crate::pricing_state::PricingState;
 use crate::quick_way::WHOLE;
 use crate::rises::trial_rise;
+use crate::set_pool::SetPool;
 use branching::{Arc, Region};
 use fronts::allowed_rows;
 use pooled_routes::{
@@ -15,6 +16,7 @@ use pooled_routes::{
     merge, scaled,
 };
 use prices::{Priced, allows_route};
+use set_finding::FoundSet;
 use solomon_reader::Instance;
 use std::alloc::{AllocError, Global};
 use std::mem::replace;
@@ -36,6 +38,8 @@ const TRIAL_ROUTES: usize = 4;
 pub struct RoutePool {
     alloc: Global,
     routes: Vec<PooledRoute>,
+    /// The sets whose prices stand behind those of the customers.
+    pub sets: SetPool,
     /// How many routes were added.
     met: u64,
     /// The rise by which the multipliers are measured, in grains.
@@ -50,6 +54,7 @@ impl RoutePool {
         RoutePool {
             alloc,
             routes: Vec::new(alloc),
+            sets: SetPool::new(alloc),
             met: 0,
             rise: 1,
             age: 0,
@@ -79,13 +84,50 @@ impl RoutePool {
         if stops.is_empty() || self.routes.iter().any(is_it) {
             return Ok(());
         }
-        let route = PooledRoute::new(self.alloc, instance, stops, self.met, self.age)?;
+        let route = PooledRoute::new(
+            self.alloc,
+            instance,
+            stops,
+            self.sets.sets.as_slice(),
+            self.met,
+            self.age,
+        )?;
         self.met = self.met.saturating_add(1);
         let customers = usize::from(instance.customer_count());
         if self.routes.len() >= MOST_ROUTES.max(customers * ROUTES_OF_CUSTOMER) {
             self.drop_one();
         }
         self.routes.push(route)?;
+        Ok(())
+    }
+
+    /// These prices of customers and sets, as trials have them.
+    fn trial_at(&self, prices: &[i64]) -> Result<Trial, AllocError> {
+        let none = Vec::new(self.alloc);
+        Trial::new(self.alloc, prices, none, 0, VehiclePrice::new(false))
+    }
+
+    /// Tells the routes of the sets.
+    fn tell_routes(&mut self, instance: &Instance) -> Result<(), AllocError> {
+        let customers = instance.customer_count();
+        for route in self.routes.iter_mut() {
+            route.take_sets(self.alloc, customers, self.sets.sets.as_slice())?;
+        }
+        Ok(())
+    }
+
+    /// Adds sets that were found.
+    pub fn add_sets(&mut self, instance: &Instance, found: &[FoundSet]) -> Result<(), AllocError> {
+        self.sets.add(instance.customer_count(), found)?;
+        self.tell_routes(instance)
+    }
+
+    /// Takes in the sets of a leaf, after it dropped those that have had no price for so many ascents.
+    pub fn enter_sets(&mut self, leaf: &Priced<'_>, most_idle: u32) -> Result<(), AllocError> {
+        let customers = leaf.instance().customer_count();
+        if self.sets.enter(customers, leaf.sets(), most_idle)? {
+            self.tell_routes(leaf.instance())?;
+        }
         Ok(())
     }
 
@@ -98,7 +140,7 @@ impl RoutePool {
     /// The customers of the route of least reduced cost at these prices among those that a region allows;
     /// none where it allows none.
     pub fn cheapest(&self, region: &Region, prices: &[i64]) -> Result<Vec<u16>, AllocError> {
-        let rows = Trial::new(self.alloc, prices, 0, VehiclePrice::new(false))?;
+        let rows = self.trial_at(prices)?;
         let mut cheapest: Option<(&[u16], i64)> = None;
         for route in self.routes.iter().filter(|route| route.is_allowed) {
             let stops = route.stops.as_slice();
@@ -117,7 +159,7 @@ impl RoutePool {
     /// The least reduced cost of the routes that count at these prices, in grains; the greatest number where
     /// none does.
     pub fn least(&self, prices: &[i64]) -> Result<i64, AllocError> {
-        let rows = Trial::new(self.alloc, prices, 0, VehiclePrice::new(false))?;
+        let rows = self.trial_at(prices)?;
         let counting = self.routes.iter().filter(|route| route.is_allowed);
         let costs = counting.map(|route| rows.reduced_cost(route.fours.as_slice(), route.cost));
         Ok(costs.min().unwrap_or(i64::MAX))
@@ -126,7 +168,7 @@ impl RoutePool {
     /// By how many millionths these prices are to be multiplied so that none of the routes that count pays
     /// more than it costs (Farley 1990); the greatest number where none pays.
     pub fn scale_at(&self, prices: &[i64]) -> Result<i64, AllocError> {
-        let rows = Trial::new(self.alloc, prices, 0, VehiclePrice::new(false))?;
+        let rows = self.trial_at(prices)?;
         let mut least = i64::MAX;
         for route in self.routes.iter().filter(|route| route.is_allowed) {
             let reduced = rows.reduced_cost(route.fours.as_slice(), route.cost);
@@ -234,7 +276,7 @@ impl RoutePool {
     }
 
     /// Projects a trial, and answers the places of the routes with the multipliers that it came to, and how
-    /// often it looked at a route.
+    /// much work it was, in looks.
     fn projected(&self, trial: &mut Trial) -> Result<(Vec<(usize, i64)>, u64), AllocError> {
         let spaces = self.half_spaces()?;
         let mut projection = Projection { spaces, looks: 0 };
@@ -252,8 +294,8 @@ impl RoutePool {
         state: &mut PricingState<'_>,
         trial: &mut Trial,
     ) -> Result<(), AllocError> {
-        let (multipliers, routes) = self.projected(trial)?;
-        state.count_routes(routes);
+        let (multipliers, looks) = self.projected(trial)?;
+        state.count_looks(looks);
         for (place, multiplier) in &multipliers {
             if let Some(route) = self.routes.get_mut(*place) {
                 route.multiplier = *multiplier;
@@ -301,6 +343,7 @@ impl RoutePool {
             child,
             merit: ascent.centre.merit,
             trial,
+            sets: self.sets.numbers()?,
             shares: self.shares()?,
         })
     }

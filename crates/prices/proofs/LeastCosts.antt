@@ -1,21 +1,26 @@
 -- The least reduced cost: how far it may be from 0, and the route that a step goes by. At a region that allows fewer arcs it stays where its route is allowed there.
-use Rattle.std.proofs.Common.{refl, ℕ, zero, suc, ◌+◌, ◌-◌, ◌*◌, ◌≤◌, List, [], ◌∷◌, length, inl, inr, arith, subst, ◌≡◌, ◌∙◌}
+use Rattle.std.proofs.Common.{refl, Bool, true, false, cond, ℕ, zero, suc, ◌+◌, ◌-◌, ◌*◌, ◌≤◌, List, [], ◌∷◌, length, inl, inr, arith, subst, ◌≡◌, ◌∙◌}
 use Rattle.std.specs.Prelude.{ℤ, pos, negsuc, ◌-ℤ◌, ◌≤ℤ◌, nat_abs, Option, Some, None, MatchOption, slice_index_or}
 use Rattle.std.specs.List.{AllByRecursion, sum_by}
 use Rattle.std.proofs.lemmas.Int.{ints}
 use Rattle.std.proofs.lemmas.List.Sums.{sum_by-cons}
+use Rattle.std.proofs.lemmas.Nat.{mul-le}
 use Rattle.solomon_reader.specs.declared.row.Row.{Row}
 use Rattle.solomon_reader.specs.Distance.{distance}
-use Rattle.solomon_reader.specs.Problem.{Problem, IsCustomer, demand, ready, service}
+use Rattle.solomon_reader.specs.Problem.{Problem, customer_count, IsCustomer, demand, ready, service}
 use Rattle.solomon_reader.specs.Layout.{IsWithinLimits, AreRows, IsCustomerRow}
 use Rattle.solomon_reader.specs.Plan.{IsFitting, Walks, arcs_from, load_of, route_cost, arcs}
 use Rattle.solomon_reader.specs.Region.{Region, IsAllowed}
-use Rattle.solomon_reader.specs.Relaxed.{IsRelaxed, IsLeast, IsLeastOrZero, reduced_cost, price_of, int_sum_by}
+use Rattle.solomon_reader.specs.Relaxed.{IsRelaxed, price_of, int_sum_by}
+use Rattle.solomon_reader.specs.CustomerSets.{IsCustomerSet, entries, enters, holds}
+use Rattle.solomon_reader.specs.SetPrices.{PricedSet, IsLeastWith, IsLeastOrZeroWith, reduced_cost_with, paid_for_entries, price_sum, listed_of}
+use Rattle.solomon_reader.specs.SetLaws.{depot_outside, entries_from, entries_more, entries_end, entries_is}
 use Rattle.solomon_reader.specs.SumLaws.{up, down}
 use Rattle.solomon_reader.specs.CertificateText.{IsPrice}
 use Rattle.solomon_reader.specs.AmongLaws.{weaker}
 use Rattle.labelling.specs.declared.least_cost.Least.{Least}
-use Rattle.labelling.specs.Answer.{HasLeastValue, HasItsRoute}
+use Rattle.labelling.specs.Answer.{HasLeastValueWith, HasItsRouteWith}
+use Rattle.priced_sets.specs.Sets.{ArePriced, MayBeListed}
 use Rattle.prices.specs.ValuedPrices.{or_zero, IsValued}
 use Rattle.prices.specs.Narrowing.{IsNarrower, StaysLeast}
 use Rattle.solomon_reader.proofs.Grains.{price_small}
@@ -54,6 +59,40 @@ module _ (p : Problem) (limits : IsWithinLimits p) where
       let last = closes p.rows (record { x = 0; y = 0; demand = 0; ready = 0; due = 0; service = 0 }) limits.rows in
       omega (arith, walk_costs p 0 (ready p 0) r walk.1.times walk.0 walk.1.walks, walk.1.closing, last)
 
+-- ---- what entries are paid
+
+one_step : (b : Bool) (n : ℕ) → n ≡ cond b 1 0 → n ≤ 1
+one_step true n e = omega (arith, e)
+one_step false n e = omega (arith, e)
+
+entries_few : (s : List ℕ) (i : ℕ) (r : List ℕ) → holds s 0 ≡ false → entries_from s i r ≤ length r
+entries_few s i [] outside =
+    let out : entries_from s i [] ≡ 0 = rw (entries_end s i, outside) refl in
+    omega (arith, out)
+entries_few s i (j ∷ r) outside = omega (arith, entries_more s i j r, one_step (enters s (i, j)) (cond (enters s (i, j)) 1 0) refl, entries_few s j r outside)
+
+paid_low : (n : ℕ) (sets : List PricedSet) (r : List ℕ) → AllByRecursion (λ s. IsCustomerSet n s.members) sets → paid_for_entries sets r ≤ price_sum sets * length r
+paid_low n [] r are = omega arith
+paid_low n (s ∷ sets) r are =
+    let sum : price_sum (s ∷ sets) * length r ≡ s.price * length r + price_sum sets * length r = rw (sum_by-cons (λ (t : PricedSet). t.price) s sets) (omega arith) in
+    let few : entries s.members r ≤ length r = rw (entries_is s.members r) (entries_few s.members 0 r (depot_outside n s.members are.0)) in
+    omega (
+      arith,
+      sum,
+      sum_by-cons (λ (t : PricedSet). t.price * entries t.members r) s sets,
+      mul-le s.price (entries s.members r) s.price (length r) (omega arith) few,
+      paid_low n sets r are.1,
+    )
+
+paid_within : (n : ℕ) (sets : List PricedSet) (r : List ℕ) → AllByRecursion (λ s. IsCustomerSet n s.members) sets → price_sum sets ≤ 1000000000000
+    → paid_for_entries sets r ≤ 1000000000000 * length r
+paid_within n sets r are within = omega (arith, paid_low n sets r are, mul-le (price_sum sets) (length r) 1000000000000 (length r) within (omega arith))
+
+-- sets that may have a price are sets of customers
+sets_known : (p : Problem) (sets : List PricedSet) → AllByRecursion (λ s. MayBeListed p (listed_of s)) sets → AllByRecursion (λ s. IsCustomerSet (customer_count p) s.members) sets
+sets_known p [] are = tt
+sets_known p (s ∷ sets) are = (are.0.listed.customers, sets_known p sets are.1)
+
 module _ (prices : List ℤ) (priced : AllByRecursion IsPrice prices) where
   prices_high : (r : List ℕ) → int_sum_by (price_of prices) r ≤ℤ pos (1000000000000 * length r)
   prices_high [] = omega (arith, ints)
@@ -69,20 +108,23 @@ module _ (prices : List ℤ) (priced : AllByRecursion IsPrice prices) where
       let rest = prices_low r in
       omega (arith, ints)
 
-  near_zero : (cost n : ℕ) (sum : ℤ) → (pos 0 -ℤ pos (1000000000000 * n)) ≤ℤ sum → sum ≤ℤ pos (1000000000000 * n) → n ≤ 10000 → cost ≤ 10000000
-      → nat_abs (pos (1000 * cost) -ℤ sum) ≤ 20000000000000000
-  near_zero cost n sum low high few small = abs_within (pos (1000 * cost) -ℤ sum) 20000000000000000 (omega (arith, ints)) (omega (arith, ints))
+  near_zero : (cost n paid : ℕ) (sum : ℤ) → (pos 0 -ℤ pos (1000000000000 * n)) ≤ℤ sum → sum ≤ℤ pos (1000000000000 * n) → n ≤ 10000 → cost ≤ 10000000
+      → paid ≤ 1000000000000 * n → nat_abs ((pos (1000 * cost) -ℤ sum) -ℤ pos paid) ≤ 20000000000000000
+  near_zero cost n paid sum low high few small bound =
+      abs_within ((pos (1000 * cost) -ℤ sum) -ℤ pos paid) 20000000000000000 (omega (arith, ints)) (omega (arith, ints))
 
-  reduced_small : (p : Problem) → IsWithinLimits p → (r : List ℕ) → IsFitting p r → nat_abs (reduced_cost p prices r) ≤ 20000000000000000
-  reduced_small p limits r fitting =
-      near_zero (route_cost p r) (length r) (int_sum_by (price_of prices) r) (prices_low r) (prices_high r) (short p limits r fitting) (cheap p limits r fitting)
+  module _ (p : Problem) (sets : List PricedSet) (are : ArePriced p sets) (limits : IsWithinLimits p) where
+    reduced_small : (r : List ℕ) → IsFitting p r → nat_abs (reduced_cost_with p prices sets r) ≤ 20000000000000000
+    reduced_small r fitting =
+        near_zero (route_cost p r) (length r) (paid_for_entries sets r) (int_sum_by (price_of prices) r) (prices_low r) (prices_high r) (short p limits r fitting) (cheap p limits r fitting)
+        (paid_within (customer_count p) sets r (sets_known p sets are.listed) are.within)
 
-  least_small : (p : Problem) (g : Region) (k : ℕ) (least : Option ℤ) → IsWithinLimits p
-      → MatchOption least ((r : List ℕ) → ¬ IsRelaxed p g k r) (λ m. IsLeast p g k prices m) → nat_abs (or_zero least) ≤ 20000000000000000
-  least_small p g k None limits is = omega arith
-  least_small p g k (Some m) limits is =
-      let P : ℤ → Type 0 = λ z. nat_abs z ≤ 20000000000000000 in
-      subst P is.reached.2 (reduced_small p limits is.reached.0 is.reached.1.fitting)
+    least_small : (g : Region) (k : ℕ) (least : Option ℤ)
+        → MatchOption least ((r : List ℕ) → ¬ IsRelaxed p g k r) (λ m. IsLeastWith p g k prices sets m) → nat_abs (or_zero least) ≤ 20000000000000000
+    least_small g k None is = omega arith
+    least_small g k (Some m) is =
+        let P : ℤ → Type 0 = λ z. nat_abs z ≤ 20000000000000000 in
+        subst P is.reached.2 (reduced_small is.reached.0 is.reached.1.fitting)
 
 up-le : (z : ℤ) → up z ≤ nat_abs z
 up-le (pos n) = omega arith
@@ -92,25 +134,25 @@ down-le : (z : ℤ) → down z ≤ nat_abs z
 down-le (pos n) = omega arith
 down-le (negsuc n) = omega arith
 
-module _ (prices : List ℤ) (priced : AllByRecursion IsPrice prices) (p : Problem) (limits : IsWithinLimits p) (g : Region) (k : ℕ) (least : Option ℤ)
-    (is : MatchOption least ((r : List ℕ) → ¬ IsRelaxed p g k r) (λ m. IsLeast p g k prices m)) where
+module _ (prices : List ℤ) (priced : AllByRecursion IsPrice prices) (p : Problem) (sets : List PricedSet) (are : ArePriced p sets) (limits : IsWithinLimits p) (g : Region) (k : ℕ)
+    (least : Option ℤ) (is : MatchOption least ((r : List ℕ) → ¬ IsRelaxed p g k r) (λ m. IsLeastWith p g k prices sets m)) where
   pub least_above : up (or_zero least) ≤ 20000000000000000
-  least_above = omega (arith, up-le (or_zero least), least_small prices priced p g k least limits is)
+  least_above = omega (arith, up-le (or_zero least), least_small prices priced p sets are limits g k least is)
 
   pub least_below : down (or_zero least) ≤ 20000000000000000
-  least_below = omega (arith, down-le (or_zero least), least_small prices priced p g k least limits is)
+  least_below = omega (arith, down-le (or_zero least), least_small prices priced p sets are limits g k least is)
 
-pub least_or_zero : (p : Problem) (g : Region) (k : ℕ) (prices : List ℤ) (least : Option ℤ)
-    → MatchOption least ((r : List ℕ) → ¬ IsRelaxed p g k r) (λ m. IsLeast p g k prices m) → IsLeastOrZero p g k prices (or_zero least)
-least_or_zero p g k prices None is = inr (is, refl)
-least_or_zero p g k prices (Some m) is = inl is
+pub least_or_zero : (p : Problem) (g : Region) (k : ℕ) (prices : List ℤ) (sets : List PricedSet) (least : Option ℤ)
+    → MatchOption least ((r : List ℕ) → ¬ IsRelaxed p g k r) (λ m. IsLeastWith p g k prices sets m) → IsLeastOrZeroWith p g k prices sets (or_zero least)
+least_or_zero p g k prices sets None is = inr (is, refl)
+least_or_zero p g k prices sets (Some m) is = inl is
 
 -- ---- At a region that allows fewer arcs the least reduced cost stays where its route is allowed there.
 
 equal_leasts : (m n : ℤ) → m ≤ℤ n → n ≤ℤ m → m ≡ n
 equal_leasts m n h k = omega (arith, ints)
 
-module _ (p : Problem) (g h : Region) (k : ℕ) (prices : List ℤ) (narrower : IsNarrower g h) where
+module _ (p : Problem) (g h : Region) (k : ℕ) (prices : List ℤ) (sets : List PricedSet) (narrower : IsNarrower g h) where
   -- a relaxed route of the narrower region is one of the wider
   wider : (r : List ℕ) → IsRelaxed p g k r → IsRelaxed p h k r
   wider r is = record {
@@ -124,9 +166,9 @@ module _ (p : Problem) (g h : Region) (k : ℕ) (prices : List ℤ) (narrower : 
   stays r is allowed = record { fitting = is.fitting; allowed = allowed; forgets = is.forgets }
 
   pub least_stays : (value : Option ℤ) (route : List ℕ) → MatchOption value (Unit {0}) (λ m. AllByRecursion (IsAllowed g) (arcs route))
-      → MatchOption value ((r : List ℕ) → ¬ IsRelaxed p h k r) (λ m. IsLeast p h k prices m)
-      → MatchOption value (route ≡ []) (λ m. IsRelaxed p h k route × (reduced_cost p prices route ≡ m))
-      → MatchOption value ((r : List ℕ) → ¬ IsRelaxed p g k r) (λ m. IsLeast p g k prices m)
+      → MatchOption value ((r : List ℕ) → ¬ IsRelaxed p h k r) (λ m. IsLeastWith p h k prices sets m)
+      → MatchOption value (route ≡ []) (λ m. IsRelaxed p h k route × (reduced_cost_with p prices sets route ≡ m))
+      → MatchOption value ((r : List ℕ) → ¬ IsRelaxed p g k r) (λ m. IsLeastWith p g k prices sets m)
   least_stays None route allowed none has = λ r is. none r (wider r is)
   least_stays (Some m) route allowed is has = record {
     reached = (route, stays route has.0 allowed, has.1);
@@ -134,42 +176,48 @@ module _ (p : Problem) (g h : Region) (k : ℕ) (prices : List ℤ) (narrower : 
   }
 
   pub route_stays : (value : Option ℤ) (route : List ℕ) → MatchOption value (Unit {0}) (λ m. AllByRecursion (IsAllowed g) (arcs route))
-      → MatchOption value (route ≡ []) (λ m. IsRelaxed p h k route × (reduced_cost p prices route ≡ m))
-      → MatchOption value (route ≡ []) (λ m. IsRelaxed p g k route × (reduced_cost p prices route ≡ m))
+      → MatchOption value (route ≡ []) (λ m. IsRelaxed p h k route × (reduced_cost_with p prices sets route ≡ m))
+      → MatchOption value (route ≡ []) (λ m. IsRelaxed p g k route × (reduced_cost_with p prices sets route ≡ m))
   route_stays None route allowed has = has
   route_stays (Some m) route allowed has = (stays route has.0 allowed, has.1)
 
   same_least : (value : Option ℤ) (m : ℤ)
-      → MatchOption value ((r : List ℕ) → ¬ IsRelaxed p h k r) (λ l. IsLeast p h k prices l)
-      → MatchOption value ((r : List ℕ) → ¬ IsRelaxed p g k r) (λ l. IsLeast p g k prices l)
-      → IsLeastOrZero p h k prices m → IsLeastOrZero p g k prices m
+      → MatchOption value ((r : List ℕ) → ¬ IsRelaxed p h k r) (λ l. IsLeastWith p h k prices sets l)
+      → MatchOption value ((r : List ℕ) → ¬ IsRelaxed p g k r) (λ l. IsLeastWith p g k prices sets l)
+      → IsLeastOrZeroWith p h k prices sets m → IsLeastOrZeroWith p g k prices sets m
   same_least None m none still (inl is) = absurd (none is.reached.0 is.reached.1)
   same_least None m none still (inr nought) = inr (still, nought.1)
   same_least (Some l) m is still (inl other) =
       let below : l ≤ℤ m = subst (λ (z : ℤ). l ≤ℤ z) other.reached.2 (is.least other.reached.0 other.reached.1) in
       let above : m ≤ℤ l = subst (λ (z : ℤ). m ≤ℤ z) is.reached.2 (other.least is.reached.0 is.reached.1) in
-      inl (subst (λ (z : ℤ). IsLeast p g k prices z) (equal_leasts l m below above) still)
+      inl (subst (λ (z : ℤ). IsLeastWith p g k prices sets z) (equal_leasts l m below above) still)
   same_least (Some l) m is still (inr nought) = absurd (nought.0 is.reached.0 is.reached.1)
 
 -- so prices at the wider region are prices with the same value at the narrower one
-pub narrowed_pricing : (p : Problem) (g h : Region) (k : ℕ) (prices : List ℤ) (v : ℕ) (least found : Least) → IsNarrower g h → StaysLeast g least
+pub narrowed_pricing : (p : Problem) (g h : Region) (k : ℕ) (prices : List ℤ) (sets : List PricedSet) (v : ℕ) (least found : Least) → IsNarrower g h → StaysLeast g least
     → found.value ≡ least.value → found.route.items ≡ least.route.items
-    → IsValued (record { problem = p; region = h; neighbours = k; prices = prices; value = v })
-    → HasLeastValue p h k prices least → HasItsRoute p h k prices least
-    → IsValued (record { problem = p; region = g; neighbours = k; prices = prices; value = v }) × HasLeastValue p g k prices found × HasItsRoute p g k prices found
-narrowed_pricing p g h k prices v least found narrower allowed same_value same_route is is_least has_route =
-    let still = least_stays p g h k prices narrower least.value least.route.items allowed is_least has_route in
-    let routed = route_stays p g h k prices narrower least.value least.route.items allowed has_route in
-    let pricing : IsValued (record { problem = p; region = g; neighbours = k; prices = prices; value = v }) = record {
+    → IsValued (record { problem = p; region = h; neighbours = k; prices = prices; sets = sets; value = v })
+    → HasLeastValueWith p h k prices sets least → HasItsRouteWith p h k prices sets least
+    → IsValued (record { problem = p; region = g; neighbours = k; prices = prices; sets = sets; value = v }) × HasLeastValueWith p g k prices sets found × HasItsRouteWith p g k prices sets found
+narrowed_pricing p g h k prices sets v least found narrower allowed same_value same_route is is_least has_route =
+    let still = least_stays p g h k prices sets narrower least.value least.route.items allowed is_least has_route in
+    let routed = route_stays p g h k prices sets narrower least.value least.route.items allowed has_route in
+    let pricing : IsValued (record { problem = p; region = g; neighbours = k; prices = prices; sets = sets; value = v }) = record {
       size = narrower.size ∙ is.size;
       few = is.few;
+      sets_are = is.sets_are;
       priced = is.priced;
       valued = record {
         priced = is.valued.priced;
         least = is.valued.least;
-        is_least = same_least p g h k prices narrower least.value is.valued.least is_least still is.valued.is_least;
+        is_least = same_least p g h k prices sets narrower least.value is.valued.least is_least still is.valued.is_least;
         rounded = is.valued.rounded;
       };
       bound = is.bound;
     } in
     (pricing, rw (same_value) still, rw (same_value, same_route) routed)
+
+-- a copy of a least reduced cost is one, too
+pub copied_least : (p : Problem) (g : Region) (k : ℕ) (prices : List ℤ) (sets : List PricedSet) (least found : Least) → found.value ≡ least.value → found.route.items ≡ least.route.items
+    → HasLeastValueWith p g k prices sets least → HasItsRouteWith p g k prices sets least → HasLeastValueWith p g k prices sets found × HasItsRouteWith p g k prices sets found
+copied_least p g k prices sets least found same_value same_route is_least has_route = (rw (same_value) is_least, rw (same_value, same_route) has_route)

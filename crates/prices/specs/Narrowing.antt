@@ -21,4 +21,5 @@ pub record IsSameAt (g : Region) (old new : ValuedPrices) : Type 0 where
   pub region : new.region ≡ g
   pub neighbours : new.neighbours ≡ old.neighbours
   pub prices : new.prices ≡ old.prices
+  pub sets : new.sets ≡ old.sets
   pub value : new.value ≡ old.value

@@ -2,10 +2,10 @@
 use Rattle.std.specs.Prelude.{◌≡◌, ℕ, ◌<◌, ◌≤◌, List, [], ◌∷◌, ◌++◌, map, ℤ, pos, ◌+ℤ◌, ◌-ℤ◌, ◌*ℤ◌, ◌≤ℤ◌, ◌⊎◌}
 use Rattle.std.specs.Int.{int_min, int_max}
 use Rattle.std.specs.List.{AllByRecursion}
-use Rattle.solomon_reader.specs.Problem.{Problem, customers}
+use Rattle.solomon_reader.specs.Problem.{customers}
 use Rattle.solomon_reader.specs.Plan.{count_of}
-use Rattle.solomon_reader.specs.Region.{Region}
-use Rattle.solomon_reader.specs.Relaxed.{IsRelaxed, IsLeast, reduced_cost, price_of}
+use Rattle.solomon_reader.specs.Relaxed.{IsRelaxed, price_of}
+use Rattle.solomon_reader.specs.SetPrices.{IsLeastWith, reduced_cost_with}
 use Rattle.solomon_reader.specs.declared.limits.TheConstants.{MOST_PRICE}
 use Rattle.prices.specs.ValuedPrices.{ValuedPrices, IsValued}
 
@@ -17,23 +17,29 @@ cut z = int_max (pos 0 -ℤ pos MOST_PRICE) (int_min (pos MOST_PRICE) z)
 abbrev pub price_after : ℤ → ℕ → ℤ → ℤ
 price_after s count price = cut (price +ℤ (s *ℤ (pos 1 -ℤ pos count)))
 
+-- the reduced cost of a route at prices
+abbrev pub reduced_cost_at : ValuedPrices → List ℕ → ℤ
+reduced_cost_at f r = reduced_cost_with f.problem f.prices f.sets r
+
 -- The route that a step goes by: one of the least reduced cost where that is below 0, else the empty one.
-abbrev pub IsGuide : Problem → Region → ℕ → List ℤ → List ℕ → Type 0
-IsGuide p g k prices r =
-    (IsRelaxed p g k r × IsLeast p g k prices (reduced_cost p prices r) × ((reduced_cost p prices r +ℤ pos 1) ≤ℤ pos 0))
-    ⊎ ((r ≡ []) × ((q : List ℕ) → IsRelaxed p g k q → pos 0 ≤ℤ reduced_cost p prices q))
+abbrev pub IsGuide : ValuedPrices → List ℕ → Type 0
+IsGuide f r =
+    (IsRelaxed f.problem f.region f.neighbours r × IsLeastWith f.problem f.region f.neighbours f.prices f.sets (reduced_cost_at f r)
+    × ((reduced_cost_at f r +ℤ pos 1) ≤ℤ pos 0))
+    ⊎ ((r ≡ []) × ((q : List ℕ) → IsRelaxed f.problem f.region f.neighbours q → pos 0 ≤ℤ reduced_cost_at f q))
 
--- the prices after one step
-abbrev pub IsStepped : Problem → Region → ℕ → ℤ → List ℤ → List ℤ → Type 0
-IsStepped p g k s old new =
-    (r : List ℕ) × IsGuide p g k old r × (new ≡ map (λ i. price_after s (count_of i r) (price_of old i)) (customers p))
+-- the prices of customers after one step
+abbrev pub IsStepped : ValuedPrices → ℤ → List ℤ → Type 0
+IsStepped f s new =
+    (r : List ℕ) × IsGuide f r × (new ≡ map (λ i. price_after s (count_of i r) (price_of f.prices i)) (customers f.problem))
 
--- the prices after one step, with the value that they give, at the same region of the same instance
+-- the prices after one step, with the value that they give, at the same region of the same instance; no set has a price any more
 pub record IsNext (old : ValuedPrices) (s : ℤ) (new : ValuedPrices) : Type 0 where
   pub problem : new.problem ≡ old.problem
   pub region : new.region ≡ old.region
   pub neighbours : new.neighbours ≡ old.neighbours
-  pub stepped : IsStepped old.problem old.region old.neighbours s old.prices new.prices
+  pub stepped : IsStepped old s new.prices
+  pub sets : new.sets ≡ []
   pub valued : IsValued new
 
 -- the prices met on the way, one for each step, each from those that the step before left

@@ -4,4 +4,4 @@ use Rattle.labelling.specs.declared.pricing_task.PricingTask.{PricingTask}
 use Rattle.prices.specs.ValuedPrices.{ValuedPrices}
 
 abbrev pub valued_at : PricingTask → ℕ → ValuedPrices
-valued_at t value = record { problem = t.instance.now; region = t.region; neighbours = t.neighbours; prices = t.prices.items; value = value }
+valued_at t value = record { problem = t.instance.now; region = t.region; neighbours = t.neighbours; prices = t.prices.items; sets = t.sets.sets; value = value }

@@ -1,18 +1,20 @@
 -- A leaf with prices, and the value that they give it.
-use Rattle.std.specs.Prelude.{◌≡◌, ℕ, ◌<◌, ◌≤◌, List, ℤ, pos, Option, Some, None}
+use Rattle.std.specs.Prelude.{◌≡◌, ℕ, ◌*◌, ◌<◌, ◌≤◌, List, ℤ, pos, Option, Some, None}
 use Rattle.std.specs.List.{AllByRecursion}
 use Rattle.solomon_reader.specs.Problem.{Problem, customer_count}
 use Rattle.solomon_reader.specs.Region.{Region}
-use Rattle.solomon_reader.specs.Bound.{version_2, IsLeafValue}
-use Rattle.solomon_reader.specs.CertificateText.{IsPrice}
-use Rattle.solomon_reader.specs.declared.limits.TheConstants.{MOST_NEIGHBOURS}
+use Rattle.solomon_reader.specs.Bound.{version_2, IsLeafValueWith}
+use Rattle.solomon_reader.specs.SetPrices.{PricedSet}
+use Rattle.priced_sets.specs.Sets.{ArePriced, IsWithin}
+use Rattle.solomon_reader.specs.declared.limits.TheConstants.{MOST_NEIGHBOURS, MOST_PRICE, MOST_NEED}
 
--- prices at a region, and a value in tenths
+-- prices of customers and sets at a region, and a value in tenths
 pub record ValuedPrices : Type 0 where
   pub problem : Problem
   pub region : Region
   pub neighbours : ℕ
   pub prices : List ℤ
+  pub sets : List PricedSet
   pub value : ℕ
 
 -- no value reaches this
@@ -27,16 +29,22 @@ MOST_LEAST = 20000000000000000
 pub record IsValued (f : ValuedPrices) : Type 0 where
   pub size : f.region.size ≡ customer_count f.problem
   pub few : f.neighbours ≤ MOST_NEIGHBOURS
-  pub priced : AllByRecursion IsPrice f.prices
-  pub valued : IsLeafValue version_2 f.problem f.region f.neighbours f.prices f.value
+  pub sets_are : ArePriced f.problem f.sets
+  pub priced : AllByRecursion (IsWithin f.sets) f.prices
+  pub valued : IsLeafValueWith version_2 f.problem f.region f.neighbours f.prices f.sets f.value
   pub bound : f.value < MOST_VALUE
 
+-- all needed entries together are paid no more than this, in grains
+abbrev pub MOST_NEEDS : ℕ
+MOST_NEEDS = MOST_PRICE * MOST_NEED
+
 -- these prices at this region of the instance, with their value
-pub record IsPricedBy (p : Problem) (g : Region) (k : ℕ) (ps : List ℤ) (f : ValuedPrices) : Type 0 where
+pub record IsPricedBy (p : Problem) (g : Region) (k : ℕ) (ps : List ℤ) (ss : List PricedSet) (f : ValuedPrices) : Type 0 where
   pub problem : f.problem ≡ p
   pub region : f.region ≡ g
   pub neighbours : f.neighbours ≡ k
   pub prices : f.prices ≡ ps
+  pub sets : f.sets ≡ ss
   pub valued : IsValued f
 
 -- the least reduced cost, or 0 where there is none

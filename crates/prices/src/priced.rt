@@ -1,17 +1,18 @@
 //! Prices with their value.
 
-ghost use Rattle.std.specs.Prelude.{◌≡◌, ◌≢◌, ◌≤◌, ◌↔◌, length, pos, IfOk, IfErr, IfSome, None};
+ghost use Rattle.std.specs.Prelude.{◌≡◌, ◌≢◌, ◌≤◌, ◌↔◌, length, pos, IfOk, IfErr, IfSome, None, []};
 ghost use Rattle.std.specs.List.{AllByRecursion};
 ghost use Rattle.solomon_reader.specs.Problem.{customer_count};
 ghost use Rattle.solomon_reader.specs.Region.{root_region};
 ghost use Rattle.solomon_reader.specs.CertificateText.{IsPrice};
 ghost use Rattle.solomon_reader.specs.declared.limits.TheConstants.{MOST_NEIGHBOURS};
 ghost use Rattle.labelling.specs.declared.fault.LabelFault.TheVariants as label;
+ghost use Rattle.priced_sets.specs.Sets.{sets_of, ArePriced, IsWithin};
 ghost use Rattle.prices.specs.ValuedPrices.{IsValued, IsPricedBy};
 ghost use Rattle.prices.specs.Tasks.{valued_at};
 ghost use Rattle.prices.specs.Steps.{IsGuide};
 ghost use Rattle.prices.specs.Narrowing.{IsNarrower, IsSameAt};
-ghost use Rattle.labelling.specs.Answer.{HasLeastValue, HasItsRoute};
+ghost use Rattle.labelling.specs.Answer.{HasLeastValueWith, HasItsRouteWith};
 ghost use Rattle.prices.specs.declared.fault.PriceFault.TheVariants.{LabelLimit, PriceRange};
 
 use crate::fault::PriceFault;
@@ -20,12 +21,13 @@ use crate::range::are_prices;
 use crate::valuing::{least_of, sum_of, value_of};
 use branching::Region;
 use labelling::{Hints, Kept, LabelFault, Least, PricingTask, least_by_hints};
+use priced_sets::{PricedSet, PricedSets};
 use solomon_reader::Instance;
 use std::alloc::{AllocError, Global};
 use std::marker::Model;
 
-/// A price for each customer at a region of an instance, and the value that they give: every plan
-/// that obeys the region costs at least the value. Contracts see all five. Beside them stands the
+/// A price for each customer and for some sets at a region of an instance, and the value that they give: every plan
+/// that obeys the region costs at least the value. Contracts see all six. Beside them stands the
 /// least reduced cost over the relaxed routes, with its route.
 #[derive(Debug, Drop)]
 pub struct Priced<'i> {
@@ -39,7 +41,7 @@ impl<'i> Model for Priced<'i> {
     ghost use Rattle.solomon_reader.specs.Region.{region_code};
     ghost use Rattle.prices.specs.ValuedPrices.{ValuedPrices, IsValued};
     ghost use Rattle.prices.specs.Tasks.{valued_at};
-    ghost use Rattle.labelling.specs.Answer.{HasLeastValue, HasItsRoute};
+    ghost use Rattle.labelling.specs.Answer.{HasLeastValueWith, HasItsRouteWith};
 
     ghost Value = { ValuedPrices };
 
@@ -48,8 +50,8 @@ impl<'i> Model for Priced<'i> {
     ghost view = { λ f. valued_at f.task f.value };
 
     ghost invariant = { λ f. IsValued (valued_at f.task f.value)
-        × HasLeastValue f.task.instance.now f.task.region f.task.neighbours f.task.prices.items f.least
-        × HasItsRoute f.task.instance.now f.task.region f.task.neighbours f.task.prices.items f.least };
+        × HasLeastValueWith f.task.instance.now f.task.region f.task.neighbours f.task.prices.items f.task.sets.sets f.least
+        × HasItsRouteWith f.task.instance.now f.task.region f.task.neighbours f.task.prices.items f.task.sets.sets f.least };
 }
 
 /// The value of the prices in tenths, and the least reduced cost that gives it.
@@ -63,18 +65,20 @@ fn evaluate(
     ensures value { let t = task.now in
         IfOk result (λ v. IsValued (valued_at t v.0)) }
     ensures least { let t = task.now in
-        IfOk result (λ v. HasLeastValue t.instance.now t.region t.neighbours t.prices.items v.1) }
+        IfOk result (λ v. HasLeastValueWith t.instance.now t.region t.neighbours t.prices.items t.sets.sets v.1) }
     ensures route { let t = task.now in
-        IfOk result (λ v. HasItsRoute t.instance.now t.region t.neighbours t.prices.items v.1) }
+        IfOk result (λ v. HasItsRouteWith t.instance.now t.region t.neighbours t.prices.items t.sets.sets v.1) }
     ensures unlimited { IfErr result (λ e. e ≡ label.LabelLimit → limit ≢ None) }
 {
     let instance = task.instance;
     instance.law_of_limits();
+    // their prices are within range
+    let _sets = task.sets.as_slice();
     let found = least_by_hints(alloc, task, limit, hints, kept)?;
     let value = value_of(
         instance.fleet(),
         instance.fewest_routes(),
-        sum_of(task.prices.as_slice()),
+        sum_of(task.prices.as_slice()).more(task.sets.paid_for_needs()),
         least_of(found.value),
     );
     Ok((value, found))
@@ -121,6 +125,7 @@ impl<'i> Priced<'i> {
         ensures region { IfOk result (λ f. f.region ≡ region) }
         ensures neighbours { IfOk result (λ f. f.neighbours ≡ neighbours) }
         ensures prices { IfOk result (λ f. f.prices ≡ prices.items) }
+        ensures sets { IfOk result (λ f. f.sets ≡ []) }
         ensures valued { IfOk result (λ f. IsValued f) }
         ensures in_range { IfOk result (λ f. AllByRecursion IsPrice prices.items) }
         ensures out_of_range { IfErr result
@@ -137,6 +142,7 @@ impl<'i> Priced<'i> {
             region,
             neighbours,
             prices,
+            sets: PricedSets::none(alloc, instance),
         };
         let (hints, mut kept) = (Hints::none(alloc), Kept::nothing(alloc));
         match Priced::by_hints(alloc, task, limit, &hints, &mut kept) {
@@ -155,7 +161,7 @@ impl<'i> Priced<'i> {
         kept: &mut Kept,
     ) -> Result<Priced<'i>, (PricingTask<'i>, LabelFault)>
         ensures priced { let t = task.entry in
-            IfOk result (IsPricedBy t.instance.now t.region t.neighbours t.prices.items) }
+            IfOk result (IsPricedBy t.instance.now t.region t.neighbours t.prices.items t.sets.sets) }
         ensures unlimited { IfErr result (λ e. e.1 ≡ label.LabelLimit → limit ≢ None) }
         ensures back { IfErr result (λ e. e.0 ≡ task.entry) }
     {
@@ -179,6 +185,7 @@ impl<'i> Priced<'i> {
         ensures region { IfOk result (λ f. f.region ≡ root_region (customer_count instance.now)) }
         ensures neighbours { IfOk result (λ f. f.neighbours ≡ neighbours) }
         ensures prices { IfOk result (λ f. AllByRecursion (λ z. z ≡ pos 0) f.prices) }
+        ensures sets { IfOk result (λ f. f.sets ≡ []) }
         ensures valued { IfOk result (λ f. IsValued f) }
         ensures unlimited { IfErr result (λ e. e ≡ label.LabelLimit → limit ≢ None) }
     {
@@ -187,6 +194,7 @@ impl<'i> Priced<'i> {
             region: Region::root(alloc, instance.customer_count()),
             neighbours,
             prices: no_prices(alloc, instance)?,
+            sets: PricedSets::none(alloc, instance),
         };
         match Priced::by_hints(alloc, task, limit, hints, &mut Kept::nothing(alloc)) {
             Ok(priced) => Ok(priced),
@@ -200,6 +208,7 @@ impl<'i> Priced<'i> {
         ensures region { result.now.region ≡ self.now.region }
         ensures neighbours { result.now.neighbours ≡ self.now.neighbours }
         ensures prices { result.now.prices.items ≡ self.now.prices }
+        ensures sets { result.now.sets.sets ≡ self.now.sets }
     {
         &self.task
     }
@@ -236,9 +245,18 @@ impl<'i> Priced<'i> {
         self.task.prices.as_slice()
     }
 
-    /// The value in tenths: the prices, less what each vehicle may take back where the least reduced
-    /// cost is below zero, and where it is above, what it costs each route that carries the demands;
-    /// rounded up, and not below zero.
+    /// The sets that have a price, with their prices in grains.
+    pub fn sets(&self) -> &[PricedSet]
+        ensures value { sets_of result.now ≡ self.now.sets }
+        ensures priced { ArePriced self.now.problem self.now.sets }
+        ensures in_range { AllByRecursion (IsWithin self.now.sets) self.now.prices }
+    {
+        self.task.sets.as_slice()
+    }
+
+    /// The value in tenths: the prices, those of sets as often as these are entered at least, less what each vehicle
+    /// may take back where the least reduced cost is below zero, and where it is above, what it costs each route that
+    /// carries the demands; rounded up, and not below zero.
     pub fn value(&self) -> i128
         ensures is { result ≡ pos self.now.value }
         ensures valued { IsValued self.now }
@@ -257,8 +275,8 @@ impl<'i> Priced<'i> {
     /// The least reduced cost over the relaxed routes of the region at these prices, in grains, with
     /// a route that has it.
     pub fn least(&self) -> &Least
-        ensures value { HasLeastValue self.now.problem self.now.region self.now.neighbours self.now.prices result.now }
-        ensures route { HasItsRoute self.now.problem self.now.region self.now.neighbours self.now.prices result.now }
+        ensures value { HasLeastValueWith self.now.problem self.now.region self.now.neighbours self.now.prices self.now.sets result.now }
+        ensures route { HasItsRouteWith self.now.problem self.now.region self.now.neighbours self.now.prices self.now.sets result.now }
     {
         &self.least
     }
@@ -285,8 +303,7 @@ impl<'i> Priced<'i> {
     /// The route that a step goes by: one of the least reduced cost where that is below zero, else the
     /// empty one.
     pub(crate) fn guide(&self) -> &[u16]
-        ensures { IsGuide self.now.problem self.now.region self.now.neighbours self.now.prices
-            result.now }
+        ensures { IsGuide self.now result.now }
     {
         let least = self.least();
         match least.value {

@@ -34,7 +34,7 @@ fn price_after(step: i64, count: usize, price: i64) -> i64
 fn prices_after(alloc: Global, priced: &Priced<'_>, step: i64) -> Result<Vec<i64>, AllocError>
     ensures count { IfOk result (λ v. length v.items ≡ customer_count priced.now.problem) }
     ensures in_range { IfOk result (λ v. AllByRecursion IsPrice v.items) }
-    ensures stepped { IfOk result (λ v. IsStepped priced.now.problem priced.now.region priced.now.neighbours step priced.now.prices v.items) }
+    ensures stepped { IfOk result (λ v. IsStepped priced.now step v.items) }
 {
     let old = priced.prices();
     let route = priced.guide();

@@ -7,7 +7,7 @@ ghost use Rattle.solomon_reader.specs.Bound.{IsRoundedUp};
 ghost use Rattle.solomon_reader.specs.SumLaws.{up, down};
 ghost use Rattle.solomon_reader.specs.CertificateText.{IsPrice};
 ghost use Rattle.solomon_reader.specs.declared.limits.TheConstants.{MOST_CUSTOMERS, MOST_DEMAND, MOST_FLEET, MOST_PRICE};
-ghost use Rattle.prices.specs.ValuedPrices.{or_zero, MOST_LEAST, MOST_VALUE};
+ghost use Rattle.prices.specs.ValuedPrices.{or_zero, MOST_LEAST, MOST_NEEDS, MOST_VALUE};
 
 /// The grains of a tenth.
 const GRAINS_OF_TENTH: u128 = 1_000;
@@ -17,6 +17,21 @@ const GRAINS_OF_TENTH: u128 = 1_000;
 pub struct Grains {
     pub above: u128,
     pub below: u128,
+}
+
+impl Grains {
+    /// This much more, in grains.
+    pub(crate) fn more(self, grains: u128) -> Grains
+        requires above { self.above ≤ MOST_CUSTOMERS * MOST_PRICE }
+        requires more { grains ≤ MOST_NEEDS }
+        ensures above { result.above ≡ self.above + grains }
+        ensures below { result.below ≡ self.below }
+    {
+        Grains {
+            above: self.above + grains,
+            below: self.below,
+        }
+    }
 }
 
 /// The sum of the prices.
@@ -64,7 +79,7 @@ pub(crate) fn least_of(least: Option<i128>) -> Grains
 pub(crate) fn value_of(fleet: u16, routes: u32, sum: Grains, least: Grains) -> u128
     requires vehicles { fleet ≤ MOST_FLEET }
     requires routes { routes ≤ MOST_CUSTOMERS * MOST_DEMAND }
-    requires sum_above { sum.above ≤ MOST_CUSTOMERS * MOST_PRICE }
+    requires sum_above { sum.above ≤ MOST_CUSTOMERS * MOST_PRICE + MOST_NEEDS }
     requires sum_below { sum.below ≤ MOST_CUSTOMERS * MOST_PRICE }
     requires least_above { least.above ≤ MOST_LEAST }
     requires least_below { least.below ≤ MOST_LEAST }

@@ -110,6 +110,24 @@ fn steps_from(task: &Task<'_>, v: u16) -> Result<Vec<LikelyStep>, AllocError>
     Ok(steps)
 }
 
+/// What the steps from a row are paid, in grains, that to customer i at i - 1. Where the region doesn't allow a step, the
+/// sets that it enters don't count.
+fn paid_from(task: &Task<'_>, v: u16) -> Result<Vec<i64>, AllocError>
+    requires { v < length task.now.instance.now.rows }
+{
+    let mut paid = Vec::from_slice(task.alloc, task.payment.prices)?;
+    if task.payment.sets.is_empty() {
+        return Ok(paid);
+    }
+    for step in task.steps_from(v) {
+        let place = usize::from(step.customer).wrapping_sub(1);
+        if let Some(price) = paid.get_mut(place) {
+            *price = grains(u64::from(step.way)).saturating_sub(step.cost);
+        }
+    }
+    Ok(paid)
+}
+
 /// Of these steps, which stand by how far they are, those that are likely at these prices.
 fn choose_of(
     alloc: Global,
@@ -157,22 +175,25 @@ impl Likely {
         Ok(Likely { all })
     }
 
-    /// From each row the likely steps at these prices: from the depot all, from a customer the nearest ones,
+    /// From each row the likely steps of a task: from the depot all, from a customer the nearest ones,
     /// and of the others those that the prices make near.
     pub(crate) fn choose(
         &self,
-        alloc: Global,
-        prices: &[i64],
+        task: &Task<'_>,
         width: Width,
     ) -> Result<Vec<Vec<LikelyStep>>, AllocError> {
+        let alloc = task.alloc;
         let mut chosen = Vec::new(alloc);
-        for (v, all) in self.all.iter().enumerate() {
+        for v in 0..task.instance.customer_count() + 1 {
+            let all = self.all.get(usize::from(v));
+            let all = all.map_or(&[][..], |all| all.as_slice());
+            let paid = paid_from(task, v)?;
             let steps = if v == 0 {
-                Vec::from_slice(alloc, all.as_slice())?
+                Vec::from_slice(alloc, all)?
             } else {
-                choose_of(alloc, all.as_slice(), prices, width)?
+                choose_of(alloc, all, paid.as_slice(), width)?
             };
-            chosen.push(at_prices(steps, prices)?)?;
+            chosen.push(at_prices(steps, paid.as_slice())?)?;
         }
         Ok(chosen)
     }

@@ -279,7 +279,7 @@ pub fn quick_routes(
     width: Width,
 ) -> Result<QuickRoutes, AllocError> {
     let mut search = QuickSearch::new(task, width)?;
-    let likely = likely.choose(task.alloc, task.payment.prices, width)?;
+    let likely = likely.choose(task, width)?;
     let customers = u64::from(task.instance.customer_count());
     search.look(customers.saturating_mul(customers));
     search.extend_all(likely.as_slice())?;

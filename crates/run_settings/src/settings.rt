@@ -1,7 +1,7 @@
 //! How much work goes into a plan and a bound.
 ghost use Rattle.std.specs.Prelude.{◌≡◌, ◌≤◌, ◌↔◌, IsTrue};
 
-use solomon_reader::MOST_NEIGHBOURS;
+use solomon_reader::{MOST_NEIGHBOURS, MOST_SETS};
 
 /// The most threads that look for a plan.
 pub const MOST_SEARCHERS: u32 = 32;
@@ -34,6 +34,8 @@ pub struct Settings {
     /// Once cost and bound are no further apart than this many tenths of a percent of the cost, turns do
     /// nothing: 0 to `MOST_GAP`, by default 0.
     pub gap: u32,
+    /// How many sets of customers may have prices in the tree: 0 to `MOST_SETS`, by default 0.
+    pub sets: u32,
 }
 
 fn is_between(number: u32, least: u32, most: u32) -> bool
@@ -55,6 +57,7 @@ impl Settings {
             && is_between(self.neighbours, 0, MOST_NEIGHBOURS)
             && is_between(self.labels, 1, MOST_LABELS)
             && is_between(self.gap, 0, MOST_GAP)
+            && is_between(self.sets, 0, MOST_SETS)
     }
 }
 
@@ -72,6 +75,7 @@ impl Default for Settings {
             neighbours: 8,
             labels: 1_000_000,
             gap: 0,
+            sets: 0,
         }
     }
 }

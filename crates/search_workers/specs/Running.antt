@@ -11,6 +11,7 @@ use Rattle.run_settings.specs.declared.settings.Settings.{Settings}
 pub record IsOneOn (old new : Contents) : Type 0 where
   pub problem : new.problem ≡ old.problem
   pub neighbours : new.neighbours ≡ old.neighbours
+  pub sets : new.most_sets ≡ old.most_sets
   pub limits : new.limits ≡ old.limits
   pub events : length new.past ≤ length old.past + 1
 

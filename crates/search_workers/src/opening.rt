@@ -1,10 +1,10 @@
 //! What a run begins with: the first plans, the root with its first prices, and the book of both.
 
-ghost use Rattle.std.specs.Prelude.{◌≡◌, ◌+◌, ◌<◌, ◌≤◌, ◌⊎◌, Some, true, length, is_some, option_map, IfOk, IfErr, IfSome, MatchOption, OnOk};
+ghost use Rattle.std.specs.Prelude.{◌≡◌, ◌+◌, ◌<◌, ◌≤◌, ◌⊎◌, [], Some, true, length, is_some, option_map, IfOk, IfErr, IfSome, MatchOption, OnOk};
 ghost use Rattle.solomon_reader.specs.Problem.{customer_count};
 ghost use Rattle.solomon_reader.specs.History.{costs_of};
 ghost use Rattle.solomon_reader.specs.Region.{root_region, Among};
-ghost use Rattle.solomon_reader.specs.declared.limits.TheConstants.{MOST_EVENTS, MOST_NEIGHBOURS};
+ghost use Rattle.solomon_reader.specs.declared.limits.TheConstants.{MOST_EVENTS, MOST_NEIGHBOURS, MOST_SETS};
 ghost use Rattle.insertion.specs.Building.{IsServedAlone};
 ghost use Rattle.desk.specs.Opening.{WasOffered};
 ghost use Rattle.search_workers.specs.Running.{IsOneOn, IsNoDearer};
@@ -12,7 +12,7 @@ ghost use Rattle.search_workers.specs.declared.fault.RunFault.TheVariants.{Memor
 
 use crate::fault::RunFault;
 use fronts::Nearness;
-use incumbent_book::{Book, BookFault, OpenFault};
+use incumbent_book::{Book, BookFault, Limits, OpenFault};
 use insertion::{Weights, build_whole};
 use labelling::LabelFault;
 use leaf_work::first_leaf;
@@ -54,16 +54,19 @@ fn first_plan<'i>(
     Ok(Some(plan))
 }
 
-/// A book of the root.
-fn open_book<'i>(alloc: Global, root: Priced<'i>) -> Result<Book<'i>, RunFault>
-    requires { root.region ≡ root_region (customer_count root.problem) }
+/// A book of the root, in which at most so many sets are listed.
+fn open_book<'i>(alloc: Global, root: Priced<'i>, sets: u32) -> Result<Book<'i>, RunFault>
+    requires root { root.region ≡ root_region (customer_count root.problem) }
+    requires no_sets { root.sets ≡ [] }
+    requires few { sets ≤ MOST_SETS }
     ensures problem { IfOk result (λ b. b.problem ≡ root.entry.problem) }
     ensures neighbours { IfOk result (λ b. b.neighbours ≡ root.entry.neighbours) }
+    ensures sets { IfOk result (λ b. b.most_sets ≡ sets) }
     ensures limits { IfOk result (λ b. b.limits.events ≡ MOST_EVENTS) }
     ensures events { IfOk result (λ b. length b.past ≡ 0) }
     ensures memory { IfErr result (λ e. e ≡ Memory) }
 {
-    match Book::new(alloc, root) {
+    match Book::with_sets(alloc, root, Limits::MOST, sets) {
         Ok(book) => Ok(book),
         Err((_, OpenFault::Memory)) => Err(RunFault::Memory),
         Err(_) => unreachable!(),
@@ -98,6 +101,7 @@ fn offer_both<'i, R: Threads + Sync>(
     requires room { length book.old.past + 1 < book.old.limits.events }
     ensures problem { book.new.problem ≡ book.old.problem }
     ensures neighbours { book.new.neighbours ≡ book.old.neighbours }
+    ensures sets { book.new.most_sets ≡ book.old.most_sets }
     ensures offered { IfOk result (λ h. WasOffered (Some h.plan.cost) book.new.past) }
     ensures no_dearer { IfOk result (λ h. h.plan.cost ≤ plan.entry.cost) }
     ensures optimum { IfOk result (λ h. h.is_optimum ≡ true) }
@@ -127,9 +131,11 @@ impl<'i> Opening<'i> {
         start: Option<Feasible<'i>>,
     ) -> Result<Opening<'i>, RunFault>
         requires few { settings.now.neighbours ≤ MOST_NEIGHBOURS }
+        requires few_sets { settings.now.sets ≤ MOST_SETS }
         requires start { IfSome start (λ f. f.problem ≡ instance.now) }
         ensures problem { IfOk result (λ o. o.book.problem ≡ instance.now) }
         ensures neighbours { IfOk result (λ o. o.book.neighbours ≡ settings.now.neighbours) }
+        ensures sets { IfOk result (λ o. o.book.most_sets ≡ settings.now.sets) }
         ensures offered { IfOk result (λ o. WasOffered (option_map (λ h. h.plan.cost) o.plan)
             o.book.past) }
         ensures no_dearer { IfOk result (λ o. IsNoDearer start.entry
@@ -154,7 +160,7 @@ impl<'i> Opening<'i> {
             Err(LabelFault::Memory) => return Err(RunFault::Memory),
             Err(LabelFault::LabelLimit) => return Err(RunFault::LabelLimit),
         };
-        let mut book = open_book(alloc, root)?;
+        let mut book = open_book(alloc, root, settings.sets)?;
         let Some(plan) = plan else {
             return Ok(Opening { book, plan: None });
         };

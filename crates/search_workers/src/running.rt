@@ -189,6 +189,7 @@ fn run_at_desk<'i, R: Threads + Wait + Sync, J: Naming + Send + Sync, G: Gate + 
     requires within { IsWithin input.now.settings.now }
     requires problem { opening.book.problem ≡ J.problem }
     requires neighbours { opening.book.neighbours ≡ J.neighbours }
+    requires sets { opening.book.most_sets ≡ J.sets }
     requires offered { WasOffered J.opening_cost opening.book.past }
     requires workers { J.workers ≡ input.now.settings.now.searchers +
         input.now.settings.now.bounders }
@@ -196,6 +197,7 @@ fn run_at_desk<'i, R: Threads + Wait + Sync, J: Naming + Send + Sync, G: Gate + 
     requires parts { parts_of blanks ≡ each J.workers }
     ensures problem { IfOk result (λ o. o.problem ≡ J.problem) }
     ensures neighbours { IfOk result (λ o. o.neighbours ≡ J.neighbours) }
+    ensures sets { IfOk result (λ o. o.most_sets ≡ J.sets) }
     ensures offered { IfOk result (λ o. WasOffered J.opening_cost o.past) }
     ensures refused { IfErr result (λ e. (e ≡ refusal.Memory) ⊎ (e ≡ refusal.NoThread)) }
 {
@@ -223,6 +225,7 @@ fn run_within<'i, R: Threads + Wait + Sync, G: Gate + Sync>(
     requires start { IfSome start (λ f. f.problem ≡ input.now.instance.now) }
     ensures problem { IfOk result (λ o. o.problem ≡ input.now.instance.now) }
     ensures neighbours { IfOk result (λ o. o.neighbours ≡ input.now.settings.now.neighbours) }
+    ensures sets { IfOk result (λ o. o.most_sets ≡ input.now.settings.now.sets) }
     ensures served { IfOk result
         (λ o. IsServedAlone input.now.instance.now → costs_of o.past ≢ []) }
     ensures no_dearer { IfOk result (λ o. IsNoDearer start.entry o.incumbent) }
@@ -260,6 +263,7 @@ pub fn run<'i, R: Threads + Wait + Sync, G: Gate + Sync>(
 ) -> Result<Outcome<'i>, RunFault>
     ensures problem { IfOk result (λ o. o.problem ≡ instance.now) }
     ensures neighbours { IfOk result (λ o. o.neighbours ≡ settings.now.neighbours) }
+    ensures sets { IfOk result (λ o. o.most_sets ≡ settings.now.sets) }
     ensures served { IfOk result (λ o. IsServedAlone instance.now → costs_of o.past ≢ []) }
     ensures within { IfOk result (λ _. IsWithin settings.now) }
     ensures refused { IfErr result (RefusesSettings settings.now) }
@@ -280,6 +284,7 @@ pub fn run_from<'i, R: Threads + Wait + Sync, G: Gate + Sync>(
     requires start { IfSome start (λ f. f.problem ≡ instance.now) }
     ensures problem { IfOk result (λ o. o.problem ≡ instance.now) }
     ensures neighbours { IfOk result (λ o. o.neighbours ≡ settings.now.neighbours) }
+    ensures sets { IfOk result (λ o. o.most_sets ≡ settings.now.sets) }
     ensures served { IfOk result (λ o. IsServedAlone instance.now → costs_of o.past ≢ []) }
     ensures no_dearer { IfOk result (λ o. IsNoDearer start.entry o.incumbent) }
     ensures within { IfOk result (λ _. IsWithin settings.now) }

@@ -22,7 +22,7 @@ use Rattle.solomon_reader.specs.SetDuality.{NeedsHold}
 -- ---- the members of a set
 
 -- a rising list has nothing up to where it begins
-holds_low : (s : List ℕ) (low i : ℕ) → IsRisingFrom low s → i ≤ low → holds s i ≡ false
+pub holds_low : (s : List ℕ) (low i : ℕ) → IsRisingFrom low s → i ≤ low → holds s i ≡ false
 holds_low [] low i h k = refl
 holds_low (j ∷ s) low i h k = or_from (j == i) (holds s i) (ne_eqb j i (λ e. omega (arith, h.0, k, e))) (holds_low s j i h.1 (omega (arith, h.0, k)))
 

@@ -1,5 +1,5 @@
 -- Sets of customers that have prices, and what a route is paid for entering them.
-use Rattle.std.specs.Prelude.{◌≡◌, ℕ, ◌-◌, ◌*◌, cond, List, [], map, slice_index_or, ℤ, pos, ◌+ℤ◌, ◌-ℤ◌, ◌≤ℤ◌, ◌⊎◌}
+use Rattle.std.specs.Prelude.{◌≡◌, ◌≢◌, ℕ, ◌-◌, ◌*◌, cond, List, [], ◌∷◌, map, slice_index_or, ℤ, pos, ◌+ℤ◌, ◌-ℤ◌, ◌≤ℤ◌, ◌⊎◌}
 use Rattle.std.specs.List.{sum_by, AllByRecursion}
 use Rattle.solomon_reader.specs.Problem.{Problem, customer_count}
 use Rattle.solomon_reader.specs.Plan.{Arc}
@@ -17,6 +17,15 @@ pub record PricedSet : Type 0 where
   pub members : List ℕ
   pub need : ℕ
   pub price : ℕ
+
+-- the set without its price
+abbrev pub listed_of : PricedSet → ListedSet
+listed_of s = record { members = s.members; need = s.need }
+
+-- no two of the sets have the same members
+abbrev pub AreApart : List PricedSet → Type 0
+AreApart [] = Unit {0}
+AreApart (s ∷ sets) = AllByRecursion (λ t. t.members ≢ s.members) sets × AreApart sets
 
 -- the price of a set at a leaf: the set's place in the list of sets, from 1, and grains
 abbrev pub SetPrice : Type 0
@@ -38,6 +47,10 @@ AreTrueNeeds p sets = AllByRecursion (λ s. IsTrueNeed p s.members s.need) sets
 -- what a route is paid for its entries, in grains
 abbrev pub paid_for_entries : List PricedSet → List ℕ → ℕ
 paid_for_entries sets r = sum_by (λ s. s.price * entries s.members r) sets
+
+-- what the sets are paid together for an entry, in grains
+abbrev pub price_sum : List PricedSet → ℕ
+price_sum sets = sum_by (λ s. s.price) sets
 
 -- what all needed entries are paid, in grains
 abbrev pub paid_for_needs : List PricedSet → ℕ

@@ -2,24 +2,39 @@
 
 use crate::leaves::region_of;
 use crate::plans::routes_of;
-use crate::words::{OrNone, list_of, pair_of};
-use branching::Arc;
-use incumbent_book::{Book, Limits, Offered};
+use crate::words::{List, OrNone, list_of, pair_of};
+use branching::{Arc, TreeNode};
+use incumbent_book::{Book, Limits, Offered, Outcome};
+use priced_sets::PricedSet;
 use schedule::Feasible;
 use solomon_reader::Instance;
 use std::alloc::Global;
-use test_starts::{children_at, priced_at};
+use test_starts::{children_at, paid_at, priced_at};
 
-/// Limits of events, leaves and depth.
-fn limits_of(alloc: Global, word: &str) -> Option<Limits> {
+/// Limits of events, leaves and depth, and of the sets that may have prices where there is a fourth.
+fn limits_of(alloc: Global, word: &str) -> Option<(Limits, Option<u32>)> {
     let numbers = list_of::<u32>(alloc, word)?;
-    let [events, leaves, depth] = *numbers.as_slice() else {
-        return None;
+    let (events, leaves, depth, sets) = match *numbers.as_slice() {
+        [events, leaves, depth] => (events, leaves, depth, None),
+        [events, leaves, depth, sets] => (events, leaves, depth, Some(sets)),
+        _ => return None,
     };
-    Some(Limits {
-        events: usize::try_from(events).ok()?,
+    let events = usize::try_from(events).ok()?;
+    let limits = Limits {
+        events,
         leaves,
         depth,
+    };
+    Some((limits, sets))
+}
+
+/// A set of customers with its need and its price.
+fn set_of(alloc: Global, members: &str, paid: &str) -> Option<PricedSet> {
+    let (need, price) = paid.split_once(',')?;
+    Some(PricedSet {
+        members: list_of(alloc, members)?,
+        need: need.parse().ok()?,
+        price: price.parse().ok()?,
     })
 }
 
@@ -43,17 +58,21 @@ fn offer<'i>(
     }
 }
 
-/// Gives a leaf prices at a region, and tells what comes of it.
+/// Gives a leaf prices at a region, with that of a set if there is one, and tells what comes of it.
 fn reprice<'i>(
     alloc: Global,
     told: &mut String,
     book: &mut Book<'i>,
     instance: &'i Instance,
     [leaf, region, prices]: [&str; 3],
+    set: Option<PricedSet>,
 ) -> Option<()> {
     let region = region_of(alloc, instance.customer_count(), region)?;
     let prices = list_of(alloc, prices)?;
-    let priced = priced_at(alloc, instance, region, 1, prices.as_slice())?;
+    let mut priced = priced_at(alloc, instance, region, 1, prices.as_slice())?;
+    if let Some(set) = set {
+        priced = paid_at(alloc, &priced, &[set])?;
+    }
     match book.reprice(0, leaf.parse().ok()?, priced) {
         Ok(()) => writeln!(told, "raised").ok(),
         Err((_priced, fault)) => writeln!(told, "{fault}").ok(),
@@ -91,7 +110,11 @@ fn tell_step<'i>(
         ["offer", routes @ ..] => offer(told, book, instance, routes_of(alloc, routes)?),
         ["foreign", routes @ ..] => offer(told, book, earlier?, routes_of(alloc, routes)?),
         ["reprice", leaf, region, prices] => {
-            reprice(alloc, told, book, instance, [leaf, region, prices])
+            reprice(alloc, told, book, instance, [leaf, region, prices], None)
+        }
+        ["reprice", leaf, region, prices, members, paid] => {
+            let set = Some(set_of(alloc, members, paid)?);
+            reprice(alloc, told, book, instance, [leaf, region, prices], set)
         }
         ["split", leaf, arc, region, prices] => {
             split(alloc, told, book, instance, [leaf, arc, region, prices])
@@ -109,7 +132,34 @@ fn tell_step<'i>(
     }
 }
 
-/// Opens a book of prices of 0 at a region, with limits, and tells what comes of it and of each step.
+/// Tells the sets that a finished book lists, and the nodes of its tree, each set's price behind its number.
+fn tell_left(alloc: Global, told: &mut String, left: &Outcome<'_>) -> Option<()> {
+    for set in left.sets() {
+        writeln!(
+            told,
+            "set{} need {}",
+            List(set.members.as_slice()),
+            set.need
+        )
+        .ok()?;
+    }
+    for node in &left.nodes(alloc).ok()? {
+        match node {
+            TreeNode::Split(arc) => writeln!(told, "split {},{}", arc.from, arc.to).ok()?,
+            TreeNode::Leaf(prices) => {
+                write!(told, "leaf{}", List(prices.customers.as_slice())).ok()?;
+                for paid in &prices.sets {
+                    write!(told, " {}:{}", paid.set, paid.price).ok()?;
+                }
+                writeln!(told).ok()?;
+            }
+        }
+    }
+    Some(())
+}
+
+/// Opens a book of prices of 0 at a region, with limits, and tells what comes of it and of each step, and where sets
+/// may have prices what the book leaves.
 pub(crate) fn tell_book<'i>(
     alloc: Global,
     told: &mut String,
@@ -121,7 +171,12 @@ pub(crate) fn tell_book<'i>(
     let prices = vec![in alloc; 0; usize::from(size)].ok()?;
     let region = region_of(alloc, size, region)?;
     let priced = priced_at(alloc, instances.0, region, 1, prices.as_slice())?;
-    let mut book = match Book::with_limits(alloc, priced, limits_of(alloc, limits)?) {
+    let (limits, sets) = limits_of(alloc, limits)?;
+    let opened = match sets {
+        None => Book::with_limits(alloc, priced, limits),
+        Some(sets) => Book::with_sets(alloc, priced, limits, sets),
+    };
+    let mut book = match opened {
         Ok(book) => book,
         Err((_priced, fault)) => return writeln!(told, "{fault}").ok(),
     };
@@ -129,6 +184,9 @@ pub(crate) fn tell_book<'i>(
     for step in steps {
         let parts: Vec<&str> = step.split('/').collect(alloc).ok()?;
         tell_step(alloc, told, &mut book, instances, parts.as_slice())?;
+    }
+    if sets.is_some() {
+        tell_left(alloc, told, &book.finish())?;
     }
     Some(())
 }

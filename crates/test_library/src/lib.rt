@@ -22,7 +22,9 @@
 //! - `book EVENTS,LEAVES,DEPTH REGION STEPS` opens a book with these limits, of prices of 0 at a region, and takes
 //!   steps there, whose parts stand between strokes: `offer/ROUTE/ROUTE..`, or `foreign/ROUTE..` of a plan of the
 //!   instance read before, `reprice/LEAF/REGION/PRICES`, `split/LEAF/ARC/REGION/PRICES`, with these prices at both
-//!   children of the region, `value/LEAF`, and `gap`.
+//!   children of the region, `value/LEAF`, and `gap`. Behind the depth may stand how many sets may have prices, and
+//!   behind the prices of `reprice` a set's customers, and its need and price; then the sets listed and the nodes of
+//!   the tree are told at the end.
 //! - `plan ROUTES` checks a plan, to which `routes`, `trees`, `move KIND FROM TO`, `bests`, `shake COUNT WORDS`,
 //!   `turn WORDS` and `descend` refer; the plan behind a descent is the next one.
 //! - `root NUMBER`, `distance POINT POINT` and `lists` stand alone.

@@ -36,7 +36,7 @@ pub(crate) fn tell_bound<R: Runtime + AllocGlobal>(
     let parts = cert.into_parts();
     let nodes = parts.nodes.iter();
     let leaves = nodes
-        .filter(|node| matches!(node, CertNode::Leaf(_)))
+        .filter(|node| !matches!(node, CertNode::Split { .. }))
         .count();
     if leaves <= most {
         return Ok(writeln!(told, "leaves at most {most}")?);

@@ -21,6 +21,7 @@ pub(crate) fn tell_library<R: Runtime + AllocGlobal + Threads + Wait + Sync>(
     match option {
         "neighbours" => settings.neighbours = number,
         "labels" => settings.labels = number,
+        "sets" => settings.sets = number,
         _ => {}
     }
     let (alloc, text) = (rt.alloc(), fs::read(rt, path)?);

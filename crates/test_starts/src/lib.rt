@@ -6,7 +6,7 @@ mod script;
 mod starts;
 
 pub use crate::script::Rows;
-pub use crate::starts::{book_of, children_at, plan_at, priced_at};
+pub use crate::starts::{book_of, children_at, paid_at, plan_at, priced_at};
 use std::alloc::{AllocError, Global};
 use std::fmt::Display;
 

@@ -1,11 +1,16 @@
 //! Plans, prices and books that rows start from.
 
+ghost use Rattle.std.specs.Prelude.{IsTrue};
+ghost use Rattle.std.specs.List.{AllByRecursion};
+ghost use Rattle.priced_sets.specs.Sets.{IsWithin};
+
 use branching::{Arc, Region};
 use incumbent_book::{Book, Limits};
-use labelling::Hints;
+use labelling::{Hints, Kept};
+use priced_sets::{NeededSets, PricedSet, PricedSets};
 use prices::Priced;
 use schedule::Feasible;
-use solomon_reader::{Instance, MOST_NEIGHBOURS};
+use solomon_reader::{Instance, MOST_NEIGHBOURS, MOST_PRICE};
 use std::alloc::Global;
 
 /// The plan of these routes, if they are one and memory suffices.
@@ -43,6 +48,38 @@ pub fn priced_at<'i>(
     match Priced::of(alloc, instance, region, neighbours, prices, None) {
         Ok(priced) => Some(priced),
         Err((_region, _prices, _fault)) => None,
+    }
+}
+
+/// Whether each customer's price is in its range beside those of sets.
+fn are_within(prices: &[i64], sets: &PricedSets<'_>) -> bool
+    ensures { IsTrue result → AllByRecursion (IsWithin sets.now.sets) prices.now }
+{
+    let most = MOST_PRICE - sets.sum();
+    for price in prices {
+        if price.unsigned_abs() > most {
+            return false;
+        }
+    }
+    true
+}
+
+/// The same prices with those of some sets beside them, if they fit and memory suffices. A set that doesn't need as many
+/// entries as it says gets none.
+/// No contract: the rows show the prices, by what becomes of them.
+pub fn paid_at<'i>(alloc: Global, priced: &Priced<'i>, sets: &[PricedSet]) -> Option<Priced<'i>> {
+    let instance = priced.instance();
+    let mut needed = NeededSets::new(alloc, instance).ok()?;
+    let sets = PricedSets::of(alloc, instance, &mut needed, sets).ok()?;
+    let prices = priced.prices().to_vec(alloc).ok()?;
+    if !are_within(prices.as_slice(), &sets) {
+        return None;
+    }
+    let task = priced.task().with(prices, sets).ok()?;
+    let (hints, mut kept) = (Hints::none(alloc), Kept::nothing(alloc));
+    match Priced::by_hints(alloc, task, None, &hints, &mut kept) {
+        Ok(paid) => Some(paid),
+        Err((_task, _fault)) => None,
     }
 }
 

@@ -55,6 +55,7 @@ fn run<'i, J: Naming + Send, R: Abort + Threads + Wait + Sync + AllocGlobal>(
 ) -> Result<(Gap, Outcome<'i>), Fail>
     requires problem { book.problem ≡ J.problem }
     requires neighbours { book.neighbours ≡ J.neighbours }
+    requires sets { book.most_sets ≡ J.sets }
     requires offered { WasOffered J.opening_cost book.past }
     requires workers { J.workers ≡ 2 }
     requires names { names_of blanks ≡ J.names }
@@ -90,7 +91,7 @@ fn a_second_share_is_told_what_the_first_did(rt: HostRuntime) -> Result<(), Fail
     let tree = format!(in rt.alloc(); "{nodes:?}")?;
     assert_eq!(rt;
         tree.as_str(),
-        "[Split(Arc { from: 1, to: 2 }), Leaf([0, 0]), Leaf([100000, 100000])]"
+        "[Split(Arc { from: 1, to: 2 }), Leaf(LeafPrices { customers: [0, 0], sets: [] }), Leaf(LeafPrices { customers: [100000, 100000], sets: [] })]"
     );
     Ok(())
 }

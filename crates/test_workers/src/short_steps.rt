@@ -19,6 +19,7 @@ fn a_short_step_leads_into_a_later_slot(rt: HostRuntime) -> Result<(), Fail> {
     let prices = vec![in alloc; 0; usize::from(instance.customer_count())]?;
     let payment = Payment {
         prices: prices.as_slice(),
+        sets: &[],
     };
     let task = Task::new(alloc, &nearness, &region, payment)?;
     let completions = Completions::new(&task, 0)?;

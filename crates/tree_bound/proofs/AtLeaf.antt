@@ -5,11 +5,10 @@ use Rattle.std.proofs.lemmas.List.Sums.{sum_by-cons}
 use Rattle.solomon_reader.specs.Problem.{Problem, customer_count}
 use Rattle.solomon_reader.specs.Region.{Region}
 use Rattle.solomon_reader.specs.CustomerSets.{IsCustomerSet}
-use Rattle.solomon_reader.specs.SetPrices.{ListedSet, PricedSet, SetPrice, priced_sets}
+use Rattle.solomon_reader.specs.SetPrices.{ListedSet, PricedSet, SetPrice, priced_sets, price_sum}
 use Rattle.solomon_reader.specs.SetDualityLaws.{same_without_sets}
 use Rattle.solomon_reader.specs.Bound.{Version, version_1, version_2, with_sets, listed_sets, LeafPrices, IsValueAt, IsLeafValueWith}
 use Rattle.solomon_reader.specs.CertificateText.{IsListedSet, AreSetPrices, set_prices_sum}
-use Rattle.leaf_arcs.specs.Sets.{price_sum}
 use Rattle.tree_bound.specs.Grains.{ArePrices, IsLesserValue}
 use Rattle.tree_bound.specs.Nodes.{IsLeafAt, IsLesserAt}
 

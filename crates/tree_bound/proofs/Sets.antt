@@ -11,7 +11,8 @@ use Rattle.certificate.specs.Tree.{set_price_of}
 use Rattle.certificate.specs.declared.sets.ListedSet.{ListedSet}
 use Rattle.certificate.specs.declared.sets.SetPrice.{SetPrice}
 use Rattle.leaf_arcs.specs.declared.priced_set.PricedSet.{PricedSet}
-use Rattle.leaf_arcs.specs.Sets.{set_of, sets_of, price_sum}
+use Rattle.leaf_arcs.specs.Sets.{set_of, sets_of}
+use Rattle.solomon_reader.specs.SetPrices.{price_sum}
 
 -- those that stand for none
 abbrev pub no_set : PricedSet

@@ -7,9 +7,8 @@ use Rattle.solomon_reader.specs.Problem.{Problem, customer_count}
 use Rattle.solomon_reader.specs.Region.{Region}
 use Rattle.solomon_reader.specs.Relaxed.{int_sum}
 use Rattle.solomon_reader.specs.CustomerSets.{IsCustomerSet}
-use Rattle.solomon_reader.specs.SetPrices.{PricedSet, paid_for_needs}
+use Rattle.solomon_reader.specs.SetPrices.{PricedSet, paid_for_needs, price_sum}
 use Rattle.solomon_reader.specs.Bound.{Version, routes_counted, IsRoundedUp, IsLeafValueWith}
-use Rattle.leaf_arcs.specs.Sets.{price_sum}
 use Rattle.tree_bound.specs.declared.difference.Difference.{Difference}
 use Rattle.tree_bound.specs.Cover.{or_zero}
 

@@ -6,12 +6,12 @@ ghost use Rattle.std.specs.List.{AllByRecursion};
 ghost use Rattle.solomon_reader.specs.Problem.{customer_count};
 ghost use Rattle.solomon_reader.specs.Relaxed.{int_sum};
 ghost use Rattle.solomon_reader.specs.Bound.{IsRoundedUp};
-ghost use Rattle.solomon_reader.specs.SetPrices.{paid_for_needs};
+ghost use Rattle.solomon_reader.specs.SetPrices.{paid_for_needs, price_sum};
 ghost use Rattle.solomon_reader.specs.CertificateText.{IsPrice};
 ghost use Rattle.solomon_reader.specs.declared.limits.TheConstants.{MOST_CUSTOMERS, MOST_NEED, MOST_PRICE};
 ghost use Rattle.tree_bound.specs.Cover.{or_zero};
 ghost use Rattle.leaf_arcs.specs.Decisions.{region_of};
-ghost use Rattle.leaf_arcs.specs.Sets.{price_sum, sets_of};
+ghost use Rattle.leaf_arcs.specs.Sets.{sets_of};
 ghost use Rattle.solomon_reader.specs.SumLaws.{up, down};
 ghost use Rattle.tree_bound.specs.Grains.{ArePrices, IsSmall, IsWorth, IsLowered, IsLesserValue, grains_by, leaf_sum, sum_in};
 

@@ -1,5 +1,5 @@
 -- From what becomes of what was found to what the solver says.
-use Rattle.std.proofs.Common.{◌≡◌, ◌∙◌, Option, Some, None, inl, inr, refl, sym, List, MatchOption, Result, Ok, Err, ℕ, ◌≤◌, arith}
+use Rattle.std.proofs.Common.{◌≡◌, Option, Some, None, inl, inr, List, MatchOption, Result, Ok, Err, ℕ, ◌≤◌, arith}
 use Rattle.std.specs.Prelude.{IfSome, IfOk}
 use Rattle.schedule.specs.Solution.{Solution}
 use Rattle.solomon_reader.specs.Problem.{Problem}
@@ -23,14 +23,14 @@ use Rattle.vrptw.specs.Closing.{AreWithin, HasNoPlan, ClosesWith, Closes}
 
 -- ---- From what becomes of what was found to what the solver says: why no plan was found.
 
-module _ (p : Problem) (k : ℕ) (A B : Type 0) (s s' c c' : Held) (why : A → B) where
-  answers_why : (answer : Answer) → Answers p k A s s' c c' answer → Answers p k B s s' c c' answer
+module _ (p : Problem) (settings : Settings) (A B : Type 0) (s s' c c' : Held) (why : A → B) where
+  answers_why : (answer : Answer) → Answers p settings A s s' c c' answer → Answers p settings B s s' c c' answer
   answers_why (Best cost) a = a
   answers_why (Gap cost bound) a = a
   answers_why NoPlan a = a
   answers_why (Open bound) (kept, took, most, a) = (kept, took, most, why a)
 
-  breaks_why : Breaks p k A s s' c c' → Breaks p k B s s' c c'
+  breaks_why : Breaks p settings A s s' c c' → Breaks p settings B s s' c c'
   breaks_why (inl first) = inl first
   breaks_why (inr (inl took, broke)) = inr (inl took, broke)
   breaks_why (inr (inr (kept, a), broke)) = inr (inr (kept, why a), broke)
@@ -39,12 +39,12 @@ module _ (p : Problem) (k : ℕ) (A B : Type 0) (s s' c c' : Held) (why : A → 
 
 pub solved : (text : List ℕ) (settings : Settings) (p : Problem) (plan : Option Solution) (bound : ℕ) (s s' c c' : Held) → IsInstance text p
     → IsWithin settings → (plan ≡ None → ¬ IsServedAlone p)
-    → (r : Result Answer SolveFault) → WritesFound p settings.neighbours plan bound s s' c c' r → Solves text settings s s' c c' r
+    → (r : Result Answer SolveFault) → WritesFound p settings plan bound s s' c c' r → Solves text settings s s' c c' r
 solved text settings p plan bound s s' c c' is within why (Ok answer) (answers, of) =
-    (p, is, within, answers_why p settings.neighbours (plan ≡ None) (¬ IsServedAlone p) s s' c c' why answer answers)
+    (p, is, within, answers_why p settings (plan ≡ None) (¬ IsServedAlone p) s s' c c' why answer answers)
 solved text settings p plan bound s s' c c' is within why (Err e) (inl (same, first, second)) = rw same (first, second)
 solved text settings p plan bound s s' c c' is within why (Err e) (inr (same, breaks)) =
-    rw same (p, is, within, breaks_why p settings.neighbours (plan ≡ None) (¬ IsServedAlone p) s s' c c' why breaks)
+    rw same (p, is, within, breaks_why p settings (plan ≡ None) (¬ IsServedAlone p) s s' c c' why breaks)
 
 -- ---- a closing
 
@@ -58,25 +58,26 @@ module _ (p : Problem) (k limit : ℕ) (closed : Found) (is : IsClosed p k limit
       let above = rw e at is.meets in
       absurd (omega (arith, above, tree_bound_holds version_2 p k is.tree.tree closed.bound routes tt is.tree.is_bound plan, ceiling_holds p routes plan))
 
-  closes_with : (s s' c c' : Held) (answer : Answer) → Answers p k (closed.plan ≡ None) s s' c c' answer → IsOf closed.plan closed.bound answer → ClosesWith p k s s' c c' answer
-  closes_with s s' c c' (Best cost) answers of = answers
-  closes_with s s' c c' NoPlan answers of = answers
-  closes_with s s' c c' (Open bound) answers of = let above = rw of.1 at is.meets in absurd (omega (arith, above, of.0, answers.2))
-  closes_with s s' c c' (Gap cost bound) answers of =
-      let plan = answers.0.is in
-      absurd (answers.2 (omega (arith, most_at p closed.plan closed.bound cost is.meets of.1, of.0, answers.1.is.holds plan.routes plan.plan, plan.exact)))
+  module _ (settings : Settings) (s s' c c' : Held) where
+    closes_with : (answer : Answer) → Answers p settings (closed.plan ≡ None) s s' c c' answer → IsOf closed.plan closed.bound answer → ClosesWith p settings s s' c c' answer
+    closes_with (Best cost) answers of = answers
+    closes_with NoPlan answers of = answers
+    closes_with (Open bound) answers of = let above = rw of.1 at is.meets in absurd (omega (arith, above, of.0, answers.2))
+    closes_with (Gap cost bound) answers of =
+        let plan = answers.0.is in
+        absurd (answers.2 (omega (arith, most_at p closed.plan closed.bound cost is.meets of.1, of.0, answers.1.is.holds plan.routes plan.plan, plan.exact)))
 
-  pub closed_text : (text : List ℕ) (settings : Settings) (s s' c c' : Held) → IsInstance text p → AreWithin settings limit → k ≡ settings.neighbours
-      → (r : Result Answer SolveFault) → WritesFound p k closed.plan closed.bound s s' c c' r → Closes text settings limit s s' c c' r
-  closed_text text settings s s' c c' read within same (Ok answer) (answers, of) = (p, read, within, is.small, rw (← same) (closes_with s s' c c' answer answers of))
-  closed_text text settings s s' c c' read within same (Err e) (inl (told, first, second)) = rw told (first, second)
-  closed_text text settings s s' c c' read within same (Err e) (inr (told, breaks)) =
-      rw told (p, read, within, is.small, rw (← same) (breaks_why p k (closed.plan ≡ None) (HasNoPlan p) s s' c c' none_closed breaks))
+    pub closed_text : (text : List ℕ) → IsInstance text p → AreWithin settings limit
+        → (r : Result Answer SolveFault) → WritesFound p settings closed.plan closed.bound s s' c c' r → Closes text settings limit s s' c c' r
+    closed_text text read within (Ok answer) (answers, of) = (p, read, within, is.small, closes_with answer answers of)
+    closed_text text read within (Err e) (inl (told, first, second)) = rw told (first, second)
+    closed_text text read within (Err e) (inr (told, breaks)) =
+        rw told (p, read, within, is.small, breaks_why p settings (closed.plan ≡ None) (HasNoPlan p) s s' c c' none_closed breaks)
 
 -- ---- a plan to start from
 
-module _ (p : Problem) (k : ℕ) (f : Solution) (is : IsPlanAt p f) (s s' c c' : Held) (bound : ℕ) where
-  at_most_answer : (found : Option Solution) → MatchOption found ⊥ (λ plan. plan.cost ≤ f.cost) → (answer : Answer) → Answers p k (found ≡ None) s s' c c' answer
+module _ (p : Problem) (settings : Settings) (f : Solution) (is : IsPlanAt p f) (s s' c c' : Held) (bound : ℕ) where
+  at_most_answer : (found : Option Solution) → MatchOption found ⊥ (λ plan. plan.cost ≤ f.cost) → (answer : Answer) → Answers p settings (found ≡ None) s s' c c' answer
       → IsOf found bound answer → IsAtMost f.cost answer
   at_most_answer found low (Best cost) answers of = omega (arith, answers.1.is.holds f.routes (rw is.0 at is.1.plan), rw is.0 at is.1.exact)
   at_most_answer None low (Gap cost b) answers of = absurd low
@@ -86,9 +87,9 @@ module _ (p : Problem) (k : ℕ) (f : Solution) (is : IsPlanAt p f) (s s' c c' :
   at_most_answer (Some g) low (Open b) answers of = let bad : Some g ≡ None = of.1 in cc
 
 -- the answer costs no more than the start, where the plan that was found doesn't
-pub at_most : (p : Problem) (k : ℕ) (start found : Option Solution) (bound : ℕ) (s s' c c' : Held) → IfSome start (IsPlanAt p) → IsNoDearer start found
-    → (r : Result Answer SolveFault) → WritesFound p k found bound s s' c c' r → IfOk r (λ a. IfSome start (λ f. IsAtMost f.cost a))
-at_most p k None found bound s s' c c' is low (Ok answer) writes = tt
-at_most p k None found bound s s' c c' is low (Err e) writes = tt
-at_most p k (Some f) found bound s s' c c' is low (Ok answer) (answers, of) = at_most_answer p k f is s s' c c' bound found low answer answers of
-at_most p k (Some f) found bound s s' c c' is low (Err e) writes = tt
+pub at_most : (p : Problem) (settings : Settings) (start found : Option Solution) (bound : ℕ) (s s' c c' : Held) → IfSome start (IsPlanAt p) → IsNoDearer start found
+    → (r : Result Answer SolveFault) → WritesFound p settings found bound s s' c c' r → IfOk r (λ a. IfSome start (λ f. IsAtMost f.cost a))
+at_most p settings None found bound s s' c c' is low (Ok answer) writes = tt
+at_most p settings None found bound s s' c c' is low (Err e) writes = tt
+at_most p settings (Some f) found bound s s' c c' is low (Ok answer) (answers, of) = at_most_answer p settings f is s s' c c' bound found low answer answers of
+at_most p settings (Some f) found bound s s' c c' is low (Err e) writes = tt

@@ -1,2 +1,3 @@
 pub mod Answering
 pub mod TreeTexts
+pub mod Closed

@@ -1,5 +1,5 @@
 -- What the solver answers, and what both sinks hold then.
-use Rattle.std.specs.Prelude.{◌≡◌, ◌≢◌, ℕ, ◌+◌, ◌≤◌, List, Result, Ok, Err, ◌⊎◌}
+use Rattle.std.specs.Prelude.{◌≡◌, ◌≢◌, ℕ, zero, suc, ◌+◌, ◌≤◌, List, length, Result, Ok, Err, ◌⊎◌}
 use Rattle.tenths.specs.Sink.{Held, Takes, Fails}
 use Rattle.solomon_reader.specs.Words.{words}
 use Rattle.solomon_reader.specs.Problem.{Problem}
@@ -7,7 +7,8 @@ use Rattle.solomon_reader.specs.Layout.{IsInstance}
 use Rattle.solomon_reader.specs.Reading.{reading}
 use Rattle.solomon_reader.specs.Plan.{IsPlan, plan_cost}
 use Rattle.solomon_reader.specs.Moves.{IsLocalOptimum}
-use Rattle.solomon_reader.specs.Bound.{version_2, ceiling_of}
+use Rattle.solomon_reader.specs.Bound.{Version, version_2, with_sets, ceiling_of}
+use Rattle.solomon_reader.specs.SetPrices.{ListedSet}
 use Rattle.solomon_reader.specs.SolutionText.{solution_text}
 use Rattle.solomon_reader.specs.CertificateText.{IsAccepted}
 use Rattle.solomon_reader.specs.declared.fault.ReadFault.TheVariants as read
@@ -29,11 +30,16 @@ pub record IsPlanText (p : Problem) (cost : ℕ) (text : List ℕ) : Type 0 wher
   pub exact : plan_cost p routes ≡ cost
   pub spelled : text ≡ solution_text routes cost
 
--- the instance accepts the text with this bound, which is for so many neighbours; every plan costs at least the bound
-pub record IsBoundText (p : Problem) (k bound : ℕ) (text : List ℕ) : Type 0 where
+-- of which version a certificate is where so many sets may have prices: of the second where none may, else of that with a list of sets
+abbrev pub IsVersionFor : ℕ → Version → Type 0
+IsVersionFor zero version = version ≡ version_2
+IsVersionFor (suc n) version = (sets : List ListedSet) × (version ≡ with_sets sets) × (length sets ≤ suc n)
+
+-- the instance accepts the text with this bound, which is for so many neighbours and sets as the settings say; every plan costs at least the bound
+pub record IsBoundText (p : Problem) (settings : Settings) (bound : ℕ) (text : List ℕ) : Type 0 where
   pub accepted : IsAccepted p text
-  pub version : accepted.certificate.version ≡ version_2
-  pub neighbours : accepted.certificate.neighbours ≡ k
+  pub version : IsVersionFor settings.sets accepted.certificate.version
+  pub neighbours : accepted.certificate.neighbours ≡ settings.neighbours
   pub printed : accepted.certificate.bound ≡ bound
   pub holds : (routes : List (List ℕ)) → IsPlan p routes → bound ≤ plan_cost p routes
 
@@ -55,22 +61,22 @@ WritesOne Is old new (Ok u) = Took old new Is
 WritesOne Is old new (Err e) = (e ≡ fault.Device) × Broke old new Is
 
 -- The answer, with the first sink's plan and the second sink's bound; where no plan was found, why.
-abbrev pub Answers : Problem → ℕ → Type 0 → Held → Held → Held → Held → Answer → Type 0
-Answers p k Why s s' c c' (Best cost) = Took s s' (IsPlanText p cost) × Took c c' (IsBoundText p k cost)
-Answers p k Why s s' c c' (Gap cost bound) = Took s s' (IsPlanText p cost) × Took c c' (IsBoundText p k bound) × (cost ≢ bound)
-Answers p k Why s s' c c' NoPlan = (s' ≡ s) × Took c c' (IsBoundText p k (ceiling_of p + 1)) × ((routes : List (List ℕ)) → ¬ IsPlan p routes)
-Answers p k Why s s' c c' (Open bound) = (s' ≡ s) × Took c c' (IsBoundText p k bound) × (bound ≤ ceiling_of p) × Why
+abbrev pub Answers : Problem → Settings → Type 0 → Held → Held → Held → Held → Answer → Type 0
+Answers p settings Why s s' c c' (Best cost) = Took s s' (IsPlanText p cost) × Took c c' (IsBoundText p settings cost)
+Answers p settings Why s s' c c' (Gap cost bound) = Took s s' (IsPlanText p cost) × Took c c' (IsBoundText p settings bound) × (cost ≢ bound)
+Answers p settings Why s s' c c' NoPlan = (s' ≡ s) × Took c c' (IsBoundText p settings (ceiling_of p + 1)) × ((routes : List (List ℕ)) → ¬ IsPlan p routes)
+Answers p settings Why s s' c c' (Open bound) = (s' ≡ s) × Took c c' (IsBoundText p settings bound) × (bound ≤ ceiling_of p) × Why
 
 -- The first sink failed while it was given a plan, and the second took nothing.
 abbrev pub BreaksFirst : Problem → Held → Held → Held → Held → Type 0
 BreaksFirst p s s' c c' = (cost : ℕ) × Broke s s' (IsPlanText p cost) × (c' ≡ c)
 
 -- The second sink failed, after the first took all of a plan, or where no plan was found and nothing was for the first.
-abbrev pub BreaksSecond : Problem → ℕ → Type 0 → Held → Held → Held → Held → Type 0
-BreaksSecond p k Why s s' c c' = (((cost : ℕ) × Took s s' (IsPlanText p cost)) ⊎ ((s' ≡ s) × Why)) × ((bound : ℕ) × Broke c c' (IsBoundText p k bound))
+abbrev pub BreaksSecond : Problem → Settings → Type 0 → Held → Held → Held → Held → Type 0
+BreaksSecond p settings Why s s' c c' = (((cost : ℕ) × Took s s' (IsPlanText p cost)) ⊎ ((s' ≡ s) × Why)) × ((bound : ℕ) × Broke c c' (IsBoundText p settings bound))
 
-abbrev pub Breaks : Problem → ℕ → Type 0 → Held → Held → Held → Held → Type 0
-Breaks p k Why s s' c c' = BreaksFirst p s s' c c' ⊎ BreaksSecond p k Why s s' c c'
+abbrev pub Breaks : Problem → Settings → Type 0 → Held → Held → Held → Held → Type 0
+Breaks p settings Why s s' c c' = BreaksFirst p s s' c c' ⊎ BreaksSecond p settings Why s s' c c'
 
 -- why a text gives no instance: it has this fault, or memory was refused
 abbrev pub RefusesText : List ℕ → SolveFault → Type 0
@@ -92,7 +98,7 @@ IsFaultOfRun run.NoThread told = told ≡ fault.NoThread
 
 -- What the solver does with the text of an instance, within the settings: each refusal is the first that holds, and all but the last come before the first write.
 abbrev pub Solves : List ℕ → Settings → Held → Held → Held → Held → Result Answer SolveFault → Type 0
-Solves text settings s s' c c' (Ok answer) = (p : Problem) × IsInstance text p × IsWithin settings × Answers p settings.neighbours (¬ IsServedAlone p) s s' c c' answer
+Solves text settings s s' c c' (Ok answer) = (p : Problem) × IsInstance text p × IsWithin settings × Answers p settings (¬ IsServedAlone p) s s' c c' answer
 Solves text settings s s' c c' (Err fault.Memory) = (s' ≡ s) × (c' ≡ c)
 Solves text settings s s' c c' (Err (fault.Instance f)) = (reading (words text) ≡ Err f) × (f ≢ read.Memory) × (s' ≡ s) × (c' ≡ c)
 Solves text settings s s' c c' (Err fault.BadSettings) = ((p : Problem) × IsInstance text p) × (¬ IsWithin settings) × (s' ≡ s) × (c' ≡ c)
@@ -100,4 +106,4 @@ Solves text settings s s' c c' (Err fault.LabelLimit) = ((p : Problem) × IsInst
 Solves text settings s s' c c' (Err fault.NoThread) = ((p : Problem) × IsInstance text p) × IsWithin settings × (s' ≡ s) × (c' ≡ c)
 Solves text settings s s' c c' (Err fault.LeafLimit) = ⊥
 Solves text settings s s' c c' (Err fault.TooLarge) = ⊥
-Solves text settings s s' c c' (Err fault.Device) = (p : Problem) × IsInstance text p × IsWithin settings × Breaks p settings.neighbours (¬ IsServedAlone p) s s' c c'
+Solves text settings s s' c c' (Err fault.Device) = (p : Problem) × IsInstance text p × IsWithin settings × Breaks p settings (¬ IsServedAlone p) s s' c c'

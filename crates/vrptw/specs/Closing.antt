@@ -33,11 +33,11 @@ abbrev pub HasNoPlan : Problem → Type 0
 HasNoPlan p = (routes : List (List ℕ)) → ¬ IsPlan p routes
 
 -- a plan at the bound, or none: nothing else is answered
-abbrev pub ClosesWith : Problem → ℕ → Held → Held → Held → Held → Answer → Type 0
-ClosesWith p k s s' c c' (Best cost) = Answers p k (HasNoPlan p) s s' c c' (Best cost)
-ClosesWith p k s s' c c' (Gap cost bound) = ⊥
-ClosesWith p k s s' c c' NoPlan = Answers p k (HasNoPlan p) s s' c c' NoPlan
-ClosesWith p k s s' c c' (Open bound) = ⊥
+abbrev pub ClosesWith : Problem → Settings → Held → Held → Held → Held → Answer → Type 0
+ClosesWith p settings s s' c c' (Best cost) = Answers p settings (HasNoPlan p) s s' c c' (Best cost)
+ClosesWith p settings s s' c c' (Gap cost bound) = ⊥
+ClosesWith p settings s s' c c' NoPlan = Answers p settings (HasNoPlan p) s s' c c' NoPlan
+ClosesWith p settings s s' c c' (Open bound) = ⊥
 
 -- what is told of a closing's fault
 abbrev pub IsFaultOfClosing : CloseAloneFault → SolveFault → Type 0
@@ -52,7 +52,7 @@ NeedsMoreLeaves p k limit = (cost : Option ℕ) × ((bound : ℕ) × ((nodes : L
 -- What becomes of the text of an instance that is to be closed: each refusal is the first that holds, and all but the last come before the first write.
 abbrev pub Closes : List ℕ → Settings → ℕ → Held → Held → Held → Held → Result Answer SolveFault → Type 0
 Closes text settings limit s s' c c' (Ok answer) = (p : Problem) × IsInstance text p × AreWithin settings limit × (customer_count p ≤ MOST_CLOSED)
-    × ClosesWith p settings.neighbours s s' c c' answer
+    × ClosesWith p settings s s' c c' answer
 Closes text settings limit s s' c c' (Err fault.Memory) = (s' ≡ s) × (c' ≡ c)
 Closes text settings limit s s' c c' (Err (fault.Instance f)) = (reading (words text) ≡ Err f) × (f ≢ read.Memory) × (s' ≡ s) × (c' ≡ c)
 Closes text settings limit s s' c c' (Err fault.BadSettings) = ((p : Problem) × IsInstance text p) × (¬ AreWithin settings limit) × (s' ≡ s) × (c' ≡ c)
@@ -61,4 +61,4 @@ Closes text settings limit s s' c c' (Err fault.LeafLimit) = (p : Problem) × Is
 Closes text settings limit s s' c c' (Err fault.LabelLimit) = ⊥
 Closes text settings limit s s' c c' (Err fault.NoThread) = ⊥
 Closes text settings limit s s' c c' (Err fault.Device) = (p : Problem) × IsInstance text p × AreWithin settings limit
-    × (customer_count p ≤ MOST_CLOSED) × Breaks p settings.neighbours (HasNoPlan p) s s' c c'
+    × (customer_count p ≤ MOST_CLOSED) × Breaks p settings (HasNoPlan p) s s' c c'

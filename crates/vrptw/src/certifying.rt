@@ -1,20 +1,58 @@
 //! The certificate of a bound.
 
-ghost use Rattle.std.specs.Prelude.{◌≡◌, ℕ, ◌+◌, ◌≤◌, IfOk, IfErr, map};
+ghost use Rattle.std.specs.Prelude.{◌≡◌, ℕ, ◌+◌, ◌≤◌, length, IfOk, IfErr, map};
 ghost use Rattle.solomon_reader.specs.Bound.{ceiling_of};
 ghost use Rattle.solomon_reader.specs.declared.limits.TheConstants.{MOST_NEIGHBOURS};
-ghost use Rattle.branching.specs.Nodes.{IsListedTree};
 ghost use Rattle.branching.specs.Nodes as tree;
 ghost use Rattle.certificate.specs.Tree as certificate;
+ghost use Rattle.certificate.specs.Text.{listed_set_of, version_of};
+ghost use Rattle.priced_sets.specs.Sets.{listed_set};
+ghost use Rattle.incumbent_book.specs.Contents as book;
 ghost use Rattle.vrptw.specs.Certified.{IsCertified};
+ghost use Rattle.vrptw.specs.Found.{HasTree};
 ghost use Rattle.vrptw.specs.declared.answer.SolveFault.TheVariants.{Memory};
 
 use crate::answer::SolveFault;
 use branching::TreeNode;
 use certificate::{Cert, CertNode, CertParts, ShapeFault, Version};
+use priced_sets::ListedSet;
+use run_settings::Settings;
 use solomon_reader::Instance;
 use std::alloc::{AllocError, Global};
 use tenths::Tenths;
+
+/// Prices of sets as a certificate has them.
+fn certificate_prices(
+    alloc: Global,
+    prices: &[branching::SetPrice],
+) -> Result<Vec<certificate::SetPrice>, AllocError>
+    ensures { IfOk result (λ v. map certificate.set_price_of v.items ≡ map tree.set_price_of prices.now) }
+{
+    let mut listed = Vec::new(alloc);
+    for price in prices {
+        listed.push(certificate::SetPrice {
+            set: price.set,
+            price: price.price,
+        })?;
+    }
+    Ok(listed)
+}
+
+/// A node as a certificate has it.
+fn certificate_node(alloc: Global, node: TreeNode) -> Result<CertNode, AllocError>
+    ensures { IfOk result (λ n. certificate.node_of n ≡ tree.node_of node) }
+{
+    Ok(match node {
+        TreeNode::Split(arc) => CertNode::Split {
+            from: arc.from,
+            to: arc.to,
+        },
+        TreeNode::Leaf(prices) => CertNode::SetLeaf {
+            set_prices: certificate_prices(alloc, prices.sets.as_slice())?,
+            prices: prices.customers,
+        },
+    })
+}
 
 /// Nodes as a certificate has them.
 fn certificate_nodes(alloc: Global, nodes: Vec<TreeNode>) -> Result<Vec<CertNode>, AllocError>
@@ -22,29 +60,51 @@ fn certificate_nodes(alloc: Global, nodes: Vec<TreeNode>) -> Result<Vec<CertNode
 {
     let mut listed = Vec::new(alloc);
     for node in nodes {
-        listed.push(match node {
-            TreeNode::Split(arc) => CertNode::Split {
-                from: arc.from,
-                to: arc.to,
-            },
-            TreeNode::Leaf(prices) => CertNode::Leaf(prices),
+        listed.push(certificate_node(alloc, node)?)?;
+    }
+    Ok(listed)
+}
+
+/// Sets as a certificate has them.
+fn certificate_sets(
+    alloc: Global,
+    sets: Vec<ListedSet>,
+) -> Result<Vec<certificate::ListedSet>, AllocError>
+    ensures { IfOk result (λ v. map listed_set_of v.items ≡ map listed_set sets.items) }
+{
+    let mut listed = Vec::new(alloc);
+    for set in sets {
+        listed.push(certificate::ListedSet {
+            members: set.members,
+            need: set.need,
         })?;
     }
     Ok(listed)
 }
 
-/// The certificate of a bound, in tenths, for this many neighbours, with its tree. `Memory`.
+/// The version of a certificate where at most so many sets may have prices, and these had.
+fn version_for(alloc: Global, most: u32, sets: Vec<ListedSet>) -> Result<Version, AllocError>
+    ensures { IfOk result (λ v. version_of v ≡ book.version_of most (map listed_set sets.items)) }
+{
+    if most == 0 {
+        return Ok(Version::Two);
+    }
+    Ok(Version::WithSets(certificate_sets(alloc, sets)?))
+}
+
+/// The certificate of a bound, in tenths, as the settings say, with its sets and its tree. `Memory`.
 pub(crate) fn certify(
     alloc: Global,
     instance: &Instance,
-    neighbours: u32,
+    settings: &Settings,
     bound: Tenths,
+    sets: Vec<ListedSet>,
     nodes: Vec<TreeNode>,
 ) -> Result<Cert, SolveFault>
-    requires few { neighbours ≤ MOST_NEIGHBOURS }
+    requires few { settings.now.neighbours ≤ MOST_NEIGHBOURS }
     requires most { bound ≤ ceiling_of instance.now + 1 }
-    requires tree { (leaves : ℕ) × IsListedTree instance.now neighbours nodes.items bound leaves }
-    ensures certified { IfOk result (IsCertified instance.now neighbours) }
+    requires tree { HasTree instance.now settings.now (map listed_set sets.items) nodes.items bound }
+    ensures certified { IfOk result (IsCertified instance.now settings.now) }
     ensures bound { IfOk result (λ c. c.bound ≡ bound) }
     ensures memory { IfErr result (λ e. e ≡ Memory) }
 {
@@ -52,10 +112,10 @@ pub(crate) fn certify(
     // brings in that tenths have a limit
     let _within = bound.get();
     let parts = CertParts {
-        version: Version::Two,
+        version: version_for(alloc, settings.sets, sets)?,
         name: Vec::from_slice(alloc, instance.name())?,
         size: instance.customer_count(),
-        neighbours,
+        neighbours: settings.neighbours,
         bound,
         nodes: certificate_nodes(alloc, nodes)?,
     };

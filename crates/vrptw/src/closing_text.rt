@@ -44,13 +44,14 @@ fn close_instance<'i, X: Sink, Y: Sink>(
     }
     let neighbours = settings.neighbours;
     let found = closing::close_from(alloc, instance, neighbours, leaf_limit, start)?;
-    write_found(alloc, instance, neighbours, found, solution, certificate)
+    write_found(alloc, instance, settings, found, solution, certificate)
 }
 
 /// Closes the instance of a text, of at most 24 customers: writes a plan that no plan is cheaper than to
 /// the first sink, and then to the second the certificate whose bound is its cost; or where there is no
 /// plan, the certificate alone. The tree has at most this many leaves, 1 to 100,000. Of the settings only
-/// the neighbours have an effect. It works on the caller's thread and waits for nobody. The answer is
+/// the neighbours and the number of sets have an effect: where sets may have prices the certificate is one
+/// with sets, though it lists none. It works on the caller's thread and waits for nobody. The answer is
 /// `Best` or `NoPlan`.
 ///
 /// The first refusal that holds is told: `Instance` with the text's first fault, `BadSettings` where a

@@ -8,15 +8,27 @@ ghost use Rattle.vrptw.specs.declared.answer.SolveFault.TheVariants.{Memory};
 use crate::answer::SolveFault;
 use closing::Found;
 use incumbent_book::Outcome;
+use run_settings::Settings;
 use std::alloc::Global;
 
 /// What a run found.
-pub(crate) fn found_by<'i>(alloc: Global, outcome: Outcome<'i>) -> Result<Found<'i>, SolveFault>
-    ensures found { IfOk result (IsFound outcome.entry.problem outcome.entry.neighbours) }
+pub(crate) fn found_by<'i>(
+    alloc: Global,
+    settings: &Settings,
+    outcome: Outcome<'i>,
+) -> Result<Found<'i>, SolveFault>
+    requires neighbours { outcome.neighbours ≡ settings.now.neighbours }
+    requires sets { outcome.most_sets ≡ settings.now.sets }
+    ensures found { IfOk result (IsFound outcome.entry.problem settings.now) }
     ensures plan { IfOk result (λ f. f.plan ≡ outcome.entry.incumbent) }
     ensures offered { IfOk result (λ f. f.plan ≡ None → costs_of outcome.entry.past ≡ []) }
     ensures memory { IfErr result (λ e. e ≡ Memory) }
 {
-    let (plan, bound, nodes) = outcome.into_parts(alloc)?;
-    Ok(Found { plan, bound, nodes })
+    let (plan, bound, sets, nodes) = outcome.into_parts(alloc)?;
+    Ok(Found {
+        plan,
+        bound,
+        sets,
+        nodes,
+    })
 }

@@ -50,9 +50,8 @@ fn solve_instance<'i, R: Threads + Wait + Sync, G: Gate + Sync, X: Sink, Y: Sink
     ensures at_most { IfOk result (λ a. IfSome start.entry (λ f. IsAtMost f.cost a)) }
 {
     let outcome = run_from(rt, alloc, instance, settings, gate, start)?;
-    let found = found_by(alloc, outcome)?;
-    let neighbours = settings.neighbours;
-    write_found(alloc, instance, neighbours, found, solution, certificate)
+    let found = found_by(alloc, settings, outcome)?;
+    write_found(alloc, instance, settings, found, solution, certificate)
 }
 
 /// Solves the instance of a text: writes a plan to the first sink, if one was found, and then to

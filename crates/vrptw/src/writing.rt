@@ -11,6 +11,7 @@ use crate::answer::{Answer, SolveFault};
 use crate::certifying::certify;
 use certificate::Cert;
 use closing::Found;
+use run_settings::Settings;
 use schedule::Feasible;
 use search::descended;
 use solomon_reader::Instance;
@@ -44,15 +45,15 @@ fn write_plan<X: Sink>(plan: &Feasible<'_>, solution: &mut X) -> Result<(), Solv
     }
 }
 
-/// Writes the certificate of an instance for this many neighbours.
+/// Writes the certificate of an instance as the settings say.
 fn write_bound<Y: Sink>(
     instance: &Instance,
-    neighbours: u32,
+    settings: &Settings,
     cert: &Cert,
     certificate: &mut Y,
 ) -> Result<(), SolveFault>
-    requires { IsCertified instance.now neighbours cert.now }
-    ensures { WritesOne (IsBoundText instance.now neighbours cert.now.bound)
+    requires { IsCertified instance.now settings.now cert.now }
+    ensures { WritesOne (IsBoundText instance.now settings.now cert.now.bound)
         (Y.held certificate.old) (Y.held certificate.new) result }
 {
     match certificate::write(cert, certificate) {
@@ -65,28 +66,28 @@ fn write_bound<Y: Sink>(
 fn write_both<X: Sink, Y: Sink>(
     plan: Option<Feasible<'_>>,
     instance: &Instance,
-    neighbours: u32,
+    settings: &Settings,
     cert: &Cert,
     solution: &mut X,
     certificate: &mut Y,
 ) -> Result<Answer, SolveFault>
     requires plan { IfSome plan (λ f. (f.problem ≡ instance.now)
         × IsLocalOptimum f.problem f.routes) }
-    requires certified { IsCertified instance.now neighbours cert.now }
-    ensures { WritesFound instance.now neighbours plan.entry cert.now.bound
+    requires certified { IsCertified instance.now settings.now cert.now }
+    ensures { WritesFound instance.now settings.now plan.entry cert.now.bound
         (X.held solution.old) (X.held solution.new)
         (Y.held certificate.old) (Y.held certificate.new) result }
 {
     let bound = cert.parts().bound;
     let Some(plan) = plan else {
-        write_bound(instance, neighbours, cert, certificate)?;
+        write_bound(instance, settings, cert, certificate)?;
         if bound.get() > instance.ceiling().get() {
             return Ok(Answer::NoPlan);
         }
         return Ok(Answer::Open { bound });
     };
     write_plan(&plan, solution)?;
-    write_bound(instance, neighbours, cert, certificate)?;
+    write_bound(instance, settings, cert, certificate)?;
     let cost = plan.cost();
     if cost == bound {
         return Ok(Answer::Best { cost });
@@ -95,22 +96,27 @@ fn write_both<X: Sink, Y: Sink>(
 }
 
 /// Writes what was found: its plan, if there is one, descended once more, and then the certificate of its
-/// bound for this many neighbours.
+/// bound as the settings say.
 pub(crate) fn write_found<X: Sink, Y: Sink>(
     alloc: Global,
     instance: &Instance,
-    neighbours: u32,
+    settings: &Settings,
     found: Found<'_>,
     solution: &mut X,
     certificate: &mut Y,
 ) -> Result<Answer, SolveFault>
-    requires { IsFound instance.now neighbours found }
-    ensures { WritesFound instance.now neighbours found.entry.plan found.entry.bound
+    requires { IsFound instance.now settings.now found }
+    ensures { WritesFound instance.now settings.now found.entry.plan found.entry.bound
         (X.held solution.old) (X.held solution.new)
         (Y.held certificate.old) (Y.held certificate.new) result }
 {
-    let Found { plan, bound, nodes } = found;
+    let Found {
+        plan,
+        bound,
+        sets,
+        nodes,
+    } = found;
     let plan = descend(alloc, plan)?;
-    let cert = certify(alloc, instance, neighbours, bound, nodes)?;
-    write_both(plan, instance, neighbours, &cert, solution, certificate)
+    let cert = certify(alloc, instance, settings, bound, sets, nodes)?;
+    write_both(plan, instance, settings, &cert, solution, certificate)
 }

@@ -109,8 +109,8 @@ fn split_or_settle<'i, H: Hub<'i>, G: Gate>(
     }
 }
 
-/// Gives the root its raised prices, to which the next turn returns as long as it rises, and another leaf
-/// where they end the work at it; parts it elsewhere.
+/// Gives the root its raised prices, to which the next turn returns as long as it rises or sets are added, and another
+/// leaf where they end the work at it; parts it elsewhere.
 fn bring<'i, H: Hub<'i>, G: Gate>(
     worker: &mut Worker<'_, 'i, H, G>,
     number: u32,
@@ -126,7 +126,8 @@ fn bring<'i, H: Hub<'i>, G: Gate>(
     }
     // The first worker alone splits the root, so that the tree begins with prices and routes that belong together.
     let is_root = raised.priced.region().is_root();
-    if is_root && (nodes.stays_at_root(is_raised) || rules.place > 0) {
+    let goes_on = is_raised || raised.added > 0;
+    if is_root && (nodes.stays_at_root(goes_on) || rules.place > 0) {
         nodes.current = Some(number);
         return if is_raised {
             worker.reprice(number, raised.priced)
@@ -257,6 +258,7 @@ pub fn bound_worker<'i, H: Hub<'i>, G: Gate>(
 {
     let rules = Rules {
         labels: pricing_labels(settings, nodes.customers),
+        sets: (settings.sets / settings.bounders.max(1)) as usize,
         place: u32::from(worker.number).saturating_sub(settings.searchers),
         looks: turn_looks(nodes.customers).saturating_mul(u64::from(settings.turns)),
     };

@@ -209,10 +209,10 @@ impl<'p> Nodes<'p> {
         }
     }
 
-    /// Whether the work goes on at the root after a turn there, which raised it or didn't: with many
+    /// Whether the work goes on at the root after a turn there, which led somewhere or didn't: with many
     /// customers the first rises are in vain.
-    pub(crate) fn stays_at_root(&mut self, is_raised: bool) -> bool {
-        self.idle_at_root = if is_raised {
+    pub(crate) fn stays_at_root(&mut self, goes_on: bool) -> bool {
+        self.idle_at_root = if goes_on {
             0
         } else {
             self.idle_at_root.saturating_add(1)

@@ -34,6 +34,8 @@ pub(crate) fn turn_looks(customers: u16) -> u64 {
 pub(crate) struct Rules {
     /// How many labels may be active at once in one of its pricings.
     pub(crate) labels: usize,
+    /// How many sets it may find in all.
+    pub(crate) sets: usize,
     /// Its place among the bound workers.
     pub(crate) place: u32,
     /// How much work all its turns are worth, in looks.
@@ -84,6 +86,7 @@ pub(crate) fn goal_at(
 ) -> Goal {
     let effort = Effort {
         root_pricings: ROOT_PRICINGS,
+        sets: rules.sets,
         labels: Some(rules.labels),
         looks: rules.looks,
     };

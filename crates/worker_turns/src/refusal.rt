@@ -29,7 +29,10 @@ impl From<SearchFault> for Refusal {
 impl From<BookFault> for Refusal {
     fn from(fault: BookFault) -> Refusal {
         match fault {
-            BookFault::Memory | BookFault::JournalFull | BookFault::LeavesFull => Refusal::EndsWork,
+            BookFault::Memory
+            | BookFault::JournalFull
+            | BookFault::LeavesFull
+            | BookFault::SetsFull => Refusal::EndsWork,
             _ => Refusal::EndsTurn,
         }
     }

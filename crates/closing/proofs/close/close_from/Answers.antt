@@ -2,6 +2,7 @@ use Rattle.std.proofs.lemmas.Result.{err_from_is_err_and}
 use Rattle.std.proofs.Common.{◌≡◌, ◌∙◌, arith, reverse, sym, subst}
 use Rattle.solomon_reader.specs.Problem.{Problem, customer_count}
 use Rattle.solomon_reader.specs.Region.{root_region}
+use Rattle.solomon_reader.specs.Bound.{version_2}
 use Rattle.branching.specs.Nodes.{IsListedTree}
 use Rattle.closing.specs.Growing.{Grows}
 use Rattle.closing.specs.Closing.{known_or_above, costs}
@@ -16,7 +17,7 @@ finish-requires-clause-tree c =
     let p = c.args.instance.now in
     let grows : Grows c.args.neighbours (root_region (customer_count p)) c.new-growth.result end = rw (c.in-Ok.ensures.neighbours, c.in-Ok.ensures.region) at c.in_ok-grow.ensures.grows in
     let own : end.instance.now ≡ p = grows.task.instance ∙ begun.instance in
-    subst (λ (q : Problem). IsListedTree q c.args.neighbours (reverse end.nodes.items) end.bound end.leaves) (sym own)
+    subst (λ (q : Problem). IsListedTree version_2 q c.args.neighbours (reverse end.nodes.items) end.bound end.leaves) (sym own)
     (listed_tree p c.args.neighbours c.new-growth.result end grows begun.instance begun.nodes begun.leaves begun.bound
     (omega (arith, c.if-customer_count-gt-MOST_CLOSED.false, c.customer_count.ensures.value))
     (omega (arith, c.in_ok-grow.ensures.growth.room, grows.task.limit, begun.limit, c.requires.most)) c.depth_holds.ensures)

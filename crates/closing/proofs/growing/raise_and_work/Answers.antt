@@ -1,10 +1,16 @@
+use Rattle.std.proofs.Common.{◌∙◌}
 use Rattle.closing.proofs.Grown.{splits_raised}
 use Rattle.closing.proofs.growing.raise_and_work.Goals as goal
 
 pub returns-clause-listed : goal.returns-clause-listed
-returns-clause-listed c = rw (c.raise-raised.ensures.neighbours, c.raise-raised.ensures.region) at c.work_at.ensures.listed
+returns-clause-listed c =
+    let bare = c.in_ok-bare.ensures in
+    let raised = c.raise-raised.ensures in
+    rw (bare.neighbours ∙ raised.neighbours, bare.region ∙ raised.region) at c.work_at.ensures.listed
 
 pub returns-clause-split : goal.returns-clause-split
 returns-clause-split c =
+    let bare = c.in_ok-bare.ensures in
     let raised = c.raise-raised.ensures in
-    splits_raised c.args.leaf c.raise-raised.result.priced c.args.growth.now _ c.work_at.result raised.problem raised.region raised.neighbours c.work_at.ensures.split
+    splits_raised c.args.leaf c.in_ok-bare.bare.priced c.args.growth.now _ c.work_at.result (bare.problem ∙ raised.problem) (bare.region ∙ raised.region)
+    (bare.neighbours ∙ raised.neighbours) c.work_at.ensures.split

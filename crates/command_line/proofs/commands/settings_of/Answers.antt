@@ -37,3 +37,8 @@ pub returns-in_err-gap : goal.returns-in_err-gap
 returns-in_err-gap c =
     rw c.from_residual-in_err-gap.ensures (no_number (codes "gap") (λ s. s.gap) (rows_of (found_of c.args.found.now))
     (λ settings has. has.gap_is) (rw c.in_err-gap.was at c.number_of-7.ensures))
+
+pub returns-in_err-sets : goal.returns-in_err-sets
+returns-in_err-sets c =
+    rw c.from_residual-in_err-sets.ensures (no_number (codes "sets") (λ s. s.sets) (rows_of (found_of c.args.found.now))
+    (λ settings has. has.sets_are) (rw c.in_err-sets.was at c.number_of-8.ensures))

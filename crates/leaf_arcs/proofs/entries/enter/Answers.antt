@@ -1,6 +1,6 @@
 use Rattle.std.proofs.Common.{◌-◌, length, arith, sym, ◌∙◌}
 use Rattle.leaf_arcs.specs.Sets.{set_of}
-use Rattle.leaf_arcs.proofs.Entering.{entering_none, entering_more, entering_low, entered_all, member_known}
+use Rattle.solomon_reader.specs.EntryLaws.{entering_none, entering_more, entering_low, entered_all, member_known}
 use Rattle.leaf_arcs.proofs.entries.enter.Goals as goal
 
 pub loop-member-init : goal.loop-member-init

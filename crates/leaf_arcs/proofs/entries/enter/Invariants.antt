@@ -1,5 +1,5 @@
 use Rattle.leaf_arcs.specs.Sets.{set_of}
-use Rattle.leaf_arcs.proofs.Entering.{Entering}
+use Rattle.solomon_reader.specs.EntryLaws.{Entering}
 use Rattle.leaf_arcs.proofs.entries.enter.Given as goal
 
 abbrev pub invariant-loop-member : goal.invariant-loop-member

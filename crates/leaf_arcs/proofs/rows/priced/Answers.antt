@@ -1,6 +1,6 @@
 use Rattle.std.proofs.Common.{arith}
 use Rattle.leaf_arcs.specs.Leaves.{sets_in}
-use Rattle.leaf_arcs.proofs.Entering.{paid_low}
+use Rattle.solomon_reader.specs.EntryLaws.{paid_low}
 use Rattle.leaf_arcs.proofs.rows.priced.Goals as goal
 
 pub payment-requires-clause-grains : goal.payment-requires-clause-grains

@@ -10,8 +10,8 @@ returns-clause-parted c =
     (rw (c.instance.ensures, c.region.ensures.value) at c.in_ok-prices.ensures.settling)
     (rw c.instance.ensures at c.in_ok-prices.ensures.problem)
     (record {
-      problem = is.problem ∙ task.instance ∙ c.task.ensures.instance;
-      region = is.region ∙ task.region ∙ c.task.ensures.region;
-      neighbours = is.neighbours ∙ task.neighbours ∙ c.task.ensures.neighbours;
+      problem = is.problem ∙ task.instance;
+      region = is.region ∙ task.region;
+      neighbours = is.neighbours ∙ task.neighbours;
     })
-    (rw task.prices at is.prices) is.valued
+    (is.prices ∙ task.prices) (is.sets ∙ task.sets) is.valued

@@ -1,4 +1,4 @@
-use Rattle.std.proofs.Common.{◌≡◌, ◌≤◌}
+use Rattle.std.proofs.Common.{◌≡◌, ◌≤◌, []}
 use Rattle.leaf_work.proofs.refuting.start_without_plan.Given as goal
 
 abbrev pub invariant-loop-row : goal.invariant-loop-row
@@ -7,4 +7,5 @@ invariant-loop-row l = record {
   region : l.best.region ≡ l.fn.root.region;
   neighbours : l.best.neighbours ≡ l.fn.root.neighbours;
   not_lower : l.fn.root.value ≤ l.best.value;
+  no_sets : l.fn.root.sets ≡ [] → l.best.sets ≡ [];
 }

@@ -1,5 +1,5 @@
 use Rattle.std.proofs.Common.{◌<◌, length, arith}
-use Rattle.leaf_arcs.proofs.Entering.{price_within}
+use Rattle.solomon_reader.specs.EntryLaws.{price_within}
 use Rattle.tree_bound.proofs.value.leaf_sum.Goals as goal
 
 pub needs_of-requires-clause-within : goal.needs_of-requires-clause-within

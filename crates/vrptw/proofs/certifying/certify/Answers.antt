@@ -1,5 +1,8 @@
 use Rattle.std.proofs.Common.{◌≡◌, refl, subst, sym, ◌∙◌, arith}
+use Rattle.std.specs.Prelude.{map}
 use Rattle.solomon_reader.specs.CertificateText.{Content, HasText}
+use Rattle.priced_sets.specs.Sets.{listed_set}
+use Rattle.incumbent_book.specs.Contents.{version_of}
 use Rattle.vrptw.specs.Certified.{IsCertified}
 use Rattle.vrptw.proofs.TreeTexts.{content, certified}
 use Rattle.vrptw.proofs.certifying.certify.Goals as goal
@@ -7,22 +10,25 @@ use Rattle.vrptw.proofs.certifying.certify.Goals as goal
 pub returns-in-Ok-clause-certified : goal.returns-in-Ok-clause-certified
 returns-in-Ok-clause-certified c =
     let p = c.args.instance.now in
-    let k = c.args.neighbours in
-    let listed = c.requires.tree.1 in
-    let nodes = c.in_ok-certificate_nodes.ensures ∙ listed.listed in
-    let same : c.in-Ok.cert ≡ content p k c.args.bound listed.tree = rw (c.in-Ok.ensures.holds, c.in_ok-from_slice.ensures.items, c.name.ensures, c.customer_count.ensures.value, nodes) refl in
-    subst (λ (x : Content). IsCertified p k x) (sym same)
-    (certified p k c.args.bound c.requires.tree.0 c.args.nodes.items listed c.law_of_limits.ensures.limits c.requires.few
+    let settings = c.args.settings.now in
+    let sets = map listed_set c.args.sets.items in
+    let tree = c.requires.tree in
+    let nodes = c.in_ok-certificate_nodes.ensures ∙ tree.tree.listed in
+    let same : c.in-Ok.cert ≡ content (version_of settings.sets sets) p settings.neighbours c.args.bound tree.tree.tree =
+    rw (c.in-Ok.ensures.holds, c.in_ok-version_for.ensures, c.in_ok-from_slice.ensures.items, c.name.ensures, c.customer_count.ensures.value, nodes) refl in
+    subst (λ (x : Content). IsCertified p settings x) (sym same)
+    (certified p settings sets c.args.bound c.args.nodes.items tree c.law_of_limits.ensures.limits c.requires.few
     (omega (arith, c.get-within.ensures.value, c.get-within.ensures.within)) c.requires.most)
 
 pub unreachable-requires : goal.unreachable-requires
 unreachable-requires c =
     let p = c.args.instance.now in
-    let k = c.args.neighbours in
-    let listed = c.requires.tree.1 in
-    let nodes = c.in_ok-certificate_nodes.ensures ∙ listed.listed in
-    let is = certified p k c.args.bound c.requires.tree.0 c.args.nodes.items listed c.law_of_limits.ensures.limits c.requires.few
+    let settings = c.args.settings.now in
+    let sets = map listed_set c.args.sets.items in
+    let tree = c.requires.tree in
+    let nodes = c.in_ok-certificate_nodes.ensures ∙ tree.tree.listed in
+    let is = certified p settings sets c.args.bound c.args.nodes.items tree c.law_of_limits.ensures.limits c.requires.few
     (omega (arith, c.get-within.ensures.value, c.get-within.ensures.within)) c.requires.most in
-    let text : HasText (content p k c.args.bound listed.tree) = record { certificate = is.certificate; shaped = is.shaped; is = is.is } in
+    let text : HasText (content (version_of settings.sets sets) p settings.neighbours c.args.bound tree.tree.tree) = record { certificate = is.certificate; shaped = is.shaped; is = is.is } in
     let no = c.in-Err.ensures.refused c.in-NotACertificate.is in
-    no (rw (c.in_ok-from_slice.ensures.items, c.name.ensures, c.customer_count.ensures.value, nodes) text)
+    no (rw (c.in_ok-version_for.ensures, c.in_ok-from_slice.ensures.items, c.name.ensures, c.customer_count.ensures.value, nodes) text)

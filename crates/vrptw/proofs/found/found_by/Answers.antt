@@ -9,8 +9,12 @@ returns-clause-found c =
     let tree = parts.nodes in
     record {
       plan = rw parts.plan (own_plan b.problem b.incumbent parts.book.plan);
-      few = few_neighbours b parts.book tree.0 tree.1;
+      few = rw (← c.requires.neighbours) (few_neighbours b parts.book tree.0 tree.1);
       most = parts.bound.ceiling;
-      leaves = leaf_count tree.0;
-      tree = outcome_tree b parts.book tree.0 tree.1 c.in_ok-plan.bound parts.bound c.in_ok-plan.nodes.items tree.2;
+      tree = rw (parts.sets, ← c.requires.neighbours, ← c.requires.sets) (record {
+        few = parts.book.few;
+        listed = parts.book.known;
+        leaves = leaf_count tree.0;
+        tree = outcome_tree b parts.book tree.0 tree.1 c.in_ok-plan.bound parts.bound c.in_ok-plan.nodes.items tree.2;
+      });
     }

@@ -10,5 +10,5 @@ returns-clause-solved g c text is =
 -- nor is the run's plan dearer than the start
 pub returns-clause-at_most : goal.returns-clause-at_most
 returns-clause-at_most g c =
-    at_most c.args.instance.now c.args.settings.now.neighbours c.args.start c.in_ok-found.found.plan c.in_ok-found.found.bound _ _ _ _ c.requires
+    at_most c.args.instance.now c.args.settings.now c.args.start c.in_ok-found.found.plan c.in_ok-found.found.bound _ _ _ _ c.requires
     (rw c.in_ok-found.ensures.plan c.in_ok-outcome.ensures.no_dearer) c.write_found.result c.write_found.ensures

@@ -6,7 +6,7 @@ use Rattle.vrptw.proofs.writing.write_bound.Goals as goal
 pub returns-in-Ok : goal.returns-in-Ok
 returns-in-Ok g c = record {
   text = certificate_text c.requires.certificate;
-  is = bound_text c.args.instance.now c.args.neighbours c.args.cert.now c.requires;
+  is = bound_text c.args.instance.now c.args.settings.now c.args.cert.now c.requires;
   takes = c.in-Ok.ensures.text c.requires.certificate c.requires.is;
 }
 
@@ -15,7 +15,7 @@ returns-in-Err g c = (
   refl,
   record {
     text = certificate_text c.requires.certificate;
-    is = bound_text c.args.instance.now c.args.neighbours c.args.cert.now c.requires;
+    is = bound_text c.args.instance.now c.args.settings.now c.args.cert.now c.requires;
     fails = c.in-Err.ensures.text c.requires.certificate c.requires.is;
   },
 )

@@ -1,4 +1,3 @@
-use Rattle.std.proofs.Common.{◌≡◌, ◌^◌, ◌-◌, arith, ap}
 use Rattle.std.proofs.lemmas.Nat.Bits.{bit_at_ones}
 use Rattle.std.proofs.lemmas.Bool.{eq-eqb}
 use Rattle.fronts.proofs.memory.Memory.full.Goals as goal

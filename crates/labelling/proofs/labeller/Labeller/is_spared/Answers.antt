@@ -1,4 +1,4 @@
-use Rattle.std.proofs.Common.{ℕ, ◌^◌, ◌<◌, get_or, arith}
+use Rattle.std.proofs.Common.{◌<◌, get_or, arith}
 use Rattle.fronts.specs.declared.memory.Memory.{Memory}
 use Rattle.labelling.specs.Search.{pricing_in}
 use Rattle.labels.proofs.SparedSteps.{spared_by}

@@ -1,6 +1,6 @@
-use Rattle.std.proofs.Common.{◌≡◌, ◌<◌, ℕ, length, get_or, ap, arith, to_z, of_z, w64}
-use Rattle.std.specs.Prelude.{ℤ, pos, ◌+ℤ◌}
-use Rattle.std.proofs.lemmas.Int.{ints, to_z-of_z}
+use Rattle.std.proofs.Common.{◌≡◌, ℕ, get_or, ap, arith}
+use Rattle.std.specs.Prelude.{ℤ, pos}
+use Rattle.std.proofs.lemmas.Int.{ints}
 use Rattle.labels.specs.Arena.{state_at}
 use Rattle.labelling.specs.Search.{pricing_in}
 use Rattle.labelling.proofs.Advancing.{step_beyond}

@@ -1,24 +1,19 @@
--- What steps are paid for the sets that they enter.
+-- What steps are paid for the sets that they enter: one set after the other, each a member after the other.
 use Rattle.std.proofs.Common.{◌≡◌, refl, ℕ, zero, suc, ◌+◌, ◌<◌, ◌≤◌, Bool, true, false, cond, not, ◌&&◌, List, [], ◌∷◌, length, drop, get_or, set, arith, ap, sym, ◌∙◌, inl, inr, ne_eqb}
-use Rattle.std.specs.Prelude.{◌==◌, ℤ, pos, nat_abs}
-use Rattle.std.proofs.lemmas.Bool.{cases_eq, or_from, eq-eqb}
+use Rattle.std.specs.Prelude.{ℤ, pos, nat_abs, map}
+use Rattle.std.proofs.lemmas.Bool.{cases_eq, eq-eqb}
 use Rattle.std.proofs.lemmas.Grind.{get_or-set_at}
 use Rattle.std.proofs.lemmas.List.{drop_more, at_drop_more, at_drop_all, get_or-set_other, length-set}
 use Rattle.std.proofs.lemmas.List.Sums.{sum_by-cons}
 use Rattle.std.specs.List.{AllByRecursion}
 use Rattle.solomon_reader.specs.Plan.{Arc}
 use Rattle.solomon_reader.specs.CustomerSets.{IsCustomerSet, IsRisingFrom, holds, enters}
-use Rattle.solomon_reader.specs.SetPrices.{PricedSet, paid_over}
-use Rattle.leaf_arcs.specs.declared.priced_set.PricedSet as raw
-use Rattle.leaf_arcs.specs.Sets.{set_of, sets_of, price_sum, IsEntered, ArePaid}
-
--- a rising list has nothing up to where it begins
-holds_low : (s : List ℕ) (low i : ℕ) → IsRisingFrom low s → i ≤ low → holds s i ≡ false
-holds_low [] low i h k = refl
-holds_low (j ∷ s) low i h k = or_from (j == i) (holds s i) (ne_eqb j i (λ e. omega (arith, h.0, k, e))) (holds_low s j i h.1 (omega (arith, h.0, k)))
+use Rattle.solomon_reader.specs.SetPrices.{PricedSet, paid_over, price_sum}
+use Rattle.solomon_reader.specs.EntryPrices.{IsEntered, ArePaid}
+use Rattle.solomon_reader.specs.SetLaws.{holds_low}
 
 -- the members after one are above it
-rising_after : (s : List ℕ) (low i : ℕ) → IsRisingFrom low s → i < length s → IsRisingFrom (get_or s i 0) (drop (i + 1) s)
+pub rising_after : (s : List ℕ) (low i : ℕ) → IsRisingFrom low s → i < length s → IsRisingFrom (get_or s i 0) (drop (i + 1) s)
 rising_after [] low i rising within = absurd (omega arith)
 rising_after (m ∷ s) low zero rising within = rising.1
 rising_after (m ∷ s) low (suc i) rising within = let e : suc i + 1 ≡ suc (i + 1) = omega arith in rw e (rising_after s m i rising.1 (omega arith))
@@ -29,7 +24,7 @@ member_known n [] i within all = absurd (omega arith)
 member_known n (j ∷ s) zero within all = all.0
 member_known n (j ∷ s) (suc i) within all = member_known n s i (omega arith) all.1
 
-cond_low : (b : Bool) (m : ℕ) → cond b m 0 ≤ m
+pub cond_low : (b : Bool) (m : ℕ) → cond b m 0 ≤ m
 cond_low true m = omega arith
 cond_low false m = omega arith
 
@@ -112,34 +107,34 @@ price_within sum most (z ∷ prices) zero within all = all.0
 price_within sum most (z ∷ prices) (suc i) within all = price_within sum most prices i (omega arith) all.1
 
 -- each of the sets is one
-pub set_known : (n : ℕ) (sets : List raw.PricedSet) (i : ℕ) (d : raw.PricedSet) → i < length sets → AllByRecursion (λ s. IsCustomerSet n s.members) (sets_of sets)
-    → IsCustomerSet n (get_or sets i d).members.now
-set_known n [] i d within all = absurd (omega arith)
-set_known n (s ∷ sets) zero d within all = all.0
-set_known n (s ∷ sets) (suc i) d within all = set_known n sets i d (omega arith) all.1
+pub set_known : {X : Type 0} (f : X → PricedSet) (n : ℕ) (sets : List X) (i : ℕ) (d : X) → i < length sets → AllByRecursion (λ s. IsCustomerSet n s.members) (map f sets)
+    → IsCustomerSet n (f (get_or sets i d)).members
+set_known f n [] i d within all = absurd (omega arith)
+set_known f n (s ∷ sets) zero d within all = all.0
+set_known f n (s ∷ sets) (suc i) d within all = set_known f n sets i d (omega arith) all.1
 
 -- what steps from v are paid by the sets before i
-pub record Paying (sets : List raw.PricedSet) (v n : ℕ) (paid : List ℕ) (i : ℕ) : Type 0 where
+pub record Paying {X : Type 0} (f : X → PricedSet) (sets : List X) (v n : ℕ) (paid : List ℕ) (i : ℕ) : Type 0 where
   pub count : length paid ≡ n + 1
-  pub each : (j : ℕ) → j < n + 1 → get_or paid j 0 + paid_over (sets_of (drop i sets)) (v, j) ≡ paid_over (sets_of sets) (v, j)
-  pub low : (j : ℕ) → j < n + 1 → get_or paid j 0 + price_sum (sets_of (drop i sets)) ≤ price_sum (sets_of sets)
+  pub each : (j : ℕ) → j < n + 1 → get_or paid j 0 + paid_over (map f (drop i sets)) (v, j) ≡ paid_over (map f sets) (v, j)
+  pub low : (j : ℕ) → j < n + 1 → get_or paid j 0 + price_sum (map f (drop i sets)) ≤ price_sum (map f sets)
 
-module _ (sets : List raw.PricedSet) (v n : ℕ) where
-  pub paying_none : (paid : List ℕ) → length paid ≡ n + 1 → ((j : ℕ) → j < n + 1 → get_or paid j 0 ≡ 0) → Paying sets v n paid 0
+module _ {X : Type 0} (f : X → PricedSet) (sets : List X) (v n : ℕ) where
+  pub paying_none : (paid : List ℕ) → length paid ≡ n + 1 → ((j : ℕ) → j < n + 1 → get_or paid j 0 ≡ 0) → Paying f sets v n paid 0
   paying_none paid count none = record { count = count; each = λ j below. omega (arith, none j below); low = λ j below. omega (arith, none j below) }
 
   -- the sets from one on
-  one_more : (i : ℕ) (d : raw.PricedSet) → i < length sets → (a : Arc)
-      → paid_over (sets_of (drop i sets)) a ≡ cond (enters (get_or sets i d).members.now a) (get_or sets i d).price 0 + paid_over (sets_of (drop (i + 1) sets)) a
-  one_more i d within a = at_drop_more (λ (xs : List raw.PricedSet). paid_over (sets_of xs) a) sets i d within
-      ∙ sum_by-cons (λ (t : PricedSet). cond (enters t.members a) t.price 0) (set_of (get_or sets i d)) (sets_of (drop (i + 1) sets))
+  one_more : (i : ℕ) (d : X) → i < length sets → (a : Arc)
+      → paid_over (map f (drop i sets)) a ≡ cond (enters (f (get_or sets i d)).members a) (f (get_or sets i d)).price 0 + paid_over (map f (drop (i + 1) sets)) a
+  one_more i d within a = at_drop_more (λ (xs : List X). paid_over (map f xs) a) sets i d within
+      ∙ sum_by-cons (λ (t : PricedSet). cond (enters t.members a) t.price 0) (f (get_or sets i d)) (map f (drop (i + 1) sets))
 
-  sum_more : (i : ℕ) (d : raw.PricedSet) → i < length sets → price_sum (sets_of (drop i sets)) ≡ (get_or sets i d).price + price_sum (sets_of (drop (i + 1) sets))
-  sum_more i d within = at_drop_more (λ (xs : List raw.PricedSet). price_sum (sets_of xs)) sets i d within
-      ∙ sum_by-cons (λ (t : PricedSet). t.price) (set_of (get_or sets i d)) (sets_of (drop (i + 1) sets))
+  sum_more : (i : ℕ) (d : X) → i < length sets → price_sum (map f (drop i sets)) ≡ (f (get_or sets i d)).price + price_sum (map f (drop (i + 1) sets))
+  sum_more i d within = at_drop_more (λ (xs : List X). price_sum (map f xs)) sets i d within
+      ∙ sum_by-cons (λ (t : PricedSet). t.price) (f (get_or sets i d)) (map f (drop (i + 1) sets))
 
-  module _ (paid : List ℕ) (i : ℕ) (h : Paying sets v n paid i) where
-    pub paying_more : (d : raw.PricedSet) (after : List ℕ) → i < length sets → IsEntered (set_of (get_or sets i d)) v paid after → Paying sets v n after (i + 1)
+  module _ (paid : List ℕ) (i : ℕ) (h : Paying f sets v n paid i) where
+    pub paying_more : (d : X) (after : List ℕ) → i < length sets → IsEntered (f (get_or sets i d)) v paid after → Paying f sets v n after (i + 1)
     paying_more d after within entered = record {
       count = entered.count ∙ h.count;
       each = λ j below. omega (arith, h.each j below, entered.each j (omega (arith, below, h.count)), one_more i d within (v, j));
@@ -148,14 +143,14 @@ module _ (sets : List raw.PricedSet) (v n : ℕ) where
         h.low j below,
         entered.each j (omega (arith, below, h.count)),
         sum_more i d within,
-        cond_low (enters (get_or sets i d).members.now (v, j)) (get_or sets i d).price,
+        cond_low (enters (f (get_or sets i d)).members (v, j)) (f (get_or sets i d)).price,
       );
     }
 
-    pub paying_low : (d : raw.PricedSet) (most : ℕ) → i < length sets → price_sum (sets_of sets) ≤ most → (j : ℕ) → j < length paid → get_or paid j 0 + (get_or sets i d).price ≤ most
+    pub paying_low : (d : X) (most : ℕ) → i < length sets → price_sum (map f sets) ≤ most → (j : ℕ) → j < length paid → get_or paid j 0 + (f (get_or sets i d)).price ≤ most
     paying_low d most within all j below = omega (arith, h.low j (omega (arith, below, h.count)), sum_more i d within, all)
 
-    pub paying_all : length sets ≤ i → ArePaid (sets_of sets) v n paid
+    pub paying_all : length sets ≤ i → ArePaid (map f sets) v n paid
     paying_all all = record {
-      each = λ j le. omega (arith, h.each j (omega (arith, le)), at_drop_all (λ (xs : List raw.PricedSet). paid_over (sets_of xs) (v, j)) sets i all);
+      each = λ j le. omega (arith, h.each j (omega (arith, le)), at_drop_all (λ (xs : List X). paid_over (map f xs) (v, j)) sets i all);
     }

@@ -1,0 +1,10 @@
+use Rattle.std.proofs.lemmas.Result.{on_ok_weaker, IfErr-weaker}
+use Rattle.priced_sets.specs.Sets.{sets_of}
+use Rattle.incumbent_book.proofs.SetLists.{grown_both, unlisted_after}
+use Rattle.incumbent_book.proofs.set_list.gather_both.Goals as goal
+
+pub returns-clause-ok : goal.returns-clause-ok
+returns-clause-ok c = on_ok_weaker c.gather-2.result (grown_both c.args.most (sets_of c.args.first.now) (sets_of c.args.second.now) _ _ _ c.in_ok-gather.ensures.ok) c.gather-2.ensures.ok
+
+pub returns-clause-err : goal.returns-clause-err
+returns-clause-err c = IfErr-weaker c.gather-2.result _ _ (unlisted_after c.args.most (sets_of c.args.first.now) (sets_of c.args.second.now) _ _ c.in_ok-gather.ensures.ok) c.gather-2.ensures.err

@@ -1,0 +1,13 @@
+-- Customers' prices beside those of sets.
+use Rattle.std.proofs.Common.{◌≡◌, ◌+◌, ◌≤◌, ℕ, List, arith}
+use Rattle.std.specs.Prelude.{ℤ, nat_abs}
+use Rattle.std.specs.List.{AllByRecursion}
+use Rattle.solomon_reader.specs.AmongLaws.{weaker}
+use Rattle.solomon_reader.specs.SetPrices.{PricedSet, price_sum}
+use Rattle.solomon_reader.specs.declared.limits.TheConstants.{MOST_PRICE}
+use Rattle.priced_sets.specs.Sets.{IsWithin}
+
+-- prices that leave room for those of sets are in their range beside them
+pub within_room : (sets : List PricedSet) (most : ℕ) (prices : List ℤ) → price_sum sets + most ≡ MOST_PRICE → AllByRecursion (λ z. nat_abs z ≤ most) prices
+    → AllByRecursion (IsWithin sets) prices
+within_room sets most prices room all = weaker (λ z. nat_abs z ≤ most) (IsWithin sets) (λ z h. omega (arith, h, room)) prices all
