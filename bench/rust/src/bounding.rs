@@ -5,6 +5,7 @@ use crate::insertion::{Weights, build_whole};
 use crate::leaf_work::{
     ChildStart, Children, Effort, Goal, Parted, PricingState, RoutePool, counted_routes, first_leaf, goal_of, part, raise,
 };
+use crate::priced_sets::PricedSet;
 use crate::prices::Priced;
 use crate::shim::Global;
 use crate::solomon_reader::Instance;
@@ -102,6 +103,8 @@ struct Tree<'i> {
     cost: Option<Tenths>,
     routes: u16,
     labels: usize,
+    /// How many sets each worker may find.
+    sets: usize,
     /// What all turns are worth, in looks.
     looks: u64,
     /// The least value of the leaves that no arc is left to split.
@@ -110,7 +113,7 @@ struct Tree<'i> {
 
 impl<'i> Tree<'i> {
     /// The tree of the root: with the routes of a built plan, or without one where no cost is given.
-    fn new(nearness: &'i Nearness<'i>, workers: u64, turns: u32, cost: Option<Tenths>) -> Tree<'i> {
+    fn new(nearness: &'i Nearness<'i>, workers: u64, turns: u32, cost: Option<Tenths>, sets: u64) -> Tree<'i> {
         let instance = nearness.instance;
         let plan = build_whole(Global, instance, &Weights::plain()).unwrap().filter(|_| cost.is_some());
         let routes = plan.as_ref().map(|plan| plan.routes());
@@ -138,6 +141,7 @@ impl<'i> Tree<'i> {
             cost,
             routes: counted_routes(instance, routes),
             labels,
+            sets: (sets / workers) as usize,
             looks: worth_of(instance) * u64::from(turns),
             settled: i128::MAX,
         }
@@ -165,7 +169,7 @@ impl<'i> Tree<'i> {
     }
 
     fn goal(&self, number: usize, leaf: &Priced<'i>, is_again: bool) -> Goal {
-        let effort = Effort { root_pricings: ROOT_PRICINGS, labels: Some(self.labels), looks: self.looks };
+        let effort = Effort { root_pricings: ROOT_PRICINGS, sets: self.sets, labels: Some(self.labels), looks: self.looks };
         let mut goal = goal_of(leaf, self.cost, self.routes, self.target, effort);
         if is_again {
             goal.rise = self.bounders[number].pool.rise();
@@ -219,8 +223,9 @@ impl<'i> Tree<'i> {
             return Outcome::Raised(raised.priced);
         }
         if raised.priced.region().is_root() {
-            bounder.idle = if is_raised { 0 } else { bounder.idle + 1 };
-            bounder.current = (bounder.idle <= patience || number > 0).then_some(open.place);
+            bounder.idle = if is_raised || raised.added > 0 { 0 } else { bounder.idle + 1 };
+            let stays = bounder.idle <= patience || number > 0;
+            bounder.current = stays.then_some(open.place);
         }
         if bounder.current.is_some() {
             return if is_raised { Outcome::Raised(raised.priced) } else { Outcome::Same };
@@ -289,15 +294,38 @@ impl<'i> Tree<'i> {
         }
     }
 
+    /// The sets that have a price at a leaf, each once.
+    fn listed(&self) -> std::vec::Vec<(std::vec::Vec<u16>, u32)> {
+        let mut listed: std::vec::Vec<(std::vec::Vec<u16>, u32)> = vec![];
+        for place in 0..self.nodes.len() {
+            for set in self.leaf(place).map_or(&[][..], |leaf| leaf.sets()) {
+                if !listed.iter().any(|(members, _)| *members == set.members.0) {
+                    listed.push((set.members.0.clone(), set.need));
+                }
+            }
+        }
+        listed
+    }
+
+    /// The line of a leaf's sets.
+    fn set_line(leaf: &Priced<'i>, listed: &[(std::vec::Vec<u16>, u32)]) -> String {
+        let place = |set: &PricedSet| listed.iter().position(|(members, _)| *members == set.members.0);
+        let mut words: std::vec::Vec<(usize, u64)> =
+            leaf.sets().iter().map(|set| (place(set).expect("a set") + 1, set.price)).collect();
+        words.sort();
+        words.iter().fold("M".to_string(), |line, (set, price)| format!("{line} {set} {price}")) + "\n"
+    }
+
     /// The lines of the nodes from a place on, in preorder.
-    fn lines_from(&self, place: usize) -> String {
+    fn lines_from(&self, place: usize, listed: &[(std::vec::Vec<u16>, u32)]) -> String {
         match &self.nodes[place] {
             Node::Leaf(leaf) => {
                 let words: std::vec::Vec<String> = leaf.prices().iter().map(i64::to_string).collect();
-                format!("P {}\n", words.join(" "))
+                let sets = if self.sets == 0 { String::new() } else { Self::set_line(leaf, listed) };
+                format!("P {}\n{sets}", words.join(" "))
             }
             Node::Split { from, to, used, unused } => {
-                format!("S {from} {to}\n{}{}", self.lines_from(*used), self.lines_from(*unused))
+                format!("S {from} {to}\n{}{}", self.lines_from(*used, listed), self.lines_from(*unused, listed))
             }
         }
     }
@@ -306,9 +334,15 @@ impl<'i> Tree<'i> {
     fn certificate(&self) -> String {
         let (above, count) = (i128::from(self.instance.ceiling().get()) + 1, self.instance.customer_count());
         let bound = self.bound(above);
+        let listed = self.listed();
+        let first = if self.sets == 0 { "VRPTW-CERT 2" } else { "VRPTW-SETS 1" };
+        let sets: String = listed.iter().map(|(members, need)| {
+            let words: std::vec::Vec<String> = members.iter().map(u16::to_string).collect();
+            format!("S {need} {}\n", words.join(" "))
+        }).collect();
         format!(
-            "VRPTW-CERT 2\nINSTANCE {}\nCUSTOMERS {count}\nNEIGHBOURS {NEIGHBOURS}\nBOUND {}.{}\nTREE\n{}END\n",
-            self.instance.name, bound / 10, bound % 10, self.lines_from(0)
+            "{first}\nINSTANCE {}\nCUSTOMERS {count}\nNEIGHBOURS {}\nBOUND {}.{}\n{sets}TREE\n{}END\n",
+            self.instance.name, NEIGHBOURS, bound / 10, bound % 10, self.lines_from(0, &listed)
         )
     }
 }
@@ -318,17 +352,26 @@ fn worth_of(instance: &Instance) -> u64 {
     CUSTOMER_LOOKS * u64::from(instance.customer_count()).max(LEAST_CUSTOMERS)
 }
 
-/// Prints leaves and bound after each tenth of the turns, and the seconds; without a plan where the cost is 0. Writes
-/// the certificate of the tree to a path, if there is one.
-pub fn tell(instance: &Instance, turns: u32, cost: u64, workers: u64, path: Option<&String>) {
+/// Prints leaves and bound after each tenth of the turns, and the seconds; without a plan where the cost is 0. So many
+/// sets may have prices. Writes the certificate of the tree to a path, if there is one.
+pub fn tell(instance: &Instance, turns: u32, cost: u64, workers: u64, sets: u64, path: Option<&String>) {
     let begin = Instant::now();
     let nearness = Nearness::new(Global, instance, NEIGHBOURS).unwrap();
-    let mut tree = Tree::new(&nearness, workers, turns, Tenths::new(cost).filter(|cost| cost.get() > 0));
+    let cost = Tenths::new(cost).filter(|cost| cost.get() > 0);
+    let mut tree = Tree::new(&nearness, workers, turns, cost, sets);
+    let mut closed = None;
     for turn in 1..=turns {
         tree.work(worth_of(instance) * u64::from(turn));
-        if turn % turns.div_ceil(10) == 0 || turn == turns {
+        if closed.is_none() && tree.is_closed() {
+            closed = Some(turn);
+        }
+        if turn % turns.div_ceil(10) == 0 || turn == turns || closed == Some(turn) {
             let bound = tree.bound(i128::from(tree.target));
-            println!("{turn} {} {}.{} {:.1}", tree.leaves(), bound / 10, bound % 10, begin.elapsed().as_secs_f64());
+            let seconds = begin.elapsed().as_secs_f64();
+            println!("{turn} {} {}.{} {seconds:.1} {}", tree.leaves(), bound / 10, bound % 10, tree.listed().len());
+        }
+        if closed.is_some() {
+            break;
         }
     }
     if let Some(path) = path {

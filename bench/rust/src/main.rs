@@ -20,6 +20,7 @@ mod measuring;
 mod moves;
 mod pooled_routes;
 mod price_way;
+mod priced_sets;
 mod prices;
 mod quick_routes;
 mod rand_core;
@@ -27,6 +28,8 @@ mod ruin;
 mod schedule;
 mod search;
 mod searching;
+mod set_finding;
+mod set_needs;
 mod segments;
 mod shim;
 mod solomon_reader;
@@ -43,7 +46,7 @@ fn main() {
         "ascent" => measuring::tell_ascent(&instance),
         "labels" => measuring::tell_labels(&instance, &words[3]),
         "check" => checking::tell(&instance, &words[3]),
-        "bound" => bounding::tell(&instance, number(3) as u32, number(4), number(5), words.get(6)),
+        "bound" => bounding::tell(&instance, number(3) as u32, number(4), number(5), number(6), words.get(7)),
         _ => searching::tell(&instance, number(3) as u32, number(4)),
     }
 }

@@ -28,6 +28,7 @@ pub fn tell_ascent(instance: &Instance) {
             idle_pricings: pricings,
             value: i128::MAX,
             routes: counted_routes(instance, None),
+            sets: 0,
             labels: Some(MOST_LABELS),
             looks: u64::MAX,
         };
