@@ -287,6 +287,8 @@ def run_check(program: str, instance: bytes, certificate: bytes, plan: Optional[
 # How much more turns each pair of rounds has, what part of the time left a round may be thought to take, and the most
 # turns that the program makes.
 GROWTH, PART, MOST_TURNS = 4, 0.85, 1_000_000
+# How many sets of customers may have prices in a tree, unless a caller says otherwise.
+SETS = 200
 # The counts of neighbours that rounds take in turn.
 NEIGHBOURS = (8, 12)
 
@@ -412,7 +414,8 @@ def _words(given: Mapping[str, Optional[int]]) -> list[str]:
 class Solving:
     """A work at an instance, which `run` does. `cancel` ends it from a callback, another thread or a signal handler.
 
-    The options are those of `vrptw solve`, whose defaults count where they are None; docs/formats.md has their limits.
+    The options are those of `vrptw solve`, whose defaults count where they are None, but for 200 sets; docs/formats.md
+    has their limits.
     With `seconds` it works in rounds of growing turns for at most so long, each from the best plan so far, and keeps
     the cheapest plan and the highest bound, as `outside/plan` does; `turns` can't be given then. Else one run is made.
     It ends sooner where no plan is cheaper, or at a gap of at most `gap` tenths of a percent of the cost. The answer
@@ -420,15 +423,17 @@ class Solving:
 
     def __init__(self, instance: Text, *, seconds: Optional[float] = None, turns: Optional[int] = None,
                  searchers: Optional[int] = None, bounders: Optional[int] = None, seed: Optional[int] = None,
-                 neighbours: Optional[int] = None, labels: Optional[int] = None, gap: Optional[int] = None,
-                 close: bool = False, leaves: Optional[int] = None, start: Optional[Plan] = None,
-                 on_progress: Optional[Callable[[Progress], None]] = None, program: Optional[str] = None) -> None:
+                 neighbours: Optional[int] = None, labels: Optional[int] = None, sets: Optional[int] = None,
+                 gap: Optional[int] = None, close: bool = False, leaves: Optional[int] = None,
+                 start: Optional[Plan] = None, on_progress: Optional[Callable[[Progress], None]] = None,
+                 program: Optional[str] = None) -> None:
         if seconds is not None and (turns is not None or close):
             raise ValueError("met seconds beside turns or close, wanted one of them")
         self.instance = _bytes(instance)
         self.start = None if start is None else _plan_bytes(self.instance, start)
         self.seconds, self.turns, self.seed, self.neighbours, self.gap = seconds, turns, seed, neighbours, gap
-        given = {"searchers": searchers, "bounders": bounders, "labels": labels, "gap": gap, "leaves": leaves}
+        given = {"searchers": searchers, "bounders": bounders, "labels": labels,
+                 "sets": SETS if sets is None else sets, "gap": gap, "leaves": leaves}
         self.options = _words(given)
         self.options += ["--close"] if close else []
         self.on_progress, self.program = on_progress, program or program_here()
@@ -529,10 +534,10 @@ class Solving:
 
 def solve(instance: Text, *, seconds: Optional[float] = None, turns: Optional[int] = None,
           searchers: Optional[int] = None, bounders: Optional[int] = None, seed: Optional[int] = None,
-          neighbours: Optional[int] = None, labels: Optional[int] = None, gap: Optional[int] = None,
-          close: bool = False, leaves: Optional[int] = None, start: Optional[Plan] = None,
+          neighbours: Optional[int] = None, labels: Optional[int] = None, sets: Optional[int] = None,
+          gap: Optional[int] = None, close: bool = False, leaves: Optional[int] = None, start: Optional[Plan] = None,
           on_progress: Optional[Callable[[Progress], None]] = None, program: Optional[str] = None) -> Answer:
     """Solves an instance: what `Solving` with these options comes to."""
     return Solving(instance, seconds=seconds, turns=turns, searchers=searchers, bounders=bounders, seed=seed,
-                   neighbours=neighbours, labels=labels, gap=gap, close=close, leaves=leaves, start=start,
+                   neighbours=neighbours, labels=labels, sets=sets, gap=gap, close=close, leaves=leaves, start=start,
                    on_progress=on_progress, program=program).run()

@@ -79,7 +79,7 @@ draw i.txt p.txt --names names.csv|0|-: </svg>
 draw i.txt p.txt --times|0|-: </svg>
 draw i.txt p.txt --tree k.txt|0|-: </svg>
 draw i.txt p.txt --tree sets.txt --names names.csv|0|-: Leaf 1 has the value 20.0,
-fewest i.txt --into f --seconds 30 --searchers 1 --bounders 1 --labels 1000 --neighbours 4 --seed 3|0|-: FEWEST 1 BEST
+fewest i.txt --into f --seconds 30 --searchers 1 --bounders 1 --labels 1000 --neighbours 4 --sets 3 --seed 3|0|-: FEWEST 1 BEST
 fewest i.txt --into f --seconds 30 --program {program} ; fewest i.txt --into f --check|0|-: FEWEST 1 BEST 20.0
 fewest i.txt --into few_held --seconds 30|0|few_held/1.certificate: VRPTW-SETS 1 & -: FEWEST 1 BEST 20.0
 fewest i.txt --into few_held --check|1|-: FEWEST 1 OPEN
@@ -94,7 +94,7 @@ plan geo.csv --into d --vehicles 5 --capacity 5 --speed 60 --detour 2 --seconds 
 plan german.csv --into d --column due=bis --vehicles 2 --capacity 5 --seconds 30|0|d/plan.txt: Cost 10.0
 plan i.txt --into d --names names.csv --fewest --drivers --seconds 30|0|d/drivers.html: </html> & d/fewest/1.plan & \
 d/names.csv: 2,b & -: No plan does without a vehicle.
-plan i.txt --into d --searchers 1 --bounders 1 --labels 1000 --neighbours 4 --seed 3 --gap 5 --seconds 30|0|\
+plan i.txt --into d --searchers 1 --bounders 1 --labels 1000 --neighbours 4 --sets 3 --seed 3 --gap 5 --seconds 30|0|\
 d/plan.txt: Cost 20.0
 plan i.txt --into d --seconds 30 --program {program}|0|-: 20.0
 plan i.txt --into held --seconds 30|0|held/certificate.txt: VRPTW-SETS 1 & -: 20.0
@@ -169,6 +169,7 @@ fewest i.txt --into f --seconds 0|--seconds|2|met "0"
 fewest i.txt --into f --searchers 33|--searchers|2|met "33"
 fewest i.txt --into f --bounders 0|--bounders|2|met "0"
 fewest i.txt --into f --labels x|--labels|2|met "x"
+fewest i.txt --into f --sets x|--sets|2|met "x"
 fewest i.txt --into f --neighbours 16|--neighbours|2|met "16"
 fewest i.txt --into f --seed -1|--seed|2|
 fewest i.txt --into f --program nowhere|--program|1|nowhere: met no program
@@ -193,6 +194,7 @@ plan i.txt --into d --names names3.csv|--names|1|names3.csv: line 4: met "3"
 plan i.txt --into d --searchers 0|--searchers|2|met "0"
 plan i.txt --into d --bounders 33|--bounders|2|met "33"
 plan i.txt --into d --labels 0|--labels|2|met "0"
+plan i.txt --into d --sets 1001|--sets|2|met "1001"
 plan i.txt --into d --neighbours x|--neighbours|2|met "x"
 plan i.txt --into d --seed x|--seed|2|met "x"
 plan i.txt --into d --gap 1001|--gap|2|met "1001"

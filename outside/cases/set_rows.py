@@ -165,7 +165,7 @@ def read_rows():
 
 
 # What set_prices found for files of bench/instances, with the best plans known; and trees that bench/as_rust closed
-# with bench/rust/sets.patch.
+# by an earlier form of `bench/as_rust bound`.
 FOUND = {"c1_25": "GAP 339.8 339.7", "rc1_25": "BEST 489.8", "c1_50": "GAP 679.8 676.7", "rc1_50": "GAP 908.1 906.5",
          "r1_50": "GAP 1109.2 1098.8", "c1_50_closed": "BEST 679.8", "rc1_50_closed": "BEST 908.1"}
 

@@ -89,9 +89,16 @@ def judge_same(program, folder, random, text, came, count, neighbours):
                             ["--bounders", "32"]], 2)
     again = solve(program, folder, text, options_of(count, neighbours) + others[0] + others[1])
     demand(again == came, "close: %r, with %d leaves and %r: %r" % (came, count, others, again))
+    *said, priced = solve(program, folder, text, options_of(count, neighbours) + ["--sets", str(random.randint(1, 1000))])
+    demand((*said, without_sets(priced)) == came, "close: %r, with sets: %r" % (came, priced))
     if count > 1:
         fewer = solve(program, folder, text, options_of(count - 1, neighbours))
         demand(fewer == ("", "vrptw: limit: LeafLimit\n", 7, b"", b""), "%d leaves, one fewer: %r" % (count, fewer))
+
+
+def without_sets(certificate):
+    """The certificate of version 2 that a certificate without sets' prices is beside its head."""
+    return certificate.replace(b"VRPTW-SETS 1\n", b"VRPTW-CERT 2\n", 1).replace(b"\nM\n", b"\n")
 
 
 def judge_more(program, folder, text, most, neighbours):

@@ -12,7 +12,8 @@ from reference import checking
 from reference.instances import read
 from reference.optimum import least_cost
 from reference.pricing import Pricing, leaves
-from reference.texts import TextFault, read_certificate, read_solution
+from reference.set_texts import read_either
+from reference.texts import TextFault, read_solution
 from tools.reasons import reasons
 
 # How many customers a file of a class has, and how many turns are made once a vehicle is taken away.
@@ -83,7 +84,7 @@ def judge_answer(program, folder, text, options):
     told = (out, errors, status)
     checked = run_check(program, folder, text, certificate, solution or None)
     demand(checked == told, "solve: %r, check: %r" % (told, checked))
-    added = by_values(read(text), read_certificate(certificate), solution, told)
+    added = by_values(read(text), read_either(certificate), solution, told)
     return out.split()[0], len(read_solution(solution)[0]) if solution else 0, added
 
 

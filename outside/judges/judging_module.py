@@ -8,7 +8,8 @@ from judges.running import demand, put
 from reference.building import build
 from reference.instances import is_plan, plan_cost, read
 from reference.optimum import least_cost
-from reference.texts import read_certificate, read_solution
+from reference.set_texts import read_either
+from reference.texts import read_solution
 from tools.respelling import text_of
 import vrptw
 
@@ -24,7 +25,7 @@ def judge_answer(instance, answer, cost):
     if answer.kind == "NO PLAN":
         demand(cost is None and answer.routes is None and not answer.plan and answer.cost is None, "%r" % answer)
         return
-    demand(answer.certificate and read_certificate(answer.certificate).bound == answer.bound_tenths, "%r" % answer)
+    demand(answer.certificate and read_either(answer.certificate).bound == answer.bound_tenths, "%r" % answer)
     demand(cost is None or answer.bound_tenths <= cost, "%r, and the least cost is %s" % (answer, cost))
     demand(answer.is_best == (answer.cost_tenths == answer.bound_tenths) == (answer.kind == "BEST"), "%r" % answer)
     if answer.kind in ("OPEN", "BOUND"):

@@ -8,7 +8,8 @@ import threading
 import time
 
 from judges.running import demand, got, put
-from reference.texts import read_certificate, read_solution, shown
+from reference.set_texts import read_either
+from reference.texts import read_solution, shown
 from tools.places import OUTSIDE
 import vrptw
 
@@ -110,7 +111,7 @@ def judge_by_module(folder, rows, right):
     demand((answer.kind, answer.cost_tenths, answer.bound_tenths) == (kind, cost, bound or 0), "%r, and %r is right" % (
         answer, right))
     demand(cost is None or read_solution(answer.plan) == ([[1, 2]], cost), "%r" % answer.plan)
-    demand(bound is None or read_certificate(answer.certificate).bound == bound, "%r" % answer.certificate)
+    demand(bound is None or read_either(answer.certificate).bound == bound, "%r" % answer.certificate)
     judge_words(folder, rows, OPTIONS)
 
 
@@ -139,7 +140,7 @@ def judge_by_step(folder, rows, right):
         demand(done is None, "done without a round: %r" % done)
         return
     demand(done and int(done.split()[0]) == (0 if is_closed else 1), "done: %r, and %r is right" % (done, right))
-    demand((read_solution(plan)[1] if plan else None, read_certificate(proof).bound) == (cost, bound), "%r, and %r" % (
+    demand((read_solution(plan)[1] if plan else None, read_either(proof).bound) == (cost, bound), "%r, and %r" % (
         (plan, proof), right))
     line = ("BEST %s" if is_closed else "OPEN %s" if cost is None else "GAP %s %s") % (
         (shown(bound),) if cost is None or is_closed else (shown(cost), shown(bound)))

@@ -9,7 +9,8 @@ from reference.building import build
 from reference.instances import plan_cost, read
 from reference.moving import descend, first_gain
 from reference.optimum import least_cost
-from reference.texts import TextFault, read_certificate, read_solution
+from reference.set_texts import read_either
+from reference.texts import TextFault, read_solution
 
 # How many threads of a kind: mostly few, for the sake of the machine.
 WORKERS = [1] * 12 + [2] * 8 + [3, 4, 5, 6, 7, 8]
@@ -17,7 +18,7 @@ WORKERS = [1] * 12 + [2] * 8 + [3, 4, 5, 6, 7, 8]
 FEW_LABELS = 100
 # By default; an option that isn't drawn stands here.
 DEFAULTS = {"searchers": 2, "bounders": 2, "turns": 200, "seed": 1, "neighbours": 8, "labels": 1000000,
-            "gap": 0}
+            "gap": 0, "sets": 0}
 # How many lists of stops are gone through for one leaf.
 FEW_ROUTES = 10_000
 # A line of `--progress`, or what `--live` writes on one line.
@@ -33,7 +34,8 @@ def drawn_options(random, most_turns):
              "seed": random.choice([0, 2 ** 32 - 1, random.randrange(2 ** 32), random.randrange(2 ** 32)]),
              "neighbours": random.randint(0, 15),
              "labels": random.choice([random.randint(1, 12), random.randint(10, 60), 1000, 10 ** 5, 10 ** 6, 10 ** 8]),
-             "gap": random.choice([0] * 8 + [random.randint(0, 1000), 1000])}
+             "gap": random.choice([0] * 8 + [random.randint(0, 1000), 1000]),
+             "sets": random.choice([0, 0, 0, random.randint(1, 4), random.randint(1, 40), 200, 1000])}
     return {name: value for name, value in drawn.items() if name == "turns" or random.randrange(10)}
 
 
@@ -82,7 +84,7 @@ def judge_run(program, folder, text, words, settings, is_small):
     demand(checked == told, "solve: %r, check: %r" % (said, checked))
     judge_plan(read(text), solution)
     if is_small:
-        judge_optimum(read(text), solution, read_certificate(certificate).bound, out)
+        judge_optimum(read(text), solution, read_either(certificate).bound, out)
     judge_texts(text, certificate, solution or None, told, settings)
     return out.split()[0]
 
@@ -124,8 +126,10 @@ def judge_progress(errors, out, settings):
 
 def judge_texts(text, certificate, solution, told, settings):
     """Both texts by the reference's checker, and what stands in the certificate's head."""
-    found = read_certificate(certificate)
-    demand(found.version == 2, "the certificate's version")
+    found = read_either(certificate)
+    begins = b"VRPTW-SETS 1\n" if settings["sets"] else b"VRPTW-CERT 2\n"
+    demand(certificate.startswith(begins) and found.version == 2, "the certificate's version")
+    demand(len(found.sets) <= settings["sets"], "the certificate's sets")
     demand(found.neighbours == settings["neighbours"], "the certificate's neighbours")
     checked = checking.check(text, certificate, solution, least)
     demand(checked == told, "solve: %r, reference: %r" % (told, checked))

@@ -6,6 +6,7 @@ from argparse import ArgumentTypeError
 
 from tools.judged import ran
 from tools.tool import Refused, content, quoted
+from vrptw import SETS
 
 OPTIONS = "options"
 WORD = re.compile(r"--[a-z]+(=[0-9]{1,12})?\Z|[0-9]{1,12}\Z")
@@ -68,6 +69,11 @@ def seeds_of(word):
     return found if len(set(found)) == len(found) <= MOST_SEEDS else None
 
 
+def with_sets(words):
+    """The words, with how many sets of customers may have prices where they don't say it."""
+    return words if any(word.split("=")[0] == "--sets" for word in words) else ["--sets", str(SETS), *words]
+
+
 def columns_of(sets, seeds):
     """A column for each set of options and each seed; sets without a name are named by their places. Raises
     `ValueError` with what is wrong."""
@@ -80,7 +86,7 @@ def columns_of(sets, seeds):
             raise ValueError("met --seed beside --seeds, wanted one of them")
         for seed in seeds or [None]:
             parts = ([label] if label else []) + ([] if seed is None else ["s%d" % seed])
-            found.append(Column(".".join(parts), rest + ([] if seed is None else ["--seed", str(seed)])))
+            found.append(Column(".".join(parts), with_sets(rest) + ([] if seed is None else ["--seed", str(seed)])))
     labels = [column.label for column in found]
     twice = next((label for label in labels if labels.count(label) > 1), None)
     if twice is not None:

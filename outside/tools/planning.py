@@ -10,7 +10,7 @@ from tools.respelling import certificate, text_of
 from tools.standing import CERTIFICATE, INSTANCE, NAMES, PLAN
 from tools.stopping import Patience
 from tools.tool import Refused, count
-from vrptw import NEIGHBOURS, Schedule, verdict_of
+from vrptw import NEIGHBOURS, SETS, Schedule, verdict_of
 
 START = "start.txt"
 # How many seconds the check of a certificate that stands goes on after a signal, from its start.
@@ -25,13 +25,15 @@ def add_solving(words):
     for name, low, high, told in HANDED_ON:
         words.add_argument("--" + name, type=count(low, high), metavar="N", help="%s, as solve has it" % told)
     words.add_argument("--neighbours", type=count(0, 15), metavar="N", help="in place of 8 and 12 in turn")
+    words.add_argument("--sets", type=count(0, 1000), default=SETS, metavar="N",
+                       help="sets of customers that may have prices in the proof (default %(default)s)")
     words.add_argument("--seed", type=count(0, 999_999_999), default=1, metavar="N", help="that of the first round")
 
 
 def handed_on(given):
-    """The options of solve that were given, as words."""
-    return [word for name, _, _, _ in HANDED_ON if getattr(given, name) is not None
-            for word in ("--" + name, str(getattr(given, name)))]
+    """The options of solve that were given, as words, and how many sets may have prices."""
+    names = [name for name, _, _, _ in HANDED_ON if getattr(given, name) is not None] + ["sets"]
+    return [word for name in names for word in ("--" + name, str(getattr(given, name)))]
 
 
 def held(path):
