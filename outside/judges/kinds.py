@@ -19,6 +19,7 @@ from judges.judging_carried import judge_carried
 from judges.judging_faults import judge_fault
 from judges.judging_fewest import judge_fewest
 from judges.judging_fleets import judge_fleets, judge_tight
+from judges.judging_joins import judge_join
 from judges.judging_layouts import judge_layout, judge_round_trip, judge_wrong_layout
 from judges.judging_literature import judge_literature
 from judges.judging_made_sets import judge_made, judge_priced
@@ -173,6 +174,8 @@ KINDS = {
                       program_by(judge_made)),
     "priced_sets": Kind("texts of set_prices: at most the least cost of all plans, and the line of recheck", 6,
                         program_by(judge_priced)),
+    "joins": Kind("certificates that grew from one, by join: the tree and bound of the reference, or refused", 24,
+                  program_by(judge_join)),
     "set_rows": Kind("certificates with sets, and what recheck and the reader say of them, by hand", len(SET_ROWS),
                      lambda programs, folder, random, seed: judge_set_row(programs.program, folder, seed), is_fixed=True),
     "batches": Kind("some instances by batch, and again with something changed in between", 6,

@@ -27,26 +27,49 @@ class Pricing:
         self.slot = min((instance.service(i) + instance.arc[i][j] for i in range(1, instance.count + 1)
                          for j in range(1, instance.count + 1) if i != j), default=instance.due(0) + 1)
 
-    def value(self, region, prices, priced=()):
-        """A leaf's value in tenths, by the definition; None where it has too many labels."""
+    def value(self, region, prices, priced=(), most=None):
+        """A leaf's value in tenths, by the definition, or that many at most, where a number is given: then only what
+        may make it less is looked at. None where it has too many labels."""
+        most = self.instance.ceiling() + 1 if most is None else min(most, self.instance.ceiling() + 1)
         try:
-            found = self.least(region, prices, priced)
+            found = self.least(region, prices, priced, self.limit(region, prices, priced, most))
         except TooMany:
             return None
         grains = leaf_grains(self.instance, prices, priced, self.version, found)
-        return min(self.instance.ceiling() + 1, max(0, -(-grains // 1000)))
+        return min(most, max(0, -(-grains // 1000)))
 
-    def least(self, region, prices, priced=()):
-        """The least reduced cost over all relaxed routes, or None."""
-        return self.cheapest(region, prices, priced, False)[0]
+    def limit(self, region, prices, priced, most):
+        """The least reduced cost with which a leaf's value is so many tenths or more; above all where there is none,
+        and where it isn't known that there is a relaxed route."""
+        spare = leaf_grains(self.instance, prices, priced, self.version, 0) - 1000 * (most - 1) - 1
+        if spare >= 0:
+            return -(spare // self.instance.fleet)
+        routes = self.instance.fewest_routes() if self.version == 2 else 0
+        return -(spare // routes) if routes and self.serves_one(region) else NEVER
 
-    def cheapest(self, region, prices, priced=(), keeps_routes=True):
+    def serves_one(self, region):
+        """Whether some customer may be served alone."""
+        instance = self.instance
+        for i in range(1, instance.count + 1):
+            begin = max(instance.ready(0) + instance.arc[0][i], instance.ready(i))
+            if (region.allows(0, i) and region.allows(i, 0) and instance.demand(i) <= instance.capacity
+                    and begin <= instance.due(i)
+                    and begin + instance.service(i) + instance.arc[i][0] <= instance.due(0)):
+                return True
+        return False
+
+    def least(self, region, prices, priced=(), limit=NEVER):
+        """The least reduced cost over all relaxed routes, or None; the limit, if there is one, where none costs
+        less."""
+        return self.cheapest(region, prices, priced, False, limit)[0]
+
+    def cheapest(self, region, prices, priced=(), keeps_routes=True, limit=NEVER):
         """The least reduced cost over all relaxed routes, or None, and routes that were met, with theirs: stops are
         linked, the last one first, where routes are to be kept. The label that may lead to the least cost is taken
-        first, so that the search is over where none may lead below the route found."""
+        first, so that the search is over where none may lead below the route found, or below the limit."""
         arc, ways, count = self.instance.arc, self.ways(region, prices, priced), 0
         floors, routes = self.floors(region, ways), []
-        held, found = [[] for _ in arc], NEVER
+        held, found = [[] for _ in arc], limit
         waiting = [(ALWAYS, 0, self.instance.ready(0), 0, 0, 0, ())]
         while waiting:
             least, load, begin, cost, memory, at, stops = heappop(waiting)

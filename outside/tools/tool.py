@@ -2,6 +2,7 @@
 import argparse
 import os
 import re
+import shutil
 import sys
 from codecs import BOM_UTF8, BOM_UTF16_BE, BOM_UTF16_LE
 from fractions import Fraction
@@ -241,6 +242,20 @@ def printed(text):
             sys.stdout.reconfigure(encoding="utf-8")
             sys.stdout.write(text)
             sys.stdout.flush()
+    except OSError as fault:
+        # What is still held back can't be written at the end either.
+        os.dup2(os.open(os.devnull, os.O_WRONLY), 1)
+        raise Refused("standard output: %s" % last_words(fault))
+
+
+def printed_file(path):
+    """Writes what a file holds on standard output, a piece at a time."""
+    try:
+        if sys.stdout is None:
+            raise Refused("standard output: met a closed one, wanted an open one")
+        with open(path, "rb") as file:
+            shutil.copyfileobj(file, sys.stdout.buffer, 1 << 20)
+        sys.stdout.flush()
     except OSError as fault:
         # What is still held back can't be written at the end either.
         os.dup2(os.open(os.devnull, os.O_WRONLY), 1)

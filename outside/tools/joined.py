@@ -1,0 +1,184 @@
+"""The text of joined certificates: its head, its bound as the check finds it, and what the check says of it."""
+import os
+import tempfile
+
+from reference.pricing import Pricing
+from reference.set_texts import FIRST, MOST_SETS, spaced
+from reference.texts import MOST_LEAVES, shown, tenths
+from tools.joining import Joining
+from tools.judged import program_of, ran
+from tools.pruning import Tree, pruned
+from tools.stopping import end_by_signals
+from tools.telling import Telling
+from tools.tool import Refused, last_words, printed_file, told_path
+from tools.tree_texts import TreeText, set_line
+from tools.valuing import Valuer, Valuers
+
+
+def texts_of(instance, paths):
+    """The texts, whose heads are those of one tree of the instance."""
+    texts = [TreeText(path) for path in paths]
+    tree = texts[0]
+    for text in texts:
+        if (text.name, text.count) != (instance.name, instance.count):
+            text.refuse("a certificate of another instance", "%s with %d customers" % (
+                instance.name.decode(), instance.count), 2)
+        if text.neighbours != tree.neighbours:
+            text.refuse("%d neighbours" % text.neighbours, "%d, as %s has" % (tree.neighbours, tree.path), 4)
+        if (text.kind == b"VRPTW-CERT 1") != (tree.kind == b"VRPTW-CERT 1"):
+            text.refuse('"%s"' % text.kind.decode(), '"%s", as %s has' % (tree.kind.decode(), tree.path), 1)
+    return texts
+
+
+class Joined:
+    """The joined certificate of an instance, which is made in a folder."""
+
+    def __init__(self, instance, given, folder):
+        self.instance, self.given, self.folder = instance, given, folder
+        self.texts = texts_of(instance, [given.tree] + given.parts)
+        self.joining, self.held = Joining(self.texts, self.valuers), None
+        self.sets, self.merged = self.joining.sets.listed, 0
+        self.telling = Telling("outside/join: ", is_elsewhere=False)
+
+    def path(self, name):
+        return os.path.join(self.folder, name)
+
+    def valuers(self):
+        """The processes that find values, which begin once they are needed."""
+        if self.held is None:
+            tree = self.texts[0]
+            pricing = Pricing(self.instance, tree.neighbours, 1 if tree.kind == b"VRPTW-CERT 1" else 2,
+                              self.given.labels)
+            self.held = Valuers(Valuer(pricing, self.sets), self.given.jobs)
+        return self.held
+
+    def end(self, is_whole):
+        if self.held is not None:
+            self.held.end(is_whole)
+        self.telling.end()
+
+    def make_tree(self):
+        """Writes the nodes, and prunes them where that is asked for."""
+        with open(self.path("nodes"), "wb") as file:
+            self.joining.written(file, self.telling)
+        if self.given.prune is not None:
+            with open(self.path("nodes"), "rb") as file:
+                tree = Tree(file)
+            self.merged = pruned(tree, self.given.prune, self.valuers(), self.telling)
+            with open(self.path("nodes"), "wb") as file:
+                tree.write(file)
+        leaves = self.joining.leaves - self.merged
+        if leaves > MOST_LEAVES:
+            raise Refused("%s: met %d leaves of all parts together, wanted at most %d" % (
+                told_path(self.given.tree), leaves, MOST_LEAVES))
+        if len(self.sets) > MOST_SETS:
+            self.leave_out()
+        return leaves
+
+    def leave_out(self):
+        """Leaves out the sets that have no price at any leaf."""
+        used = set()
+        with open(self.path("nodes"), "rb") as file:
+            for line in file:
+                if line.startswith(b"M"):
+                    used.update(map(int, line.split(b" ")[1::2]))
+        if len(used) > MOST_SETS:
+            raise Refused("%s: met %d sets that have prices in all parts together, wanted at most %d" % (
+                told_path(self.given.tree), len(used), MOST_SETS))
+        self.sets = [self.sets[number - 1] for number in sorted(used)]
+        numbers = {before: number for number, before in enumerate(sorted(used), 1)}
+        with open(self.path("nodes"), "rb") as file, open(self.path("fewer"), "wb") as other:
+            for line in file:
+                if line.startswith(b"M"):
+                    words = [int(word) for word in line.split(b" ")[1:]]
+                    line = set_line((numbers[place], price) for place, price in zip(words[::2], words[1::2])) + b"\n"
+                other.write(line)
+        os.replace(self.path("fewer"), self.path("nodes"))
+
+    def write(self, bound):
+        """Writes the text with a bound."""
+        tree = self.texts[0]
+        first = FIRST if self.joining.has_sets else tree.kind
+        lines = [first.decode(), "INSTANCE " + tree.name.decode(), "CUSTOMERS %d" % tree.count,
+                 "NEIGHBOURS %d" % tree.neighbours, "BOUND " + shown(bound)]
+        lines += [spaced("S", one.need, *one.customers) for one in self.sets] + ["TREE"]
+        with open(self.path("certificate"), "wb") as file, open(self.path("nodes"), "rb") as nodes:
+            file.write("".join(line + "\n" for line in lines).encode())
+            while True:
+                piece = nodes.read(1 << 20)
+                if not piece:
+                    break
+                file.write(piece)
+            file.write(b"END\n")
+
+    def checked(self):
+        """The line of the check of the text, with the plan where one is given, and what it says on standard error."""
+        words = [program_of(self.given), "check", self.path("instance"), self.path("certificate")]
+        words += [] if self.given.solution is None else ["--solution", self.path("solution")]
+        came = ran(words, tell=self.tell_check)
+        return came.line, came.fault
+
+    def tell_check(self, _):
+        if self.telling.is_due():
+            self.telling.tell("vrptw check finds the bound")
+
+    def bound(self):
+        """Writes the text with its bound: that of a text whose tree is the joined one, else what the check finds. Answers
+        what the check said of it, if that was asked."""
+        alike = self.joining.alike if not self.merged else []
+        self.write(alike[0].bound if alike else min(text.bound for text in self.texts))
+        if alike:
+            return None
+        line, fault = self.checked()
+        words = fault.split(" ")
+        if words[:3] != ["vrptw:", "check:", "BoundDiffers"]:
+            return line, fault
+        self.write(tenths(words[4].encode()))
+        return None
+
+
+def plan_text(path):
+    """What a plan's file holds."""
+    try:
+        with open(path, "rb") as file:
+            return file.read()
+    except OSError as fault:
+        raise Refused("%s: %s" % (path, last_words(fault)))
+
+
+def made(joined):
+    """Makes the text. Answers what is noted."""
+    leaves = joined.make_tree()
+    said, notes = joined.bound(), []
+    if joined.given.check:
+        said = said or joined.checked()
+    if said is not None:
+        line, fault = said
+        if not line:
+            raise Refused("%s: vrptw check says: %s" % (told_path(joined.given.tree), fault))
+        notes = ["vrptw check says: " + line] if joined.given.check else []
+    if joined.joining.unvalued:
+        notes.append("%d of %d leaves that texts differ in have too many labels, and others were taken; --labels allows "
+                     "more" % (joined.joining.unvalued, joined.joining.valued))
+    if joined.given.prune is not None:
+        notes.append("%d leaves in place of %d" % (leaves, leaves + joined.merged))
+    return notes
+
+
+def join(instance, given):
+    """Prints the joined certificate. Answers what is noted."""
+    plan = None if given.solution is None else plan_text(given.solution)
+    with tempfile.TemporaryDirectory() as folder:
+        joined, is_whole = Joined(instance, given, folder), False
+        end_by_signals()
+        for name, text in (("instance", instance.held), ("solution", plan)):
+            if text is not None:
+                with open(joined.path(name), "wb") as file:
+                    file.write(text)
+        try:
+            notes = made(joined)
+            is_whole = True
+        finally:
+            joined.end(is_whole)
+        printed_file(joined.path("certificate"))
+    return notes

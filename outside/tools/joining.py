@@ -1,0 +1,194 @@
+"""A tree of certificates, and the parts that grew from it, as one tree: all texts are gone through side by side, node by
+node, and what stands at a leaf of the tree is written before the next one is read."""
+from reference.set_texts import FIRST
+from tools.tree_texts import Leaf, set_line
+from tools.valuing import value
+
+# How many leaves are valued at once, and how many bytes wait for that, before they are written.
+MOST_ASKED, MOST_HELD = 2000, 16_000_000
+NEVER = -1
+
+
+class Sets:
+    """The sets of all texts in one list, the tree's first. In it each text's sets have other numbers."""
+
+    def __init__(self, texts):
+        self.listed, places = [], {}
+        self.numbers, self.is_same = {}, {}
+        for text in texts:
+            numbers = [0]
+            for one in text.sets:
+                if one not in places:
+                    self.listed.append(one)
+                    places[one] = len(self.listed)
+                numbers.append(places[one])
+            self.numbers[text], self.is_same[text] = numbers, numbers == list(range(len(numbers)))
+
+    def priced(self, text, leaf):
+        """The prices of sets at a leaf of a text, by the joined list."""
+        if self.is_same[text]:
+            return leaf.sets
+        numbers, prices = self.numbers[text], {}
+        for place, price in leaf.sets:
+            # A text may list a set twice.
+            prices[numbers[place]] = prices.get(numbers[place], 0) + price
+        return tuple(sorted(prices.items()))
+
+    def line(self, text, leaf):
+        return leaf.set_line if self.is_same[text] else set_line(self.priced(text, leaf))
+
+
+class Grown:
+    """What a text has in the place of a leaf of the tree: its lines, and what values its leaves by."""
+
+    def __init__(self, path):
+        self.lines, self.tasks, self.path = [], [], path
+
+    def __eq__(self, other):
+        return self.lines == other.lines
+
+    def bound(self, values):
+        """The least of the values of its leaves, which come in their order."""
+        found = [next(values) for _ in self.tasks]
+        return NEVER if None in found else min(found)
+
+
+class Joining:
+    """The joined tree of texts, the first of which is the tree that the others grew from."""
+
+    def __init__(self, texts, valuers):
+        self.tree, self.parts = texts[0], texts[1:]
+        self.texts, self.sets, self.valuers = texts, Sets(texts), valuers
+        self.has_sets = any(text.kind == FIRST for text in texts)
+        # Texts whose whole tree is the joined one so far, and what is counted.
+        self.alike, self.leaves, self.valued, self.unvalued = list(texts), 0, 0, 0
+
+    def node_lines(self, text, node):
+        """The lines of a node of a text."""
+        if not isinstance(node, Leaf):
+            return b"S %d %d\n" % node
+        self.leaves += 1
+        if self.has_sets:
+            return b"%s\n%s\n" % (node.line, self.sets.line(text, node))
+        return node.line + b"\n"
+
+    def pieces(self):
+        """What is written, in order: bytes, or what several texts have in the place of a leaf, one of which is to be
+        taken."""
+        tree = self.tree
+        while not tree.is_whole:
+            path = list(tree.arcs), list(tree.is_used)
+            node, line = tree.node(), tree.lines.number
+            found = [part.node() for part in self.parts]
+            if isinstance(node, Leaf):
+                yield from self.at_leaf(path, node, found)
+                continue
+            for part, other in zip(self.parts, found):
+                if other != node:
+                    met = "a leaf" if isinstance(other, Leaf) else '"S %d %d"' % other
+                    part.refuse(met, '"S %d %d", as in line %d of %s' % (*node, line, tree.path))
+            yield self.node_lines(tree, node)
+
+    def at_leaf(self, path, leaf, found):
+        """What stands in the place of a leaf of the tree: what one part has grown there, or the best prices."""
+        split = [(part, node) for part, node in zip(self.parts, found) if not isinstance(node, Leaf)]
+        if not split and all(self.are_same(leaf, part, node) for part, node in zip(self.parts, found)):
+            yield self.node_lines(self.tree, leaf)
+            return
+        if len(split) == 1:
+            part, arc = split[0]
+            self.alike = [text for text in self.alike if text is part]
+            yield self.node_lines(part, arc)
+            for node in part.below():
+                yield self.node_lines(part, node)
+            return
+        texts = zip(self.texts, [leaf] + found) if not split else split
+        grown = [(text, self.grown(text, path, node)) for text, node in texts]
+        others = []
+        for _, one in grown:
+            if one not in others:
+                others.append(one)
+        if len(others) > 1:
+            yield Question(self, grown, others)
+        else:
+            self.take(grown, others[0])
+            yield b"".join(others[0].lines)
+
+    def are_same(self, leaf, part, node):
+        """Whether a part has the tree's prices at a leaf."""
+        return node.line == leaf.line and self.sets.priced(part, node) == self.sets.priced(self.tree, leaf)
+
+    def grown(self, text, path, node):
+        """What a text has in the place of a leaf. How many leaves it has counts only once it is taken."""
+        found, leaves = Grown(path), self.leaves
+        for one in [node] if isinstance(node, Leaf) else [node, *text.below()]:
+            self.note(found, text, one)
+        self.leaves = leaves
+        return found
+
+    def note(self, found, text, node):
+        """Notes a node of what a text has grown; the path goes along."""
+        found.lines.append(self.node_lines(text, node))
+        arcs, is_used = found.path
+        if not isinstance(node, Leaf):
+            found.path = arcs + [node], is_used + [True]
+            return
+        found.tasks.append((arcs, is_used, node.line, self.sets.priced(text, node)))
+        while is_used and not is_used[-1]:
+            arcs, is_used = arcs[:-1], is_used[:-1]
+        found.path = arcs, is_used[:-1] + [False] if is_used else []
+
+    def take(self, grown, taken):
+        self.leaves += len(taken.tasks)
+        taking = [text for text, one in grown if one == taken]
+        self.alike = [text for text in self.alike if text in taking]
+
+    def written(self, file, telling):
+        """Writes the nodes of the joined tree."""
+        held, size, asked = [], 0, 0
+        for piece in self.pieces():
+            held.append(piece)
+            size += len(piece)
+            asked += 0 if isinstance(piece, bytes) else piece.asked()
+            if size > MOST_HELD or asked > MOST_ASKED:
+                self.put(file, held, telling)
+                held, size, asked = [], 0, 0
+        self.put(file, held, telling)
+
+    def put(self, file, held, telling):
+        """Writes what was held, once it is known what is to be taken."""
+        questions = [piece for piece in held if not isinstance(piece, bytes)]
+        if questions:
+            tasks = (task for question in questions for one in question.others for task in one.tasks)
+            values = self.told(self.valuers().answers(value, tasks), telling)
+            for question in questions:
+                question.answer(values)
+        file.writelines(piece if isinstance(piece, bytes) else b"".join(piece.taken.lines) for piece in held)
+
+    def told(self, values, telling):
+        """The values, counted and told of."""
+        for found in values:
+            self.valued += 1
+            self.unvalued += found is None
+            if telling.is_due():
+                telling.tell("%d leaves are valued that texts differ in" % self.valued)
+            yield found
+
+
+class Question:
+    """What several texts have in the place of a leaf: that with the highest bound is taken, of equal ones that with the
+    fewest leaves, and of these the first."""
+
+    def __init__(self, joining, grown, others):
+        self.joining, self.grown, self.others, self.taken = joining, grown, others, None
+
+    def __len__(self):
+        return sum(len(line) for one in self.others for line in one.lines)
+
+    def asked(self):
+        return sum(len(one.tasks) for one in self.others)
+
+    def answer(self, values):
+        ranked = [(one.bound(values), -len(one.tasks)) for one in self.others]
+        self.taken = self.others[ranked.index(max(ranked))]
+        self.joining.take(self.grown, self.taken)

@@ -1,0 +1,121 @@
+"""Pairs of leaves that can be one: at the split above them one set of prices has a value that reaches a cost."""
+from reference.bounding import PricedSet
+from tools.tree_texts import set_line
+from tools.valuing import Valuers, prices_of, region
+
+# What stands below a leaf.
+NONE = (-1, -1)
+
+
+class Tree:
+    """The nodes of a tree in preorder, held whole: arcs, or the lines of leaves, as pairs of those of customers and of
+    sets; the second one is empty in a text without sets."""
+
+    def __init__(self, file):
+        self.nodes, self.above, self.below = [], [], []
+        # Splits that lack a child.
+        waiting = []
+        for line in file:
+            if line.startswith(b"M"):
+                self.nodes[-1] = (self.nodes[-1][0], line[:-1])
+                continue
+            at = len(self.nodes)
+            if waiting:
+                place = waiting[-1]
+                self.below[place] = (at, -1) if self.below[place] == NONE else (self.below[place][0], at)
+                waiting[len(waiting) - (self.below[place][1] >= 0):] = []
+            self.above.append(place if at else -1)
+            self.below.append(NONE)
+            if line.startswith(b"S"):
+                self.nodes.append(tuple(map(int, line.split(b" ")[1:])))
+                waiting.append(at)
+            else:
+                self.nodes.append((line[:-1], b""))
+
+    def is_leaf(self, at):
+        return self.below[at] == NONE
+
+    def pairs(self):
+        """The splits of two leaves."""
+        return [at for at in range(len(self.nodes)) if self.is_pair(at)]
+
+    def is_pair(self, at):
+        return not self.is_leaf(at) and all(map(self.is_leaf, self.below[at]))
+
+    def task(self, at, cost):
+        """The path to a split, the lines of its leaves, and the cost."""
+        arcs, is_used, there = [], [], at
+        while self.above[there] >= 0:
+            over = self.above[there]
+            arcs.append(self.nodes[over])
+            is_used.append(self.below[over][0] == there)
+            there = over
+        return arcs, is_used, [self.nodes[one] for one in self.below[at]], cost
+
+    def close(self, at, lines):
+        """Makes a split of two leaves one leaf. Answers the split above it, where that has two leaves now."""
+        self.nodes[at], self.below[at] = lines, NONE
+        above = self.above[at]
+        return [above] if above >= 0 and self.is_pair(above) else []
+
+    def count(self):
+        return sum(self.is_leaf(at) for at in self.preorder())
+
+    def preorder(self):
+        rest = [0]
+        while rest:
+            at = rest.pop()
+            yield at
+            if not self.is_leaf(at):
+                rest += self.below[at][::-1]
+
+    def write(self, file):
+        for at in self.preorder():
+            node = self.nodes[at]
+            if not self.is_leaf(at):
+                file.write(b"S %d %d\n" % node)
+            else:
+                file.write(b"".join(line + b"\n" for line in node if line))
+
+
+def set_prices(line):
+    """The prices of sets by their numbers."""
+    words = [int(word) for word in line.split(b" ")[1:]]
+    return dict(zip(words[::2], words[1::2]))
+
+
+def mean(first, other):
+    """The mean of the lines of two leaves, cut to whole grains."""
+    prices = [(one + more) // 2 for one, more in zip(prices_of(first[0]), prices_of(other[0]))]
+    here, there = set_prices(first[1]), set_prices(other[1])
+    sets = {number: (here.get(number, 0) + there.get(number, 0)) // 2 for number in sorted({*here, *there})}
+    line = b"P" + b"".join(b" %d" % price for price in prices)
+    return line, set_line((number, price) for number, price in sets.items() if price) if first[1] else b""
+
+
+def closing(task):
+    """The lines of prices by which a leaf in the place of a split reaches the cost, or None: the first child's, the
+    other's or their mean."""
+    arcs, is_used, leaves, cost = task
+    pricing, here = Valuers.here.pricing, region(Valuers.here.pricing.instance.count, arcs, is_used)
+    for line, sets in dict.fromkeys([*leaves, mean(*leaves)]):
+        priced = Valuers.here.priced(set_prices(sets).items())
+        if (pricing.value(here, prices_of(line), priced, cost) or -1) >= cost:
+            return line, sets
+    return None
+
+
+def pruned(tree, cost, valuers, telling):
+    """Makes pairs of leaves one leaf, from the leaves up, wherever that reaches the cost. Answers how many."""
+    count, ready = 0, tree.pairs()
+    while ready:
+        after = []
+        tasks = (tree.task(at, cost) for at in ready)
+        for at, lines in zip(ready, valuers.answers(closing, tasks)):
+            if lines is not None:
+                after += tree.close(at, lines)
+                count += 1
+            if telling.is_due():
+                telling.tell("%d pairs of leaves are one" % count)
+        ready = after
+    return count
