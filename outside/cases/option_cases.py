@@ -54,7 +54,7 @@ MORE = {
 RIGHT = """
 batch i.txt --into r --options "--turns 2" --jobs 1|0|r/table.csv: i,,2,20.0,20.0,0,1, & -: 1 BEST
 batch i.txt --into r --options "few: --turns 1" --options "more: --turns 2"|0|r/i@few/plan.txt & r/i@more/plan.txt
-batch i.txt --into r --options "--turns 1" --seeds 1,2|0|r/options: s2: --turns 1 --seed 2 & r/i@s1/plan.txt
+batch i.txt --into r --options "--turns 1" --seeds 1,2|0|r/options: s2: --sets 200 --turns 1 --seed 2 & r/i@s1/plan.txt
 batch i.txt --into r --engine here|0|r/i/plan.txt: Cost 20.0
 batch i.txt --into r --engine parallel --sshloginfile machines|0|r/i/plan.txt: Cost 20.0 & r/asked.txt: /machines --
 batch i.txt --into r --engine slurm --slurm-options "--mem=0 --time 1" --jobs 3 --wait|0|r/asked.txt: --array 1-1%3 & \
