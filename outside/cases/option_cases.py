@@ -31,6 +31,10 @@ SETS = ("VRPTW-SETS 1\nINSTANCE T\nCUSTOMERS 2\nNEIGHBOURS 8\nBOUND 20.0\nS 1 1 
 # the value is 60.2 less 20.1.
 NO_PLAN = ("VRPTW-SETS 1\nINSTANCE T\nCUSTOMERS 2\nNEIGHBOURS 8\nBOUND 40.1\nS 2 1 2\nTREE\nP 0 0\nM 1 301000\n"
            "END\n")
+# Certificates of i.txt that are joined. By hand: where the arc from 1 to 2 is used, each route costs 200,000 grains less
+# the prices of both, and at any prices from 0 on the value is 20.0. Where it isn't used, at prices of 0 the route 1 costs
+# 100,000, and at 50,000 and 100,000 none costs less than 50,000: the values are 10.0 and 20.0.
+CUT = "VRPTW-CERT 2\nINSTANCE T\nCUSTOMERS 2\nNEIGHBOURS 8\n"
 # Files beside those of tool_faults. By hand: the plan of both customers costs 5 + 5 + 10 units, and one alone 5 or 10.
 # Three folders have the certificate with sets in the place of the program's: of a plan, of few vehicles and of a batch.
 MORE = {
@@ -47,6 +51,10 @@ MORE = {
     "machines": "localhost\n",
     "german.csv": FILES["t.csv"].replace("due", "bis"),
     "list.txt": "[[0, 1]]\n",
+    "grown.txt": CUT + "BOUND 10.0\nTREE\nS 1 2\nP 0 0\nP 0 0\nEND\n",
+    "one.txt": CUT + "BOUND 20.0\nTREE\nS 1 2\nP 0 0\nS 2 1\nP 50000 100000\nP 50000 100000\nEND\n",
+    "better.txt": CUT + "BOUND 20.0\nTREE\nS 1 2\nP 50000 100000\nP 50000 100000\nEND\n",
+    "swapped.txt": CUT + "BOUND 10.0\nTREE\nS 2 1\nP 0 0\nP 0 0\nEND\n",
     "tree.txt": "VRPTW-CERT 2\nINSTANCE T\nCUSTOMERS 2\nNEIGHBOURS 8\nBOUND 0.0\nTREE\nS 1 2\nP 0 0\nP 0 0\nEND\n",
 }
 # The words of calls, the status of the last one, and what it promises: a file that isn't empty, or behind a colon what
@@ -84,6 +92,11 @@ fewest i.txt --into f --seconds 30 --program {program} ; fewest i.txt --into f -
 fewest i.txt --into few_held --seconds 30|0|few_held/1.certificate: VRPTW-SETS 1 & -: FEWEST 1 BEST 20.0
 fewest i.txt --into few_held --check|1|-: FEWEST 1 OPEN
 report i.txt p.txt k.txt --fewest few_held -o r.html|0|r.html: </html>
+join i.txt grown.txt one.txt --check --solution p.txt|0|-: S 2 1 & --: vrptw check says: BEST 20.0
+join i.txt grown.txt better.txt swapped.txt --check|1|--: swapped.txt: line 7: met "S 2 1", wanted "S 1 2", as in line 7
+join i.txt one.txt grown.txt|1|--: grown.txt: line 9: met a leaf, wanted "S 2 1", as in line 9 of one.txt
+join i.txt grown.txt better.txt --jobs 1 --labels 1000 --program {program}|0|-: BOUND 20.0
+join i.txt grown.txt one.txt grown.txt --prune 20.0|0|-: BOUND 20.0 & --: leaves: 1 in place of 3
 large_trees i.txt --minutes 0.06 --turns 2,default --jobs 1 --seed 5 --solver {program}|0|-: 2 certificates, & \
 -: , 0 disagreements
 large_trees i.txt --minutes 0.02 --turns 2 --jobs 1 --program {program}|0|-: 1 certificates, & -: , 0 disagreements
@@ -173,6 +186,12 @@ fewest i.txt --into f --sets x|--sets|2|met "x"
 fewest i.txt --into f --neighbours 16|--neighbours|2|met "16"
 fewest i.txt --into f --seed -1|--seed|2|
 fewest i.txt --into f --program nowhere|--program|1|nowhere: met no program
+join i.txt grown.txt one.txt --solution p.txt|--solution|2|--solution goes with --check
+join i.txt grown.txt one.txt --check --solution cost.txt|--solution|1|vrptw check says: vrptw: check: CostDiffers
+join i.txt grown.txt one.txt --prune 20|--prune|2|met "20"
+join i.txt grown.txt one.txt --jobs 0|--jobs|2|met "0"
+join i.txt grown.txt one.txt --labels 0|--labels|2|met "0"
+join i.txt grown.txt one.txt --program nowhere|--program|1|nowhere: met no program
 large_trees i.txt --minutes x|--minutes|2|met "x"
 large_trees i.txt --minutes 0|--minutes|2|met "0"
 large_trees i.txt --turns 5,x|--turns|2|met "5,x"

@@ -205,6 +205,13 @@ recheck i.txt digits.txt|digits.txt|7|PriceRange
 recheck i.txt k.txt cost.txt|cost.txt|2|20.1
 recheck few.txt k.txt two.txt|two.txt|2|met one route more than the 1 vehicles,
 recheck i.txt nowhere|nowhere|0|No such file or directory
+join i.txt k.txt nowhere|nowhere|0|No such file or directory
+join other.txt k.txt k.txt|k.txt|2|another instance
+join i.txt k.txt none.txt|none.txt|1|met "VRPTW-CERT 2", wanted "VRPTW-CERT 1", as k.txt has
+join i.txt k.txt worse.txt|worse.txt|7|BadLine
+join i.txt k.txt crk.txt|crk.txt|3|carriage return
+join i.txt empty.txt k.txt|empty.txt|1|an empty file
+join i.txt - - < k.txt|standard input|0|met a closed one, or it for a second file, wanted it open and once
 why nowhere.txt|nowhere.txt|0|No such file or directory
 why bad.txt|bad.txt|8|BadNumber
 why heavy.txt nowhere|nowhere|0|No such file or directory
@@ -310,12 +317,12 @@ WHY = [
                       "the fleet can't serve all: met a demand of 5, wanted at most 4, which 2 vehicles hold"]),
 ]
 TOOLS = ("batch", "plan", "fewest", "convert", "carry", "respell", "timetable", "draw", "report", "sheets", "recheck",
-         "why", "manual", "set_maker", "set_prices")
+         "join", "why", "manual", "set_maker", "set_prices")
 # With standard output on a full device or closed.
 PRINTING = ("convert i.txt - --to csv", "convert - - --from csv --to ours --vehicles 2 --capacity 2 --name T < t.csv",
             "respell i.txt p.txt", "timetable - p.txt < i.txt", "timetable i.txt p.txt", "timetable i.txt p.txt --json",
             "draw i.txt p.txt",
-            "recheck i.txt k.txt", "report i.txt p.txt k.txt", "why late.txt")
+            "recheck i.txt k.txt", "join i.txt k.txt k.txt", "report i.txt p.txt k.txt", "why late.txt")
 
 
 def rows(table):

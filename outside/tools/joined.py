@@ -35,6 +35,7 @@ class Joined:
 
     def __init__(self, instance, given, folder):
         self.instance, self.given, self.folder = instance, given, folder
+        self.program = program_of(given)
         self.texts = texts_of(instance, [given.tree] + given.parts)
         self.joining, self.held = Joining(self.texts, self.valuers), None
         self.sets, self.merged = self.joining.sets.listed, 0
@@ -113,7 +114,7 @@ class Joined:
 
     def checked(self):
         """The line of the check of the text, with the plan where one is given, and what it says on standard error."""
-        words = [program_of(self.given), "check", self.path("instance"), self.path("certificate")]
+        words = [self.program, "check", self.path("instance"), self.path("certificate")]
         words += [] if self.given.solution is None else ["--solution", self.path("solution")]
         came = ran(words, tell=self.tell_check)
         return came.line, came.fault
@@ -161,7 +162,7 @@ def made(joined):
         notes.append("%d of %d leaves that texts differ in have too many labels, and others were taken; --labels allows "
                      "more" % (joined.joining.unvalued, joined.joining.valued))
     if joined.given.prune is not None:
-        notes.append("%d leaves in place of %d" % (leaves, leaves + joined.merged))
+        notes.append("leaves: %d in place of %d" % (leaves, leaves + joined.merged))
     return notes
 
 

@@ -78,7 +78,7 @@ class Joining:
         tree = self.tree
         while not tree.is_whole:
             path = list(tree.arcs), list(tree.is_used)
-            node, line = tree.node(), tree.lines.number
+            node = tree.node()
             found = [part.node() for part in self.parts]
             if isinstance(node, Leaf):
                 yield from self.at_leaf(path, node, found)
@@ -86,7 +86,7 @@ class Joining:
             for part, other in zip(self.parts, found):
                 if other != node:
                     met = "a leaf" if isinstance(other, Leaf) else '"S %d %d"' % other
-                    part.refuse(met, '"S %d %d", as in line %d of %s' % (*node, line, tree.path))
+                    part.refuse(met, '"S %d %d", as in line %d of %s' % (*node, tree.place, tree.path), part.place)
             yield self.node_lines(tree, node)
 
     def at_leaf(self, path, leaf, found):

@@ -58,9 +58,6 @@ class Tree:
         above = self.above[at]
         return [above] if above >= 0 and self.is_pair(above) else []
 
-    def count(self):
-        return sum(self.is_leaf(at) for at in self.preorder())
-
     def preorder(self):
         rest = [0]
         while rest:
@@ -100,7 +97,8 @@ def closing(task):
     pricing, here = Valuers.here.pricing, region(Valuers.here.pricing.instance.count, arcs, is_used)
     for line, sets in dict.fromkeys([*leaves, mean(*leaves)]):
         priced = Valuers.here.priced(set_prices(sets).items())
-        if (pricing.value(here, prices_of(line), priced, cost) or -1) >= cost:
+        found = pricing.value(here, prices_of(line), priced, cost)
+        if found is not None and found >= cost:
             return line, sets
     return None
 

@@ -5,7 +5,7 @@ import sys
 
 from reference.set_texts import FIRST, NodesWithSets, read_sets
 from reference.texts import MOST_LEAVES, MOST_PRICE, Lines, Nodes, TextFault, read_end, read_head
-from tools.plans import WITH_SETS, told_place
+from tools.plans import EMPTY, WITH_SETS, told_place
 from tools.tool import INPUT, STREAM, Refused, last_words, quoted, told_path
 
 PRICE = rb" (?:0|-?(?:[1-9][0-9]{0,11}|1000000000000))"
@@ -62,6 +62,8 @@ class TreeText:
         # The arcs on the path to the next node, each with whether the child is the one where it is used.
         self.arcs, self.is_used = [], []
         self.is_whole = False
+        # The line of the node that was read last.
+        self.place = 0
         self.reading(self.read_head)
 
     def reading(self, read):
@@ -69,10 +71,18 @@ class TreeText:
         try:
             return read()
         except TextFault as fault:
-            name = str(fault).split(" ")[0]
-            line = self.lines.line
-            met = quoted(line.decode(errors="backslashreplace")) if line or name == "BadLine" else "the end"
-            self.refuse("%s (%s)" % (met, name), told_place(WITH_SETS if self.kind == FIRST else "a certificate"))
+            self.refuse_line(str(fault).split(" ")[0], self.lines.line)
+
+    def refuse_line(self, name, line):
+        """Refuses the line that was read last."""
+        if not line and name == "Truncated" and not self.kind:
+            self.refuse("an empty file", EMPTY["a certificate"])
+        met = quoted(line.decode(errors="backslashreplace"))
+        if b"\r" in line and name == "BadLine":
+            self.refuse("%s with a carriage return behind it (%s)" % (met, name), "lines that end in a line feed alone")
+        if name == "Truncated":
+            met = "%s without a line feed behind it" % met if line else "the end"
+        self.refuse("%s (%s)" % (met, name), told_place(WITH_SETS if self.kind == FIRST else "a certificate"))
 
     def refuse(self, met, wanted, line=None):
         raise Refused("%s: line %d: met %s, wanted %s" % (self.path, line or self.lines.number, met, wanted))
@@ -97,6 +107,7 @@ class TreeText:
 
     def read_node(self):
         line = self.lines.next()
+        self.place = self.lines.number
         if line.startswith(b"P "):
             return self.leaf(line)
         words = line.split(b" ")
