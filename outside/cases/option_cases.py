@@ -96,6 +96,7 @@ join i.txt grown.txt one.txt --check --solution p.txt|0|-: S 2 1 & --: vrptw che
 join i.txt grown.txt better.txt swapped.txt --check|1|--: swapped.txt: line 7: met "S 2 1", wanted "S 1 2", as in line 7
 join i.txt one.txt grown.txt|1|--: grown.txt: line 9: met a leaf, wanted "S 2 1", as in line 9 of one.txt
 join i.txt grown.txt better.txt --jobs 1 --labels 1000 --program {program}|0|-: BOUND 20.0
+join i.txt grown.txt better.txt one.txt --bound 20.0 --check|0|-: S 2 1 & --: vrptw check says: BOUND 20.0
 join i.txt grown.txt one.txt grown.txt --prune 20.0|0|-: BOUND 20.0 & --: leaves: 1 in place of 3
 large_trees i.txt --minutes 0.06 --turns 2,default --jobs 1 --seed 5 --solver {program}|0|-: 2 certificates, & \
 -: , 0 disagreements
@@ -113,6 +114,7 @@ plan i.txt --into d --seconds 30 --program {program}|0|-: 20.0
 plan i.txt --into held --seconds 30|0|held/certificate.txt: VRPTW-SETS 1 & -: 20.0
 recheck i.txt k.txt p.txt --jobs 1 --labels 1000|0|-: GAP 20.0 0.0
 recheck i.txt sets.txt p.txt --jobs 1 --labels 1000|0|-: BEST 20.0
+recheck i.txt one.txt p.txt --progress|0|-: BEST 20.0
 report i.txt p.txt k.txt --tree --jobs 1 -o r.html|0|r.html: <section id="the-certificates-tree">
 report i.txt p.txt k.txt --tree --names names.csv --output r.html|0|r.html: <section id="the-certificates-tree">
 fewest i.txt --into f --seconds 30 ; report i.txt p.txt k.txt --fewest f -o r.html|0|\
@@ -188,6 +190,8 @@ fewest i.txt --into f --seed -1|--seed|2|
 fewest i.txt --into f --program nowhere|--program|1|nowhere: met no program
 join i.txt grown.txt one.txt --solution p.txt|--solution|2|--solution goes with --check
 join i.txt grown.txt one.txt --check --solution cost.txt|--solution|1|vrptw check says: vrptw: check: CostDiffers
+join i.txt grown.txt one.txt --bound 20|--bound|2|met "20", wanted a number as 679.8
+join i.txt grown.txt one.txt --bound 20.1 --check|--bound|1|vrptw check says: vrptw: check: BoundDiffers 20.1 20.0
 join i.txt grown.txt one.txt --prune 20|--prune|2|met "20"
 join i.txt grown.txt one.txt --jobs 0|--jobs|2|met "0"
 join i.txt grown.txt one.txt --labels 0|--labels|2|met "0"

@@ -222,13 +222,17 @@ def judge_join(program, folder, random):
     put(os.path.join(folder, "instance"), text)
     words = [os.path.join(folder, "instance"), *paths, "--program", program, "--jobs", "1"]
     words += [] if cost is None else ["--prune", shown(cost)]
+    if right is not None and random.randrange(3) == 0:
+        # Who knows the bound needs no program.
+        words = [word if word != program else "/bin/false" for word in words]
+        words += ["--bound", shown(read_either(right).bound)]
     out, errors, status = tool("join", *words)
     if right is None:
         demand((out, status, errors.count("\n")) == (b"", 1, 1) and errors.startswith("outside/join: ")
                and ", wanted " in errors or "vrptw check says: " in errors, "%s: status %d, %r" % (way, status, errors))
         return "%s: refused" % way
     demand(status == 0 and out == right, "%s: status %d, %r, %r, and %r is right" % (way, status, errors, out, right))
-    if way == "whole":
+    if way == "whole" and program in words:
         demand_checked(program, folder, instance, text, out, plan, words)
     return "%s: %s" % (way, "pruned" if cost is not None else "joined")
 

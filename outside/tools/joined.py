@@ -25,7 +25,7 @@ def texts_of(instance, paths):
                 instance.name.decode(), instance.count), 2)
         if text.neighbours != tree.neighbours:
             text.refuse("%d neighbours" % text.neighbours, "%d, as %s has" % (tree.neighbours, tree.path), 4)
-        if (text.kind == b"VRPTW-CERT 1") != (tree.kind == b"VRPTW-CERT 1"):
+        if text.version != tree.version:
             text.refuse('"%s"' % text.kind.decode(), '"%s", as %s has' % (tree.kind.decode(), tree.path), 1)
     return texts
 
@@ -48,8 +48,7 @@ class Joined:
         """The processes that find values, which begin once they are needed."""
         if self.held is None:
             tree = self.texts[0]
-            pricing = Pricing(self.instance, tree.neighbours, 1 if tree.kind == b"VRPTW-CERT 1" else 2,
-                              self.given.labels)
+            pricing = Pricing(self.instance, tree.neighbours, tree.version, self.given.labels)
             self.held = Valuers(Valuer(pricing, self.sets), self.given.jobs)
         return self.held
 
@@ -124,11 +123,12 @@ class Joined:
             self.telling.tell("vrptw check finds the bound")
 
     def bound(self):
-        """Writes the text with its bound: that of a text whose tree is the joined one, else what the check finds. Answers
-        what the check said of it, if that was asked."""
-        alike = self.joining.alike if not self.merged else []
-        self.write(alike[0].bound if alike else min(text.bound for text in self.texts))
-        if alike:
+        """Writes the text with its bound: the one that is given, that of a text whose tree is the joined one, or what the
+        check finds. Answers what the check said of it, if that was asked."""
+        alike, given = self.joining.alike if not self.merged else [], self.given.bound
+        known = given if given is not None else alike[0].bound if alike else None
+        self.write(min(text.bound for text in self.texts) if known is None else known)
+        if known is not None:
             return None
         line, fault = self.checked()
         words = fault.split(" ")

@@ -2,7 +2,7 @@
 node, and what stands at a leaf of the tree is written before the next one is read."""
 from reference.set_texts import FIRST
 from tools.tree_texts import Leaf, set_line
-from tools.valuing import value
+from tools.valuing import value_of
 
 # How many leaves are valued at once, and how many bytes wait for that, before they are written.
 MOST_ASKED, MOST_HELD = 2000, 16_000_000
@@ -147,6 +147,9 @@ class Joining:
         """Writes the nodes of the joined tree."""
         held, size, asked = [], 0, 0
         for piece in self.pieces():
+            if not held and isinstance(piece, bytes):
+                file.write(piece)
+                continue
             held.append(piece)
             size += len(piece)
             asked += 0 if isinstance(piece, bytes) else piece.asked()
@@ -157,12 +160,13 @@ class Joining:
 
     def put(self, file, held, telling):
         """Writes what was held, once it is known what is to be taken."""
+        if not held:
+            return
         questions = [piece for piece in held if not isinstance(piece, bytes)]
-        if questions:
-            tasks = (task for question in questions for one in question.others for task in one.tasks)
-            values = self.told(self.valuers().answers(value, tasks), telling)
-            for question in questions:
-                question.answer(values)
+        tasks = (task for question in questions for one in question.others for task in one.tasks)
+        values = self.told(self.valuers().answers(value_of, tasks), telling)
+        for question in questions:
+            question.answer(values)
         file.writelines(piece if isinstance(piece, bytes) else b"".join(piece.taken.lines) for piece in held)
 
     def told(self, values, telling):

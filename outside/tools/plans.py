@@ -55,7 +55,11 @@ def instance_of(path):
 
 
 def certificate_of(path):
-    text = Text(path)
+    return certificate_in(Text(path))
+
+
+def certificate_in(text):
+    """The certificate of a text that was read."""
     found = of_ours(text, read_either, WITH_SETS if is_of_sets(text.held) else "a certificate")
     found.held = text.held
     return found

@@ -82,10 +82,11 @@ def remember(note):
 
 class Text:
     """A file's lines, counted from 1. A byte order mark goes, and each kind of line end is one. One that takes others
-    may be in UTF-16 or Latin-1 too, as spreadsheets write tables, and that is noted."""
+    may be in UTF-16 or Latin-1 too, as spreadsheets write tables, and that is noted. What was read before may be handed
+    in."""
 
-    def __init__(self, path, takes_others=False):
-        self.path, self.held = told_path(path), content(path)
+    def __init__(self, path, takes_others=False, held=None):
+        self.path, self.held = told_path(path), content(path) if held is None else held
         begin = len(BOM_UTF8) if self.held.startswith(BOM_UTF8) else 0
         try:
             whole = self.utf_16() if takes_others else None

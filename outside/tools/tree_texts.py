@@ -54,7 +54,8 @@ def set_line(priced):
 
 class TreeText:
     """A certificate whose head is read, and whose nodes are read in preorder as they are asked for: each is an arc or a
-    leaf. A fault of the text is refused with its line, as the readers of `reference` name it."""
+    leaf. A fault of the text is refused with its line, as the readers of `reference` name it. What a file holds may be
+    handed in."""
 
     def __init__(self, path, held=None):
         self.path, self.kind, self.sets = told_path(path), b"", ()
@@ -91,6 +92,7 @@ class TreeText:
         self.kind = self.lines.next()
         if self.kind not in (b"VRPTW-CERT 1", b"VRPTW-CERT 2", FIRST):
             self.lines.bad()
+        self.version = 1 if self.kind == b"VRPTW-CERT 1" else 2
         self.name, self.count, self.neighbours, self.bound = read_head(self.lines)
         if self.kind == FIRST:
             self.sets = read_sets(self.lines, self.count)
@@ -155,6 +157,19 @@ class TreeText:
             self.lines.is_again = True
             self.nodes.priced(most)
         return tuple(zip(places, grains))
+
+    def rest(self):
+        """All nodes that come."""
+        while not self.is_whole:
+            yield self.node()
+
+    def tasks(self):
+        """The leaves that come, as `tools/valuing.py` takes them."""
+        while not self.is_whole:
+            arcs, is_used = tuple(self.arcs), tuple(self.is_used)
+            node = self.node()
+            if isinstance(node, Leaf):
+                yield arcs, is_used, node.line, node.sets
 
     def below(self):
         """The nodes below the split that was read last."""

@@ -72,6 +72,6 @@ class Valuers:
             self.pool.terminate()
 
 
-def value(task):
+def value_of(task):
     """The value of a leaf, by the process at work."""
     return Valuers.here.value(task)
