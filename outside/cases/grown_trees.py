@@ -51,15 +51,23 @@ def pruned_below(random, tree):
     return ("S", tree[1], *(pruned_below(random, child) for child in tree[2:]))
 
 
+def repriced(random, tree):
+    """A tree with the prices of customers at some leaves halved."""
+    if tree[0] == "S":
+        return ("S", tree[1], *(repriced(random, child) for child in tree[2:]))
+    return tree if random.randrange(2) else ("P", [price // 2 for price in tree[1]], *tree[2:])
+
+
 def parts(random, tree, whole, count):
     """So many trees that grew from a tree: what is in its leaves' places in the whole is shared out among them. Now and
-    then nobody has it, two have it, or one has less of it."""
+    then nobody has it, two have it, or one has less of it, or other prices."""
     if tree[0] == "S":
         below = [parts(random, child, there, count) for child, there in zip(tree[2:], whole[2:])]
         return [("S", tree[1], *children) for children in zip(*below)]
     found = [tree] * count
-    for _ in range(random.choice([0, 1, 1, 1, 1, 2])):
-        found[random.randrange(count)] = random.choice([whole, whole, pruned_below(random, whole)])
+    for _ in range(random.choice([0, 1, 1, 1, 1, 2, 2])):
+        found[random.randrange(count)] = random.choice([
+            whole, whole, pruned_below(random, whole), repriced(random, whole)])
     return found
 
 
