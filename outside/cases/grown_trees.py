@@ -6,9 +6,9 @@ from cases.random_texts import arcs_of
 MOST = 40
 
 
-def leaf_lines(tree):
+def leaf_count(tree):
     """How many leaves a tree has."""
-    return 1 if tree[0] == "P" else leaf_lines(tree[2]) + leaf_lines(tree[3])
+    return 1 if tree[0] == "P" else leaf_count(tree[2]) + leaf_count(tree[3])
 
 
 def changed_leaf(random, leaf):

@@ -31,9 +31,9 @@ SETS = ("VRPTW-SETS 1\nINSTANCE T\nCUSTOMERS 2\nNEIGHBOURS 8\nBOUND 20.0\nS 1 1 
 # the value is 60.2 less 20.1.
 NO_PLAN = ("VRPTW-SETS 1\nINSTANCE T\nCUSTOMERS 2\nNEIGHBOURS 8\nBOUND 40.1\nS 2 1 2\nTREE\nP 0 0\nM 1 301000\n"
            "END\n")
-# Certificates of i.txt that are joined. By hand: where the arc from 1 to 2 is used, each route costs 200,000 grains less
-# the prices of both, and at any prices from 0 on the value is 20.0. Where it isn't used, at prices of 0 the route 1 costs
-# 100,000, and at 50,000 and 100,000 none costs less than 50,000: the values are 10.0 and 20.0.
+# Certificates of i.txt that are joined. By hand: where the arc from 1 to 2 is used, each route costs 200,000 grains
+# less the prices of both, and the value is 20.0 at prices of 0 and at 50,000 and 100,000. Where it isn't used, the
+# route 1 costs 100,000 at prices of 0, and no route less than 50,000 at the others: the values are 10.0 and 20.0.
 CUT = "VRPTW-CERT 2\nINSTANCE T\nCUSTOMERS 2\nNEIGHBOURS 8\n"
 # Files beside those of tool_faults. By hand: the plan of both customers costs 5 + 5 + 10 units, and one alone 5 or 10.
 # Three folders have the certificate with sets in the place of the program's: of a plan, of few vehicles and of a batch.

@@ -1,9 +1,9 @@
-"""Certificates that grew from one, by join: the joined text is the one that its rules make of whole trees, with the bound
-of the reference, and what doesn't belong to the tree is refused."""
+"""Certificates that grew from one, by join: the joined text is the one that its rules make of whole trees, with the
+bound of the reference, and what doesn't belong to the tree is refused."""
 import os
 
 from cases.edges import edge_words
-from cases.grown_trees import MOST, cut, leaf_lines, other_split, parts, wider
+from cases.grown_trees import MOST, cut, leaf_count, other_split, parts, wider
 from cases.mutating import changed_bytes, changed_number
 from cases.random_texts import instance_words, laid_out
 from cases.set_cases import set_words
@@ -88,7 +88,7 @@ class Rules:
         grown = [tree for tree in trees if tree[0] == "S"] or trees
         if all(tree == grown[0] for tree in grown):
             return grown[0]
-        return max(grown, key=lambda tree: (self.bound(region, tree), -leaf_lines(tree)))
+        return max(grown, key=lambda tree: (self.bound(region, tree), -leaf_count(tree)))
 
     def pruned(self, region, tree, cost):
         """A tree with pairs of leaves joined wherever that reaches the cost."""
@@ -134,7 +134,7 @@ def whole_of(program, folder, random):
         if came[2] in (0, 1) and came[4]:
             found = read_either(came[4])
             found.tree = wider(random, found.count, found.tree)
-            if 1 < leaf_lines(found.tree) <= MOST:
+            if 1 < leaf_count(found.tree) <= MOST:
                 return read(text), text, found, came[3]
 
 

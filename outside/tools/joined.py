@@ -123,8 +123,8 @@ class Joined:
             self.telling.tell("vrptw check finds the bound")
 
     def bound(self):
-        """Writes the text with its bound: the one that is given, that of a text whose tree is the joined one, or what the
-        check finds. Answers what the check said of it, if that was asked."""
+        """Writes the text with its bound: the one that is given, that of a text whose tree is the joined one, or what
+        the check finds. Answers what the check said of it, if that was asked."""
         alike, given = self.joining.alike if not self.merged else [], self.given.bound
         known = given if given is not None else alike[0].bound if alike else None
         self.write(min(text.bound for text in self.texts) if known is None else known)
@@ -159,8 +159,8 @@ def made(joined):
             raise Refused("%s: vrptw check says: %s" % (told_path(joined.given.tree), fault))
         notes = ["vrptw check says: " + line] if joined.given.check else []
     if joined.joining.unvalued:
-        notes.append("%d of %d leaves that texts differ in have too many labels, and others were taken; --labels allows "
-                     "more" % (joined.joining.unvalued, joined.joining.valued))
+        notes.append("%d of %d leaves that texts differ in have too many labels, and others were taken; --labels "
+                     "allows more" % (joined.joining.unvalued, joined.joining.valued))
     if joined.given.prune is not None:
         notes.append("leaves: %d in place of %d" % (leaves, leaves + joined.merged))
     return notes

@@ -1,4 +1,4 @@
-"""A tree of certificates, and the parts that grew from it, as one tree: all texts are gone through side by side, node by
+"""The tree of a certificate, and parts that grew from it, as one tree: all texts are gone through side by side, node by
 node, and what stands at a leaf of the tree is written before the next one is read."""
 from reference.set_texts import FIRST
 from tools.tree_texts import Leaf, set_line
