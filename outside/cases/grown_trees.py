@@ -1,6 +1,7 @@
 """A certificate's tree, cut at random, and parts that grew from it: each has some of what was cut off. Trees are those
 of `reference`."""
 from cases.random_texts import arcs_of
+from reference.bounding import PricedSet
 
 # How many leaves a tree may have.
 MOST = 40
@@ -52,10 +53,25 @@ def pruned_below(random, tree):
 
 
 def repriced(random, tree):
-    """A tree with the prices of customers at some leaves halved."""
+    """A tree with the prices of customers at some leaves halved, or those of sets."""
     if tree[0] == "S":
         return ("S", tree[1], *(repriced(random, child) for child in tree[2:]))
-    return tree if random.randrange(2) else ("P", [price // 2 for price in tree[1]], *tree[2:])
+    if random.randrange(2):
+        return tree
+    if tree[2:] and tree[2] and random.randrange(2):
+        return ("P", tree[1], tuple(one._replace(price=1 + one.price // 2) for one in tree[2]))
+    return ("P", [price // 2 for price in tree[1]], *tree[2:])
+
+
+def set_priced(random, tree, sets):
+    """A tree with sets whose leaves have drawn prices of some of them, now and then."""
+    if tree[0] == "S":
+        return ("S", tree[1], *(set_priced(random, child, sets) for child in tree[2:]))
+    if random.randrange(2):
+        return tree
+    return ("P", tree[1], tuple(
+        PricedSet(number, frozenset(one.customers), one.need, random.choice([1, 1000, random.randint(1, 50000)]))
+        for number, one in enumerate(sets, 1) if random.randrange(2)))
 
 
 def parts(random, tree, whole, count):

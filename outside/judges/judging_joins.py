@@ -3,10 +3,10 @@ bound of the reference, and what doesn't belong to the tree is refused."""
 import os
 
 from cases.edges import edge_words
-from cases.grown_trees import MOST, cut, leaf_count, other_split, parts, wider
+from cases.grown_trees import MOST, cut, leaf_count, other_split, parts, set_priced, wider
 from cases.mutating import changed_bytes, changed_number
 from cases.random_texts import instance_words, laid_out
-from cases.set_cases import set_words
+from cases.set_cases import set_words, sets_of
 from judges.judging_layouts import tool
 from judges.running import demand, put, run_check, solve
 from reference import bounding, checking
@@ -134,6 +134,9 @@ def whole_of(program, folder, random):
         if came[2] in (0, 1) and came[4]:
             found = read_either(came[4])
             found.tree = wider(random, found.count, found.tree)
+            if isinstance(found, SetCertificate):
+                found.sets += [one for one in sets_of(random, read(text)) if one not in found.sets]
+                found.tree = set_priced(random, found.tree, found.sets)
             if 1 < leaf_count(found.tree) <= MOST:
                 return read(text), text, found, came[3]
 

@@ -103,19 +103,33 @@ class Pricing:
         slots = max(row[4] for row in self.instance.rows) // max(1, self.slot) + 1
         if self.slot == 0 or slots > MOST_SLOTS:
             return None
-        home, due = self.instance.arc, self.instance.due
+        ready, due = self.instance.ready, self.instance.due
         floors = [[None] * slots for _ in ways]
         for slot in reversed(range(slots)):
+            begin = slot * self.slot
             for i in range(1, len(ways)):
-                leave = max(slot * self.slot, self.instance.ready(i)) + self.instance.service(i)
-                found = [(1000 * home[i][0], 0)] if region.allows(i, 0) and leave + home[i][0] <= due(0) else []
-                for j, length, spent in ways[i]:
-                    start = max(leave + length, self.instance.ready(j))
-                    if start <= due(j):
-                        found.append((spent + self.floor(floors, i, j, start), j))
-                best, then = min(found, default=(NEVER, 0))
-                floors[i][slot] = (best, then, min((cost for cost, j in found if j != then), default=NEVER))
+                if begin + self.slot <= ready(i):
+                    floors[i][slot] = floors[i][slot + 1]
+                elif begin <= due(i):
+                    floors[i][slot] = self.floor_from(region, ways, floors, i, max(begin, ready(i)))
         return floors
+
+    def floor_from(self, region, ways, floors, i, begin):
+        """What it costs at least to come home from a customer whose service begins at that time or later, with the stop
+        that comes next, and what it costs where another one does."""
+        instance, leave = self.instance, begin + self.instance.service(i)
+        best, then, other = NEVER, 0, NEVER
+        if region.allows(i, 0) and leave + instance.arc[i][0] <= instance.due(0):
+            best = 1000 * instance.arc[i][0]
+        for j, length, spent in ways[i]:
+            start = max(leave + length, instance.ready(j))
+            if start <= instance.due(j):
+                cost = spent + self.floor(floors, i, j, start)
+                if cost < best:
+                    best, then, other = cost, j, best
+                elif cost < other:
+                    other = cost
+        return best, then, other
 
     def floor(self, floors, at, j, start):
         """What it costs at least to come home from a customer that is served from then on, behind this stop."""
