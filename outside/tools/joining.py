@@ -41,8 +41,8 @@ class Sets:
 class Grown:
     """What a text has in the place of a leaf of the tree: its lines, and what values its leaves by."""
 
-    def __init__(self, path):
-        self.lines, self.tasks, self.path = [], [], path
+    def __init__(self):
+        self.lines, self.tasks = [], []
 
     def __eq__(self, other):
         return self.lines == other.lines
@@ -77,7 +77,7 @@ class Joining:
         taken."""
         tree = self.tree
         while not tree.is_whole:
-            path = list(tree.arcs), list(tree.is_used)
+            path = tuple(tree.arcs), tuple(tree.is_used)
             node = tree.node()
             found = [part.node() for part in self.parts]
             if isinstance(node, Leaf):
@@ -99,7 +99,7 @@ class Joining:
             part, arc = split[0]
             self.alike = [text for text in self.alike if text is part]
             yield self.node_lines(part, arc)
-            for node in part.below():
+            for _, node in part.below():
                 yield self.node_lines(part, node)
             return
         texts = zip(self.texts, [leaf] + found) if not split else split
@@ -120,23 +120,13 @@ class Joining:
 
     def grown(self, text, path, node):
         """What a text has in the place of a leaf. How many leaves it has counts only once it is taken."""
-        found, leaves = Grown(path), self.leaves
-        for one in [node] if isinstance(node, Leaf) else [node, *text.below()]:
-            self.note(found, text, one)
+        found, leaves = Grown(), self.leaves
+        for (arcs, is_used), one in [(path, node), *(() if isinstance(node, Leaf) else text.below())]:
+            found.lines.append(self.node_lines(text, one))
+            if isinstance(one, Leaf):
+                found.tasks.append((arcs, is_used, one.line, self.sets.priced(text, one)))
         self.leaves = leaves
         return found
-
-    def note(self, found, text, node):
-        """Notes a node of what a text has grown; the path goes along."""
-        found.lines.append(self.node_lines(text, node))
-        arcs, is_used = found.path
-        if not isinstance(node, Leaf):
-            found.path = arcs + [node], is_used + [True]
-            return
-        found.tasks.append((arcs, is_used, node.line, self.sets.priced(text, node)))
-        while is_used and not is_used[-1]:
-            arcs, is_used = arcs[:-1], is_used[:-1]
-        found.path = arcs, is_used[:-1] + [False] if is_used else []
 
     def take(self, grown, taken):
         self.leaves += len(taken.tasks)

@@ -172,12 +172,13 @@ class TreeText:
                 yield arcs, is_used, node.line, node.sets
 
     def below(self):
-        """The nodes below the split that was read last."""
+        """The nodes below the split that was read last, each with its path: the arcs, and whether each is used."""
         open_nodes = 2
         while open_nodes:
+            path = tuple(self.arcs), tuple(self.is_used)
             node = self.node()
             open_nodes += -1 if isinstance(node, Leaf) else 1
-            yield node
+            yield path, node
 
 
 def opened(path):
