@@ -17,6 +17,8 @@ from reference.optimum import least_cost
 from reference.pricing import Pricing, leaves
 from reference.set_texts import FIRST_SET, read_either, written
 from reference.texts import shown
+from tools.tool import Refused
+from tools.tree_texts import TreeText
 
 # How many sets, certificates and texts with some bytes changed a run has.
 SETS, CERTIFICATES, CHANGED = 4, 8, 40
@@ -42,7 +44,20 @@ def demand_read(text, said):
     """The reader says this of a text; one of which nothing is said is written again as it was."""
     found = said_of(read_either, text)
     demand(found == said, "%r: %r, and %r is right" % (text[-200:], found, said))
+    demand_streamed(text, said)
     demand(said or written(read_either(text)) == text, "written again: %r" % text[-200:])
+
+
+def demand_streamed(text, said):
+    """What goes through a text node by node says the same of it, with the line."""
+    came = ""
+    try:
+        list(TreeText("text", text).rest())
+    except Refused as refused:
+        came = str(refused)
+    name, _, line = said.partition(" line ")
+    is_right = "(%s)" % name in came and (not line or came.startswith("text: line %s: met " % line))
+    demand(is_right or not text if said else not came, "node by node: %r, and %r is right" % (came, said))
 
 
 def program_says(said):
