@@ -187,9 +187,12 @@ def as_sets(random, texts):
 def spoilt(random, texts, held):
     """Something wrong with one text, mostly: how, and the texts."""
     at = random.randrange(len(held))
-    way = random.choice(["name", "split", "bytes", "bytes", "number", "short", "more"])
+    way = random.choice(["name", "neighbours", "split", "bytes", "bytes", "number", "short", "more"])
     if way == "split" and at and other_split(random, texts[at].tree, 0) is not None:
         texts[at].tree = other_split(random, texts[at].tree, 0)
+        held[at] = text_of(texts[at])
+    elif way == "neighbours":
+        texts[at].neighbours = (texts[at].neighbours + 1) % 16
         held[at] = text_of(texts[at])
     elif way == "name":
         held[at] = held[at].replace(b"INSTANCE ", b"INSTANCE x", 1)
