@@ -1,0 +1,10 @@
+pub mod Valuing
+pub mod Preorder
+pub mod Events
+pub mod Grown
+pub mod Sets
+pub mod Narrower
+pub mod Replies
+pub mod Listed
+pub mod Following
+pub mod Whole

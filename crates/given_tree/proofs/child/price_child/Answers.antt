@@ -1,0 +1,5 @@
+use Rattle.given_tree.proofs.Narrower.{priced_through}
+use Rattle.given_tree.proofs.child.price_child.Goals as goal
+
+pub returns-clause-priced : goal.returns-clause-priced
+returns-clause-priced c = priced_through c.args.region.now c.args.leaf.now c.in_ok-child.child c.price_high.result c.in_ok-child.ensures.priced c.price_high.ensures.priced

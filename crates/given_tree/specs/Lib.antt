@@ -1,0 +1,5 @@
+pub mod Faults
+pub mod Nodes
+pub mod Children
+pub mod Growing
+pub mod Reaching

@@ -1,0 +1,93 @@
+//! A leaf of a book takes the prices of a leaf of the tree.
+
+ghost use Rattle.std.specs.Prelude.{◌≡◌, ◌≢◌, ℕ, None, IfOk, IfErr, OnOk, map};
+ghost use Rattle.solomon_reader.specs.Problem.{customer_count};
+ghost use Rattle.solomon_reader.specs.History.{IsLeaf};
+ghost use Rattle.solomon_reader.specs.Bound.{listed_sets, IsValueAt};
+ghost use Rattle.solomon_reader.specs.SetPrices.{priced_sets};
+ghost use Rattle.certificate.specs.Text.{version_of};
+ghost use Rattle.certificate.specs.Tree.{set_price_of};
+ghost use Rattle.prices.specs.ValuedPrices.{IsPricedBy};
+ghost use Rattle.incumbent_book.specs.Faults.{IsAt, region_at};
+ghost use Rattle.given_tree.specs.declared.fault.ReplayFault.TheVariants.{LabelLimit};
+ghost use Rattle.given_tree.specs.Nodes.{IsLeafAt, prices_of};
+ghost use Rattle.given_tree.specs.Growing.{Keeps, IsGrownAt, IsRaisedTo};
+
+use crate::fault::ReplayFault;
+use crate::given::GivenTree;
+use crate::leaf_sets::sets_at;
+use crate::pricing::price;
+use certificate::SetPrice;
+use incumbent_book::Book;
+use priced_sets::NeededSets;
+use prices::Priced;
+
+/// These prices at the region of a leaf, with their value.
+fn price_leaf<'i>(
+    tree: &GivenTree<'_>,
+    needed: &mut NeededSets<'_>,
+    book: &Book<'i>,
+    number: u32,
+    prices: &[i64],
+    set_prices: &[SetPrice],
+) -> Result<Priced<'i>, ReplayFault>
+    requires leaf { IsLeaf book.now.past number }
+    requires shaped { IsLeafAt (version_of tree.now.version.now) (customer_count book.now.problem)
+        (prices_of prices.now set_prices.now) }
+    ensures priced { IfOk result (IsPricedBy book.now.problem (region_at book.now number) book.now.neighbours prices.now
+        (priced_sets (listed_sets (version_of tree.now.version.now)) (map set_price_of set_prices.now))) }
+    ensures unlimited { IfErr result (λ e. e ≡ LabelLimit → tree.now.labels ≢ None) }
+{
+    let Some(leaf) = book.leaf(number) else {
+        unreachable!()
+    };
+    let sets = sets_at(tree, leaf.instance(), needed, set_prices)?;
+    let prices = Vec::from_slice(tree.alloc, prices)?;
+    price(tree, leaf.task().with(prices, sets)?)
+}
+
+/// Gives a leaf these prices where their value is higher than the leaf's.
+fn raise<'i>(book: &mut Book<'i>, number: u32, priced: Priced<'i>) -> Result<(), ReplayFault>
+    requires leaf { IsLeaf book.old.past number }
+    requires at { IsAt book.old (region_at book.old number) priced }
+    ensures keeps { Keeps book.old book.new }
+    ensures grown { OnOk result (IsGrownAt book.old book.new number) }
+    ensures still { OnOk result (IsLeaf book.new.past number) }
+    ensures raised { OnOk result (IsRaisedTo book.old book.new number priced.entry.value) }
+    ensures unlimited { IfErr result (λ e. e ≢ LabelLimit) }
+{
+    let Some(leaf) = book.leaf(number) else {
+        unreachable!()
+    };
+    if priced.tenths() <= leaf.tenths() {
+        return Ok(());
+    }
+    match book.reprice(0, number, priced) {
+        Ok(()) => Ok(()),
+        Err((_priced, fault)) => Err(ReplayFault::from(fault)),
+    }
+}
+
+/// Gives a leaf the prices of a leaf of the tree where their value is higher.
+pub(crate) fn grow_leaf<'i>(
+    tree: &GivenTree<'_>,
+    needed: &mut NeededSets<'_>,
+    book: &mut Book<'i>,
+    number: u32,
+    prices: &[i64],
+    set_prices: &[SetPrice],
+) -> Result<(), ReplayFault>
+    requires leaf { IsLeaf book.old.past number }
+    requires shaped { IsLeafAt (version_of tree.now.version.now) (customer_count book.old.problem)
+        (prices_of prices.now set_prices.now) }
+    ensures keeps { Keeps book.old book.new }
+    ensures grown { OnOk result (IsGrownAt book.old book.new number) }
+    ensures still { OnOk result (IsLeaf book.new.past number) }
+    ensures raised { OnOk result ((v : ℕ) → IsValueAt (version_of tree.now.version.now) book.old.problem
+        (region_at book.old number) book.old.neighbours (prices_of prices.now set_prices.now) v
+        → IsRaisedTo book.old book.new number v) }
+    ensures unlimited { IfErr result (λ e. e ≡ LabelLimit → tree.now.labels ≢ None) }
+{
+    let priced = price_leaf(tree, needed, book, number, prices, set_prices)?;
+    raise(book, number, priced)
+}
