@@ -136,6 +136,10 @@ RefusesBound p c (fault.BoundDiffers printed derived) = IsFor p c × HasNeeds p 
 RefusesBound p c fault.StateLimit = IsFor p c × HasNeeds p c
 RefusesBound p c e = ⊥
 
+-- why a text isn't that of a certificate which the instance accepts
+abbrev pub RefusesTree : Problem → List ℕ → CheckFault → Type 0
+RefusesTree p text e = RefusesCertificate text e ⊎ ((c : Certificate) × IsCertificate c × (text ≡ certificate_text c) × RefusesBound p c e)
+
 -- the first text is an instance, and the second a certificate
 pub record AreFirstTexts (t : Texts) : Type 0 where
   pub problem : Problem

@@ -3,9 +3,9 @@
 ghost use Rattle.std.specs.Prelude.{◌≡◌, ◌⊎◌, None, Some, option_map, IfOk, IfErr, OnOk};
 ghost use Rattle.solomon_reader.specs.Problem.{Problem};
 ghost use Rattle.solomon_reader.specs.Layout.{IsInstance};
-ghost use Rattle.solomon_reader.specs.CertificateText.{Certificate, IsCertificateText, listed};
+ghost use Rattle.solomon_reader.specs.CertificateText.{Certificate, IsAccepted, IsCertificateText, listed};
 ghost use Rattle.sol_writer.specs.Text.{view};
-ghost use Rattle.checker.specs.Checking.{Checks, IsRight, Means, IsFor, HasNeeds, HasBound, IsSolutionOf, Judges, RefusesCertificate, RefusesSolutionText, RefusesBound, RefusesSolution};
+ghost use Rattle.checker.specs.Checking.{Checks, IsRight, Means, IsFor, HasNeeds, HasBound, IsSolutionOf, Judges, RefusesCertificate, RefusesSolutionText, RefusesBound, RefusesSolution, RefusesTree};
 ghost use Rattle.checker.specs.declared.fault.CheckFault.TheVariants.{Memory, StateLimit};
 
 use crate::fault::CheckFault;
@@ -78,6 +78,24 @@ fn check_bound(
             Ok(())
         }
     }
+}
+
+/// The certificate that a text is, where an instance accepts it: what `check` asks of the text of a certificate. The
+/// first fault is told in its order: `Certificate`, `OtherName`, `OtherSize`, `NeedTooGreat`, `BoundDiffers`; `Memory`
+/// where a growth was refused, `StateLimit` where `state_limit` pairs of time and cost stand at once for one leaf and
+/// one more has to be kept.
+pub fn accepted(
+    alloc: Global,
+    instance: &Instance,
+    text: &[u8],
+    state_limit: usize,
+) -> Result<Cert, CheckFault>
+    ensures accepted { IfOk result (λ c. (is : IsAccepted instance.now text.now) × (c ≡ listed is.certificate)) }
+    ensures refused { IfErr result (RefusesTree instance.now text.now) }
+{
+    let cert = read_certificate(alloc, text)?;
+    check_bound(alloc, instance, &cert, state_limit)?;
+    Ok(cert)
 }
 
 /// What a bound says where no solution was handed in.

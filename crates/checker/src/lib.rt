@@ -10,7 +10,7 @@ mod serving;
 mod verdict;
 mod walking;
 
-pub use checking::check;
+pub use checking::{accepted, check};
 pub use fault::CheckFault;
 pub use solomon_reader::PlanFault as PlanWhy;
 pub use verdict::Verdict;

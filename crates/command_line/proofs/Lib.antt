@@ -1,3 +1,5 @@
 mod Refusals
+mod Sources
 mod Steps
+mod Parts
 mod Named

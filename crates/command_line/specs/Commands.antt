@@ -1,8 +1,11 @@
 -- The commands of the program, as clap's contracts see a command.
-use Rattle.std.specs.Prelude.{◌≡◌, ℕ, ◌<◌, ◌^◌, ◌↔◌, Bool, IsTrue, List, [], ◌∷◌, ◌++◌, Option, Some, None, codes, pos, true, false}
+use Rattle.std.specs.Prelude.{◌≡◌, ℕ, ◌<◌, ◌^◌, ◌↔◌, Bool, IsTrue, List, [], ◌∷◌, ◌++◌, Option, Some, None, codes, find, option_and_then, pos, true, false}
+use Rattle.std.specs.Str.{bytes_eq}
 use Rattle.std.specs.Str.Parse.{IsNumeral, digits_value, without_leading_plus}
 use Rattle.clap.specs.Words.{App, Row, Rule, Shape, Text, app_of, first_of, new_app, new_rule, one_of, with_rule}
 use Rattle.clap.specs.declared.ArgAction.TheVariants.{SetTrue}
+use Rattle.clap.specs.declared.parser.ValueSource.{ValueSource}
+use Rattle.clap.specs.declared.parser.ValueSource.TheVariants.{CommandLine}
 use Rattle.clap.specs.declared.builder.ValueParser.{ValueParser}
 use Rattle.clap.specs.declared.builder.ValueParser.TheVariants as parser
 use Rattle.solomon_reader.specs.declared.limits.TheConstants.{MOST_LEAVES, MOST_NEIGHBOURS, MOST_SETS}
@@ -15,7 +18,7 @@ use Rattle.clap.specs.declared.Command.TheViews.{out-Command as fields_of}
 abbrev pub path_rule : Text → Rule
 path_rule id = record (new_rule id) { required = true }
 
--- a path after two dashes and a name, which may be left out
+-- a path or another text after two dashes and a name, which may be left out
 abbrev pub path_option_rule : Text → Rule
 path_option_rule id = record (new_rule id) { long = Some id }
 
@@ -55,6 +58,10 @@ closing_rules = flag_rule (codes "close") ∷ number_option_rule (codes "leaves"
 abbrev pub starting_rules : List Rule
 starting_rules = path_option_rule (codes "start") ∷ number_option_rule (codes "gap") (between 0 MOST_GAP) (codes "0") ∷ []
 
+-- the tree that the work goes on from, and at which of its open leaves
+abbrev pub tree_rules : List Rule
+tree_rules = path_option_rule (codes "tree") ∷ path_option_rule (codes "part") ∷ []
+
 -- whether to tell how far the turns are, line by line or on one line
 abbrev pub telling_rules : List Rule
 telling_rules = flag_rule (codes "progress") ∷ flag_rule (codes "live") ∷ []
@@ -65,7 +72,7 @@ shape_with name rules = record (new_app name).top { rules = rules }
 abbrev pub solve_shape : Shape
 solve_shape = shape_with (codes "solve")
     (path_rule (codes "INSTANCE") ∷ path_rule (codes "SOLUTION") ∷ path_rule (codes "CERTIFICATE")
-    ∷ thread_rules ++ (search_rules ++ (pricing_rules ++ (closing_rules ++ (starting_rules ++ telling_rules)))))
+    ∷ thread_rules ++ (search_rules ++ (pricing_rules ++ (closing_rules ++ (starting_rules ++ (tree_rules ++ telling_rules))))))
 
 abbrev pub check_shape : Shape
 check_shape = shape_with (codes "check")
@@ -92,6 +99,14 @@ HasNumber id rows n = (t : Text) × (one_of id rows ≡ Some t) × IsNumeral 10 
 -- the flag is given exactly where its argument's text is `true`
 abbrev pub HasFlag : Text → List Row → Bool → Type 0
 HasFlag id rows flag = IsTrue flag ↔ (first_of id rows ≡ Some (codes "true"))
+
+-- where the argument's value comes from, if it has one
+abbrev pub source_of : Text → List Row → Option ValueSource
+source_of id rows = option_and_then (λ r. r.source) (find (λ r. bytes_eq r.id id) rows)
+
+-- the words give the argument: its value is not its default alone
+abbrev pub IsGiven : Text → List Row → Type 0
+IsGiven id rows = source_of id rows ≡ Some CommandLine
 
 abbrev pub IsNumberIf : Text → List Row → Option ℕ → Type 0
 IsNumberIf id rows (Some n) = HasNumber id rows n

@@ -1,16 +1,22 @@
 -- Which job the words give.
-use Rattle.std.specs.Prelude.{◌≡◌, ◌≢◌, Bool, List, [], Option, Some, None, codes, ℕ, ◌≤◌, option_map}
+use Rattle.std.specs.Prelude.{◌≡◌, ◌≢◌, Bool, List, [], ◌∷◌, ◌++◌, Option, Some, None, IsSome, codes, false, true, ℕ, ◌≤◌, option_map}
+use Rattle.std.specs.Str.Parse.{IsNumeral, digits_value}
 use Rattle.clap.specs.Words.{Row, Text, first_of, fault_of, kind_of, subcommand_of}
 use Rattle.clap.specs.declared.Error.{Error}
 use Rattle.clap.specs.declared.error.ErrorKind.TheVariants.{OutOfMemory}
 use Rattle.command_line.specs.declared.jobs.TheConstants.{MOST_STATES}
-use Rattle.command_line.specs.Commands.{program, HasFlag, HasNumber}
+use Rattle.command_line.specs.Commands.{program, HasFlag, HasNumber, IsGiven}
 use Rattle.solomon_reader.specs.declared.limits.TheConstants.{MOST_LEAVES}
+use Rattle.run_settings.specs.Parts.{IsPart}
 use Rattle.run_settings.specs.Settings.{IsWithin}
 use Rattle.command_line.specs.declared.jobs.Job.{Job}
 use Rattle.command_line.specs.declared.jobs.Job.TheVariants.{Solve, Check}
 use Rattle.command_line.specs.declared.jobs.UsageFault.{UsageFault}
 use Rattle.command_line.specs.declared.jobs.UsageFault.TheVariants.{Memory, Usage}
+use Rattle.command_line.specs.declared.trees.TreeFault.{TreeFault}
+use Rattle.command_line.specs.declared.trees.TreeFault.TheVariants as fault
+use Rattle.run_settings.specs.declared.part.Part.{Part}
+use Rattle.run_settings.specs.declared.part.TheConstants.Part.{WHOLE}
 use Rattle.run_settings.specs.declared.settings.Settings.{Settings}
 
 -- the rows of the arguments of `solve` have these numbers, each of which is within its range
@@ -31,15 +37,57 @@ pub record HasClosing (rows : List Row) (close : Bool) (leaves : ℕ) : Type 0 w
   pub leaves_are : HasNumber (codes "leaves") rows leaves
   pub leaves_within : (1 ≤ leaves) × (leaves ≤ MOST_LEAVES)
 
--- the rows of the arguments of `solve` have these paths, these settings and this closing, and say whether to tell how far the turns are, line by line or on one line
-pub record SaysSolve (rows : List Row) (instance solution certificate : Text) (start : Option Text)
-    (settings : Settings) (close : Bool) (leaves : ℕ) (progress live : Bool) : Type 0 where
+-- the text is digits alone, which write the number
+abbrev pub IsNumeralOf : Text → ℕ → Type 0
+IsNumeralOf text n = IsNumeral 10 text × (n ≡ digits_value 10 text)
+
+-- the text is a part's place, a slash (47) and how many parts there are, and there is such a part
+pub record NamesPart (text : Text) (part : Part) : Type 0 where
+  pub place : Text
+  pub count : Text
+  pub text_is : text ≡ place ++ 47 ∷ count
+  pub place_is : IsNumeralOf place part.place
+  pub count_is : IsNumeralOf count part.count
+  pub within : IsPart part
+
+-- the part that a text names, and all open leaves where there is none
+abbrev pub NamesPartIf : Option Text → Part → Type 0
+NamesPartIf None part = part ≡ WHOLE
+NamesPartIf (Some text) part = NamesPart text part
+
+abbrev pub HasPart : List Row → Part → Type 0
+HasPart rows part = NamesPartIf (first_of (codes "part") rows) part
+
+-- the rows of the arguments of `solve` have this path of a tree to go on from, if there is one, and this part of its open leaves. Beside a tree the words give no neighbours, since it has its own, and don't close the instance; they give a part only beside a tree
+pub record HasTree (rows : List Row) (tree : Option Text) (part : Part) (close : Bool) : Type 0 where
+  pub tree_path : first_of (codes "tree") rows ≡ tree
+  pub part_is : HasPart rows part
+  pub own_neighbours : IsSome tree → IsGiven (codes "neighbours") rows → ⊥
+  pub stays_open : IsSome tree → close ≡ false
+  pub of_a_tree : IsSome (first_of (codes "part") rows) → IsSome tree
+
+-- the fault has the text, which names no part
+abbrev pub IsPartFault : Option Text → TreeFault → Type 0
+IsPartFault text (fault.Part met) = (text ≡ Some met.now) × ((part : Part) → NamesPart met.now part → ⊥)
+IsPartFault text _ = ⊥
+
+-- what a fault lays to the arguments of `solve` is so
+abbrev pub IsTreeFault : List Row → Bool → TreeFault → Type 0
+IsTreeFault rows close fault.Neighbours = IsSome (first_of (codes "tree") rows) × IsGiven (codes "neighbours") rows
+IsTreeFault rows close fault.Close = IsSome (first_of (codes "tree") rows) × (close ≡ true)
+IsTreeFault rows close fault.NoTree = (first_of (codes "tree") rows ≡ None) × IsSome (first_of (codes "part") rows)
+IsTreeFault rows close (fault.Part met) = IsPartFault (first_of (codes "part") rows) (fault.Part met)
+
+-- the rows of the arguments of `solve` have these paths, this tree, these settings and this closing, and say whether to tell how far the turns are, line by line or on one line
+pub record SaysSolve (rows : List Row) (instance solution certificate : Text) (start tree : Option Text)
+    (part : Part) (settings : Settings) (close : Bool) (leaves : ℕ) (progress live : Bool) : Type 0 where
   pub instance_path : first_of (codes "INSTANCE") rows ≡ Some instance
   pub solution_path : first_of (codes "SOLUTION") rows ≡ Some solution
   pub certificate_path : first_of (codes "CERTIFICATE") rows ≡ Some certificate
   pub start_path : first_of (codes "start") rows ≡ start
   pub settings_are : HasSettings rows settings
   pub closing_is : HasClosing rows close leaves
+  pub tree_is : HasTree rows tree part close
   pub progress_is : HasFlag (codes "progress") rows progress
   pub live_is : HasFlag (codes "live") rows live
 
@@ -53,8 +101,8 @@ pub record SaysCheck (rows : List Row) (instance certificate : Text) (solution :
 
 -- the command's name and the rows of its arguments are the job's
 abbrev pub Says : Text → List Row → Job → Type 0
-Says name rows (Solve instance solution certificate start settings close leaves progress live) =
-    (name ≡ codes "solve") × SaysSolve rows instance.now solution.now certificate.now (option_map (λ s. s.now) start) settings close leaves progress live
+Says name rows (Solve instance solution certificate start tree part settings close leaves progress live) =
+    (name ≡ codes "solve") × SaysSolve rows instance.now solution.now certificate.now (option_map (λ s. s.now) start) (option_map (λ s. s.now) tree) part settings close leaves progress live
 Says name rows (Check instance certificate solution states) =
     (name ≡ codes "check") × SaysCheck rows instance.now certificate.now (option_map (λ s. s.now) solution) states
 
@@ -76,17 +124,19 @@ abbrev pub IsFaultOf : Error → UsageFault → Type 0
 IsFaultOf error Memory = kind_of error ≡ OutOfMemory
 IsFaultOf error (Usage told) = (told ≡ error) × (kind_of error ≢ OutOfMemory)
 
--- two jobs of one kind with the same paths, as texts, and the same numbers and flags
+-- two jobs of one kind with the same paths, as texts, and the same part, numbers and flags
 abbrev pub IsSameJob : Job → Job → Type 0
-IsSameJob (Solve instance solution certificate start settings close leaves progress live)
-    (Solve second_instance second_solution second_certificate second_start second_settings second_close second_leaves second_progress second_live) =
+IsSameJob (Solve instance solution certificate start tree part settings close leaves progress live)
+    (Solve second_instance second_solution second_certificate second_start second_tree second_part second_settings second_close second_leaves second_progress second_live) =
     (instance.now ≡ second_instance.now) × (solution.now ≡ second_solution.now)
     × (certificate.now ≡ second_certificate.now)
-    × (option_map (λ s. s.now) start ≡ option_map (λ s. s.now) second_start) × (settings ≡ second_settings)
+    × (option_map (λ s. s.now) start ≡ option_map (λ s. s.now) second_start)
+    × (option_map (λ s. s.now) tree ≡ option_map (λ s. s.now) second_tree) × (part ≡ second_part)
+    × (settings ≡ second_settings)
     × (close ≡ second_close) × (leaves ≡ second_leaves) × (progress ≡ second_progress) × (live ≡ second_live)
 IsSameJob (Check instance certificate solution states) (Check second_instance second_certificate second_solution second_states) =
     (instance.now ≡ second_instance.now) × (certificate.now ≡ second_certificate.now)
     × (option_map (λ s. s.now) solution ≡ option_map (λ s. s.now) second_solution) × (states ≡ second_states)
-IsSameJob (Solve instance solution certificate start settings close leaves progress live) (Check second_instance second_certificate second_solution second_states) = ⊥
+IsSameJob (Solve instance solution certificate start tree part settings close leaves progress live) (Check second_instance second_certificate second_solution second_states) = ⊥
 IsSameJob (Check instance certificate solution states)
-    (Solve second_instance second_solution second_certificate second_start second_settings second_close second_leaves second_progress second_live) = ⊥
+    (Solve second_instance second_solution second_certificate second_start second_tree second_part second_settings second_close second_leaves second_progress second_live) = ⊥

@@ -1,15 +1,17 @@
 //! The commands of the program, and the job that the words give.
-ghost use Rattle.std.specs.Prelude.{◌≡◌, [], false, map, codes, option_map};
+ghost use Rattle.std.specs.Prelude.{◌≡◌, [], false, map, codes};
 ghost use Rattle.std.specs.Prelude.{IfOk, IfErr, MatchOption};
-ghost use Rattle.clap.specs.Words.{app_of, rule_of, rows_of, found_of, first_of};
+ghost use Rattle.clap.specs.Words.{app_of, rule_of, rows_of, found_of};
 ghost use Rattle.clap.specs.Words.{subcommand_rows_of};
-ghost use Rattle.command_line.specs.Commands.{AddsRules, HasFlag, HasShape, IsNumberIf, between, check_shape, closing_rules, flag_rule, number_option_rule, path_option_rule, path_rule, pricing_rules, program, search_rules, solve_shape, starting_rules, telling_rules, thread_rules};
+ghost use Rattle.command_line.specs.Commands.{AddsRules, HasShape, between, check_shape, closing_rules, flag_rule, number_option_rule, path_option_rule, path_rule, pricing_rules, program, search_rules, solve_shape, starting_rules, telling_rules, thread_rules, tree_rules};
 ghost use Rattle.command_line.specs.Jobs.{Gives, HasClosing, HasSettings, IsRefused, IsSameJob, Says, SaysAny};
 
+use crate::arguments::{flag_of, number_of, text_of};
 use crate::jobs::{Job, MOST_STATES, UsageFault};
+use crate::trees::tree_of;
 use clap::builder::ValueParser;
 use clap::error::ErrorKind;
-use clap::{Arg, ArgAction, ArgMatches, Command};
+use clap::{Arg, ArgAction, ArgMatches, Command, Error};
 use run_settings::{MOST_BOUNDERS, MOST_GAP, MOST_LABELS, MOST_SEARCHERS, MOST_TURNS, Settings};
 use solomon_reader::{MOST_LEAVES, MOST_NEIGHBOURS, MOST_SETS};
 use std::alloc::{AllocError, Global};
@@ -28,7 +30,7 @@ fn path<'a>(alloc: Global, id: &'a str, help: &'a str) -> Arg<'a>
     Arg::new(alloc, id).required(true).help(help)
 }
 
-/// An option with a path, named after two dashes.
+/// An option with a path or another text, named after two dashes.
 fn path_option<'a>(alloc: Global, id: &'a str, help: &'a str) -> Arg<'a>
     ensures rule { rule_of result ≡ path_option_rule id.entry.now }
     ensures own { result.global ≡ false }
@@ -174,6 +176,23 @@ fn with_starting_options<'a>(alloc: Global, command: Command<'a>) -> Result<Comm
         ))
 }
 
+/// Adds the options that name a tree to go on from, and a part of its open leaves.
+fn with_tree_options<'a>(alloc: Global, command: Command<'a>) -> Result<Command<'a>, AllocError>
+    ensures { IfOk result (AddsRules tree_rules command.entry) }
+{
+    command
+        .arg(path_option(
+            alloc,
+            "tree",
+            "The file of a certificate whose tree the work goes on from, as this command writes one; it says how many neighbours there are",
+        ))?
+        .arg(path_option(
+            alloc,
+            "part",
+            "Works only at those open leaves of the tree whose place among them is K modulo N, as K/N, 1 <= K <= N <= 10000",
+        ))
+}
+
 /// Adds the flags that say whether to tell how far the turns are.
 fn with_telling_options<'a>(alloc: Global, command: Command<'a>) -> Result<Command<'a>, AllocError>
     ensures { IfOk result (AddsRules telling_rules command.entry) }
@@ -212,6 +231,7 @@ fn solve_command<'a>(alloc: Global) -> Result<Command<'a>, AllocError>
     let command = with_pricing_options(alloc, command)?;
     let command = with_closing_options(alloc, command)?;
     let command = with_starting_options(alloc, command)?;
+    let command = with_tree_options(alloc, command)?;
     with_telling_options(alloc, command)
 }
 
@@ -247,30 +267,6 @@ fn vrptw_command<'a>(alloc: Global) -> Result<Command<'a>, AllocError>
         .subcommand_required(true)
         .subcommand(solve_command(alloc)?)?
         .subcommand(check_command(alloc)?)
-}
-
-/// The text that a parse has for an argument.
-fn text_of<'a>(found: &ArgMatches<'a>, id: &str) -> Option<&'a str>
-    ensures { option_map (λ s. s.now) result ≡ first_of id.now (rows_of (found_of found.now)) }
-{
-    found.get_str(id)
-}
-
-/// The number that a parse has for an argument.
-fn number_of(found: &ArgMatches<'_>, id: &str) -> Option<u32>
-    ensures { IsNumberIf id.now (rows_of (found_of found.now)) result }
-{
-    found.get_one::<u32>(id)
-}
-
-/// Whether a parse has a flag.
-fn flag_of(found: &ArgMatches<'_>, id: &str) -> bool
-    ensures { HasFlag id.now (rows_of (found_of found.now)) result }
-{
-    match text_of(found, id) {
-        Some(text) => text == "true",
-        None => false,
-    }
 }
 
 /// Whether to close the instance, and with how many leaves at most.
@@ -323,11 +319,16 @@ fn solve_job<'a>(found: &ArgMatches<'a>) -> Option<Job<'a>>
         MatchOption result ((other : _) → says other → ⊥) says }
 {
     let (close, leaves) = closing_of(found)?;
+    let Ok((tree, part)) = tree_of(found, close) else {
+        return None;
+    };
     Some(Job::Solve {
         instance: text_of(found, "INSTANCE")?,
         solution: text_of(found, "SOLUTION")?,
         certificate: text_of(found, "CERTIFICATE")?,
         start: text_of(found, "start"),
+        tree,
+        part,
         settings: settings_of(found)?,
         close,
         leaves,
@@ -369,9 +370,22 @@ fn job_found<'a>(matches: &ArgMatches<'a>) -> Option<Job<'a>>
     None
 }
 
-/// What is said where a parse names no command of the program.
-fn refusal(alloc: Global) -> UsageFault {
-    match Command::new(alloc, PROGRAM).error(ErrorKind::InvalidSubcommand, "no such command") {
+/// What is said where a parse gives no job: what is wrong with the tree or its part, and else that it names no
+/// command of the program.
+fn told(alloc: Global, matches: &ArgMatches<'_>) -> Result<Error, AllocError> {
+    if let Some((_, found)) = matches.subcommand() {
+        if let Err(fault) = tree_of(found, flag_of(found, "close")) {
+            let mut command = solve_command(alloc)?.bin_name("vrptw solve")?;
+            let text = fault.to_string(alloc)?;
+            return command.error(fault.kind(), text.as_str());
+        }
+    }
+    Command::new(alloc, PROGRAM).error(ErrorKind::InvalidSubcommand, "no such command")
+}
+
+/// The refusal of words that clap took and that give no job.
+fn refusal(alloc: Global, matches: &ArgMatches<'_>) -> UsageFault {
+    match told(alloc, matches) {
         Ok(error) => UsageFault::Usage(error),
         Err(_) => UsageFault::Memory,
     }
@@ -403,6 +417,6 @@ pub fn job<'a>(alloc: Global, words: &'a [&'a str]) -> Result<Job<'a>, UsageFaul
     let matches = vrptw_command(alloc)?.try_get_matches_from(words)?;
     match job_found(&matches) {
         Some(job) => Ok(job),
-        None => Err(refusal(alloc)),
+        None => Err(refusal(alloc, &matches)),
     }
 }

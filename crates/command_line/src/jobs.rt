@@ -1,7 +1,7 @@
 //! What the words ask for, and why they ask for nothing.
 ghost use Rattle.std.specs.Prelude.{◌≡◌};
 
-use run_settings::Settings;
+use run_settings::{Part, Settings};
 use std::alloc::AllocError;
 use thiserror::Error;
 
@@ -21,6 +21,11 @@ pub enum Job<'a> {
         certificate: &'a str,
         /// The path of a plan to start from, if there is one.
         start: Option<&'a str>,
+        /// The path of a certificate whose tree the work goes on from, if there is one. Its neighbours count then in
+        /// place of those of the settings, which are the default ones, and `close` is false.
+        tree: Option<&'a str>,
+        /// At which open leaves of that tree to work: by default, and without a tree, `Part::WHOLE`.
+        part: Part,
         /// How much work to put into it.
         settings: Settings,
         /// Whether to close the instance, by one thread; of the settings the neighbours alone count then.

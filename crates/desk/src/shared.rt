@@ -6,7 +6,7 @@ ghost use Rattle.desk.specs.Tally.{each, tally_of};
 ghost use Rattle.desk.specs.Blanks.{names_of, parts_of};
 ghost use Rattle.desk.specs.Account.{tally_of_shares};
 ghost use Rattle.desk.specs.Replies.{Offers, Reprices, Splits, Tells, IsPricedFor};
-ghost use Rattle.desk.specs.Opening.{WasOffered, IsDealt};
+ghost use Rattle.desk.specs.Opening.{WasOffered, IsReached, IsDealt};
 ghost use Rattle.desk.specs.declared.fault.DeskFault.TheVariants.{Memory as memory, MissingShare as missing};
 
 use crate::blanks::Blanks;
@@ -56,6 +56,7 @@ impl<'i, J: Naming> Desk<'i, J> {
         requires neighbours { book.neighbours ≡ J.neighbours }
         requires sets { book.most_sets ≡ J.sets }
         requires offered { WasOffered J.opening_cost book.past }
+        requires reached { IsReached J.opening_bound book }
         requires workers { workers ≡ J.workers }
         requires names { names_of blanks ≡ J.names }
         requires parts { parts_of blanks ≡ each J.workers }
@@ -165,6 +166,7 @@ impl<'i, J: Naming> Desk<'i, J> {
         ensures neighbours { IfOk result (λ o. o.neighbours ≡ J.neighbours) }
         ensures sets { IfOk result (λ o. o.most_sets ≡ J.sets) }
         ensures offered { IfOk result (λ o. WasOffered J.opening_cost o.past) }
+        ensures reached { IfOk result (IsReached J.opening_bound) }
         ensures back { IfErr result (λ e. (e.1 ≡ shares) × (e.2 ≡ missing)) }
     {
         if shares.len() != usize::from(self.workers) {

@@ -2,6 +2,7 @@
 use Rattle.std.specs.Prelude.{◌≡◌, ◌+◌, ◌≤◌, length, Option, Some, None, MatchOption}
 use Rattle.schedule.specs.Solution.{Solution}
 use Rattle.incumbent_book.specs.Contents.{Contents}
+use Rattle.solomon_reader.specs.History.{split_count}
 use Rattle.run_settings.specs.Settings.{IsWithin}
 use Rattle.search_workers.specs.declared.fault.RunFault.{RunFault}
 use Rattle.search_workers.specs.declared.fault.RunFault.TheVariants.{Memory, BadSettings, LabelLimit, NoThread}
@@ -14,6 +15,7 @@ pub record IsOneOn (old new : Contents) : Type 0 where
   pub sets : new.most_sets ≡ old.most_sets
   pub limits : new.limits ≡ old.limits
   pub events : length new.past ≤ length old.past + 1
+  pub splits : split_count new.past ≡ split_count old.past
 
 -- the settings are told to be bad exactly where they are
 abbrev pub RefusesSettings : Settings → RunFault → Type 0

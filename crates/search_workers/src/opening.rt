@@ -1,20 +1,24 @@
-//! What a run begins with: the first plans, the root with its first prices, and the book of both.
+//! What a run begins with: the first plans, the root with its first prices or a given tree, and the book of both.
 
 ghost use Rattle.std.specs.Prelude.{◌≡◌, ◌+◌, ◌<◌, ◌≤◌, ◌⊎◌, [], Some, true, length, is_some, option_map, IfOk, IfErr, IfSome, MatchOption, OnOk};
 ghost use Rattle.solomon_reader.specs.Problem.{customer_count};
-ghost use Rattle.solomon_reader.specs.History.{costs_of};
+ghost use Rattle.solomon_reader.specs.History.{costs_of, split_count};
+ghost use Rattle.desk.specs.Opening.{IsReached};
 ghost use Rattle.solomon_reader.specs.Region.{root_region, Among};
 ghost use Rattle.solomon_reader.specs.declared.limits.TheConstants.{MOST_EVENTS, MOST_NEIGHBOURS, MOST_SETS};
 ghost use Rattle.insertion.specs.Building.{IsServedAlone};
 ghost use Rattle.desk.specs.Opening.{WasOffered};
+ghost use Rattle.search_workers.specs.Given.{IsTreeFor, bound_of};
 ghost use Rattle.search_workers.specs.Running.{IsOneOn, IsNoDearer};
 ghost use Rattle.search_workers.specs.declared.fault.RunFault.TheVariants.{Memory, LabelLimit};
 
+use crate::begun::Begun;
 use crate::fault::RunFault;
+use crate::regrown::{OpenLeaf, left_of, regrow};
 use fronts::Nearness;
 use incumbent_book::{Book, BookFault, Limits, OpenFault};
 use insertion::{Weights, build_whole};
-use labelling::LabelFault;
+use labelling::{Hints, LabelFault};
 use leaf_work::first_leaf;
 use prices::Priced;
 use run_settings::Settings;
@@ -23,16 +27,27 @@ use search::{HeldPlan, descended_parallel};
 use solomon_reader::Instance;
 use std::alloc::{AllocError, Global};
 use std::thread::Threads;
-use worker_turns::pricing_labels;
+use tenths::Tenths;
+use worker_turns::{LeavesLeft, pricing_labels};
 
 /// The worker that offers the first plan.
 const FIRST_WORKER: u16 = 0;
 
-/// The book of a run, and the plan that the search workers begin from.
+/// What the workers of a run begin from: the search workers from a plan, the bound workers from open leaves of a given
+/// tree, or without one from the root; and how many leaves all of them have left.
+#[derive(Drop)]
+pub(crate) struct Beginning<'i> {
+    pub(crate) plan: Option<HeldPlan<'i>>,
+    pub(crate) leaves: Option<Vec<OpenLeaf>>,
+    pub(crate) left: LeavesLeft,
+}
+
+/// The book of a run, a bound that it has reached, in tenths, and what the workers begin from.
 #[derive(Drop)]
 pub(crate) struct Opening<'i> {
     pub(crate) book: Book<'i>,
-    pub(crate) plan: Option<HeldPlan<'i>>,
+    pub(crate) reached: Tenths,
+    pub(crate) begin: Beginning<'i>,
 }
 
 /// The plan that insertion builds, or a given one where that is cheaper.
@@ -64,6 +79,7 @@ fn open_book<'i>(alloc: Global, root: Priced<'i>, sets: u32) -> Result<Book<'i>,
     ensures sets { IfOk result (λ b. b.most_sets ≡ sets) }
     ensures limits { IfOk result (λ b. b.limits.events ≡ MOST_EVENTS) }
     ensures events { IfOk result (λ b. length b.past ≡ 0) }
+    ensures splits { IfOk result (λ b. split_count b.past ≡ 0) }
     ensures memory { IfErr result (λ e. e ≡ Memory) }
 {
     match Book::with_sets(alloc, root, Limits::MOST, sets) {
@@ -102,6 +118,7 @@ fn offer_both<'i, R: Threads + Sync>(
     ensures problem { book.new.problem ≡ book.old.problem }
     ensures neighbours { book.new.neighbours ≡ book.old.neighbours }
     ensures sets { book.new.most_sets ≡ book.old.most_sets }
+    ensures splits { split_count book.new.past ≡ split_count book.old.past }
     ensures offered { IfOk result (λ h. WasOffered (Some h.plan.cost) book.new.past) }
     ensures no_dearer { IfOk result (λ h. h.plan.cost ≤ plan.entry.cost) }
     ensures optimum { IfOk result (λ h. h.is_optimum ≡ true) }
@@ -117,10 +134,51 @@ fn offer_both<'i, R: Threads + Sync>(
     Ok(lower)
 }
 
+/// The root with its first prices: those that a plan says to start from, or that may show that there is none; or prices
+/// of zero, where a given tree has others at its leaves.
+fn first_root<'i>(
+    alloc: Global,
+    instance: &'i Instance,
+    settings: &Settings,
+    nearness: &Nearness<'_>,
+    plan: Option<&Feasible<'i>>,
+    has_tree: bool,
+) -> Result<Priced<'i>, RunFault>
+    requires few { settings.now.neighbours ≤ MOST_NEIGHBOURS }
+    ensures problem { IfOk result (λ f. f.problem ≡ instance.now) }
+    ensures region { IfOk result (λ f. f.region ≡ root_region (customer_count instance.now)) }
+    ensures neighbours { IfOk result (λ f. f.neighbours ≡ settings.now.neighbours) }
+    ensures sets { IfOk result (λ f. f.sets ≡ []) }
+    ensures refused { IfErr result (λ e. (e ≡ Memory) ⊎ (e ≡ LabelLimit)) }
+{
+    let neighbours = settings.neighbours;
+    let root_labels = Some(settings.labels as usize);
+    let root = if has_tree {
+        let hints = Hints::near(alloc, nearness);
+        Priced::root(alloc, instance, neighbours, root_labels, &hints)
+    } else {
+        let labels = Some(pricing_labels(settings, instance.customer_count()));
+        first_leaf(
+            alloc,
+            nearness,
+            instance,
+            neighbours,
+            plan,
+            root_labels,
+            labels,
+        )
+    };
+    match root {
+        Ok(root) => Ok(root),
+        Err(LabelFault::Memory) => Err(RunFault::Memory),
+        Err(LabelFault::LabelLimit) => Err(RunFault::LabelLimit),
+    }
+}
+
 impl<'i> Opening<'i> {
     /// A book of the root that was offered a first plan and what a descent makes of it, if insertion builds one
-    /// or one is given, the cheaper one; else its prices begin where they may show that there is no plan. The tables of
-    /// the instance are lent.
+    /// or one is given, the cheaper one; else its prices begin where they may show that there is no plan. Where a tree is
+    /// given it grows there again. The tables of the instance are lent.
     #[tactic(auto, using(crate::proofs::Starts::still_no_dearer))]
     pub(crate) fn new<R: Threads + Sync>(
         rt: &R,
@@ -128,46 +186,64 @@ impl<'i> Opening<'i> {
         instance: &'i Instance,
         settings: &Settings,
         nearness: &Nearness<'_>,
-        start: Option<Feasible<'i>>,
+        begun: Begun<'_, 'i>,
     ) -> Result<Opening<'i>, RunFault>
         requires few { settings.now.neighbours ≤ MOST_NEIGHBOURS }
         requires few_sets { settings.now.sets ≤ MOST_SETS }
-        requires start { IfSome start (λ f. f.problem ≡ instance.now) }
+        requires start { IfSome begun.start (λ f. f.problem ≡ instance.now) }
+        requires tree { IfSome begun.tree (IsTreeFor instance.now settings.now.neighbours) }
         ensures problem { IfOk result (λ o. o.book.problem ≡ instance.now) }
         ensures neighbours { IfOk result (λ o. o.book.neighbours ≡ settings.now.neighbours) }
         ensures sets { IfOk result (λ o. o.book.most_sets ≡ settings.now.sets) }
-        ensures offered { IfOk result (λ o. WasOffered (option_map (λ h. h.plan.cost) o.plan)
+        ensures offered { IfOk result (λ o. WasOffered (option_map (λ h. h.plan.cost) o.begin.plan)
             o.book.past) }
-        ensures no_dearer { IfOk result (λ o. IsNoDearer start.entry
-            (option_map (λ h. h.plan) o.plan)) }
-        ensures served { IfOk result (λ o. IsServedAlone instance.now → is_some o.plan ≡ true) }
-        ensures optimum { IfOk result (λ o. IfSome o.plan (λ h. h.is_optimum ≡ true)) }
+        ensures reached { IfOk result (λ o. IsReached o.reached o.book) }
+        ensures least { IfOk result (λ o. o.reached ≡ bound_of begun.entry.tree) }
+        ensures no_dearer { IfOk result (λ o. IsNoDearer begun.entry.start
+            (option_map (λ h. h.plan) o.begin.plan)) }
+        ensures served { IfOk result (λ o. IsServedAlone instance.now → is_some o.begin.plan ≡ true) }
+        ensures optimum { IfOk result (λ o. IfSome o.begin.plan (λ h. h.is_optimum ≡ true)) }
         ensures refused { IfErr result (λ e. (e ≡ Memory) ⊎ (e ≡ LabelLimit)) }
     {
+        let Begun { start, tree } = begun;
         let plan = first_plan(alloc, instance, start)?;
-        let root_labels = Some(settings.labels as usize);
-        let labels = Some(pricing_labels(settings, instance.customer_count()));
-        let root = match first_leaf(
+        let root = first_root(
             alloc,
-            nearness,
             instance,
-            settings.neighbours,
+            settings,
+            nearness,
             plan.as_ref(),
-            root_labels,
-            labels,
-        ) {
-            Ok(root) => root,
-            Err(LabelFault::Memory) => return Err(RunFault::Memory),
-            Err(LabelFault::LabelLimit) => return Err(RunFault::LabelLimit),
-        };
+            tree.is_some(),
+        )?;
         let mut book = open_book(alloc, root, settings.sets)?;
-        let Some(plan) = plan else {
-            return Ok(Opening { book, plan: None });
+        let plan = match plan {
+            Some(plan) => Some(offer_both(rt, alloc, &mut book, plan)?),
+            None => None,
         };
-        let plan = offer_both(rt, alloc, &mut book, plan)?;
+        let Some(tree) = tree else {
+            let begin = Beginning {
+                plan,
+                leaves: None,
+                left: LeavesLeft::of_all(),
+            };
+            let reached = Tenths::from(0);
+            return Ok(Opening {
+                book,
+                reached,
+                begin,
+            });
+        };
+        let leaves = regrow(alloc, nearness, &mut book, tree, settings.labels)?;
+        let begin = Beginning {
+            plan,
+            left: left_of(tree.part, leaves.as_ref()),
+            leaves,
+        };
+        let reached = tree.certificate.parts().bound;
         Ok(Opening {
             book,
-            plan: Some(plan),
+            reached,
+            begin,
         })
     }
 }

@@ -11,23 +11,25 @@ ghost use Rattle.desk.specs.Tally.{each};
 ghost use Rattle.desk.specs.Blanks.{names_of, parts_of};
 ghost use Rattle.desk.specs.Opening.{WasOffered};
 ghost use Rattle.run_settings.specs.Settings.{IsWithin};
+ghost use Rattle.desk.specs.Opening.{IsReached};
+ghost use Rattle.search_workers.specs.Given.{IsTreeFor, bound_of};
 ghost use Rattle.search_workers.specs.Running.{RefusesSettings, IsNoDearer};
 ghost use Rattle.search_workers.specs.Roles.{DrawsFor};
 ghost use Rattle.search_workers.specs.declared.fault.RunFault.TheVariants as refusal;
 
 use crate::at_desk::AtDesk;
+use crate::begun::Begun;
 use crate::crew::all_at_once;
 use crate::fault::RunFault;
-use crate::opening::Opening;
+use crate::opening::{Beginning, Opening};
 use crate::post::{ReadyWorker, Role};
+use crate::regrown::OpenLeaf;
 use ceiling::{Ceiling, CeilingSeat};
 use desk::{Blanks, Desk, Naming, Share};
 use fronts::Nearness;
 use incumbent_book::{Gap, Outcome};
 use node_pool::{Hand, Pass, Pool, Thief};
 use run_settings::{Settings, generator};
-use schedule::Feasible;
-use search::HeldPlan;
 use solomon_reader::Instance;
 use std::alloc::{AllocError, Global};
 use std::marker::Brand;
@@ -60,7 +62,23 @@ struct Shared<'a, 'i, R: Wait, J: Naming, G> {
     desk: &'a Desk<'i, J>,
     ceiling: &'a Ceiling,
     deques: &'a [Thief],
-    plan: Option<&'a HeldPlan<'i>>,
+    begin: &'a Beginning<'i>,
+}
+
+/// Deals out to a bound worker each so many-th of the open leaves, as many as there are bound workers.
+fn deal(
+    nodes: &mut Nodes<'_>,
+    leaves: &[OpenLeaf],
+    number: u16,
+    settings: &Settings,
+) -> Result<(), AllocError> {
+    let bounders = settings.bounders.max(1) as usize;
+    for (place, leaf) in leaves.iter().enumerate() {
+        if place % bounders == usize::from(number) % bounders {
+            nodes.take_up(leaf.number, leaf.value)?;
+        }
+    }
+    Ok(())
 }
 
 /// The role of a worker: it raises the bound where it has the end of a deque, else it looks for plans by the random
@@ -76,14 +94,17 @@ fn role_of<'a, 'i, R: Wait, J: Naming, G>(
 {
     let input = shared.input;
     if let (Some(own), Some(pass)) = (own, pass) {
-        let plan = match shared.plan {
+        let plan = match &shared.begin.plan {
             Some(held) => Some(&held.plan),
             None => None,
         };
-        let nodes = Nodes::new(input.alloc, input.nearness, plan, own, shared.deques, pass)?;
+        let mut nodes = Nodes::new(input.alloc, input.nearness, plan, own, shared.deques, pass)?;
+        if let Some(leaves) = &shared.begin.leaves {
+            deal(&mut nodes, leaves.as_slice(), number, input.settings)?;
+        }
         return Ok(Role::Bound { nodes });
     }
-    let plan = match shared.plan {
+    let plan = match &shared.begin.plan {
         Some(held) => Some(held.try_clone()?),
         None => None,
     };
@@ -125,6 +146,7 @@ fn post_workers<'a, 'i, R: Wait, J: Naming, G>(
                 number,
                 ceiling: shared.ceiling,
                 seat,
+                left: &shared.begin.left,
                 enough: input.settings.gap,
             },
             settings: input.settings,
@@ -134,16 +156,27 @@ fn post_workers<'a, 'i, R: Wait, J: Naming, G>(
     Ok(crew)
 }
 
-/// The deques of the bound workers. The root stands in each, so that all begin there.
-fn deques(alloc: Global, bounders: usize) -> Result<(Vec<Hand>, Vec<Thief>, Vec<Pass>), AllocError>
+/// Puts the root into empty deques.
+fn put_root(hands: &mut [Hand]) {
+    for hand in hands.iter_mut() {
+        // An empty deque has room.
+        let _ = hand.push(ROOT);
+    }
+}
+
+/// The deques of the bound workers. The root stands in each where all begin there.
+fn deques(
+    alloc: Global,
+    bounders: usize,
+    at_root: bool,
+) -> Result<(Vec<Hand>, Vec<Thief>, Vec<Pass>), AllocError>
     ensures { IfOk result (λ r. All (λ p. All (λ t. FitsAt (deque_at t) p) r.1.items) r.2.items) }
 {
     let Ok((mut hands, thieves, passes)) = Pool::new(alloc, bounders, PUSHES) else {
         return Err(AllocError);
     };
-    for hand in hands.iter_mut() {
-        // An empty deque has room.
-        let _ = hand.push(ROOT);
+    if at_root {
+        put_root(hands.as_mut_slice());
     }
     Ok((hands, thieves, passes))
 }
@@ -154,7 +187,7 @@ fn work_together<'i, R: Threads + Wait + Sync, J: Naming + Send + Sync, G: Gate 
     input: &Input<'_, 'i, R, G>,
     desk: &Desk<'i, J>,
     shares: Vec<Share<J>>,
-    plan: Option<&HeldPlan<'i>>,
+    begin: &Beginning<'i>,
     gap: &Gap,
 ) -> Result<Vec<Share<J>>, RunFault>
     requires few { (0 < vec_len shares) × (vec_len shares ≤ 2 ^ 16) }
@@ -168,13 +201,14 @@ fn work_together<'i, R: Threads + Wait + Sync, J: Naming + Send + Sync, G: Gate 
     let Ok((ceiling, seats)) = Ceiling::new(input.alloc, shares.len(), cost, gap.bound.get()) else {
         return Err(RunFault::Memory);
     };
-    let (hands, thieves, passes) = deques(input.alloc, input.settings.bounders as usize)?;
+    let bounders = input.settings.bounders as usize;
+    let (hands, thieves, passes) = deques(input.alloc, bounders, begin.leaves.is_none())?;
     let shared = Shared {
         input,
         desk,
         ceiling: &ceiling,
         deques: thieves.as_slice(),
-        plan,
+        begin,
     };
     let crew = post_workers(&shared, shares, seats, hands, passes)?;
     all_at_once(input.rt, input.alloc, crew)
@@ -191,6 +225,7 @@ fn run_at_desk<'i, R: Threads + Wait + Sync, J: Naming + Send + Sync, G: Gate + 
     requires neighbours { opening.book.neighbours ≡ J.neighbours }
     requires sets { opening.book.most_sets ≡ J.sets }
     requires offered { WasOffered J.opening_cost opening.book.past }
+    requires reached { IsReached J.opening_bound opening.book }
     requires workers { J.workers ≡ input.now.settings.now.searchers +
         input.now.settings.now.bounders }
     requires names { names_of blanks ≡ J.names }
@@ -199,36 +234,39 @@ fn run_at_desk<'i, R: Threads + Wait + Sync, J: Naming + Send + Sync, G: Gate + 
     ensures neighbours { IfOk result (λ o. o.neighbours ≡ J.neighbours) }
     ensures sets { IfOk result (λ o. o.most_sets ≡ J.sets) }
     ensures offered { IfOk result (λ o. WasOffered J.opening_cost o.past) }
+    ensures reached { IfOk result (IsReached J.opening_bound) }
     ensures refused { IfErr result (λ e. (e ≡ refusal.Memory) ⊎ (e ≡ refusal.NoThread)) }
 {
-    let Opening { book, plan } = opening;
+    let Opening { book, begin, .. } = opening;
     let gap = book.gap();
     let workers = input.settings.searchers + input.settings.bounders;
     let Ok((desk, shares)) = Desk::<J>::open(input.alloc, book, workers as u16, blanks) else {
         return Err(RunFault::Memory);
     };
-    let shares = work_together(input, &desk, shares, plan.as_ref(), &gap)?;
+    let shares = work_together(input, &desk, shares, &begin, &gap)?;
     match desk.close(shares) {
         Ok(outcome) => Ok(outcome),
         Err(_) => unreachable!(),
     }
 }
 
-/// Lets all workers work from a first plan on, the given one or one that an insertion builds, and answers what they
-/// leave.
+/// Lets all workers work from a first plan on, the given one or one that an insertion builds, and at a given tree if there
+/// is one, and answers what they leave.
 #[tactic(auto, using(crate::proofs::Starts::offered_some, crate::proofs::Starts::incumbent_no_dearer))]
 fn run_within<'i, R: Threads + Wait + Sync, G: Gate + Sync>(
     input: &Input<'_, 'i, R, G>,
-    start: Option<Feasible<'i>>,
+    begun: Begun<'_, 'i>,
 ) -> Result<Outcome<'i>, RunFault>
     requires within { IsWithin input.now.settings.now }
-    requires start { IfSome start (λ f. f.problem ≡ input.now.instance.now) }
+    requires start { IfSome begun.start (λ f. f.problem ≡ input.now.instance.now) }
+    requires tree { IfSome begun.tree (IsTreeFor input.now.instance.now input.now.settings.now.neighbours) }
     ensures problem { IfOk result (λ o. o.problem ≡ input.now.instance.now) }
     ensures neighbours { IfOk result (λ o. o.neighbours ≡ input.now.settings.now.neighbours) }
     ensures sets { IfOk result (λ o. o.most_sets ≡ input.now.settings.now.sets) }
     ensures served { IfOk result
         (λ o. IsServedAlone input.now.instance.now → costs_of o.past ≢ []) }
-    ensures no_dearer { IfOk result (λ o. IsNoDearer start.entry o.incumbent) }
+    ensures no_dearer { IfOk result (λ o. IsNoDearer begun.entry.start o.incumbent) }
+    ensures reached { IfOk result (IsReached (bound_of begun.entry.tree)) }
     ensures refused { IfErr result (λ e. (e ≡ refusal.Memory) ⊎ (e ≡ refusal.LabelLimit)
         ⊎ (e ≡ refusal.NoThread)) }
 {
@@ -240,7 +278,7 @@ fn run_within<'i, R: Threads + Wait + Sync, G: Gate + Sync>(
         nearness,
         ..
     } = *input;
-    let opening = Opening::new(rt, alloc, instance, settings, nearness, start)?;
+    let opening = Opening::new(rt, alloc, instance, settings, nearness, begun)?;
     let workers = settings.searchers + settings.bounders;
     let outcome = run_at_desk::<R, Brand, G>(input, opening, Blanks::new(workers as u16))?;
     // brings in that the incumbent is the cheapest plan offered
@@ -268,25 +306,38 @@ pub fn run<'i, R: Threads + Wait + Sync, G: Gate + Sync>(
     ensures within { IfOk result (λ _. IsWithin settings.now) }
     ensures refused { IfErr result (RefusesSettings settings.now) }
 {
-    run_from(rt, alloc, instance, settings, gate, None)
+    run_from(
+        rt,
+        alloc,
+        instance,
+        settings,
+        gate,
+        Begun::nothing(instance),
+    )
 }
 
-/// What `run` answers where the work begins with a given plan, if it is cheaper than the one that an insertion
-/// builds. The incumbent costs at most what that plan does.
+/// What `run` answers where the work goes on from a given plan, if that is cheaper than the one that an insertion
+/// builds, and from a given tree. The incumbent costs at most what that plan does, and the bound is at least that of the
+/// tree. Bound workers begin at its open leaves: those whose value is below the best cost, or of them those of a part.
+///
+/// `LabelLimit` also where a pricing at a leaf of the tree takes more labels than the settings allow, or a leaf has
+/// prices of sets that no run gives: of two sets with the same customers, or together above half of the range.
 pub fn run_from<'i, R: Threads + Wait + Sync, G: Gate + Sync>(
     rt: &R,
     alloc: Global,
     instance: &'i Instance,
     settings: &Settings,
     gate: &G,
-    start: Option<Feasible<'i>>,
+    begun: Begun<'_, 'i>,
 ) -> Result<Outcome<'i>, RunFault>
-    requires start { IfSome start (λ f. f.problem ≡ instance.now) }
+    requires start { IfSome begun.start (λ f. f.problem ≡ instance.now) }
+    requires tree { IfSome begun.tree (IsTreeFor instance.now settings.now.neighbours) }
     ensures problem { IfOk result (λ o. o.problem ≡ instance.now) }
     ensures neighbours { IfOk result (λ o. o.neighbours ≡ settings.now.neighbours) }
     ensures sets { IfOk result (λ o. o.most_sets ≡ settings.now.sets) }
     ensures served { IfOk result (λ o. IsServedAlone instance.now → costs_of o.past ≢ []) }
-    ensures no_dearer { IfOk result (λ o. IsNoDearer start.entry o.incumbent) }
+    ensures no_dearer { IfOk result (λ o. IsNoDearer begun.entry.start o.incumbent) }
+    ensures reached { IfOk result (IsReached (bound_of begun.entry.tree)) }
     ensures within { IfOk result (λ _. IsWithin settings.now) }
     ensures refused { IfErr result (RefusesSettings settings.now) }
 {
@@ -302,5 +353,5 @@ pub fn run_from<'i, R: Threads + Wait + Sync, G: Gate + Sync>(
         nearness: &nearness,
         gate,
     };
-    run_within(&input, start)
+    run_within(&input, begun)
 }

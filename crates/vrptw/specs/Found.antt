@@ -42,9 +42,9 @@ IsDescended None None = Unit {0}
 IsDescended (Some f) None = ⊥
 IsDescended None (Some g) = ⊥
 
--- where the answer isn't certain, it is of this bound, and of a plan at no more than the cost of this one, or of none
+-- the answer is of this bound, and where it isn't certain, of a plan at no more than the cost of this one, or of none
 abbrev pub IsOf : Option Solution → ℕ → Answer → Type 0
-IsOf plan bound (Best cost) = Unit {0}
+IsOf plan bound (Best cost) = cost ≡ bound
 IsOf plan bound (Gap cost b) = (b ≡ bound) × MatchOption plan ⊥ (λ f. cost ≤ f.cost)
 IsOf plan bound NoPlan = Unit {0}
 IsOf plan bound (Open b) = (b ≡ bound) × (plan ≡ None)

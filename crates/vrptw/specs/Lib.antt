@@ -3,3 +3,4 @@ pub mod Answers
 pub mod Found
 pub mod Closing
 pub mod Starting
+pub mod GoingOn

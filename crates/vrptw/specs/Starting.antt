@@ -14,7 +14,7 @@ use Rattle.vrptw.specs.declared.answer.Answer.TheVariants.{Best, Gap, NoPlan, Op
 use Rattle.vrptw.specs.declared.answer.SolveFault.{SolveFault}
 use Rattle.vrptw.specs.declared.answer.SolveFault.TheVariants as fault
 use Rattle.vrptw.specs.declared.starting.StartFault.{StartFault}
-use Rattle.vrptw.specs.declared.starting.StartFault.TheVariants.{Solve, Start}
+use Rattle.vrptw.specs.declared.starting.StartFault.TheVariants.{Solve, Start, Tree}
 
 -- the answer has a plan that costs at most so much
 abbrev pub IsAtMost : ℕ → Answer → Type 0
@@ -51,6 +51,7 @@ IsStart p (Some text) None = ⊥
 abbrev pub IsStartFault : Problem → Option (List ℕ) → StartFault → Type 0
 IsStartFault p text (Solve e) = e ≡ fault.Memory
 IsStartFault p text (Start e) = RefusesStart p text e
+IsStartFault p text (Tree e) = ⊥
 
 -- the first text is an instance, and the text to start from, if there is one, that of a plan and of its exact cost
 abbrev pub AreRightTexts : List ℕ → Option (List ℕ) → Type 0
@@ -73,3 +74,4 @@ abbrev pub TellsFrom : (Result Answer SolveFault → Type 0) → List ℕ → Op
 TellsFrom Tells text start s s' c c' (Ok answer) = Tells (Ok answer) × ((p : Problem) × IsInstance text p × IsNoWorse p start answer)
 TellsFrom Tells text start s s' c c' (Err (Solve e)) = Tells (Err e) × IsBehindTexts text start e
 TellsFrom Tells text start s s' c c' (Err (Start e)) = ((p : Problem) × IsInstance text p × RefusesStart p start e) × (s' ≡ s) × (c' ≡ c)
+TellsFrom Tells text start s s' c c' (Err (Tree e)) = ⊥

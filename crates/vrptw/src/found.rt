@@ -1,7 +1,7 @@
 //! What a run found.
 
 ghost use Rattle.std.specs.Prelude.{◌≡◌, [], None, IfOk, IfErr};
-ghost use Rattle.solomon_reader.specs.History.{costs_of};
+ghost use Rattle.solomon_reader.specs.History.{IsBound, costs_of};
 ghost use Rattle.vrptw.specs.Found.{IsFound};
 ghost use Rattle.vrptw.specs.declared.answer.SolveFault.TheVariants.{Memory};
 
@@ -21,6 +21,7 @@ pub(crate) fn found_by<'i>(
     requires sets { outcome.most_sets ≡ settings.now.sets }
     ensures found { IfOk result (IsFound outcome.entry.problem settings.now) }
     ensures plan { IfOk result (λ f. f.plan ≡ outcome.entry.incumbent) }
+    ensures bound { IfOk result (λ f. IsBound outcome.entry.problem outcome.entry.root outcome.entry.past f.bound) }
     ensures offered { IfOk result (λ f. f.plan ≡ None → costs_of outcome.entry.past ≡ []) }
     ensures memory { IfErr result (λ e. e ≡ Memory) }
 {

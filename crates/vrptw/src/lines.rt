@@ -139,12 +139,12 @@ fn solve_fault<Y: Sink>(alloc: Global, fault: SolveFault, errors: &mut Y) -> u8 
     }
 }
 
-/// What is said where the solver gives no answer, perhaps since a plan to start from was refused: the latter
+/// What is said where the solver gives no answer, perhaps since a plan to start from or a tree was refused: the latter
 /// as the checker would say it.
 pub(crate) fn start_fault<Y: Sink>(alloc: Global, fault: StartFault, errors: &mut Y) -> u8 {
     match fault {
         StartFault::Solve(fault) => solve_fault(alloc, fault, errors),
-        StartFault::Start(fault) => check_fault(alloc, fault, errors),
+        StartFault::Start(fault) | StartFault::Tree(fault) => check_fault(alloc, fault, errors),
     }
 }
 

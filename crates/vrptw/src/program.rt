@@ -4,16 +4,16 @@ ghost use Rattle.std.specs.Prelude.{◌≡◌, ◌⊎◌, IsTrue, ◌↔◌};
 
 use crate::answer::Answer;
 use crate::closing_text::close_from;
+use crate::going_on::{GivenTexts, solve_on};
 use crate::lines::{
     check_fault, file_fault, open_fault, start_fault, tell, tell_verdict, usage_fault,
 };
 use crate::paths::is_same_path;
 use crate::progress::{ProgressGate, Telling};
-use crate::solving::solve_from;
 use crate::starting::StartFault;
 use checker::check;
 use command_line::{Job, job};
-use run_settings::Settings;
+use run_settings::{Part, Settings};
 use std::alloc::Global;
 use std::rt::Files;
 use std::sync::Wait;
@@ -27,6 +27,8 @@ use tenths::{Sink, StdSink};
 struct SolveJob<'a> {
     instance: &'a str,
     start: Option<&'a str>,
+    tree: Option<&'a str>,
+    part: Part,
     solution: &'a str,
     certificate: &'a str,
     settings: &'a Settings,
@@ -40,6 +42,7 @@ impl SolveJob<'_> {
         let is_read = |path: &str| {
             is_same_path(self.instance, path)
                 || self.start.is_some_and(|start| is_same_path(start, path))
+                || self.tree.is_some_and(|tree| is_same_path(tree, path))
         };
         is_same_path(self.solution, self.certificate)
             || is_read(self.solution)
@@ -47,25 +50,33 @@ impl SolveJob<'_> {
     }
 }
 
-/// Closes the instance of a text, or solves it, from a plan if there is one.
+/// Closes the instance of a text, or solves it, from a plan and a tree where there are some.
 fn solve_text<R: Eprint + Threads + Wait + Sync, X: Sink, Y: Sink>(
     rt: &R,
     alloc: Global,
-    (text, start): (&[u8], Option<&[u8]>),
+    (text, given): (&[u8], GivenTexts<'_>),
     job: SolveJob<'_>,
     solution: &mut X,
     certificate: &mut Y,
 ) -> Result<Answer, StartFault> {
     let settings = job.settings;
     if let Some(leaves) = job.closing {
-        return close_from(alloc, text, start, settings, leaves, solution, certificate);
+        return close_from(
+            alloc,
+            text,
+            given.start,
+            settings,
+            leaves,
+            solution,
+            certificate,
+        );
     }
     let gate = ProgressGate::new(rt, settings, job.telling);
-    let answer = solve_from(
+    let answer = solve_on(
         rt,
         alloc,
         text,
-        start,
+        given,
         settings,
         &gate,
         solution,
@@ -83,7 +94,25 @@ fn read_if<R: Files + AllocGlobal>(rt: &R, path: Option<&str>) -> io::Result<Opt
     }
 }
 
-/// Solves the instance of a file, from the plan of another one if it is named, into two others, which are made
+/// The bytes of two files, each if it is named.
+fn read_both<R: Files + AllocGlobal>(
+    rt: &R,
+    first: Option<&str>,
+    second: Option<&str>,
+) -> io::Result<(Option<Vec<u8>>, Option<Vec<u8>>)> {
+    let first = read_if(rt, first)?;
+    Ok((first, read_if(rt, second)?))
+}
+
+/// The bytes, if there are some.
+fn bytes_of(text: &Option<Vec<u8>>) -> Option<&[u8]> {
+    match text {
+        Some(text) => Some(text.as_slice()),
+        None => None,
+    }
+}
+
+/// Solves the instance of a file, from the plan and the tree of others where they are named, into two others, which are made
 /// once both were read. No file that is written may be another of them, since it would be overwritten.
 fn solve_files<R: Eprint + Files + AllocGlobal + Threads + Wait + Sync, X: Sink, Y: Sink>(
     rt: &R,
@@ -99,8 +128,8 @@ fn solve_files<R: Eprint + Files + AllocGlobal + Threads + Wait + Sync, X: Sink,
         Ok(text) => text,
         Err(error) => return open_fault(&error, errors),
     };
-    let start = match read_if(rt, job.start) {
-        Ok(start) => start,
+    let (start, tree) = match read_both(rt, job.start, job.tree) {
+        Ok(texts) => texts,
         Err(error) => return open_fault(&error, errors),
     };
     let mut solution = match fs::create(rt, job.solution) {
@@ -111,11 +140,12 @@ fn solve_files<R: Eprint + Files + AllocGlobal + Threads + Wait + Sync, X: Sink,
         Ok(file) => StdSink::new(file),
         Err(error) => return open_fault(&error, errors),
     };
-    let start = match &start {
-        Some(start) => Some(start.as_slice()),
-        None => None,
+    let given = GivenTexts {
+        start: bytes_of(&start),
+        tree: bytes_of(&tree),
+        part: job.part,
     };
-    let texts = (text.as_slice(), start);
+    let texts = (text.as_slice(), given);
     match solve_text(rt, alloc, texts, job, &mut solution, &mut certificate) {
         Err(fault) => start_fault(alloc, fault, errors),
         Ok(answer) => tell(&answer, out, errors),
@@ -144,15 +174,11 @@ fn check_files<R: Files + AllocGlobal, X: Sink, Y: Sink>(
         Ok(solution) => solution,
         Err(error) => return open_fault(&error, errors),
     };
-    let solution = match &solution {
-        Some(text) => Some(text.as_slice()),
-        None => None,
-    };
     match check(
         alloc,
         instance.as_slice(),
         certificate.as_slice(),
-        solution,
+        bytes_of(&solution),
         states as usize,
     ) {
         Err(fault) => check_fault(alloc, fault, errors),
@@ -174,8 +200,8 @@ fn telling_of(progress: bool, live: bool) -> Telling {
 /// Does what the program does with the words after its name and the files that they name: prints
 /// to `out` in place of standard output and to `errors` in place of standard error, and answers
 /// the status: 0 for `BEST`, `NO PLAN` and help, 1 for `GAP`, `OPEN` and `BOUND`, 2 for wrong words,
-/// 3 for a refused instance, 4 where memory was refused, 5 for a refused certificate or solution, or plan to
-/// start from, 6 where a file or a stream failed or `solve` would overwrite one of its files, 7 where the
+/// 3 for a refused instance, 4 where memory was refused, 5 for a refused certificate or solution, or plan or
+/// tree to go on from, 6 where a file or a stream failed or `solve` would overwrite one of its files, 7 where the
 /// labels, the states or the leaves don't suffice, or an instance is too large to be closed. With `--progress`
 /// and `--live` lines stand on standard error itself besides. What files hold no contract can say.
 pub fn run_words<R: Eprint + Files + AllocGlobal + Threads + Wait + Sync, X: Sink, Y: Sink>(
@@ -195,6 +221,8 @@ pub fn run_words<R: Eprint + Files + AllocGlobal + Threads + Wait + Sync, X: Sin
             solution,
             certificate,
             start,
+            tree,
+            part,
             settings,
             close,
             leaves,
@@ -204,6 +232,8 @@ pub fn run_words<R: Eprint + Files + AllocGlobal + Threads + Wait + Sync, X: Sin
             let job = SolveJob {
                 instance,
                 start,
+                tree,
+                part,
                 solution,
                 certificate,
                 settings: &settings,

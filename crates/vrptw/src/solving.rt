@@ -3,15 +3,16 @@
 ghost use Rattle.std.specs.Prelude.{ℕ, List, IfOk, IfErr, IfSome, option_map};
 ghost use Rattle.solomon_reader.specs.Layout.{IsInstance};
 ghost use Rattle.vrptw.specs.Answers.{Solves, RefusesText};
+ghost use Rattle.search_workers.specs.Given.{IsTreeFor, bound_of};
 ghost use Rattle.vrptw.specs.Starting.{IsAtMost, IsPlanAt, TellsFrom};
+ghost use Rattle.vrptw.specs.GoingOn.{IsNoLower};
 
 use crate::answer::{Answer, SolveFault};
 use crate::found::found_by;
-use crate::starting::{StartFault, no_start, read_start};
+use crate::starting::{StartFault, read_start};
 use crate::writing::write_found;
 use run_settings::Settings;
-use schedule::Feasible;
-use search_workers::run_from;
+use search_workers::{Begun, run_from};
 use solomon_reader::{Instance, ReadFault, read};
 use std::alloc::Global;
 use std::sync::Wait;
@@ -31,25 +32,27 @@ pub(crate) fn read_instance(alloc: Global, text: &[u8]) -> Result<Instance, Solv
     }
 }
 
-/// Solves an instance, from a plan if there is one, and writes what is found.
-fn solve_instance<'i, R: Threads + Wait + Sync, G: Gate + Sync, X: Sink, Y: Sink>(
+/// Solves an instance, from a plan and a tree where there are some, and writes what is found.
+pub(crate) fn solve_instance<'i, R: Threads + Wait + Sync, G: Gate + Sync, X: Sink, Y: Sink>(
     rt: &R,
     alloc: Global,
     instance: &'i Instance,
-    start: Option<Feasible<'i>>,
+    begun: Begun<'_, 'i>,
     settings: &Settings,
     gate: &G,
     solution: &mut X,
     certificate: &mut Y,
 ) -> Result<Answer, SolveFault>
-    requires { IfSome start (IsPlanAt instance.now) }
+    requires start { IfSome begun.start (IsPlanAt instance.now) }
+    requires tree { IfSome begun.tree (IsTreeFor instance.now settings.now.neighbours) }
     ensures solved { (text : List ℕ) → IsInstance text instance.now
         → Solves text settings.now
         (X.held solution.old) (X.held solution.new)
         (Y.held certificate.old) (Y.held certificate.new) result }
-    ensures at_most { IfOk result (λ a. IfSome start.entry (λ f. IsAtMost f.cost a)) }
+    ensures at_most { IfOk result (λ a. IfSome begun.entry.start (λ f. IsAtMost f.cost a)) }
+    ensures no_lower { IfOk result (IsNoLower instance.now (bound_of begun.entry.tree)) }
 {
-    let outcome = run_from(rt, alloc, instance, settings, gate, start)?;
+    let outcome = run_from(rt, alloc, instance, settings, gate, begun)?;
     let found = found_by(alloc, settings, outcome)?;
     write_found(alloc, instance, settings, found, solution, certificate)
 }
@@ -81,7 +84,7 @@ pub fn solve<R: Threads + Wait + Sync, G: Gate + Sync, X: Sink, Y: Sink>(
         rt,
         alloc,
         instance,
-        no_start(instance),
+        Begun::nothing(instance),
         settings,
         gate,
         solution,
@@ -114,11 +117,12 @@ pub fn solve_from<R: Threads + Wait + Sync, G: Gate + Sync, X: Sink, Y: Sink>(
 {
     let instance = &read_instance(alloc, text)?;
     let start = read_start(alloc, instance, start)?;
+    let begun = Begun { start, tree: None };
     let answer = solve_instance(
         rt,
         alloc,
         instance,
-        start,
+        begun,
         settings,
         gate,
         solution,

@@ -14,7 +14,7 @@ use solomon_reader::Instance;
 use std::alloc::Global;
 use thiserror::Error;
 
-/// Why the solver gives no answer from a plan to start from.
+/// Why the solver gives no answer from a plan to start from, or from a tree.
 #[derive(Clone, Copy, Debug, PartialEq, Eq, Error)]
 pub enum StartFault {
     /// What is told without a plan to start from, too.
@@ -24,6 +24,10 @@ pub enum StartFault {
     /// `PlanRefused` or `CostDiffers`; nothing was written.
     #[error("Start: {0}")]
     Start(CheckFault),
+    /// The text of a tree to go on from isn't that of a certificate which the instance accepts, as the checker tells it;
+    /// nothing was written.
+    #[error("Tree: {0}")]
+    Tree(CheckFault),
 }
 
 impl From<SolveFault> for StartFault {

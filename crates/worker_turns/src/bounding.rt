@@ -63,6 +63,7 @@ fn split<'i, H: Hub<'i>, G: Gate>(
         value: second_value,
         start: unused_start,
     };
+    worker.left.split();
     nodes.push_children(first, second)
 }
 
@@ -77,6 +78,7 @@ fn settle<'i, H: Hub<'i>, G: Gate>(
 ) -> Result<(), Refusal>
     ensures words { worker.new.ceiling ≡ worker.old.ceiling }
 {
+    worker.left.finish();
     if let Some(plan) = plan {
         offer_if_cheaper(worker, plan)?;
     }
@@ -104,7 +106,10 @@ fn split_or_settle<'i, H: Hub<'i>, G: Gate>(
         Ok(Parted::Settled(settled, plan)) => {
             settle(worker, number, raised.priced.value(), settled, plan)
         }
-        Err(LabelFault::LabelLimit) => worker.reprice(number, raised.priced),
+        Err(LabelFault::LabelLimit) => {
+            worker.left.finish();
+            worker.reprice(number, raised.priced)
+        }
         Err(LabelFault::Memory) => Err(Refusal::EndsWork),
     }
 }
@@ -122,6 +127,7 @@ fn bring<'i, H: Hub<'i>, G: Gate>(
     ensures words { worker.new.ceiling ≡ worker.old.ceiling }
 {
     if raised.priced.value() >= i128::from(worker.target()) {
+        worker.left.finish();
         return worker.reprice(number, raised.priced);
     }
     // The first worker alone splits the root, so that the tree begins with prices and routes that belong together.
@@ -216,6 +222,8 @@ fn work_on<'i, H: Hub<'i>, G: Gate>(
     worker.pass(GatePoint::Looked);
     if leaf.value() < i128::from(worker.target()) {
         work_at(worker, taken, leaf, rules, nodes)?;
+    } else {
+        worker.left.finish();
     }
     Ok(true)
 }

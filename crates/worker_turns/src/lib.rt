@@ -4,6 +4,7 @@
 mod bounding;
 mod gate;
 mod hub;
+mod leaves_left;
 mod nodes;
 mod pricing;
 mod refusal;
@@ -13,6 +14,7 @@ mod worker;
 pub use bounding::bound_worker;
 pub use gate::{Gate, GatePoint, NoGate};
 pub use hub::Hub;
+pub use leaves_left::LeavesLeft;
 pub use nodes::Nodes;
 pub use pricing::pricing_labels;
 pub use searching::search_worker;

@@ -152,6 +152,16 @@ impl<'p> Nodes<'p> {
         })
     }
 
+    /// Takes up a leaf of a given tree, with its value in tenths, as one of the worker's own; refused where memory is.
+    pub fn take_up(&mut self, number: u32, value: i128) -> Result<(), AllocError> {
+        self.open.push(OpenNode {
+            number,
+            value,
+            start: None,
+        })?;
+        Ok(())
+    }
+
     /// Keeps a leaf that waits for its turn. Where memory is refused, the worker's work ends.
     fn push(&mut self, node: OpenNode) -> Result<(), Refusal> {
         match self.open.push(node) {

@@ -5,6 +5,7 @@ ghost use Rattle.ceiling.specs.Seats.{IsSeatOf};
 
 use crate::gate::{Gate, GatePoint};
 use crate::hub::Hub;
+use crate::leaves_left::LeavesLeft;
 use crate::refusal::Refusal;
 use branching::Arc;
 use ceiling::{Ceiling, CeilingSeat};
@@ -33,6 +34,8 @@ pub struct Worker<'a, 'i, H, G> {
     pub ceiling: &'a Ceiling,
     /// Its right to move them.
     pub seat: CeilingSeat,
+    /// How many leaves all workers have left.
+    pub left: &'a LeavesLeft,
     /// No work is left once cost and bound are no further apart than this many tenths of a percent of the cost.
     pub enough: u32,
     pub ghost own: { IsSeatOf ceiling.now seat },
@@ -77,12 +80,12 @@ impl<'i, H: Hub<'i>, G: Gate> Worker<'_, 'i, H, G> {
         }
     }
 
-    /// Whether cost and bound have met, or are as near as is enough, so that no work is left.
+    /// Whether cost and bound have met, or are as near as is enough, or no leaf of the part is left, so that no work is.
     pub(crate) fn is_closed(&mut self) -> bool
         ensures { self.new.ceiling ≡ self.old.ceiling }
     {
         let (target, gap) = (self.target(), self.gap());
-        target <= gap.bound.get() || is_near(&gap, self.enough)
+        self.left.are_gone() || target <= gap.bound.get() || is_near(&gap, self.enough)
     }
 
     /// Ends a turn.

@@ -19,4 +19,5 @@ returns c =
     let prices = c.in_ok-command-4.ensures _ turns in
     let closing = c.in_ok-command-5.ensures _ prices in
     let starting = c.in_ok-command-6.ensures _ closing in
-    IfOk-weaker c.with_telling_options.result _ _ (λ made adds. adds _ starting) c.with_telling_options.ensures
+    let tree = c.in_ok-command-7.ensures _ starting in
+    IfOk-weaker c.with_telling_options.result _ _ (λ made adds. adds _ tree) c.with_telling_options.ensures

@@ -9,7 +9,8 @@ ghosts-run_at_desk g a = record {
   problem = a.input.now.instance.now;
   neighbours = a.input.now.settings.now.neighbours;
   sets = a.input.now.settings.now.sets;
-  opening_cost = option_map (λ h. h.plan.cost) a.opening.plan;
+  opening_cost = option_map (λ h. h.plan.cost) a.opening.begin.plan;
+  opening_bound = a.opening.reached;
   workers = a.input.now.settings.now.searchers + a.input.now.settings.now.bounders;
   names = names_of a.blanks;
 }

@@ -3,7 +3,7 @@ use Rattle.std.specs.Str.Parse.{ParsesUnsigned, ExplainsUnsignedError, HasUnsign
 use Rattle.clap.specs.Words.{found_of, rows_of}
 use Rattle.clap.proofs.WalkLemmas.{one_text-rows}
 use Rattle.command_line.proofs.Steps.{reads}
-use Rattle.command_line.proofs.commands.number_of.Goals as goal
+use Rattle.command_line.proofs.arguments.number_of.Goals as goal
 
 pub returns : goal.returns
 returns c =
