@@ -1,10 +1,9 @@
 -- What the replies of a book say of plans and of instances, and what a share saw after a reply.
-use Rattle.std.proofs.Common.{◌≡◌, refl, sym, subst, ℕ, ◌+◌, ◌<◌, ◌≤◌, Bool, true, false, [], ◌∷◌, Option, Some, None, MatchOption, arith, ap, List, length, ◌∙◌, inl, inr}
+use Rattle.std.proofs.Common.{◌≡◌, refl, ℕ, ◌<◌, ◌≤◌, Bool, true, false, [], ◌∷◌, Option, Some, None, MatchOption, arith, ap, List, length, ◌∙◌, inl, inr}
 use Rattle.std.specs.Prelude.{option_to_list, option_map, Err}
-use Rattle.std.proofs.lemmas.Bool.{cases_lt, cases_eq}
-use Rattle.solomon_reader.specs.Bound.{ceiling_of}
-use Rattle.solomon_reader.specs.History.{offered, Event, repriced, branched, costs_of, split_count, split_of, value_of, IsBestCost, IsCheaper, IsLeaf, IsLegal}
-use Rattle.solomon_reader.specs.Problem.{Problem, customer_count}
+use Rattle.std.proofs.lemmas.Bool.{cases_lt}
+use Rattle.solomon_reader.specs.History.{offered, Event, repriced, branched, costs_of, IsBestCost, IsCheaper}
+use Rattle.solomon_reader.specs.Problem.{Problem}
 use Rattle.solomon_reader.specs.AmongLaws.{among_all}
 use Rattle.solomon_reader.specs.Duality.{IsBelowPlans, IsPlanCost}
 use Rattle.solomon_reader.specs.Plan.{Arc}
@@ -14,11 +13,12 @@ use Rattle.incumbent_book.specs.Contents.{Contents, IsBook, IsOfProblem}
 use Rattle.incumbent_book.specs.Faults.{Call, offer, reprice, split, IsOfInstance, IsAccepted, IsRefusedFor}
 use Rattle.incumbent_book.specs.declared.fault.BookFault.{BookFault}
 use Rattle.incumbent_book.specs.declared.fault.BookFault.TheVariants.{Memory, ForeignInstance, JournalFull, NotALeaf, WrongRegion, NotHigher, Lower, LeavesFull, TooDeep, SetsFull}
-use Rattle.incumbent_book.proofs.Histories.{below-cheaper, best-kept, here, elsewhere, same_value, used_value, unused_value, which_number}
+use Rattle.incumbent_book.proofs.Histories.{below-cheaper, best-kept}
+use Rattle.incumbent_book.proofs.Reached.{still_reached}
 use Rattle.desk.specs.Tally.{plus, tally_of_event, Tally}
 use Rattle.desk.specs.Account.{Account, lesser_of, least_of, IsSeen}
 use Rattle.desk.specs.Replies.{after_offer, TellsForeign, IsPricedFor, Offers, Reprices, Splits}
-use Rattle.desk.specs.Opening.{WasOffered, IsReached, IsCounted}
+use Rattle.desk.specs.Opening.{WasOffered, IsCounted}
 use Rattle.desk.proofs.Tallies.{counted_more}
 use Rattle.incumbent_book.specs.Replies as book
 
@@ -112,44 +112,8 @@ still_offered (Some most) (offered worker cost better) past was = (was.0, inr wa
 still_offered (Some most) (repriced worker leaf value) past was = was
 still_offered (Some most) (branched worker leaf a used unused x y) past was = was
 
--- an event more lowers no leaf below a number
-low_still : (n v : ℕ) (past : List Event) (b : ℕ) (event : Event) → IsLegal n v (event ∷ past) → ((m : ℕ) → IsLeaf past m → b ≤ value_of v past m)
-    → (m : ℕ) → IsLeaf (event ∷ past) m → b ≤ value_of v (event ∷ past) m
-low_still n v past b (offered worker cost better) legal low m at = low m (record { made = at.made; whole = at.whole })
-low_still n v past b (repriced worker leaf value) legal low m at = elim (cases_eq m leaf) [
-  | inl e ↦ omega (arith, here m leaf value (value_of v past m) e, low leaf legal.0.leaf, legal.0.higher)
-  | inr d ↦ omega (arith, elsewhere m leaf value (value_of v past m) d, low m (record { made = at.made; whole = at.whole }))
-]
-low_still n v past b (branched worker leaf a i j x y) legal low m at = elim (which_number n v past worker leaf a i j x y m at.made) [
-  | inl made ↦ elim (cases_eq m leaf) [
-    | inl e ↦ absurd (let s = here m leaf (Some (split_count past, a)) (split_of past m) e in let c : None ≡ Some (split_count past, a) = sym at.whole ∙ s in cc)
-    | inr d ↦
-        (let whole : split_of past m ≡ None = sym (elsewhere m leaf (Some (split_count past, a)) (split_of past m) d) ∙ at.whole in
-        omega (arith, same_value n v past worker leaf a i j x y m made, low m (record { made = made; whole = whole })))
-  ]
-  | inr new ↦ elim new [
-    | inl e ↦ omega (arith, used_value n v past worker leaf a i j x y m e, low leaf legal.0.leaf, legal.0.used_value)
-    | inr e ↦ omega (arith, unused_value n v past worker leaf a i j x y m e, low leaf legal.0.leaf, legal.0.unused_value)
-  ]
-]
-
 -- a book of our instance and number of neighbours, with a plan of at most this cost if one is named
 module _ (p : Problem) (k most : ℕ) (opening_cost : Option ℕ) (opening_bound : ℕ) (b : Contents) (before : Tally) (is : IsCounted p k most opening_cost opening_bound b before) where
-  -- an event more lowers no leaf below the bound of the opening
-  still_reached : (new : Contents) (event : Event) → IsBook new → new.past ≡ event ∷ b.past → new.problem ≡ b.problem → new.root ≡ b.root → IsReached opening_bound new
-  still_reached new event book longer problem root =
-      let told : IsLegal (customer_count new.problem) new.root (event ∷ b.past) = subst (λ past. IsLegal (customer_count new.problem) new.root past) longer book.legal in
-      let ours : IsLegal (customer_count b.problem) new.root (event ∷ b.past) = subst (λ q. IsLegal (customer_count q) new.root (event ∷ b.past)) problem told in
-      let legal : IsLegal (customer_count b.problem) b.root (event ∷ b.past) = subst (λ v. IsLegal (customer_count b.problem) v (event ∷ b.past)) root ours in
-      let low : (m : ℕ) → IsLeaf (event ∷ b.past) m → opening_bound ≤ value_of b.root (event ∷ b.past) m =
-      low_still (customer_count b.problem) b.root b.past opening_bound event legal is.reached.leaves in
-      let same : (m : ℕ) → IsLeaf (event ∷ b.past) m → opening_bound ≤ value_of new.root (event ∷ b.past) m =
-      subst (λ v. (m : ℕ) → IsLeaf (event ∷ b.past) m → opening_bound ≤ value_of v (event ∷ b.past) m) (sym root) low in
-      record {
-        ceiling = subst (λ q. opening_bound ≤ ceiling_of q + 1) (sym problem) is.reached.ceiling;
-        leaves = subst (λ past. (m : ℕ) → IsLeaf past m → opening_bound ≤ value_of new.root past m) (sym longer) same;
-      }
-
   -- the totals are those of the history again, where both have the same event more
   pub counted_call : (new : Contents) (event : Event) (after : Tally) → IsBook new → new.past ≡ event ∷ b.past → new.problem ≡ b.problem
       → new.neighbours ≡ b.neighbours → new.most_sets ≡ b.most_sets → new.root ≡ b.root → after ≡ plus before (tally_of_event event)
@@ -161,7 +125,7 @@ module _ (p : Problem) (k most : ℕ) (opening_cost : Option ℕ) (opening_bound
         neighbours = neighbours ∙ is.neighbours;
         sets = listed ∙ is.sets;
         offered = rw longer (still_offered opening_cost event b.past is.offered);
-        reached = still_reached new event book longer problem root;
+        reached = still_reached opening_bound b new event is.reached book longer problem root;
       }
 
   -- a refusal changes no share

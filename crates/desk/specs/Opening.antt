@@ -1,10 +1,10 @@
 -- What a desk deals out, and what it keeps.
-use Rattle.std.specs.Prelude.{◌≡◌, ℕ, ◌+◌, ◌≤◌, List, Option, Some, None}
+use Rattle.std.specs.Prelude.{◌≡◌, ℕ, ◌≤◌, List, Option, Some, None}
 use Rattle.solomon_reader.specs.Problem.{Problem}
 use Rattle.solomon_reader.specs.Region.{Among}
-use Rattle.solomon_reader.specs.Bound.{ceiling_of}
-use Rattle.solomon_reader.specs.History.{Event, costs_of, value_of, IsBestCost, IsBound, IsLeaf}
+use Rattle.solomon_reader.specs.History.{Event, costs_of, IsBestCost, IsBound}
 use Rattle.incumbent_book.specs.Contents.{Contents}
+use Rattle.incumbent_book.specs.Reaching.{IsReached}
 use Rattle.desk.specs.Tally.{Tally, tally_of}
 use Rattle.desk.specs.Account.{Account, opening_accounts}
 
@@ -20,11 +20,6 @@ pub record IsDealt (b : Contents) (workers : ℕ) (shares : List Account) : Type
 abbrev pub WasOffered : Option ℕ → List Event → Type 0
 WasOffered None past = Unit {0}
 WasOffered (Some most) past = (cost : ℕ) × Among cost (costs_of past) × (cost ≤ most)
-
--- no leaf of the book has a lower value than this bound, which is at most the ceiling plus one
-pub record IsReached (bound : ℕ) (b : Contents) : Type 0 where
-  pub ceiling : bound ≤ ceiling_of b.problem + 1
-  pub leaves : (m : ℕ) → IsLeaf b.past m → bound ≤ value_of b.root b.past m
 
 -- a book of this instance, number of neighbours and most sets, which was offered a plan of at most this cost if one is named, whose bound is at least this one, and whose history has these counts and sums
 pub record IsCounted (p : Problem) (k most : ℕ) (opening_cost : Option ℕ) (opening_bound : ℕ) (b : Contents) (totals : Tally) : Type 0 where

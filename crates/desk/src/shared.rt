@@ -6,7 +6,8 @@ ghost use Rattle.desk.specs.Tally.{each, tally_of};
 ghost use Rattle.desk.specs.Blanks.{names_of, parts_of};
 ghost use Rattle.desk.specs.Account.{tally_of_shares};
 ghost use Rattle.desk.specs.Replies.{Offers, Reprices, Splits, Tells, IsPricedFor};
-ghost use Rattle.desk.specs.Opening.{WasOffered, IsReached, IsDealt};
+ghost use Rattle.desk.specs.Opening.{WasOffered, IsDealt};
+ghost use Rattle.incumbent_book.specs.Reaching.{IsReached};
 ghost use Rattle.desk.specs.declared.fault.DeskFault.TheVariants.{Memory as memory, MissingShare as missing};
 
 use crate::blanks::Blanks;

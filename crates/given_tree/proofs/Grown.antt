@@ -8,7 +8,7 @@ use Rattle.solomon_reader.specs.Bound.{Version, Tree, LeafPrices, Node, leaf_nod
 use Rattle.incumbent_book.specs.Contents.{Contents}
 use Rattle.incumbent_book.specs.Faults.{region_at}
 use Rattle.given_tree.specs.Growing.{Keeps, IsGrownAt, IsRaisedTo, IsSplitAt, IsTreeGrown}
-use Rattle.given_tree.specs.Reaching.{IsReached}
+use Rattle.incumbent_book.specs.Reaching.{IsReached}
 use Rattle.given_tree.proofs.Preorder.{leaf_begun, split_begun}
 
 pub keeps_on : (old mid new : Contents) → Keeps old mid → Keeps mid new → Keeps old new
@@ -102,11 +102,11 @@ whole_region n (branched worker number a i j x y ∷ past) m whole = absurd (ome
 pub root_leaf : (past : List Event) → split_count past ≡ 0 → IsLeaf past 0
 root_leaf past whole = record { made = omega arith; whole = never_split past 0 whole }
 
-pub all_reached : (old new : Contents) (b : ℕ) → split_count old.past ≡ 0 → b ≤ ceiling_of new.problem + 1 → IsRaisedTo old new 0 b → IsReached new b
-all_reached old new b whole low raised c bound = elim bound.reached [
-  | inl e ↦ omega (arith, low, e)
-  | inr r ↦ elim (raised.leaves r.0 r.1) [
-    | inl above ↦ omega (arith, above, r.2)
+pub all_reached : (old new : Contents) (b : ℕ) → split_count old.past ≡ 0 → b ≤ ceiling_of new.problem + 1 → IsRaisedTo old new 0 b → IsReached b new
+all_reached old new b whole low raised = record {
+  ceiling = low;
+  leaves = λ m leaf. elim (raised.leaves m leaf) [
+    | inl above ↦ above
     | inr still ↦ absurd (still.other (omega (arith, still.leaf.made, whole)))
-  ]
-]
+  ];
+}

@@ -10,7 +10,7 @@ use Rattle.incumbent_book.specs.Contents.{Contents}
 use Rattle.incumbent_book.specs.Faults.{region_at}
 use Rattle.given_tree.specs.Nodes.{Begins}
 use Rattle.given_tree.specs.Growing.{Keeps, IsTreeGrown, IsLeafBelow, AreAdded, AreLeavesOf, leaf_regions}
-use Rattle.given_tree.specs.Reaching.{IsReached}
+use Rattle.incumbent_book.specs.Reaching.{IsReached}
 use Rattle.given_tree.proofs.Preorder.{listed_nodes, shaped, nodes_begin, never_above}
 use Rattle.given_tree.proofs.Grown.{moved, whole_region, all_reached}
 use Rattle.given_tree.proofs.Listed.{all_weaker}
@@ -29,7 +29,7 @@ module _ (x : Content) (text : HasText x) (old : Contents) (size : x.size ≡ cu
       rw (same, at_root) (shaped x text old.problem size)
 
   pub whole_reached : (new : Contents) (version : Version) (nodes left : List Node) → x.neighbours ≡ old.neighbours → version ≡ x.version → nodes ≡ x.nodes → Keeps old new
-      → IsTreeGrown version old new 0 nodes left → (tree : Tree) (b : ℕ) → preorder tree ≡ x.nodes → IsTreeBound x.version old.problem x.neighbours tree b → IsReached new b
+      → IsTreeGrown version old new 0 nodes left → (tree : Tree) (b : ℕ) → preorder tree ≡ x.nodes → IsTreeBound x.version old.problem x.neighbours tree b → IsReached b new
   whole_reached new version nodes left neighbours v nodes_are keeps grown tree b is bound =
       let here = grown tree [] (nodes_are ∙ (sym is ∙ sym (append-nil (preorder tree)))) (rw v (given_shaped tree is)) in
       let there : HasBound version old.problem old.neighbours (region_at old 0) tree b =

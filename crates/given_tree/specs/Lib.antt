@@ -2,4 +2,3 @@ pub mod Faults
 pub mod Nodes
 pub mod Children
 pub mod Growing
-pub mod Reaching

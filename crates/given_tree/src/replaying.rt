@@ -6,7 +6,7 @@ ghost use Rattle.solomon_reader.specs.Bound.{Tree, preorder, IsTreeBound};
 ghost use Rattle.solomon_reader.specs.History.{costs_of, split_count};
 ghost use Rattle.given_tree.specs.declared.fault.ReplayFault.TheVariants.{LabelLimit};
 ghost use Rattle.given_tree.specs.Growing.{AreLeavesOf};
-ghost use Rattle.given_tree.specs.Reaching.{IsReached};
+ghost use Rattle.incumbent_book.specs.Reaching.{IsReached};
 
 use crate::fault::ReplayFault;
 use crate::given::GivenTree;
@@ -45,7 +45,7 @@ pub fn replay<'i>(
     ensures costs { costs_of book.new.past ≡ costs_of book.old.past }
     ensures reached { OnOk result ((tree : Tree) (b : ℕ) → preorder tree ≡ cert.now.nodes
         → IsTreeBound cert.now.version book.old.problem cert.now.neighbours tree b
-        → IsReached book.new b) }
+        → IsReached b book.new) }
     ensures leaves { IfOk result (λ v. (tree : Tree) → preorder tree ≡ cert.now.nodes → AreLeavesOf book.new v.items tree) }
     ensures unlimited { IfErr result (λ e. e ≡ LabelLimit → labels ≢ None) }
 {

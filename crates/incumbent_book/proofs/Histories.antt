@@ -126,7 +126,7 @@ cost_never_rises more past before after is now =
     among_all (λ other. after ≤ other) (costs_of (more ++ past)) now.1 before (still_offered more past before is.0)
 
 -- a number below all leaves' values stays below them
-low_before : (n v : ℕ) (past : List Event) (b : ℕ) (event : Event) → IsLegal n v (event ∷ past) → ((m : ℕ) → IsLeaf past m → b ≤ value_of v past m)
+pub low_before : (n v : ℕ) (past : List Event) (b : ℕ) (event : Event) → IsLegal n v (event ∷ past) → ((m : ℕ) → IsLeaf past m → b ≤ value_of v past m)
     → (m : ℕ) → IsLeaf (event ∷ past) m → b ≤ value_of v (event ∷ past) m
 low_before n v past b (offered worker cost better) legal low m at = low m (record { made = at.made; whole = at.whole })
 low_before n v past b (repriced worker leaf value) legal low m at = elim (cases_eq m leaf) [

@@ -7,3 +7,4 @@ pub mod Laws
 pub mod Trees
 pub mod Forward
 pub mod SetLists
+pub mod Reaching

@@ -3,7 +3,7 @@
 ghost use Rattle.std.specs.Prelude.{◌≡◌, ◌+◌, ◌<◌, ◌≤◌, ◌⊎◌, [], Some, true, length, is_some, option_map, IfOk, IfErr, IfSome, MatchOption, OnOk};
 ghost use Rattle.solomon_reader.specs.Problem.{customer_count};
 ghost use Rattle.solomon_reader.specs.History.{costs_of, split_count};
-ghost use Rattle.desk.specs.Opening.{IsReached};
+ghost use Rattle.incumbent_book.specs.Reaching.{IsReached};
 ghost use Rattle.solomon_reader.specs.Region.{root_region, Among};
 ghost use Rattle.solomon_reader.specs.declared.limits.TheConstants.{MOST_EVENTS, MOST_NEIGHBOURS, MOST_SETS};
 ghost use Rattle.insertion.specs.Building.{IsServedAlone};

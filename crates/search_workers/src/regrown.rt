@@ -2,7 +2,7 @@
 
 ghost use Rattle.std.specs.Prelude.{◌≡◌, ◌⊎◌, IfErr, OnOk};
 ghost use Rattle.solomon_reader.specs.History.{costs_of, split_count};
-ghost use Rattle.desk.specs.Opening.{IsReached};
+ghost use Rattle.incumbent_book.specs.Reaching.{IsReached};
 ghost use Rattle.search_workers.specs.Given.{IsTreeFor};
 ghost use Rattle.search_workers.specs.declared.fault.RunFault.TheVariants.{Memory, LabelLimit};
 

@@ -11,7 +11,7 @@ ghost use Rattle.desk.specs.Tally.{each};
 ghost use Rattle.desk.specs.Blanks.{names_of, parts_of};
 ghost use Rattle.desk.specs.Opening.{WasOffered};
 ghost use Rattle.run_settings.specs.Settings.{IsWithin};
-ghost use Rattle.desk.specs.Opening.{IsReached};
+ghost use Rattle.incumbent_book.specs.Reaching.{IsReached};
 ghost use Rattle.search_workers.specs.Given.{IsTreeFor, bound_of};
 ghost use Rattle.search_workers.specs.Running.{RefusesSettings, IsNoDearer};
 ghost use Rattle.search_workers.specs.Roles.{DrawsFor};
