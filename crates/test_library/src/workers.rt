@@ -9,7 +9,7 @@ use ceiling::Ceiling;
 use incumbent_book::BookFault;
 use node_pool::{Hand, Pass, Pool, Thief};
 use prices::Priced;
-use search_workers::{Nearness, Nodes, Settings, Worker, bound_worker, generator, search_worker};
+use search_workers::{LeavesLeft, Nearness, Nodes, Settings, Worker, bound_worker, generator, search_worker};
 use solomon_reader::Instance;
 use std::alloc::Global;
 use std::sync::atomic::Ordering;
@@ -69,6 +69,7 @@ fn turns_over<'i>(
     let Some(seat) = seats.pop() else {
         return None;
     };
+    let left = LeavesLeft::of_all();
     let mut worker = Worker {
         alloc,
         instance,
@@ -77,6 +78,7 @@ fn turns_over<'i>(
         number,
         ceiling: &ceiling,
         seat,
+        left: &left,
         enough: 0,
     };
     let turns = match nodes {

@@ -12,6 +12,8 @@ pub(crate) fn tell_job(alloc: Global, told: &mut String, words: &[&str]) -> Resu
                 solution,
                 certificate,
                 start,
+                tree,
+                part,
                 settings,
                 close,
                 leaves,
@@ -25,7 +27,11 @@ pub(crate) fn tell_job(alloc: Global, told: &mut String, words: &[&str]) -> Resu
                 told,
                 "close {close} leaves {leaves} progress {progress} live {live}"
             )?;
-            writeln!(told, " start {start:?}")
+            writeln!(told, " start {start:?}")?;
+            match tree {
+                Some(tree) => writeln!(told, "tree {tree} part {}/{}", part.place, part.count),
+                None => Ok(()),
+            }
         }
         Ok(
             Job::Check {

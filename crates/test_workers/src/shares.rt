@@ -1,6 +1,7 @@
 //! Calls at a desk: one share makes them, and another asks what came of them.
 
 ghost use Rattle.std.specs.Prelude.{◌≡◌};
+ghost use Rattle.incumbent_book.specs.Reaching.{IsReached};
 ghost use Rattle.desk.specs.Opening.{WasOffered};
 ghost use Rattle.desk.specs.Tally.{each};
 ghost use Rattle.desk.specs.Blanks.{names_of, parts_of};
@@ -57,6 +58,7 @@ fn run<'i, J: Naming + Send, R: Abort + Threads + Wait + Sync + AllocGlobal>(
     requires neighbours { book.neighbours ≡ J.neighbours }
     requires sets { book.most_sets ≡ J.sets }
     requires offered { WasOffered J.opening_cost book.past }
+    requires reached { IsReached J.opening_bound book }
     requires workers { J.workers ≡ 2 }
     requires names { names_of blanks ≡ J.names }
     requires parts { parts_of blanks ≡ each J.workers }
@@ -79,6 +81,7 @@ fn run<'i, J: Naming + Send, R: Abort + Threads + Wait + Sync + AllocGlobal>(
 }
 
 #[test]
+#[tactic(auto, using(incumbent_book::proofs::Reached::nothing_reached))]
 fn a_second_share_is_told_what_the_first_did(rt: HostRuntime) -> Result<(), Fail> {
     let instance = instance_of(rt.alloc())?;
     let book = book_of(rt.alloc(), &instance, 1, Limits::MOST).ok_or("no book")?;
