@@ -26,6 +26,11 @@ still_no_dearer (Some f) plan lower is less = omega (arith, is, less)
 pub offered_at : (cost most : ℕ) (past : List Event) → Among cost (costs_of past) → cost ≤ most → WasOffered (Some most) past
 offered_at cost most past among less = (cost, among, less)
 
+-- what was offered before is offered still, where the costs are the same
+pub offered_still : (most : Option ℕ) (past now : List Event) → costs_of now ≡ costs_of past → WasOffered most past → WasOffered most now
+offered_still None past now same was = tt
+offered_still (Some most) past now same was = (was.0, rw same was.1, was.2)
+
 -- where a plan was offered, some cost was
 pub offered_some : (found : Option HeldPlan) (past : List Event) → is_some found ≡ true → WasOffered (option_map (λ h. h.plan.cost) found) past → costs_of past ≢ []
 offered_some None past some was = let bad : false ≡ true = some in cc

@@ -14,7 +14,7 @@ ghost use Rattle.search_workers.specs.declared.fault.RunFault.TheVariants.{Memor
 
 use crate::begun::Begun;
 use crate::fault::RunFault;
-use crate::regrown::{OpenLeaf, left_of, regrow};
+use crate::regrown::{Regrown, regrow};
 use fronts::Nearness;
 use incumbent_book::{Book, BookFault, Limits, OpenFault};
 use insertion::{Weights, build_whole};
@@ -27,26 +27,22 @@ use search::{HeldPlan, descended_parallel};
 use solomon_reader::Instance;
 use std::alloc::{AllocError, Global};
 use std::thread::Threads;
-use tenths::Tenths;
-use worker_turns::{LeavesLeft, pricing_labels};
+use worker_turns::pricing_labels;
 
 /// The worker that offers the first plan.
 const FIRST_WORKER: u16 = 0;
 
-/// What the workers of a run begin from: the search workers from a plan, the bound workers from open leaves of a given
-/// tree, or without one from the root; and how many leaves all of them have left.
+/// What the workers of a run begin from: the search workers from a plan, the bound workers from a tree.
 #[derive(Drop)]
 pub(crate) struct Beginning<'i> {
     pub(crate) plan: Option<HeldPlan<'i>>,
-    pub(crate) leaves: Option<Vec<OpenLeaf>>,
-    pub(crate) left: LeavesLeft,
+    pub(crate) tree: Regrown,
 }
 
-/// The book of a run, a bound that it has reached, in tenths, and what the workers begin from.
+/// The book of a run, and what the workers begin from.
 #[derive(Drop)]
 pub(crate) struct Opening<'i> {
     pub(crate) book: Book<'i>,
-    pub(crate) reached: Tenths,
     pub(crate) begin: Beginning<'i>,
 }
 
@@ -179,7 +175,7 @@ impl<'i> Opening<'i> {
     /// A book of the root that was offered a first plan and what a descent makes of it, if insertion builds one
     /// or one is given, the cheaper one; else its prices begin where they may show that there is no plan. Where a tree is
     /// given it grows there again. The tables of the instance are lent.
-    #[tactic(auto, using(crate::proofs::Starts::still_no_dearer))]
+    #[tactic(auto, using(crate::proofs::Starts::still_no_dearer, crate::proofs::Starts::offered_still))]
     pub(crate) fn new<R: Threads + Sync>(
         rt: &R,
         alloc: Global,
@@ -197,8 +193,8 @@ impl<'i> Opening<'i> {
         ensures sets { IfOk result (λ o. o.book.most_sets ≡ settings.now.sets) }
         ensures offered { IfOk result (λ o. WasOffered (option_map (λ h. h.plan.cost) o.begin.plan)
             o.book.past) }
-        ensures reached { IfOk result (λ o. IsReached o.reached o.book) }
-        ensures least { IfOk result (λ o. o.reached ≡ bound_of begun.entry.tree) }
+        ensures reached { IfOk result (λ o. IsReached o.begin.tree.reached o.book) }
+        ensures least { IfOk result (λ o. o.begin.tree.reached ≡ bound_of begun.entry.tree) }
         ensures no_dearer { IfOk result (λ o. IsNoDearer begun.entry.start
             (option_map (λ h. h.plan) o.begin.plan)) }
         ensures served { IfOk result (λ o. IsServedAlone instance.now → is_some o.begin.plan ≡ true) }
@@ -220,30 +216,10 @@ impl<'i> Opening<'i> {
             Some(plan) => Some(offer_both(rt, alloc, &mut book, plan)?),
             None => None,
         };
-        let Some(tree) = tree else {
-            let begin = Beginning {
-                plan,
-                leaves: None,
-                left: LeavesLeft::of_all(),
-            };
-            let reached = Tenths::from(0);
-            return Ok(Opening {
-                book,
-                reached,
-                begin,
-            });
-        };
-        let leaves = regrow(alloc, nearness, &mut book, tree, settings.labels)?;
-        let begin = Beginning {
-            plan,
-            left: left_of(tree.part, leaves.as_ref()),
-            leaves,
-        };
-        let reached = tree.certificate.parts().bound;
+        let tree = regrow(alloc, nearness, &mut book, tree, settings.labels)?;
         Ok(Opening {
             book,
-            reached,
-            begin,
+            begin: Beginning { plan, tree },
         })
     }
 }

@@ -1,19 +1,21 @@
 //! A given tree, grown again at a book, and the leaves of it that a run works at.
 
-ghost use Rattle.std.specs.Prelude.{◌≡◌, ◌⊎◌, IfErr, OnOk};
+ghost use Rattle.std.specs.Prelude.{◌≡◌, ◌⊎◌, IfErr, IfOk, IfSome, OnOk};
 ghost use Rattle.solomon_reader.specs.History.{costs_of, split_count};
 ghost use Rattle.incumbent_book.specs.Reaching.{IsReached};
-ghost use Rattle.search_workers.specs.Given.{IsTreeFor};
+ghost use Rattle.search_workers.specs.Given.{IsFor, IsTreeFor, bound_of};
 ghost use Rattle.search_workers.specs.declared.fault.RunFault.TheVariants.{Memory, LabelLimit};
 
 use crate::begun::GivenTree;
 use crate::fault::RunFault;
+use certificate::Cert;
 use fronts::Nearness;
 use given_tree::{ReplayFault, replay};
 use incumbent_book::Book;
 use run_settings::Part;
 use solomon_reader::Instance;
 use std::alloc::{AllocError, Global};
+use tenths::Tenths;
 use worker_turns::LeavesLeft;
 
 /// A leaf whose value is below the best cost, with its value in tenths.
@@ -21,6 +23,15 @@ use worker_turns::LeavesLeft;
 pub(crate) struct OpenLeaf {
     pub(crate) number: u32,
     pub(crate) value: i128,
+}
+
+/// A tree in the book: of its open leaves those that the workers begin at, or nothing where all begin at the root; how
+/// many leaves all of them have left; and a bound that the book has reached, in tenths.
+#[derive(Drop)]
+pub(crate) struct Regrown {
+    pub(crate) leaves: Option<Vec<OpenLeaf>>,
+    pub(crate) left: LeavesLeft,
+    pub(crate) reached: Tenths,
 }
 
 /// The leaves of a part of those whose values are below the best cost, or the ceiling plus one where none is known.
@@ -56,49 +67,84 @@ fn open_leaves(
     Ok(leaves)
 }
 
-/// How many leaves are left to all workers.
-pub(crate) fn left_of(part: Part, leaves: Option<&Vec<OpenLeaf>>) -> LeavesLeft {
-    match leaves {
-        Some(leaves) if part.count > 1 => LeavesLeft::of_part(leaves.len() as u64),
-        _ => LeavesLeft::of_all(),
+/// How many leaves are left to all workers, of so many at which they begin.
+fn left_of(part: Part, leaves: usize) -> LeavesLeft {
+    if part.count > 1 {
+        LeavesLeft::of_part(leaves as u64)
+    } else {
+        LeavesLeft::of_all()
     }
 }
 
-/// Grows a given tree at a book whose root is a leaf: the leaves of the part that are open, or nothing where the root is
-/// still one, at which all workers begin. A pricing may have this many labels. `LabelLimit` where a leaf needs more of
-/// them, or has prices of sets that no run gives: of two sets with the same customers, or together above half of the
-/// range; `Memory`.
-pub(crate) fn regrow<'i>(
+/// Grows a tree at a book whose root is a leaf, and answers the numbers of its leaves, in preorder.
+fn grow<'i>(
     alloc: Global,
     nearness: &Nearness<'_>,
     book: &mut Book<'i>,
-    tree: GivenTree<'_>,
+    certificate: &Cert,
     labels: u32,
-) -> Result<Option<Vec<OpenLeaf>>, RunFault>
-    requires tree { IsTreeFor book.old.problem book.old.neighbours tree }
+) -> Result<Vec<u32>, RunFault>
+    requires tree { IsFor book.old.problem book.old.neighbours certificate.now }
     requires whole { split_count book.old.past ≡ 0 }
     ensures problem { book.new.problem ≡ book.old.problem }
     ensures neighbours { book.new.neighbours ≡ book.old.neighbours }
     ensures sets { book.new.most_sets ≡ book.old.most_sets }
     ensures costs { costs_of book.new.past ≡ costs_of book.old.past }
-    ensures reached { OnOk result (IsReached tree.certificate.now.bound book.new) }
+    ensures reached { OnOk result (IsReached certificate.now.bound book.new) }
     ensures refused { IfErr result (λ e. (e ≡ Memory) ⊎ (e ≡ LabelLimit)) }
 {
-    let numbers = match replay(
-        alloc,
-        nearness,
-        book,
-        tree.certificate,
-        Some(labels as usize),
-    ) {
-        Ok(numbers) => numbers,
-        Err(ReplayFault::Memory) => return Err(RunFault::Memory),
-        Err(ReplayFault::LabelLimit | ReplayFault::Unfit) => return Err(RunFault::LabelLimit),
+    match replay(alloc, nearness, book, certificate, Some(labels as usize)) {
+        Ok(numbers) => Ok(numbers),
+        Err(ReplayFault::Memory) => Err(RunFault::Memory),
+        Err(ReplayFault::LabelLimit | ReplayFault::Unfit) => Err(RunFault::LabelLimit),
+    }
+}
+
+/// All workers begin at the root, and the book has reached this bound.
+fn at_root(reached: Tenths) -> Regrown
+    ensures { result.reached ≡ reached }
+{
+    Regrown {
+        leaves: None,
+        left: LeavesLeft::of_all(),
+        reached,
+    }
+}
+
+/// Grows a given tree, if there is one, at a book whose root is a leaf: the leaves of the part that are open. A pricing
+/// may have this many labels. `LabelLimit` where a leaf needs more of them, or has prices of sets that no run gives: of
+/// two sets with the same customers, or together above half of the range; `Memory`.
+#[tactic(auto, using(incumbent_book::proofs::Reached::nothing_reached))]
+pub(crate) fn regrow<'i>(
+    alloc: Global,
+    nearness: &Nearness<'_>,
+    book: &mut Book<'i>,
+    tree: Option<GivenTree<'_>>,
+    labels: u32,
+) -> Result<Regrown, RunFault>
+    requires tree { IfSome tree (IsTreeFor book.old.problem book.old.neighbours) }
+    requires whole { split_count book.old.past ≡ 0 }
+    ensures problem { book.new.problem ≡ book.old.problem }
+    ensures neighbours { book.new.neighbours ≡ book.old.neighbours }
+    ensures sets { book.new.most_sets ≡ book.old.most_sets }
+    ensures costs { costs_of book.new.past ≡ costs_of book.old.past }
+    ensures reached { IfOk result (λ r. IsReached r.reached book.new) }
+    ensures least { IfOk result (λ r. r.reached ≡ bound_of tree) }
+    ensures refused { IfErr result (λ e. (e ≡ Memory) ⊎ (e ≡ LabelLimit)) }
+{
+    let Some(tree) = tree else {
+        return Ok(at_root(Tenths::from(0)));
     };
-    let part = tree.part;
+    let GivenTree { certificate, part } = tree;
+    let numbers = grow(alloc, nearness, book, certificate, labels)?;
+    let reached = certificate.parts().bound;
     if numbers.len() == 1 && (!part.is_within() || part.has(1)) {
-        return Ok(None);
+        return Ok(at_root(reached));
     }
     let leaves = open_leaves(alloc, nearness.instance, book, numbers.as_slice(), part)?;
-    Ok(Some(leaves))
+    Ok(Regrown {
+        left: left_of(part, leaves.len()),
+        leaves: Some(leaves),
+        reached,
+    })
 }

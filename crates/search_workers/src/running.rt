@@ -99,7 +99,7 @@ fn role_of<'a, 'i, R: Wait, J: Naming, G>(
             None => None,
         };
         let mut nodes = Nodes::new(input.alloc, input.nearness, plan, own, shared.deques, pass)?;
-        if let Some(leaves) = &shared.begin.leaves {
+        if let Some(leaves) = &shared.begin.tree.leaves {
             deal(&mut nodes, leaves.as_slice(), number, input.settings)?;
         }
         return Ok(Role::Bound { nodes });
@@ -146,7 +146,7 @@ fn post_workers<'a, 'i, R: Wait, J: Naming, G>(
                 number,
                 ceiling: shared.ceiling,
                 seat,
-                left: &shared.begin.left,
+                left: &shared.begin.tree.left,
                 enough: input.settings.gap,
             },
             settings: input.settings,
@@ -202,7 +202,7 @@ fn work_together<'i, R: Threads + Wait + Sync, J: Naming + Send + Sync, G: Gate 
         return Err(RunFault::Memory);
     };
     let bounders = input.settings.bounders as usize;
-    let (hands, thieves, passes) = deques(input.alloc, bounders, begin.leaves.is_none())?;
+    let (hands, thieves, passes) = deques(input.alloc, bounders, begin.tree.leaves.is_none())?;
     let shared = Shared {
         input,
         desk,

@@ -10,12 +10,12 @@ pub struct LeavesLeft {
 }
 
 impl LeavesLeft {
-    /// Those of the whole tree.
+    /// Those of the whole tree. No contract: it decides only when the workers end.
     pub fn of_all() -> LeavesLeft {
         LeavesLeft { count: None }
     }
 
-    /// So many leaves of a part. No contract: it decides only when the workers end.
+    /// So many leaves of a part. No contract, either.
     pub fn of_part(count: u64) -> LeavesLeft {
         LeavesLeft {
             count: Some(AtomicU64::new(count)),

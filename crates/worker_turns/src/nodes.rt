@@ -153,6 +153,7 @@ impl<'p> Nodes<'p> {
     }
 
     /// Takes up a leaf of a given tree, with its value in tenths, as one of the worker's own; refused where memory is.
+    /// No contract: it decides only where the worker works.
     pub fn take_up(&mut self, number: u32, value: i128) -> Result<(), AllocError> {
         self.open.push(OpenNode {
             number,

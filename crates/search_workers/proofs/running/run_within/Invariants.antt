@@ -10,7 +10,7 @@ ghosts-run_at_desk g a = record {
   neighbours = a.input.now.settings.now.neighbours;
   sets = a.input.now.settings.now.sets;
   opening_cost = option_map (λ h. h.plan.cost) a.opening.begin.plan;
-  opening_bound = a.opening.reached;
+  opening_bound = a.opening.begin.tree.reached;
   workers = a.input.now.settings.now.searchers + a.input.now.settings.now.bounders;
   names = names_of a.blanks;
 }
