@@ -27,17 +27,19 @@ import signal
 import subprocess
 import threading
 import time
-from dataclasses import dataclass, field
+from dataclasses import dataclass, field, replace
 from math import isqrt
 from typing import Callable, Mapping, Optional, Sequence, Union
 
-__all__ = ["Answer", "Fault", "Plan", "Progress", "Solving", "Text", "check", "instance_text", "plan_text",
+__all__ = ["Answer", "Fault", "Plan", "Progress", "Solving", "Text", "Tree", "check", "instance_text", "plan_text",
            "program_here", "solve"]
 
 # A text: the path of its file, or its bytes.
 Text = Union[str, "os.PathLike[str]", bytes]
 # A plan: a text, an answer that has one, or routes as lists of customers' numbers.
 Plan = Union[Text, "Answer", Sequence[Sequence[int]]]
+# A certificate, whose tree a work goes on from: a text, or an answer.
+Tree = Union[Text, "Answer"]
 
 _HERE = os.path.dirname(os.path.realpath(__file__))
 # Where the released program stands, and what tells which one the launcher runs.
@@ -47,6 +49,7 @@ _OFTEN, _PORTION = 0.1, 1 << 16
 _PROGRESS = re.compile(r"vrptw: ([0-9]+) % of the turns, (?:no plan|cost ([0-9.]+)), bound ([0-9.]+)")
 _VERDICT = re.compile(r"(BEST|GAP|OPEN|BOUND|NO PLAN)(?: ([0-9.]+))?(?: ([0-9.]+))?\Z")
 _ROUTE = re.compile(rb"^Route #[0-9]+: ([0-9 ]+)$", re.M)
+_NEIGHBOURS = re.compile(rb"^NEIGHBOURS ([0-9]{1,2})$", re.M)
 # How many words stand before the rows of an instance, and how many a row has.
 _HEAD, _ROW = 18, 7
 
@@ -378,6 +381,12 @@ def _plan_bytes(instance: bytes, plan: Plan) -> bytes:
     return plan_text(instance, plan)
 
 
+def neighbours_of(certificate: bytes) -> Optional[int]:
+    """The number of neighbours of a certificate; None where its text has none."""
+    found = _NEIGHBOURS.search(certificate)
+    return None if found is None else int(found[1])
+
+
 def _zero_certificate(instance: bytes) -> bytes:
     """The certificate of prices 0, whose bound is 0."""
     count = len(_rows(instance)) - 1
@@ -419,18 +428,27 @@ class Solving:
     With `seconds` it works in rounds of growing turns for at most so long, each from the best plan so far, and keeps
     the cheapest plan and the highest bound, as `outside/plan` does; `turns` can't be given then. Else one run is made.
     It ends sooner where no plan is cheaper, or at a gap of at most `gap` tenths of a percent of the cost. The answer
-    never costs more than `start`. `on_progress` is called in the thread of `run`, at most a hundred times a run."""
+    never costs more than `start`, and its bound is never below that of `tree`, whose count of neighbours is that of
+    each run; rounds go on from the tree of the round before with so many. `on_progress` is called in the thread of
+    `run`, at most a hundred times a run."""
 
     def __init__(self, instance: Text, *, seconds: Optional[float] = None, turns: Optional[int] = None,
                  searchers: Optional[int] = None, bounders: Optional[int] = None, seed: Optional[int] = None,
                  neighbours: Optional[int] = None, labels: Optional[int] = None, sets: Optional[int] = None,
                  gap: Optional[int] = None, close: bool = False, leaves: Optional[int] = None,
-                 start: Optional[Plan] = None, on_progress: Optional[Callable[[Progress], None]] = None,
-                 program: Optional[str] = None) -> None:
+                 start: Optional[Plan] = None, tree: Optional[Tree] = None,
+                 on_progress: Optional[Callable[[Progress], None]] = None, program: Optional[str] = None) -> None:
         if seconds is not None and (turns is not None or close):
             raise ValueError("met seconds beside turns or close, wanted one of them")
+        if tree is not None and (neighbours is not None or close):
+            raise ValueError("met a tree beside neighbours or close, wanted one of them")
         self.instance = _bytes(instance)
         self.start = None if start is None else _plan_bytes(self.instance, start)
+        self.tree = tree.certificate if isinstance(tree, Answer) else None if tree is None else _bytes(tree)
+        if self.tree is not None:
+            neighbours = neighbours_of(self.tree)
+        # By counts of neighbours.
+        self.trees = {} if self.tree is None else {neighbours: self.tree}
         self.seconds, self.turns, self.seed, self.neighbours, self.gap = seconds, turns, seed, neighbours, gap
         given = {"searchers": searchers, "bounders": bounders, "labels": labels,
                  "sets": SETS if sets is None else sets, "gap": gap, "leaves": leaves}
@@ -442,7 +460,8 @@ class Solving:
 
     def cancel(self) -> None:
         """Ends the run at work within some tenths of a second. `run` then answers what stands: of rounds the best plan
-        and bound of those that ended, else the start, else OPEN with a bound of 0."""
+        and bound of those that ended, else the start and the tree as `check` judges them, else OPEN with a bound of 0.
+        """
         self.cancelled.set()
 
     def run(self) -> Answer:
@@ -458,9 +477,10 @@ class Solving:
 
     def from_start(self) -> Answer:
         """What stands before a run has ended."""
-        if self.start is not None:
-            return check(self.instance, None, self.start, program=self.program)
-        return Answer("OPEN", None, None, 0, b"", _zero_certificate(self.instance))
+        if self.start is None and self.tree is None:
+            return Answer("OPEN", None, None, 0, b"", _zero_certificate(self.instance))
+        came = check(self.instance, self.tree, self.start, program=self.program)
+        return replace(came, kind="OPEN") if came.kind == "BOUND" else came
 
     def is_over(self) -> bool:
         """Whether the run at work is to end."""
@@ -475,7 +495,8 @@ class Solving:
 
     def make_rounds(self) -> None:
         """Makes rounds until nothing is left to find, or the time is over."""
-        schedule, number = Schedule(NEIGHBOURS if self.neighbours is None else (self.neighbours,)), 0
+        is_set = self.neighbours is not None or self.tree is not None
+        schedule, number = Schedule((self.neighbours,) if is_set else NEIGHBOURS), 0
         first = 1 if self.seed is None else self.seed
         while not (self.is_done() or self.is_over()):
             chosen = schedule.next(self.until - time.monotonic())
@@ -485,6 +506,9 @@ class Solving:
             try:
                 came = self.round(*chosen, (first + number) % 2 ** 32)
             except Fault:
+                if self.trees.pop(chosen[1], self.tree) is not self.tree:
+                    # Its leaves took more labels than before, say.
+                    continue
                 if not schedule.drop(chosen[1]):
                     if self.best is None:
                         raise
@@ -494,17 +518,20 @@ class Solving:
             if came is None:
                 return
             self.take(came)
+            self.trees[chosen[1]] = came.certificate
             schedule.note(*chosen, time.monotonic() - began, came.bound_tenths or 0)
 
     def round(self, turns: Optional[int], neighbours: Optional[int], seed: Optional[int]) -> Optional[Answer]:
         """One run of the program; None where it was broken off."""
-        given = {"turns": turns, "neighbours": neighbours, "seed": seed}
+        tree = self.trees.get(neighbours)
+        given = {"turns": turns, "neighbours": neighbours if tree is None else None, "seed": seed}
         plan = self.best.plan if self.best is not None and self.best.plan else self.start
         with Memory() as memory:
             paths = [memory.put(text) for text in (self.instance, b"", b"")]
             words = [self.program, "solve", *paths, *self.options]
             words += _words(given)
             words += [] if plan is None else ["--start", memory.put(plan)]
+            words += [] if tree is None else ["--tree", memory.put(tree)]
             words += ["--progress"] if self.on_progress else []
             ran = Run(words, memory=memory).ended(self.is_over, self.tell if self.on_progress else None)
             return None if ran.status is None else _answer(ran, *(memory.held(path) for path in paths[1:]))
@@ -536,8 +563,9 @@ def solve(instance: Text, *, seconds: Optional[float] = None, turns: Optional[in
           searchers: Optional[int] = None, bounders: Optional[int] = None, seed: Optional[int] = None,
           neighbours: Optional[int] = None, labels: Optional[int] = None, sets: Optional[int] = None,
           gap: Optional[int] = None, close: bool = False, leaves: Optional[int] = None, start: Optional[Plan] = None,
-          on_progress: Optional[Callable[[Progress], None]] = None, program: Optional[str] = None) -> Answer:
+          tree: Optional[Tree] = None, on_progress: Optional[Callable[[Progress], None]] = None,
+          program: Optional[str] = None) -> Answer:
     """Solves an instance: what `Solving` with these options comes to."""
     return Solving(instance, seconds=seconds, turns=turns, searchers=searchers, bounders=bounders, seed=seed,
                    neighbours=neighbours, labels=labels, sets=sets, gap=gap, close=close, leaves=leaves, start=start,
-                   on_progress=on_progress, program=program).run()
+                   tree=tree, on_progress=on_progress, program=program).run()

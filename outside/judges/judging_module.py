@@ -66,6 +66,9 @@ def judge_faults(program, text, routes):
             (lambda: vrptw.solve(b"x y", program=program), 3, "vrptw: instance: BadWord line 1"),
             (lambda: vrptw.solve(text, turns=0, program=program), 2, "0 is not in 1..=1000000"),
             (lambda: vrptw.solve(text, start=b"x\n", program=program), 5, "vrptw: solution: BadLine line 1"),
+            (lambda: vrptw.solve(text, tree=b"x\n", program=program), 5, "vrptw: certificate: BadLine line 1"),
+            (lambda: vrptw.solve(text, seconds=9, tree=b"x\n", program=program), 5,
+             "vrptw: certificate: BadLine line 1"),
             (lambda: vrptw.check(text, b"VRPTW-CERT 3\n", program=program), 5, "vrptw: certificate: BadLine line 1"),
             (lambda: vrptw.check(text, b"VRPTW-SETS 1\n", program=program), 5, "vrptw: certificate: Truncated"),
             (lambda: vrptw.check(text, plan=routes + routes[:1], program=program), 5, "vrptw: plan: "),
@@ -78,6 +81,18 @@ def judge_faults(program, text, routes):
         else:
             demand(False, "%r, and %r is right" % (answer, words))
     return "faults"
+
+
+def judge_gone_on(random, folder, text, instance, answer, cost, program):
+    """A work from the tree of an answer, by a run or by rounds: its bound is no lower."""
+    path = os.path.join(folder, "tree.txt")
+    put(path, answer.certificate)
+    how = random.choice([{"turns": random.randint(1, 5)}, {"seconds": 1}])
+    more = vrptw.solve(text, tree=random.choice([answer, answer.certificate, path]), program=program, **how, **FEW)
+    judge_answer(instance, more, cost)
+    demand((more.kind == "NO PLAN") == (answer.kind == "NO PLAN"), "%r from %r" % (more, answer))
+    if answer.kind != "NO PLAN":
+        demand(more.bound_tenths >= answer.bound_tenths, "%r from %r" % (more, answer))
 
 
 def judge_solved(random, folder, text, instance, cost, options):
@@ -95,6 +110,8 @@ def judge_solved(random, folder, text, instance, cost, options):
     again = vrptw.check(text, answer.certificate, answer if answer.plan else None, program=options["program"])
     demand(again == answer or (again.kind, answer.kind) == ("BOUND", "OPEN"), "%r, and the check says %r" % (
         answer, again))
+    if random.randrange(2):
+        judge_gone_on(random, folder, text, instance, answer, cost, options["program"])
     if answer.plan:
         alone = vrptw.check(text, plan=answer.routes, program=options["program"])
         demand((alone.routes, alone.cost_tenths, alone.bound_tenths) == (answer.routes, answer.cost_tenths, 0),

@@ -27,13 +27,16 @@ if [ "$1" = check ]; then
   exit 1
 fi
 [ "$2" != - ] || exit 6
-echo "$*" >>"$here/words"
+k=$(echo "$*" | sed -n 's/.*--neighbours \\([0-9]*\\).*/\\1/p')
+tree=$(echo "$*" | sed -n 's/.*--tree \\([^ ]*\\).*/\\1/p')
+[ -z "$tree" ] || k=$(sed -n 's/^NEIGHBOURS //p' "$tree")
+echo "$* of $k" >>"$here/words"
 set -- "$3" "$4" $(sed -n "$(wc -l <"$here/words")p" "$here/rows")
 [ $# = 5 ] || exec sleep 600
 if [ "$5" -gt 1 ]; then echo "vrptw: limit: LabelLimit" >&2; exit "$5"; fi
 : >"$1"
 [ "$3" = - ] || printf 'Route #1: 1 2\nCost %%s\n' "$3" >"$1"
-printf 'VRPTW-CERT 2\nINSTANCE T\nCUSTOMERS 2\nNEIGHBOURS 8\nBOUND %%s\nTREE\nP 0 0\nEND\n' "$4" >"$2"
+printf 'VRPTW-CERT 2\nINSTANCE T\nCUSTOMERS 2\nNEIGHBOURS %%s\nBOUND %%s\nTREE\nP 0 0\nEND\n' "$k" "$4" >"$2"
 if [ "$3" = - ]; then echo "OPEN $4"; elif [ "$3" = "$4" ]; then echo "BEST $3"; else echo "GAP $3 $4"; fi
 [ "$3" = "$4" ] || exit 1
 """
@@ -69,7 +72,8 @@ def fitted_out(folder, rows):
 
 
 def judge_words(folder, rows, options):
-    """Each call has the options, and begins with a plan once there is one; turns grow, neighbours change."""
+    """Each call has the options, and begins with a plan once there is one, and with the tree of the last round with so
+    many neighbours; turns grow, neighbours change."""
     calls = got(os.path.join(folder, "words")).decode().splitlines()
     has_plan = False
     for number, call in enumerate(calls):
@@ -78,7 +82,10 @@ def judge_words(folder, rows, options):
         demand(("--start" in words) == has_plan, "a start in round %d: %r" % (number, call))
         if number < len(rows):
             has_plan = has_plan or rows[number][0] is not None
-    counts = [int(call.split("--neighbours ")[1].split()[0]) for call in calls[:5]]
+    counts = [int(call.split(" of ")[1]) for call in calls[:5]]
+    trees = [(" --tree " in call, " --neighbours " in call) for call in calls[:5]]
+    right = [(is_on, not is_on) for is_on in (False, True, False, True, True)]
+    demand(trees == right[:len(trees)], "trees and neighbours: %r" % trees)
     turns = [int(call.split("--turns ")[1].split()[0]) for call in calls[:5]]
     demand(counts == [8, 8, 12, 8, 12][:len(counts)], "neighbours: %r" % counts)
     demand(turns == [1, 4, 4, 16, 16][:len(turns)], "turns: %r" % turns)

@@ -36,6 +36,7 @@ from judges.judging_sets import judge_needs, judge_set_bounds, judge_set_check, 
 from judges.judging_starts import judge_start
 from judges.judging_tables import judge_foreseen, judge_table, judge_wrong_names
 from judges.judging_times import judge_times
+from judges.judging_trees import judge_tree
 from judges.judging_visits import judge_visits
 from judges.launching import LAUNCHES, judge_launch
 from judges.refusing import judge_memory
@@ -174,6 +175,8 @@ KINDS = {
                       program_by(judge_made)),
     "priced_sets": Kind("texts of set_prices: at most the least cost of all plans, and the line of recheck", 6,
                         program_by(judge_priced)),
+    "trees": Kind("solve --tree, from trees cut at random and from texts that are none: the bound is no lower", 30,
+                  program_by(judge_tree)),
     "joins": Kind("certificates that grew from one, by join: the tree and bound of the reference, or refused", 24,
                   program_by(judge_join)),
     "set_rows": Kind("certificates with sets, and what recheck and the reader say of them, by hand", len(SET_ROWS),

@@ -7,7 +7,7 @@ from tools.carrying import Carried, placed
 from tools.judged import judged, ran
 from tools.names import names_of
 from tools.respelling import certificate, text_of
-from tools.standing import CERTIFICATE, INSTANCE, NAMES, PLAN
+from tools.standing import CERTIFICATE, INSTANCE, NAMES, PLAN, TREES
 from tools.stopping import Patience
 from tools.tool import Refused, count
 from vrptw import NEIGHBOURS, SETS, Schedule, verdict_of
@@ -185,6 +185,10 @@ class Planner:
             elif not fault:
                 return
 
+    def has_tree(self, neighbours):
+        """Whether a tree of this instance stands with so many neighbours."""
+        return self.is_in_place and self.folder.held(TREES[neighbours]) is not None
+
     def refuse(self, fault):
         """Tells a fault of the program, which costs nothing where a plan stands."""
         if self.kind is None:
@@ -194,20 +198,29 @@ class Planner:
     def round(self, turns, neighbours, seed, until):
         """One round: its bound and no fault; no bound where it was broken off; or the fault of the program."""
         plan, proof = self.folder.beside(PLAN), self.folder.beside(CERTIFICATE)
+        tree = self.folder.at(TREES[neighbours]) if self.has_tree(neighbours) else None
         words = [self.given.program, "solve", self.folder.beside(INSTANCE), plan, proof, "--progress",
-                 "--turns", str(turns), "--neighbours", str(neighbours), "--seed", str(seed % 2 ** 32)]
+                 "--turns", str(turns), "--seed", str(seed % 2 ** 32)]
+        words += ["--neighbours", str(neighbours)] if tree is None else ["--tree", tree]
         start = self.folder.at(PLAN) if self.cost is not None else self.start
         words += self.given.options + (["--start", start] if start else [])
         came = self.ran(words, self.signals, until, self.tell_of)
         if came.status is None:
             return None, None
         kind, cost, _ = verdict_of(came.line)
+        if kind is None and tree is not None:
+            # Its leaves took more labels than before, say, or somebody changed it.
+            self.folder.drop(TREES[neighbours])
+            return self.round(turns, neighbours, seed, until)
         if kind is None:
             return None, came.fault or "the program ended with status %d" % came.status
         kind, cost, bound, fault = self.checked(proof, None if cost is None else plan, until)
         if kind is None:
             return None, "the check says %s" % fault if fault else None
+        tree = held(proof)
         self.take(cost, bound)
+        if self.is_in_place:
+            self.folder.put(TREES[neighbours], tree)
         return bound, None
 
     def take(self, cost, bound):
@@ -230,8 +243,8 @@ class Planner:
         """Brings the texts of this instance in the place of another's, which are kept."""
         if self.keeps_before:
             self.folder.keep_before()
-        if not has_plan:
-            self.folder.drop(PLAN)
+        for name in TREES.values() if has_plan else (PLAN, *TREES.values()):
+            self.folder.drop(name)
         self.folder.take(NAMES, *([PLAN] if has_plan else []), CERTIFICATE, INSTANCE)
         self.folder.put_beside(INSTANCE, self.texts[INSTANCE])
         self.is_in_place = True

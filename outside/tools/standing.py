@@ -8,6 +8,8 @@ from tools.tool import Refused, last_words
 
 INSTANCE, NAMES, PLAN, CERTIFICATE = "instance.txt", "names.csv", "plan.txt", "certificate.txt"
 TEXTS = (INSTANCE, NAMES, PLAN, CERTIFICATE)
+# The certificate of the last round with each count of neighbours, whose tree the next one goes on from.
+TREES = {neighbours: "tree_%d.txt" % neighbours for neighbours in range(16)}
 # Where texts stand until they are checked, and where those of another instance stay.
 WORK, BEFORE = ".plan_", "before"
 
