@@ -129,7 +129,7 @@ pub(crate) fn regrow<'i>(
     ensures sets { book.new.most_sets ≡ book.old.most_sets }
     ensures costs { costs_of book.new.past ≡ costs_of book.old.past }
     ensures reached { IfOk result (λ r. IsReached r.reached book.new) }
-    ensures least { IfOk result (λ r. r.reached ≡ bound_of tree) }
+    ensures least { IfOk result (λ r. r.reached ≡ bound_of tree.entry) }
     ensures refused { IfErr result (λ e. (e ≡ Memory) ⊎ (e ≡ LabelLimit)) }
 {
     let Some(tree) = tree else {

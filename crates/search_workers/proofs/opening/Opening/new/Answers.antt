@@ -1,0 +1,10 @@
+use Rattle.search_workers.proofs.Starts.{offered_still}
+use Rattle.search_workers.proofs.opening.Opening.new.Goals.{in-Some+in_ok-offer_both-in-Some, in-None}
+use Rattle.search_workers.proofs.opening.Opening.new.Goals as goal
+
+-- a tree that grows offers nothing
+pub returns-clause-offered : goal.returns-clause-offered
+returns-clause-offered g c = elim c.match-plan-3.branch [
+  | in-Some+in_ok-offer_both-in-Some w ↦ offered_still _ _ _ c.regrow.ensures.costs (rw (w.book-is, w.plan-is) w.in_ok-offer_both-in-Some.ensures.offered)
+  | in-None w ↦ rw w.plan-is tt
+]
