@@ -3,7 +3,6 @@ pub mod Preorder
 pub mod Events
 pub mod Grown
 pub mod Sets
-pub mod Narrower
 pub mod Replies
 pub mod Listed
 pub mod Following

@@ -12,7 +12,7 @@ use Rattle.prices.specs.ValuedPrices.{ValuedPrices, IsPricedBy}
 use Rattle.incumbent_book.specs.Contents.{Contents, IsBook, pricing_at}
 use Rattle.incumbent_book.specs.Faults.{AreChildren, region_at}
 use Rattle.incumbent_book.specs.Replies.{Splits, Reprices}
-use Rattle.given_tree.specs.Children.{IsPricedAt}
+use Rattle.prices.specs.Narrowing.{IsPricedAt}
 use Rattle.given_tree.specs.Growing.{Keeps, IsGrownAt, IsRaisedTo, IsSplitAt}
 use Rattle.given_tree.proofs.Events.{split_is, grown_by_prices, still_leaf, raised_by_prices, keeps_itself, raised_itself}
 use Rattle.given_tree.proofs.Grown.{lower}

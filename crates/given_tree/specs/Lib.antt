@@ -1,4 +1,3 @@
 pub mod Faults
 pub mod Nodes
-pub mod Children
 pub mod Growing

@@ -1,55 +1,15 @@
 //! The children of a leaf, at the leaf's own prices.
 
-ghost use Rattle.std.specs.Prelude.{◌≡◌, ◌≢◌, length, None, IfOk, IfErr, IfSome};
-ghost use Rattle.std.specs.List.{AllByRecursion};
-ghost use Rattle.solomon_reader.specs.Problem.{customer_count};
-ghost use Rattle.solomon_reader.specs.Region.{IsUndecided, used_child, unused_child};
-ghost use Rattle.solomon_reader.specs.CertificateText.{IsPrice};
-ghost use Rattle.branching.specs.Arcs.{pair};
-ghost use Rattle.prices.specs.Narrowing.{IsNarrower};
+ghost use Rattle.std.specs.Prelude.{◌≡◌, ◌≢◌, None, IfOk, IfErr};
+ghost use Rattle.prices.specs.Narrowing.{IsNarrower, IsPricedAt};
 ghost use Rattle.given_tree.specs.declared.fault.ReplayFault.TheVariants.{LabelLimit};
-ghost use Rattle.given_tree.specs.Children.{IsPricedAt};
 
 use crate::fault::ReplayFault;
 use crate::given::GivenTree;
 use crate::pricing::price;
-use branching::{Arc, Region, RegionFault};
+use branching::Region;
 use priced_sets::PricedSets;
-use prices::Priced;
-use solomon_reader::Instance;
-use std::alloc::{AllocError, Global};
-
-/// The grains of a tenth.
-const GRAINS_OF_TENTH: i64 = 1_000;
-
-/// A price in grains: with it for each customer a region without a relaxed route has a value above the cost of every
-/// plan.
-fn high_price(instance: &Instance) -> i64
-    ensures { IsPrice result }
-{
-    i64::from(instance.above_ceiling()) * GRAINS_OF_TENTH
-}
-
-/// The high price for each customer.
-fn high_prices(alloc: Global, instance: &Instance) -> Result<Vec<i64>, AllocError>
-    ensures count { IfOk result (λ v. length v.items ≡ customer_count instance.now) }
-    ensures in_range { IfOk result (λ v. AllByRecursion IsPrice v.items) }
-{
-    let high = high_price(instance);
-    let mut prices = Vec::new(alloc);
-    for _customer in 1..instance.customer_count() + 1 {
-        prices.push(high)?;
-    }
-    Ok(prices)
-}
-
-/// A leaf's prices at a region that allows no other arcs, where their value is known to stay.
-fn narrow<'i>(leaf: &Priced<'i>, region: &Region) -> Result<Option<Priced<'i>>, AllocError>
-    requires { IsNarrower region.now leaf.now.region }
-    ensures { IfOk result (λ found. IfSome found (IsPricedAt region.now leaf.now)) }
-{
-    leaf.narrowed(region)
-}
+use prices::{Priced, high_prices};
 
 /// A leaf's prices at a region that allows no other arcs, priced anew only where the route of the least reduced cost
 /// isn't allowed there.
@@ -62,7 +22,7 @@ fn price_same<'i>(
     ensures priced { IfOk result (IsPricedAt region.now leaf.now) }
     ensures unlimited { IfErr result (λ e. e ≡ LabelLimit → tree.now.labels ≢ None) }
 {
-    match narrow(leaf, region)? {
+    match leaf.narrowed(region)? {
         Some(child) => Ok(child),
         None => price(tree, leaf.task().at(region)?),
     }
@@ -95,19 +55,4 @@ pub(crate) fn price_child<'i>(
         return Ok(child);
     }
     price_high(tree, &child)
-}
-
-/// The regions of both children by an arc: that in which it is required, and that in which it is forbidden.
-pub(crate) fn child_regions(region: &Region, arc: Arc) -> Result<(Region, Region), AllocError>
-    requires { IsUndecided region.now (pair arc) }
-    ensures used { IfOk result (λ r. r.0 ≡ used_child region.now (pair arc)) }
-    ensures unused { IfOk result (λ r. r.1 ≡ unused_child region.now (pair arc)) }
-    ensures used_narrower { IfOk result (λ r. IsNarrower r.0 region.now) }
-    ensures unused_narrower { IfOk result (λ r. IsNarrower r.1 region.now) }
-{
-    match (region.used(arc), region.forbidden(arc)) {
-        (Ok(used), Ok(unused)) => Ok((used, unused)),
-        (Err(RegionFault::Memory), _) | (_, Err(RegionFault::Memory)) => Err(AllocError),
-        _ => unreachable!(),
-    }
 }

@@ -8,12 +8,12 @@ ghost use Rattle.incumbent_book.specs.Faults.{AreChildren, region_at};
 ghost use Rattle.given_tree.specs.declared.fault.ReplayFault.TheVariants.{LabelLimit};
 ghost use Rattle.given_tree.specs.Growing.{Keeps, IsSplitAt};
 
-use crate::child::{child_regions, price_child};
+use crate::child::price_child;
 use crate::fault::ReplayFault;
 use crate::given::GivenTree;
 use branching::Arc;
 use incumbent_book::Book;
-use prices::Priced;
+use prices::{Priced, child_regions};
 
 /// The leaf's prices at both children by an arc.
 fn price_children<'i>(

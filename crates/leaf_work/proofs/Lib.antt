@@ -1,4 +1,3 @@
-pub mod Narrower
 pub mod Gathered
 pub mod Obeying
 pub mod Settles

@@ -25,7 +25,7 @@ use Rattle.schedule.specs.Solution.{Solution}
 use Rattle.prices.specs.ValuedPrices.{ValuedPrices, IsValued}
 use Rattle.leaf_work.specs.Gathering.{FitsIn, IsGathered, begins, HasRoom}
 use Rattle.leaf_work.specs.declared.fee.TheConstants.{MOST_FEE}
-use Rattle.leaf_work.specs.Branching.{IsPricedAt}
+use Rattle.prices.specs.Narrowing.{IsPricedAt}
 use Rattle.leaf_work.specs.Parting.{IsSettledLeaf}
 use Rattle.leaf_work.specs.Settling.{IsSettling, IsSettledBy}
 use Rattle.leaf_work.proofs.Obeying.{same_before, same_next}

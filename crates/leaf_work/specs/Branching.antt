@@ -1,16 +1,11 @@
 -- The children of a leaf.
 use Rattle.std.specs.Prelude.{◌≡◌}
-use Rattle.solomon_reader.specs.Region.{Region, IsUndecided, used_child, unused_child}
+use Rattle.solomon_reader.specs.Region.{IsUndecided, used_child, unused_child}
 use Rattle.branching.specs.Arcs.{pair}
 use Rattle.labelling.specs.declared.pricing_task.PricingTask.{PricingTask}
 use Rattle.prices.specs.ValuedPrices.{ValuedPrices}
+use Rattle.prices.specs.Narrowing.{IsPricedAt}
 use Rattle.leaf_work.specs.declared.child.Children.{Children}
-
--- prices of the same instance and neighbours at this region
-pub record IsPricedAt (g : Region) (f child : ValuedPrices) : Type 0 where
-  pub problem : child.problem ≡ f.problem
-  pub region : child.region ≡ g
-  pub neighbours : child.neighbours ≡ f.neighbours
 
 -- what is to be priced at the region of the same instance and neighbours
 pub record IsTaskAt (f : ValuedPrices) (t : PricingTask) : Type 0 where

@@ -4,7 +4,8 @@ use Rattle.solomon_reader.specs.Bound.{ceiling_of}
 use Rattle.schedule.specs.Solution.{Solution}
 use Rattle.branching.specs.Choosing.{IsSettled}
 use Rattle.prices.specs.ValuedPrices.{ValuedPrices, IsValued}
-use Rattle.leaf_work.specs.Branching.{AreChildren, IsPricedAt}
+use Rattle.prices.specs.Narrowing.{IsPricedAt}
+use Rattle.leaf_work.specs.Branching.{AreChildren}
 use Rattle.leaf_work.specs.Settling.{IsSettledBy}
 use Rattle.leaf_work.specs.declared.leaf.Parted.{Parted}
 use Rattle.leaf_work.specs.declared.leaf.Parted.TheVariants.{Split, Settled}

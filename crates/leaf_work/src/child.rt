@@ -1,24 +1,18 @@
 //! The children of a leaf, with their prices.
 
-ghost use Rattle.std.specs.Prelude.{◌≡◌, ◌≢◌, length, None, IfOk, IfErr, IfNone, IfSome};
-ghost use Rattle.std.specs.List.{AllByRecursion};
-ghost use Rattle.solomon_reader.specs.Problem.{customer_count};
-ghost use Rattle.solomon_reader.specs.Region.{IsUndecided, used_child, unused_child};
-ghost use Rattle.solomon_reader.specs.CertificateText.{IsPrice};
-ghost use Rattle.branching.specs.Arcs.{pair};
+ghost use Rattle.std.specs.Prelude.{◌≡◌, ◌≢◌, None, IfOk, IfErr, IfNone, IfSome};
 ghost use Rattle.branching.specs.Choosing.{IsSettled};
 ghost use Rattle.labelling.specs.declared.fault.LabelFault.TheVariants.{LabelLimit};
-ghost use Rattle.prices.specs.Narrowing.{IsNarrower};
-ghost use Rattle.leaf_work.specs.Branching.{AreChildren, IsPricedAt};
+ghost use Rattle.prices.specs.Narrowing.{IsNarrower, IsPricedAt};
+ghost use Rattle.leaf_work.specs.Branching.{AreChildren};
 
 use crate::pricing::{price, task_without_sets};
 use crate::trying::{TriedArc, best_arc};
-use branching::{Arc, Region, RegionFault};
+use branching::{Arc, Region};
 use labelling::LabelFault;
-use pooled_routes::{Child, GRAINS_OF_TENTH};
+use pooled_routes::Child;
 use price_way::{Ascent, ChildStart, PricingState, RoutePool};
-use prices::Priced;
-use solomon_reader::Instance;
+use prices::{Priced, child_regions, high_prices};
 use std::alloc::{AllocError, Global};
 
 /// The children of a leaf by an arc, with their prices.
@@ -36,35 +30,6 @@ pub struct Children<'i> {
     pub unused_start: Option<ChildStart>,
 }
 
-/// A price in grains: with it for each customer a region without a relaxed route has a value above the
-/// cost of every plan.
-pub(crate) fn high_price(instance: &Instance) -> i64
-    ensures { IsPrice result }
-{
-    i64::from(instance.above_ceiling()) * GRAINS_OF_TENTH
-}
-
-/// The high price for each customer.
-fn high_prices(alloc: Global, instance: &Instance) -> Result<Vec<i64>, AllocError>
-    ensures count { IfOk result (λ v. length v.items ≡ customer_count instance.now) }
-    ensures in_range { IfOk result (λ v. AllByRecursion IsPrice v.items) }
-{
-    let high = high_price(instance);
-    let mut prices = Vec::new(alloc);
-    for _customer in 1..instance.customer_count() + 1 {
-        prices.push(high)?;
-    }
-    Ok(prices)
-}
-
-/// The leaf's prices at a region that allows no other arcs, where their value is known to stay.
-fn narrow<'i>(leaf: &Priced<'i>, region: &Region) -> Result<Option<Priced<'i>>, AllocError>
-    requires { IsNarrower region.now leaf.now.region }
-    ensures { IfOk result (λ found. IfSome found (IsPricedAt region.now leaf.now)) }
-{
-    leaf.narrowed(region)
-}
-
 /// The leaf's prices at a child's region, priced anew only where the route of the least reduced cost
 /// isn't allowed there.
 fn price_same<'i>(
@@ -78,7 +43,7 @@ fn price_same<'i>(
     ensures priced { IfOk result (IsPricedAt region.now leaf.now) }
     ensures unlimited { IfErr result (λ e. e ≡ LabelLimit → labels ≢ None) }
 {
-    match narrow(leaf, region)? {
+    match leaf.narrowed(region)? {
         Some(child) => Ok(child),
         None => price(pool, state, leaf.task().at(region)?, labels),
     }
@@ -117,22 +82,6 @@ fn price_child<'i>(
         return Ok(child);
     }
     price_high(pool, state, &child, labels)
-}
-
-/// The regions of both children by an arc: that in which it is required, and that in which it is
-/// forbidden.
-fn child_regions(region: &Region, arc: Arc) -> Result<(Region, Region), AllocError>
-    requires { IsUndecided region.now (pair arc) }
-    ensures used { IfOk result (λ r. r.0 ≡ used_child region.now (pair arc)) }
-    ensures unused { IfOk result (λ r. r.1 ≡ unused_child region.now (pair arc)) }
-    ensures used_narrower { IfOk result (λ r. IsNarrower r.0 region.now) }
-    ensures unused_narrower { IfOk result (λ r. IsNarrower r.1 region.now) }
-{
-    match (region.used(arc), region.forbidden(arc)) {
-        (Ok(used), Ok(unused)) => Ok((used, unused)),
-        (Err(RegionFault::Memory), _) | (_, Err(RegionFault::Memory)) => Err(AllocError),
-        _ => unreachable!(),
-    }
 }
 
 /// The stops for `choose` of a leaf's region: along the arc of the greatest score, or where none was

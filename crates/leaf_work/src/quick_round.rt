@@ -1,7 +1,8 @@
 //! Rounds of quick searches, each with an exact pricing at its end.
 
 ghost use Rattle.std.specs.Prelude.{◌≡◌, ◌≢◌, IfOk, IfSome};
-ghost use Rattle.leaf_work.specs.Branching.{IsPricedAt, IsTaskAt};
+ghost use Rattle.prices.specs.Narrowing.{IsPricedAt};
+ghost use Rattle.leaf_work.specs.Branching.{IsTaskAt};
 
 use crate::pricing::price;
 use crate::tasks::trial_task;

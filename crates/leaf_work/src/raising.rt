@@ -1,7 +1,7 @@
 //! The raising of a leaf's value.
 
 ghost use Rattle.std.specs.Prelude.{◌≡◌, ◌≤◌, [], IfOk, IfSome};
-ghost use Rattle.leaf_work.specs.Branching.{IsPricedAt};
+ghost use Rattle.prices.specs.Narrowing.{IsPricedAt};
 
 use crate::pricing::price;
 use crate::quick_round::{is_quick_next, quick_round};

@@ -5,10 +5,9 @@ ghost use Rattle.std.specs.List.{AllByRecursion};
 ghost use Rattle.solomon_reader.specs.Problem.{customer_count};
 ghost use Rattle.solomon_reader.specs.CertificateText.{IsPrice};
 
-use crate::child::high_price;
 use crate::starting::higher_at;
 use fronts::Nearness;
-use prices::Priced;
+use prices::{Priced, high_price};
 use schedule::walk;
 use solomon_reader::{Instance, MOST_PRICE};
 use std::alloc::{AllocError, Global};

@@ -1,3 +1,4 @@
 pub mod Ascending
 pub mod LeastCosts
+pub mod Narrower
 pub mod Values

@@ -15,6 +15,12 @@ pub record IsNarrower (g h : Region) : Type 0 where
 abbrev pub StaysLeast : Region → Least → Type 0
 StaysLeast g l = MatchOption l.value (Unit {0}) (λ m. AllByRecursion (IsAllowed g) (arcs l.route.items))
 
+-- prices of the same instance and neighbours at this region
+pub record IsPricedAt (g : Region) (leaf child : ValuedPrices) : Type 0 where
+  pub problem : child.problem ≡ leaf.problem
+  pub region : child.region ≡ g
+  pub neighbours : child.neighbours ≡ leaf.neighbours
+
 -- the same prices with the same value, at another region
 pub record IsSameAt (g : Region) (old new : ValuedPrices) : Type 0 where
   pub problem : new.problem ≡ old.problem

@@ -3,6 +3,7 @@
 
 mod ascent;
 mod fault;
+mod high;
 mod improving;
 mod narrowing;
 mod priced;
@@ -11,6 +12,7 @@ mod stepping;
 mod valuing;
 
 pub use fault::PriceFault;
+pub use high::{high_price, high_prices};
 pub use improving::improve;
-pub use narrowing::allows_route;
+pub use narrowing::{allows_route, child_regions};
 pub use priced::Priced;

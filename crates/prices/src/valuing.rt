@@ -10,7 +10,7 @@ ghost use Rattle.solomon_reader.specs.declared.limits.TheConstants.{MOST_CUSTOME
 ghost use Rattle.prices.specs.ValuedPrices.{or_zero, MOST_LEAST, MOST_NEEDS, MOST_VALUE};
 
 /// The grains of a tenth.
-const GRAINS_OF_TENTH: u128 = 1_000;
+pub(crate) const GRAINS_OF_TENTH: u128 = 1_000;
 
 /// A number of grains as the difference of two numbers that aren't negative.
 #[derive(Clone, Copy)]

@@ -1,4 +1,4 @@
-use Rattle.given_tree.proofs.Narrower.{priced_through}
+use Rattle.prices.proofs.Narrower.{priced_through}
 use Rattle.given_tree.proofs.child.price_child.Goals as goal
 
 pub returns-clause-priced : goal.returns-clause-priced

@@ -1,4 +1,4 @@
-use Rattle.leaf_work.proofs.Narrower.{priced_through}
+use Rattle.prices.proofs.Narrower.{priced_through}
 use Rattle.leaf_work.proofs.child.price_child.Goals as goal
 
 pub returns-clause-priced : goal.returns-clause-priced

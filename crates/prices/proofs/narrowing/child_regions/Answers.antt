@@ -2,8 +2,8 @@ use Rattle.std.proofs.Common.{subst, sym}
 use Rattle.solomon_reader.specs.Region.{Region}
 use Rattle.branching.specs.Arcs.{pair}
 use Rattle.prices.specs.Narrowing.{IsNarrower}
-use Rattle.given_tree.proofs.Narrower.{used_is_narrower, unused_is_narrower}
-use Rattle.given_tree.proofs.child.child_regions.Goals as goal
+use Rattle.prices.proofs.Narrower.{used_is_narrower, unused_is_narrower}
+use Rattle.prices.proofs.narrowing.child_regions.Goals as goal
 
 pub returns-in-Ok-Ok-clause-used_narrower : goal.returns-in-Ok-Ok-clause-used_narrower
 returns-in-Ok-Ok-clause-used_narrower c =

@@ -4,9 +4,8 @@ use Rattle.std.specs.Prelude.{Result, Ok, Err, IfOk}
 use Rattle.solomon_reader.specs.Plan.{Arc}
 use Rattle.solomon_reader.specs.Region.{Region, used_child, unused_child}
 use Rattle.solomon_reader.specs.ArcOrder.{holds_old}
-use Rattle.prices.specs.Narrowing.{IsNarrower}
+use Rattle.prices.specs.Narrowing.{IsNarrower, IsPricedAt}
 use Rattle.prices.specs.ValuedPrices.{ValuedPrices}
-use Rattle.leaf_work.specs.Branching.{IsPricedAt}
 
 pub used_is_narrower : (g : Region) (a : Arc) → IsNarrower (used_child g a) g
 used_is_narrower g a = record {
