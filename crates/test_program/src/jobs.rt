@@ -12,6 +12,8 @@ pub(crate) fn tell_job(alloc: Global, told: &mut String, words: &[&str]) -> Resu
                 solution,
                 certificate,
                 start,
+                tree,
+                part,
                 settings,
                 close,
                 leaves,
@@ -25,7 +27,8 @@ pub(crate) fn tell_job(alloc: Global, told: &mut String, words: &[&str]) -> Resu
                 told,
                 "close {close} leaves {leaves} progress {progress} live {live}"
             )?;
-            writeln!(told, " start {start:?}")
+            write!(told, " start {start:?} tree {tree:?}")?;
+            writeln!(told, " part {}/{}", part.place, part.count)
         }
         Ok(
             Job::Check {
