@@ -13,7 +13,7 @@ use Rattle.std.specs.List.{AllByRecursion}
 use Rattle.solomon_reader.specs.CustomerSets.{IsNeeded}
 use Rattle.solomon_reader.specs.SetPrices.{ListedSet, AreTrueNeeds}
 use Rattle.solomon_reader.specs.Bound.{listed_sets}
-use Rattle.solomon_reader.specs.CertificateText.{Certificate, Content, IsListedSet, IsCertificateText, listed}
+use Rattle.solomon_reader.specs.CertificateText.{Certificate, Content, IsAccepted, IsListedSet, IsCertificateText, listed}
 use Rattle.solomon_reader.specs.Words.{words}
 use Rattle.solomon_reader.specs.Reading.{reading}
 use Rattle.solomon_reader.specs.declared.fault.ReadFault.{ReadFault}
@@ -24,7 +24,7 @@ use Rattle.solomon_reader.proofs.Bounds.{one_tree_bound}
 use Rattle.checker.specs.declared.fault.CheckFault.{CheckFault}
 use Rattle.checker.specs.declared.verdict.Verdict.{Verdict}
 use Rattle.checker.specs.Checking.{Texts, Spelled, IsSolutionOf, AreTextsOf, IsFor, HasNeeds, HasBound, Judges, RefusesBound, RefusesSolution, Refuses, Checks, IsRight, IsRightSolution, Means}
-use Rattle.checker.specs.Checking.{IsFaultOfReader, RefusesInstance, RefusesCertificate, RefusesSolutionText, RefusesTexts, RefusesPlan, RefusesContents}
+use Rattle.checker.specs.Checking.{IsFaultOfReader, RefusesInstance, RefusesCertificate, RefusesSolutionText, RefusesTexts, RefusesPlan, RefusesContents, RefusesTree}
 use Rattle.checker.specs.Needs.{IsNeededAt}
 use Rattle.checker.specs.declared.verdict.Verdict.TheVariants.{Best, Gap, NoPlan, BoundOnly}
 use Rattle.checker.specs.declared.fault.CheckFault.TheVariants as fault
@@ -56,6 +56,27 @@ module _ (t : Texts) (p : Problem) (x : Content) (s : Option Spelled) (instance 
     judged (Err e) ok err =
         let good = accepted text.certificate text.is in
         inr (record { problem = p; contents = text.certificate; solution = s; are = are_texts; refused = inr (record { fits = good.0; needed = good.1; bound = good.2; refused = err }) })
+
+-- ---- The text of a certificate alone, from what was found of it.
+
+module _ (p : Problem) (text : List ℕ) (x : Content) (is : IsCertificateText text x) where
+  pub tree_accepted : ((c : Certificate) → x ≡ listed c → IsFor p c × HasNeeds p c × HasBound p c c.bound) → (a : IsAccepted p text) × (x ≡ listed a.certificate)
+  tree_accepted h =
+      let good = h is.certificate is.is in (
+        record {
+          certificate = is.certificate;
+          shaped = is.shaped;
+          spelled = is.spelled;
+          name = good.0.name;
+          size = good.0.size;
+          needed = good.1;
+          is_bound = good.2;
+        },
+        is.is,
+      )
+
+  pub tree_refused : (e : CheckFault) → ((c : Certificate) → x ≡ listed c → RefusesBound p c e) → RefusesTree p text e
+  tree_refused e h = inr (is.certificate, is.shaped, is.spelled, h is.certificate is.is)
 
 -- what is lent of a solution is what is had
 pub lent : (r : Option (Bor Sol)) (o : Option Sol) → option_copied r ≡ o → option_map (λ s. view s.now) r ≡ option_map view o

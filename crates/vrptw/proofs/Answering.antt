@@ -1,10 +1,10 @@
 -- From what becomes of what was found to what the solver says.
-use Rattle.std.proofs.Common.{◌≡◌, Option, Some, None, inl, inr, List, MatchOption, Result, Ok, Err, ℕ, ◌≤◌, arith}
+use Rattle.std.proofs.Common.{◌≡◌, Option, Some, None, inl, inr, List, MatchOption, Result, Ok, Err, ℕ, ◌≤◌, ◌+◌, arith}
 use Rattle.std.specs.Prelude.{IfSome, IfOk}
 use Rattle.schedule.specs.Solution.{Solution}
 use Rattle.solomon_reader.specs.Problem.{Problem}
 use Rattle.solomon_reader.specs.Layout.{IsInstance}
-use Rattle.solomon_reader.specs.Bound.{version_2}
+use Rattle.solomon_reader.specs.Bound.{version_2, ceiling_of}
 use Rattle.solomon_reader.specs.DualityLaws.{tree_bound_holds, ceiling_holds}
 use Rattle.tenths.specs.Sink.{Held}
 use Rattle.insertion.specs.Building.{IsServedAlone}
@@ -18,6 +18,7 @@ use Rattle.vrptw.specs.declared.answer.SolveFault.{SolveFault}
 use Rattle.vrptw.specs.Answers.{Answers, Breaks, Solves}
 use Rattle.vrptw.specs.Found.{IsOf, WritesFound}
 use Rattle.vrptw.specs.Starting.{IsPlanAt, IsAtMost}
+use Rattle.vrptw.specs.GoingOn.{IsNoLower}
 use Rattle.search_workers.specs.Running.{IsNoDearer}
 use Rattle.vrptw.specs.Closing.{AreWithin, HasNoPlan, ClosesWith, Closes}
 
@@ -93,3 +94,14 @@ at_most p settings None found bound s s' c c' is low (Ok answer) writes = tt
 at_most p settings None found bound s s' c c' is low (Err e) writes = tt
 at_most p settings (Some f) found bound s s' c c' is low (Ok answer) (answers, of) = at_most_answer p settings f is s s' c c' bound found low answer answers of
 at_most p settings (Some f) found bound s s' c c' is low (Err e) writes = tt
+
+-- ---- a tree to go on from
+
+-- the bound that is told is no lower than one that was reached
+pub no_lower : (p : Problem) (settings : Settings) (found : Option Solution) (least bound : ℕ) (s s' c c' : Held) → least ≤ bound → bound ≤ ceiling_of p + 1
+    → (r : Result Answer SolveFault) → WritesFound p settings found bound s s' c c' r → IfOk r (IsNoLower p least)
+no_lower p settings found least bound s s' c c' low most (Ok (Best cost)) (answers, of) = omega (arith, low, of)
+no_lower p settings found least bound s s' c c' low most (Ok (Gap cost b)) (answers, of) = omega (arith, low, of.0)
+no_lower p settings found least bound s s' c c' low most (Ok NoPlan) (answers, of) = omega (arith, low, most)
+no_lower p settings found least bound s s' c c' low most (Ok (Open b)) (answers, of) = omega (arith, low, of.0)
+no_lower p settings found least bound s s' c c' low most (Err e) writes = tt

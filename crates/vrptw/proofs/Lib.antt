@@ -1,3 +1,4 @@
 pub mod Answering
 pub mod TreeTexts
 pub mod Closed
+pub mod FromTexts
