@@ -1,5 +1,5 @@
 -- A bound that a book has reached stays reached, and is at most the book's bound.
-use Rattle.std.proofs.Common.{◌≡◌, ℕ, ◌≤◌, ◌+◌, ◌∷◌, List, sym, subst, arith, inl, inr}
+use Rattle.std.proofs.Common.{◌≡◌, ℕ, ◌≤◌, ◌+◌, ◌∷◌, sym, subst, arith, inl, inr}
 use Rattle.solomon_reader.specs.Problem.{customer_count}
 use Rattle.solomon_reader.specs.Bound.{ceiling_of}
 use Rattle.solomon_reader.specs.History.{Event, value_of, IsBound, IsLeaf, IsLegal}
