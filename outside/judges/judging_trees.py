@@ -1,10 +1,12 @@
 """Runs of `solve --tree`: from a tree that was cut at random the bound is no lower and the tree grows on, by all of its
-open leaves or by a part of them; a text that is none of the instance is told as the check tells it."""
+open leaves or by a part of them; all parts are joined; a text that is none of the instance is told as the check tells
+it."""
 import os
 from collections import Counter
 
 from cases.grown_trees import cut, leaf_count
 from judges.judging_joins import like, spoilt, text_of, whole_of
+from judges.judging_layouts import tool
 from judges.running import demand, put, run_check, solve
 from reference import bounding, checking
 from reference.set_texts import SetCertificate, read_either
@@ -72,7 +74,27 @@ def judge_tree(program, folder, random):
     if is_unfit(given.tree):
         demand(came == ("", "vrptw: limit: LabelLimit\n", 7, b"", b""), told)
         return "unfit"
+    if random.randrange(3) == 0:
+        return judge_parts(program, folder, random, text, given, told)
     return judge_answer(program, folder, text, given, came, options, told)
+
+
+def judge_parts(program, folder, random, text, given, told):
+    """All parts of a tree, and the certificate that join makes of theirs: no bound of a part is higher."""
+    tree, count, bounds, paths = os.path.join(folder, "tree"), random.choice([2, 3]), [], []
+    for place in range(1, count + 1):
+        options = ["--turns", "3", "--searchers", "1", "--bounders", "1", "--tree", tree]
+        came = solve(program, folder, text, options + ["--part", "%d/%d" % (place, count)])
+        judge_answer(program, folder, text, given, came, options, told)
+        bounds.append(read_either(came[4]).bound)
+        paths.append(os.path.join(folder, "part%d" % place))
+        put(paths[-1], came[4])
+    put(os.path.join(folder, "instance"), text)
+    words = [os.path.join(folder, "instance"), tree, *paths, "--check", "--program", program, "--jobs", "1"]
+    out, errors, status = tool("join", *words)
+    demand(status == 0 and read_either(out).bound >= max(bounds), "%s: parts of %s, joined: status %d, %r, %r" % (
+        told, bounds, status, errors, out))
+    return "parts joined"
 
 
 def judge_answer(program, folder, text, given, came, options, told):
