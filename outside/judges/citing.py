@@ -20,6 +20,7 @@ EXCEPTED = {
     r"(c|r|rc)[12](_\d+)?": "the files and classes of docs/lab/measures.md, most of which aren't in the repository",
     r"(?=.*\d)[0-9a-f]{7}": "commits",
     r"(libc|os)::.*": "C functions, as the toolchain names them",
+    r"K/N|[0-9]+/[0-9]+": "parts of the open leaves of a tree",
     r"\./plan|(instance|plan|certificate|yesterday|today|start|tree|part_[12])\.txt": "a user's own files",
 }
 

@@ -80,8 +80,8 @@ fn run<'i, J: Naming + Send, R: Abort + Threads + Wait + Sync + AllocGlobal>(
     }
 }
 
-#[test]
 #[tactic(auto, using(incumbent_book::proofs::Reached::nothing_reached))]
+#[test]
 fn a_second_share_is_told_what_the_first_did(rt: HostRuntime) -> Result<(), Fail> {
     let instance = instance_of(rt.alloc())?;
     let book = book_of(rt.alloc(), &instance, 1, Limits::MOST).ok_or("no book")?;
