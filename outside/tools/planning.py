@@ -20,11 +20,11 @@ HANDED_ON = (("searchers", 1, 32, "threads that look for a plan"), ("bounders", 
              ("labels", 1, 10 ** 8, "labels active at once in a pricing"))
 
 
-def add_solving(words):
+def add_solving(words, neighbours="in place of 8 and 12 in turn"):
     """Adds the options by which rounds are made."""
     for name, low, high, told in HANDED_ON:
         words.add_argument("--" + name, type=count(low, high), metavar="N", help="%s, as solve has it" % told)
-    words.add_argument("--neighbours", type=count(0, 15), metavar="N", help="in place of 8 and 12 in turn")
+    words.add_argument("--neighbours", type=count(0, 15), metavar="N", help=neighbours)
     words.add_argument("--sets", type=count(0, 1000), default=SETS, metavar="N",
                        help="sets of customers that may have prices in the proof (default %(default)s)")
     words.add_argument("--seed", type=count(0, 999_999_999), default=1, metavar="N", help="that of the first round")
@@ -42,8 +42,8 @@ def held(path):
 
 
 class Planner:
-    """A folder, an instance with its text and its table of names, and what is known: cost, bound, count of vehicles
-    and kind of verdict of the texts that stand, all None where none does."""
+    """A folder, an instance with its text and its table of names or None, and what is known: cost, bound, count of
+    vehicles and kind of verdict of the texts that stand, all None where none does."""
 
     def __init__(self, folder, instance, texts, given, signals, tell, keeps_before=True):
         self.folder, self.instance, self.given, self.signals, self.tell = folder, instance, given, signals, tell
@@ -51,7 +51,8 @@ class Planner:
         self.cost = self.bound = self.vehicles = self.kind = self.start = None
         # What the pages say of fewer vehicles.
         self.fewest = ""
-        self.notes, self.texts = [], dict(zip((INSTANCE, NAMES), texts))
+        self.notes = []
+        self.texts = {name: text for name, text in zip((INSTANCE, NAMES), texts) if text is not None}
         for name, text in self.texts.items():
             folder.put_beside(name, text)
         self.is_in_place = folder.held(INSTANCE) == self.texts[INSTANCE]
@@ -75,7 +76,7 @@ class Planner:
         plan, proof = self.folder.held(PLAN), self.folder.held(CERTIFICATE)
         if not self.is_in_place:
             return
-        if self.folder.held(NAMES) != self.texts[NAMES]:
+        if self.folder.held(NAMES) != self.texts.get(NAMES, self.folder.held(NAMES)):
             self.folder.take(NAMES)
         if plan:
             line, fault = judged(self.given.program, self.texts[INSTANCE], certificate(self.instance).encode(), plan)
@@ -195,7 +196,7 @@ class Planner:
         """One round: its bound and no fault; no bound where it was broken off; or the fault of the program."""
         plan, proof = self.folder.beside(PLAN), self.folder.beside(CERTIFICATE)
         words = [self.given.program, "solve", self.folder.beside(INSTANCE), plan, proof, "--progress",
-                 "--turns", str(turns), "--neighbours", str(neighbours), "--seed", str(seed % 2 ** 32)]
+                 "--turns", str(turns), *self.tree_words(neighbours), "--seed", str(seed % 2 ** 32)]
         start = self.folder.at(PLAN) if self.cost is not None else self.start
         words += self.given.options + (["--start", start] if start else [])
         came = self.ran(words, self.signals, until, self.tell_of)
@@ -210,6 +211,14 @@ class Planner:
         self.take(cost, bound)
         return bound, None
 
+    def tree_words(self, neighbours):
+        """The options that say by which relaxed routes a round begins."""
+        return ["--neighbours", str(neighbours)]
+
+    def is_higher(self, bound):
+        """Whether a certificate of this bound comes into place."""
+        return self.bound is None or bound > self.bound
+
     def take(self, cost, bound):
         """Brings what is better into place; of another instance all texts, once there is a plan or none can be."""
         if not self.is_in_place:
@@ -219,7 +228,7 @@ class Planner:
         else:
             if cost is not None and (self.cost is None or cost < self.cost):
                 self.folder.take(PLAN)
-            if self.bound is None or bound > self.bound:
+            if self.is_higher(bound):
                 self.folder.take(CERTIFICATE)
         if cost is not None and (self.cost is None or cost < self.cost):
             self.cost, self.vehicles = cost, self.folder.held(PLAN).count(b"\nRoute #") + 1
