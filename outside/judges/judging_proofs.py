@@ -1,5 +1,5 @@
-"""One run of `prove` on few customers, of whose parts one is killed, stopped or spoilt at a drawn moment: what stands is
-right at each moment and never worse than before, the other parts lose nothing, and the instance is closed."""
+"""One run of `prove` on few customers, of whose parts one is killed, stopped or spoilt at a drawn moment: what stands
+is right at each moment and never worse than before, and the other parts lose nothing."""
 import os
 import subprocess
 import time
@@ -16,9 +16,9 @@ from tools.proving import LEAVES
 from tools.proving_rounds import TABLE
 from vrptw import verdict_of
 
-# How many seconds a run may take, and what is done to one part: it is killed behind some time, or does without its
-# program, or what it wrote is spoilt.
-LONGEST = 120
+# How many seconds a command may take at most, and how long it works unless the instance is closed before.
+LONGEST, SECONDS = 120, (4, 8)
+# What is done to one part: it is killed behind some time, or does without its program, or what it wrote is spoilt.
 WAYS = {
     "killed": 'sleep %(delay).3f; kill -9 $child; kill -9 $$',
     "killed alone": 'sleep %(delay).3f; kill -9 $child; wait $child; exit $?',
@@ -105,14 +105,25 @@ def watched(program, folder, words, into):
     return out.decode(), errors.decode(), child.returncode, now
 
 
-def demand_kept(folder, into):
-    """What the parts that were left alone have grown stands in the tree; answers how many these are."""
+def demand_kept(folder, into, rounds):
+    """What the parts that were left alone have grown in so many rounds stands in the tree."""
     whole = read_either(got(os.path.join(into, "certificate.txt"))).tree
-    kept = [name for name in sorted(os.listdir(folder)) if name.startswith("kept_")]
-    for name in kept:
-        text = got(os.path.join(folder, name))
-        demand(not text or is_within(read_either(text).tree, whole), "what %s has grown is lost" % name)
-    return len(kept)
+    for name in sorted(os.listdir(folder)):
+        text = got(os.path.join(folder, name)) if name.startswith("kept_r") else b""
+        if text and int(name[len("kept_r"):].split("@")[0]) <= rounds:
+            demand(is_within(read_either(text).tree, whole), "what %s has grown is lost" % name)
+
+
+def judge_end(instance, came):
+    """The line at the end is what stands, and says nothing that isn't so; answers whether the instance is closed."""
+    out, errors, status, now = came
+    kind, cost, bound = verdict_of(out.split("\n")[0])
+    least = least_cost(instance)
+    demand((kind, cost, bound) == now[1:] and "Traceback" not in errors, "%r, %r, and %r stands" % (
+        out, errors, now[1:]))
+    demand(bound <= least <= cost and status == (0 if kind == "BEST" else 1), "%r, and %s is the least cost" % (
+        out, least))
+    return kind == "BEST"
 
 
 def judge_proof(program, folder, random):
@@ -124,19 +135,17 @@ def judge_proof(program, folder, random):
         put(os.path.join(into, name), held)
     path, way = spoiler(program, folder, random, parts)
     words = [os.path.join(OUTSIDE, "prove"), os.path.join(into, "instance.txt"), "--into", into, "--parts", str(parts),
-             "--jobs", "2", "--round", "2", "--seconds", str(LONGEST), "--sets", str(random.choice([0, 20])),
-             "--program", path]
-    out, errors, status, now = watched(program, folder, words, into)
-    cost = least_cost(instance)
-    demand((status, now[1:]) == (0, ("BEST", cost, cost)), "%s: status %d, %r, %r, %r" % (way, status, out, errors, now))
-    demand(verdict_of(out.split("\n")[0]) == now[1:], "%s: %r" % (way, out))
-    demand("Traceback" not in errors, "%s: %r" % (way, errors))
-    count, done = demand_kept(folder, into), any(name.startswith("call_") for name in os.listdir(folder))
-    rows = got(os.path.join(into, TABLE))
-    out, errors, status, _ = watched(program, folder, words, into)
-    demand((status, errors, got(os.path.join(into, TABLE))) == (0, "", rows), "again: %d, %r" % (status, errors))
+             "--jobs", "2", "--round", "1", "--seconds", str(random.randint(*SECONDS)), "--sets",
+             str(random.choice([0, 20])), "--program", path]
+    is_closed = judge_end(instance, watched(program, folder, words, into))
+    rows = got(os.path.join(into, TABLE)) or b""
+    # A part of the last round may have come when the time was over.
+    demand_kept(folder, into, rows.count(b"\n") - 2)
+    if is_closed:
+        _, errors, status, _ = watched(program, folder, words, into)
+        demand((status, errors, got(os.path.join(into, TABLE))) == (0, "", rows), "again: %d, %r" % (status, errors))
     until = time.monotonic() + 5
     while left_running(into) and time.monotonic() < until:
         time.sleep(0.05)
     demand(not left_running(into), "left running: %s" % left_running(into))
-    return "%s: closed%s" % (way, "" if done else " without parts") if count or not done else "%s: closed at once" % way
+    return "%s: %s" % (way, "closed" if is_closed else "right")

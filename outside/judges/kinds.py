@@ -161,7 +161,7 @@ KINDS = {
                    program_by(judge_break)),
     "rounds": Kind("drawn costs and bounds by rounds of the module and of a batch's step: the best stay, at an end too",
                    12, tools_by(judge_rounds)),
-    "proofs": Kind("2 to 7 customers by prove, one part killed or spoilt: right texts, never worse, and closed", 4,
+    "proofs": Kind("few customers by prove, one part killed or spoilt: right, never worse, all else kept", 4,
                    program_by(judge_proof)),
     "literature": Kind("files named as Solomon's by bench/solomon, beside published costs: least costs by all plans", 6,
                        program_by(judge_literature)),

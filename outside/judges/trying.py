@@ -8,7 +8,9 @@ import subprocess
 import tempfile
 import time
 
-from tools.places import TOP
+from tools.judged import add_program, program_of
+from tools.places import OUTSIDE, TOP
+from tools.proving_rounds import TABLE
 from tools.tool import Refused, Words
 
 # The files whose first customers are the instances, and how many customers each has.
@@ -29,7 +31,15 @@ def words_of(tool, told):
     """The words of a trial."""
     found = Words(tool, told)
     found.add_argument("--install", action="store_true", help="has apt-get install what isn't there")
+    add_program(found)
     return found
+
+
+def given_by(words):
+    """What the words of a trial say; the program is one that can be run."""
+    given = words.parse_args()
+    given.program = program_of(given)
+    return given
 
 
 def needed(installs, programs, packages):
@@ -148,6 +158,19 @@ def goes_on(words, into):
     came = subprocess.run(words, stdout=subprocess.PIPE, timeout=LONGEST)
     if came.returncode or done_in(into) != after:
         stop_with("a third call did something")
+
+
+def closes(program, into, further):
+    """An instance that one turn doesn't close, by prove with an engine: closed, by parts in one round at least."""
+    words = [os.path.join(OUTSIDE, "prove"), os.path.join(TOP, "examples", "c1_25.txt"), "--into", into, "--parts", "2",
+             "--round", "10", "--seconds", str(LONGEST), "--sets", "0", "--neighbours", "0", "--program", program]
+    came = subprocess.run(words + further, stdout=subprocess.PIPE, timeout=2 * LONGEST)
+    print(came.stdout.decode(), end="", flush=True)
+    with open(os.path.join(into, TABLE), encoding="ascii") as file:
+        rows = [line.split(",") for line in file.read().split("\n")[1:-1]]
+    if came.returncode or not any(row[1] == row[2] == "2" for row in rows):
+        stop_with("prove ended with status %d, and rounds of %r" % (came.returncode, rows))
+    print("one instance closed in parts: right", flush=True)
 
 
 def trial(work, **given):

@@ -7,7 +7,6 @@ import time
 from reference.set_texts import MOST_SETS
 from reference.texts import TextFault, read_solution, shown
 from tools.batching import content
-from tools.engines import machines
 from tools.joined import TooMany
 from tools.judged import judged
 from tools.parting import START, TREE, Round
@@ -28,6 +27,8 @@ PARTS, JOINED = "parts", "joined"
 LONGEST, SLACK = 3, 30
 # How many leaves a part has at least, before parts are dealt out, and the shortest round as a part of the longest.
 LEAVES, SHORTEST = 8, 8
+# After so many rounds of which no part came the work ends.
+MOST_LOST = 3
 # The part of the time left that a round may be thought to take.
 PART = 0.7
 # Seeds of rounds lie so far apart, so that no part of another round has the same.
@@ -57,10 +58,8 @@ class Prover(Planner):
         self.rounds = Rounds(folder)
         self.pace, self.seconds = Pace(self.rounds.last("turns")), given.round
         # How many parts may have more to do; None where none were dealt out yet.
-        self.at_work, self.leaves, self.least, self.percent = None, 0, 1, 0
+        self.at_work, self.leaves, self.least, self.lost = None, 0, 1, 0
         self.until = self.spent = 0.0
-        if given.engine == "parallel":
-            machines(given.sshloginfile)
 
     def begin(self, until):
         """Takes in what stands, which has to be right."""
@@ -86,11 +85,6 @@ class Prover(Planner):
         if self.bound is not None:
             return ["--tree", self.folder.at(CERTIFICATE)]
         return [] if neighbours is None else super().tree_words(neighbours)
-
-    def tell_of(self, came):
-        if came is not None:
-            self.percent = came.percent
-        super().tell_of(came)
 
     def prove(self):
         """Makes rounds until no plan is cheaper, or it is over."""
@@ -127,7 +121,7 @@ class Prover(Planner):
 
     def work_here(self, turns):
         """A round of one run here. Answers what its row has of parts, or None where nothing came."""
-        began, self.percent = time.monotonic(), 0
+        began = time.monotonic()
         before = resource.getrusage(resource.RUSAGE_CHILDREN)
         bound, fault = self.round(turns, self.given.neighbours, self.seed(), self.until)
         after = resource.getrusage(resource.RUSAGE_CHILDREN)
@@ -174,6 +168,9 @@ class Prover(Planner):
         came = self.take_parts([part for part in parts if part.has_answer()])
         self.at_work = count - sum(part.is_out_of_work() for part in parts)
         self.choose_seconds()
+        self.lost = 0 if came else self.lost + 1
+        if self.lost == MOST_LOST and not self.is_over():
+            raise Refused("%d rounds came to nothing; what stands in %s is kept" % (self.lost, self.folder.path))
         return count, came, self.at_work
 
     def tell_failed(self, parts):
