@@ -8,7 +8,7 @@ import subprocess
 import tempfile
 import time
 
-from tools.judged import add_program, program_of
+from tools.judged import add_program, demand_program, program_of
 from tools.places import OUTSIDE, TOP
 from tools.proving_rounds import TABLE
 from tools.tool import Refused, Words
@@ -20,6 +20,8 @@ HEADER = 6
 # So many turns of so few customers take a second or some; with two seeds there are twelve steps.
 SETS = ["--options", "--turns 20000 --searchers 1 --bounders 1", "--seeds", "1,2"]
 LONGEST = 300
+# The folder in which an instance is closed.
+PROOF = "proof"
 
 
 def stop_with(words):
@@ -33,13 +35,6 @@ def words_of(tool, told):
     found.add_argument("--install", action="store_true", help="has apt-get install what isn't there")
     add_program(found)
     return found
-
-
-def given_by(words):
-    """What the words of a trial say; the program is one that can be run."""
-    given = words.parse_args()
-    given.program = program_of(given)
-    return given
 
 
 def needed(installs, programs, packages):
@@ -57,6 +52,15 @@ def needed(installs, programs, packages):
         if shutil.which(words[0]) is None or subprocess.run(words, env=environment,
                                                             stdout=subprocess.DEVNULL).returncode:
             stop_with("apt-get didn't install %s" % " ".join(packages))
+
+
+def program_given(words, programs, packages):
+    """The program that the words of a trial name, or that of here, once all is there that the trial needs."""
+    given = words.parse_args()
+    if given.program is not None:
+        demand_program(given.program)
+    needed(given.install, programs, packages)
+    return program_of(given)
 
 
 def instances(folder):
@@ -160,10 +164,12 @@ def goes_on(words, into):
         stop_with("a third call did something")
 
 
-def closes(program, into, further):
-    """An instance that one turn doesn't close, by prove with an engine: closed, by parts in one round at least."""
-    words = [os.path.join(OUTSIDE, "prove"), os.path.join(TOP, "examples", "c1_25.txt"), "--into", into, "--parts", "2",
-             "--round", "10", "--seconds", str(LONGEST), "--sets", "0", "--neighbours", "0", "--program", program]
+def closes(program, folder, further):
+    """One of the instances, which takes some hundred leaves, by prove with an engine: closed, by parts in one round at
+    least."""
+    into = os.path.join(folder, PROOF)
+    words = [os.path.join(OUTSIDE, "prove"), os.path.join(folder, "instances", "c1_25_18.txt"), "--into", into,
+             "--parts", "2", "--round", "10", "--seconds", str(LONGEST), "--sets", "0", "--program", program]
     came = subprocess.run(words + further, stdout=subprocess.PIPE, timeout=2 * LONGEST)
     print(came.stdout.decode(), end="", flush=True)
     with open(os.path.join(into, TABLE), encoding="ascii") as file:
