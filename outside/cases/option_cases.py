@@ -1,11 +1,13 @@
 """The tools with each of their options: rows by hand, with what comes of right values, and the line of wrong ones."""
+import os
 import shlex
 import sys
 
 from cases.tool_faults import FILES
 
 # What stands for programs of others, in this folder before those that are there. sbatch does the jobs of an array at
-# once, and parallel the steps of its list, so that the options of a batch work where neither is installed.
+# once, and parallel the steps of its list, so that the options of a batch work where neither is installed. killing is
+# our program, each part of which is killed.
 FAKES = {
     "sbatch": '''echo "$*" >asked.txt
 for word; do case $before in --array) last=${word#1-} ;; esac; before=$word; done
@@ -18,6 +20,8 @@ echo 7''',
 for list; do :; done
 while read -r name; do ./step "$name"; done <"$list"''',
     "rsync": "exit 0",
+    "killing": '''case "$*" in solve*--part*) kill -9 $$ ;; esac
+exec %s/vrptw "$@"''' % shlex.quote(os.path.dirname(os.path.dirname(os.path.dirname(os.path.realpath(__file__))))),
 }
 # All that a trial of an engine finds. It would install packages and take minutes, so --install is judged by what it
 # asks of apt-get, and by its refusal.
@@ -35,6 +39,12 @@ NO_PLAN = ("VRPTW-SETS 1\nINSTANCE T\nCUSTOMERS 2\nNEIGHBOURS 8\nBOUND 40.1\nS 2
 # less the prices of both, and the value is 20.0 at prices of 0 and at 50,000 and 100,000. Where it isn't used, the
 # route 1 costs 100,000 at prices of 0, and no route less than 50,000 at the others: the values are 10.0 and 20.0.
 CUT = "VRPTW-CERT 2\nINSTANCE T\nCUSTOMERS 2\nNEIGHBOURS 8\n"
+# Four customers in a line, each of whom takes a vehicle: the only plan costs 10 + 20 + 30 + 40 units. By hand: at
+# prices of 0 four routes cost at least 10.0 each, wherever the first customer may have one alone. So the tree of eight
+# leaves has a bound of 40.0.
+FOUR = FILES["i.txt"].replace("2 2", "4 1").rstrip("\n") + "\n3 9 12 1 0 1000 0\n4 12 16 1 0 1000 0\n"
+EIGHT = ("VRPTW-CERT 2\nINSTANCE T\nCUSTOMERS 4\nNEIGHBOURS 8\nBOUND 40.0\nTREE\nS 1 2\nS 2 1\n"
+         + 2 * "S 1 3\nP 0 0 0 0\nP 0 0 0 0\n" + "S 2 1\n" + 2 * "S 1 3\nP 0 0 0 0\nP 0 0 0 0\n" + "END\n")
 # Files beside those of tool_faults. By hand: the plan of both customers costs 5 + 5 + 10 units, and one alone 5 or 10.
 # Three folders have the certificate with sets in the place of the program's: of a plan, of few vehicles and of a batch.
 MORE = {
@@ -45,6 +55,10 @@ MORE = {
     "many/options": "--turns 2\n", "many/i/instance.txt": FILES["i.txt"], "many/i/plan.txt": FILES["p.txt"],
     "many/i/certificate.txt": SETS, "many/i/line.txt": "BEST 20.0\n", "many/i/errors.txt": "",
     "many/i/done.txt": "0 12 here\n",
+    "four.txt": FOUR,
+    "open/instance.txt": FOUR, "open/certificate.txt": EIGHT,
+    "open/plan.txt": "Route #1: 1\nRoute #2: 2\nRoute #3: 3\nRoute #4: 4\nCost 100.0\n",
+    "wrong/instance.txt": FOUR, "wrong/certificate.txt": EIGHT.replace("40.0", "40.1"),
     "theirs/C101.TXT": FILES["i.txt"],
     "best.txt": "i 20.0\n",
     "published.txt": "C101 2 20.0 hand\n",
@@ -112,6 +126,18 @@ plan i.txt --into d --searchers 1 --bounders 1 --labels 1000 --neighbours 4 --se
 d/plan.txt: Cost 20.0
 plan i.txt --into d --seconds 30 --program {program}|0|-: 20.0
 plan i.txt --into held --seconds 30|0|held/certificate.txt: VRPTW-SETS 1 & -: 20.0
+prove i.txt --into d --neighbours 4 --seconds 60|0|-: BEST 20.0 & d/plan.txt: Cost 20.0 & d/gap.svg: </svg> & \
+d/certificate.txt: NEIGHBOURS 4 & d/rounds.csv: 1,0,0,0,1, & --: outside/prove: round 1: one run here,
+prove i.txt --into d ; prove i.txt --into d --seconds 9|0|-: 1       here
+prove i.txt --into held|0|-: BEST 20.0 & held/certificate.txt: VRPTW-SETS 1
+prove four.txt --into open --engine here --parts 1 --jobs 1 --round 20 --searchers 1 --bounders 1 --labels 1000 \
+--sets 3 --seed 3 --program {program}|0|-: BEST 100.0 & --: outside/prove: round 1: 1 of 1 part, & open/gap.svg: </svg>
+prove four.txt --into open --engine parallel --sshloginfile machines --parts 1 --program {program}|0|\
+-: BEST 100.0 & --: round 1: 1 of 1 part,
+prove four.txt --into open --engine slurm --slurm-options "--mem=0 --time 1" --parts 1 --program {program}|0|\
+-: BEST 100.0 & --: round 1: 1 of 1 part,
+prove four.txt --into open --parts 1 --round 1 --program fakes/killing|1|open/certificate.txt: BOUND 40.0 & \
+--: 1 of 1 parts came to nothing: & --: 3 rounds came to nothing
 recheck i.txt k.txt p.txt --jobs 1 --labels 1000|0|-: GAP 20.0 0.0
 recheck i.txt sets.txt p.txt --jobs 1 --labels 1000|0|-: BEST 20.0
 recheck i.txt one.txt p.txt --progress|0|-: BEST 20.0
@@ -139,8 +165,8 @@ timetable i.txt p.txt --csv|0|-: 1,1,5.0,0.0,5.0,5.0,1,
 timetable i.txt p.txt --json --names names.csv|0|-: "name": "a"
 why both.txt none.txt --names names.csv|0|-: the certificate proves it
 why both.txt none_sets.txt --names names.csv|0|-: the certificate proves it
-try_parallel --install|1|-: installs parallel rsync openssh-client openssh-server by apt-get
-try_slurm --install|1|-: installs munge slurmctld slurmd slurm-client by apt-get
+try_parallel --install --program {program}|1|-: installs parallel rsync openssh-client openssh-server by apt-get
+try_slurm --install --program {program}|1|-: installs munge slurmctld slurmd slurm-client by apt-get
 bench/contracts HEAD set_needs|0|-: 3 of 3 contracts of HEAD stand word for word
 bench/leaves tree.txt 3|0|-: P 0 0
 bench/leaves k.txt 4 >many.txt ; recheck i.txt many.txt|0|-: BOUND 0.0
@@ -222,6 +248,23 @@ plan i.txt --into d --neighbours x|--neighbours|2|met "x"
 plan i.txt --into d --seed x|--seed|2|met "x"
 plan i.txt --into d --gap 1001|--gap|2|met "1001"
 plan i.txt --into d --program folder|--program|1|folder: met no program
+prove i.txt --into p.txt|--into|1|p.txt: File exists
+prove four.txt --into held||1|held/instance.txt: met another instance, wanted the same, or another DIR
+prove four.txt --into wrong||1|wrong/certificate.txt isn't gone on from: vrptw: check: BoundDiffers 40.1 40.0; wanted
+prove i.txt --into d --parts 501|--parts|2|met "501"
+prove i.txt --into d --engine slurm|--engine|2|--parts N goes with --engine slurm
+prove i.txt --into d --round 0|--round|2|met "0"
+prove i.txt --into d --seconds x|--seconds|2|met "x"
+prove i.txt --into d --jobs 0|--jobs|2|met "0"
+prove i.txt --into d --parts 2 --engine parallel --sshloginfile nowhere|--sshloginfile|1|nowhere: No such file
+prove i.txt --into d --slurm-options "'"|--slurm-options|2|No closing quotation
+prove i.txt --into d --searchers 33|--searchers|2|met "33"
+prove i.txt --into d --bounders 0|--bounders|2|met "0"
+prove i.txt --into d --labels x|--labels|2|met "x"
+prove i.txt --into d --neighbours 16|--neighbours|2|met "16"
+prove i.txt --into d --sets 1001|--sets|2|met "1001"
+prove i.txt --into d --seed -1|--seed|2|
+prove i.txt --into d --program nowhere|--program|1|nowhere: met no program
 recheck i.txt k.txt --jobs 0|--jobs|2|met "0"
 recheck i.txt k.txt --labels 0|--labels|2|met "0"
 recheck i.txt k.txt --labels 1|--labels|1|k.txt: 1 of 1 leaves have too many labels
@@ -268,6 +311,8 @@ bench/solomon theirs --into l --options "--turns x"|--options|2|met "x"
 bench/solomon theirs --into l --jobs 0|--jobs|2|met "0"
 bench/solomon theirs --into l --published p.txt|--published|1|p.txt: line 1: met
 bench/solomon theirs --into l --program nowhere|--program|1|nowhere: met no program
+try_parallel --program nowhere|--program|1|nowhere: met no program
+try_slurm --program nowhere|--program|1|nowhere: met no program
 try_parallel||1|isn't there; --install has apt-get install parallel rsync openssh-client openssh-server
 try_parallel --instal||2|unrecognized
 try_slurm||1|isn't there; --install has apt-get install munge slurmctld slurmd slurm-client

@@ -28,6 +28,7 @@ from judges.judging_nights import judge_nights
 from judges.judging_options import OPTIONS, judge_options
 from judges.judging_plans import judge_picture, judge_respelled, judge_timetable, judge_wrong_spelling
 from judges.judging_printouts import judge_printout, judge_wrong_printout
+from judges.judging_proofs import judge_proof
 from judges.judging_reports import judge_report
 from judges.judging_roundings import judge_roundings
 from judges.judging_rounds import judge_rounds
@@ -161,6 +162,8 @@ KINDS = {
                    program_by(judge_break)),
     "rounds": Kind("drawn costs and bounds by rounds of the module and of a batch's step: the best stay, at an end too",
                    12, tools_by(judge_rounds)),
+    "proofs": Kind("few customers by prove, one part killed or spoilt: right, never worse, all else kept", 4,
+                   program_by(judge_proof)),
     "literature": Kind("files named as Solomon's by bench/solomon, beside published costs: least costs by all plans", 6,
                        program_by(judge_literature)),
     "needs": Kind("what sets of up to 7 customers need, by all orders, by all routes and by all plans", 40,

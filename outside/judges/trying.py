@@ -8,7 +8,9 @@ import subprocess
 import tempfile
 import time
 
-from tools.places import TOP
+from tools.judged import add_program, demand_program, program_of
+from tools.places import OUTSIDE, TOP
+from tools.proving_rounds import TABLE
 from tools.tool import Refused, Words
 
 # The files whose first customers are the instances, and how many customers each has.
@@ -18,6 +20,8 @@ HEADER = 6
 # So many turns of so few customers take a second or some; with two seeds there are twelve steps.
 SETS = ["--options", "--turns 20000 --searchers 1 --bounders 1", "--seeds", "1,2"]
 LONGEST = 300
+# The folder in which an instance is closed.
+PROOF = "proof"
 
 
 def stop_with(words):
@@ -29,6 +33,7 @@ def words_of(tool, told):
     """The words of a trial."""
     found = Words(tool, told)
     found.add_argument("--install", action="store_true", help="has apt-get install what isn't there")
+    add_program(found)
     return found
 
 
@@ -47,6 +52,15 @@ def needed(installs, programs, packages):
         if shutil.which(words[0]) is None or subprocess.run(words, env=environment,
                                                             stdout=subprocess.DEVNULL).returncode:
             stop_with("apt-get didn't install %s" % " ".join(packages))
+
+
+def program_given(words, programs, packages):
+    """The program that the words of a trial name, or that of here, once all is there that the trial needs."""
+    given = words.parse_args()
+    if given.program is not None:
+        demand_program(given.program)
+    needed(given.install, programs, packages)
+    return program_of(given)
 
 
 def instances(folder):
@@ -148,6 +162,21 @@ def goes_on(words, into):
     came = subprocess.run(words, stdout=subprocess.PIPE, timeout=LONGEST)
     if came.returncode or done_in(into) != after:
         stop_with("a third call did something")
+
+
+def closes(program, folder, further):
+    """One of the instances, which takes some hundred leaves, by prove with an engine: closed, by parts in one round at
+    least."""
+    into = os.path.join(folder, PROOF)
+    words = [os.path.join(OUTSIDE, "prove"), os.path.join(folder, "instances", "c1_25_18.txt"), "--into", into,
+             "--parts", "2", "--round", "10", "--seconds", str(LONGEST), "--sets", "0", "--program", program]
+    came = subprocess.run(words + further, stdout=subprocess.PIPE, timeout=2 * LONGEST)
+    print(came.stdout.decode(), end="", flush=True)
+    with open(os.path.join(into, TABLE), encoding="ascii") as file:
+        rows = [line.split(",") for line in file.read().split("\n")[1:-1]]
+    if came.returncode or not any(row[1] == row[2] == "2" for row in rows):
+        stop_with("prove ended with status %d, and rounds of %r" % (came.returncode, rows))
+    print("one instance closed in parts: right", flush=True)
 
 
 def trial(work, **given):

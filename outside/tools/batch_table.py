@@ -155,13 +155,17 @@ def column_line(label, steps, best):
     return ", ".join(told)
 
 
+def in_columns(rows, is_last_left):
+    """Rows of words as lines: the first column left, the others right, but perhaps for the last one."""
+    wide = [max(len(row[place]) for row in rows) for place in range(len(rows[0]))]
+    ends = [*wide[1:-1], 0 if is_last_left else wide[-1]]
+    return ["  ".join([first.ljust(wide[0]), *map(str.rjust, rest, ends)]).rstrip() for first, *rest in rows]
+
+
 def aligned(steps, best=None):
     """The name left, the numbers right, and below how many have which verdict: of several columns a line each."""
     is_one = not steps[0].column.label
-    rows = table(steps, best) if is_one else side_by_side(steps, best)
-    wide = [max(len(row[place]) for row in rows) for place in range(len(rows[0]))]
-    ends = [*wide[1:-1], 0 if is_one else wide[-1]]
-    lines = ["  ".join([first.ljust(wide[0]), *map(str.rjust, rest, ends)]).rstrip() for first, *rest in rows]
+    lines = in_columns(table(steps, best) if is_one else side_by_side(steps, best), is_one)
     if is_one:
         lines += ["%d instances: %s" % (len(steps), counted(steps))] + (
             [] if best is None else [compared(steps, best)])

@@ -13,6 +13,8 @@ from tools.places import OUTSIDE
 from tools.plans import of_ours
 from tools.tool import Refused, Text, last_words, make_folder
 
+# What all steps share.
+SHARED = ("program", "step", OPTIONS)
 # What a step leaves, in the order in which it is brought back: the last one says that it is done.
 ANSWERS = ("plan.txt", "certificate.txt", "line.txt", "errors.txt", "done.txt")
 DONE = re.compile(r"([0-9]{1,3}) ([0-9]{1,12}) (\S{1,255})\n\Z")
@@ -165,13 +167,18 @@ def steps_of(paths, into, columns):
     return steps, notes
 
 
-def prepared(steps, into, columns, program):
-    """Lays out the folder of a batch; answers what is noted."""
+def lay_out(into, columns, program):
+    """Puts what all steps share into a folder."""
     make_folder(into)
     put(os.path.join(into, OPTIONS), "".join(column.line() for column in columns).encode())
     for name, source in (("program", program), ("step", os.path.join(OUTSIDE, "tools", "step"))):
         put(os.path.join(into, name), content(source))
         os.chmod(os.path.join(into, name), 0o755)
+
+
+def prepared(steps, into, columns, program):
+    """Lays out the folder of a batch; answers what is noted."""
+    lay_out(into, columns, program)
     changed = dict.fromkeys(step.source for step in steps if step.prepare())
     return ["%s has another text than before, and is solved anew" % path for path in changed]
 

@@ -9,17 +9,37 @@ import tempfile
 import threading
 from queue import Empty, Queue
 
-from tools.batching import ANSWERS, LIST, found_tool, put
+from tools.batch_columns import MOST_JOBS, words
+from tools.batching import ANSWERS, LIST, SHARED, found_tool, put
 from tools.slurm import Waiting, slurm
-from tools.tool import Refused, Text
+from tools.tool import Refused, Text, count
 
+ENGINES = ("here", "parallel", "slurm")
 LOG = "engine.txt"
+# The options that take any words.
+TAKES_WORDS = "--slurm-options"
 # How many seconds a program of others may take to end.
 PATIENCE = 20
 # ssh by one connection a machine, which stays open for some seconds behind its last use.
 ONE_CONNECTION = """#!/bin/sh
 exec %s -o ControlMaster=auto -o ControlPersist=15 -o ControlPath=%s/%%C "$@"
 """
+
+
+def add_engine(found, what):
+    """Adds the options that name an engine."""
+    found.add_argument("--engine", choices=ENGINES, default="here", help="what runs the %s" % what)
+    found.add_argument("--jobs", type=count(1, MOST_JOBS), metavar="N", help="how many %s run at once" % what)
+    found.add_argument("--sshloginfile", metavar="FILE", help="the machines for GNU parallel")
+    found.add_argument("--slurm-options", type=words, default=[], metavar="..", help="options of sbatch, as one word")
+
+
+def demand_engine(found, given):
+    """Refuses words of another engine."""
+    if (given.engine == "parallel") != (given.sshloginfile is not None):
+        found.error("--engine parallel and --sshloginfile FILE go together")
+    if given.engine != "slurm" and (getattr(given, "wait", False) or given.slurm_options):
+        found.error("--wait and --slurm-options go with --engine slurm")
 
 
 class Here:
@@ -42,6 +62,8 @@ class Here:
             # A group of its own, so that the program ends with its step.
             child = subprocess.Popen(["./step", name], cwd=self.into, start_new_session=True)
             self.children.add(child)
+            if self.is_stopped:
+                end_group(child, signal.SIGKILL)
             child.wait()
             self.children.discard(child)
 
@@ -105,28 +127,29 @@ def folder_there(into):
     return "vrptw_batch_" + hashlib.sha256((os.uname().nodename + os.path.abspath(into)).encode()).hexdigest()[:12]
 
 
-def parallel(into, names, given):
-    """GNU parallel: to each machine go program, options and instance, and back come the answers. What was brought
-    goes at the end."""
+def parallel(into, names, given, shared):
+    """GNU parallel: to each machine go the files that steps share and the instance, and back come the answers. What
+    was brought goes at the end."""
     found_tool("parallel", "parallel")
     found_tool("rsync", "rsync")
     machines(given.sshloginfile)
     put(os.path.join(into, LIST), "".join(name + "\n" for name in names).encode())
     words = ["parallel", "--will-cite", "--sshloginfile", os.path.abspath(given.sshloginfile), "--workdir",
-             folder_there(into),
-             "--basefile", "program", "--basefile", "step", "--basefile", "options",
-             "--transferfile", "{}/instance.txt", "--cleanup"]
+             folder_there(into)]
+    for name in shared:
+        words += ["--basefile", name]
+    words += ["--transferfile", "{}/instance.txt", "--cleanup"]
     for name in ANSWERS:
         words += ["--return", "{}/" + name]
     return Command(into, words + (["--jobs", str(given.jobs)] if given.jobs else []) + ["./step", "{}", "::::", LIST])
 
 
-def started(into, names, given):
-    """The engine of these steps, and what is noted."""
+def started(into, names, given, shared=SHARED, is_kept=True):
+    """The engine of these steps, and what is noted. Jobs of Slurm that aren't kept end where the engine is stopped."""
     if not names:
         return Waiting(False), []
     if given.engine == "slurm":
-        return slurm(into, names, given)
+        return slurm(into, names, given, is_kept)
     if given.engine == "parallel":
-        return parallel(into, names, given), []
+        return parallel(into, names, given, shared), []
     return Here(into, names, given.jobs or max(1, (os.cpu_count() or 1) // 4)), []

@@ -104,11 +104,7 @@ class Fleets:
         self.folder, self.instance, self.given, self.signals, self.until = folder, instance, given, signals, until
         self.found, self.planners, self.looks = Found(instance), {}, 0
         self.line = Line(given.seconds, units_of(None))
-        text = with_fleet(instance, instance.fleet)[0]
-        before = folder.held(INSTANCE)
-        if before not in (None, text):
-            raise Refused("%s: met another instance, wanted the same, or another DIR" % folder.at(INSTANCE))
-        folder.put(INSTANCE, text)
+        folder.put_instance(with_fleet(instance, instance.fleet)[0])
 
     def planner(self, fleet):
         """The planner of a fleet, with what stands of it."""

@@ -30,14 +30,20 @@ def texts_of(instance, paths):
     return texts
 
 
+class TooMany(Refused):
+    """All texts together have too many leaves."""
+
+
 class Joined:
     """The joined certificate of an instance, which is made in a folder."""
+    # Whether what one part alone has at a leaf is taken, and nothing is valued.
+    takes_changes = False
 
     def __init__(self, instance, given, folder):
         self.instance, self.given, self.folder = instance, given, folder
         self.program = program_of(given)
         self.texts = texts_of(instance, [given.tree] + given.parts)
-        self.joining, self.held = Joining(self.texts, self.valuers), None
+        self.joining, self.held = Joining(self.texts, self.valuers, self.takes_changes), None
         self.sets, self.merged = self.joining.sets.listed, 0
         self.telling = Telling("outside/join: ", is_elsewhere=False)
 
@@ -57,11 +63,26 @@ class Joined:
             self.held.end(is_whole)
         self.telling.end()
 
+    def is_pruned(self):
+        """Whether pairs of leaves are made one."""
+        return self.given.prune is not None
+
+    def is_over(self):
+        """Whether the check is broken off."""
+        return False
+
+    def put_texts(self, plan):
+        """Puts the instance and the plan, where there is one, beside the text."""
+        for name, text in (("instance", self.instance.held), ("solution", plan)):
+            if text is not None:
+                with open(self.path(name), "wb") as file:
+                    file.write(text)
+
     def make_tree(self):
-        """Writes the nodes, and prunes them where that is asked for."""
+        """Writes the nodes, and prunes them where that is asked for. Answers how many leaves there are."""
         with open(self.path("nodes"), "wb") as file:
             self.joining.written(file, self.telling)
-        if self.given.prune is not None:
+        if self.is_pruned():
             with open(self.path("nodes"), "rb") as file:
                 tree = Tree(file)
             self.merged = pruned(tree, self.given.prune, self.valuers(), self.telling)
@@ -69,7 +90,7 @@ class Joined:
                 tree.write(file)
         leaves = self.joining.leaves - self.merged
         if leaves > MOST_LEAVES:
-            raise Refused("%s: met %d leaves of all parts together, wanted at most %d" % (
+            raise TooMany("%s: met %d leaves of all parts together, wanted at most %d" % (
                 told_path(self.given.tree), leaves, MOST_LEAVES))
         if len(self.sets) > MOST_SETS:
             self.leave_out()
@@ -115,7 +136,7 @@ class Joined:
         """The line of the check of the text, with the plan where one is given, and what it says on standard error."""
         words = [self.program, "check", self.path("instance"), self.path("certificate")]
         words += [] if self.given.solution is None else ["--solution", self.path("solution")]
-        came = ran(words, tell=self.tell_check)
+        came = ran(words, self.is_over, self.tell_check)
         return came.line, came.fault
 
     def tell_check(self, _):
@@ -148,16 +169,19 @@ def plan_text(path):
 
 
 def made(joined):
-    """Makes the text. Answers what is noted."""
-    leaves = joined.make_tree()
-    said, notes = joined.bound(), []
+    """Makes the text. Answers how many leaves it has, and the line of the check where that was asked."""
+    leaves, said = joined.make_tree(), joined.bound()
     if joined.given.check:
         said = said or joined.checked()
-    if said is not None:
-        line, fault = said
-        if not line:
-            raise Refused("%s: vrptw check says: %s" % (told_path(joined.given.tree), fault))
-        notes = ["vrptw check says: " + line] if joined.given.check else []
+    line, fault = said or (None, "")
+    if line == "":
+        raise Refused("%s: vrptw check says: %s" % (told_path(joined.given.tree), fault))
+    return leaves, line if joined.given.check else None
+
+
+def noted(joined, leaves, line):
+    """What is noted of a text that was made."""
+    notes = [] if line is None else ["vrptw check says: " + line]
     if joined.joining.unvalued:
         notes.append("%d of %d leaves that texts differ in have too many labels, and others were taken; --labels "
                      "allows more" % (joined.joining.unvalued, joined.joining.valued))
@@ -172,12 +196,9 @@ def join(instance, given):
     with tempfile.TemporaryDirectory() as folder:
         joined, is_whole = Joined(instance, given, folder), False
         end_by_signals()
-        for name, text in (("instance", instance.held), ("solution", plan)):
-            if text is not None:
-                with open(joined.path(name), "wb") as file:
-                    file.write(text)
+        joined.put_texts(plan)
         try:
-            notes = made(joined)
+            notes = noted(joined, *made(joined))
             is_whole = True
         finally:
             joined.end(is_whole)

@@ -56,8 +56,8 @@ class Grown:
 class Joining:
     """The joined tree of texts, the first of which is the tree that the others grew from."""
 
-    def __init__(self, texts, valuers):
-        self.tree, self.parts = texts[0], texts[1:]
+    def __init__(self, texts, valuers, takes_changes=False):
+        self.tree, self.parts, self.takes_changes = texts[0], texts[1:], takes_changes
         self.texts, self.sets, self.valuers = texts, Sets(texts), valuers
         self.has_sets = any(text.kind == FIRST for text in texts)
         # Texts whose whole tree is the joined one so far, and what is counted.
@@ -92,15 +92,18 @@ class Joining:
     def at_leaf(self, path, leaf, found):
         """What stands in the place of a leaf of the tree: what one part has grown there, or the best prices."""
         split = [(part, node) for part, node in zip(self.parts, found) if not isinstance(node, Leaf)]
-        if not split and all(self.are_same(leaf, part, node) for part, node in zip(self.parts, found)):
+        others = [] if split else [
+            (part, node) for part, node in zip(self.parts, found) if not self.are_same(leaf, part, node)]
+        if not split and not others:
             yield self.node_lines(self.tree, leaf)
             return
-        if len(split) == 1:
-            part, arc = split[0]
+        alone = split or (others if self.takes_changes else [])
+        if len(alone) == 1:
+            part, node = alone[0]
             self.alike = [text for text in self.alike if text is part]
-            yield self.node_lines(part, arc)
-            for _, node in part.below():
-                yield self.node_lines(part, node)
+            yield self.node_lines(part, node)
+            for _, one in part.below() if split else ():
+                yield self.node_lines(part, one)
             return
         texts = zip(self.texts, [leaf] + found) if not split else split
         grown = [(text, self.grown(text, path, node)) for text, node in texts]

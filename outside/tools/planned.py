@@ -17,7 +17,7 @@ TIMETABLE, REPORT, SHEETS = "timetable.csv", "report.html", "drivers.html"
 
 
 class Line:
-    """One line on a terminal that is rewritten: seconds, cost, gap and vehicles."""
+    """One line on a terminal that is rewritten: seconds, of so many or None, cost, gap and vehicles."""
 
     def __init__(self, seconds, units):
         self.seconds, self.telling, self.units = seconds, Telling("", False, 0.2), units
@@ -31,8 +31,8 @@ class Line:
             return
         cost = min([cost for cost in (planner.cost, self.cost) if cost is not None], default=None)
         bound = max([bound for bound in (planner.bound, self.bound) if bound is not None], default=None)
-        told = "%d s of %d: %s" % (time.monotonic() - self.telling.began, self.seconds,
-                                   "no plan yet" if cost is None else measured(self.units, cost))
+        told = "%d s%s: %s" % (time.monotonic() - self.telling.began, " of %d" % self.seconds if self.seconds else "",
+                               "no plan yet" if cost is None else measured(self.units, cost))
         if cost is not None and bound is not None:
             told += ", gap %s" % percent(max(0, cost - bound), cost)
         if planner.vehicles is not None:

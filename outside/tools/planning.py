@@ -1,8 +1,9 @@
 """Rounds of solving, each from the best plan so far: what is cheaper or higher, and was checked, comes into place."""
+import re
 import time
 
 from reference.instances import Fault, plan_cost, read
-from reference.texts import TextFault, read_solution
+from reference.texts import TextFault, read_solution, tenths
 from tools.carrying import Carried, placed
 from tools.judged import judged, ran
 from tools.names import names_of
@@ -10,21 +11,23 @@ from tools.respelling import certificate, text_of
 from tools.standing import CERTIFICATE, INSTANCE, NAMES, PLAN, TREES
 from tools.stopping import Patience
 from tools.tool import Refused, count
-from vrptw import NEIGHBOURS, SETS, Schedule, verdict_of
+from vrptw import NEIGHBOURS, SETS, Schedule, neighbours_of, verdict_of
 
 START = "start.txt"
 # How many seconds the check of a certificate that stands goes on after a signal, from its start.
 PATIENCE = 3
+# The line of a certificate that tells its bound.
+BOUND = re.compile(rb"^BOUND ([0-9]+\.[0-9])$", re.M)
 # The options of solve that are handed on, with the least number and the greatest.
 HANDED_ON = (("searchers", 1, 32, "threads that look for a plan"), ("bounders", 1, 32, "threads that raise the bound"),
              ("labels", 1, 10 ** 8, "labels active at once in a pricing"))
 
 
-def add_solving(words):
+def add_solving(words, neighbours="in place of 8 and 12 in turn"):
     """Adds the options by which rounds are made."""
     for name, low, high, told in HANDED_ON:
         words.add_argument("--" + name, type=count(low, high), metavar="N", help="%s, as solve has it" % told)
-    words.add_argument("--neighbours", type=count(0, 15), metavar="N", help="in place of 8 and 12 in turn")
+    words.add_argument("--neighbours", type=count(0, 15), metavar="N", help=neighbours)
     words.add_argument("--sets", type=count(0, 1000), default=SETS, metavar="N",
                        help="sets of customers that may have prices in the proof (default %(default)s)")
     words.add_argument("--seed", type=count(0, 999_999_999), default=1, metavar="N", help="that of the first round")
@@ -41,9 +44,15 @@ def held(path):
         return file.read()
 
 
+def bound_told(text):
+    """The bound that a certificate prints; -1 where its text has none."""
+    found = BOUND.search(text)
+    return tenths(found[1]) if found else -1
+
+
 class Planner:
-    """A folder, an instance with its text and its table of names, and what is known: cost, bound, count of vehicles
-    and kind of verdict of the texts that stand, all None where none does."""
+    """A folder, an instance with its text and its table of names or None, and what is known: cost, bound, count of
+    vehicles and kind of verdict of the texts that stand, all None where none does."""
 
     def __init__(self, folder, instance, texts, given, signals, tell, keeps_before=True):
         self.folder, self.instance, self.given, self.signals, self.tell = folder, instance, given, signals, tell
@@ -51,7 +60,8 @@ class Planner:
         self.cost = self.bound = self.vehicles = self.kind = self.start = None
         # What the pages say of fewer vehicles.
         self.fewest = ""
-        self.notes, self.texts = [], dict(zip((INSTANCE, NAMES), texts))
+        self.notes = []
+        self.texts = {name: text for name, text in zip((INSTANCE, NAMES), texts) if text is not None}
         for name, text in self.texts.items():
             folder.put_beside(name, text)
         self.is_in_place = folder.held(INSTANCE) == self.texts[INSTANCE]
@@ -75,7 +85,7 @@ class Planner:
         plan, proof = self.folder.held(PLAN), self.folder.held(CERTIFICATE)
         if not self.is_in_place:
             return
-        if self.folder.held(NAMES) != self.texts[NAMES]:
+        if self.folder.held(NAMES) != self.texts.get(NAMES, self.folder.held(NAMES)):
             self.folder.take(NAMES)
         if plan:
             line, fault = judged(self.given.program, self.texts[INSTANCE], certificate(self.instance).encode(), plan)
@@ -185,10 +195,6 @@ class Planner:
             elif not fault:
                 return
 
-    def has_tree(self, neighbours):
-        """Whether a tree of this instance stands with so many neighbours."""
-        return self.is_in_place and self.folder.held(TREES[neighbours]) is not None
-
     def refuse(self, fault):
         """Tells a fault of the program, which costs nothing where a plan stands."""
         if self.kind is None:
@@ -198,30 +204,54 @@ class Planner:
     def round(self, turns, neighbours, seed, until):
         """One round: its bound and no fault; no bound where it was broken off; or the fault of the program."""
         plan, proof = self.folder.beside(PLAN), self.folder.beside(CERTIFICATE)
-        tree = self.folder.at(TREES[neighbours]) if self.has_tree(neighbours) else None
+        tree = self.tree_of(neighbours)
         words = [self.given.program, "solve", self.folder.beside(INSTANCE), plan, proof, "--progress",
                  "--turns", str(turns), "--seed", str(seed % 2 ** 32)]
-        words += ["--neighbours", str(neighbours)] if tree is None else ["--tree", tree]
+        if tree is not None:
+            words += ["--tree", self.folder.at(tree)]
+        elif neighbours is not None:
+            words += ["--neighbours", str(neighbours)]
         start = self.folder.at(PLAN) if self.cost is not None else self.start
         words += self.given.options + (["--start", start] if start else [])
         came = self.ran(words, self.signals, until, self.tell_of)
         if came.status is None:
             return None, None
         kind, cost, _ = verdict_of(came.line)
-        if kind is None and tree is not None:
-            # Its leaves took more labels than before, say, or somebody changed it.
-            self.folder.drop(TREES[neighbours])
+        if kind is None and tree is not None and self.leaves_out(neighbours):
             return self.round(turns, neighbours, seed, until)
         if kind is None:
             return None, came.fault or "the program ended with status %d" % came.status
         kind, cost, bound, fault = self.checked(proof, None if cost is None else plan, until)
         if kind is None:
             return None, "the check says %s" % fault if fault else None
-        tree = held(proof)
+        text = held(proof)
         self.take(cost, bound)
-        if self.is_in_place:
-            self.folder.put(TREES[neighbours], tree)
+        self.keep_tree(neighbours, text)
         return bound, None
+
+    def tree_of(self, neighbours):
+        """Which certificate a round goes on from: that with so many neighbours whose bound is highest, if one stands."""
+        if not self.is_in_place or neighbours in self.left_out:
+            return None
+        found = [(bound_told(text), name) for name in (TREES[neighbours], CERTIFICATE)
+                 for text in [self.folder.held(name)] if text and neighbours_of(text) == neighbours]
+        return max(found)[1] if found else None
+
+    def leaves_out(self, neighbours):
+        """Leaves out a tree that the program refused: its leaves took more labels than before, say. Answers whether
+        a round may begin without it."""
+        self.left_out.add(neighbours)
+        return True
+
+    def keep_tree(self, neighbours, text):
+        """Keeps the certificate of a round for the next one with so many neighbours."""
+        if self.is_in_place:
+            self.folder.put(TREES[neighbours], text)
+            self.left_out.discard(neighbours)
+
+    def is_higher(self, bound):
+        """Whether a certificate of this bound comes into place."""
+        return self.bound is None or bound > self.bound
 
     def take(self, cost, bound):
         """Brings what is better into place; of another instance all texts, once there is a plan or none can be."""
@@ -232,7 +262,7 @@ class Planner:
         else:
             if cost is not None and (self.cost is None or cost < self.cost):
                 self.folder.take(PLAN)
-            if self.bound is None or bound > self.bound:
+            if self.is_higher(bound):
                 self.folder.take(CERTIFICATE)
         if cost is not None and (self.cost is None or cost < self.cost):
             self.cost, self.vehicles = cost, self.folder.held(PLAN).count(b"\nRoute #") + 1

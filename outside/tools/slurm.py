@@ -43,14 +43,16 @@ class Jobs:
 
     is_underway = False
 
-    def __init__(self, into):
-        self.into = into
+    def __init__(self, into, is_kept=True):
+        self.into, self.is_kept = into, is_kept
 
     def is_running(self):
         return bool(still_there(self.into))
 
     def stop(self):
-        """The jobs go on: who comes back finds what they did."""
+        """Jobs that are kept go on: who comes back finds what they did."""
+        if not self.is_kept:
+            cancel(self.into)
 
 
 def jobs_of(into):
@@ -67,6 +69,13 @@ def still_there(into):
     came = subprocess.run(["squeue", "--noheader", "--format", "%F", "--jobs", ",".join(jobs)], capture_output=True)
     left = set(came.stdout.decode().split())
     return [job for job in jobs if job in left] if came.returncode == 0 else []
+
+
+def cancel(into):
+    """Ends the jobs of the last call that haven't ended."""
+    left = still_there(into)
+    if left and shutil.which("scancel") is not None:
+        subprocess.run(["scancel", *left], capture_output=True)
 
 
 def told_by(words):
@@ -106,12 +115,13 @@ def note_states(steps, into):
             step.state = found.get(step.name, logged)
 
 
-def slurm(into, names, given):
-    """Arrays of jobs, one for each step, in a folder that all nodes see; answers the engine and notes."""
+def slurm(into, names, given, is_kept=True):
+    """Arrays of jobs, one for each step, in a folder that all nodes see; answers the engine and notes. Jobs that aren't
+    kept end where it is stopped."""
     found_tool("sbatch", "slurm-client")
     left = still_there(into)
     if left:
-        return Jobs(into) if given.wait else Waiting(True), [
+        return Jobs(into, is_kept) if given.wait else Waiting(True), [
             "job %s of an earlier call hasn't ended; none is started" % ", ".join(left)]
     put(os.path.join(into, LIST), "".join(name + "\n" for name in names).encode())
     jobs = []
@@ -128,6 +138,6 @@ def slurm(into, names, given):
         jobs.append((came.stdout.decode().strip().split(";")[0], first))
         put(os.path.join(into, JOBS), "".join("%s %d\n" % job for job in jobs).encode())
     if given.wait:
-        return Jobs(into), []
+        return Jobs(into, is_kept), []
     return Waiting(True), ["job %s is started; --status, or the same words again, show the table" % ", ".join(
         job for job, _ in jobs)]

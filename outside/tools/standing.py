@@ -63,6 +63,12 @@ class Folder:
         except OSError as fault:
             raise Refused("%s: %s" % (self.at(name), last_words(fault)))
 
+    def put_instance(self, text):
+        """Puts the instance into place; another one that stands there is refused."""
+        if self.held(INSTANCE) not in (None, text):
+            raise Refused("%s: met another instance, wanted the same, or another DIR" % self.at(INSTANCE))
+        self.put(INSTANCE, text)
+
     def put_beside(self, name, text):
         """Writes a text beside; answers its path."""
         try:
