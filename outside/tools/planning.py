@@ -60,6 +60,8 @@ class Planner:
         self.cost = self.bound = self.vehicles = self.kind = self.start = None
         # What the pages say of fewer vehicles.
         self.fewest = ""
+        # The counts of neighbours whose trees were refused.
+        self.left_out = set()
         self.notes = []
         self.texts = {name: text for name, text in zip((INSTANCE, NAMES), texts) if text is not None}
         for name, text in self.texts.items():
