@@ -60,6 +60,10 @@ module _ (t : GivenTexts) (settings : Settings) (p : Problem) (tree : Option Con
   fault_told fault.TooLarge is = (tree, (is, (p, given)))
   fault_told fault.Device is = (tree, (is, (p, given)))
 
+  -- the same of the settings of the run
+  pub fault_on : (run : Settings) → run ≡ settings_with settings tree → (e : SolveFault) → Solves t.instance run s s' c c' (Err e) → GoesOn t settings s s' c c' (Err (Solve e))
+  fault_on run same e is = fault_told e (subst (λ (x : Settings). Solves t.instance x s s' c c' (Err e)) same is)
+
   pub answer_told : (answer : Answer) → Solves t.instance (settings_with settings tree) s s' c c' (Ok answer) → IsNoWorse p t.start answer → IsNoLowerThan p tree answer
       → GoesOn t settings s s' c c' (Ok answer)
   answer_told answer is worse lower = (p, (tree, (given, is, worse, lower)))

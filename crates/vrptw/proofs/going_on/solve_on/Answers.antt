@@ -2,7 +2,7 @@ use Rattle.std.proofs.Common.{Some, None}
 use Rattle.std.specs.Prelude.{option_map}
 use Rattle.std.proofs.lemmas.Result.{err_from_is_err_and}
 use Rattle.vrptw.specs.GoingOn.{GivenTexts, AreGiven}
-use Rattle.vrptw.proofs.FromTexts.{right_start, no_worse, tree_for, fault_told, answer_told}
+use Rattle.vrptw.proofs.FromTexts.{right_start, no_worse, tree_for, fault_told, fault_on, answer_told}
 use Rattle.vrptw.proofs.going_on.solve_on.Goals as goal
 
 -- ---- without a tree
@@ -46,8 +46,8 @@ returns-in_err-answer-2 g c =
     let x = c.in-Some.cert in
     let given : AreGiven t p (Some x) = record { instance = read; start = right_start p t.start start at; tree_text = rw c.in-Some.is at c.in_ok-cert.ensures.found } in
     let err = err_from_is_err_and c.from_residual-in_err-answer-2.result c.from_residual-in_err-answer-2.ensures.1 in
-    rw (err.1, err.2) (fault_told t c.args.settings.now p (Some x) given _ _ _ _ c.in_err-answer-2.field-0.0
-    (rw c.settings_on-settings.ensures at (c.in_err-answer-2.ensures.solved c.args.text.now read)))
+    rw (err.1, err.2) (fault_on t c.args.settings.now p (Some x) given _ _ _ _ c.settings_on-settings.result c.settings_on-settings.ensures c.in_err-answer-2.field-0.0
+    (c.in_err-answer-2.ensures.solved c.args.text.now read))
 
 pub returns : goal.returns
 returns g c =
