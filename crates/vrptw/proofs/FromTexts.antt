@@ -1,5 +1,5 @@
 -- From what was read of the texts that a run goes on from to what is told of them.
-use Rattle.std.proofs.Common.{◌≡◌, refl, subst, Option, Some, None, List, Result, Ok, Err, ℕ}
+use Rattle.std.proofs.Common.{◌≡◌, refl, subst, Option, Some, None, List, Ok, Err, ℕ}
 use Rattle.std.specs.Prelude.{IfSome}
 use Rattle.schedule.specs.Solution.{Solution}
 use Rattle.solomon_reader.specs.Problem.{Problem}
