@@ -1,9 +1,8 @@
 -- From what was read of the texts that a run goes on from to what is told of them.
-use Rattle.std.proofs.Common.{◌≡◌, refl, subst, Option, Some, None, List, Result, Ok, Err, ℕ}
+use Rattle.std.proofs.Common.{◌≡◌, refl, subst, Option, Some, None, List, Ok, Err, ℕ}
 use Rattle.std.specs.Prelude.{IfSome}
 use Rattle.schedule.specs.Solution.{Solution}
 use Rattle.solomon_reader.specs.Problem.{Problem}
-use Rattle.solomon_reader.specs.Layout.{IsInstance}
 use Rattle.solomon_reader.specs.Plan.{plan_cost}
 use Rattle.solomon_reader.specs.SolutionText.{IsSolutionText}
 use Rattle.solomon_reader.specs.CertificateText.{Content}
@@ -14,18 +13,12 @@ use Rattle.search_workers.specs.Given.{IsFor}
 use Rattle.vrptw.specs.declared.answer.Answer.{Answer}
 use Rattle.vrptw.specs.declared.answer.SolveFault.{SolveFault}
 use Rattle.vrptw.specs.declared.answer.SolveFault.TheVariants as fault
-use Rattle.vrptw.specs.declared.starting.StartFault.{StartFault}
-use Rattle.vrptw.specs.declared.starting.StartFault.TheVariants.{Solve, Start, Tree}
-use Rattle.vrptw.specs.Answers.{Solves, RefusesText}
-use Rattle.vrptw.specs.Starting.{IsPlanAt, IsAtMost, IsStart, IsStartFault, IsNoWorse}
-use Rattle.vrptw.specs.GoingOn.{GivenTexts, settings_with, IsTreeText, IsTreeFault, IsNoLowerThan, AreGiven, GoesOn}
+use Rattle.vrptw.specs.declared.starting.StartFault.TheVariants.{Solve}
+use Rattle.vrptw.specs.Answers.{Solves}
+use Rattle.vrptw.specs.Starting.{IsPlanAt, IsAtMost, IsStart, IsNoWorse}
+use Rattle.vrptw.specs.GoingOn.{GivenTexts, settings_with, IsTreeText, IsNoLowerThan, AreGiven, GoesOn}
 
 -- ---- one text
-
-pub start_plan : (p : Problem) (text : Option (List ℕ)) (start : Option Solution) → IsStart p text start → IfSome start (IsPlanAt p)
-start_plan p text None is = tt
-start_plan p (Some text) (Some f) is = is.0
-start_plan p None (Some f) is = absurd is
 
 module _ (p : Problem) (text : List ℕ) (f : Solution) (at : IsPlanAt p f) (spelled : IsSolutionText text f.routes f.cost) where
   exact_text : IsSolutionText text f.routes (plan_cost p f.routes)
@@ -55,31 +48,6 @@ tree_for p (Some text) x (is, same) = rw same (record { size = is.size; neighbou
 
 -- ---- what is told
 
-module _ (t : GivenTexts) (settings : Settings) (s c : Held) where
-  -- no instance
-  pub instance_refused : (e : SolveFault) → RefusesText t.instance e → GoesOn t settings s s c c (Err (Solve e))
-  instance_refused fault.Memory is = (None, ((refl, refl), tt))
-  instance_refused (fault.Instance f) is = (None, ((is.0, is.1, refl, refl), tt))
-  instance_refused fault.BadSettings is = absurd is
-  instance_refused fault.LabelLimit is = absurd is
-  instance_refused fault.NoThread is = absurd is
-  instance_refused fault.LeafLimit is = absurd is
-  instance_refused fault.TooLarge is = absurd is
-  instance_refused fault.Device is = absurd is
-
-  module _ (p : Problem) (instance : IsInstance t.instance p) where
-    -- no plan to start from
-    pub start_refused : (e : StartFault) → IsStartFault p t.start e → GoesOn t settings s s c c (Err e)
-    start_refused (Solve e) is = rw is (None, ((refl, refl), tt))
-    start_refused (Start e) is = ((p, instance, is), refl, refl)
-    start_refused (Tree e) is = absurd is
-
-    -- no tree to go on from
-    pub tree_refused : (start : Option Solution) → IsStart p t.start start → (e : StartFault) → IsTreeFault p t.tree e → GoesOn t settings s s c c (Err e)
-    tree_refused start at (Solve e) is = rw is (None, ((refl, refl), tt))
-    tree_refused start at (Start e) is = absurd is
-    tree_refused start at (Tree e) is = ((p, instance, right_start p t.start start at, is), refl, refl)
-
 -- all texts are right
 module _ (t : GivenTexts) (settings : Settings) (p : Problem) (tree : Option Content) (given : AreGiven t p tree) (s s' c c' : Held) where
   pub fault_told : (e : SolveFault) → Solves t.instance (settings_with settings tree) s s' c c' (Err e) → GoesOn t settings s s' c c' (Err (Solve e))
@@ -91,6 +59,10 @@ module _ (t : GivenTexts) (settings : Settings) (p : Problem) (tree : Option Con
   fault_told fault.LeafLimit is = (tree, (is, (p, given)))
   fault_told fault.TooLarge is = (tree, (is, (p, given)))
   fault_told fault.Device is = (tree, (is, (p, given)))
+
+  -- the same of the settings of the run
+  pub fault_on : (run : Settings) → run ≡ settings_with settings tree → (e : SolveFault) → Solves t.instance run s s' c c' (Err e) → GoesOn t settings s s' c c' (Err (Solve e))
+  fault_on run same e is = fault_told e (subst (λ (x : Settings). Solves t.instance x s s' c c' (Err e)) same is)
 
   pub answer_told : (answer : Answer) → Solves t.instance (settings_with settings tree) s s' c c' (Ok answer) → IsNoWorse p t.start answer → IsNoLowerThan p tree answer
       → GoesOn t settings s s' c c' (Ok answer)

@@ -5,7 +5,6 @@ use Rattle.solomon_reader.specs.Problem.{Problem}
 use Rattle.solomon_reader.specs.Layout.{IsInstance}
 use Rattle.solomon_reader.specs.Bound.{listed_sets, ceiling_of}
 use Rattle.solomon_reader.specs.CertificateText.{Content, IsAccepted, listed}
-use Rattle.checker.specs.declared.fault.CheckFault.{CheckFault}
 use Rattle.checker.specs.declared.fault.CheckFault.TheVariants as check
 use Rattle.checker.specs.Checking.{IsRightSolution, RefusesTree}
 use Rattle.run_settings.specs.declared.settings.Settings.{Settings}

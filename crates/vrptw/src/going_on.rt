@@ -85,8 +85,8 @@ pub fn solve_on<R: Threads + Wait + Sync, G: Gate + Sync, X: Sink, Y: Sink>(
 ) -> Result<Answer, StartFault>
     ensures { GoesOn (record {
       instance = text.now;
-      start = option_map (λ t. t.now) given.start;
-      tree = option_map (λ t. t.now) given.tree;
+      start = option_map (λ t. t.now) given.entry.start;
+      tree = option_map (λ t. t.now) given.entry.tree;
     }) settings.now
         (X.held solution.old) (X.held solution.new)
         (Y.held certificate.old) (Y.held certificate.new) result }

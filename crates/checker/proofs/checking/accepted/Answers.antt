@@ -1,5 +1,4 @@
 use Rattle.std.proofs.lemmas.Result.{err_from_is_err_and}
-use Rattle.std.proofs.Common.{inl}
 use Rattle.checker.proofs.Verdicts.{tree_accepted, tree_refused}
 use Rattle.checker.proofs.checking.accepted.Goals as goal
 
