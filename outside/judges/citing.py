@@ -10,6 +10,7 @@ DOCUMENTS = ("*.md", "docs/*.md", "docs/*/*.md", "bench/README.md", "bench/insta
 EXCEPTIONS = {
     "http_server": "a crate of the toolchain",
     "routes.svg": "what outside/draw writes",
+    "gap.svg": "what outside/prove writes",
     "--allow-holes": "an option of the toolchain's rt",
     "CRATE::MODULE::NAME": "how the toolchain names a function",
 }
