@@ -10,7 +10,7 @@ from tools.batching import content
 from tools.joined import TooMany
 from tools.judged import judged
 from tools.parting import START, TREE, Round
-from tools.planning import Planner, held
+from tools.planning import Planner
 from tools.proving_rounds import Pace, Row, Rounds, leaves_of, told_cost
 from tools.respelling import certificate
 from tools.slurm import cancel
