@@ -64,15 +64,16 @@ fn settings_on(settings: &Settings, cert: &Cert) -> Settings
     on
 }
 
-/// What `solve_from` does, where the work also goes on from the tree of a certificate whose text is given. Then the bound
-/// is at least that of the tree, which has the certificate's number of neighbours and at least as many sets as it lists;
-/// bound workers work at its open leaves, those of a part or all.
+/// What `solve_from` does, where the work also goes on from the tree of a certificate whose text is given. Then the
+/// bound is at least that of the tree, which has the certificate's number of neighbours and at least as many sets as
+/// it lists; bound workers work at its open leaves, those of a part or all.
 ///
-/// `Tree` where that text isn't one of a certificate that the instance accepts, with the first fault that `check` would
-/// tell of it, which is also `StateLimit` where 5,000,000 pairs of time and cost stand at once for one leaf and one more
-/// has to be kept. It is told after faults of the instance and of the start and before the others, and nothing was
-/// written. `LabelLimit` also where a pricing at a leaf of the tree takes more labels than the settings allow, or where a
-/// leaf has prices of two sets of the same customers, or of sets that are together above half of the range of a price.
+/// `Tree` where that text isn't one of a certificate that the instance accepts, with the first fault that `check`
+/// would tell of it, which is also `StateLimit` where 5,000,000 pairs of time and cost stand at once for one leaf and
+/// one more has to be kept. It is told after faults of the instance and of the start and before the others, and
+/// nothing was written. `LabelLimit` also where a pricing at a leaf of the tree takes more labels than the settings
+/// allow, or where a leaf has prices of two sets of the same customers, or of sets that are together above half of
+/// the range of a price.
 pub fn solve_on<R: Threads + Wait + Sync, G: Gate + Sync, X: Sink, Y: Sink>(
     rt: &R,
     alloc: Global,

@@ -112,8 +112,8 @@ fn bytes_of(text: &Option<Vec<u8>>) -> Option<&[u8]> {
     }
 }
 
-/// Solves the instance of a file, from the plan and the tree of others where they are named, into two others, which are made
-/// once both were read. No file that is written may be another of them, since it would be overwritten.
+/// Solves the instance of a file, from the plan and the tree of others where they are named, into two others, which
+/// are made once both were read. No file that is written may be another of them, since it would be overwritten.
 fn solve_files<R: Eprint + Files + AllocGlobal + Threads + Wait + Sync, X: Sink, Y: Sink>(
     rt: &R,
     alloc: Global,

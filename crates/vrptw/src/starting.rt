@@ -24,8 +24,8 @@ pub enum StartFault {
     /// `PlanRefused` or `CostDiffers`; nothing was written.
     #[error("Start: {0}")]
     Start(CheckFault),
-    /// The text of a tree to go on from isn't that of a certificate which the instance accepts, as the checker tells it;
-    /// nothing was written.
+    /// The text of a tree to go on from isn't that of a certificate which the instance accepts, as the checker tells
+    /// it; nothing was written.
     #[error("Tree: {0}")]
     Tree(CheckFault),
 }
