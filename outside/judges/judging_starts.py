@@ -6,7 +6,8 @@ from cases.random_texts import instance_words, laid_out, plan_of, solution_of, s
 from judges.running import Disagreement, demand, put, run_check, solve
 from reference import checking
 from reference.instances import plan_cost, read
-from reference.texts import TextFault, read_certificate, read_solution, shown
+from reference.set_texts import read_either
+from reference.texts import TextFault, read_solution, shown
 from tools.respelling import certificate
 
 
@@ -28,7 +29,8 @@ def options_of(random):
     gap = random.choice([[], [], ["--gap", "0"], ["--gap", str(random.randint(0, 1000))], ["--gap", "1000"]])
     if random.randrange(3) == 0:
         return ["--close"] + gap
-    return ["--turns", str(random.randint(1, 20)), "--searchers", "1", "--bounders", "1"] + gap
+    sets = random.choice([[], ["--sets", str(random.choice([1, 5, 20, 200]))]])
+    return ["--turns", str(random.randint(1, 20)), "--searchers", "1", "--bounders", "1"] + gap + sets
 
 
 def judge_start(program, folder, random):
@@ -58,6 +60,6 @@ def judge_run(program, folder, text, start, words):
     checked = run_check(program, folder, text, found, solution)
     demand(checked == (out, errors, status), "solve: %r, check: %r" % ((out, errors, status), checked))
     demand("--close" not in words or out.startswith("BEST"), "--close: %r" % out)
-    bound = read_certificate(found).bound
+    bound = read_either(found).bound
     demand((out.split()[0] == "BEST") == (cost == bound), "%r with the bound %s" % (out, shown(bound)))
     return out.split()[0]

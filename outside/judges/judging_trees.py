@@ -74,7 +74,8 @@ def judge_tree(program, folder, random):
     if is_unfit(given.tree):
         demand(came == ("", "vrptw: limit: LabelLimit\n", 7, b"", b""), told)
         return "unfit"
-    if random.randrange(3) == 0:
+    if given.version != 1 and random.randrange(3) == 0:
+        # What a run writes is of version 2, and join takes texts of one version.
         return judge_parts(program, folder, random, text, given, told)
     return judge_answer(program, folder, text, given, came, options, told)
 

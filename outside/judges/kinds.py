@@ -113,7 +113,7 @@ KINDS = {
     "solutions": Kind("a plan with something wrong, read and written by instruments", 400,
                       lambda programs, folder, random, seed:
                           judging.judge_text(programs, folder, random, "solutions"), of_library=True),
-    "memory": Kind("an allocation or a thread refused", 126,
+    "memory": Kind("an allocation or a thread refused", 222,
                    lambda programs, folder, random, seed:
                        judge_memory(programs.program, folder, programs.library, random, seed), refuses=True),
     "round_trips": Kind("numbers at the limits, by convert to each layout and back: the same", 8,

@@ -1,8 +1,8 @@
 """Runs of the program in which allocations are refused, by the library that `refusing.c` is.
 
-Each run is one of `solve`, `check` or `solve --close` on one of three instances, or `solve --start` on the two smaller
-ones, and one way to refuse: the allocation
-of one number, that one and all after it, or one thread. Every other run of a case takes the next number in turn, from
+Each run is one of `solve`, `check` or `solve --close` on one of three instances, `solve --start` on the two smaller
+ones, or `solve` with sets or from a tree, and one way to refuse: the allocation of one number, that one and all after
+it, or one thread. Every other run of a case takes the next number in turn, from
 1, and the others draw theirs."""
 import functools
 import os
@@ -33,6 +33,8 @@ ANSWERS = {"BEST": 0, "NO": 0, "GAP": 1, "OPEN": 1}
 CASES = [(size, words, way) for size in (2, 3, 25) for words in (["solve"] + FEW, ["check"], ["solve", "--close"])
          for way in ("one", "all after", "thread") if way != "thread" or words[-1] == "2"]
 CASES += [(size, STARTED, way) for size in STARTS for way in ("one", "all after")]
+CASES += [(size, ["solve"] + FEW + [word], way) for size in (2, 3, 25) for word in ("--sets=20", "--tree")
+          for way in ("one", "all after")]
 
 
 def build(folder):
@@ -71,6 +73,8 @@ def words_run(program, folder, library, case, number):
     size, words, way = case
     paths = [os.path.join(folder, name) for name in ("instance", "solution", "certificate")]
     put(paths[0], instance_text(size))
+    if words[-1] == "--tree":
+        tree = texts_of(program, folder, size)[1]
     if words[0] == "check":
         for path, text in zip(paths[1:], texts_of(program, folder, size)):
             put(path, text)
@@ -83,6 +87,9 @@ def words_run(program, folder, library, case, number):
     if words[-1:] == ["--start"]:
         words = words + [os.path.join(folder, "start")]
         put(words[-1], STARTS[size])
+    if words[-1:] == ["--tree"]:
+        words = words + [os.path.join(folder, "tree")]
+        put(words[-1], tree)
     variables = variables_of(folder, library, way, number)
     out, errors, status = run([program, case[1][0]] + ordered + words, variables, (), LONGEST)
     return shown(out), shown(errors), status, got(paths[1]), got(paths[2]), counted(folder)
