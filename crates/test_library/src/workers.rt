@@ -9,7 +9,9 @@ use ceiling::Ceiling;
 use incumbent_book::BookFault;
 use node_pool::{Hand, Pass, Pool, Thief};
 use prices::Priced;
-use search_workers::{LeavesLeft, Nearness, Nodes, Settings, Worker, bound_worker, generator, search_worker};
+use search_workers::{
+    LeavesLeft, Nearness, Nodes, Settings, Worker, bound_worker, generator, search_worker,
+};
 use solomon_reader::Instance;
 use std::alloc::Global;
 use std::sync::atomic::Ordering;
