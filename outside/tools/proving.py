@@ -29,6 +29,9 @@ LONGEST, SLACK = 3, 30
 LEAVES, SHORTEST = 8, 8
 # After so many rounds of which no part came the work ends.
 MOST_LOST = 3
+# Before its first turn a part checks the tree and prices its leaves: so many times as long as the check here. A round
+# is so many times longer than that, at least.
+BEFORE, LONGER = 4, 4
 # The part of the time left that a round may be thought to take.
 PART = 0.7
 # Seeds of rounds lie so far apart, so that no part of another round has the same.
@@ -59,7 +62,8 @@ class Prover(Planner):
         self.pace, self.seconds = Pace(self.rounds.last("turns")), given.round
         # How many parts may have more to do; None where none were dealt out yet.
         self.at_work, self.leaves, self.least, self.lost = None, 0, 1, 0
-        self.until = self.spent = 0.0
+        # The seconds that a part takes before its first turn.
+        self.until = self.spent = self.before = 0.0
 
     def begin(self, until):
         """Takes in what stands, which has to be right."""
@@ -96,6 +100,7 @@ class Prover(Planner):
         while not self.is_done() and not self.is_over() and not self.is_unread:
             left, is_here = PART * (self.until - time.monotonic()), self.is_for_here()
             seconds = self.seconds / 4 if is_here and self.at_work is not None else self.seconds
+            seconds, left = max(seconds, LONGER * self.before) - self.before, left - self.before
             turns = self.pace.next(min(seconds, left), left, self.least if is_here else 1)
             if turns is None:
                 return
@@ -135,9 +140,13 @@ class Prover(Planner):
             raise Refused(fault)
         if bound is None:
             return None
-        self.pace.note(turns, [(time.monotonic() - began) / turns])
+        self.pace.note(turns, [self.at_turns(time.monotonic() - began) / turns])
         self.at_work = None
         return 0, 0, 0
+
+    def at_turns(self, seconds):
+        """The part of the seconds of a run in which it made turns."""
+        return max(seconds / LONGER, seconds - self.before)
 
     def seed(self):
         return self.given.seed + SEEDS * (self.rounds.last("number") + 1)
@@ -155,7 +164,7 @@ class Prover(Planner):
 
     def deal(self, turns):
         """A round of parts. Answers what its row has of them, or None where it was broken off."""
-        count, limit = self.given.parts, LONGEST * max(1, round(self.seconds))
+        count, limit = self.given.parts, LONGEST * max(1, round(max(self.seconds, LONGER * self.before)))
         waves = -(-count // self.given.jobs) if self.given.engine == "here" else 1
         found = Round(self.folder.at(PARTS), self.rounds.last("number") + 1, count)
         plan = self.folder.held(PLAN) if self.cost is not None else b""
@@ -168,7 +177,7 @@ class Prover(Planner):
         parts = found.parts()
         self.tell_failed(parts)
         self.spent += sum(part.spent for part in parts)
-        self.pace.note(turns, [100 * part.seconds / part.percent / turns for part in parts
+        self.pace.note(turns, [100 * self.at_turns(part.seconds) / part.percent / turns for part in parts
                                if part.seconds and part.percent])
         came = self.take_parts([part for part in parts if part.has_answer()])
         self.at_work = count - sum(part.is_out_of_work() for part in parts)
@@ -199,10 +208,12 @@ class Prover(Planner):
         plan = self.folder.held(PLAN) if self.cost is not None else None
         gathering = Gathering(self.given.program, self.instance, self.folder.at(CERTIFICATE), self.bound, plan,
                               self.cost, self.folder.beside(JOINED), lambda: self.signals.came)
+        began = time.monotonic()
         try:
             path, bound, taken = gathering.gathered([part.path(CERTIFICATE) for part in parts])
         except TooMany as fault:
             raise Refused("%s; what stands in %s is kept" % (fault, self.folder.path))
+        self.before = BEFORE * (time.monotonic() - began)
         if path is None:
             return 0
         os.replace(path, self.folder.beside(CERTIFICATE))
