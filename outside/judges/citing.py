@@ -22,7 +22,7 @@ EXCEPTED = {
     r"(?=.*\d)[0-9a-f]{7}": "commits",
     r"(libc|os)::.*": "C functions, as the toolchain names them",
     r"K/N|[0-9]+/[0-9]+": "parts of the open leaves of a tree",
-    r"\./plan|(instance|plan|certificate|yesterday|today|start|tree|part_[12])\.txt": "a user's own files",
+    r"\./plan|(instance|plan|certificate|yesterday|today|start|tree(_[0-9]+)?|part_[12])\.txt": "a user's own files",
 }
 
 # Where files stand that a document names without a folder: what it is about.
