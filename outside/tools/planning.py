@@ -232,7 +232,7 @@ class Planner:
         return bound, None
 
     def tree_of(self, neighbours):
-        """Which certificate a round goes on from: that with so many neighbours whose bound is highest, if one stands."""
+        """Which certificate a round goes on from: of those with so many neighbours that whose bound is highest."""
         if not self.is_in_place or neighbours in self.left_out:
             return None
         found = [(bound_told(text), name) for name in (TREES[neighbours], CERTIFICATE)
