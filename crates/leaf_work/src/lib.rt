@@ -6,6 +6,7 @@
 
 mod chain;
 mod child;
+mod dear;
 mod effort;
 mod fee;
 mod first;

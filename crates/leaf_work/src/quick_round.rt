@@ -185,7 +185,7 @@ fn quick_steps(
 }
 
 /// The centre's prices at a leaf, multiplied by this many millionths.
-fn task_of_centre<'i>(
+pub(crate) fn task_of_centre<'i>(
     pool: &RoutePool,
     state: &mut PricingState<'_>,
     ascent: &Ascent,

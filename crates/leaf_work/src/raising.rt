@@ -3,6 +3,7 @@
 ghost use Rattle.std.specs.Prelude.{◌≡◌, ◌≤◌, [], IfOk, IfSome};
 ghost use Rattle.prices.specs.Narrowing.{IsPricedAt};
 
+use crate::dear::polish;
 use crate::pricing::price;
 use crate::quick_round::{is_quick_next, quick_round};
 use crate::set_round::SetRounds;
@@ -185,7 +186,7 @@ fn climb<'i>(
 /// centre. Where the leaf was tried as a child, the prices of the trial are the first centre. Where labels
 /// run out in a pricing, the next rise is a shorter one, nearer to prices that could be priced; where memory
 /// does, the best found so far is answered. At the root, where a pricing is dear, quick searches for routes
-/// find the next prices.
+/// find the next prices. Where pricings are dear, the last prices may be polished.
 pub fn raise<'i>(
     pool: &mut RoutePool,
     state: &mut PricingState<'_>,
@@ -198,6 +199,7 @@ pub fn raise<'i>(
     ensures neighbours { result.priced.neighbours ≡ priced.entry.neighbours }
     ensures not_lower { priced.entry.value ≤ result.priced.value }
 {
+    state.expect(goal.looks);
     // The root is raised again and again, and goes on with the multipliers that it ended with.
     if !priced.region().is_root() {
         pool.begin(start.as_ref());
@@ -221,6 +223,8 @@ pub fn raise<'i>(
     };
     let mut rounds = SetRounds::new(&priced, goal);
     let priced = climb(pool, state, &mut ascent, &mut rounds, priced, goal);
+    let polished = polish(pool, state, &ascent, &priced, goal);
+    let priced = higher_if(priced, polished);
     let added = rounds.added;
     if ascent.go_back_to(pool, &priced).is_err() {
         return Raised {

@@ -36,6 +36,8 @@ pub struct Ascent {
     pub target: i128,
     /// How much merit the last trial promised, in grains.
     promise: i128,
+    /// Whether only a quick search judged that trial.
+    is_promise_quick: bool,
     /// Whether only quick searches know the centre's least reduced cost.
     is_quick: bool,
 }
@@ -71,6 +73,7 @@ impl Ascent {
             rise,
             target: goal.value,
             promise: i128::MAX,
+            is_promise_quick: false,
             is_quick: false,
         })
     }
@@ -195,6 +198,7 @@ impl Ascent {
         if next.least < i128::from(trial.vehicle_price.value()) {
             pool.add(priced.instance(), priced.least().route.as_slice())?;
         }
+        self.is_promise_quick = false;
         self.go_on(pool, trial, next);
         Ok(())
     }
@@ -208,6 +212,7 @@ impl Ascent {
         least: i64,
     ) {
         let next = Centre::at(prices, self.sets.as_slice(), i128::from(least), self.merit);
+        self.is_promise_quick = true;
         if self.go_on(pool, trial, next) {
             self.is_quick = true;
         }
@@ -248,6 +253,19 @@ impl Ascent {
     /// How much merit the last trial promised beyond the centre before it, in grains.
     pub fn promise(&self) -> i128 {
         self.promise
+    }
+
+    /// Whether the last trial, priced exactly, promised less than one of so many parts of the gap.
+    pub fn promises_little(&self, parts: i128) -> bool {
+        let is_little = self.promise.saturating_mul(parts) < self.gap();
+        is_little && !self.is_promise_quick && !self.is_quick
+    }
+
+    /// Whether a value in tenths lacks at least one of so many parts of the gap of the centre's merit, which was priced
+    /// exactly.
+    pub fn is_ahead_of(&self, value: i128, parts: i128) -> bool {
+        let lack = self.centre.merit.saturating_sub(grains(value));
+        !self.is_quick && lack.saturating_mul(parts) >= self.gap()
     }
 
     /// Whether the merit has come to the target.

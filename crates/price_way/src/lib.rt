@@ -11,6 +11,7 @@ mod quick_way;
 mod rises;
 mod route_pool;
 mod set_pool;
+mod work;
 
 pub use ascent::Ascent;
 pub use child_start::ChildStart;

@@ -5,6 +5,7 @@
 use crate::ascent::Ascent;
 use crate::child_start::ChildStart;
 use crate::quick_way::QuickWay;
+use crate::work::Work;
 use fronts::Nearness;
 use labelling::Kept;
 use pooled_routes::Pseudocosts;
@@ -26,8 +27,7 @@ pub struct PricingState<'n> {
     set_search: Option<SetSearch<'n>>,
     /// The rises of merit that were seen.
     pub pseudocosts: Pseudocosts,
-    /// How much work was done, in looks.
-    looks: u64,
+    work: Work,
 }
 
 impl<'n> PricingState<'n> {
@@ -40,14 +40,24 @@ impl<'n> PricingState<'n> {
             quick: None,
             set_search: None,
             pseudocosts: Pseudocosts::new(alloc),
-            looks: 0,
+            work: Work::none(),
         }
     }
 
     /// How much work the pricings, the projections and the trials were, in looks: those of pricings, and
     /// some for a route that prices are projected onto. No contract: it only measures.
     pub fn looks(&self) -> u64 {
-        self.looks
+        self.work.done
+    }
+
+    /// Whether pricings are dear beside all work: there will be few of them. No contract: it only measures.
+    pub fn are_pricings_dear(&self) -> bool {
+        self.work.is_dear()
+    }
+
+    /// Learns how much work there is to be in all, in looks. No contract: it only measures.
+    pub fn expect(&mut self, looks: u64) {
+        self.work.worth = looks;
     }
 
     /// The search for sets, which knows which are needed. `AllocError` where memory was refused.
@@ -63,7 +73,12 @@ impl<'n> PricingState<'n> {
 
     /// Counts looks.
     pub fn count_looks(&mut self, looks: u64) {
-        self.looks = self.looks.saturating_add(looks);
+        self.work.count(looks);
+    }
+
+    /// Counts the looks of the last pricing.
+    pub(crate) fn count_pricing(&mut self) {
+        self.work.count_pricing(self.kept.looks);
     }
 
     /// Learns from the ascent of a child how far its merit rose, where its value came to this many

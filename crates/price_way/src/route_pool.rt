@@ -187,7 +187,7 @@ impl RoutePool {
         state: &mut PricingState<'_>,
     ) -> Result<(), AllocError> {
         self.age = self.age.saturating_add(1);
-        state.count_looks(state.kept.looks);
+        state.count_pricing();
         let met = replace(&mut state.kept.met, Vec::new(self.alloc));
         for route in &met {
             self.add(instance, route.as_slice())?;
