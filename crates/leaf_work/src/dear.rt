@@ -10,8 +10,41 @@ use crate::quick_round::task_of_centre;
 use price_way::{Ascent, Goal, PricingState, RoutePool};
 use prices::Priced;
 
+/// How many pricings more a leaf below the root may have.
+const MORE_DEAR_PRICINGS: u32 = 4;
+
+/// Below the root an ascent ends after so many pricings where less than one of so many parts of the gap is promised.
+const FEW_PRICINGS: u32 = 4;
+
+const FLAT_PARTS: i128 = 50;
+
 /// The value is polished where it lacks one of so many parts of the gap of the merit.
 const POLISH_PARTS: i128 = 100;
+
+/// The most pricings of an ascent at a leaf, where the value to stop at isn't near.
+pub(crate) fn pricings_at(state: &PricingState<'_>, leaf: &Priced<'_>, goal: &Goal) -> u32 {
+    if !leaf.region().is_root() && state.are_pricings_dear() {
+        goal.pricings.saturating_add(MORE_DEAR_PRICINGS)
+    } else {
+        goal.pricings
+    }
+}
+
+/// Whether a leaf below the root is better split after so many pricings, the last of which grew the merit by so many
+/// grains: where pricings are dear, and little is promised.
+pub(crate) fn is_flat(
+    state: &PricingState<'_>,
+    ascent: &Ascent,
+    leaf: &Priced<'_>,
+    made: u32,
+    growth: i128,
+) -> bool {
+    made >= FEW_PRICINGS
+        && !leaf.region().is_root()
+        && state.are_pricings_dear()
+        && ascent.promises_little(FLAT_PARTS)
+        && !ascent.is_near(growth)
+}
 
 /// The centre's prices, scaled so that the routes met pay at most what they cost (Farley 1990), with their value; where
 /// pricings are dear, and the value lacks a part of the merit, since it counts the whole fleet.

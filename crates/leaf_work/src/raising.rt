@@ -3,7 +3,7 @@
 ghost use Rattle.std.specs.Prelude.{◌≡◌, ◌≤◌, [], IfOk, IfSome};
 ghost use Rattle.prices.specs.Narrowing.{IsPricedAt};
 
-use crate::dear::polish;
+use crate::dear::{is_flat, polish, pricings_at};
 use crate::pricing::price;
 use crate::quick_round::{is_quick_next, quick_round};
 use crate::set_round::SetRounds;
@@ -128,11 +128,11 @@ fn step<'i>(
 }
 
 /// The most pricings of an ascent at a leaf, where the value to stop at is near all along.
-fn most_pricings(leaf: &Priced<'_>, goal: &Goal) -> u32 {
+fn most_pricings(leaf: &Priced<'_>, pricings: u32) -> u32 {
     if leaf.region().is_root() {
-        goal.pricings
+        pricings
     } else {
-        goal.pricings.saturating_add(MORE_PRICINGS)
+        pricings.saturating_add(MORE_PRICINGS)
     }
 }
 
@@ -153,11 +153,15 @@ fn climb<'i>(
     let mut best = priced;
     let mut idle: u32 = 0;
     let mut growth: i128 = 0;
-    for made in 0..most_pricings(&best, goal) {
+    let pricings = pricings_at(state, &best, goal);
+    for made in 0..most_pricings(&best, pricings) {
         let before = best.value();
         let is_spent = idle >= goal.idle_pricings || state.looks() >= goal.looks;
-        let is_over = made >= goal.pricings && !ascent.is_near(growth);
+        let is_over = made >= pricings && !ascent.is_near(growth);
         if before >= goal.value || is_spent || is_over {
+            return best;
+        }
+        if is_flat(state, ascent, &best, made, growth) {
             return best;
         }
         if rounds.before_pricing(pool, state, ascent).is_err() {
