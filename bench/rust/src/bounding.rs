@@ -219,12 +219,13 @@ impl<'i> Tree<'i> {
         let bounder = &mut self.bounders[number];
         let raised = raise(&mut bounder.pool, &mut bounder.state, leaf, open.start, &goal);
         let is_raised = raised.priced.value() > before;
+        let is_flat = raised.is_flat(&bounder.state);
         if raised.priced.value() >= target {
             return Outcome::Raised(raised.priced);
         }
         if raised.priced.region().is_root() {
             bounder.idle = if is_raised || raised.added > 0 { 0 } else { bounder.idle + 1 };
-            let stays = bounder.idle <= patience || number > 0;
+            let stays = !is_flat && bounder.idle <= patience || number > 0;
             bounder.current = stays.then_some(open.place);
         }
         if bounder.current.is_some() {

@@ -13,10 +13,13 @@ use prices::Priced;
 /// How many pricings more a leaf below the root may have.
 const MORE_DEAR_PRICINGS: u32 = 4;
 
-/// Below the root an ascent ends after so many pricings where less than one of so many parts of the gap is promised.
+/// The root is left where less than one of so many parts of the gap is promised.
+const FLAT_PARTS: i128 = 100;
+
+/// Another leaf is left after so many pricings where less than one of so many parts is.
 const FEW_PRICINGS: u32 = 4;
 
-const FLAT_PARTS: i128 = 50;
+const FLAT_PARTS_OF_LEAF: i128 = 50;
 
 /// The value is polished where it lacks one of so many parts of the gap of the merit.
 const POLISH_PARTS: i128 = 100;
@@ -30,8 +33,13 @@ pub(crate) fn pricings_at(state: &PricingState<'_>, leaf: &Priced<'_>, goal: &Go
     }
 }
 
-/// Whether a leaf below the root is better split after so many pricings, the last of which grew the merit by so many
-/// grains: where pricings are dear, and little is promised.
+/// Whether the root is better split now: where pricings are dear, and little is promised.
+pub(crate) fn is_root_flat(state: &PricingState<'_>, ascent: &Ascent) -> bool {
+    state.are_pricings_dear() && ascent.promises_little(FLAT_PARTS)
+}
+
+/// Whether a leaf is better split after so many pricings, the last of which grew the merit by so many grains: where
+/// pricings are dear, and little is promised.
 pub(crate) fn is_flat(
     state: &PricingState<'_>,
     ascent: &Ascent,
@@ -39,10 +47,12 @@ pub(crate) fn is_flat(
     made: u32,
     growth: i128,
 ) -> bool {
+    if leaf.region().is_root() {
+        return is_root_flat(state, ascent);
+    }
     made >= FEW_PRICINGS
-        && !leaf.region().is_root()
         && state.are_pricings_dear()
-        && ascent.promises_little(FLAT_PARTS)
+        && ascent.promises_little(FLAT_PARTS_OF_LEAF)
         && !ascent.is_near(growth)
 }
 

@@ -3,7 +3,7 @@
 ghost use Rattle.std.specs.Prelude.{◌≡◌, ◌≤◌, [], IfOk, IfSome};
 ghost use Rattle.prices.specs.Narrowing.{IsPricedAt};
 
-use crate::dear::{is_flat, polish, pricings_at};
+use crate::dear::{is_flat, is_root_flat, polish, pricings_at};
 use crate::pricing::price;
 use crate::quick_round::{is_quick_next, quick_round};
 use crate::set_round::SetRounds;
@@ -22,6 +22,17 @@ pub struct Raised<'i> {
     pub ascent: Option<Ascent>,
     /// How many sets were added.
     pub added: usize,
+}
+
+impl Raised<'_> {
+    /// Whether the root is to be split at once, after an ascent for which this state served. No contract: a tree may
+    /// be split anywhere.
+    pub fn is_flat(&self, state: &PricingState<'_>) -> bool {
+        match &self.ascent {
+            Some(ascent) => self.added == 0 && is_root_flat(state, ascent),
+            None => false,
+        }
+    }
 }
 
 /// How many pricings more there may be below the root while the value to stop at is near.
@@ -162,7 +173,7 @@ fn climb<'i>(
             return best;
         }
         if is_flat(state, ascent, &best, made, growth) {
-            return best;
+            break;
         }
         if rounds.before_pricing(pool, state, ascent).is_err() {
             return best;

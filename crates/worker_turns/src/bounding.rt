@@ -133,7 +133,8 @@ fn bring<'i, H: Hub<'i>, G: Gate>(
     // The first worker alone splits the root, so that the tree begins with prices and routes that belong together.
     let is_root = raised.priced.region().is_root();
     let goes_on = is_raised || raised.added > 0;
-    if is_root && (nodes.stays_at_root(goes_on) || rules.place > 0) {
+    let is_flat = raised.is_flat(&nodes.state);
+    if is_root && (nodes.stays_at_root(goes_on, is_flat) || rules.place > 0) {
         nodes.current = Some(number);
         return if is_raised {
             worker.reprice(number, raised.priced)

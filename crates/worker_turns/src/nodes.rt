@@ -221,14 +221,14 @@ impl<'p> Nodes<'p> {
     }
 
     /// Whether the work goes on at the root after a turn there, which led somewhere or didn't: with many
-    /// customers the first rises are in vain.
-    pub(crate) fn stays_at_root(&mut self, goes_on: bool) -> bool {
+    /// customers the first rises are in vain. Where the next ones promise little it doesn't.
+    pub(crate) fn stays_at_root(&mut self, goes_on: bool, is_flat: bool) -> bool {
         self.idle_at_root = if goes_on {
             0
         } else {
             self.idle_at_root.saturating_add(1)
         };
-        self.idle_at_root <= self.customers / CUSTOMERS_OF_PATIENCE
+        !is_flat && self.idle_at_root <= self.customers / CUSTOMERS_OF_PATIENCE
     }
 
     /// Takes a leaf that another worker shares, where none of the worker's own has a value up to a limit, and shares
