@@ -8,6 +8,7 @@ use crate::pricing::price;
 use crate::tasks::trial_task;
 use fronts::{Payment, Task};
 use labelling::{LabelFault, PricingTask};
+use pooled_routes::Trial;
 use price_way::{Ascent, Goal, PricingState, QuickWay, RoutePool, WHOLE, WIDEST};
 use prices::Priced;
 use quick_routes::{QuickRoutes, Width, quick_routes};
@@ -18,6 +19,9 @@ const MOST_STEPS: u32 = 10_000;
 
 /// After this many steps that gain less than a thousandth the searches get wider.
 const STEPS_BETWEEN: u32 = 10;
+
+/// So many trials in a row at most are passed over as null steps.
+const MOST_QUICK_NULLS: u32 = 10;
 
 /// The most searches for the scale of prices.
 const SCALINGS: u32 = 3;
@@ -89,6 +93,13 @@ fn rows_of(pool: &RoutePool, task: &PricingTask<'_>) -> Result<Vec<i64>, AllocEr
         .rows_of(task.prices.as_slice(), task.sets.as_slice())
 }
 
+/// Whether quick searches may pay at a leaf: at the root, where an exact pricing is no small work.
+fn may_pay(state: &PricingState<'_>, leaf: &Priced<'_>) -> bool {
+    let customers = u64::from(leaf.instance().customer_count());
+    let least = customers.saturating_mul(customers).saturating_mul(8);
+    leaf.region().is_root() && state.kept.looks >= least
+}
+
 /// Whether the next step of an ascent is a round of quick searches: at the root, where an exact pricing is
 /// dear. One search tells how much work it is.
 pub(crate) fn is_quick_next(
@@ -99,7 +110,7 @@ pub(crate) fn is_quick_next(
 ) -> Result<bool, AllocError> {
     let customers = u64::from(leaf.instance().customer_count());
     let exact = state.kept.looks;
-    if !leaf.region().is_root() || exact < customers.saturating_mul(customers).saturating_mul(8) {
+    if !may_pay(state, leaf) {
         return Ok(false);
     }
     if state.quick.is_none() {
@@ -112,6 +123,70 @@ pub(crate) fn is_quick_next(
     })
 }
 
+/// What a quick search tells of the prices of a trial.
+#[derive(Drop)]
+struct Searched {
+    /// The prices of customers, and behind them those of the pool's sets.
+    rows: Vec<i64>,
+    /// The least reduced cost that is known.
+    least: i64,
+    /// Whether the search found a route that the prices don't keep to.
+    is_found: bool,
+}
+
+/// Searches for routes at the prices of a trial.
+fn search_at(
+    pool: &mut RoutePool,
+    state: &mut PricingState<'_>,
+    leaf: &Priced<'_>,
+    trial: &Trial,
+) -> Result<Searched, AllocError> {
+    let task = trial_task(pool, state, leaf, trial)?;
+    let rows = rows_of(pool, &task)?;
+    let known = pool.least(rows.as_slice())?;
+    let most = trial.vehicle_price.value().min(known);
+    let found = search(pool, state, &task, most, None)?;
+    Ok(Searched {
+        rows,
+        least: found.min(known),
+        is_found: found < most,
+    })
+}
+
+/// Whether a quick search is far less work than an exact pricing.
+fn are_searches_quick(state: &PricingState<'_>) -> bool {
+    match &state.quick {
+        Some(way) => way.is_far_less_than(state.kept.looks),
+        None => false,
+    }
+}
+
+/// The next trial to be priced exactly: where pricings are dear, a trial at the root that a quick search shows to be a
+/// null step is passed over.
+pub(crate) fn trial_beyond_nulls(
+    pool: &mut RoutePool,
+    state: &mut PricingState<'_>,
+    ascent: &mut Ascent,
+    leaf: &Priced<'_>,
+) -> Result<Trial, AllocError> {
+    let mut trial = ascent.trial(pool, state)?;
+    if !state.are_pricings_dear() || !may_pay(state, leaf) {
+        return Ok(trial);
+    }
+    for _null in 0..MOST_QUICK_NULLS {
+        if !are_searches_quick(state) {
+            return Ok(trial);
+        }
+        let searched = search_at(pool, state, leaf, &trial)?;
+        if !ascent.is_null(&trial, searched.rows.as_slice(), searched.least) {
+            return Ok(trial);
+        }
+        ascent.take_null(&trial);
+        trial = ascent.trial(pool, state)?;
+    }
+    Ok(trial)
+}
+
 /// A serious or a null step by a quick search alone; whether it found a route that the prices don't keep to.
 fn quick_step(
     pool: &mut RoutePool,
@@ -120,13 +195,9 @@ fn quick_step(
     leaf: &Priced<'_>,
 ) -> Result<bool, AllocError> {
     let trial = ascent.trial(pool, state)?;
-    let task = trial_task(pool, state, leaf, &trial)?;
-    let rows = rows_of(pool, &task)?;
-    let known = pool.least(rows.as_slice())?;
-    let most = trial.vehicle_price.value().min(known);
-    let found = search(pool, state, &task, most, None)?;
-    ascent.take_in_quick(pool, &trial, rows, found.min(known));
-    Ok(found < most)
+    let searched = search_at(pool, state, leaf, &trial)?;
+    ascent.take_in_quick(pool, &trial, searched.rows, searched.least);
+    Ok(searched.is_found)
 }
 
 /// Lets searches look more widely, unless they can't; whether they do. The centre is judged by a wider one,

@@ -5,7 +5,7 @@ ghost use Rattle.prices.specs.Narrowing.{IsPricedAt};
 
 use crate::dear::{is_flat, is_root_flat, polish, pricings_at};
 use crate::pricing::price;
-use crate::quick_round::{is_quick_next, quick_round};
+use crate::quick_round::{is_quick_next, quick_round, trial_beyond_nulls};
 use crate::set_round::SetRounds;
 use crate::tasks::{start_task, trial_task};
 use labelling::LabelFault;
@@ -123,7 +123,7 @@ fn step<'i>(
         return quick_round(pool, state, ascent, best, goal);
     }
     ascent.go_back_to(pool, best)?;
-    let trial = ascent.trial(pool, state)?;
+    let trial = trial_beyond_nulls(pool, state, ascent, best)?;
     match price_trial(pool, state, best, &trial, goal.labels) {
         Ok(next) => {
             // Where memory is refused, these prices still count, and the next step ends the ascent.

@@ -19,6 +19,9 @@ const MOST_RISE: i64 = 100_000_000_000;
 /// The target is near where this many steps more of the last growth lead to it.
 const NEAR_STEPS: i128 = 4;
 
+/// A serious step raises the merit by more than one of so many parts of what was promised.
+const SERIOUS_PARTS: i128 = 10;
+
 /// The least gap to the target that counts, in grains.
 const LEAST_GAP: i128 = 1_000;
 
@@ -177,7 +180,7 @@ impl Ascent {
         );
         self.promise = promised.saturating_sub(before);
         let growth = next.merit.saturating_sub(before);
-        let is_serious = growth.saturating_mul(10) > promised.saturating_sub(before);
+        let is_serious = growth.saturating_mul(SERIOUS_PARTS) > self.promise;
         if is_serious {
             self.centre = next;
             self.scale(pool, rise_in_range(self.rise.saturating_mul(3) / 2));
@@ -185,6 +188,25 @@ impl Ascent {
             self.draw_back(pool);
         }
         is_serious
+    }
+
+    /// Whether the prices of a trial, of this least reduced cost at most, can only be a null step.
+    pub fn is_null(&self, trial: &Trial, prices: &[i64], least: i64) -> bool {
+        let (before, sets) = (self.centre.merit, trial.sets.as_slice());
+        let promised = self.merit.promised(prices, sets, trial.vehicle_price);
+        let growth = self
+            .merit
+            .of(prices, sets, i128::from(least))
+            .saturating_sub(before);
+        growth.saturating_mul(SERIOUS_PARTS) <= promised.saturating_sub(before)
+    }
+
+    /// Goes on from a trial that can only be a null step, by the same rise.
+    pub fn take_null(&mut self, trial: &Trial) {
+        self.vehicle_price = trial.vehicle_price;
+        for (set, moved) in self.sets.iter_mut().zip(trial.sets.iter()) {
+            set.multiplier = moved.multiplier;
+        }
     }
 
     /// Takes in what the prices of a trial led to.

@@ -96,8 +96,12 @@ impl QuickWay {
             self.idle = self.idle.saturating_sub(2);
             return false;
         }
-        let is_dear = exact > self.looks.saturating_mul(QUICK_OF_EXACT);
-        is_dear && are_few
+        self.is_far_less_than(exact) && are_few
+    }
+
+    /// Whether an exact pricing, which takes this many looks, is dear beside a quick search.
+    pub fn is_far_less_than(&self, exact: u64) -> bool {
+        exact > self.looks.saturating_mul(QUICK_OF_EXACT)
     }
 
     /// Learns whether a round raised the value.
