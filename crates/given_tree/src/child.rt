@@ -6,6 +6,7 @@ ghost use Rattle.given_tree.specs.declared.fault.ReplayFault.TheVariants.{LabelL
 
 use crate::fault::ReplayFault;
 use crate::given::GivenTree;
+use crate::handed_on::HandedOn;
 use crate::pricing::price;
 use branching::Region;
 use priced_sets::PricedSets;
@@ -15,6 +16,7 @@ use prices::{Priced, high_prices};
 /// isn't allowed there.
 fn price_same<'i>(
     tree: &GivenTree<'_>,
+    handed_on: &mut HandedOn<'_>,
     leaf: &Priced<'i>,
     region: &Region,
 ) -> Result<Priced<'i>, ReplayFault>
@@ -24,25 +26,30 @@ fn price_same<'i>(
 {
     match leaf.narrowed(region)? {
         Some(child) => Ok(child),
-        None => price(tree, leaf.task().at(region)?),
+        None => price(tree, handed_on, leaf.task().at(region)?),
     }
 }
 
 /// High prices at a leaf, and none of sets.
 #[tactic(auto, using(prices::proofs::Values::within_none))]
-fn price_high<'i>(tree: &GivenTree<'_>, leaf: &Priced<'i>) -> Result<Priced<'i>, ReplayFault>
+fn price_high<'i>(
+    tree: &GivenTree<'_>,
+    handed_on: &mut HandedOn<'_>,
+    leaf: &Priced<'i>,
+) -> Result<Priced<'i>, ReplayFault>
     ensures priced { IfOk result (IsPricedAt leaf.now.region leaf.now) }
     ensures unlimited { IfErr result (λ e. e ≡ LabelLimit → tree.now.labels ≢ None) }
 {
     let prices = high_prices(tree.alloc, leaf.instance())?;
     let none = PricedSets::none(tree.alloc, leaf.instance());
-    price(tree, leaf.task().with(prices, none)?)
+    price(tree, handed_on, leaf.task().with(prices, none)?)
 }
 
 /// A leaf's prices at the region of a child; or where the child has no relaxed route, so that the value could fall,
 /// prices whose value is above every plan's cost.
 pub(crate) fn price_child<'i>(
     tree: &GivenTree<'_>,
+    handed_on: &mut HandedOn<'_>,
     leaf: &Priced<'i>,
     region: &Region,
 ) -> Result<Priced<'i>, ReplayFault>
@@ -50,9 +57,9 @@ pub(crate) fn price_child<'i>(
     ensures priced { IfOk result (IsPricedAt region.now leaf.now) }
     ensures unlimited { IfErr result (λ e. e ≡ LabelLimit → tree.now.labels ≢ None) }
 {
-    let child = price_same(tree, leaf, region)?;
+    let child = price_same(tree, handed_on, leaf, region)?;
     if child.least().value.is_some() || leaf.least().value.is_none() {
         return Ok(child);
     }
-    price_high(tree, &child)
+    price_high(tree, handed_on, &child)
 }

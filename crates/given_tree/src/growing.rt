@@ -11,18 +11,18 @@ ghost use Rattle.given_tree.specs.Growing.{Keeps, IsGrownAt, IsTreeGrown, AreAdd
 
 use crate::fault::ReplayFault;
 use crate::given::GivenTree;
+use crate::handed_on::HandedOn;
 use crate::leaf::grow_leaf;
 use crate::splitting::split_leaf;
 use branching::Arc;
 use certificate::CertNode;
 use incumbent_book::Book;
-use priced_sets::NeededSets;
 
 /// Grows the tree whose nodes begin at an index at a leaf, adds the numbers of the leaves that its leaves become, in
 /// preorder, and answers the index after its nodes.
 pub(crate) fn grow_at<'i>(
     tree: &GivenTree<'_>,
-    needed: &mut NeededSets<'_>,
+    handed_on: &mut HandedOn<'_>,
     book: &mut Book<'i>,
     at: usize,
     number: u32,
@@ -42,14 +42,14 @@ pub(crate) fn grow_at<'i>(
 {
     match &tree.nodes[at] {
         CertNode::Leaf(prices) => {
-            grow_leaf(tree, needed, book, number, prices.as_slice(), &[])?;
+            grow_leaf(tree, handed_on, book, number, prices.as_slice(), &[])?;
             leaves.push(number)?;
             Ok(at + 1)
         }
         CertNode::SetLeaf { prices, set_prices } => {
             grow_leaf(
                 tree,
-                needed,
+                handed_on,
                 book,
                 number,
                 prices.as_slice(),
@@ -63,9 +63,9 @@ pub(crate) fn grow_at<'i>(
                 from: *from,
                 to: *to,
             };
-            let (used, unused) = split_leaf(tree, book, number, arc)?;
-            let next = grow_at(tree, needed, book, at + 1, used, leaves)?;
-            let last = grow_at(tree, needed, book, next, unused, leaves)?;
+            let (used, unused) = split_leaf(tree, handed_on, book, number, arc)?;
+            let next = grow_at(tree, handed_on, book, at + 1, used, leaves)?;
+            let last = grow_at(tree, handed_on, book, next, unused, leaves)?;
             Ok(last)
         }
     }

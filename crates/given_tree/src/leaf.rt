@@ -15,17 +15,17 @@ ghost use Rattle.given_tree.specs.Growing.{Keeps, IsGrownAt, IsRaisedTo};
 
 use crate::fault::ReplayFault;
 use crate::given::GivenTree;
+use crate::handed_on::HandedOn;
 use crate::leaf_sets::sets_at;
 use crate::pricing::price;
 use certificate::SetPrice;
 use incumbent_book::Book;
-use priced_sets::NeededSets;
 use prices::Priced;
 
 /// These prices at the region of a leaf, with their value.
 fn price_leaf<'i>(
     tree: &GivenTree<'_>,
-    needed: &mut NeededSets<'_>,
+    handed_on: &mut HandedOn<'_>,
     book: &Book<'i>,
     number: u32,
     prices: &[i64],
@@ -41,9 +41,9 @@ fn price_leaf<'i>(
     let Some(leaf) = book.leaf(number) else {
         unreachable!()
     };
-    let sets = sets_at(tree, leaf.instance(), needed, set_prices)?;
+    let sets = sets_at(tree, leaf.instance(), &mut handed_on.needed, set_prices)?;
     let prices = Vec::from_slice(tree.alloc, prices)?;
-    price(tree, leaf.task().with(prices, sets)?)
+    price(tree, handed_on, leaf.task().with(prices, sets)?)
 }
 
 /// Gives a leaf these prices where their value is higher than the leaf's.
@@ -71,7 +71,7 @@ fn raise<'i>(book: &mut Book<'i>, number: u32, priced: Priced<'i>) -> Result<(),
 /// Gives a leaf the prices of a leaf of the tree where their value is higher.
 pub(crate) fn grow_leaf<'i>(
     tree: &GivenTree<'_>,
-    needed: &mut NeededSets<'_>,
+    handed_on: &mut HandedOn<'_>,
     book: &mut Book<'i>,
     number: u32,
     prices: &[i64],
@@ -88,6 +88,6 @@ pub(crate) fn grow_leaf<'i>(
         → IsRaisedTo book.old book.new number v) }
     ensures unlimited { IfErr result (λ e. e ≡ LabelLimit → tree.now.labels ≢ None) }
 {
-    let priced = price_leaf(tree, needed, book, number, prices, set_prices)?;
+    let priced = price_leaf(tree, handed_on, book, number, prices, set_prices)?;
     raise(book, number, priced)
 }

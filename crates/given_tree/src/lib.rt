@@ -6,6 +6,7 @@ mod child;
 mod fault;
 mod given;
 mod growing;
+mod handed_on;
 mod leaf;
 mod leaf_sets;
 mod pricing;

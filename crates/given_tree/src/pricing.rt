@@ -6,23 +6,22 @@ ghost use Rattle.prices.specs.ValuedPrices.{IsPricedBy};
 
 use crate::fault::ReplayFault;
 use crate::given::GivenTree;
-use labelling::{Hints, Kept, PricingTask};
+use crate::handed_on::HandedOn;
+use labelling::{Hints, PricingTask};
 use prices::Priced;
 
 /// A task's prices with their value.
 pub(crate) fn price<'i>(
     tree: &GivenTree<'_>,
+    handed_on: &mut HandedOn<'_>,
     task: PricingTask<'i>,
 ) -> Result<Priced<'i>, ReplayFault>
     ensures priced { let t = task.entry in
         IfOk result (IsPricedBy t.instance.now t.region t.neighbours t.prices.items t.sets.sets) }
     ensures unlimited { IfErr result (λ e. e ≡ LabelLimit → tree.now.labels ≢ None) }
 {
-    let (hints, mut kept) = (
-        Hints::near(tree.alloc, tree.nearness),
-        Kept::nothing(tree.alloc),
-    );
-    match Priced::by_hints(tree.alloc, task, tree.labels, &hints, &mut kept) {
+    let hints = Hints::near(tree.alloc, tree.nearness);
+    match Priced::by_hints(tree.alloc, task, tree.labels, &hints, &mut handed_on.kept) {
         Ok(priced) => Ok(priced),
         Err((_task, fault)) => Err(ReplayFault::from(fault)),
     }

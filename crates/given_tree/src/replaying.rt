@@ -11,10 +11,10 @@ ghost use Rattle.incumbent_book.specs.Reaching.{IsReached};
 use crate::fault::ReplayFault;
 use crate::given::GivenTree;
 use crate::growing::grow_at;
+use crate::handed_on::HandedOn;
 use certificate::Cert;
 use fronts::Nearness;
 use incumbent_book::Book;
-use priced_sets::NeededSets;
 use std::alloc::Global;
 
 /// Grows the tree of a certificate in a book that has no split yet, and answers the numbers of the leaves that the
@@ -60,8 +60,8 @@ pub fn replay<'i>(
     let Some(root) = book.leaf(0) else {
         unreachable!()
     };
-    let mut needed = NeededSets::new(alloc, root.instance())?;
+    let mut handed_on = HandedOn::nothing(alloc, root.instance())?;
     let mut leaves = Vec::new(alloc);
-    grow_at(&tree, &mut needed, book, 0, 0, &mut leaves)?;
+    grow_at(&tree, &mut handed_on, book, 0, 0, &mut leaves)?;
     Ok(leaves)
 }

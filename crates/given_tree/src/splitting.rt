@@ -11,6 +11,7 @@ ghost use Rattle.given_tree.specs.Growing.{Keeps, IsSplitAt};
 use crate::child::price_child;
 use crate::fault::ReplayFault;
 use crate::given::GivenTree;
+use crate::handed_on::HandedOn;
 use branching::Arc;
 use incumbent_book::Book;
 use prices::{Priced, child_regions};
@@ -18,6 +19,7 @@ use prices::{Priced, child_regions};
 /// The leaf's prices at both children by an arc.
 fn price_children<'i>(
     tree: &GivenTree<'_>,
+    handed_on: &mut HandedOn<'_>,
     book: &Book<'i>,
     number: u32,
     arc: Arc,
@@ -31,8 +33,8 @@ fn price_children<'i>(
         unreachable!()
     };
     let (used, unused) = child_regions(leaf.region(), arc)?;
-    let used = price_child(tree, leaf, &used);
-    let unused = price_child(tree, leaf, &unused);
+    let used = price_child(tree, handed_on, leaf, &used);
+    let unused = price_child(tree, handed_on, leaf, &unused);
     match (used, unused) {
         (Ok(used), Ok(unused)) => Ok((used, unused)),
         (Err(fault), _) | (_, Err(fault)) => Err(fault),
@@ -62,6 +64,7 @@ fn part<'i>(
 /// which the arc is required first.
 pub(crate) fn split_leaf<'i>(
     tree: &GivenTree<'_>,
+    handed_on: &mut HandedOn<'_>,
     book: &mut Book<'i>,
     number: u32,
     arc: Arc,
@@ -72,6 +75,6 @@ pub(crate) fn split_leaf<'i>(
     ensures split { IfOk result (λ r. IsSplitAt book.old book.new number (pair arc) r.0 r.1) }
     ensures unlimited { IfErr result (λ e. e ≡ LabelLimit → tree.now.labels ≢ None) }
 {
-    let (used, unused) = price_children(tree, book, number, arc)?;
+    let (used, unused) = price_children(tree, handed_on, book, number, arc)?;
     part(book, number, arc, used, unused)
 }
