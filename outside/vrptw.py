@@ -28,7 +28,7 @@ import subprocess
 import threading
 import time
 from dataclasses import dataclass, field, replace
-from math import isqrt
+from math import hypot, isqrt
 from typing import Callable, Mapping, Optional, Sequence, Union
 
 __all__ = ["Answer", "Fault", "Plan", "Progress", "Solving", "Text", "Tree", "check", "instance_text", "plan_text",
@@ -50,8 +50,8 @@ _PROGRESS = re.compile(r"vrptw: ([0-9]+) % of the turns, (?:no plan|cost ([0-9.]
 _VERDICT = re.compile(r"(BEST|GAP|OPEN|BOUND|NO PLAN)(?: ([0-9.]+))?(?: ([0-9.]+))?\Z")
 _ROUTE = re.compile(rb"^Route #[0-9]+: ([0-9 ]+)$", re.M)
 _NEIGHBOURS = re.compile(rb"^NEIGHBOURS ([0-9]{1,2})$", re.M)
-# How many words stand before the rows of an instance, and how many a row has.
-_HEAD, _ROW = 18, 7
+# How many words stand before the rows of an instance, which of them is the capacity, and how many a row has.
+_HEAD, _CAPACITY, _ROW = 18, 5, 7
 
 
 class Fault(Exception):
@@ -292,8 +292,10 @@ def run_check(program: str, instance: bytes, certificate: bytes, plan: Optional[
 GROWTH, PART, MOST_TURNS = 4, 0.85, 1_000_000
 # How many sets of customers may have prices in a tree, unless a caller says otherwise.
 SETS = 200
-# The counts of neighbours that rounds take in turn.
-NEIGHBOURS = (8, 12)
+# The counts of neighbours that rounds take in turn, and from how many customers a day on the larger one comes first.
+NEIGHBOURS, LONG_DAY = (8, 12), 20
+# Of so many customers at most the ways to the nearest are measured.
+_MEASURED = 200
 
 
 class Schedule:
@@ -381,6 +383,28 @@ def _plan_bytes(instance: bytes, plan: Plan) -> bytes:
     return plan_text(instance, plan)
 
 
+def _held_in_a_day(instance: bytes) -> float:
+    """How many customers a vehicle holds in a day: as many as its load has room for, or as there is time for service and
+    the way to the nearest one, whatever is less, in the mean."""
+    words = [[int(word) for word in row] for row in _rows(instance)]
+    capacity, (depot, *customers) = int(instance.split()[_CAPACITY]), words
+    some = customers[::-(-len(customers) // _MEASURED)]
+    ways = [min(hypot(row[1] - other[1], row[2] - other[2]) for other in words if other is not row) for row in some]
+    demand = sum(row[3] for row in customers) / len(customers)
+    time_each = sum(row[6] for row in customers) / len(customers) + sum(ways) / len(ways)
+    return min(capacity / max(demand, 1e-9), (depot[5] - depot[4]) / max(time_each, 1e-9))
+
+
+def neighbours_for(instance: bytes) -> tuple[int, ...]:
+    """The counts of neighbours that rounds at an instance take in turn: where a vehicle holds many customers in a day,
+    the larger one first. Of a text that is no instance the program tells what is wrong."""
+    try:
+        is_long = _held_in_a_day(instance) >= LONG_DAY
+    except (ValueError, IndexError, ZeroDivisionError, OverflowError):
+        return NEIGHBOURS
+    return NEIGHBOURS[::-1] if is_long else NEIGHBOURS
+
+
 def neighbours_of(certificate: bytes) -> Optional[int]:
     """The number of neighbours of a certificate; None where its text has none."""
     found = _NEIGHBOURS.search(certificate)
@@ -423,8 +447,8 @@ def _words(given: Mapping[str, Optional[int]]) -> list[str]:
 class Solving:
     """A work at an instance, which `run` does. `cancel` ends it from a callback, another thread or a signal handler.
 
-    The options are those of `vrptw solve`, whose defaults count where they are None, but for 200 sets; docs/formats.md
-    has their limits.
+    The options are those of `vrptw solve`, whose defaults count where they are None, but for 200 sets, and 12 neighbours
+    where a vehicle holds 20 customers or more in a day; docs/formats.md has their limits.
     With `seconds` it works in rounds of growing turns for at most so long, each from the best plan so far, and keeps
     the cheapest plan and the highest bound, as `outside/plan` does; `turns` can't be given then. Else one run is made.
     It ends sooner where no plan is cheaper, or at a gap of at most `gap` tenths of a percent of the cost. The answer
@@ -447,6 +471,8 @@ class Solving:
         self.tree = tree.certificate if isinstance(tree, Answer) else None if tree is None else _bytes(tree)
         if self.tree is not None:
             neighbours = neighbours_of(self.tree)
+        elif neighbours is None and seconds is None and not close:
+            neighbours = neighbours_for(self.instance)[0]
         # By counts of neighbours.
         self.trees = {} if self.tree is None else {neighbours: self.tree}
         self.seconds, self.turns, self.seed, self.neighbours, self.gap = seconds, turns, seed, neighbours, gap
@@ -496,7 +522,7 @@ class Solving:
     def make_rounds(self) -> None:
         """Makes rounds until nothing is left to find, or the time is over."""
         is_set = self.neighbours is not None or self.tree is not None
-        schedule, number = Schedule((self.neighbours,) if is_set else NEIGHBOURS), 0
+        schedule, number = Schedule((self.neighbours,) if is_set else neighbours_for(self.instance)), 0
         first = 1 if self.seed is None else self.seed
         while not (self.is_done() or self.is_over()):
             chosen = schedule.next(self.until - time.monotonic())

@@ -55,6 +55,8 @@ MORE = {
     "many/options": "--turns 2\n", "many/i/instance.txt": FILES["i.txt"], "many/i/plan.txt": FILES["p.txt"],
     "many/i/certificate.txt": SETS, "many/i/line.txt": "BEST 20.0\n", "many/i/errors.txt": "",
     "many/i/done.txt": "0 12 here\n",
+    # Both customers in vehicles that hold twenty of them in a day.
+    "long.txt": FILES["i.txt"].replace("2 2", "2 20"),
     "four.txt": FOUR,
     "open/instance.txt": FOUR, "open/certificate.txt": EIGHT,
     "open/plan.txt": "Route #1: 1\nRoute #2: 2\nRoute #3: 3\nRoute #4: 4\nCost 100.0\n",
@@ -130,6 +132,8 @@ prove i.txt --into d --neighbours 4 --seconds 60|0|-: BEST 20.0 & d/plan.txt: Co
 d/certificate.txt: NEIGHBOURS 4 & d/rounds.csv: 1,0,0,0,1, & --: outside/prove: round 1: one run here,
 prove i.txt --into d ; prove i.txt --into d --seconds 9|0|-: 1       here
 prove i.txt --into held|0|-: BEST 20.0 & held/certificate.txt: VRPTW-SETS 1
+prove long.txt --into long|0|-: BEST 20.0 & long/certificate.txt: NEIGHBOURS 12
+plan long.txt --into long_days|0|long_days/certificate.txt: NEIGHBOURS 12
 prove four.txt --into open --engine here --parts 1 --jobs 1 --round 20 --searchers 1 --bounders 1 --labels 1000 \
 --sets 3 --seed 3 --program {program}|0|-: BEST 100.0 & --: outside/prove: round 1: 1 of 1 part, & open/gap.svg: </svg>
 prove four.txt --into open --engine parallel --sshloginfile machines --parts 1 --program {program}|0|\

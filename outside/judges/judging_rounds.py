@@ -18,6 +18,8 @@ SOON = 60
 INSTANCE = (b"T\nVEHICLE\nNUMBER CAPACITY\n2 2\nCUSTOMER\n"
             b"CUST NO. XCOORD. YCOORD. DEMAND READY TIME DUE DATE SERVICE TIME\n"
             b"0 0 0 0 0 1000 0\n1 3 4 1 0 1000 0\n2 6 8 1 0 1000 0\n")
+# The same with vehicles that hold many customers in a day: there the larger count of neighbours comes first.
+LONG_DAYS = INSTANCE.replace(b"\n2 2\n", b"\n2 20\n")
 # Each call of solve takes the next line: cost or -, bound, status. After the last one it waits to be ended.
 PROGRAM = """#!/bin/sh
 here=%s
@@ -71,7 +73,7 @@ def fitted_out(folder, rows):
     return program
 
 
-def judge_words(folder, rows, options):
+def judge_words(folder, rows, options, first=8, other=12):
     """Each call has the options, and begins with a plan once there is one, and with the tree of the last round with so
     many neighbours; turns grow, neighbours change."""
     calls = got(os.path.join(folder, "words")).decode().splitlines()
@@ -87,7 +89,7 @@ def judge_words(folder, rows, options):
     right = [(is_on, not is_on) for is_on in (False, True, False, True, True)]
     demand(trees == right[:len(trees)], "trees and neighbours: %r" % trees)
     turns = [int(call.split("--turns ")[1].split()[0]) for call in calls[:5]]
-    demand(counts == [8, 8, 12, 8, 12][:len(counts)], "neighbours: %r" % counts)
+    demand(counts == [first, first, other, first, other][:len(counts)], "neighbours: %r" % counts)
     demand(turns == [1, 4, 4, 16, 16][:len(turns)], "turns: %r" % turns)
     seeds = [int(call.split("--seed ")[1].split()[0]) for call in calls]
     demand(seeds == list(range(seeds[0], seeds[0] + len(seeds))), "seeds: %r" % seeds)
@@ -105,10 +107,10 @@ def ended_after(folder, count, end):
     return thread
 
 
-def judge_by_module(folder, rows, right):
+def judge_by_module(folder, rows, right, has_long_days):
     """By `Solving`, which is cancelled once the rows are taken."""
     cost, bound, taken = right
-    work = vrptw.Solving(INSTANCE, seconds=SOON + 20, seed=5, program=fitted_out(folder, rows), **OPTIONS)
+    work = vrptw.Solving(LONG_DAYS if has_long_days else INSTANCE, seconds=SOON + 20, seed=5, program=fitted_out(folder, rows), **OPTIONS)
     is_closed = cost is not None and cost == bound
     thread = ended_after(folder, taken if is_closed else len(rows) + 1, (lambda: None) if is_closed else work.cancel)
     began, answer = time.monotonic(), work.run()
@@ -119,7 +121,7 @@ def judge_by_module(folder, rows, right):
         answer, right))
     demand(cost is None or read_solution(answer.plan) == ([[1, 2]], cost), "%r" % answer.plan)
     demand(bound is None or read_either(answer.certificate).bound == bound, "%r" % answer.certificate)
-    judge_words(folder, rows, OPTIONS)
+    judge_words(folder, rows, OPTIONS, *([12, 8] if has_long_days else [8, 12]))
 
 
 def judge_by_step(folder, rows, right):
@@ -160,10 +162,11 @@ def judge_by_step(folder, rows, right):
 
 def judge_rounds(folder, random):
     """Rows by both."""
-    rows = drawn_rows(random)
+    rows, has_long_days = drawn_rows(random), random.randrange(2) == 0
     right = right_of(rows)
-    for name, judge in (("module", judge_by_module), ("step", judge_by_step)):
-        own = os.path.join(folder, name)
-        os.mkdir(own)
-        judge(own, rows, right)
+    by_module, by_step = os.path.join(folder, "module"), os.path.join(folder, "step")
+    os.mkdir(by_module)
+    judge_by_module(by_module, rows, right, has_long_days)
+    os.mkdir(by_step)
+    judge_by_step(by_step, rows, right)
     return "closed" if right[0] is not None and right[0] == right[1] else "ended"

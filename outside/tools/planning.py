@@ -11,7 +11,7 @@ from tools.respelling import certificate, text_of
 from tools.standing import CERTIFICATE, INSTANCE, NAMES, PLAN, TREES
 from tools.stopping import Patience
 from tools.tool import Refused, count
-from vrptw import NEIGHBOURS, SETS, Schedule, neighbours_of, verdict_of
+from vrptw import SETS, Schedule, neighbours_for, neighbours_of, verdict_of
 
 START = "start.txt"
 # How many seconds the check of a certificate that stands goes on after a signal, from its start.
@@ -180,8 +180,7 @@ class Planner:
     def go_on(self, until, is_any_enough=False):
         """Makes rounds until nothing is left to find, the time is over, or a signal comes; or a plan stands, where any
         is enough."""
-        neighbours = NEIGHBOURS if self.given.neighbours is None else (self.given.neighbours,)
-        schedule, number = Schedule(neighbours), 0
+        schedule, number = Schedule(self.counts_of_neighbours()), 0
         while not (self.is_done() or self.signals.came or is_any_enough and self.cost is not None):
             chosen = schedule.next(until - time.monotonic())
             if chosen is None:
@@ -196,6 +195,12 @@ class Planner:
                 schedule.note(*chosen, time.monotonic() - began, bound)
             elif not fault:
                 return
+
+    def counts_of_neighbours(self):
+        """The counts of neighbours that rounds take in turn."""
+        if self.given.neighbours is not None:
+            return (self.given.neighbours,)
+        return neighbours_for(self.texts[INSTANCE])
 
     def refuse(self, fault):
         """Tells a fault of the program, which costs nothing where a plan stands."""

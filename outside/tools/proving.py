@@ -133,7 +133,7 @@ class Prover(Planner):
         """A round of one run here. Answers what its row has of parts, or None where nothing came."""
         began = time.monotonic()
         before = resource.getrusage(resource.RUSAGE_CHILDREN)
-        bound, fault = self.round(turns, self.given.neighbours, self.seed(), self.until)
+        bound, fault = self.round(turns, self.counts_of_neighbours()[0], self.seed(), self.until)
         after = resource.getrusage(resource.RUSAGE_CHILDREN)
         self.spent += after.ru_utime + after.ru_stime - before.ru_utime - before.ru_stime
         if fault:
