@@ -1,6 +1,6 @@
 //! Search for routes with time windows by ruin and recreate (Schrimpf et al. 2000), with the string removals
-//! of Christiaens and Vanden Berghe (2020). Whoever takes its routes checks them, so no function has a
-//! contract but that it is safe and ends.
+//! of Christiaens and Vanden Berghe (2020), and with changes of tails (Potvin and Rousseau 1995). Whoever takes
+//! its routes checks them, so no function has a contract but that it is safe and ends.
 #![tactic(auto)]
 
 mod absence;
@@ -12,6 +12,7 @@ mod ruin_search;
 mod rule;
 mod side;
 mod tables;
+mod tails;
 mod trials;
 mod window;
 

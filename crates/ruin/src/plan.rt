@@ -1,8 +1,9 @@
 //! Routes that are right at any time, and the customers that stand in them.
 
 use crate::drawing::below;
-use crate::side::{CheapestPlace, Side, UNSEEN};
+use crate::side::{CheapestPlace, Side, Stop, UNSEEN};
 use crate::tables::{NOWHERE, Tables};
+use crate::tails::{Place, Seam};
 use crate::window::Window;
 use rand_core::Rng;
 use solomon_reader::Instance;
@@ -27,6 +28,8 @@ pub(crate) struct Slot {
 pub(crate) struct Plan {
     pub(crate) tables: Tables,
     pub(crate) slots: Vec<Slot>,
+    /// A side of no slot, on which a route is made of two others.
+    spare: Side,
     /// The slots from here on have no route.
     used: usize,
     /// The slots that the trial has turned.
@@ -94,6 +97,7 @@ impl Plan {
         Ok(Plan {
             tables: Tables::new(alloc, instance)?,
             slots,
+            spare: Side::new(alloc, customers)?,
             used: 0,
             turned: Vec::with_capacity(alloc, count)?,
             slot_of: vec![in alloc; None; rows]?,
@@ -121,10 +125,33 @@ impl Plan {
         self.slot_of.get(usize::from(customer)).copied().flatten()
     }
 
+    /// Where a customer stood before the trial.
+    pub(crate) fn place_of(&self, customer: u16) -> Option<Place> {
+        let slot = self.slot_of(customer)?;
+        let mut stops = self.slots.get(slot)?.held.stops.iter();
+        let position = stops.position(|stop| stop.customer == customer)?;
+        Some(Place { slot, position })
+    }
+
+    /// The stop at a place.
+    pub(crate) fn stop(&self, place: Place) -> Option<&Stop> {
+        let slot = self.slots.get(place.slot)?;
+        slot.held.stops.get(place.position)
+    }
+
     /// Notes the slot of a customer, or that it is absent.
     pub(crate) fn note_slot(&mut self, customer: u16, slot: Option<usize>) {
         if let Some(held) = self.slot_of.get_mut(usize::from(customer)) {
             *held = slot;
+        }
+    }
+
+    /// Notes the slots of all customers in the slots that the trial has turned.
+    pub(crate) fn note_turned(&mut self) {
+        for number in &self.turned {
+            if let Some(slot) = self.slots.get(*number) {
+                slot.held.note_slot(*number, self.slot_of.as_mut_slice());
+            }
         }
     }
 
@@ -141,6 +168,40 @@ impl Plan {
         if slot.held.customer_count() == 0 {
             self.routes = self.routes.saturating_sub(1);
         }
+        Some(change)
+    }
+
+    /// The other side of the slot before a seam becomes the route that the seam makes; answers by how many tenths
+    /// that is longer, and nothing where it would be late.
+    fn join(&mut self, seam: Seam) -> Option<i64> {
+        self.version = self.version.wrapping_add(1);
+        let (head, tail) = seam.parts(self.slots.as_slice())?;
+        let cost = self.spare.join(&self.tables, head, tail, self.version)?;
+        let slot = self.slots.get_mut(seam.last.slot)?;
+        std::mem::swap(&mut slot.other, &mut self.spare);
+        Some(cost.saturating_sub(slot.held.cost()))
+    }
+
+    /// Turns a slot whose other side is a route of the trial.
+    fn turn(&mut self, number: usize) {
+        let Some(slot) = self.slots.get_mut(number) else {
+            return;
+        };
+        if slot.turn() {
+            let _ = self.turned.push(number);
+        }
+        if slot.held.customer_count() == 0 {
+            self.routes = self.routes.saturating_sub(1);
+        }
+    }
+
+    /// Changes the tails of two routes at these seams; answers by how many tenths the routes get longer, and
+    /// nothing where one would be late.
+    pub(crate) fn change_tails(&mut self, one: Seam, two: Seam) -> Option<i64> {
+        let change = self.join(one)?;
+        let change = change.saturating_add(self.join(two)?);
+        self.turn(one.last.slot);
+        self.turn(two.last.slot);
         Some(change)
     }
 

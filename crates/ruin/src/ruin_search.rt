@@ -20,10 +20,11 @@ const STEPS_OF_TRIAL: u64 = 800;
 const LENT_TENTHS: u64 = 7;
 
 /// A search by ruin and recreate (Schrimpf et al. 2000). A trial takes strings of customers out of a few
-/// neighbouring routes, and puts each customer back at its cheapest place (Christiaens and Vanden Berghe
-/// 2020). Routes are right at any time, but customers may be absent from them. A trial is kept by how often
-/// those that it leaves out were left out before, and by its cost, under a temperature that falls from the
-/// first whole plan on, and once more from the middle of what is left of the run then.
+/// neighbouring routes, or changes the tails of two, and puts each customer that is out back at its cheapest
+/// place (Christiaens and Vanden Berghe 2020). Routes are right at any time, but customers may be absent from
+/// them. A trial is kept by how often those that it leaves out were left out before, and by its cost, under a
+/// temperature that falls from the first whole plan on, and once more from the middle of what is left of the run
+/// then.
 #[derive(Drop)]
 pub struct RuinSearch<'i> {
     instance: &'i Instance,

@@ -99,6 +99,15 @@ impl Newcomer<'_> {
     }
 }
 
+impl Stop {
+    /// Whether a vehicle that leaves here at the earliest is in time at a stop of another route, and at all behind
+    /// that one.
+    pub(crate) fn reaches(&self, tables: &Tables, other: &Stop) -> bool {
+        let arc = tables.distance(other.customer, self.customer);
+        self.leave.saturating_add(arc) <= other.latest
+    }
+}
+
 impl Side {
     /// No route, with room for this many customers.
     pub(crate) fn new(alloc: Global, customers: usize) -> Result<Side, AllocError> {
@@ -112,6 +121,25 @@ impl Side {
     /// The number of customers.
     pub(crate) fn customer_count(&self) -> usize {
         self.stops.len().saturating_sub(2)
+    }
+
+    /// The cost in tenths.
+    pub(crate) fn cost(&self) -> i64 {
+        let mut cost: i64 = 0;
+        for stop in &self.stops {
+            cost = cost.saturating_add(i64::from(stop.arc));
+        }
+        cost
+    }
+
+    /// Notes this slot for its customers.
+    pub(crate) fn note_slot(&self, number: usize, slot_of: &mut [Option<usize>]) {
+        let ends = self.stops.len().saturating_sub(1);
+        for stop in self.stops.iter().take(ends).skip(1) {
+            if let Some(slot) = slot_of.get_mut(usize::from(stop.customer)) {
+                *slot = Some(number);
+            }
+        }
     }
 
     /// Adds the customers to a tour, and the depot behind them.
@@ -232,11 +260,16 @@ impl Side {
         Some(arc)
     }
 
-    /// Becomes a route to one customer.
-    pub(crate) fn open(&mut self, tables: &Tables, customer: u16, version: u32) {
+    /// Becomes empty, without the depot too.
+    fn begin(&mut self, version: u32) {
         self.stops.clear();
         self.load = 0;
         self.version = version;
+    }
+
+    /// Becomes a route to one customer.
+    pub(crate) fn open(&mut self, tables: &Tables, customer: u16, version: u32) {
+        self.begin(version);
         for row in [0, customer, 0] {
             let _ = self.append(tables, row);
         }
@@ -252,9 +285,7 @@ impl Side {
         window: Window,
         version: u32,
     ) -> Option<i64> {
-        self.stops.clear();
-        self.load = 0;
-        self.version = version;
+        self.begin(version);
         let mut change: i64 = 0;
         for (position, stop) in route.stops.iter().enumerate() {
             change = change.saturating_sub(i64::from(stop.arc));
@@ -265,5 +296,23 @@ impl Side {
         }
         self.set_latest(tables, self.customer_count());
         Some(change)
+    }
+
+    /// Becomes a route of a head and a tail, and answers its cost in tenths; nothing where it would be late.
+    pub(crate) fn join(
+        &mut self,
+        tables: &Tables,
+        head: &[Stop],
+        tail: &[Stop],
+        version: u32,
+    ) -> Option<i64> {
+        self.begin(version);
+        let mut cost: i64 = 0;
+        for stop in head.iter().chain(tail) {
+            let arc = self.append(tables, stop.customer)?;
+            cost = cost.saturating_add(i64::from(arc));
+        }
+        self.set_latest(tables, self.customer_count());
+        Some(cost)
     }
 }

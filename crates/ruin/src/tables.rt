@@ -2,7 +2,7 @@
 
 ghost use Rattle.std.specs.Prelude.{◌<◌, length};
 
-use crate::side::Newcomer;
+use crate::side::{Newcomer, Stop};
 use solomon_reader::Instance;
 use std::alloc::{AllocError, Global};
 
@@ -176,6 +176,20 @@ impl Tables {
     pub(crate) fn distance(&self, from: u16, to: u16) -> i32 {
         let distances = self.distances.get(usize::from(from));
         distances.map_or(0, |distances| distances.to(to))
+    }
+
+    /// The greatest load of a route.
+    pub(crate) fn capacity(&self) -> i32 {
+        self.capacity
+    }
+
+    /// The load of these stops.
+    pub(crate) fn load_of(&self, stops: &[Stop]) -> i32 {
+        let mut load: i32 = 0;
+        for stop in stops {
+            load = load.saturating_add(self.visit(stop.customer).demand);
+        }
+        load
     }
 
     /// A customer that is to be put into a route, behind this stop or a later one.

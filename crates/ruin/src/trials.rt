@@ -1,10 +1,11 @@
-//! Trials, which take customers out of routes and put them back.
+//! Trials, which take customers out of routes, or change the tails of two, and put customers back.
 
 use crate::absence::Absence;
 use crate::drawing::below;
 use crate::order::{Order, Removed};
 use crate::plan::Plan;
 use crate::rule::Rule;
+use crate::tails::{OUT_AT_FIRST, OUT_AT_SECOND, Seam, TAILS_CUSTOMERS, tails_of_thousand};
 use crate::window::Window;
 use rand_core::Rng;
 use solomon_reader::Instance;
@@ -50,6 +51,25 @@ impl Judgement {
     fn limit(self, held: i64, customers: usize) -> i64 {
         let grown = self.threshold.saturating_mul(customers as u64);
         held.saturating_add_unsigned(grown / THRESHOLD_CUSTOMERS)
+    }
+}
+
+/// How a trial begins.
+#[derive(Clone, Copy)]
+enum Kind {
+    /// Strings of customers go out.
+    Strings,
+    /// Two routes change tails.
+    Tails,
+}
+
+impl Kind {
+    /// Such a trial is judged as if it took this many more customers out.
+    fn more_customers(self) -> usize {
+        match self {
+            Kind::Strings => 0,
+            Kind::Tails => TAILS_CUSTOMERS,
+        }
     }
 }
 
@@ -136,11 +156,25 @@ impl Trials {
         below(random, customers).saturating_add(1).min(customers) as u16
     }
 
+    /// How many customers a route has in the mean.
+    fn mean(&self) -> usize {
+        (usize::from(self.customers) / self.plan.routes.max(1)).max(1)
+    }
+
+    /// A random kind of trial; one of strings while customers are absent.
+    fn draw_kind<R: Rng>(&self, random: &mut R) -> Kind {
+        let tails = tails_of_thousand(self.mean());
+        let is_whole = self.absence.absent.is_empty();
+        if is_whole && tails > 0 && below(random, 1_000) < tails {
+            return Kind::Tails;
+        }
+        Kind::Strings
+    }
+
     /// Takes strings of customers out, nearest ones first; answers by how many tenths the routes are longer,
     /// and nothing where one would be late.
     fn ruin<R: Rng>(&mut self, random: &mut R, rule: Rule) -> Option<i64> {
-        let mean = (usize::from(self.customers) / self.plan.routes.max(1)).max(1);
-        let size = Size::draw(random, rule, mean);
+        let size = Size::draw(random, rule, self.mean());
         let mut strings = size.strings;
         let mut longest = (below(random, rule.whole) > 0).then_some(size.longest);
         let center = usize::from(self.draw_center(random));
@@ -166,6 +200,19 @@ impl Trials {
             }
         }
         Some(change)
+    }
+
+    /// Two routes change tails, so that a random customer and one near it become neighbours; who doesn't fit at
+    /// their seams goes out. Answers by how many tenths the routes are longer, and nothing where none are met.
+    fn change_tails<R: Rng>(&mut self, random: &mut R) -> Option<i64> {
+        let center = self.draw_center(random);
+        let seam = Seam::draw(random, &self.plan, center)?;
+        let out_at_first = below(random, OUT_AT_FIRST);
+        let out_at_second = below(random, OUT_AT_SECOND);
+        let (plan, out) = (&self.plan, &mut self.out);
+        let first = seam.take_out(random, plan, out_at_first, out)?;
+        let second = seam.other().take_out(random, plan, out_at_second, out)?;
+        self.plan.change_tails(first, second)
     }
 
     /// Adds the absent customers to those that are put back.
@@ -195,10 +242,12 @@ impl Trials {
         &mut self,
         random: &mut R,
         rule: Rule,
+        kind: Kind,
         change: i64,
         judgement: Judgement,
     ) -> Option<i64> {
-        let limit = judgement.limit(self.plan.cost, self.out.len());
+        let customers = self.out.len().saturating_add(kind.more_customers());
+        let limit = judgement.limit(self.plan.cost, customers);
         self.add_absent();
         self.order(random);
         let mut opens = below(random, rule.opened) == 0;
@@ -245,10 +294,18 @@ impl Trials {
     /// Makes a trial.
     pub(crate) fn attempt<R: Rng>(&mut self, random: &mut R, rule: Rule, judgement: Judgement) {
         self.out.clear();
-        let cost = match self.ruin(random, rule) {
-            Some(change) => self.recreate(random, rule, change, judgement),
+        let kind = self.draw_kind(random);
+        let change = match kind {
+            Kind::Strings => self.ruin(random, rule),
+            Kind::Tails => self.change_tails(random),
+        };
+        let cost = match change {
+            Some(change) => self.recreate(random, rule, kind, change, judgement),
             None => None,
         };
+        if matches!(kind, Kind::Tails) && cost.is_some() {
+            self.plan.note_turned();
+        }
         self.end(cost);
     }
 }
