@@ -1,6 +1,6 @@
 """Cost and bound of a proof over time as a picture: what lies between them is the gap."""
 from tools.batch_table import percent, tenths_of
-from tools.drawing import EDGE, HEAD, round_step, sheet, text
+from tools.drawing import EDGE, HEAD, plural, round_step, sheet, text
 
 WIDE, HIGH, LEFT, RIGHT = 760, 360, 84, 70
 # The colours of cost, bound and gap.
@@ -45,7 +45,8 @@ def path(points):
 def axes(frame):
     """Both axes with round values."""
     bottom = HEAD + EDGE + HIGH
-    yield '<g stroke="#444" stroke-width="0.8"><path d="M%d %dV%dH%d"/>' % (LEFT, HEAD + EDGE, bottom, WIDE - RIGHT)
+    yield '<g stroke="#444" stroke-width="0.8" fill="none"><path d="M%d %dV%dH%d"/>' % (
+        LEFT, HEAD + EDGE, bottom, WIDE - RIGHT)
     words, step = [], round_step(frame.last / frame.unit / 4)
     step = min(step, frame.last / frame.unit) or 1
     for mark in range(int(frame.last / frame.unit / step) + 1):
@@ -76,6 +77,7 @@ def picture(name, rows):
             drawn += ['<circle cx="%.1f" cy="%.1f" r="2.4" fill="%s"/>' % (*point, colour) for point in points[::2]]
             shift = -4 if word == "cost" else 12
             drawn.append(text(points[-1][0] + 8, points[-1][1] + shift, word, 12, 'fill="%s"' % colour))
-    told = "%s: %s; bound %s after %d rounds" % (
-        name, "cost %s, gap %s" % (last.cost, percent(last.gap())) if last.cost else "no plan", last.bound, last.number)
+    told = "%s: %s; bound %s after %s" % (
+        name, "cost %s, gap %s" % (last.cost, percent(last.gap())) if last.cost else "no plan", last.bound,
+        plural(last.number, "round"))
     return sheet(WIDE, HEAD + EDGE + HIGH + 50, told, drawn + list(axes(frame)))
