@@ -179,6 +179,8 @@ bench/leaves sets.txt 4 >many.txt ; bench/leaves many.txt 1|0|-: M 1 50000
 bench/leaves none.txt 3 >many.txt ; bench/leaves many.txt 1|0|-: P 301000 301000
 bench/make_instances made ; bench/make_instances made --check|0|made/c1_25.txt: c1-25-7025
 bench/make_instances theirs --check|1|-: c1_25.txt isn't what is made
+bench/make_instances --other RC1-1-5|0|-: rc1-1-5
+bench/make_instances --other RC1-5-5 --open 100|0|-: rc1-5-5-open100
 bench/solomon theirs --into l --customers 1,2 --options "--turns 2" --jobs 1 --published published.txt|0|-: met & \
 l/literature.csv: C101,2,20.0,hand,20.0,1,20.0,0,
 bench/solomon theirs --into l --program {program} --customers 2 --options --close|0|l/literature.csv: C101,2,
@@ -253,6 +255,8 @@ plan i.txt --into d --seed x|--seed|2|met "x"
 plan i.txt --into d --gap 1001|--gap|2|met "1001"
 plan i.txt --into d --program folder|--program|1|folder: met no program
 prove i.txt --into p.txt|--into|1|p.txt: File exists
+bench/make_instances --other X1-5-5|--other|2|met "X1-5-5"
+bench/make_instances --other RC1-5-5 --open 101|--open|2|met "101"
 prove four.txt --into held||1|held/instance.txt: met another instance, wanted the same, or another DIR
 prove four.txt --into wrong||1|wrong/certificate.txt isn't gone on from: vrptw: check: BoundDiffers 40.1 40.0; wanted
 prove i.txt --into d --parts 501|--parts|2|met "501"
