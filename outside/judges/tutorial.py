@@ -90,8 +90,8 @@ def judge_instances():
     """The files of bench/instances are what bench/make_instances makes."""
     out, errors, status = run([os.path.join(TOP, "bench", "make_instances"), "--check"])
     demand((out, errors, status) == (b"", b"", 0), "bench/make_instances: %s" % shown(out + errors))
-    out = run([os.path.join(TOP, "bench", "make_instances"), "--other", "R2-50-7050"])[0]
-    demand(out == got(os.path.join(TOP, "bench", "instances", "r2_50.txt")), "--other: %s" % shown(out))
+    out = run([os.path.join(TOP, "bench", "make_instances"), "--other", "C2-50-7050"])[0]
+    demand(out == got(os.path.join(TOP, "bench", "instances", "c2_50.txt")), "--other: %s" % shown(out))
     return "as they are made"
 
 
