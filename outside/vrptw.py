@@ -296,6 +296,8 @@ SETS = 200
 NEIGHBOURS, LONG_DAY = (8, 12), 20
 # Of so many customers at most the ways to the nearest are measured.
 _MEASURED = 200
+# A round goes on from a tree that one of so many turns made.
+LATE = 64
 
 
 class Schedule:
@@ -395,14 +397,23 @@ def _held_in_a_day(instance: bytes) -> float:
     return min(capacity / max(demand, 1e-9), (depot[5] - depot[4]) / max(time_each, 1e-9))
 
 
-def neighbours_for(instance: bytes) -> tuple[int, ...]:
-    """The counts of neighbours that rounds at an instance take in turn: where a vehicle holds many customers in a day,
-    the larger one first. Of a text that is no instance the program tells what is wrong."""
+def has_long_days(instance: bytes) -> bool:
+    """Whether a vehicle holds many customers in a day. Of a text that is no instance the program tells what is wrong."""
     try:
-        is_long = _held_in_a_day(instance) >= LONG_DAY
+        return _held_in_a_day(instance) >= LONG_DAY
     except (ValueError, IndexError, ZeroDivisionError, OverflowError):
-        return NEIGHBOURS
-    return NEIGHBOURS[::-1] if is_long else NEIGHBOURS
+        return False
+
+
+def neighbours_for(instance: bytes) -> tuple[int, ...]:
+    """The counts of neighbours that rounds at an instance take in turn: where days are long, the larger one first."""
+    return NEIGHBOURS[::-1] if has_long_days(instance) else NEIGHBOURS
+
+
+def serves(certificate: bytes, turns: int, instance: bytes) -> bool:
+    """Whether the next round goes on from what one of so many turns proved. Where days aren't long a run of few turns
+    parts its tree too soon, and a root is raised sooner from nothing than from its prices without the routes met."""
+    return has_long_days(instance) or turns >= LATE and b"\nTREE\nS " in certificate
 
 
 def neighbours_of(certificate: bytes) -> Optional[int]:
@@ -453,7 +464,7 @@ class Solving:
     the cheapest plan and the highest bound, as `outside/plan` does; `turns` can't be given then. Else one run is made.
     It ends sooner where no plan is cheaper, or at a gap of at most `gap` tenths of a percent of the cost. The answer
     never costs more than `start`, and its bound is never below that of `tree`, whose count of neighbours is that of
-    each run; rounds go on from the tree of the round before with so many. `on_progress` is called in the thread of
+    each run; rounds go on from the tree of the round before with so many, once it serves. `on_progress` is called in the thread of
     `run`, at most a hundred times a run."""
 
     def __init__(self, instance: Text, *, seconds: Optional[float] = None, turns: Optional[int] = None,
@@ -544,7 +555,8 @@ class Solving:
             if came is None:
                 return
             self.take(came)
-            self.trees[chosen[1]] = came.certificate
+            if serves(came.certificate, chosen[0], self.instance):
+                self.trees[chosen[1]] = came.certificate
             schedule.note(*chosen, time.monotonic() - began, came.bound_tenths or 0)
 
     def round(self, turns: Optional[int], neighbours: Optional[int], seed: Optional[int]) -> Optional[Answer]:

@@ -38,7 +38,7 @@ set -- "$3" "$4" $(sed -n "$(wc -l <"$here/words")p" "$here/rows")
 if [ "$5" -gt 1 ]; then echo "vrptw: limit: LabelLimit" >&2; exit "$5"; fi
 : >"$1"
 [ "$3" = - ] || printf 'Route #1: 1 2\nCost %%s\n' "$3" >"$1"
-printf 'VRPTW-CERT 2\nINSTANCE T\nCUSTOMERS 2\nNEIGHBOURS %%s\nBOUND %%s\nTREE\nP 0 0\nEND\n' "$k" "$4" >"$2"
+printf 'VRPTW-CERT 2\nINSTANCE T\nCUSTOMERS 2\nNEIGHBOURS %%s\nBOUND %%s\nTREE\nS 1 2\nP 0 0\nP 0 0\nEND\n' "$k" "$4" >"$2"
 if [ "$3" = - ]; then echo "OPEN $4"; elif [ "$3" = "$4" ]; then echo "BEST $3"; else echo "GAP $3 $4"; fi
 [ "$3" = "$4" ] || exit 1
 """
@@ -49,7 +49,7 @@ def drawn_rows(random):
     """Lines of costs, bounds and statuses, in tenths: no bound is above the least cost."""
     least = random.randint(0, 400)
     return [(None if random.randrange(5) == 0 else least + random.choice([0, 1, 5, 90, random.randint(0, 900)]),
-             random.choice([least, max(0, least - 1), random.randint(0, least)])) for _ in range(random.randint(0, 5))]
+             random.choice([least, max(0, least - 1), random.randint(0, least)])) for _ in range(random.randint(0, 9))]
 
 
 def right_of(rows):
@@ -75,7 +75,7 @@ def fitted_out(folder, rows):
 
 def judge_words(folder, rows, options, first=8, other=12):
     """Each call has the options, and begins with a plan once there is one, and with the tree of the last round with so
-    many neighbours; turns grow, neighbours change."""
+    many neighbours that had 64 turns or more, or any where days are long; turns grow, neighbours change."""
     calls = got(os.path.join(folder, "words")).decode().splitlines()
     has_plan = False
     for number, call in enumerate(calls):
@@ -85,12 +85,14 @@ def judge_words(folder, rows, options, first=8, other=12):
         if number < len(rows):
             has_plan = has_plan or rows[number][0] is not None
     counts = [int(call.split(" of ")[1]) for call in calls[:5]]
-    trees = [(" --tree " in call, " --neighbours " in call) for call in calls[:5]]
-    right = [(is_on, not is_on) for is_on in (False, True, False, True, True)]
-    demand(trees == right[:len(trees)], "trees and neighbours: %r" % trees)
-    turns = [int(call.split("--turns ")[1].split()[0]) for call in calls[:5]]
+    turns = [int(call.split("--turns ")[1].split()[0]) for call in calls]
+    rounds = [(int(call.split(" of ")[1]), made) for call, made in zip(calls, turns)]
+    for number, call in enumerate(calls):
+        is_on = any(of == rounds[number][0] and (made >= 64 or first > other) for of, made in rounds[:number])
+        demand((" --tree " in call, " --neighbours " in call) == (is_on, not is_on), "a tree in round %d: %r" % (
+            number, calls))
     demand(counts == [first, first, other, first, other][:len(counts)], "neighbours: %r" % counts)
-    demand(turns == [1, 4, 4, 16, 16][:len(turns)], "turns: %r" % turns)
+    demand(turns[:9] == [1, 4, 4, 16, 16, 64, 64, 256, 256][:len(turns)], "turns: %r" % turns)
     seeds = [int(call.split("--seed ")[1].split()[0]) for call in calls]
     demand(seeds == list(range(seeds[0], seeds[0] + len(seeds))), "seeds: %r" % seeds)
 

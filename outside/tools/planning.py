@@ -11,7 +11,7 @@ from tools.respelling import certificate, text_of
 from tools.standing import CERTIFICATE, INSTANCE, NAMES, PLAN, TREES
 from tools.stopping import Patience
 from tools.tool import Refused, count
-from vrptw import SETS, Schedule, neighbours_for, neighbours_of, verdict_of
+from vrptw import SETS, Schedule, neighbours_for, neighbours_of, serves, verdict_of
 
 START = "start.txt"
 # How many seconds the check of a certificate that stands goes on after a signal, from its start.
@@ -60,8 +60,8 @@ class Planner:
         self.cost = self.bound = self.vehicles = self.kind = self.start = None
         # What the pages say of fewer vehicles.
         self.fewest = ""
-        # The counts of neighbours whose trees were refused.
-        self.left_out = set()
+        # The counts of neighbours whose trees were refused, and the certificates whose trees don't serve.
+        self.left_out, self.early = set(), set()
         self.notes = []
         self.texts = {name: text for name, text in zip((INSTANCE, NAMES), texts) if text is not None}
         for name, text in self.texts.items():
@@ -233,7 +233,7 @@ class Planner:
             return None, "the check says %s" % fault if fault else None
         text = held(proof)
         self.take(cost, bound)
-        self.keep_tree(neighbours, text)
+        self.keep_tree(neighbours, text, turns)
         return bound, None
 
     def tree_of(self, neighbours):
@@ -241,7 +241,8 @@ class Planner:
         if not self.is_in_place or neighbours in self.left_out:
             return None
         found = [(bound_told(text), name) for name in (TREES[neighbours], CERTIFICATE)
-                 for text in [self.folder.held(name)] if text and neighbours_of(text) == neighbours]
+                 for text in [self.folder.held(name)]
+                 if text and text not in self.early and neighbours_of(text) == neighbours]
         return max(found)[1] if found else None
 
     def leaves_out(self, neighbours):
@@ -250,11 +251,15 @@ class Planner:
         self.left_out.add(neighbours)
         return True
 
-    def keep_tree(self, neighbours, text):
-        """Keeps the certificate of a round for the next one with so many neighbours."""
-        if self.is_in_place:
+    def keep_tree(self, neighbours, text, turns):
+        """Keeps the certificate of a round of so many turns for the next one with so many neighbours, if it serves."""
+        if not self.is_in_place:
+            return
+        if serves(text, turns, self.texts[INSTANCE]):
             self.folder.put(TREES[neighbours], text)
             self.left_out.discard(neighbours)
+        else:
+            self.early.add(text)
 
     def is_higher(self, bound):
         """Whether a certificate of this bound comes into place."""

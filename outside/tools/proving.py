@@ -92,7 +92,7 @@ class Prover(Planner):
         """Without the tree nothing is gone on from."""
         return False
 
-    def keep_tree(self, neighbours, text):
+    def keep_tree(self, neighbours, text, turns):
         """The tree that stands is the only one."""
 
     def prove(self):
