@@ -1,5 +1,6 @@
 """One run of `prove` on few customers, of whose parts one is killed, stopped or spoilt at a drawn moment: what stands
-is right at each moment and never worse than before, and the other parts lose nothing."""
+is right at each moment and never worse than before, and the other parts lose nothing. Now and then a signal comes while
+a round is joined, which that round outlives, or two signals, which is told."""
 import os
 import subprocess
 import time
@@ -16,8 +17,8 @@ from tools.proving import LEAVES
 from tools.proving_rounds import TABLE
 from vrptw import verdict_of
 
-# How many seconds a command may take at most, and how long it works unless the instance is closed before.
-LONGEST, SECONDS = 120, (4, 8)
+# How many seconds a command may take at most, and how long it works unless the instance is closed or a signal comes.
+LONGEST, SECONDS, SIGNALLED = 120, (4, 8), 60
 # What is done to one part: it is killed behind some time, or does without its program, or what it wrote is spoilt.
 WAYS = {
     "killed": 'sleep %(delay).3f; kill -9 $child; kill -9 $$',
@@ -36,9 +37,16 @@ WAYS = {
     "cut": 'wait $child; head -c %(size)d "$4" >cut; mv cut "$4"; exit 1',
     "noise": 'wait $child; head -c %(size)d /dev/urandom >"$4"; cp "$4" "$3"; exit 1',
 }
-# The program in the place of ours: it counts the parts, keeps what those that are left alone have written, and does
-# something to one of them.
+# What comes while a round is joined, once: nothing, a signal, or two of them.
+JOINING = {
+    "": ':',
+    "a signal": 'kill -INT $PPID',
+    "two signals": 'kill -INT $PPID; sleep 2; kill -INT $PPID; sleep 5',
+}
+# The program in the place of ours: it counts the parts, keeps what those that are left alone have written, does
+# something to one of them, and when it checks a joined text for the first time.
 PROGRAM = """#!/bin/sh
+case "$*" in check*/joined/*) mkdir '%(here)s'/joining 2>/dev/null && { %(joining)s; } ;; esac
 case "$*" in solve*\\ --part\\ *) ;; *) exec '%(program)s' "$@" ;; esac
 number=1
 until mkdir '%(here)s'/call_$number 2>/dev/null; do number=$((number + 1)); done
@@ -74,13 +82,14 @@ def begun(program, folder, random, least):
 
 
 def spoiler(program, folder, random, parts):
-    """The path of the program that does something to one part, and what that is."""
+    """The path of the program that does something to one part, what that is, and what comes while parts are joined."""
     way, path = random.choice(sorted(WAYS)), os.path.join(folder, "spoiler")
+    joining = random.choice(["", ""] + sorted(JOINING))
     told = WAYS[way] % {"delay": random.choice([0, 0.01, 0.05, 0.2, random.random()]), "size": random.randrange(2000)}
-    put(path, (PROGRAM % {"program": program, "here": folder, "way": told,
+    put(path, (PROGRAM % {"program": program, "here": folder, "way": told, "joining": JOINING[joining],
                           "chosen": random.randint(1, 2 * parts)}).encode())
     os.chmod(path, 0o755)
-    return path, way
+    return path, way, joining
 
 
 def is_within(part, whole):
@@ -114,6 +123,32 @@ def demand_kept(folder, into, rounds):
             demand(is_within(read_either(text).tree, whole), "what %s has grown is lost" % name)
 
 
+def rounds_of(into):
+    """The rows of all rounds, each as its cells by the heading."""
+    lines = (got(os.path.join(into, TABLE)) or b"").decode().split("\n")[:-1]
+    return [dict(zip(lines[0].split(","), line.split(","))) for line in lines[1:]]
+
+
+def demand_first(rows, leaves, parts, seconds):
+    """The first round goes on from a tree that stands, by a turn for each leaf of a part, or fewer in a short time."""
+    least = 2 if seconds == SIGNALLED else 1
+    demand(not rows or rows[0]["parts"] == str(parts) and least <= int(rows[0]["turns"]) <= leaves // parts,
+           "the first round of %d leaves is %s" % (leaves, rows[:1]))
+
+
+def demand_joined(folder, rows, joining, errors):
+    """Behind a signal the round that was joined stands, with the parts that had ended; behind two of them it doesn't,
+    and that is told."""
+    came = [int(name[len("kept_r"):].split("@")[0]) for name in os.listdir(folder) if name.startswith("kept_r")]
+    is_lost = "the work of all parts is lost" in errors
+    demand(is_lost == (joining == "two signals"), "%s: %r" % (joining, errors))
+    if joining == "a signal":
+        demand(len(rows) >= max(came, default=0) and all(int(row["came"]) for row in rows[-1:]),
+               "a signal, and round %s is lost: %r" % (came, rows[-1:]))
+    elif is_lost:
+        demand(len(rows) < max(came, default=1), "two signals, and round %s stands" % came)
+
+
 def judge_end(instance, came):
     """The line at the end is what stands, and says nothing that isn't so; answers whether the instance is closed."""
     out, errors, status, now = came
@@ -133,14 +168,19 @@ def judge_proof(program, folder, random):
     os.mkdir(into)
     for name, held in (("instance.txt", text), ("plan.txt", plan), ("certificate.txt", proof)):
         put(os.path.join(into, name), held)
-    path, way = spoiler(program, folder, random, parts)
+    path, way, joining = spoiler(program, folder, random, parts)
+    seconds = SIGNALLED if joining else random.randint(*SECONDS)
     words = [os.path.join(OUTSIDE, "prove"), os.path.join(into, "instance.txt"), "--into", into, "--parts", str(parts),
-             "--jobs", "2", "--round", "1", "--seconds", str(random.randint(*SECONDS)), "--sets",
-             str(random.choice([0, 20])), "--program", path]
-    is_closed = judge_end(instance, watched(program, folder, words, into))
-    rows = got(os.path.join(into, TABLE)) or b""
+             "--jobs", "2", "--round", "1", "--seconds", str(seconds), "--sets", str(random.choice([0, 20])),
+             "--program", path]
+    came = watched(program, folder, words, into)
+    is_closed = judge_end(instance, came)
+    rows, number = got(os.path.join(into, TABLE)) or b"", len(rounds_of(into))
+    demand_first(rounds_of(into), proof.count(b"\nP "), parts, seconds)
+    if os.path.isdir(os.path.join(folder, "joining")):
+        demand_joined(folder, rounds_of(into), joining, came[1])
     # A part of the last round may have come when the time was over.
-    demand_kept(folder, into, rows.count(b"\n") - 2)
+    demand_kept(folder, into, number - 1)
     if is_closed:
         _, errors, status, _ = watched(program, folder, words, into)
         demand((status, errors, got(os.path.join(into, TABLE))) == (0, "", rows), "again: %d, %r" % (status, errors))
@@ -148,4 +188,4 @@ def judge_proof(program, folder, random):
     while left_running(into) and time.monotonic() < until:
         time.sleep(0.05)
     demand(not left_running(into), "left running: %s" % left_running(into))
-    return "%s: %s" % (way, "closed" if is_closed else "right")
+    return "%s%s: %s" % (way, joining and ", then %s" % joining, "closed" if is_closed else "right")

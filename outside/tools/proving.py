@@ -32,6 +32,8 @@ MOST_LOST = 3
 # Before its first turn a part checks the tree and prices its leaves: so many times as long as the check here. A round
 # is so many times longer than that, at least.
 BEFORE, LONGER = 4, 4
+# A turn takes about as long as the check of so many leaves.
+TURN = 10
 # The part of the time left that a round may be thought to take.
 PART = 0.7
 # Seeds of rounds lie so far apart, so that no part of another round has the same.
@@ -71,11 +73,22 @@ class Prover(Planner):
         if self.given.engine == "slurm":
             # What an earlier call left that was killed.
             cancel(self.folder.at(PARTS))
+        began = time.monotonic()
         self.stand(until)
         if self.notes:
             raise Refused("%s; wanted texts of this instance, or another DIR" % self.notes[0])
         if self.bound is not None:
             self.leaves = leaves_of(self.folder.held(CERTIFICATE))
+            self.before = BEFORE * (time.monotonic() - began)
+        if not self.rounds.rows and not self.is_for_here():
+            self.pace = Pace(self.first_turns())
+
+    def first_turns(self):
+        """The turns of a first round that goes on from a tree: one for each leaf of a part, since rounds of few turns
+        would price the tree anew each time. Where the time left is short, as many as may end in it."""
+        each = TURN * self.before / BEFORE / self.leaves
+        left = PART * (self.until - time.monotonic()) - self.before
+        return int(max(1, min(self.leaves // self.given.parts, left / each)))
 
     def is_over(self):
         return self.signals.came or time.monotonic() >= self.until
@@ -172,14 +185,18 @@ class Prover(Planner):
         found.lay_out(self.given.program, texts, [self.part_words(turns, place + 1) for place in range(count)], limit)
         until = time.monotonic() + waves * limit + SLACK
         found.run(self.given, lambda: self.is_over() or time.monotonic() >= until)
-        if self.signals.came:
-            return None
         parts = found.parts()
+        answers = [part for part in parts if part.has_answer()]
         self.tell_failed(parts)
+        if self.signals.came and not answers:
+            return None
         self.spent += sum(part.spent for part in parts)
         self.pace.note(turns, [100 * self.at_turns(part.seconds) / part.percent / turns for part in parts
                                if part.seconds and part.percent])
-        came = self.take_parts([part for part in parts if part.has_answer()])
+        came = self.take_parts(answers)
+        if self.signals.came_again and not came:
+            told("outside/prove: note: signals came, and the work of all parts is lost")
+            return None
         self.at_work = count - sum(part.is_out_of_work() for part in parts)
         self.choose_seconds()
         self.lost = 0 if came else self.lost + 1
@@ -188,9 +205,12 @@ class Prover(Planner):
         return count, came, self.at_work
 
     def tell_failed(self, parts):
-        """Tells how many parts came to nothing, and what the first of them said."""
+        """Tells how many parts came to nothing, and what the first of them said, or that a signal broke them off."""
         failed = [part for part in parts if not part.has_answer()]
-        if failed:
+        if failed and self.signals.came:
+            told("outside/prove: note: a signal came, and the work of %d of %d parts is lost" % (
+                len(failed), len(parts)))
+        elif failed:
             told("outside/prove: note: %d of %d parts came to nothing: %s" % (
                 len(failed), len(parts), failed[0].fault()))
 
@@ -203,11 +223,12 @@ class Prover(Planner):
             self.seconds = min(2 * self.seconds, self.given.round)
 
     def take_parts(self, parts):
-        """Brings the best plan of all and the joined tree into place. Answers how many parts were taken."""
+        """Brings the best plan of all and the joined tree into place. Answers how many parts were taken. It is broken
+        off by a second signal only."""
         self.take_plan(parts)
         plan = self.folder.held(PLAN) if self.cost is not None else None
         gathering = Gathering(self.given.program, self.instance, self.folder.at(CERTIFICATE), self.bound, plan,
-                              self.cost, self.folder.beside(JOINED), lambda: self.signals.came)
+                              self.cost, self.folder.beside(JOINED), lambda: self.signals.came_again)
         began = time.monotonic()
         try:
             path, bound, taken = gathering.gathered([part.path(CERTIFICATE) for part in parts])

@@ -3,18 +3,23 @@ import signal
 import time
 
 STOPPING = (signal.SIGINT, signal.SIGTERM, signal.SIGHUP)
+# Signals that come within so many seconds are one: `timeout` sends two.
+APART = 1
 
 
 class Signals:
-    """Keeps that a signal to stop came: nothing is broken off by it, and who works asks for it."""
+    """Keeps that a signal to stop came, and that another one came later: nothing is broken off by it, and who works
+    asks for it."""
 
     def __init__(self):
-        self.came = False
+        self.came, self.came_again, self.first = False, False, None
         for number in STOPPING:
             signal.signal(number, self.keep)
 
     def keep(self, number, frame):
-        self.came = True
+        now = time.monotonic()
+        self.first = now if self.first is None else self.first
+        self.came, self.came_again = True, now - self.first >= APART
 
 
 class Patience:
