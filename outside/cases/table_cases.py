@@ -8,7 +8,7 @@ FURTHER = 6
 PARTS = ["School", "Café", "O'Neill", "a & b", "<b>", "Straße 5", "Łódź", "№ 7", "1", "12", "x", "ready", "Ω", "日本",
          "-", "%", "Route", "0", "a->b", "=1+1"]
 AMBIGUOUS = ["1,000", "12,345", "-1,000", "+7,125"]
-WRONG_CLOCKS = ["6:60", "6:5", ":30", "-1:00", "13:00 AM", "0:30 pm", "6:00:60", "6h30", "1000:00"]
+WRONG_CLOCKS = ["6:60", "6:5", ":30", "-1:00", "13:00 AM", "0:30 pm", "6:00:60", "6h60", "6.5 Uhr", "1000:00"]
 
 
 def name_drawn(random, separator):
@@ -49,6 +49,9 @@ class Dialect:
         sign, tenths = "-" if value < 0 else "", abs(value)
         if field in (READY, DUE, SERVICE) and self.has_clock and value < 60_000 and value % 10 == 0:
             return clock(value // 10)
+        if field in (READY, DUE, SERVICE) and self.has_clock and value < 250:
+            # What may be hours doesn't stand beside times of the day.
+            return "%s:%02d" % (clock(value // 10), value % 10 * 6)
         return "%s%d%s%d" % (sign, tenths // 10, self.point, tenths % 10)
 
     def line(self, cells, order):

@@ -123,8 +123,8 @@ def no_demand(random, lines, layout):
 
 def reversed_window(random, lines, layout):
     row = pick(random, lines, "row").row
-    put_field(lines, row, READY, "9", layout)
-    return put_field(lines, row, DUE, "8.0", layout)
+    put_field(lines, row, READY, "90", layout)
+    return put_field(lines, row, DUE, "89.0", layout)
 
 
 def wrong_width(random, lines, layout):

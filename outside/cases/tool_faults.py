@@ -38,6 +38,9 @@ FILES = {
     "far.csv": "lat,lon,demand,ready,due,service\n52,13,0,0,1000,0\n91,13,1,0,1000,0\n",
     "visits.csv": "x,y,demand,ready,due,service\n0,0,0,0,1000,0\n3,4,0,0,1000,0\n3,4,,0,1000,0\n3,5,1,0,1000,0\n",
     "point.csv": "x;y;demand;ready;due;service\n0;0;0;06.00;18.00;0\n1;1;1;06.30;;2\n",
+    "quarters.csv": "x;y;demand;ready;due;service\n0;0;0;0,25;0,50;0\n1;1;1;0,30;0,40;2\n",
+    "untidy.csv": "Tour;;;;;\nKunde;x;y;Menge;von;bis;Dauer;Fach\nA;0;0;;6:00;18:00;;\nB;1;1;2;7:00;8;0:10;k\n"
+                  "B;1;2;3;390;8:00;x;k\n;;;5;;;;\n",
     "moment.csv": "x;y;demand;ready;due;service\n0;0;0;6:00;18:00;0\n3;4;1;6:30:20;6:30:20;5\n",
     "below.csv": "x,y,demand,ready,due,service\n0,0,0,0,1000,0\n9999.5,0,1,0,1000,-0.4\n",
     "full.csv": "name,x,y,demand,ready,due,service\nD,0,0,,0,1000,\nA,10,0,40,0,1000,5\nB,10,5,,0,1000,5\n",
@@ -85,10 +88,10 @@ plan i.txt --into r --program nowhere|nowhere|0|met no program, wanted one that 
 plan t.csv --into r --capacity 5|t.csv|3|--vehicles
 plan geo.csv --into r --vehicles 5 --capacity 5|geo.csv|1|met degrees without a speed, wanted --speed N, in km/h
 convert geo.csv o.txt --vehicles 5 --capacity 5|geo.csv|1|met degrees without a speed
-convert far.csv o.txt --vehicles 5 --capacity 5 --speed 30|far.csv|3|met "91", wanted lat of -90 to 90
+convert far.csv o.txt --vehicles 5 --capacity 5 --speed 30|far.csv|3|met "91" in "lat", wanted lat of -90 to 90
 convert visits.csv o.txt --vehicles 5 --capacity 3333|visits.csv|3|demands 3 times as high, up to 10001
 convert moment.csv o.txt --vehicles 5 --capacity 5|moment.csv|3|no moment times 100 is whole
-convert below.csv o.txt --vehicles 5 --capacity 5|below.csv|3|met "-0.4", wanted a service time
+convert below.csv o.txt --vehicles 5 --capacity 5|below.csv|3|met "-0.4" in "service", wanted a service time of 0 to 1000000
 convert t.csv o.txt --vehicles 5 --capacity 5 --speed 30|t.csv|0|met --speed and no lat and lon, wanted both or none
 convert i.txt o.vrp --detour 1.2|i.txt|0|met --detour and no lat and lon, wanted both or none
 convert t.csv o.txt --vehicles 5 --capacity 5 --column due=bis|t.csv|1|met no column "bis", wanted the one of --column
@@ -108,14 +111,19 @@ convert i.xml o.txt|i.xml|0|met the ending ".xml", wanted .txt, .vrp, .csv, or a
 convert i.txt o|o|0|met the ending "", wanted .txt, .vrp, .csv, or a layout by --to
 convert t.csv o.txt --capacity 5|t.csv|3|--vehicles
 convert t.csv o.txt --vehicles 5|t.csv|3|--capacity
-convert half.csv o.txt --vehicles 5 --capacity 5 --scale 3|half.csv|3|times 3
+convert half.csv o.txt --vehicles 5 --capacity 5 --scale 3|half.csv|3|met "3.5" in "x", wanted x, a whole number by --scale 3
 convert i.txt o.vrp --scale 1001|i.txt|7|times 1001
-convert end.csv o.txt --vehicles 5 --capacity 5|end.csv|1|met no column "due", wanted
+convert end.csv o.txt --vehicles 5 --capacity 5|end.csv|1|met no column "due", and headings that aren't known: "end", wanted
 convert plain.csv o.txt --vehicles 5 --capacity 5|plain.csv|1|met no column "ready", "due", wanted
-convert plain.csv o.txt --vehicles 5 --capacity 5 --horizon 10001 --scale 100|plain.csv|2|"10001" times 100
+convert plain.csv o.txt --vehicles 5 --capacity 5 --horizon 10001 --scale 100|plain.csv|2|met "10001" by --horizon of the depot, wanted at most 10000
 convert t.csv o.txt --vehicles 5 --capacity 5 --horizon 5|t.csv|1|met windows, and --horizon, wanted one of both
 convert i.txt o.txt --horizon 5|i.txt|7|met windows, and --horizon, wanted one of both
-convert sep.csv o.txt --vehicles 5 --capacity 5|sep.csv|4|met "1,000", whose comma may part thousands or decimals,
+convert quarters.csv o.txt --vehicles 5 --capacity 5|quarters.csv|2|\
+met "0,25" in "ready" of the depot, which may be 00:25, 06:00 or the number 0.25, wanted
+convert untidy.csv o.txt --vehicles 5 --capacity 5|untidy.csv|4|\
+met "8" in "bis" of B, which may be 08:00 or the number 8, wanted all in one spelling
+convert untidy.csv o.txt --vehicles 5 --capacity 5|untidy.csv|5|met "x" in "Dauer" of B, wanted a service time, as 0:10 or
+convert sep.csv o.txt --vehicles 5 --capacity 5|sep.csv|4|met "1,000" in "x", whose comma may part thousands or decimals,
 convert day.csv o.txt --vehicles 5 --capacity 5|day.csv|4|"7:61"
 convert t.csv o.txt --vehicles 5 --capacity 5 --names n.csv|t.csv|1|met no column "name" or "customer", wanted
 convert end.csv end.csv|end.csv|0|met the file that is read, wanted another one to write
@@ -132,7 +140,10 @@ draw i.txt p.txt --names nowhere|nowhere|0|No such file or directory
 respell nowhere.txt p.txt|nowhere.txt|0|No such file or directory
 respell i.txt nowhere.txt|nowhere.txt|0|No such file or directory
 respell bad.txt p.txt|bad.txt|8|BadNumber
-respell t.csv p.txt|t.csv|2|BadWord
+respell t.csv p.txt|t.csv|1|met a table, wanted an instance: convert it first
+why t.csv|t.csv|1|met a table, wanted an instance: convert it first (outside/convert t.csv instance.txt), or use
+fewest t.csv --into r|t.csv|1|met a table, wanted an instance: convert it first
+draw t.csv p.txt|t.csv|1|met a table, wanted an instance: convert it first
 respell i.txt lacks.txt|lacks.txt|2|no customer 2
 respell i.txt unknown.txt|unknown.txt|3|no customer 2
 respell i.txt twice.txt|twice.txt|2|customer 1 again, after line 1
@@ -172,7 +183,7 @@ timetable - - < i.txt|standard input|0|met a closed one, or it for a second file
 timetable i.txt - <&-|standard input|0|met a closed one, or it for a second file, wanted it open and once
 draw small.txt - < p.txt|standard input|1|met a route with a load of 2
 recheck other.txt - < k.txt|standard input|2|another instance
-convert - o.txt --from csv --vehicles 5 --capacity 5 < end.csv|standard input|1|met no column "due", wanted
+convert - o.txt --from csv --vehicles 5 --capacity 5 < end.csv|standard input|1|met no column "due", and headings that aren't known: "end", wanted
 convert - o.txt < i.txt|-|0|met the ending "", wanted .txt, .vrp, .csv, or a layout by --from
 convert i.txt - --to csv --names -|-|0|met the file of the instance, wanted another one to write
 respell i.txt - --certificate - < p.txt|-|0|met the stream of the plan, wanted another one to write
@@ -226,7 +237,7 @@ draw i.txt cr.txt|cr.txt: lines end in a carriage return and a line feed
 recheck i.txt k.txt cr.txt|cr.txt: lines end in a carriage return and a line feed
 carry i.txt cut.txt other.txt|cut.txt: the last line has no line feed
 report i.txt cr.txt k.txt|cr.txt: lines end in a carriage return and a line feed
-convert point.csv - --to ours --vehicles 5 --capacity 5|times such as 06.00 (line 2) are numbers with decimals; those of
+convert point.csv - --to ours --vehicles 5 --capacity 5|times such as "06.00" (line 2) are taken as times of the day, here 06:00
 convert half.csv - --to ours --vehicles 5 --capacity 5|multiplied by 10, the least power of ten
 convert - - --from csv --to ours --vehicles 5 --capacity 5 < half.csv|multiplied by 10, the least power of ten
 """

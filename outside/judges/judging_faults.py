@@ -3,7 +3,7 @@ import os
 import re
 
 from cases.tool_faults import FAULTS, FILES
-from judges.judging_layouts import demand_refusal
+from judges.judging_layouts import demand_refusal, demand_refusals
 from judges.running import demand, got, put, run, shown
 from tools.places import OUTSIDE
 
@@ -28,7 +28,9 @@ def judge_refused(folder, words, path, line, part):
         right = "outside/%s: %s: %s\n" % (words.split()[0], path, part)
         demand(came == (b"", right, 1), "%s: %r, and %r is right" % (words, came, right))
     else:
-        demand_refusal(words.split()[0], path, int(line), came)
+        # Of a table all faults are told.
+        judge = demand_refusals if path.endswith(".csv") else demand_refusal
+        judge(words.split()[0], path, int(line), came)
         demand(part in came[1], "%s: %r, and it is of %r" % (words, came, part))
     held = {name: got(os.path.join(folder, name)) for name in FILES}
     demand(all(held[name] == text.encode() for name, text in FILES.items()), "%s changed a file" % words)

@@ -32,6 +32,16 @@ def demand_refusal(name, path, line, came):
            "%s: %r, and line %d is wrong" % (name, errors, line))
 
 
+def demand_refusals(name, path, line, came):
+    """A line for each fault of a table, of which one is in this line; else as above."""
+    out, errors, status = came
+    head, told = "outside/%s: %s: line " % (name, path), errors.splitlines()
+    demand((out, status) == (b"", 1), "%s isn't refused: status %d, %r" % (name, status, errors))
+    demand(all(one.startswith(head) and ": met " in one and ", wanted " in one for one in told[:20]) and len(told) <= 21
+           and any(one.startswith("%s%d: " % (head, line)) for one in told), "%s: %r, and line %d is wrong" % (
+               name, errors, line))
+
+
 def options_of(instance):
     """What a table doesn't hold."""
     return ["--name=" + instance.name.decode(), "--vehicles", str(instance.fleet), "--capacity", str(instance.capacity)]

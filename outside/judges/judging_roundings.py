@@ -6,7 +6,7 @@ import re
 from fractions import Fraction
 
 from cases.exact_tables import DUE, POWERS, READY, SERVICE, X, Y, ExactTable, all_plans, power_for, spelled
-from judges.judging_layouts import demand_notes, demand_refusal, tool
+from judges.judging_layouts import demand_notes, demand_refusals, tool
 from judges.judging_tables import plan_text
 from judges.running import demand, got, put
 from reference.instances import is_plan, plan_cost, read, route_cost, walk
@@ -106,7 +106,7 @@ def demand_numbers(drawn, instance, errors):
         for gap in (row[READY] // 10 - ready, due - row[DUE] // 10, row[SERVICE] // 10 - service):
             demand(0 <= gap < 1, "%r of %r times %d" % (row, right, scale))
             off.append(gap)
-    told = re.search(r"note: ([0-9]+) numbers are rounded, by at most ([0-9.]+) ", errors)
+    told = re.search(r"([0-9]+) numbers are rounded, by at most ([0-9.]+) ", errors)
     count = sum(gap > 0 for gap in off)
     demand(bool(told) == (count > 0), "%d numbers are off: %r" % (count, errors))
     if told:
@@ -166,9 +166,9 @@ def demand_shown(drawn, instance, plan, words):
     """The timetable has begins and distances in the units of the table: times of the day cut to the minute, or else
     numbers with the digits of a tenth of a unit."""
     digits, one = len(str(drawn.scale - 1)) + 1 if drawn.scale > 1 else 1, 10 * drawn.scale
-    out, errors, status = tool("timetable", *words, "--csv")
+    out, errors, status = tool("timetable", *words, "--csv", "--depart", "early")
     demand(status == 0, "timetable: status %d, %r" % (status, errors))
-    stops, sums = (list(csv.DictReader(part.splitlines())) for part in out.decode().split("\n\n"))
+    stops, sums, _ = (list(csv.DictReader(part.splitlines())) for part in out.decode().split("\n\n"))
     begins = [time for route in plan for part in [walk(instance, route)] for time in part[0] + [part[1]]]
     right = ["%02d:%02d" % divmod(time // one, 60) if drawn.is_clock() else told(Fraction(time, one), digits)
              for time in begins]
@@ -192,7 +192,7 @@ def judge_roundings(folder, random):
     line, (out, errors, status) = drawn.wrong_line(), came
     if line is not None:
         at = re.search(r": line ([0-9]+): met ", errors)
-        demand_refusal("convert", source, int(at[1]) if line < 0 and at else line, came)
+        demand_refusals("convert", source, int(at[1]) if line < 0 and at else line, came)
         demand(got(target) is None, "convert wrote a file after a refusal")
         return "refused"
     demand((out, status) == (b"", 0), "convert: status %d, %r" % (status, errors))

@@ -6,7 +6,7 @@ import re
 from fractions import Fraction
 
 from cases.exact_tables import DEMAND, DUE, ExactTable, all_plans, power_for
-from judges.judging_layouts import demand_notes, demand_refusal, tool
+from judges.judging_layouts import demand_notes, demand_refusals, tool
 from judges.judging_tables import plan_text
 from judges.running import demand, got, put
 from reference.instances import is_plan, plan_cost, read
@@ -160,7 +160,7 @@ def judge_visits(folder, random):
                 str(table.capacity))
     line = wrong_line(table)
     if line is not None:
-        demand_refusal("convert", source, line, came)
+        demand_refusals("convert", source, line, came)
         demand(got(target) is None, "convert wrote a file after a refusal")
         return "refused"
     out, errors, status = came

@@ -26,6 +26,12 @@ ROWS = [
     ("check i.txt nowhere", "nowhere isn't there"),
     ("check i.txt k.txt --solution sub", "sub is a folder"),
 ]
+# The same of an instance that is a table, behind the program's line of that.
+TABLE = "vrptw: instance: BadWord line 2\n"
+TABLES = [
+    ("check t.csv k.txt", "t.csv is a table: convert it first (outside/convert t.csv instance.txt), or use "
+     "outside/plan"),
+]
 # Words of which the launcher says nothing, with the status and the line.
 RIGHT = [
     ("solve i.txt new.txt c.txt --turns 1", 0, "BEST 20.0\n"),
@@ -60,12 +66,12 @@ KEPT = [
     ("solve i.txt c.txt --start p.txt >>p.txt", 2, ""),
     ("check i.txt k.txt --solution p.txt >o.txt", 1, "GAP 20.0 0.0\n"),
 ]
-LAUNCHES = ([("wrong", *row) for row in ROWS] + [("right", *row) for row in RIGHT + KEPT]
+LAUNCHES = ([("wrong", *row) for row in ROWS] + [("table", *row) for row in TABLES] + [("right", *row) for row in RIGHT + KEPT]
             + [("stream", *row) for row in STREAMS] + COPIES)
 
 
 def fitted_out(folder):
-    for name in ("i.txt", "p.txt", "k.txt"):
+    for name in ("i.txt", "p.txt", "k.txt", "t.csv"):
         put(os.path.join(folder, name), FILES[name].encode())
     os.mkdir(os.path.join(folder, "sub"))
     os.symlink("p.txt", os.path.join(folder, "link.txt"))
@@ -89,13 +95,13 @@ def launched(folder, words, has_terminal):
     return came.stdout.decode(), errors[:-1].decode().replace("\r\n", "\n"), came.returncode
 
 
-def judge_refused(folder, words, told, has_terminal):
+def judge_refused(folder, words, told, has_terminal, line=FILE, ends=6):
     """The program's line, and on a terminal the launcher's; nothing is emptied or written."""
     out, errors, status = launched(folder, words, has_terminal)
     # Where standard error goes to a file, the line stands there alone.
     said = (got(os.path.join(folder, "o.txt")) or b"").decode()
-    right = FILE + ("vrptw: %s\n" % told if told and has_terminal else "")
-    demand((out, errors + said, status) == ("", right, 6), "%s: %r, and %r is right" % (words, errors + said, right))
+    right = line + ("vrptw: %s\n" % told if told and has_terminal else "")
+    demand((out, errors + said, status) == ("", right, ends), "%s: %r, and %r is right" % (words, errors + said, right))
     for name, text in [*((name, FILES[name].encode()) for name in ("i.txt", "p.txt", "k.txt")), ("c.txt", None)]:
         demand(got(os.path.join(folder, name)) == text, "%s changed %s" % (words, name))
 
@@ -115,7 +121,8 @@ def judge_launch(folder, seed):
     for has_terminal in (False, True):
         fitted_out(folder)
         here = [part.replace("%s", folder) if isinstance(part, str) else part for part in (words, *told)]
-        (judge_kept if kind == "right" else judge_refused)(folder, *here, has_terminal)
+        more = [TABLE, 3] if kind == "table" else []
+        (judge_kept if kind == "right" else judge_refused)(folder, *here, has_terminal, *more)
         for name in os.listdir(folder):
             path = os.path.join(folder, name)
             (os.rmdir if os.path.isdir(path) else os.remove)(path)

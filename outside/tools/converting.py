@@ -4,8 +4,9 @@ import os
 from fractions import Fraction
 
 from tools import csv_layout, names, solomon_layout, vrplib_layout
+from tools.clock_times import minutes_of
 from tools.layouts import MOST_CAPACITY, MOST_FLEET, MOST_SCALE, MOST_TIME, Quantities, problem_of
-from tools.table import minutes_of
+from tools.noting import grouped
 from tools.tool import Refused, Text, count, number, quoted
 from tools.units import Units
 
@@ -84,6 +85,8 @@ def add_words(found):
                        help="how much longer roads are than the straight line; else 1.3")
     found.add_argument("--column", dest="columns", type=column, action=Columns, default={}, metavar="OURS=THEIRS",
                        help="a column that has another heading there, as name=Kunde")
+    found.add_argument("--times-as-numbers", action="store_true",
+                       help="times without a colon are numbers, even where they look like times of the day")
 
 
 def layout(path, given, option):
@@ -104,9 +107,9 @@ def read_problem(given, source_layout, keeps_names, needs_names):
         if value is not None and not quantities.is_projected:
             raise Refused("%s: met %s and no lat and lon, wanted both or none" % (text.path, option))
     problem, notes = problem_of(text, quantities, found, given)
-    return problem, notes + ([quantities.noted_scale()] if (given.scale or 1) > 1 else [])
+    return problem, grouped(notes + ([quantities.noted_scale()] if (given.scale or 1) > 1 else []))
 
 
 def table_of(own):
     """The table of names, with what more is known."""
-    return names.table_of(own, own.headings, own.further, own.units)
+    return names.table_of(own, own.headings, own.further, own.units, own.separator)

@@ -1,65 +1,88 @@
-"""The numbers of a table: what an empty field stands for, shifts over midnight, and the scale that makes all whole."""
+"""The numbers of a table: times of the day, what an empty field stands for, and shifts over midnight."""
 from fractions import Fraction
-from math import ceil, floor
 
-from tools.layouts import HINT, MOST_CAPACITY, MOST_COORDINATE, MOST_TIME
-from tools.table import decimal, degrees, minutes_of, moment
+from tools.clock_times import DAY, length_of, minutes_of, read_lengths, read_windows
+from tools.table import decimal, degrees
 from tools.tool import Cell, quoted
-from tools.units import at_most
 
-DAY = 24 * 60
-READERS = {"ready": moment, "due": moment, "service": moment, "lat": degrees, "lon": degrees}
-WHATS = {"x": "x", "y": "y", "demand": "a demand", "ready": "a ready time", "due": "a due date",
-         "service": "a service time"}
-TIMES, PLACES = ("ready", "due", "service"), ("x", "y")
-# Powers of ten that are tried as scales of coordinates and times, and of demands.
-POWERS = [10 ** power for power in range(5)]
+WHATS = {"x": "x, a number", "y": "y, a number", "demand": "a demand, a number", "lat": "degrees, a number",
+         "lon": "degrees, a number", "ready": "a ready time, as 06:30 or a number",
+         "due": "a due date, as 06:30 or a number", "service": "a service time, as 0:10 or a number of minutes"}
+WINDOW, TIMES, PLACE = ["ready", "due"], ("ready", "due", "service"), ["x", "y"]
 
 
 class Values:
-    """The fields of each row by their columns, with the line, as words that know their numbers. Notes tell what stands
-    for empty fields."""
+    """The fields of each row by their columns, with the line, as words that know their numbers. What is wrong with them
+    is kept as faults. Notes tell what stands for empty fields."""
 
-    def __init__(self, table, quantities):
-        self.table, self.text, self.notes, self.is_clock = table, table.text, [], False
-        self.quantities = quantities
+    def __init__(self, table, quantities, faults):
+        self.table, self.text, self.faults, self.notes = table, table.text, faults, []
+        self.quantities, self.is_projected = quantities, "lat" in table.columns
+        # By their lines the columns for whose empty fields others stand.
+        self.filled = {}
         self.rows = [(line, self.row(line, fields)) for line, fields in table.rows]
+        self.is_clock = self.times()
         self.fill()
+        self.judge_numbers()
         self.over_midnight()
 
     def row(self, line, fields):
+        """The cells of a row, without a number where none was read."""
         found = {}
         for column in self.table.columns:
-            field = fields[self.table.heading.index(column)]
-            found[column] = READERS.get(column, decimal)(self.table, line, field)
-            self.is_clock = self.is_clock or column in TIMES[:2] and minutes_of(field) is not None
-        for column in TIMES[:2]:
-            if column not in found:
-                word = self.quantities.end_of_day(column)
-                found[column] = Cell(word, Fraction(word))
-                self.is_clock = self.is_clock or self.quantities.is_clock
+            field = found[column] = Cell(self.table.field(fields, column), None)
+            sure = length_of if column == "service" else minutes_of
+            if not field or column in TIMES and sure(field) is not None:
+                continue
+            with self.faults.kept(line, column):
+                found[column] = (degrees if column in ("lat", "lon") else decimal)(self.table, line, field)
         return found
+
+    def cells(self, columns):
+        return [row[column] for _, row in self.rows for column in columns]
+
+    def times(self):
+        """Reads the times of all rows; answers whether windows are times of the day. Without windows the day is that of
+        the horizon."""
+        def fields(columns):
+            return [(line, column, row[column]) for line, row in self.rows for column in columns if column in row]
+        as_numbers = self.quantities.as_numbers
+        if WINDOW[0] in self.table.columns:
+            is_clock, notes = read_windows(fields(WINDOW), self.faults, self.is_projected, as_numbers)
+        else:
+            is_clock, notes = self.quantities.is_clock, []
+            for _, row in self.rows:
+                for column in WINDOW:
+                    word = self.quantities.end_of_day(column)
+                    row[column] = Cell(word, Fraction(word))
+        is_told = is_clock and WINDOW[0] in self.table.columns
+        self.notes += notes + read_lengths(fields(["service"]), self.faults, is_told, as_numbers)
+        return is_clock
 
     def fill(self):
         """Puts the depot's window in the place of an empty one, and 0 in that of an empty demand."""
-        depot, empty = self.rows[0][1], {}
+        depot, none = self.rows[0][1], Cell("", Fraction(0))
         for line, row in self.rows:
-            for column in ("demand", *TIMES):
-                if row[column] or row[column].value is not None or column == "service" and row is not depot:
-                    continue
-                if column in TIMES[:2]:
-                    row[column] = Cell(depot[column], depot[column].value) if row is not depot else row[column]
-                    empty.setdefault("window", line)
-                else:
-                    row[column] = Cell("", Fraction(0))
-        if "window" in empty and self.rows[0][1]["ready"].value is not None:
-            self.notes.append("an empty field of a window is the depot's (line %d)" % empty["window"])
+            usual = {"demand": none, **({"service": none} if row is depot else {
+                column: Cell(depot[column], depot[column].value) for column in WINDOW})}
+            self.filled[line] = {column for column in usual if not row[column]}
+            row.update({column: usual[column] for column in self.filled[line]})
+        first = next((line for line, columns in self.filled.items() if columns & set(WINDOW)), None)
+        if first and depot["ready"].value is not None:
+            self.notes.append("an empty field of a window is the depot's (line %d)" % first)
+
+    def judge_numbers(self):
+        """Keeps each field that is no number as a fault; what an empty one has of the depot is told there."""
+        for line, row in self.rows:
+            for column in WHATS:
+                if column in row and row[column].value is None and column not in self.filled[line]:
+                    self.faults.add(line, column, quoted(row[column]), WHATS[column])
 
     def over_midnight(self):
         """Times after midnight are those of the next day where the depot's window ends before it begins."""
         depot = self.rows[0][1]
-        if None in map(minutes_of, (depot["ready"], depot["due"])) or None in [
-                row[column].value for _, row in self.rows for column in TIMES[:2]]:
+        is_of_day = depot["ready"].is_clock and depot["due"].is_clock
+        if not is_of_day or None in [cell.value for cell in self.cells(WINDOW)]:
             return
         opens, shuts, twice = depot["ready"].value, depot["due"].value, []
         if shuts >= opens or max(opens, shuts) >= DAY:
@@ -78,91 +101,8 @@ class Values:
             self.notes.append("windows that the depot's hours meet on both days are those of the first day alone: %d, "
                               "the first in line %d" % (len(twice), twice[0]))
 
-    def demand_numbers(self):
-        """Refuses the first field that is no number."""
-        for line, row in self.rows:
-            for column, what in WHATS.items():
-                if row[column].value is None:
-                    self.text.refuse(line, quoted(row[column]), "%s, a number" % what)
-
-    def cells(self, columns):
-        return [row[column] for _, row in self.rows for column in columns]
-
 
 def is_lost(window, hours, taken):
     """Whether a part of a window lies in the depot's hours and not in the window that is taken."""
     first, last = max(window[0], hours[0]), min(window[1], hours[1])
     return first <= last and not taken[0] <= first <= last <= taken[1]
-
-
-def is_whole(cells, scale):
-    return all((cell.value * scale).denominator == 1 for cell in cells)
-
-
-def fits(values, scale):
-    """Whether the limits hold all numbers multiplied by the scale, coordinates below 0 moved."""
-    for axis in PLACES:
-        found = [cell.value for cell in values.cells([axis])]
-        if (max(found) - min(0, *found)) * scale > MOST_COORDINATE:
-            return False
-    return max(cell.value for cell in values.cells(TIMES)) * scale <= MOST_TIME
-
-
-def fitting(values, quantities):
-    """Chooses the scales where none is given: the least power of ten by which all numbers are whole, else the finest
-    that the limits hold. Answers what is noted."""
-    whole = values.cells(PLACES + TIMES)
-    values.demand_numbers()
-    notes = demands(values, quantities)
-    if quantities.is_scaled:
-        return notes
-    held = [scale for scale in POWERS if fits(values, scale)]
-    exact = [scale for scale in POWERS if is_whole(whole, scale)]
-    if held and exact and exact[0] in held:
-        quantities.scale = exact[0]
-        return notes + ([quantities.noted_scale("the least power of ten that makes all whole")]
-                        if exact[0] > 1 else [])
-    if held:
-        quantities.scale = held[-1] if not quantities.is_projected else min(held[-1], 100)
-        if quantities.scale > 1:
-            notes.append(quantities.noted_scale(None if quantities.is_projected else "as finely as the limits allow"))
-        notes += rounded(values, quantities.scale, "minutes" if quantities.is_projected else "units")
-    return notes
-
-
-def nearest(value):
-    return floor(value + Fraction(1, 2))
-
-
-# How what isn't whole is rounded: no service begins before its window or after it, or is cut short.
-WAYS = {"x": nearest, "y": nearest, "ready": ceil, "due": floor, "service": ceil}
-
-
-def rounded(values, scale, measure):
-    """Rounds what isn't whole; a window in which nothing is whole then is refused. Answers what is noted."""
-    count, most = 0, Fraction(0)
-    for line, row in values.rows:
-        is_window = row["ready"].value <= row["due"].value
-        for column, way in WAYS.items():
-            value = row[column].value * scale
-            # A time below 0 is refused later.
-            if value.denominator > 1 and (value > 0 or column in PLACES):
-                count, most = count + 1, max(most, abs(way(value) - value))
-                row[column] = Cell(row[column], Fraction(way(value), scale))
-        if is_window and row["due"].value < row["ready"].value:
-            values.text.refuse(line, "a window from %s to %s, in which no moment times %d is whole" % (
-                quoted(row["ready"]), quoted(row["due"]), scale), "one in which one is" + HINT)
-    values.quantities.is_rounded = True
-    return ["%d numbers are rounded, by at most %s %s: places to the nearest, windows inwards, services up. What is "
-            "proved is proved of the rounded numbers" % (count, at_most(most / scale), measure)]
-
-
-def demands(values, quantities):
-    """Chooses the power of ten that makes demands whole, as far as the capacity has room. Answers what is noted."""
-    cells = values.cells(["demand"])
-    exact = [scale for scale in POWERS if is_whole(cells, scale)]
-    if not exact or exact[0] == 1 or quantities.capacity_given is None or (
-            quantities.capacity_given * exact[0] > MOST_CAPACITY):
-        return []
-    quantities.demand_scale = exact[0]
-    return ["demands and the capacity are multiplied by %d, so that all are whole" % exact[0]]

@@ -1,7 +1,10 @@
 """Places by latitude and longitude, laid out flat about the depot, in minutes of driving."""
 from fractions import Fraction
 from math import asin, cos, pi, radians, sin, sqrt
+from statistics import median
 
+from tools.layouts import MOST_COORDINATE
+from tools.noting import ROUNDED, Note
 from tools.tool import Cell, quoted
 from tools.units import at_most
 
@@ -11,6 +14,9 @@ DEGREE = RADIUS * pi / 180
 LIMITS = {"lat": 90, "lon": 180}
 # Places are laid out to so many parts of a minute, before the scale rounds them.
 FINE = 10 ** 6
+# How much farther than most a place is that looks swapped, and by how many kilometres at least.
+FAR, LEAST_FAR = 10, 50
+SWAPPED = "; lat and lon look swapped"
 
 
 def on_globe(first, second):
@@ -37,26 +43,78 @@ def worst(places, laid):
     return longest, most
 
 
+def middle(places):
+    """A place in the midst of most, which few wrong ones don't move."""
+    return tuple(median(column) for column in zip(*places))
+
+
+def looks_swapped(places):
+    """Of each place whether it is far from most, and would be among them with latitude and longitude exchanged."""
+    centre = middle(places)
+    ways = [on_globe(centre, place) for place in places]
+    most = max(FAR * median(ways), LEAST_FAR)
+    return [way > most and abs(place[1]) <= LIMITS["lat"] and on_globe(centre, place[::-1]) < way / FAR
+            for way, place in zip(ways, places)]
+
+
+def judge_degrees(values):
+    """Keeps what is no latitude or longitude as a fault; answers the places, None where one has a fault."""
+    places = [tuple(None if row[column].value is None else float(row[column].value) for column in LIMITS)
+              for _, row in values.rows]
+    right = [place for place in places if is_place(place)]
+    for (line, row), place in zip(values.rows, places):
+        told = SWAPPED if is_place(place[::-1]) and is_among(place[::-1], right) else ""
+        for column, limit in LIMITS.items():
+            if row[column].value is not None and abs(row[column].value) > limit:
+                values.faults.add(line, column, quoted(row[column]), "%s of -%d to %d%s" % (
+                    column, limit, limit, told))
+    return places if len(right) == len(places) else None
+
+
+def is_place(place):
+    """Whether both numbers are there and within their limits."""
+    return None not in place and all(abs(own) <= limit for own, limit in zip(place, LIMITS.values()))
+
+
+def is_among(place, others):
+    """Whether a place is near the middle of others, as far as there are some."""
+    if not others:
+        return True
+    centre = middle(others)
+    return on_globe(centre, place) <= max(LEAST_FAR, FAR * median(on_globe(centre, other) for other in others))
+
+
+def judge_extent(values, places, laid, minutes):
+    """Keeps places that are too far from most to be held as faults, with what they look like."""
+    if all(max(column) - min(column) <= MOST_COORDINATE / minutes for column in zip(*laid)):
+        return
+    centre = middle(places)
+    ways, swapped = [on_globe(centre, place) for place in places], looks_swapped(places)
+    farthest = max(ways)
+    for (line, row), way, is_swapped in zip(values.rows, ways, swapped):
+        if is_swapped or not any(swapped) and way > farthest / 2:
+            values.faults.add(line, None, "lat %s and lon %s, %.0f km from the others" % (
+                quoted(row["lat"]), quoted(row["lon"]), way), "places at most %.0f km apart%s" % (
+                    MOST_COORDINATE / minutes, SWAPPED if is_swapped else ""))
+
+
 def laid_out(values, quantities):
     """Puts x and y in minutes of driving into the rows; answers what is noted."""
-    places = []
-    for line, row in values.rows:
-        for column, limit in LIMITS.items():
-            cell = row[column]
-            if cell.value is None or abs(cell.value) > limit:
-                values.text.refuse(line, quoted(cell), "%s of -%d to %d" % (column, limit, limit))
-        places.append((float(row["lat"].value), float(row["lon"].value)))
+    places = judge_degrees(values)
     if quantities.speed is None:
+        values.faults.refuse()
         values.text.refuse(values.table.line, "degrees without a speed", "--speed N, in km/h")
-    laid = flat(places)
+    quantities.is_projected = True
+    if places is None:
+        return []
+    laid, minutes = flat(places), 60 * quantities.detour / quantities.speed
+    judge_extent(values, places, laid, float(minutes))
     least = [min(place[axis] for place in laid) for axis in (0, 1)]
-    minutes = 60 * quantities.detour / quantities.speed
     for (_, row), place in zip(values.rows, laid):
         for axis, name in enumerate("xy"):
             value = Fraction(round((place[axis] - least[axis]) * float(minutes) * FINE), FINE)
             row[name] = Cell("%.2f" % float(value), value)
-    quantities.is_projected = True
     longest, most = worst(places, laid)
-    return ["places are laid out flat about the depot, the farthest two of them %.1f km apart: that is at most %s km "
-            "off, and roads are taken as %s times as long, driven at %s km/h" % (
-                longest, at_most(most), "%g" % float(quantities.detour), "%g" % float(quantities.speed))]
+    return [Note("places are laid out flat about the depot, the farthest two of them %.1f km apart: that is at most %s "
+                 "km off, and roads are taken as %s times as long, driven at %s km/h" % (
+                     longest, at_most(most), "%g" % float(quantities.detour), "%g" % float(quantities.speed)), ROUNDED)]

@@ -11,6 +11,7 @@ from fractions import Fraction
 from reference.instances import MOST_CUSTOMERS
 from tools import unservable
 from tools.names import Names
+from tools.noting import OVER, ROUNDED, Note
 from tools.tool import Found, quoted
 from tools.units import Units
 
@@ -27,8 +28,10 @@ HINT = " (--scale N multiplies coordinates and times)"
 # says, and the units of the numbers there.
 Problem = namedtuple("Problem", "name fleet capacity rows names")
 # What a layout says of an instance: the name may be None, and so may fleet, capacity and the places' names; rows by
-# their numbers there; the units there, or None; whether a stop may be without demand.
-Read = namedtuple("Read", "name fleet capacity nodes depot notes names units has_visits", defaults=(None, False))
+# their numbers there; the units there, or None; whether a stop may be without demand; and what parts
+# the fields of a table.
+Read = namedtuple("Read", "name fleet capacity nodes depot notes names units has_visits separator",
+                  defaults=(None, False, ","))
 
 
 class Quantities:
@@ -42,13 +45,15 @@ class Quantities:
         if given.horizon is not None:
             self.is_clock = given.horizon.is_clock
         self.keeps_names, self.needs_names, self.renamed = keeps_names, needs_names, given.columns
+        self.as_numbers = given.times_as_numbers
         self.speed, self.detour, self.demand_scale = given.speed, given.detour or DETOUR, 1
         self.is_projected = self.is_rounded = False
 
     def noted_scale(self, why=None):
         """What is noted of a scale."""
         told = "coordinates and times are multiplied by %d%s: costs are %d times as high in the instance, and arcs are "
-        return (told + "truncated at a tenth of the new unit") % (self.scale, ", " + why if why else "", self.scale)
+        return Note((told + "truncated at a tenth of the new unit") % (
+            self.scale, ", " + why if why else "", self.scale), ROUNDED)
 
     def refuse_horizon(self, line):
         """A text with windows, which begin in this line, has no horizon by an option."""
@@ -106,9 +111,9 @@ def in_order(text, read):
     names = read.names or Names([str(number) for number in [read.depot] + others])
     if others == list(range(read.depot + 1, read.depot + 1 + len(others))):
         return rows, names, []
-    return rows, names, [
+    return rows, names, [Note(
         "the depot's number %d becomes 0, and the other numbers, from %d to %d, become 1 to %d in their order"
-        % (read.depot, others[0], others[-1], len(others))]
+        % (read.depot, others[0], others[-1], len(others)), OVER)]
 
 
 def moved(text, rows):
@@ -124,7 +129,7 @@ def moved(text, rows):
                 text.refuse(place.line, "%s of %d above the least one" % (axis, place), "at most %d" % MOST_COORDINATE)
         found.append((*places, *row[2:]))
     told = " and ".join("%s by %d" % pair for pair in zip("xy", shifts) if pair[1])
-    return found, ["some coordinates are below 0, so all are moved, %s: distances are the same" % told]
+    return found, [Note("some coordinates are below 0, so all are moved, %s: distances are the same" % told, ROUNDED)]
 
 
 def judge_rows(text, rows, has_visits):
@@ -147,11 +152,11 @@ def name_of(path, given, there, notes):
     name = given or there
     if not name:
         name = os.path.splitext(os.path.basename(path))[0]
-        notes.append("no name of the instance stands there, so it is that of the file, %s" % quoted(name))
+        notes.append(Note("no name of the instance stands there, so it is that of the file, %s" % quoted(name), OVER))
     fits = re.sub(r"[^\x21-\x7e]+", "_", name)[:MOST_NAME]
     if fits != name:
-        notes.append("the name %s becomes %s: ours has at most %d signs, all of ASCII, and no blank"
-                     % (quoted(name), quoted(fits), MOST_NAME))
+        notes.append(Note("the name %s becomes %s: ours has at most %d signs, all of ASCII, and no blank"
+                          % (quoted(name), quoted(fits), MOST_NAME), OVER))
     return fits
 
 
@@ -199,7 +204,7 @@ def problem_of(text, quantities, read, given):
     capacity = number_of(text, "--capacity", given.capacity, read.capacity, CAPACITY, notes)
     units = read.units or Units(quantities.scale, int(quantities.is_clock))
     rows, capacity, visits, is_visited = with_visits(text, rows, capacity * units.demands)
-    names.units = Units(units.scale, units.clock, units.speed, units.demands, visits)
+    names.units, names.separator = Units(units.scale, units.clock, units.speed, units.demands, visits), read.separator
     found = Problem(name_of(text.path, given.name, read.name, notes), fleet, capacity, rows, names)
     head = "by the rounded numbers " if quantities.is_rounded else ""
-    return found, renumbered + is_moved + notes + is_visited + [head + note for note in unservable.notes(found)]
+    return found, [head + note for note in unservable.notes(found)] + renumbered + is_moved + notes + is_visited

@@ -14,11 +14,12 @@ UNKNOWN = "\ufffd"
 
 
 class Names(list):
-    """Names by number, from the depot's on; headings and fields of further columns; and the units of before."""
+    """Names by number, from the depot's on; headings and fields of further columns; the units of before; and what
+    parts the fields of their table."""
 
-    def __init__(self, names, headings=(), further=None, units=PLAIN):
+    def __init__(self, names, headings=(), further=None, units=PLAIN, separator=","):
         super().__init__(names)
-        self.headings, self.units = list(headings), units
+        self.headings, self.units, self.separator = list(headings), units, separator
         self.further = further or [[] for _ in names]
 
     def address(self, i):
@@ -48,10 +49,10 @@ def named(name, number):
     return clean(name) or (str(number) if number else "depot")
 
 
-def table_of(names, headings=(), further=None, units=PLAIN):
+def table_of(names, headings=(), further=None, units=PLAIN, separator=","):
     """The table of names, whose rows begin with the depot's; above it what the numbers were before."""
     found, further = io.StringIO(), further or [[] for _ in names]
-    csv.writer(found, lineterminator="\n").writerows(
+    csv.writer(found, delimiter=separator, lineterminator="\n").writerows(
         [[*COLUMNS, *headings], *([number, name, *more] for number, (name, more) in enumerate(zip(names, further)))])
     return units.line() + found.getvalue()
 
@@ -62,6 +63,7 @@ def names_of(path, count):
         return None
     text = Text(path, takes_others=True)
     table, found = Table(text, COLUMNS), {}
+    table.judge_widths()
     wanted = "each number of 0 to %d once" % count
     own = [table.heading.index(column) for column in COLUMNS]
     others = [place for place in range(len(table.heading)) if place not in own]
@@ -76,4 +78,4 @@ def names_of(path, count):
             text.at_end(wanted, "no name of number %d" % number)
     rows = [found[number] for number in range(count + 1)]
     return Names([name for name, _ in rows], [table.heading[place] for place in others],
-                 [further for _, further in rows], units_in(text))
+                 [further for _, further in rows], units_in(text), table.parted_by)

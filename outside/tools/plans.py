@@ -2,9 +2,10 @@
 from reference.instances import Fault, plan_cost, read
 from reference.set_texts import is_of_sets, read_either
 from reference.texts import TextFault, read_solution, shown
+from tools.headings import FEW, FIRST_LINES, known
 from tools.naming import Numbering
 from tools.respelling import customers
-from tools.timing import stops
+from tools.timing import EARLY, stops
 from tools.tool import Found, Refused, Text, quoted, remember, told_path
 
 
@@ -12,6 +13,8 @@ from tools.tool import Found, Refused, Text, quoted, remember, told_path
 EMPTY = {"a solution": "a plan (solve leaves the file empty after NO PLAN, OPEN and each fault)",
          "a certificate": "a certificate (solve leaves the file empty after each fault)"}
 WITH_SETS = "a certificate with sets"
+# How the names of tables end.
+TABLES = (".csv", ".tsv")
 
 
 def of_ours(text, reader, what):
@@ -22,10 +25,19 @@ def of_ours(text, reader, what):
         name, _, place = str(fault).partition(" ")
         kind, _, number = place.partition(" ")
         line = int(number) if kind == "line" else text.line_of(int(number)) if kind else text.last()
+        if what == "an instance" and is_table(text):
+            text.refuse(1, "a table", "an instance: convert it first (outside/convert %s instance.txt), or use "
+                        "outside/plan" % text.path)
         if not text.held and what in EMPTY:
             text.refuse(1, "an empty file", EMPTY[what])
         judge_ends(text, line, name, what)
         text.refuse(line, "%s (%s)" % (quoted(text.lines[line - 1]), name), told_place(what))
+
+
+def is_table(text):
+    """Whether a text is a table of customers."""
+    lines = [line for _, line in text.filled()][:FIRST_LINES]
+    return text.path.lower().endswith(TABLES) or any(known(line, {}) >= FEW for line in lines)
 
 
 def told_place(what):
@@ -93,7 +105,7 @@ def defects(instance, routes):
     """Why routes that serve each customer once are no plan: the number of a route, and what is wrong with it."""
     for place, route in enumerate(routes, 1):
         load = sum(instance.demand(i) for i in route)
-        late = next((stop for stop in stops(instance, route) if stop.slack < 0), None)
+        late = next((stop for stop in stops(instance, route, EARLY) if stop.slack < 0), None)
         if load > instance.capacity:
             yield place, "a route with a load of %d, and a vehicle holds %d" % (load, instance.capacity)
         elif late:

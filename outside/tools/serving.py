@@ -19,7 +19,8 @@ def reduced(instance, names, kept):
     """The instance of some customers, as its text, and their names."""
     places = [0] + kept
     rows = [instance.rows[i][:3] + tuple(time // 10 for time in instance.rows[i][3:]) for i in places]
-    own = Names([names[i] for i in places], names.headings, [names.further[i] for i in places], names.units)
+    own = Names([names[i] for i in places], names.headings, [names.further[i] for i in places], names.units,
+                names.separator)
     return write_ours(Problem(instance.name.decode(), instance.fleet, instance.capacity, rows, own)).encode(), own
 
 

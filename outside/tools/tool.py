@@ -18,6 +18,28 @@ OUTPUT = "/dev/stdout"
 class Refused(Exception):
     """Why a tool doesn't do what was asked, in one line."""
 
+    def lines(self):
+        """The lines that tell it."""
+        return [" ".join(str(self).split("\n"))]
+
+
+class Misread(Refused):
+    """What was met in a line of a text, and what was wanted."""
+
+    def __init__(self, path, line, met, wanted):
+        super().__init__("%s: line %d: met %s, wanted %s" % (path, line, met, wanted))
+        self.met, self.wanted = met, wanted
+
+
+class RefusedAll(Refused):
+    """All that is wrong, a line each."""
+
+    def __init__(self, told):
+        super().__init__("\n".join(told))
+
+    def lines(self):
+        return str(self).split("\n")
+
 
 class Found(int):
     """A whole number that knows the line in which it was met."""
@@ -29,7 +51,10 @@ class Found(int):
 
 
 class Cell(str):
-    """A word as it stands in a table, with the number that it spells there, or None."""
+    """A word as it stands in a table, with the number that it spells there, or None, and whether that is a time of the
+    day."""
+
+    is_clock = False
 
     def __new__(cls, word, value):
         found = super().__new__(cls, word)
@@ -48,6 +73,11 @@ def listed(numbers, most=12):
     """Numbers or words side by side; of many the first ones, and how many more there are."""
     told = ", ".join(str(number) for number in numbers[:most])
     return told if len(numbers) <= most else "%s and %d more" % (told, len(numbers) - most)
+
+
+def bare(value):
+    """A number without needless digits."""
+    return "%d" % value if value == int(value) else "%g" % value
 
 
 def number(word):
@@ -122,7 +152,7 @@ class Text:
         return len(re.findall(rb"\r\n|\r|\n", self.held[:offset])) + 1
 
     def refuse(self, line, met, wanted):
-        raise Refused("%s: line %d: met %s, wanted %s" % (self.path, line, met, wanted))
+        raise Misread(self.path, line, met, wanted)
 
     def last(self):
         """The number of the last line."""
@@ -265,12 +295,13 @@ def printed_file(path):
 
 def run(tool, work):
     """Does the work, which answers the text for standard output, what is noted, and perhaps a status; a refusal is one
-    line on standard error and the status 1."""
+    line on standard error, or a line for each fault of a table, and the status 1."""
     try:
         text, notes, *status = work()
         printed(text)
     except Refused as refused:
-        told("%s: %s" % (path_of(tool), " ".join(str(refused).split("\n"))))
+        for line in refused.lines():
+            told("%s: %s" % (path_of(tool), line))
         sys.exit(1)
     for note in REMEMBERED + notes:
         told("%s: note: %s" % (path_of(tool), note))
