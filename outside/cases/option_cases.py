@@ -55,6 +55,8 @@ MORE = {
     "many/options": "--turns 2\n", "many/i/instance.txt": FILES["i.txt"], "many/i/plan.txt": FILES["p.txt"],
     "many/i/certificate.txt": SETS, "many/i/line.txt": "BEST 20.0\n", "many/i/errors.txt": "",
     "many/i/done.txt": "0 12 here\n",
+    # A customer whose window opens at 100: who leaves at 95.0 doesn't wait.
+    "waits.txt": FILES["i.txt"].replace("3 4 1 0", "3 4 1 100"),
     # Both customers in vehicles that hold twenty of them in a day.
     "long.txt": FILES["i.txt"].replace("2 2", "2 20"),
     "four.txt": FOUR,
@@ -65,6 +67,7 @@ MORE = {
     "best.txt": "i 20.0\n",
     "published.txt": "C101 2 20.0 hand\n",
     "machines": "localhost\n",
+    "semicolons.csv": "number;name\n0;depot\n1;a.5\n2;1.5\n",
     "german.csv": FILES["t.csv"].replace("due", "bis"),
     "list.txt": "[[0, 1]]\n",
     "grown.txt": CUT + "BOUND 10.0\nTREE\nS 1 2\nP 0 0\nP 0 0\nEND\n",
@@ -99,6 +102,9 @@ convert plain.csv o.txt --horizon 06:00-18:00 --vehicles 2 --capacity 5|0|o.txt:
 convert geo.csv o.txt --vehicles 5 --capacity 5 --speed 60 --detour 2|0|o.txt: VEHICLE
 convert german.csv o.txt --vehicles 5 --capacity 5 --column due=bis|0|o.txt: 1 3 4 1 0 1000 0
 convert end.csv o.txt --column due=end --vehicles 5 --capacity 5 --names n.csv|0|n.csv: 1,c
+convert point.csv o.txt --vehicles 5 --capacity 5 --times-as-numbers|0|o.txt: 1 10 10 1 63 180 20
+draw waits.txt p.txt --times --depart late|0|-: Driving to customer 1: 95.0 to 100.0
+draw waits.txt p.txt --times --depart early|0|-: Driving to customer 1: 0.0 to 5.0
 draw i.txt p.txt --names names.csv|0|-: </svg>
 draw i.txt p.txt --times|0|-: </svg>
 draw i.txt p.txt --tree k.txt|0|-: </svg>
@@ -121,6 +127,8 @@ plan t.csv --into d --seconds 30 --vehicles 2 --capacity 5 --from csv --name Mon
 d/instance.txt: Monday & d/instance.txt: 1 9 12 1 0 3000 0 & d/report.html: </html>
 plan plain.csv --into d --horizon 06:00-18:00 --vehicles 2 --capacity 5 --seconds 30|0|d/timetable.csv: 06:0
 plan geo.csv --into d --vehicles 5 --capacity 5 --speed 60 --detour 2 --seconds 30|0|d/plan.txt: Route #1: 1
+plan point.csv --into d --vehicles 2 --capacity 5 --times-as-numbers --seconds 30|0|d/instance.txt: 1 10 10 1 63 180 20
+plan waits.txt --into d --depart early --seconds 30|0|d/report.html: All vehicles leave when the depot opens.
 plan german.csv --into d --column due=bis --vehicles 2 --capacity 5 --seconds 30|0|d/plan.txt: Cost 10.0
 plan i.txt --into d --names names.csv --fewest --drivers --seconds 30|0|d/drivers.html: </html> & d/fewest/1.plan & \
 d/names.csv: 2,b & -: No plan does without a vehicle.
@@ -149,6 +157,7 @@ report i.txt p.txt k.txt --tree --jobs 1 -o r.html|0|r.html: <section id="the-ce
 report i.txt p.txt k.txt --tree --names names.csv --output r.html|0|r.html: <section id="the-certificates-tree">
 fewest i.txt --into f --seconds 30 ; report i.txt p.txt k.txt --fewest f -o r.html|0|\
 r.html: No plan does without a vehicle.
+report waits.txt p.txt --depart early|0|-: All vehicles leave when the depot opens.
 report i.txt p.txt k.txt --program {program}|0|-: </html>
 report i.txt p.txt sets.txt -o r.html|0|r.html: </html>
 report i.txt p.txt sets.txt --tree --jobs 1|0|-: <section id="the-certificates-tree">
@@ -164,8 +173,15 @@ set_prices small.txt c.txt two.txt --rounds 3 --neighbours 4 --seed 5 ; recheck 
 -: BEST 30.0 & c.txt: NEIGHBOURS 4
 set_prices i.txt - --rounds 0|0|-: VRPTW-SETS 1
 sheets i.txt p.txt --names names.csv -o s.html|0|s.html: </html>
+sheets waits.txt p.txt|0|-: Leaves at 95.0, back at 115.0
+sheets waits.txt p.txt --depart early|0|-: Leaves at 0.0, back at 115.0
 sheets i.txt p.txt --output s.html|0|s.html: </html>
 timetable i.txt p.txt --csv|0|-: 1,1,5.0,0.0,5.0,5.0,1,
+timetable waits.txt p.txt --csv|0|-: 1,20.0,20.0,0.0,20.0,0.0,95.0,115.0,2
+timetable waits.txt p.txt --csv --depart early|0|-: 1,20.0,115.0,95.0,20.0,0.0,0.0,115.0,2
+timetable i.txt p.txt --csv --dialect excel-de|0|-: 1;1;5,0;0,0;5,0;5,0;1;
+timetable i.txt p.txt --csv --dialect plain --names semicolons.csv|0|-: 1,1,5.0,0.0,5.0,5.0,1,
+timetable i.txt p.txt --csv --names semicolons.csv|0|-: 1;2;10,0;0,0;10,0;10,0;2;990,0;1.5
 timetable i.txt p.txt --json --names names.csv|0|-: "name": "a"
 why both.txt none.txt --names names.csv|0|-: the certificate proves it
 why both.txt none_sets.txt --names names.csv|0|-: the certificate proves it
@@ -209,6 +225,7 @@ convert geo.csv o.txt --vehicles 5 --capacity 5 --speed 0|--speed|2|met "0"
 convert geo.csv o.txt --vehicles 5 --capacity 5 --speed 30 --detour x|--detour|2|met "x"
 convert t.csv o.txt --vehicles 5 --capacity 5 --column until=due|--column|2|met "until=due"
 convert end.csv o.txt --column due=end --vehicles 5 --capacity 5 --names nowhere/n.csv|--names|1|nowhere/n.csv: No such
+draw i.txt p.txt --times --depart never|--depart|2|invalid choice: 'never'
 draw i.txt p.txt --names names2.csv|--names|1|names2.csv: line 3: met no name of number 2
 draw i.txt p.txt --tree p.txt|--tree|1|p.txt: line 1: met
 fewest i.txt --into p.txt|--into|1|p.txt: File exists
@@ -246,6 +263,7 @@ plan geo.csv --into d --vehicles 2 --capacity 5 --speed -1|--speed|2|
 plan geo.csv --into d --vehicles 2 --capacity 5 --speed 30 --detour 0|--detour|2|met "0"
 plan t.csv --into d --vehicles 2 --capacity 5 --column due|--column|2|met "due"
 plan i.txt --into d --names names3.csv|--names|1|names3.csv: line 4: met "3"
+plan i.txt --into d --depart never|--depart|2|invalid choice: 'never'
 plan i.txt --into d --searchers 0|--searchers|2|met "0"
 plan i.txt --into d --bounders 33|--bounders|2|met "33"
 plan i.txt --into d --labels 0|--labels|2|met "0"
@@ -277,6 +295,7 @@ recheck i.txt k.txt --jobs 0|--jobs|2|met "0"
 recheck i.txt k.txt --labels 0|--labels|2|met "0"
 recheck i.txt k.txt --labels 1|--labels|1|k.txt: 1 of 1 leaves have too many labels
 report i.txt p.txt k.txt -o nowhere/r.html|--output|1|nowhere/r.html: No such file
+report i.txt p.txt --depart never|--depart|2|invalid choice: 'never'
 report i.txt p.txt k.txt --names nowhere -o r.html|--names|1|nowhere: No such file
 report i.txt p.txt k.txt --fewest p.txt -o r.html|--fewest|1|p.txt: met no folder
 report i.txt p.txt k.txt --tree --jobs x -o r.html|--jobs|2|met "x"
@@ -304,8 +323,12 @@ set_prices i.txt i.txt||1|i.txt: met the file that is read
 set_prices i.txt p.txt p.txt||1|p.txt: met the file that is read
 set_prices i.txt c.txt cost.txt||1|cost.txt: line 2: met a cost of 20.1
 set_prices i.txt nowhere/c.txt||1|nowhere/c.txt: No such file
+sheets i.txt p.txt --depart never|--depart|2|invalid choice: 'never'
 sheets i.txt p.txt -o i.txt|--output|1|i.txt: met the file that is read
 sheets i.txt p.txt --names p.txt -o s.html|--names|1|p.txt: line 1: met
+timetable i.txt p.txt --csv --dialect german|--dialect|2|invalid choice: 'german'
+timetable i.txt p.txt --dialect plain||2|--dialect goes with --csv
+timetable i.txt p.txt --depart never|--depart|2|invalid choice: 'never'
 timetable i.txt p.txt --names nowhere|--names|1|nowhere: No such file
 why both.txt none.txt --names names2.csv|--names|1|names2.csv: line 3: met no name of number 2
 bench/contracts nowhere||1|git: fatal: Not a valid object name nowhere

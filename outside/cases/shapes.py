@@ -30,6 +30,24 @@ def one_moment(random, count):
     return words_of(random, fleet, count, [depot] + [rows[number] for number in range(1, count + 1)])
 
 
+def waiting(random, count):
+    """Narrow windows along drawn routes, that open when a vehicle comes or a while later; and the routes."""
+    places = [(random.randrange(30), random.randrange(30)) for _ in range(count + 1)]
+    rows, routes, left, opens = {}, [], random.sample(range(1, count + 1), count), random.choice([0, 360])
+    last = opens
+    while left:
+        routes.append([left.pop() for _ in range(random.randint(1, len(left)))])
+        at, time = 0, opens
+        for number in routes[-1]:
+            ready = time + way(places[at], places[number]) + random.choice([-3, 0, 5, 20, 90])
+            ready, service = max(0, ready), random.choice([0, 5, 7])
+            rows[number] = places[number] + (1, ready, ready + random.choice([3, 10, 25, 100]), service)
+            at, time = number, max(ready, time + way(places[at], places[number])) + service
+        last = max(last, time + way(places[at], places[0]))
+    depot = places[0] + (0, opens, last + random.choice([0, 0, 15, 300]), 0)
+    return words_of(random, count, count, [depot] + [rows[number] for number in range(1, count + 1)]), routes
+
+
 def way(a, b):
     """Whole units that suffice from one place to another one."""
     square = (a[0] - b[0]) ** 2 + (a[1] - b[1]) ** 2

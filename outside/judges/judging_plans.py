@@ -94,13 +94,13 @@ def by_walk(instance, place, route):
                shown(instance.due(i) - begin)]
 
 
-def judge_object(text, stops, sums):
+def judge_object(text, stops, sums, shares):
     """The object has the numbers of the table."""
     told = json.loads(text)
     right = [{"route": int(place), **valued(Sums._fields, row),
               "stops": [valued(Stop._fields, stop[1:]) for stop in stops if stop[0] == place]}
              for place, *row in sums[:-1]]
-    demand(told == {"routes": right, "plan": valued(Sums._fields, sums[-1][1:])}, "%r" % told)
+    demand(told == {"routes": right, "plan": {**valued(Sums._fields, sums[-1][1:]), **valued(*shares)}}, "%r" % told)
 
 
 def valued(names, words):
@@ -113,13 +113,13 @@ def judge_timetable(folder, random):
     instance, _, path, routes = drawn(folder, random)
     solution = os.path.join(folder, "solution")
     put(solution, text_of(solution_of(routes, plan_cost(instance, routes))))
-    (out, errors, status), (table, _, other) = tool("timetable", path, solution), tool(
-        "timetable", path, solution, "--csv")
+    words = ["timetable", path, solution, "--depart", "early"]
+    (out, errors, status), (table, _, other) = tool(*words), tool(*words, "--csv")
     demand((status, other) == (0, 0), "timetable: status %d and %d: %r" % (status, other, errors))
     demand_notes("timetable", errors)
-    stops, sums = ([line.split(",") for line in part.splitlines()] for part in table.decode().split("\n\n"))
-    demand(out.decode().split() == [word for row in stops + sums for word in row], "both forms differ")
-    judge_object(tool("timetable", path, solution, "--json")[0], stops[1:], sums[1:])
+    stops, sums, shares = ([line.split(",") for line in part.splitlines()] for part in table.decode().split("\n\n"))
+    demand(out.decode().split() == [word for row in stops + sums + shares for word in row], "both forms differ")
+    judge_object(tool(*words, "--json")[0], stops[1:], sums[1:], shares)
     late = set()
     for place, route in enumerate(routes, 1):
         rows = [row for row in stops[1:] if row[0] == str(place)]

@@ -41,6 +41,7 @@ class Day:
         self.far = random.choice([10_000, min(10_000, 60 * 10 ** self.digits)])
         self.centre, self.speed = (random.uniform(-60, 60), random.uniform(-179, 179)), random.choice([20, 30, 50])
         self.rows = [self.row(i) for i in range(self.count + 1)]
+        self.spelled_service = random.choice(["%d", "0:%02d", "%d min"])
 
     def row(self, i):
         """Name, address, place, demand in halves, window or None, service."""
@@ -70,7 +71,7 @@ class Day:
             [clock(random, at) for at in window] if window else ["", ""])
         demand_word = "%d" % (halves // 2) if halves % 2 == 0 else "%d.5" % (halves // 2)
         return [name, address, *words, random.choice(["", "0"]) if not halves else demand_word, *times,
-                random.choice(["%d", "0:%02d"]) % service if not is_depot else random.choice(["", "0"])]
+                self.spelled_service % service if not is_depot else random.choice(["", "0"])]
 
     def columns(self):
         return ["name", "address", *(["lat", "lon"] if self.has_degrees else ["x", "y"]), "demand", "ready", "due",
@@ -174,6 +175,20 @@ def demand_kilometres(day, instance, scale, out, routes):
         demand(abs(float(row["distance"]) - right) <= 0.0501, "%r, and %.3f km is right" % (row, right))
 
 
+def demand_dialect(plain, target, plan, names):
+    """By itself the timetable is spelled as the sheet, which had semicolons: the same fields, numbers with commas."""
+    out, errors, status = tool("timetable", target, plan, "--csv", "--names", names, "--depart", "early")
+    demand(status == 0 and out.startswith("\ufeff".encode()), "timetable: %r, status %d" % (errors, status))
+    found = list(csv.reader(out.decode("utf-8-sig").splitlines(), delimiter=";"))
+    right = list(csv.reader(plain.splitlines()))
+    for here, there in zip(found, right):
+        fits = [own == other or own == re.sub(r"^(-?[0-9]+)\.([0-9]+)$", r"\1,\2", other) and place < 9
+                for place, (own, other) in enumerate(zip(here, there))]
+        demand(len(here) == len(there) and all(fits), "%r, and %r is right" % (here, there))
+        demand(not any("." in own and re.match(r"[0-9.]+\Z", own) for own in here[:9]), "a point: %r" % here)
+    demand(len(found) == len(right), "%d lines of %d" % (len(found), len(right)))
+
+
 def judge_times(folder, random):
     """A table of a day, converted and, where each customer can be served alone, with its timetable."""
     day, capacity = Day(random), random.choice([20, 50])
@@ -196,7 +211,9 @@ def judge_times(folder, random):
     if not all(walk_times(instance, route) for route in routes):
         return kind + ", no timetable"
     put(plan, plan_text(instance, routes))
-    out, errors, status = tool("timetable", target, plan, "--csv", "--names", names)
+    out, errors, status = tool("timetable", target, plan, "--csv", "--names", names, "--depart", "early",
+                               "--dialect", "plain")
     demand(status == 0, "timetable: %r" % errors)
     demand_timetable(day, instance, scale, out.decode(), routes)
+    demand_dialect(out.decode(), target, plan, names)
     return kind

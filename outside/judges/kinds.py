@@ -16,6 +16,8 @@ from judges.judging_batches import judge_batch
 from judges.judging_breaks import judge_break
 from judges.judging_bytes import judge_bytes
 from judges.judging_carried import judge_carried
+from judges.judging_departures import judge_departures
+from judges.judging_doubts import judge_doubts, judge_faults
 from judges.judging_faults import judge_fault
 from judges.judging_fewest import judge_fewest
 from judges.judging_fleets import judge_fleets, judge_tight
@@ -29,6 +31,7 @@ from judges.judging_options import OPTIONS, judge_options
 from judges.judging_plans import judge_picture, judge_respelled, judge_timetable, judge_wrong_spelling
 from judges.judging_printouts import judge_printout, judge_wrong_printout
 from judges.judging_proofs import judge_proof
+from judges.judging_readings import judge_readings
 from judges.judging_reports import judge_report
 from judges.judging_roundings import judge_roundings
 from judges.judging_rounds import judge_rounds
@@ -130,6 +133,12 @@ KINDS = {
                       30, tools_by(judge_roundings)),
     "nights": Kind("a table with a depot open over midnight, by convert: the minutes that windows allow", 30,
                    tools_by(judge_nights)),
+    "readings": Kind("a table with times in several spellings, by convert: read as meant and noted, or refused", 30,
+                     tools_by(judge_readings)),
+    "doubts": Kind("a sheet in one of six languages with one doubtful thing, by convert: noted with its line", 30,
+                   tools_by(judge_doubts)),
+    "many_faults": Kind("a sheet with many faults, by convert: each is told as it stands there, up to twenty", 30,
+                        tools_by(judge_faults)),
     "foreseen": Kind("where convert notes that there is no plan, there is none, by all plans", 30,
                      tools_by(judge_foreseen)),
     "wrong_names": Kind("a table of names with one thing wrong: refused with its line", 30,
@@ -146,6 +155,8 @@ KINDS = {
     "wrong_printouts": Kind("another solver's print with one thing wrong: refused with its line", 40,
                             tools_by(judge_wrong_printout)),
     "timetables": Kind("a plan's times by timetable, against the walks of its routes", 25, tools_by(judge_timetable)),
+    "departures": Kind("when vehicles leave, by timetable, report, sheets and draw: later they'd be back later", 12,
+                       tools_by(judge_departures)),
     "pictures": Kind("what draw draws of a plan and of a tree, and what recheck tells of that", 12,
                      tools_by(judge_picture)),
     "reports": Kind("the page of report: complete, by itself, and by chromium what answers the pointer", 6,

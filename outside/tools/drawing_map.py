@@ -1,7 +1,8 @@
 """A plan's routes as a map: an SVG text of customers, depot and a line for each route, with a legend and a scale."""
-from reference.instances import route_cost, walk_times
+from reference.instances import route_cost
 from tools.drawing import (EDGE, HEAD, Places, boxes_beside, colour, customer_name, dash, is_hollow, of_route,
                            plural, round_step, sheet, short, text, title, told_of)
+from tools.timing import LATE, stops
 from tools.units import units_of
 
 # The longer side of a map of up to so many customers; that of more grows with them, so that numbers have room.
@@ -160,7 +161,7 @@ def legend(instance, routes, left, height, units):
     return found, LEGEND * columns
 
 
-def drawn_map(frame, instance, routes, names):
+def drawn_map(frame, instance, routes, names, depart):
     """Customers, depot and a line for each route, their numbers, and the scale."""
     spots = [frame.place(row) for row in instance.rows]
     places, radius, units = Places((0, HEAD, frame.width, frame.bottom)), frame.radius, units_of(names)
@@ -170,8 +171,8 @@ def drawn_map(frame, instance, routes, names):
     for number, route in enumerate(routes):
         found += route_lines(frame, instance, number, route, units)
     for number, route in enumerate(routes):
-        found += of_route(number, [customer_spot(frame, instance, i, number, begin, names)
-                                   for i, begin in zip(route, walk_times(instance, route)[0])])
+        found += of_route(number, [customer_spot(frame, instance, stop.stop, number, stop.begin, names)
+                                   for stop in stops(instance, route, depart)[:-1]])
     found.append(depot_spot(frame, instance, units))
     for route in routes:
         for stop, following in zip([0] + route, route + [0]):
@@ -185,9 +186,9 @@ def drawn_map(frame, instance, routes, names):
     return found + ["<g %s>" % HALO, depot, *labels, "</g>", *scale_line(frame, units)]
 
 
-def picture(instance, routes, cost, names=None):
+def picture(instance, routes, cost, names=None, depart=LATE):
     """The lines of the picture of a plan."""
     frame = Frame(instance)
     told, wide = legend(instance, routes, frame.width, frame.height, units_of(names))
     return sheet(frame.width + wide, frame.height, told_of(instance, routes, cost, names),
-                 drawn_map(frame, instance, routes, names) + told)
+                 drawn_map(frame, instance, routes, names, depart) + told)

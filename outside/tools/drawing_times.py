@@ -1,7 +1,7 @@
 """A plan's routes as bars over time, beside their map: driving, waiting and service, and the windows above them."""
 from tools.drawing import EDGE, HEAD, colour, customer_name, dash, of_route, sheet, text, title, told_of
 from tools.drawing_map import Frame, drawn_map, legend_rows
-from tools.timing import stops
+from tools.timing import LATE, leaving, stops
 from tools.units import units_of
 
 WIDE, LABEL, AXIS, FIGURES = 800, 48, 40, 185
@@ -15,11 +15,11 @@ CUT = "; an arrow where one goes on"
 
 
 class Scale:
-    """Where a time stands in the picture: from the depot's opening to the last return."""
+    """Where a time stands in the picture: from the depot's opening to the last return; and when vehicles leave."""
 
-    def __init__(self, instance, routes, left, wide=WIDE):
-        self.first, self.left = instance.ready(0), left + LABEL
-        self.last = max([stops(instance, route)[-1].end for route in routes] + [self.first + 1])
+    def __init__(self, instance, routes, left, wide=WIDE, depart=LATE):
+        self.first, self.left, self.depart = instance.ready(0), left + LABEL, depart
+        self.last = max([stops(instance, route, depart)[-1].end for route in routes] + [self.first + 1])
         self.right = self.left + wide - LABEL
         cut = [i for route in routes for i in route
                if instance.ready(i) < self.first or instance.due(i) > self.last]
@@ -54,7 +54,7 @@ class Lane:
     def spans(self, route):
         """Where the services of a route begin and end, and how many digits their customers' numbers have."""
         return [(self.scale.at(stop.begin), self.scale.at(stop.end), len(str(stop.stop)))
-                for stop in stops(self.instance, route)[:-1]]
+                for stop in stops(self.instance, route, self.scale.depart)[:-1]]
 
     def numbers(self, routes):
         """All numbers stand in the bars where they fit, else above them where they fit, else nowhere."""
@@ -130,7 +130,8 @@ def service(lane, stop, top, row):
 def bars(lane, number, route, top):
     """A route's bar in the lower half of its lane, and its windows in the upper one."""
     scale, instance, thick, moment = lane.scale, lane.instance, lane.thick, lane.units.moment
-    middle, hue, left, found = top + BAR * lane.high, colour(number), instance.ready(0), stops(instance, route)
+    middle, hue, found = top + BAR * lane.high, colour(number), stops(instance, route, scale.depart)
+    left = leaving(instance, route, scale.depart)
     levels = levels_of(instance, found[:-1], lane.levels)
     # The lines of windows are close together, and close to the bar.
     apart = min(MOST_LEVEL, lane.room / (max(levels) + 1))
@@ -190,11 +191,11 @@ def drawn_bars(scale, instance, routes, names, top, high):
     return drawn
 
 
-def picture(instance, routes, cost, names=None):
+def picture(instance, routes, cost, names=None, depart=LATE):
     """The lines of the picture: the map, and beside it a lane for each route."""
     frame = Frame(instance)
-    scale, top = Scale(instance, routes, frame.width), HEAD + EDGE
+    scale, top = Scale(instance, routes, frame.width, depart=depart), HEAD + EDGE
     high = min(max((frame.height - top - AXIS) / len(routes), LANES[0]), LANES[1])
-    drawn = drawn_map(frame, instance, routes, names) + drawn_bars(scale, instance, routes, names, top, high)
+    drawn = drawn_map(frame, instance, routes, names, depart) + drawn_bars(scale, instance, routes, names, top, high)
     height = max(frame.height, round(top + high * len(routes) + AXIS))
     return sheet(scale.right + FIGURES, height, told_of(instance, routes, cost, names), drawn)

@@ -6,11 +6,11 @@ from reference.texts import read_solution
 from tools import sheets
 from tools.drawing import plural
 from tools.names import names_of
-from tools.reporting import Report, page, percent, why_not
+from tools.reporting import Report, page, why_not
 from tools.serving import SERVED
 from tools.standing import CERTIFICATE, INSTANCE, NAMES, PLAN
 from tools.telling import Telling
-from tools.timing import separated
+from tools.timing import percent, separated
 from tools.tool import listed
 
 TIMETABLE, REPORT, SHEETS = "timetable.csv", "report.html", "drivers.html"
@@ -34,7 +34,7 @@ class Line:
         told = "%d s%s: %s" % (time.monotonic() - self.telling.began, " of %d" % self.seconds if self.seconds else "",
                                "no plan yet" if cost is None else measured(self.units, cost))
         if cost is not None and bound is not None:
-            told += ", gap %s" % percent(max(0, cost - bound), cost)
+            told += ", gap %s %%" % percent(max(0, cost - bound), cost)
         if planner.vehicles is not None:
             told += ", %s" % plural(planner.vehicles, "vehicle")
         self.telling.tell(told)
@@ -57,7 +57,7 @@ def report_of(planner):
     if routes is None and certificate is None:
         return None
     paths = [INSTANCE] + ([CERTIFICATE] if certificate else []) + ([PLAN] if routes else [])
-    report = Report(instance, names, routes, cost, certificate, None, paths)
+    report = Report(instance, names, routes, cost, certificate, None, paths, planner.given.depart)
     report.fewest = planner.fewest
     return report
 
@@ -75,9 +75,9 @@ def finish(planner, has_sheets, report=None):
         if planner.cost is None:
             folder.drop(name)
         elif make is separated:
-            folder.put(name, separated(instance, own.routes, own.names).encode())
+            folder.put(name, separated(instance, own.routes, own.names, own.depart).encode())
         elif make:
-            folder.put(name, make(instance, own.names, own.routes).encode())
+            folder.put(name, make(instance, own.names, own.routes, own.depart).encode())
     if own is not None:
         folder.put(REPORT, page(report or own).encode())
 
@@ -121,5 +121,5 @@ def sentence(planner, units, whom=None):
         return told + ", and no plan%s is shorter.\n" % few
     if not planner.bound:
         return told + ", and how much shorter a plan%s may be isn't known yet.\n" % few
-    return told + ", and the shortest plan%s saves at most %s of that.\n" % (
+    return told + ", and the shortest plan%s saves at most %s %% of that.\n" % (
         few, percent(planner.cost - planner.bound, planner.cost))

@@ -10,20 +10,23 @@ from tools.drawing_map import Frame, drawn_map
 from tools.drawing_times import AXIS, FIGURES, LANES, Scale, drawn_bars
 from tools.reasons import reasons
 from tools.reporting_page import SCRIPT, SHELL, STYLE
-from tools.timing import cells, stops, sums_shown, total
+from tools.timing import EARLY, LATE, cells, leaving, percent, shares, stops, sums_shown, total
 from tools.units import units_of
 
 WIDE = 1000
+# What is said of when vehicles leave.
+LEAVING = {LATE: "Each vehicle leaves as late as it may without being back later than it has to be.",
+           EARLY: "All vehicles leave when the depot opens."}
 # What the tables say of a stop.
 STOP_COLUMNS = ("arrival", "wait", "begin", "end", "load", "slack")
 
 
 class Report:
     """What is reported, which the caller checked: routes and cost are None where there is no plan, the certificate
-    where there is none, and the values of its leaves where its tree isn't drawn."""
+    where there is none, and the values of its leaves where its tree isn't drawn; and when vehicles leave."""
 
-    def __init__(self, instance, names, routes, cost, certificate, values, paths):
-        self.instance, self.names, self.routes, self.cost = instance, names, routes, cost
+    def __init__(self, instance, names, routes, cost, certificate, values, paths, depart=LATE):
+        self.instance, self.names, self.routes, self.cost, self.depart = instance, names, routes, cost, depart
         self.certificate, self.values, self.paths = certificate, values, paths
         self.bound = certificate.bound if certificate else None
         self.units = units_of(names)
@@ -55,6 +58,10 @@ class Report:
         return "BEST %s" % shown(self.cost) if self.cost == self.bound else "GAP %s %s" % (
             shown(self.cost), shown(self.bound))
 
+    def sums(self):
+        """The sums of each route, as they are shown."""
+        return [sums_shown(self.instance, route, self.units, self.depart) for route in self.routes]
+
 
 def asked(report):
     instance = report.instance
@@ -75,7 +82,7 @@ def claim(report):
     """What the certificate shows, as a part of a sentence."""
     kind = report.verdict().split()[0]
     if kind == "GAP":
-        return "no plan costs less than %s, so the cheapest one saves at most %s of this cost" % (
+        return "no plan costs less than %s, so the cheapest one saves at most %s %% of this cost" % (
             report.distance(report.bound), percent(report.cost - report.bound, report.cost))
     return {"BEST": "no plan is cheaper than this one", "NO": "there is no plan that serves all customers",
             "BOUND": "every plan costs at least %s" % report.distance(report.bound)}[kind]
@@ -105,31 +112,34 @@ def check_command(report):
     return "./vrptw check %s %s%s" % (names[0], names[1], "" if report.cost is None else " --solution " + names[2])
 
 
-def percent(part, whole):
-    return "%.1f %%" % (100 * part / whole) if whole else "0 %"
-
-
 def figures(report):
     """Pairs of a word and a figure."""
     instance, units = report.instance, report.units
     demand = sum(instance.demand(i) for i in range(1, instance.count + 1))
     yield "customers", "%d" % instance.count
     if report.cost is not None:
-        yield "vehicles", "%d of %d" % (len(report.routes), instance.fleet)
+        told = shares(instance, report.sums(), units)
+        yield "vehicles", "%d of %d (%s %%)" % (told.vehicles, told.fleet, told.fleet_percent)
         yield "cost (distance%s)" % (", km" if units.speed else ""), units.distance(report.cost)
     if report.bound is not None and report.verdict() != "NO PLAN":
         yield "bound", units.distance(report.bound)
     if report.bound is not None and report.cost is not None:
         gap = report.cost - report.bound
-        yield "gap", "%s (%s)" % (units.distance(gap), percent(gap, report.cost))
+        yield "gap", "%s (%s %%)" % (units.distance(gap), percent(gap, report.cost))
     yield "demand", "%s, and a vehicle holds %s" % (units.load(demand), units.load(instance.capacity))
     if report.cost is not None:
-        whole = total([sums_shown(instance, route, units) for route in report.routes])
-        yield "load of the vehicles", percent(*units.share(demand, instance.capacity, len(report.routes)))
-        yield "duration of all routes", units.span(whole.duration)
-        yield "waiting of all", units.span(whole.waiting)
+        yield "load of the vehicles", told.load_percent + " %"
+        yield from times_of_all(report, told)
     if report.certificate is not None:
         yield "leaves of the certificate", "%d" % leaves_of(report.certificate.tree)
+
+
+def times_of_all(report, told):
+    """Pairs of a word and a time: those of all vehicles together, and the longest one."""
+    whole, span = total(report.sums()), report.units.span
+    for word in ("driving", "service", "waiting", "duration"):
+        yield "%s of all" % word, span(getattr(whole, word))
+    yield "longest duration", span(told.longest_duration)
 
 
 def leaves_of(tree):
@@ -157,28 +167,28 @@ def row(cells, tag="td"):
 def vehicles(report):
     """The table of the vehicles: loads, distances and times."""
     instance, units, rows = report.instance, report.units, []
-    for number, route in enumerate(report.routes):
-        load, first = sum(instance.demand(i) for i in route), stops(instance, route)[0]
-        found, (part, whole) = sums_shown(instance, route, units), units.share(load, instance.capacity)
+    for number, (route, found) in enumerate(zip(report.routes, report.sums())):
+        part, whole = units.share(found.load, instance.capacity)
         filled = '<div class="load"><i style="width:%d%%"></i><b>%s of %s</b></div>' % (
-            100 * part // whole, units.load(load), units.load(instance.capacity))
+            100 * part // whole, units.load(found.load), units.load(instance.capacity))
         rows.append('<tr class="route" data-route="%d" tabindex="0">%s</tr>' % (number, row([
             sample(number), number + 1, len(route), filled, units.distance(found.distance),
-            units.moment(first.begin - instance.arc[0][first.stop]),
-            units.moment(units.floor(instance.ready(0)) + found.duration), units.span(found.waiting)])))
-    heading = ["", "vehicle", "stops", "load", "distance", "may leave at", "back at", "waiting"]
+            units.moment(found.leaves), units.moment(found.back),
+            *map(units.span, (found.driving, found.service, found.waiting, found.duration))])))
+    heading = ["", "vehicle", "stops", "load", "distance", "leaves at", "back at", "driving", "service", "waiting",
+               "duration"]
     return ('<table class="figures"><thead><tr>%s</tr></thead><tbody>%s</tbody></table>'
-            '<p class="note">A vehicle that leaves no later than said serves its customers at the times below. Of the '
-            'waiting, what is spent at the first customer can be spent in the depot.</p>' % (
-                row(heading, "th"), "".join(rows)))
+            '<p class="note">%s A duration goes from leaving to the return.</p>' % (
+                row(heading, "th"), "".join(rows), LEAVING[report.depart]))
 
 
 def timetable(report):
     """The stops of each route, with the return."""
-    parts = []
+    parts, moment = [], report.units.moment
     for number, route in enumerate(report.routes):
-        rows = ['<tr><th colspan="8">%s vehicle %d</th></tr>' % (sample(number), number + 1)]
-        for stop in stops(report.instance, route):
+        rows = ['<tr><th colspan="8">%s vehicle %d, leaves at %s</th></tr>' % (
+            sample(number), number + 1, moment(leaving(report.instance, route, report.depart)))]
+        for stop in stops(report.instance, route, report.depart):
             told = [stop.stop or "", escape(report.place(stop.stop)), *cells(stop, report.units)[1:]]
             rows.append("<tr>%s</tr>" % row(told))
         parts.append('<tbody class="route" data-route="%d">%s</tbody>' % (number, "".join(rows)))
@@ -195,12 +205,12 @@ def picture(kind, width, height, drawn, told):
 def map_of(report):
     frame = Frame(report.instance)
     drawn = ['<g transform="translate(0 -%d)">' % HEAD]
-    drawn += drawn_map(frame, report.instance, report.routes, report.names) + ["</g>"]
+    drawn += drawn_map(frame, report.instance, report.routes, report.names, report.depart) + ["</g>"]
     return picture("map", frame.width, frame.height - HEAD, drawn, "map of the routes")
 
 
 def bars_of(report):
-    scale, count = Scale(report.instance, report.routes, 0, WIDE), len(report.routes)
+    scale, count = Scale(report.instance, report.routes, 0, WIDE, report.depart), len(report.routes)
     high = min(max(620 / count, LANES[0]), LANES[1])
     drawn = drawn_bars(scale, report.instance, report.routes, report.names, 26, high)
     height = round(26 + high * count + AXIS)

@@ -2,7 +2,7 @@
 from html import escape
 
 from tools.drawing import plural
-from tools.timing import as_shown, stops
+from tools.timing import LATE, as_shown, stops, sums_shown
 from tools.units import units_of
 
 STYLE = """
@@ -70,8 +70,9 @@ COLUMNS = (("", "number"), ("stop", "who"), ("window", "time"), ("arrival", "tim
 class Sheets:
     """What the sheets of a plan are made of."""
 
-    def __init__(self, instance, names, routes):
+    def __init__(self, instance, names, routes, depart):
         self.instance, self.names, self.routes, self.units = instance, names, routes, units_of(names)
+        self.depart = depart
 
     def who(self, i):
         """Name, address and remarks of a place."""
@@ -99,39 +100,37 @@ def told(what, moment):
     return '<span class="what">%s</span> %s' % (what, moment)
 
 
-def arrival(units, stop, is_first):
-    """When a vehicle is there; it leaves so that it need not wait at its first stop."""
-    told = units.moment(stop.begin if is_first else stop.arrival)
-    waits = stop.wait and not is_first
-    return told + ('<span class="late">begins at %s</span>' % units.moment(stop.begin) if waits else "")
+def arrival(units, stop):
+    """When a vehicle is there, and when it begins where it waits."""
+    return units.moment(stop.arrival) + (
+        '<span class="late">begins at %s</span>' % units.moment(stop.begin) if stop.wait else "")
 
 
 def sheet(sheets, number, route):
     """The sheet of a vehicle."""
     instance, units = sheets.instance, sheets.units
-    found = [as_shown(stop, units) for stop in stops(instance, route)]
-    whole, first = found[-1].load, stops(instance, route)[0]
-    leaves = units.moment(first.begin - instance.arc[0][first.stop])
+    found = [as_shown(stop, units) for stop in stops(instance, route, sheets.depart)]
+    sums = sums_shown(instance, route, units, sheets.depart)
+    whole, leaves, back = sums.load, units.moment(sums.leaves), units.moment(sums.back)
     rows = [row(["", sheets.who(0), "", told("leaves at", leaves), "", units.load(whole)], "depot")]
     for place, stop in enumerate(found[:-1], 1):
         demand = instance.demand(stop.stop)
         rows.append(row([
-            place, sheets.who(stop.stop), sheets.window(stop.stop), arrival(units, stop, place == 1),
+            place, sheets.who(stop.stop), sheets.window(stop.stop), arrival(units, stop),
             units.load(demand) if demand >= units.visits else "a visit", units.load(whole - stop.load)]))
-    back = units.moment(found[-1].arrival)
     rows.append(row(["", sheets.who(0), "", told("back at", back), "", units.load(0)], "depot"))
-    distance = sum(instance.arc[a][b] for a, b in zip([0] + route, route + [0]))
     head = "".join('<th class="%s">%s</th>' % (kind, told) for told, kind in COLUMNS)
     return ('<section id="vehicle-%d"><h1>Vehicle %d</h1><p class="whole">%s: %s, %s to hand over, %s %s. '
-            'Leaves at %s, back at %s.</p><table><thead><tr>%s</tr></thead><tbody>%s</tbody></table></section>' % (
+            'Leaves at %s, back at %s: %s of driving, %s of service, %s of waiting.</p>'
+            '<table><thead><tr>%s</tr></thead><tbody>%s</tbody></table></section>' % (
                 number, number, escape(instance.name.decode()), plural(len(route), "stop"), units.load(whole),
-                units.distance(distance), units.measure(), leaves, back, head,
-                "".join(rows)))
+                units.distance(sums.distance), units.measure(), leaves, back,
+                *map(units.span, (sums.driving, sums.service, sums.waiting)), head, "".join(rows)))
 
 
-def page(instance, names, routes):
+def page(instance, names, routes, depart=LATE):
     """The page of all sheets, whose text is well-formed as XML too."""
-    sheets = Sheets(instance, names, routes)
+    sheets = Sheets(instance, names, routes, depart)
     links = " ".join('<a href="#vehicle-%d">%d</a>' % (number, number) for number in range(1, len(routes) + 1))
     return SHELL % {"name": escape(instance.name.decode()), "style": STYLE, "links": links, "sheets": "\n".join(
         sheet(sheets, number, route) for number, route in enumerate(routes, 1))}

@@ -1,23 +1,34 @@
 """When the vehicles of a plan are where: the stops of each route with their times, as a table."""
-import csv
-import io
 import json
 from collections import namedtuple
 
 from reference.instances import route_cost
+from tools.dialects import dialect_of, spelled
 from tools.tool import number
 from tools.units import units_of
 
 # A stop is a customer, or the depot (0) at the end; times in tenths, slack until the due date at the begin of service.
 Stop = namedtuple("Stop", "stop arrival wait begin end load slack")
-Sums = namedtuple("Sums", "distance duration waiting")
+# Of a route, and of all: the first one that leaves, and the last one that is back.
+Sums = namedtuple("Sums", "distance duration waiting driving service leaves back load")
+# Of a plan: how many vehicles drive, of how many, and how full they are; and the longest duration.
+Shares = namedtuple("Shares", "vehicles fleet fleet_percent load_percent longest_duration")
+# When vehicles leave: as late as they may, or when the depot opens.
+LATE, EARLY = "late", "early"
 # How wide a column is at least.
 WIDTH = 10
 
 
-def stops(instance, route):
-    """The stops of a route that leaves when the depot opens, and the return; the slack of a late one is below 0."""
-    at, time, load, found = 0, instance.ready(0), 0, []
+def add_depart(words):
+    """Adds the option that says when vehicles leave."""
+    words.add_argument("--depart", choices=(LATE, EARLY), default=LATE,
+                       help="vehicles leave as late as they may without being back later (the default), or when the "
+                            "depot opens")
+
+
+def walked(instance, route, leaves):
+    """The stops of a route that leaves at a moment, and the return; the slack of a late one is below 0."""
+    at, time, load, found = 0, leaves, 0, []
     for i in route + [0]:
         arrival = time + instance.arc[at][i]
         begin = max(arrival, instance.ready(i))
@@ -26,8 +37,27 @@ def stops(instance, route):
     return found
 
 
+def leaving(instance, route, depart=LATE):
+    """When a vehicle leaves: as late as it may without being back later than it has to be, and in time for each due
+    date (forward time slack; Savelsbergh 1992). What is late anyway comes no later. Or when the depot opens."""
+    opens, waited, rooms = instance.ready(0), 0, []
+    if depart == EARLY:
+        return opens
+    for stop in walked(instance, route, opens):
+        waited += stop.wait
+        rooms.append(waited + stop.slack)
+    return opens + max(0, min(waited, *rooms))
+
+
+def stops(instance, route, depart=LATE):
+    """The stops of a route, and the return."""
+    return walked(instance, route, leaving(instance, route, depart))
+
+
 def total(rows):
-    return Sums(*(sum(column) for column in zip(*rows)))
+    """The sums of all routes, with the first one that leaves and the last one that is back."""
+    found = Sums(*(sum(column) for column in zip(*rows)))
+    return found._replace(leaves=min(row.leaves for row in rows), back=max(row.back for row in rows))
 
 
 def as_shown(stop, units):
@@ -37,11 +67,25 @@ def as_shown(stop, units):
                 units.floor(stop.begin + stop.slack) - begin)
 
 
-def sums_shown(instance, route, units):
-    """The sums of a route, of times as they are shown."""
-    found = [as_shown(stop, units) for stop in stops(instance, route)]
-    return Sums(route_cost(instance, route), found[-1].end - units.floor(instance.ready(0)),
-                sum(stop.wait for stop in found))
+def sums_shown(instance, route, units, depart=LATE):
+    """The sums of a route, of times as they are shown, so that they add up."""
+    leaves = units.floor(leaving(instance, route, depart))
+    found = [as_shown(stop, units) for stop in stops(instance, route, depart)]
+    driving = sum(stop.arrival - left for stop, left in zip(found, [leaves] + [stop.end for stop in found]))
+    return Sums(route_cost(instance, route), found[-1].end - leaves, sum(stop.wait for stop in found), driving,
+                sum(stop.end - stop.begin for stop in found), leaves, found[-1].end, found[-1].load)
+
+
+def shares(instance, sums, units):
+    """What part of the fleet drives, how full it is, and how long the longest route takes."""
+    part, whole = units.share(sum(row.load for row in sums), instance.capacity, len(sums))
+    return Shares(len(sums), instance.fleet, percent(len(sums), instance.fleet), percent(part, whole),
+                  max(row.duration for row in sums))
+
+
+def percent(part, whole):
+    """A part in percent, with a decimal."""
+    return "%.1f" % (100 * part / whole) if whole else "0.0"
 
 
 def cells(stop, units):
@@ -51,19 +95,28 @@ def cells(stop, units):
             units.moment(stop.end), units.load(stop.load), units.span(stop.slack)]
 
 
-def tables(instance, routes, names=None):
-    """The stops of all routes and then the sums, as rows of words below their headings; names, and what more their
-    table says, stand in the stops' last columns. Times and distances are as they were there, where it tells that."""
+def tables(instance, routes, names=None, depart=LATE):
+    """The stops of all routes, the sums, and the shares of the plan, as rows of words below their headings; names, and
+    what more their table says, stand in the stops' last columns. Times and distances are as they were there, where it
+    tells that."""
     units = units_of(names)
     by_stop = [["route", *Stop._fields] + further_cells(names, None)]
     by_route = [["route", *Sums._fields]]
-    found = [sums_shown(instance, route, units) for route in routes]
+    found = [sums_shown(instance, route, units, depart) for route in routes]
     for place, route in enumerate(routes, 1):
         by_stop += [[str(place), *cells(stop, units)] + further_cells(names, stop.stop)
-                    for stop in stops(instance, route)]
+                    for stop in stops(instance, route, depart)]
     for place, row in [*enumerate(found, 1), ("plan", total(found))]:
-        by_route.append([str(place), units.distance(row.distance), units.span(row.duration), units.span(row.waiting)])
-    return by_stop, by_route
+        by_route.append([str(place), *sum_cells(row, units)])
+    told = shares(instance, found, units)
+    by_plan = [list(Shares._fields), [*map(str, told[:-1]), units.span(told.longest_duration)]]
+    return by_stop, by_route, by_plan
+
+
+def sum_cells(row, units):
+    """The sums of a route as words."""
+    return [units.distance(row.distance), *map(units.span, (row.duration, row.waiting, row.driving, row.service)),
+            units.moment(row.leaves), units.moment(row.back), units.load(row.load)]
 
 
 def further_cells(names, i):
@@ -73,27 +126,29 @@ def further_cells(names, i):
     return ["name", *names.headings] if i is None else [names[i], *names.further[i]]
 
 
-def aligned(instance, routes, names=None):
-    by_stop, by_route = tables(instance, routes, names)
+def aligned(instance, routes, names=None, depart=LATE):
+    by_stop, by_route, by_plan = tables(instance, routes, names, depart)
     columns = 1 + len(Stop._fields)
     wide = max([WIDTH] + [len(word) + 1 for row in by_stop + by_route for word in row[:columns]])
     widths = [max(map(len, column)) for column in zip(*(row[columns:] for row in by_stop))]
     lines = []
-    for row in by_stop + by_route:
+    for row in by_stop:
         lines.append("".join([word.rjust(wide) for word in row[:columns]] + [
             "  " + word.ljust(width) for word, width in zip(row[columns:], widths)]).rstrip())
         # An empty line stands behind each return.
         if row[1] == "0":
             lines.append("")
+    lines += ["".join(word.rjust(wide) for word in row) for row in by_route] + [""]
+    widths = [max(wide, len(word) + 2) for word in by_plan[0]]
+    lines += ["".join(map(str.rjust, row, widths)) for row in by_plan]
     return "\n".join(lines + [""])
 
 
-def separated(instance, routes, names=None):
-    """Both tables separated by commas, an empty line between them."""
-    found = io.StringIO()
-    by_stop, by_route = tables(instance, routes, names)
-    csv.writer(found, lineterminator="\n").writerows([*by_stop, [], *by_route])
-    return found.getvalue()
+def separated(instance, routes, names=None, depart=LATE, dialect=None):
+    """The tables for a spreadsheet, in a dialect or in that of the sheet that came in."""
+    by_stop, by_route, by_plan = tables(instance, routes, names, depart)
+    parts = [(by_stop, 1 + len(Stop._fields)), (by_route, len(by_route[0])), (by_plan, len(by_plan[0]))]
+    return spelled(parts, dialect or dialect_of(names))
 
 
 def valued(words):
@@ -101,10 +156,10 @@ def valued(words):
     return {name: word if number(word) is None else json.loads(word) for name, word in words}
 
 
-def as_json(instance, routes, names=None):
-    """Both tables as one object: routes with their sums and stops, and the sums of the plan. What the table of names
-    says of a stop is in `place`, as words."""
-    by_stop, by_route = tables(instance, routes, names)
+def as_json(instance, routes, names=None, depart=LATE):
+    """The tables as one object: routes with their sums and stops, and the sums and shares of the plan. What the table
+    of names says of a stop is in `place`, as words."""
+    by_stop, by_route, by_plan = tables(instance, routes, names, depart)
     found = {route: {"route": int(route), **valued(zip(Sums._fields, sums)), "stops": []}
              for route, *sums in by_route[1:-1]}
     heading, columns = by_stop[0], 1 + len(Stop._fields)
@@ -113,5 +168,6 @@ def as_json(instance, routes, names=None):
         if names:
             stop["place"] = dict(zip(heading[columns:], words[columns - 1:]))
         found[route]["stops"].append(stop)
-    told = {"routes": list(found.values()), "plan": valued(zip(Sums._fields, by_route[-1][1:]))}
+    told = {"routes": list(found.values()),
+            "plan": {**valued(zip(Sums._fields, by_route[-1][1:])), **valued(zip(*by_plan))}}
     return json.dumps(told, ensure_ascii=False, indent=1) + "\n"
