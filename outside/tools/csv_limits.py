@@ -50,7 +50,9 @@ def judge_rows(values, quantities):
         for column in judged:
             judge_cell(values.faults, line, column, row[column], None if column == "demand" else given)
         ready, due = row["ready"], row["due"]
-        is_read = None not in (ready.value, due.value) and not values.faults.has(line, WINDOW)
+        # What an empty field has of the depot may be at fault there.
+        is_wrong = values.faults.has(line, WINDOW) or values.faults.has(values.rows[0][0], values.filled[line])
+        is_read = None not in (ready.value, due.value) and not is_wrong
         if is_read and due.value < ready.value:
             values.faults.add(line, "due", "%s, which is before %s" % (quoted(due), quoted(ready)),
                               "a due date that isn't before the ready time")
