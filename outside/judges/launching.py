@@ -19,6 +19,9 @@ ROWS = [
     ("solve i.txt sub/../i.txt k.txt", "sub/../i.txt and i.txt are one file"),
     ("solve i.txt link.txt c.txt --start=p.txt --turns 1", "link.txt and p.txt are one file"),
     ("solve i.txt --start p.txt new.txt --turns 1 link.txt", "link.txt and p.txt are one file"),
+    ("solve i.txt new.txt tree.txt --tree k.txt", "tree.txt and k.txt are one file"),
+    ("solve i.txt tree.txt c.txt --tree=k.txt --start p.txt", "tree.txt and k.txt are one file"),
+    ("solve --start p.txt i.txt c.txt --tree k.txt hard.txt", "hard.txt and p.txt are one file"),
     ("solve nowhere p.txt c.txt", "nowhere isn't there"),
     ("solve i.txt sub c.txt", "sub is a folder"),
     ("solve i.txt new.txt no/c.txt", "the folder no of c.txt isn't there"),
@@ -36,6 +39,7 @@ TABLES = [
 RIGHT = [
     ("solve i.txt new.txt c.txt --turns 1", 0, "BEST 20.0\n"),
     ("solve i.txt new.txt c.txt --start p.txt --turns 1", 0, "BEST 20.0\n"),
+    ("solve i.txt new.txt c.txt --start p.txt --tree k.txt --part 1/2 --turns 1", 0, "BEST 20.0\n"),
     ("solve i.txt p.txt link.txt --turns 0", 2, ""),
     ("solve i.txt p.txt", 2, ""),
     ("check i.txt k.txt --solution p.txt", 1, "GAP 20.0 0.0\n"),
@@ -75,6 +79,7 @@ def fitted_out(folder):
         put(os.path.join(folder, name), FILES[name].encode())
     os.mkdir(os.path.join(folder, "sub"))
     os.symlink("p.txt", os.path.join(folder, "link.txt"))
+    os.symlink("k.txt", os.path.join(folder, "tree.txt"))
     os.link(os.path.join(folder, "p.txt"), os.path.join(folder, "hard.txt"))
 
 
