@@ -38,11 +38,16 @@ class Sheet:
             ["Kunde %d" % i, *self.place(), "%d" % random.randint(1, 9), "07:%02d" % random.randint(0, 59), "16:30", "%d"
              % random.randint(25, 40)] for i in range(1, random.randint(6, most) + 1)]
         self.order = random.sample(range(7), 7)
-        self.total = random.randrange(3) == 0
+        self.total = random.choice(TOTALS) if random.randrange(3) == 0 else None
+        self.sums = None
 
     def place(self):
         """Degrees with a decimal comma, some kilometres from each other."""
         return ["%.5f" % (at + self.random.choice([-1, 1]) * self.random.uniform(0.02, 0.06)) for at in (52.5, 13.4)]
+
+    def summed(self):
+        """The sums of demands and of services."""
+        return [str(sum(int(row[column] or 0) for row in self.rows)) for column in (DEMAND, SERVICE)]
 
     def line_of(self, i):
         """The line of a row, below the lines above and the heading."""
@@ -50,9 +55,9 @@ class Sheet:
 
     def text(self):
         found = [[heading for heading in LANGUAGES[self.language]], *self.rows]
-        if self.total:
-            sums = [str(sum(int(row[column] or 0) for row in self.rows)) for column in (DEMAND, SERVICE)]
-            found.append([self.random.choice(TOTALS), "", "", sums[0], "", "", self.random.choice(["", sums[1]])])
+        if self.total is not None:
+            sums = self.sums or self.summed()
+            found.append([self.total, "", "", sums[0], "", "", self.random.choice(["", sums[1]])])
         lines = [";".join(row[place].replace(".", ",") if place in (LAT, LON) else row[place] for place in self.order)
                  for row in found]
         return "".join(line + "\r\n" for line in self.titles + lines).encode()
@@ -119,7 +124,7 @@ def judge_doubts(folder, random):
     told = DOUBTFUL.findall(errors)
     demand(len(told) == (right is not None) and all(one.startswith(right) for one in told),
            "%s: %r, and %r is right" % (sheet.language, told, right))
-    demand(("the sum of its column" in errors) == sheet.total, "the total: %r" % errors)
+    demand(("the sum of its column" in errors) == (sheet.total is not None), "the total: %r" % errors)
     demand(("lines above the heading" in errors) == bool(sheet.titles), "the title: %r" % errors)
     instance = read(got(target))
     demand(instance.count == len(sheet.rows) - 1, "%d customers of %d" % (instance.count, len(sheet.rows) - 1))
@@ -134,7 +139,8 @@ def judge_faults(folder, random):
     """A sheet with many faults: each is told with its line, its heading, the customer's name and what stands there; of
     more than twenty the first ones, and how many more there are."""
     sheet = Sheet(random, random.choice([9, 40]))
-    sheet.total = False
+    # A line of sums is known by its name where no number above stands in the way.
+    sheet.total, sheet.sums = sheet.total or None, sheet.summed()
     places = random.sample([(i, column) for i in range(1, len(sheet.rows)) for column in WRONG],
                            random.choice([1, 2, 5, 19, 20, 21, 30]))
     right = []
@@ -143,6 +149,8 @@ def judge_faults(folder, random):
         if word == "05:00" and (i, READY) in places:
             word, wanted = WRONG[DUE][0]
         sheet.rows[i][column] = word
+        if column in (DEMAND, SERVICE) and word.lstrip("-").isdigit():
+            sheet.total = None
         right.append('line %d: met "%s" in "%s" of %s' % (
             sheet.line_of(i), word, LANGUAGES[sheet.language][column], sheet.rows[i][NAME]) + "|" + wanted)
     source, target, (out, errors, status) = converted(folder, sheet)

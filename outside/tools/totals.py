@@ -16,17 +16,19 @@ def value_of(field):
     return number(field.replace(",", "."))
 
 
-def sums_of(table, fields):
-    """The fields of a row that are numbers, None where one isn't the sum of its column, or where another one says
-    something that no such line does."""
+def signs_of(table, fields, called):
+    """What tells of the numbers of a row that they are sums; nothing where one isn't the sum of its column, or where
+    another field says something that no such line does. Where something above is no number, the line's name tells."""
     found = []
     for place, field in enumerate(fields):
         if not field or is_total(field):
             continue
         above = [value_of(row[place]) for _, row in table.rows[:-1] if row[place]]
-        if value_of(field) is None or None in above or sum(above) != value_of(field):
-            return None
-        found.append(field)
+        is_sum = bool(called) if None in above else sum(above) == value_of(field)
+        if value_of(field) is None or not is_sum:
+            return []
+        found.append("it is called %s" % quoted(called[0]) if None in above
+                     else "%s is the sum of its column" % quoted(field))
     return found
 
 
@@ -39,9 +41,8 @@ def without_total(table):
     called = [table.field(fields, column) for column in NAMED if table.field(fields, column)]
     if any(table.field(fields, column) for column in table.columns[:2]) or not all(map(is_total, called)):
         return []
-    found = sums_of(table, fields)
-    if not found:
+    signs = signs_of(table, fields, called)
+    if not signs:
         return []
     table.rows.pop()
-    return [Note("line %d is passed over: it has no place, and %s is the sum of its column" % (line, quoted(found[0])),
-                 OVER)]
+    return [Note("line %d is passed over: it has no place, and %s" % (line, signs[0]), OVER)]
