@@ -37,7 +37,7 @@ def plain(told, separator):
     return [field.strip(' "').lower() for field in told.split(separator)]
 
 
-def bare(heading):
+def without_measure(heading):
     """A heading in small letters, without what it says of its measure."""
     return MEASURE.sub("", " ".join(heading.lower().split()))
 
@@ -50,7 +50,7 @@ def known(told, renamed):
 
 def meaning_of(heading):
     """Our name for a heading, or None."""
-    own = bare(heading)
+    own = without_measure(heading)
     return own if own in OURS else MEANING.get(own)
 
 
