@@ -6,9 +6,11 @@ ghost use Rattle.std.specs.Prelude.{◌≡◌, IfSome};
 ghost use Rattle.prices.specs.Narrowing.{IsPricedAt};
 
 use crate::pricing::price;
-use crate::quick_round::task_of_centre;
+use crate::quick_round::{may_pay, search_at, task_of_centre};
+use pooled_routes::Trial;
 use price_way::{Ascent, Goal, PricingState, RoutePool};
 use prices::Priced;
+use std::alloc::AllocError;
 
 /// How many pricings more a leaf below the root may have.
 const MORE_DEAR_PRICINGS: u32 = 4;
@@ -23,6 +25,9 @@ const FLAT_PARTS_OF_LEAF: i128 = 50;
 
 /// The value is polished where it lacks one of so many parts of the gap of the merit.
 const POLISH_PARTS: i128 = 100;
+
+/// So many trials in a row at most are passed over as null steps.
+const MOST_QUICK_NULLS: u32 = 10;
 
 /// The most pricings of an ascent at a leaf, where the value to stop at isn't near.
 pub(crate) fn pricings_at(state: &PricingState<'_>, leaf: &Priced<'_>, goal: &Goal) -> u32 {
@@ -74,4 +79,38 @@ pub(crate) fn polish<'i>(
     let scale = pool.scale_at(ascent.centre.prices.as_slice()).ok()?;
     let task = task_of_centre(pool, state, ascent, best, scale).ok()?;
     price(pool, state, task, goal.labels).ok()
+}
+
+/// Whether a quick search is far less work than an exact pricing.
+fn are_searches_quick(state: &PricingState<'_>) -> bool {
+    match &state.quick {
+        Some(way) => way.is_far_less_than(state.kept.looks),
+        None => false,
+    }
+}
+
+/// The next trial to be priced exactly: where pricings are dear, a trial at the root that a quick search shows to be a
+/// null step is passed over.
+pub(crate) fn trial_beyond_nulls(
+    pool: &mut RoutePool,
+    state: &mut PricingState<'_>,
+    ascent: &mut Ascent,
+    leaf: &Priced<'_>,
+) -> Result<Trial, AllocError> {
+    let mut trial = ascent.trial(pool, state)?;
+    if !state.are_pricings_dear() || !may_pay(state, leaf) {
+        return Ok(trial);
+    }
+    for _null in 0..MOST_QUICK_NULLS {
+        if !are_searches_quick(state) {
+            return Ok(trial);
+        }
+        let searched = search_at(pool, state, leaf, &trial)?;
+        if !ascent.is_null(&trial, searched.rows.as_slice(), searched.least) {
+            return Ok(trial);
+        }
+        ascent.take_multipliers(&trial);
+        trial = ascent.trial(pool, state)?;
+    }
+    Ok(trial)
 }

@@ -20,9 +20,6 @@ const MOST_STEPS: u32 = 10_000;
 /// After this many steps that gain less than a thousandth the searches get wider.
 const STEPS_BETWEEN: u32 = 10;
 
-/// So many trials in a row at most are passed over as null steps.
-const MOST_QUICK_NULLS: u32 = 10;
-
 /// The most searches for the scale of prices.
 const SCALINGS: u32 = 3;
 
@@ -94,7 +91,7 @@ fn rows_of(pool: &RoutePool, task: &PricingTask<'_>) -> Result<Vec<i64>, AllocEr
 }
 
 /// Whether quick searches may pay at a leaf: at the root, where an exact pricing is no small work.
-fn may_pay(state: &PricingState<'_>, leaf: &Priced<'_>) -> bool {
+pub(crate) fn may_pay(state: &PricingState<'_>, leaf: &Priced<'_>) -> bool {
     let customers = u64::from(leaf.instance().customer_count());
     let least = customers.saturating_mul(customers).saturating_mul(8);
     leaf.region().is_root() && state.kept.looks >= least
@@ -125,17 +122,17 @@ pub(crate) fn is_quick_next(
 
 /// What a quick search tells of the prices of a trial.
 #[derive(Drop)]
-struct Searched {
+pub(crate) struct Searched {
     /// The prices of customers, and behind them those of the pool's sets.
-    rows: Vec<i64>,
+    pub(crate) rows: Vec<i64>,
     /// The least reduced cost that is known.
-    least: i64,
+    pub(crate) least: i64,
     /// Whether the search found a route that the prices don't keep to.
     is_found: bool,
 }
 
 /// Searches for routes at the prices of a trial.
-fn search_at(
+pub(crate) fn search_at(
     pool: &mut RoutePool,
     state: &mut PricingState<'_>,
     leaf: &Priced<'_>,
@@ -151,40 +148,6 @@ fn search_at(
         least: found.min(known),
         is_found: found < most,
     })
-}
-
-/// Whether a quick search is far less work than an exact pricing.
-fn are_searches_quick(state: &PricingState<'_>) -> bool {
-    match &state.quick {
-        Some(way) => way.is_far_less_than(state.kept.looks),
-        None => false,
-    }
-}
-
-/// The next trial to be priced exactly: where pricings are dear, a trial at the root that a quick search shows to be a
-/// null step is passed over.
-pub(crate) fn trial_beyond_nulls(
-    pool: &mut RoutePool,
-    state: &mut PricingState<'_>,
-    ascent: &mut Ascent,
-    leaf: &Priced<'_>,
-) -> Result<Trial, AllocError> {
-    let mut trial = ascent.trial(pool, state)?;
-    if !state.are_pricings_dear() || !may_pay(state, leaf) {
-        return Ok(trial);
-    }
-    for _null in 0..MOST_QUICK_NULLS {
-        if !are_searches_quick(state) {
-            return Ok(trial);
-        }
-        let searched = search_at(pool, state, leaf, &trial)?;
-        if !ascent.is_null(&trial, searched.rows.as_slice(), searched.least) {
-            return Ok(trial);
-        }
-        ascent.take_null(&trial);
-        trial = ascent.trial(pool, state)?;
-    }
-    Ok(trial)
 }
 
 /// A serious or a null step by a quick search alone; whether it found a route that the prices don't keep to.

@@ -3,9 +3,9 @@
 ghost use Rattle.std.specs.Prelude.{◌≡◌, ◌≤◌, [], IfOk, IfSome};
 ghost use Rattle.prices.specs.Narrowing.{IsPricedAt};
 
-use crate::dear::{is_flat, is_root_flat, polish, pricings_at};
+use crate::dear::{is_flat, is_root_flat, polish, pricings_at, trial_beyond_nulls};
 use crate::pricing::price;
-use crate::quick_round::{is_quick_next, quick_round, trial_beyond_nulls};
+use crate::quick_round::{is_quick_next, quick_round};
 use crate::set_round::SetRounds;
 use crate::tasks::{start_task, trial_task};
 use labelling::LabelFault;
@@ -214,7 +214,6 @@ pub fn raise<'i>(
     ensures neighbours { result.priced.neighbours ≡ priced.entry.neighbours }
     ensures not_lower { priced.entry.value ≤ result.priced.value }
 {
-    state.expect(goal.looks);
     // The root is raised again and again, and goes on with the multipliers that it ended with.
     if !priced.region().is_root() {
         pool.begin(start.as_ref());

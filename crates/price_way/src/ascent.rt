@@ -168,10 +168,7 @@ impl Ascent {
     /// Goes on from a trial with another centre: a serious step where the merit has grown by more than a tenth
     /// of what the trial promised.
     fn go_on(&mut self, pool: &mut RoutePool, trial: &Trial, next: Centre) -> bool {
-        self.vehicle_price = trial.vehicle_price;
-        for (set, moved) in self.sets.iter_mut().zip(trial.sets.iter()) {
-            set.multiplier = moved.multiplier;
-        }
+        self.take_multipliers(trial);
         let before = self.centre.merit;
         let promised = self.merit.promised(
             next.prices.as_slice(),
@@ -201,8 +198,8 @@ impl Ascent {
         growth.saturating_mul(SERIOUS_PARTS) <= promised.saturating_sub(before)
     }
 
-    /// Goes on from a trial that can only be a null step, by the same rise.
-    pub fn take_null(&mut self, trial: &Trial) {
+    /// Goes on from the multipliers of a trial, by the same rise: all of a null step that isn't priced.
+    pub fn take_multipliers(&mut self, trial: &Trial) {
         self.vehicle_price = trial.vehicle_price;
         for (set, moved) in self.sets.iter_mut().zip(trial.sets.iter()) {
             set.multiplier = moved.multiplier;

@@ -6,7 +6,9 @@ ghost use Rattle.ceiling.specs.Seats.{IsSeatOf};
 use crate::gate::{Gate, GatePoint};
 use crate::hub::Hub;
 use crate::nodes::{Nodes, OpenNode, Taken};
-use crate::pricing::{Rules, goal_at, has_done_enough, own_limit, pricing_labels, turn_looks};
+use crate::pricing::{
+    Rules, expected_looks, goal_at, has_done_enough, own_limit, pricing_labels, turn_looks,
+};
 use crate::refusal::Refusal;
 use crate::worker::Worker;
 use labelling::LabelFault;
@@ -260,7 +262,7 @@ fn turn<'i, H: Hub<'i>, G: Gate>(
 pub fn bound_worker<'i, H: Hub<'i>, G: Gate>(
     worker: &mut Worker<'_, 'i, H, G>,
     settings: &Settings,
-    mut nodes: Nodes<'_>,
+    nodes: Nodes<'_>,
 ) -> u32
     ensures turns { result ≤ settings.now.turns }
     ensures own { IsSeatOf worker.old.ceiling.now worker.new.seat }
@@ -271,6 +273,8 @@ pub fn bound_worker<'i, H: Hub<'i>, G: Gate>(
         place: u32::from(worker.number).saturating_sub(settings.searchers),
         looks: turn_looks(nodes.customers).saturating_mul(u64::from(settings.turns)),
     };
+    let looks = expected_looks(settings, nodes.customers);
+    let mut nodes = nodes.for_work(looks);
     for made in 0..settings.turns {
         worker.pass(GatePoint::Start);
         let done = turn(worker, rules, made, &mut nodes);

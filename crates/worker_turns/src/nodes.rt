@@ -152,6 +152,12 @@ impl<'p> Nodes<'p> {
         })
     }
 
+    /// These nodes, for work of so many looks, beside which pricings are dear or aren't.
+    pub(crate) fn for_work(mut self, looks: u64) -> Nodes<'p> {
+        self.state.expect(looks);
+        self
+    }
+
     /// Takes up a leaf of a given tree, with its value in tenths, as one of the worker's own; refused where memory is.
     /// No contract: it decides only where the worker works.
     pub fn take_up(&mut self, number: u32, value: i128) -> Result<(), AllocError> {

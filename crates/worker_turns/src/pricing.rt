@@ -23,10 +23,18 @@ const PRICING_PART: u64 = 28;
 
 const LEAST_PRICING_TURNS: u64 = 4;
 
+/// Pricings are dear beside the work of so many turns, or of all turns where those are more.
+const DEAR_TURNS: u32 = 200;
+
 /// How much work a turn is worth, in looks: steps, bounds on what may follow and the projections of prices
 /// count alike, so that turns take about as long at narrow windows as at wide ones.
 pub(crate) fn turn_looks(customers: u16) -> u64 {
     CUSTOMER_LOOKS.saturating_mul(u64::from(customers).max(LEAST_CUSTOMERS))
+}
+
+/// Beside how much work pricings are dear, in looks.
+pub(crate) fn expected_looks(settings: &Settings, customers: u16) -> u64 {
+    turn_looks(customers).saturating_mul(u64::from(settings.turns.max(DEAR_TURNS)))
 }
 
 /// What a bound worker goes by.
