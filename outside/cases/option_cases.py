@@ -70,6 +70,10 @@ MORE = {
     "semicolons.csv": "number;name\n0;depot\n1;a.5\n2;1.5\n",
     "german.csv": FILES["t.csv"].replace("due", "bis"),
     "list.txt": "[[0, 1]]\n",
+    # One customer with a vehicle and one without; one that nobody knows; and the number of another one.
+    "moved.csv": "vehicle,name\nAnna,a\n,b\n",
+    "nobody.csv": "vehicle,name\nAnna,a\nAnna,c\n",
+    "beside.csv": "vehicle,name,stop\nAnna,a,2\n",
     "grown.txt": CUT + "BOUND 10.0\nTREE\nS 1 2\nP 0 0\nP 0 0\nEND\n",
     "one.txt": CUT + "BOUND 20.0\nTREE\nS 1 2\nP 0 0\nS 2 1\nP 50000 100000\nP 50000 100000\nEND\n",
     "better.txt": CUT + "BOUND 20.0\nTREE\nS 1 2\nP 50000 100000\nP 50000 100000\nEND\n",
@@ -120,6 +124,11 @@ join i.txt one.txt grown.txt|1|--: grown.txt: line 9: met a leaf, wanted "S 2 1"
 join i.txt grown.txt better.txt --jobs 1 --labels 1000 --program {program}|0|-: BOUND 20.0
 join i.txt grown.txt better.txt one.txt --bound 20.0 --check|0|-: S 2 1 & --: vrptw check says: BOUND 20.0
 join i.txt grown.txt one.txt grown.txt --prune 20.0|0|-: BOUND 20.0 & --: leaves: 1 in place of 3
+judge i.txt p.txt --best p.txt -o o.txt|0|-: as far as the best plan & o.txt: Route #1: 1 2
+judge i.txt moved.csv --names names.csv|3|-: not served: b
+judge i.txt p.txt --output o.txt|0|o.txt: Cost 20.0
+judge waits.txt p.txt --depart early|0|-: 0.0  115.0
+judge waits.txt p.txt --depart late|0|-: 95.0  115.0
 large_trees i.txt --minutes 0.06 --turns 2,default --jobs 1 --seed 5 --solver {program}|0|-: 2 certificates, & \
 -: , 0 disagreements
 large_trees i.txt --minutes 0.02 --turns 2 --jobs 1 --program {program}|0|-: 1 certificates, & -: , 0 disagreements
@@ -245,6 +254,13 @@ join i.txt grown.txt one.txt --prune 20|--prune|2|met "20"
 join i.txt grown.txt one.txt --jobs 0|--jobs|2|met "0"
 join i.txt grown.txt one.txt --labels 0|--labels|2|met "0"
 join i.txt grown.txt one.txt --program nowhere|--program|1|nowhere: met no program
+judge i.txt moved.csv --names names.csv -o o.txt||1|moved.csv: met a plan that doesn't serve each customer once
+judge i.txt nobody.csv --names names.csv||1|nobody.csv: line 3: met "c", wanted a customer's number or name
+judge i.txt beside.csv --names names.csv||1|beside.csv: line 2: met "a" beside "2", wanted name and number of one customer
+judge i.txt p.txt --best cost.txt|--best|1|cost.txt: line 2: met a cost of 20.1
+judge i.txt p.txt -o p.txt|--output|1|p.txt: met the file that is read
+judge i.txt p.txt --names names2.csv|--names|1|names2.csv: line 3: met no name of number 2
+judge i.txt p.txt --depart never|--depart|2|invalid choice: 'never'
 large_trees i.txt --minutes x|--minutes|2|met "x"
 large_trees i.txt --minutes 0|--minutes|2|met "0"
 large_trees i.txt --turns 5,x|--turns|2|met "5,x"

@@ -26,6 +26,7 @@ from judges.judging_layouts import judge_layout, judge_round_trip, judge_wrong_l
 from judges.judging_literature import judge_literature
 from judges.judging_made_sets import judge_made, judge_priced
 from judges.judging_module import judge_module
+from judges.judging_moved import judge_moved
 from judges.judging_nights import judge_nights
 from judges.judging_options import OPTIONS, judge_options
 from judges.judging_plans import judge_picture, judge_respelled, judge_timetable, judge_wrong_spelling
@@ -157,6 +158,8 @@ KINDS = {
     "timetables": Kind("a plan's times by timetable, against the walks of its routes", 25, tools_by(judge_timetable)),
     "departures": Kind("when vehicles leave, by timetable, report, sheets and draw: later they'd be back later", 12,
                        tools_by(judge_departures)),
+    "moved": Kind("a plan moved by hand, in any spelling, by judge: all that is wrong, by a walk of its own", 30,
+                  tools_by(judge_moved)),
     "pictures": Kind("what draw draws of a plan and of a tree, and what recheck tells of that", 12,
                      tools_by(judge_picture)),
     "reports": Kind("the page of report: complete, by itself, and by chromium what answers the pointer", 6,

@@ -1,0 +1,84 @@
+"""What is wrong with a plan that was moved by hand, and what it takes."""
+from reference.instances import route_cost
+from tools.names import Names
+from tools.timing import EARLY, leaving, walked
+from tools.tool import listed
+from tools.units import units_of
+
+HEADING = ("vehicle", "stops", "load", "distance", "leaves", "back")
+
+
+class Judged:
+    """The routes of a moved plan, judged: each late stop by an earliest start, loads, who is missing or doubled."""
+
+    def __init__(self, instance, names, moved, depart):
+        self.instance, self.routes, self.depart, self.units = instance, moved.routes, depart, units_of(names)
+        self.names = names or Names([str(i) for i in range(instance.count + 1)])
+        self.vehicles = {}
+        for called, route in self.routes:
+            for i in route:
+                self.vehicles.setdefault(i, []).append(called)
+
+    def is_whole(self):
+        """Whether each customer is served once."""
+        return sorted(i for _, route in self.routes for i in route) == list(range(1, self.instance.count + 1))
+
+    def is_plan(self):
+        return not self.wrong()
+
+    def cost(self):
+        return sum(route_cost(self.instance, route) for _, route in self.routes)
+
+    def wrong(self):
+        """A line for each thing that is wrong."""
+        found = [line for called, route in self.routes for line in self.wrong_of(called, route)]
+        missing = [self.names.called(i) for i in range(1, self.instance.count + 1) if i not in self.vehicles]
+        found += ["not served: %s" % listed(missing)] if missing else []
+        found += ["%s is served %d times, by %s" % (self.names.called(i), len(called), listed(called))
+                  for i, called in sorted(self.vehicles.items()) if len(called) > 1]
+        more = len(self.routes) - self.instance.fleet
+        return found + (["%d vehicles drive, and there are %d" % (len(self.routes), self.instance.fleet)]
+                        if more > 0 else [])
+
+    def wrong_of(self, called, route):
+        """What is wrong with a vehicle: its load, and each stop that is late though it leaves when the depot opens."""
+        instance, units = self.instance, self.units
+        load = sum(instance.demand(i) for i in route)
+        if load > instance.capacity:
+            yield "vehicle %s carries %s, and holds %s" % (called, units.load(load), units.load(instance.capacity))
+        for stop in walked(instance, route, leaving(instance, route, EARLY)):
+            if stop.slack < 0:
+                begin, due = units.floor(stop.begin), units.floor(stop.begin + stop.slack)
+                yield "vehicle %s is at %s at %s, %s after %s" % (
+                    called, self.names.called(stop.stop) if stop.stop else "the depot", units.moment(begin),
+                    units.span(begin - due), units.moment(due))
+
+    def rows(self):
+        """What each vehicle takes, and all."""
+        instance, units, rows = self.instance, self.units, []
+        for called, route in self.routes:
+            leaves = leaving(instance, route, self.depart)
+            rows.append([called, "%d" % len(route), units.load(sum(instance.demand(i) for i in route)),
+                         units.distance(route_cost(instance, route)), units.moment(units.floor(leaves)),
+                         units.moment(units.floor(walked(instance, route, leaves)[-1].end))])
+        whole = [i for _, route in self.routes for i in route]
+        return rows + [["plan", "%d" % len(whole), units.load(sum(map(instance.demand, whole))),
+                        units.distance(self.cost()), "", ""]]
+
+    def compared(self, best):
+        """How much farther all drive than in the best plan."""
+        cost, units = self.cost(), self.units
+        if cost == best:
+            return "as far as the best plan"
+        return "%s %s %s than the best plan, which has %s (%.1f %%)" % (
+            units.distance(abs(cost - best)), units.measure(), "more" if cost > best else "less",
+            units.distance(best), 100 * abs(cost - best) / best if best else 0)
+
+    def told(self, best):
+        """All of it: the verdict, a table of vehicles, and the comparison."""
+        wrong = self.wrong()
+        head = ["no plan: %d thing%s wrong" % (len(wrong), " is" if len(wrong) == 1 else "s are")] if wrong else ["a plan"]
+        rows = [list(HEADING)] + self.rows()
+        widths = [max(map(len, column)) + 2 for column in zip(*rows)]
+        table = ["".join(word.rjust(width) for word, width in zip(row, widths)).rstrip() for row in rows]
+        return "\n".join([*head, *wrong, "", *table] + ([] if best is None else ["", self.compared(best)]) + [""])
