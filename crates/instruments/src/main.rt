@@ -1,9 +1,8 @@
-//! Calls and texts for the programs of `outside/`, and measures for the benchmark. Words: `turns` with an
-//! instance's file and the number of turns, or `times` where their times are to be printed, too; `closing`
-//! with an instance's file and the number of neighbours; `echo` with `certificate` or `solution` and a file;
-//! `rows` with `library` or `program` and the file of a script; `call` with the names of calls. More such words
-//! may follow, but behind `call` all are names. The status is 1 where the words or the files are not such, or
-//! memory was refused.
+//! Calls and texts for the judges of `outside/`, and measures for `bench/`. Words: `turns` with an instance's file
+//! and the number of turns, or `times` where their times are to be printed, too; `closing` with an instance's file
+//! and the number of neighbours; `echo` with `certificate` or `solution` and a file; `call` with the names of
+//! calls. More such words may follow, but behind `call` all are names. The status is 1 where the words or the
+//! files are not such, or memory was refused.
 #![tactic(auto)]
 
 mod calls;
@@ -18,20 +17,12 @@ use crate::measures::tell_measure;
 use crate::starts::{Host, WRONG};
 use std::sync::Wait;
 use std::thread::Threads;
-use std::{env, fs, io};
+use std::{env, io};
 
 /// Prints what a mode and the two words behind it ask for.
-fn tell<R: Host + Threads + Wait>(rt: &R, mode: &str, first: &str, second: &str) -> io::Result<()> {
-    match (mode, first) {
-        ("echo", _) => tell_echo(rt, first, second),
-        ("rows", "library") => test_library::tell_rows(
-            rt,
-            fs::read_to_string(rt, second)?.as_str(),
-        ),
-        ("rows", "program") => test_program::tell_rows(
-            rt,
-            fs::read_to_string(rt, second)?.as_str(),
-        ),
+fn tell<R: Host + Threads>(rt: &R, mode: &str, first: &str, second: &str) -> io::Result<()> {
+    match mode {
+        "echo" => tell_echo(rt, first, second),
         _ => tell_measure(rt, mode, first, second),
     }
 }
