@@ -129,9 +129,10 @@ judge i.txt moved.csv --names names.csv|3|-: not served: b
 judge i.txt p.txt --output o.txt|0|o.txt: Cost 20.0
 judge waits.txt p.txt --depart early|0|-: 0.0  115.0
 judge waits.txt p.txt --depart late|0|-: 95.0  115.0
-large_trees i.txt --minutes 0.06 --turns 2,default --jobs 1 --seed 5 --solver {program}|0|-: 2 certificates, & \
--: , 0 disagreements
-large_trees i.txt --minutes 0.02 --turns 2 --jobs 1 --program {program}|0|-: 1 certificates, & -: , 0 disagreements
+outside/workshop/large_trees i.txt --minutes 0.06 --turns 2,default --jobs 1 --seed 5 --solver {program}|0|\
+-: 2 certificates, & -: , 0 disagreements
+outside/workshop/large_trees i.txt --minutes 0.02 --turns 2 --jobs 1 --program {program}|0|\
+-: 1 certificates, & -: , 0 disagreements
 plan t.csv --into d --seconds 30 --vehicles 2 --capacity 5 --from csv --name Monday --scale 3|0|\
 d/instance.txt: Monday & d/instance.txt: 1 9 12 1 0 3000 0 & d/report.html: </html>
 plan plain.csv --into d --horizon 06:00-18:00 --vehicles 2 --capacity 5 --seconds 30|0|d/timetable.csv: 06:0
@@ -177,7 +178,8 @@ respell i.txt p.txt --scale 2|0|-: Cost 20.0
 run --minutes 0.03 --kinds medium --jobs 1 --program {program}|0|-: medium: & -: , 0 disagreements
 run --runs 1 --seed 7 --kinds medium --jobs 1|0|-: 1 runs, 0 disagreements
 run --instruments {program} --kinds manual|0|-: 1 runs, 0 disagreements
-set_maker i.txt --sets 3 --leaves 2 --neighbours 4 --seed 5 >made.txt ; recheck i.txt made.txt|0|made.txt: NEIGHBOURS 4
+outside/workshop/set_maker i.txt --sets 3 --leaves 2 --neighbours 4 --seed 5 >made.txt ; recheck i.txt made.txt|0|\
+made.txt: NEIGHBOURS 4
 set_prices small.txt c.txt two.txt --rounds 3 --neighbours 4 --seed 5 ; recheck small.txt c.txt two.txt|0|\
 -: BEST 30.0 & c.txt: NEIGHBOURS 4
 set_prices i.txt - --rounds 0|0|-: VRPTW-SETS 1
@@ -194,8 +196,9 @@ timetable i.txt p.txt --csv --names semicolons.csv|0|-: 1;2;10,0;0,0;10,0;10,0;2
 timetable i.txt p.txt --json --names names.csv|0|-: "name": "a"
 why both.txt none.txt --names names.csv|0|-: the certificate proves it
 why both.txt none_sets.txt --names names.csv|0|-: the certificate proves it
-try_parallel --install --program {program}|1|-: installs parallel rsync openssh-client openssh-server by apt-get
-try_slurm --install --program {program}|1|-: installs munge slurmctld slurmd slurm-client by apt-get
+outside/workshop/try_parallel --install --program {program}|1|\
+-: installs parallel rsync openssh-client openssh-server by apt-get
+outside/workshop/try_slurm --install --program {program}|1|-: installs munge slurmctld slurmd slurm-client by apt-get
 bench/contracts HEAD set_needs|0|-: 3 of 3 contracts of HEAD stand word for word
 bench/leaves tree.txt 3|0|-: P 0 0
 bench/leaves k.txt 4 >many.txt ; recheck i.txt many.txt|0|-: BOUND 0.0
@@ -256,18 +259,18 @@ join i.txt grown.txt one.txt --labels 0|--labels|2|met "0"
 join i.txt grown.txt one.txt --program nowhere|--program|1|nowhere: met no program
 judge i.txt moved.csv --names names.csv -o o.txt||1|moved.csv: met a plan that doesn't serve each customer once
 judge i.txt nobody.csv --names names.csv||1|nobody.csv: line 3: met "c", wanted a customer's number or name
-judge i.txt beside.csv --names names.csv||1|beside.csv: line 2: met "a" beside "2", wanted name and number of one customer
+judge i.txt beside.csv --names names.csv||1|beside.csv: line 2: met "a" beside "2", wanted name and
 judge i.txt p.txt --best cost.txt|--best|1|cost.txt: line 2: met a cost of 20.1
 judge i.txt p.txt -o p.txt|--output|1|p.txt: met the file that is read
 judge i.txt p.txt --names names2.csv|--names|1|names2.csv: line 3: met no name of number 2
 judge i.txt p.txt --depart never|--depart|2|invalid choice: 'never'
-large_trees i.txt --minutes x|--minutes|2|met "x"
-large_trees i.txt --minutes 0|--minutes|2|met "0"
-large_trees i.txt --turns 5,x|--turns|2|met "5,x"
-large_trees i.txt --jobs 0|--jobs|2|met "0"
-large_trees i.txt --seed x|--seed|2|met "x"
-large_trees i.txt --program nowhere|--program|1|nowhere: met no program
-large_trees i.txt --solver folder|--solver|1|folder: met no program
+outside/workshop/large_trees i.txt --minutes x|--minutes|2|met "x"
+outside/workshop/large_trees i.txt --minutes 0|--minutes|2|met "0"
+outside/workshop/large_trees i.txt --turns 5,x|--turns|2|met "5,x"
+outside/workshop/large_trees i.txt --jobs 0|--jobs|2|met "0"
+outside/workshop/large_trees i.txt --seed x|--seed|2|met "x"
+outside/workshop/large_trees i.txt --program nowhere|--program|1|nowhere: met no program
+outside/workshop/large_trees i.txt --solver folder|--solver|1|folder: met no program
 plan t.csv --into p.txt --vehicles 2 --capacity 5|--into|1|p.txt: File exists
 plan t.csv --into d --vehicles 2 --capacity 5 --seconds x|--seconds|2|met "x"
 plan t.csv --into d --vehicles 0 --capacity 5|--vehicles|2|met "0"
@@ -327,11 +330,11 @@ run --kinds manual --jobs 0|--jobs|2|met "0"
 run --kinds manual --program nowhere|--program|1|nowhere: met no program
 run --kinds turns --instruments nowhere|--instruments|1|nowhere: met no program
 run --kinds manual,none|--kinds|2|no such kind: none
-set_maker i.txt --sets 1001|--sets|2|met "1001"
-set_maker i.txt --leaves 0|--leaves|2|met "0"
-set_maker i.txt --leaves 65||1|i.txt: met 65 leaves, wanted at most 64 by its arcs
-set_maker i.txt --neighbours 16|--neighbours|2|met "16"
-set_maker i.txt --seed x|--seed|2|met "x"
+outside/workshop/set_maker i.txt --sets 1001|--sets|2|met "1001"
+outside/workshop/set_maker i.txt --leaves 0|--leaves|2|met "0"
+outside/workshop/set_maker i.txt --leaves 65||1|i.txt: met 65 leaves, wanted at most 64 by its arcs
+outside/workshop/set_maker i.txt --neighbours 16|--neighbours|2|met "16"
+outside/workshop/set_maker i.txt --seed x|--seed|2|met "x"
 set_prices i.txt c.txt --rounds x|--rounds|2|met "x"
 set_prices i.txt c.txt --neighbours 16|--neighbours|2|met "16"
 set_prices i.txt c.txt --seed -1|--seed|2|
@@ -358,11 +361,11 @@ bench/solomon theirs --into l --options "--turns x"|--options|2|met "x"
 bench/solomon theirs --into l --jobs 0|--jobs|2|met "0"
 bench/solomon theirs --into l --published p.txt|--published|1|p.txt: line 1: met
 bench/solomon theirs --into l --program nowhere|--program|1|nowhere: met no program
-try_parallel --program nowhere|--program|1|nowhere: met no program
-try_slurm --program nowhere|--program|1|nowhere: met no program
-try_parallel||1|isn't there; --install has apt-get install parallel rsync openssh-client openssh-server
-try_parallel --instal||2|unrecognized
-try_slurm||1|isn't there; --install has apt-get install munge slurmctld slurmd slurm-client
+outside/workshop/try_parallel --program nowhere|--program|1|nowhere: met no program
+outside/workshop/try_slurm --program nowhere|--program|1|nowhere: met no program
+outside/workshop/try_parallel||1|isn't there; --install has apt-get install parallel rsync openssh-client openssh-server
+outside/workshop/try_parallel --instal||2|unrecognized
+outside/workshop/try_slurm||1|isn't there; --install has apt-get install munge slurmctld slurmd slurm-client
 """
 # Options that take every value, with the reason.
 ANY = {"--name": "what ours can't hold becomes what it can, and that is noted"}

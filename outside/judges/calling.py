@@ -7,6 +7,7 @@ import functools
 from collections import Counter
 
 from cases.rows import DEPOT, INSTANCES, certificate_text, instance_text
+from judges.kind import Kind
 from judges.refused_solving import ANSWERED, SIZES, judge_solved
 from judges.refusing import counted, variables_of
 from judges.running import Disagreement, demand, run, shown
@@ -167,3 +168,11 @@ def judge_both(call, first, second, told):
         demand(second in call.refused[1], told)
         return "refused"
     return AS_USUAL
+
+
+KINDS = {
+    "calls": Kind("calls of the library by instruments, each allocation refused in turn", len(NAMES),
+                  lambda programs, folder, random, seed:
+                      judge_call(programs.instruments, folder, programs.library, seed),
+                  is_fixed=True, of_library=True, refuses=True),
+}

@@ -1,4 +1,5 @@
-"""What a document cites (links, paths, names, options, rows) or a wrong body replaces, and whether it stands there."""
+"""What a document cites (links, paths, names, options, rows), what it shows of a file, or a wrong body replaces, and
+whether it stands there."""
 import glob
 import os
 import re
@@ -27,11 +28,11 @@ EXCEPTED = {
 
 # Where files stand that a document names without a folder: what it is about.
 HOMES = {
-    "docs/definitions.md": ("crates/solomon_reader/specs", "crates/instruments/data"),
+    "docs/definitions.md": ("crates/solomon_reader/specs", "crates/rows/data"),
     "docs/lab/runs.md": ("outside",),
     "outside/README.md": ("outside/reference", "outside/tools", "outside/cases", "outside/judges"),
     "outside/judges/README.md": ("outside",),
-    "CONTRIBUTING.md": ("crates/instruments/data",),
+    "CONTRIBUTING.md": ("crates/rows/data",),
 }
 
 ROWS = "docs/definitions.md"
@@ -39,13 +40,16 @@ SUFFIXES = (".rt", ".antt", ".md", ".edit", ".py", ".txt", ".c", ".sh", ".svg")
 # The sources, in whose words names are looked for: all but documents, and this program with its exceptions.
 SOURCES = ("crates/*/src", "crates/*/specs", "crates/*/proofs", "bench", "outside", "wrong_bodies", "release/make",
            "release/*.sh", "vrptw", "check", "crates.txt")
-OWN = ("outside/judges/citing.py", "outside/cited")
+OWN = ("outside/judges/citing.py", "outside/workshop/cited")
 # The wrong bodies; the second part of such a path is the crate.
 EDITS = ("wrong_bodies/*/*.edit", "crates/*/must-fail/*.edit")
 
 # What stands in a path for any name.
 ANY = re.compile(r"\b(CRATE|MODULE|FUNCTION|NAME)\b")
 SPAN = re.compile(r"`([^`]+)`")
+# The fence of what a document shows of a file, and the line that stands for what it leaves out.
+SHOWN = re.compile(r"```\w+ (\S+/\S+)$")
+LEFT_OUT = "..."
 LINK = re.compile(r"\]\(([^)\s]+)\)")
 BRACES = re.compile(r"(\S*)\{([^}]*)\}")
 NAME = re.compile(r"[A-Za-z_]\w+$")
@@ -157,15 +161,17 @@ class Document:
     def __init__(self, sources, path):
         self.sources, self.path = sources, path
         self.folder = os.path.dirname(path)
-        self.counts = {"link": 0, "path": 0, "name": 0, "option": 0, "row": 0}
+        self.counts = {"link": 0, "path": 0, "name": 0, "option": 0, "row": 0, "example": 0}
         self.lacks = []
         self.line, self.crate = 0, None
 
     def judge(self):
-        is_fenced = False
-        for self.line, text in enumerate(read(os.path.join(self.sources.top, self.path)).split("\n"), 1):
+        is_fenced, lines = False, read(os.path.join(self.sources.top, self.path)).split("\n")
+        for self.line, text in enumerate(lines, 1):
             if text.startswith("```"):
                 is_fenced = not is_fenced
+                if is_fenced and SHOWN.match(text):
+                    self.judge_shown(SHOWN.match(text)[1], lines[self.line:lines.index("```", self.line)])
             elif is_fenced or text.startswith("    "):
                 self.judge_code(text)
             else:
@@ -175,6 +181,17 @@ class Document:
         self.counts[kind] += 1
         if not is_found:
             self.lacks.append("%s:%d: %s %s" % (self.path, self.line, kind, word))
+
+    def judge_shown(self, file, lines):
+        """What is shown of a file stands there, in that order, each part in whole lines."""
+        path = os.path.join(self.sources.top, file)
+        text, at = "\n" + (read(path) if os.path.isfile(path) else ""), 0
+        for part in "\n".join(lines).split("\n%s\n" % LEFT_OUT):
+            at = text.find("\n%s\n" % part, at)
+            if at < 0:
+                break
+            at += len(part) + 1
+        self.count("example", "of " + file, at >= 0)
 
     def judge_code(self, text):
         """Commands and sketches: names with a scope, and paths that begin at the top of the repository."""

@@ -4,7 +4,7 @@ import subprocess
 
 from judges.citing import Document
 
-FOLDERS = ("outside", "bench")
+FOLDERS = ("outside", "outside/workshop", "bench")
 PROGRAM, SUBCOMMANDS = "release/vrptw-x86_64-linux", ([], ["solve"], ["check"])
 # What may stand around a path.
 AROUND = "`'\".,;:|[]()<>"

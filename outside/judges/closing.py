@@ -2,6 +2,7 @@
 be that one, with a bound that reaches it."""
 from cases.random_texts import instance_words, laid_out
 from cases.shapes import SHAPES
+from judges.kind import Kind, program_by
 from judges.running import Disagreement, demand, run_check, solve
 from judges.solving import least
 from reference import checking
@@ -154,3 +155,9 @@ def judge_many(program, folder, random):
         checked = run_check(program, folder, text, came[4], came[3] or None)
         demand(checked == came[:3], "close: %r, check: %r" % (came[:3], checked))
     return "24 customers"
+
+
+KINDS = {
+    "close": Kind("solve --close, 1 to 8 customers, drawn limits: the least cost of all plans", 24,
+                  program_by(judge_close)),
+}

@@ -9,6 +9,7 @@ import shutil
 import threading
 
 from cases.rows import INSTANCES, certificate_text
+from judges.kind import Kind, number_by
 from judges.running import Disagreement, demand, got, put, run
 from reference import bounding, checking
 from reference.instances import Fault, read
@@ -360,3 +361,9 @@ def judge_device(program, folder, number):
     except Disagreement as fault:
         raise Disagreement("%s: %s" % (name, fault))
     return "%s, %s" % (name, found) if found else name
+
+
+KINDS = {
+    "devices": Kind("each front of the three texts of one customer; files and streams that fail", len(DEVICES),
+                    number_by(judge_device), is_fixed=True),
+}

@@ -3,28 +3,16 @@ import os
 
 from cases.random_texts import (LARGE, certificate_lines, certificate_of, instance_words, laid_out, mutated, plan_of,
                                 solution_lines, solution_of, spoilt, tree_of)
-from cases.rows import status_of
-from judges.running import demand, run, run_check, solve
+from cases.rows import ROWS, status_of
+from cases.spellings import SPELLINGS
+from judges.kind import Kind, number_by, program_by
+from judges.running import demand, run, run_check
 from judges.turning import judge_turns_told
 from reference import bounding, checking
 from reference.building import build
-from reference.instances import Fault, plan_cost, read
+from reference.instances import plan_cost, read
 from reference.moving import descend
 from reference.texts import TextFault, read_certificate, read_solution, shown
-
-
-def judge_refusal(program, folder, random):
-    """A text with something wrong: the program's reader against the reference's. Answers what came of it."""
-    text = mutated(random, instance_words(random, random.randint(1, 5)))
-    out, errors, status, solution, certificate = solve(program, folder, text)
-    try:
-        read(text)
-    except Fault as fault:
-        demand((out, errors, status) == ("", "vrptw: instance: %s\n" % fault, 3), "refusal %s: %r" % (fault, errors))
-        demand((solution, certificate) == (b"", b""), "files after a refusal")
-        return str(fault).split()[0]
-    demand(status in (0, 1), "an instance was refused: %r" % errors)
-    return "whole"
 
 
 def judge_check(program, folder, random):
@@ -82,9 +70,9 @@ def checked_texts(random, instance, lines, bound, routes):
     return certificate, "".join(line + "\n" for line in told).encode()
 
 
-def judge_row(program, folder, row):
+def judge_row(program, folder, number):
     """A row that was computed by hand. Answers the line's first words."""
-    name, instance, certificate, solution, further, said = row
+    name, instance, certificate, solution, further, said = ROWS[number]
     got = run_check(program, folder, instance.encode(), certificate.encode(), solution.encode() or None, further)
     lines = ("", said + "\n") if said.startswith("vrptw") else (said + "\n", "")
     demand(got == lines + (status_of(said),), "%s: %r" % (name, got))
@@ -116,9 +104,9 @@ def judge_echo(instruments, folder, kind, text, reader):
     return echoed(instruments, folder, kind, text, said_of(reader, text))
 
 
-def judge_spelling(instruments, folder, row):
+def judge_spelling(instruments, folder, number):
     """A text that was made by hand: read and written again, or the fault that was found by hand."""
-    kind, text, said = row
+    kind, text, said = SPELLINGS[number]
     return "%s %s" % (kind, echoed(instruments, folder, kind, text.encode(), said))
 
 
@@ -139,3 +127,26 @@ def judge_large(programs, folder, seed):
     found = said_of(read_certificate, text)
     demand(found == said, "%s: reference: %s" % (name, found))
     return "%s: %s" % (name, echoed(programs.instruments, folder, "certificate", text, said))
+
+
+KINDS = {
+    "rows": Kind("texts with what the check says of them, computed by hand", len(ROWS),
+                 number_by(judge_row), is_fixed=True),
+    "spellings": Kind("certificates and plans with faults found by hand, through instruments", len(SPELLINGS),
+                      lambda programs, folder, random, seed: judge_spelling(programs.instruments, folder, seed),
+                      is_fixed=True, of_library=True),
+    "large": Kind("certificates at the limits of depth and leaves, through instruments", len(LARGE),
+                  lambda programs, folder, random, seed: judge_large(programs, folder, seed),
+                  is_fixed=True, of_library=True),
+    "checks": Kind("instance, certificate and plan, right or with something wrong, through check", 60,
+                   program_by(judge_check)),
+    "turns": Kind("descents and turns of up to 8 customers, through instruments", 60,
+                  lambda programs, folder, random, seed:
+                      judge_turns(programs.instruments, folder, random, random.randint(1, 8)), of_library=True),
+    "certificates": Kind("a certificate with something wrong, read and written by instruments", 400,
+                         lambda programs, folder, random, seed: judge_text(programs, folder, random, "certificates"),
+                         of_library=True),
+    "solutions": Kind("a plan with something wrong, read and written by instruments", 400,
+                      lambda programs, folder, random, seed: judge_text(programs, folder, random, "solutions"),
+                      of_library=True),
+}

@@ -4,11 +4,12 @@ import os
 
 from cases.random_texts import instance_words, laid_out
 from judges.judging_layouts import tool
+from judges.kind import Kind, program_by
 from judges.running import demand, got, put, run_check
 
 # What may be changed between two calls: nothing; a step that isn't done; a text; the instance as it is given, or the
 # one in the folder of its step.
-KINDS = ("nothing", "broken", "plan", "certificate", "instance", "other")
+SPOILT = ("nothing", "broken", "plan", "certificate", "instance", "other")
 # Sets of options, as words, and the columns that they make.
 FEW = "--searchers 1 --bounders 1"
 SETS = [
@@ -60,7 +61,7 @@ def judge_row(program, folder, text, row, into):
 def changed(random, into, files, names):
     """Changes one thing between two runs; answers what, and the step that it is about."""
     name = random.choice(sorted(done_in(into)))
-    own, kind = os.path.join(into, name), random.choice(KINDS)
+    own, kind = os.path.join(into, name), random.choice(SPOILT)
     if kind == "broken":
         os.remove(os.path.join(own, "done.txt"))
     elif kind in ("plan", "certificate"):
@@ -142,3 +143,8 @@ def judge_batch(program, folder, random):
     for row in rows:
         judge_row(program, folder, got(files[names.index(row["instance"])]), row, into)
     return kind + (", spoiled before" if is_spoiled else "")
+
+
+KINDS = {
+    "batches": Kind("some instances by batch, and again with something changed in between", 6, program_by(judge_batch)),
+}

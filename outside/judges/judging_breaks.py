@@ -7,6 +7,7 @@ import time
 
 from cases.classes import CLASSES, class_words
 from cases.random_texts import laid_out
+from judges.kind import Kind, program_by
 from judges.running import demand, got, run_check, put
 from reference.instances import read
 from tools.places import OUTSIDE
@@ -160,3 +161,9 @@ def judge_break(program, folder, random):
     demand(status == 0 and now[2] is not None, "at the end: status %d, %r, %r" % (status, out, errors))
     demand(len(read(now[0]).rows) == len(table.rows), "another instance at the end")
     return "%s after %d breaks" % (now[1], breaks)
+
+
+KINDS = {
+    "breaks": Kind("plan, broken off at drawn times: texts that are right, never dearer than before", 4,
+                   program_by(judge_break)),
+}

@@ -1,5 +1,6 @@
 """Texts with some bytes changed, through the program's check and through the reference's."""
 from cases.mutating import base, changed
+from judges.kind import Kind, program_by
 from judges.running import demand, run_check, solve
 from reference import bounding, checking
 
@@ -23,3 +24,12 @@ def judge_bytes(program, folder, random, name):
         refused = solve(program, folder, texts[0], ["--turns", "1"])
         demand(refused == wanted + (b"", b""), "solve: %r, and %r is right" % (refused, wanted))
     return " ".join(word for word in (wanted[0] or wanted[1]).split() if word.isalpha() or word.endswith(":"))
+
+
+KINDS = {
+    "instance_bytes": Kind("an instance with some bytes changed, through check", 1500,
+                           program_by(judge_bytes, "instance")),
+    "certificate_bytes": Kind("a certificate with some bytes changed, through check", 1500,
+                              program_by(judge_bytes, "certificate")),
+    "solution_bytes": Kind("a plan with some bytes changed, through check", 1500, program_by(judge_bytes, "solution")),
+}

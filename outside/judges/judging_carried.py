@@ -7,6 +7,7 @@ from cases.random_texts import customer_words, instance_words, laid_out
 from cases.spelled_cases import partition
 from judges.judging_layouts import demand_notes, text_of, tool
 from judges.judging_tables import plan_text
+from judges.kind import Kind, tools_by
 from judges.running import demand, put
 from reference.instances import Instance, is_plan, plan_cost, read
 from reference.texts import read_solution
@@ -68,3 +69,9 @@ def judge_carried(folder, random):
     demand_told(errors, "customers that are gone", [names[i] for i in range(1, instance.count + 1) if i not in before])
     demand_told(errors, "new customers", [name for name, i in zip(own, before) if i is None])
     return "the same" if is_same else "a plan"
+
+
+KINDS = {
+    "carried": Kind("a plan taken to a changed instance, by carry: a plan of that, at its cost, and who is gone or new",
+                    30, tools_by(judge_carried)),
+}

@@ -9,6 +9,7 @@ from cases.random_texts import laid_out
 from cases.shapes import waiting
 from judges.judging_layouts import tool
 from judges.judging_tables import plan_text
+from judges.kind import Kind, tools_by
 from judges.running import demand, got, put
 from reference.instances import read
 from tools.names import table_of
@@ -153,3 +154,9 @@ def judge_departures(folder, random):
     demand_pages(folder, words, sums)
     demand_bars(words, routes, stops, sums)
     return "early" if is_early else "late"
+
+
+KINDS = {
+    "departures": Kind("when vehicles leave, by timetable, report, sheets and draw: later they'd be back later", 12,
+                       tools_by(judge_departures)),
+}

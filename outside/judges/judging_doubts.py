@@ -4,6 +4,7 @@ import os
 import re
 
 from judges.judging_layouts import demand_notes, tool
+from judges.kind import Kind, tools_by
 from judges.running import demand, got, put
 from reference.instances import read
 
@@ -164,3 +165,11 @@ def judge_faults(folder, random):
         right.remove(fits[0])
     demand(not more or told[20] == "outside/convert: %s: and %d faults more" % (source, more), "%r" % told[-1])
     return "more than 20" if more else "up to 20"
+
+
+KINDS = {
+    "doubts": Kind("a sheet in one of six languages with one doubtful thing, by convert: noted with its line", 30,
+                   tools_by(judge_doubts)),
+    "many_faults": Kind("a sheet with many faults, by convert: each is told as it stands there, up to twenty", 30,
+                        tools_by(judge_faults)),
+}

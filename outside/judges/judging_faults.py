@@ -4,6 +4,7 @@ import re
 
 from cases.tool_faults import FAULTS, FILES
 from judges.judging_layouts import demand_refusal, demand_refusals
+from judges.kind import Kind
 from judges.running import demand, got, put, run, shown
 from tools.places import OUTSIDE
 
@@ -67,3 +68,9 @@ def judge_fault(folder, seed):
         demand((out, status, errors.count("\n")) == (b"", 1, 1) and "standard output" in errors, "%s: %r" % (
             words, errors))
     return kind
+
+
+KINDS = {
+    "tool_faults": Kind("the tools with files that fail and with wrong words", len(FAULTS),
+                        lambda programs, folder, random, seed: judge_fault(folder, seed), is_fixed=True),
+}

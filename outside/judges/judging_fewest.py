@@ -6,6 +6,7 @@ import re
 from cases.edges import edge_words
 from cases.random_texts import laid_out
 from judges.judging_layouts import tool
+from judges.kind import Kind, program_by
 from judges.running import demand, got, put
 from reference.instances import Instance, is_plan, read
 from reference.optimum import least_cost
@@ -117,3 +118,9 @@ def judge_fewest(program, folder, random):
         demand(again[0] == mended and again[2] in (0, 1), "--check: %r, after %r was mended" % (again, mended))
         judge_line(mended.decode().split("\n")[0], instance)
     return kind
+
+
+KINDS = {
+    "fewest": Kind("fewest on 1 to 8 customers: the fewest vehicles and the least cost with them, by all plans", 12,
+                   program_by(judge_fewest)),
+}

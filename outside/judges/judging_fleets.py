@@ -6,6 +6,7 @@ from cases.edges import edge_words
 from cases.random_texts import laid_out
 from judges.closing import FEW_LEAVES, judge_closed, leaves_of
 from judges.judging_layouts import tool
+from judges.kind import Kind, program_by
 from judges.running import Disagreement, demand, run_check, solve
 from judges.solving import DEFAULTS, judge_run
 from reference import checking
@@ -102,3 +103,10 @@ def by_values(instance, found, solution, told):
     demand(bound == instance.ceiling() + 1 or solution, "NO PLAN with the bound %d" % bound)
     demand(right == told, "solve: %r, reference: %r" % (told, right))
     return ""
+
+
+KINDS = {
+    "fleets": Kind("a fleet near the edge, 1 to 9 customers: NO PLAN exactly where there is none", 40,
+                   program_by(judge_fleets)),
+    "tight": Kind("25 customers, one vehicle fewer again and again: never OPEN", 4, program_by(judge_tight)),
+}

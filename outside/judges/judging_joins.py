@@ -8,6 +8,7 @@ from cases.mutating import changed_bytes, changed_number
 from cases.random_texts import instance_words, laid_out
 from cases.set_cases import set_words, sets_of
 from judges.judging_layouts import tool
+from judges.kind import Kind, program_by
 from judges.running import demand, put, run_check, solve
 from reference import bounding, checking
 from reference.bounding import PricedSet, Region
@@ -253,3 +254,9 @@ def demand_checked(program, folder, instance, text, certificate, plan, words):
     out, errors, status = tool("join", *words, "--check")
     demand((out, status) == (certificate, 0), "join --check: status %d, %r" % (status, errors))
     demand("outside/join: note: vrptw check says: %s" % came[0] in errors, "join --check: %r" % errors)
+
+
+KINDS = {
+    "joins": Kind("certificates that grew from one, by join: the tree and bound of the reference, or refused", 24,
+                  program_by(judge_join)),
+}

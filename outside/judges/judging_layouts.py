@@ -4,6 +4,7 @@ import os
 
 from cases.tool_cases import CHANGES, WRITERS, is_same, odd_instance, option_lacks, values
 from cases.tool_texts import joined, number_of, with_blanks
+from judges.kind import Kind, tools_by
 from judges.running import demand, got, put, run, shown
 from reference.instances import Fault, read
 from tools.places import OUTSIDE
@@ -130,3 +131,13 @@ def judge_wrong_layout(folder, random):
     demand_refusal("convert", source, number_of(lines, wrong), came)
     demand(got(target) is None, "convert wrote a file after a refusal")
     return "%s: %s" % (layout, change.__name__)
+
+
+KINDS = {
+    "round_trips": Kind("numbers at the limits, by convert to each layout and back: the same", 8,
+                        tools_by(judge_round_trip)),
+    "layouts": Kind("an instance in another layout, as files are found, by convert: the same", 40,
+                    tools_by(judge_layout)),
+    "wrong_layouts": Kind("an instance in another layout with one thing wrong: refused with its line", 40,
+                          tools_by(judge_wrong_layout)),
+}

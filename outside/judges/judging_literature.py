@@ -6,6 +6,7 @@ from importlib.machinery import SourceFileLoader
 from importlib.util import module_from_spec, spec_from_loader
 
 from cases.random_texts import instance_words, laid_out
+from judges.kind import Kind, program_by
 from judges.running import demand, put, run, shown as as_text
 from reference.instances import Instance, read
 from reference.optimum import least_cost
@@ -123,3 +124,9 @@ def judge_literature(program, folder, random):
     demand(len(out.decode().split("\n\n")[1].splitlines()) == 1 + len(classes), "classes: %r" % out)
     demand(len(os.listdir(source)) == len(names) + len(others), "the folder of theirs isn't as it was")
     return "differs" if status else "as published"
+
+
+KINDS = {
+    "literature": Kind("files named as Solomon's by bench/solomon, beside published costs: least costs by all plans", 6,
+                       program_by(judge_literature)),
+}

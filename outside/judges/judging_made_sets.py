@@ -3,6 +3,7 @@ import os
 
 from judges.judging_layouts import text_of, tool
 from judges.judging_sets import demand_checked, drawn, said_by_recheck
+from judges.kind import Kind, program_by
 from judges.running import demand, got, put
 from reference import bounding, checking
 from reference.instances import read
@@ -115,8 +116,8 @@ def judge_made(program, folder, random):
     count = {"sets": random.randint(0, 9), "leaves": random.randint(1, min(9, 1 << instance.count * 2)),
              "neighbours": random.choice([0, 2, 8]) if instance.capacity <= 5 else 8, "seed": random.randrange(10 ** 6)}
     words = [word for name, value in count.items() for word in ("--" + name, str(value))]
-    certificate = made(folder, "set_maker", text, *words)
-    demand(certificate == made(folder, "set_maker", text, *words), "another text the second time")
+    certificate = made(folder, "workshop/set_maker", text, *words)
+    demand(certificate == made(folder, "workshop/set_maker", text, *words), "another text the second time")
     found = read_either(certificate)
     demand(len(found.sets) == (count["sets"] if instance.count > 1 else 0)
            and sum(1 for _ in leaves(instance.count, found.tree)) == count["leaves"], "as many as %r" % count)
@@ -150,3 +151,11 @@ def judge_priced(program, folder, random):
            "plan costs %r" % (bounds, bound, cost))
     told = "the cost" if bound == cost else "below it" if cost is not None else "no plan"
     return "%s, %s" % (told, "more than without sets" if bounds[0] < bounds[1] else "as without sets")
+
+
+KINDS = {
+    "made_sets": Kind("texts of set_maker: taken by recheck, and refused with a need, a price or an order changed", 8,
+                      program_by(judge_made)),
+    "priced_sets": Kind("texts of set_prices: at most the least cost of all plans, and the line of recheck", 6,
+                        program_by(judge_priced)),
+}

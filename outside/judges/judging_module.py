@@ -4,6 +4,7 @@ import os
 import time
 
 from cases.random_texts import instance_words, laid_out, plan_of
+from judges.kind import Kind, program_by
 from judges.running import demand, put
 from reference.building import build
 from reference.instances import is_plan, plan_cost, read
@@ -137,3 +138,9 @@ def judge_module(program, folder, random):
     if kind == 1 and not left:
         return judge_faults(program, text, routes)
     return judge_solved(random, folder, text, instance, cost, options)
+
+
+KINDS = {
+    "module": Kind("1 to 6 customers by the module for Python: answers, texts, cancelling and faults, by all plans", 20,
+                   program_by(judge_module)),
+}

@@ -1,5 +1,5 @@
-"""One run of judge: a plan moved at random, in a table by stops or by vehicles or as solvers spell it; all that is wrong
-with it, by a walk written anew."""
+"""One run of judge: a plan moved at random, in a table by stops or by vehicles or as solvers spell it; all that is
+wrong with it, by a walk written anew."""
 import csv
 import io
 import os
@@ -8,6 +8,7 @@ from cases.random_texts import laid_out
 from cases.shapes import waiting
 from judges.judging_layouts import tool
 from judges.judging_tables import plan_text
+from judges.kind import Kind, tools_by
 from judges.running import demand, got, put
 from reference.instances import plan_cost, read
 from tools.names import table_of
@@ -185,3 +186,9 @@ def judge_written(folder, instance, routes, paths):
     else:
         demand(status == 1 and "doesn't serve each customer once" in errors and got(back) is None,
                "%d, %r, %r" % (status, errors, out))
+
+
+KINDS = {
+    "moved": Kind("a plan moved by hand, in any spelling, by judge: all that is wrong, by a walk of its own", 30,
+                  tools_by(judge_moved)),
+}

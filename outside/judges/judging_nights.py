@@ -5,6 +5,7 @@ import re
 
 from judges.judging_layouts import demand_notes, tool
 from judges.judging_times import DAY, clock
+from judges.kind import Kind, tools_by
 from judges.running import demand, got, put
 from reference.instances import read
 
@@ -54,3 +55,9 @@ def judge_nights(folder, random):
     told = (int(told[1]), int(told[2])) if told else (0, 0)
     demand(told == (len(lost), lost[0] if lost else 0), "lines %r lose a part: %r" % (lost, errors))
     return "a window on both days" if lost else "as it is meant"
+
+
+KINDS = {
+    "nights": Kind("a table with a depot open over midnight, by convert: the minutes that windows allow", 30,
+                   tools_by(judge_nights)),
+}

@@ -6,6 +6,7 @@ import sys
 
 from cases.option_cases import ANY, FAKES, FEW, MORE, OPTION_ROWS
 from judges.judging_faults import fitted_out
+from judges.kind import Kind, number_by
 from judges.running import demand, got, put, run, shown
 from tools.places import OUTSIDE, TOP
 from tools.tool import path_of
@@ -19,17 +20,19 @@ print(json.dumps([[action.option_strings, action.nargs != 0] for action in parse
 
 
 def is_asked(folder, name):
-    """Whether a file is a command with a parser: each one of outside/, and of bench/ those in Python that use one."""
+    """Whether a file is a command with a parser: each one of outside/ and its workshop, and of bench/ those in Python
+    that use one."""
     path = os.path.join(TOP, folder, name)
     if not os.path.isfile(path) or not os.access(path, os.X_OK):
         return False
     with open(path, encoding="utf-8") as file:
         text = file.read()
-    return folder == "outside" or "python" in text.split("\n")[0] and ("parser" in text or "argparse" in text)
+    return folder != "bench" or "python" in text.split("\n")[0] and ("parser" in text or "argparse" in text)
 
 
+FOLDERS = ("outside", "outside/workshop", "bench")
 # The commands, as rows have them, and then the rows.
-COMMANDS = [name if folder == "outside" else "%s/%s" % (folder, name) for folder in ("outside", "bench")
+COMMANDS = [name if folder == "outside" else "%s/%s" % (folder, name) for folder in FOLDERS
             for name in sorted(os.listdir(os.path.join(TOP, folder))) if is_asked(folder, name)]
 OPTIONS = [("covered", name) for name in COMMANDS] + [("help", name) for name in COMMANDS] + OPTION_ROWS
 
@@ -83,7 +86,7 @@ def said(folder, words):
     """What the last one of some calls says on standard output and standard error, and its status."""
     for call in words.split(" ; "):
         command, _, rest = call.partition(" ")
-        path = folder + "/few" if command.startswith("try_") else "%s/fakes:%s" % (folder, os.environ["PATH"])
+        path = folder + "/few" if "/try_" in command else "%s/fakes:%s" % (folder, os.environ["PATH"])
         put(os.path.join(folder, "command"), ("cd '%s' && PATH='%s' && exec '%s'/%s %s\n" % (
             folder, path, TOP, path_of(command), rest)).encode())
         out, errors, status = run(["/bin/bash", os.path.join(folder, "command")])
@@ -129,3 +132,9 @@ def judge_options(program, folder, seed):
     else:
         judge_wrong(folder, words, *told[1:])
     return kind
+
+
+KINDS = {
+    "options": Kind("each tool with each of its options, by its parser: right values and wrong ones", len(OPTIONS),
+                    number_by(judge_options), is_fixed=True),
+}

@@ -2,6 +2,7 @@
 import json
 import os
 from collections import Counter
+from judges.kind import Kind, program_by, tools_by
 from xml.etree import ElementTree
 
 from cases.random_texts import certificate_of, instance_words, laid_out, solution_of, tree_of
@@ -207,3 +208,14 @@ def judge_tree(instance, path, solution, certificate, folder, random):
     for words in (["draw", path, solution, "--tree", certificate], ["recheck", path, certificate]):
         demand_refusal(words[0], certificate, 5, tool(*words))
     return "drawn"
+
+
+KINDS = {
+    "respelled": Kind("a plan as other solvers spell it, by respell, and the check of what comes", 30,
+                      program_by(judge_respelled)),
+    "wrong_spellings": Kind("another solver's spelling with one thing wrong: refused with its line", 40,
+                            tools_by(judge_wrong_spelling)),
+    "timetables": Kind("a plan's times by timetable, against the walks of its routes", 25, tools_by(judge_timetable)),
+    "pictures": Kind("what draw draws of a plan and of a tree, and what recheck tells of that", 12,
+                     tools_by(judge_picture)),
+}

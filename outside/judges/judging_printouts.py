@@ -6,6 +6,7 @@ from cases.random_texts import solution_of
 from cases.tool_texts import joined, number_of, with_blanks
 from judges.judging_layouts import demand_notes, demand_refusal, tool
 from judges.judging_plans import drawn, text_of
+from judges.kind import Kind, tools_by
 from judges.running import demand, got, put
 from reference.instances import plan_cost
 from tools.names import table_of
@@ -52,3 +53,10 @@ def judge_wrong_printout(folder, random):
     demand_refusal("respell", source, number_of(lines, wrong), came)
     demand(got(certificate) is None, "respell wrote a certificate after a refusal")
     return "%s: %s" % (plan.kind.__name__, change.__name__)
+
+
+KINDS = {
+    "printouts": Kind("a plan as OR-Tools, VROOM, LKH and others print it, by respell", 40, tools_by(judge_printout)),
+    "wrong_printouts": Kind("another solver's print with one thing wrong: refused with its line", 40,
+                            tools_by(judge_wrong_printout)),
+}

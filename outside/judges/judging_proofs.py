@@ -8,6 +8,7 @@ import time
 from cases.grown_trees import leaf_count
 from judges.judging_breaks import demand_no_less, left_running, standing
 from judges.judging_joins import text_of, whole_of
+from judges.kind import Kind, program_by
 from judges.running import demand, got, put
 from reference import bounding, checking
 from reference.optimum import least_cost
@@ -189,3 +190,9 @@ def judge_proof(program, folder, random):
         time.sleep(0.05)
     demand(not left_running(into), "left running: %s" % left_running(into))
     return "%s%s: %s" % (way, joining and ", then %s" % joining, "closed" if is_closed else "right")
+
+
+KINDS = {
+    "proofs": Kind("few customers by prove, one part killed or spoilt: right, never worse, all else kept", 4,
+                   program_by(judge_proof)),
+}

@@ -4,6 +4,7 @@ import os
 import re
 
 from judges.judging_layouts import demand_notes, tool
+from judges.kind import Kind, tools_by
 from judges.running import demand, got, put
 from reference.instances import read
 
@@ -176,3 +177,9 @@ def judge_readings(folder, random):
     demand_notes("convert", errors)
     demand_believed(column, read(got(target)), errors)
     return "read"
+
+
+KINDS = {
+    "readings": Kind("a table with times in several spellings, by convert: read as meant and noted, or refused", 30,
+                     tools_by(judge_readings)),
+}

@@ -2,6 +2,7 @@
 import os
 import re
 import shutil
+from judges.kind import Kind, program_by
 from xml.etree import ElementTree
 
 from cases.random_texts import certificate_of, solution_of, tree_of
@@ -126,3 +127,9 @@ def judge_report(program, folder, random):
     if BROWSER:
         judge_pointer(folder, page)
     return "%s%s" % (kind if has_certificate else "no certificate", ", in a browser" if BROWSER else "")
+
+
+KINDS = {
+    "reports": Kind("the page of report: complete, by itself, and by chromium what answers the pointer", 6,
+                    program_by(judge_report)),
+}

@@ -8,6 +8,7 @@ from fractions import Fraction
 from cases.exact_tables import DUE, POWERS, READY, SERVICE, X, Y, ExactTable, all_plans, power_for, spelled
 from judges.judging_layouts import demand_notes, demand_refusals, tool
 from judges.judging_tables import plan_text
+from judges.kind import Kind, tools_by
 from judges.running import demand, got, put
 from reference.instances import is_plan, plan_cost, read, route_cost, walk
 
@@ -205,3 +206,9 @@ def judge_roundings(folder, random):
         put(plan, plan_text(instance, shown))
         demand_shown(drawn, instance, shown, [target, plan, "--names", names])
     return ("exact" if drawn.is_exact() else "rounded") + (", a plan" if found else ", no plan")
+
+
+KINDS = {
+    "roundings": Kind("a table with decimals or seconds, by convert: what fits here is allowed there, by all plans", 30,
+                      tools_by(judge_roundings)),
+}

@@ -7,6 +7,7 @@ import subprocess
 import threading
 import time
 
+from judges.kind import Kind, tools_by
 from judges.running import demand, got, put
 from reference.set_texts import read_either
 from reference.texts import read_solution, shown
@@ -172,3 +173,9 @@ def judge_rounds(folder, random):
     os.mkdir(by_step)
     judge_by_step(by_step, rows, right)
     return "closed" if right[0] is not None and right[0] == right[1] else "ended"
+
+
+KINDS = {
+    "rounds": Kind("drawn costs and bounds by rounds of the module and of a batch's step: the best stay, at an end too",
+                   12, tools_by(judge_rounds)),
+}

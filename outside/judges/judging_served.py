@@ -1,6 +1,7 @@
 """One run of `plan` on few customers with a fleet near the edge: the least cost, or why there is no plan and a plan of
 those that are served; and one of `sheets`."""
 import os
+from judges.kind import Kind, program_by, tools_by
 from xml.etree import ElementTree
 
 from cases.edges import edge_words
@@ -125,3 +126,11 @@ def judge_sheets(folder, random):
         judge_sheet(section, instance, route, [clean(name) for name in names] if has_names else None,
                     units if has_names else Units())
     return "with names" if has_names else "by numbers"
+
+
+KINDS = {
+    "sheets": Kind("the drivers' sheets of a plan: each stop with its times, and what is left falls to nothing", 20,
+                   tools_by(judge_sheets)),
+    "served": Kind("plan with a fleet near the edge: the least cost, or why not, and a plan of the others", 6,
+                   program_by(judge_served)),
+}

@@ -9,6 +9,7 @@ from cases.set_cases import drawn_set, forged, set_certificate, set_words, spoil
 from cases.set_rows import BY_HAND, SET_ROWS
 from judges.judging import said_of
 from judges.judging_layouts import text_of, tool
+from judges.kind import Kind, number_by, program_by, tools_by
 from judges.running import demand, put, run_check
 from reference import bounding, checking
 from reference.instances import plan_cost, read, walk, walk_times
@@ -275,3 +276,17 @@ def judge_set_check(program, folder, random):
     got = run_check(program, folder, text_of(instance), certificate, solution)
     demand(got == wanted, "check: %r, and %r is right" % (got, wanted))
     return " ".join(word for word in (wanted[0] or wanted[1]).split() if word.isalpha() or word.endswith(":"))
+
+
+KINDS = {
+    "needs": Kind("what sets of up to 7 customers need, by all orders, by all routes and by all plans", 40,
+                  tools_by(judge_needs)),
+    "set_bounds": Kind("bounds with prices of sets: below each plan's cost, the same by labels and by all routes", 24,
+                       tools_by(judge_set_bounds)),
+    "set_texts": Kind("texts with sets, read and written, and with something wrong or forged, by recheck", 24,
+                      tools_by(judge_set_text)),
+    "set_checks": Kind("certificates with sets and plans, right or with something wrong, through check", 40,
+                       program_by(judge_set_check)),
+    "set_rows": Kind("certificates with sets, and what recheck and the reader say of them, by hand", len(SET_ROWS),
+                     number_by(judge_set_row), is_fixed=True),
+}

@@ -3,6 +3,7 @@ check tells it."""
 import os
 
 from cases.random_texts import instance_words, laid_out, plan_of, solution_of, spoilt
+from judges.kind import Kind, program_by
 from judges.running import Disagreement, demand, put, run_check, solve
 from reference import checking
 from reference.instances import plan_cost, read
@@ -63,3 +64,9 @@ def judge_run(program, folder, text, start, words):
     bound = read_either(found).bound
     demand((out.split()[0] == "BEST") == (cost == bound), "%r with the bound %s" % (out, shown(bound)))
     return out.split()[0]
+
+
+KINDS = {
+    "starts": Kind("solve --start, 1 to 8 customers: a plan that costs no more, or the start's fault", 40,
+                   program_by(judge_start)),
+}

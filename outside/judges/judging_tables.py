@@ -7,6 +7,7 @@ from cases.table_cases import name_drawn, table_lines
 from cases.tool_cases import is_same, odd_instance, values
 from cases.tool_texts import Line, field_of, joined, number_of, pick, with_blanks, worded
 from judges.judging_layouts import converted, demand_notes, demand_refusal, options_of, text_of, tool
+from judges.kind import Kind, tools_by
 from judges.running import demand, got, put
 from reference.instances import plan_cost, read
 from reference.optimum import least_cost
@@ -110,3 +111,12 @@ def judge_wrong_names(folder, random):
     words = random.choice([["timetable"], ["draw"]])
     demand_refusal(words[0], table, number_of(lines, wrong), tool(*words, source, plan, "--names", table))
     return words[0]
+
+
+KINDS = {
+    "tables": Kind("a spreadsheet's table with names, by convert: the same, and the names", 30, tools_by(judge_table)),
+    "foreseen": Kind("where convert notes that there is no plan, there is none, by all plans", 30,
+                     tools_by(judge_foreseen)),
+    "wrong_names": Kind("a table of names with one thing wrong: refused with its line", 30,
+                        tools_by(judge_wrong_names)),
+}

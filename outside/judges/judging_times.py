@@ -6,6 +6,7 @@ import os
 import re
 
 from judges.judging_layouts import demand_notes, tool
+from judges.kind import Kind, tools_by
 from judges.running import demand, got, put
 from judges.judging_tables import plan_text
 from reference.instances import read, route_cost, walk_times
@@ -217,3 +218,9 @@ def judge_times(folder, random):
     demand_timetable(day, instance, scale, out.decode(), routes)
     demand_dialect(out.decode(), target, plan, names)
     return kind
+
+
+KINDS = {
+    "times": Kind("a table with times of the day, degrees, visits, empty fields and other codes: as it is meant", 30,
+                  tools_by(judge_times)),
+}

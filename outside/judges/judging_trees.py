@@ -7,6 +7,7 @@ from collections import Counter
 from cases.grown_trees import cut, leaf_count
 from judges.judging_joins import like, spoilt, text_of, whole_of
 from judges.judging_layouts import tool
+from judges.kind import Kind, program_by
 from judges.running import demand, put, run_check, solve
 from reference import bounding, checking
 from reference.set_texts import SetCertificate, read_either
@@ -112,3 +113,9 @@ def judge_answer(program, folder, text, given, came, options, told):
         with open(options[options.index("--start") + 1], "rb") as start:
             demand(read_solution(solution)[1] <= read_solution(start.read())[1], told)
     return "%s%s" % (out.split()[0], " by a part" if "--part" in options else "")
+
+
+KINDS = {
+    "trees": Kind("solve --tree, from trees cut at random and from texts that are none: the bound is no lower", 30,
+                  program_by(judge_tree)),
+}

@@ -8,6 +8,7 @@ from fractions import Fraction
 from cases.exact_tables import DEMAND, DUE, ExactTable, all_plans, power_for
 from judges.judging_layouts import demand_notes, demand_refusals, tool
 from judges.judging_tables import plan_text
+from judges.kind import Kind, tools_by
 from judges.running import demand, got, put
 from reference.instances import is_plan, plan_cost, read
 from reference.optimum import least_cost
@@ -184,3 +185,9 @@ def judge_visits(folder, random):
     elif kind == 2:
         demand_sheets(table, shown, tens, words, folder)
     return "with visits" if table.visits() else "without visits"
+
+
+KINDS = {
+    "visits": Kind("a table with stops without demand, by convert: what fits there fits here, by all plans", 30,
+                   tools_by(judge_visits)),
+}

@@ -3,6 +3,7 @@ that are at fault: rows by hand."""
 import os
 import subprocess
 
+from judges.kind import Kind
 from judges.launching_copies import COPIES, judge_copy, judge_word
 from judges.running import demand, got, put
 from cases.tool_faults import FILES
@@ -132,3 +133,10 @@ def judge_launch(folder, seed):
             path = os.path.join(folder, name)
             (os.rmdir if os.path.isdir(path) else os.remove)(path)
     return kind
+
+
+KINDS = {
+    "launches": Kind("the launcher with one file by two names, and files at fault, on a terminal and without",
+                     len(LAUNCHES),
+                     lambda programs, folder, random, seed: judge_launch(folder, seed), is_fixed=True),
+}

@@ -10,6 +10,7 @@ import struct
 import subprocess
 
 from cases.random_texts import HEAD
+from judges.kind import Kind
 from judges.running import demand, got, put, run, run_check, shown
 from judges.solving import judge_plan, least
 from reference import checking
@@ -176,3 +177,10 @@ def judge_texts(program, folder, size, out, status, solution, certificate, told)
         checked = wanted
     demand(checked == wanted, "%s: %r, reference: %r" % (told, out, checked))
     KEPT[key] = True
+
+
+KINDS = {
+    "memory": Kind("an allocation or a thread refused", 222,
+                   lambda programs, folder, random, seed:
+                       judge_memory(programs.program, folder, programs.library, random, seed), refuses=True),
+}

@@ -3,6 +3,7 @@ import os
 import re
 
 from cases.random_texts import instance_words, laid_out
+from judges.kind import Kind
 from judges.running import Disagreement, demand, run_check, solve
 from reference import bounding, checking
 from reference.building import build
@@ -157,3 +158,13 @@ def judge_optimum(instance, solution, bound, out):
         demand(optimum is None, "NO PLAN, and one of cost %s" % optimum)
     else:
         demand(optimum is None or bound <= optimum, "optimum %s, and %r" % (optimum, out))
+
+
+KINDS = {
+    "solve": Kind("1 to 8 customers, drawn options: bound, least cost of all plans and cost in order", 24,
+                  lambda programs, folder, random, seed:
+                      judge_solve(programs.program, folder, random, random.randint(1, 8), 30, True)),
+    "medium": Kind("9 to 25 customers, drawn options: bound and cost in order", 4,
+                   lambda programs, folder, random, seed:
+                       judge_solve(programs.program, folder, random, random.randint(9, 25), 3, False)),
+}

@@ -3,6 +3,7 @@ what the pages say that comes of them."""
 import os
 import re
 
+from judges.kind import Kind
 from judges.running import demand, got, put, run, shown
 from tools.manual import page
 from tools.places import TOP
@@ -97,5 +98,16 @@ def judge_instances():
 
 def judge_manual(program):
     """The manual page is what the program's help and the formats make of it."""
-    demand(held("vrptw.1") == page(program, held("formats.md")), "docs/vrptw.1 isn't what outside/manual prints")
+    demand(held("vrptw.1") == page(program, held("formats.md")), "docs/vrptw.1 isn't what outside/workshop/manual prints")
     return "as the help says"
+
+
+KINDS = {
+    "tutorial": Kind("each command of docs/tutorial.md, and each one and each program of docs/embedding.md", 2,
+                     lambda programs, folder, random, seed:
+                         (judge_tutorial, judge_embedding)[seed](programs.program, folder), is_fixed=True),
+    "instances": Kind("bench/instances against what bench/make_instances makes", 1,
+                      lambda programs, folder, random, seed: judge_instances(), is_fixed=True),
+    "manual": Kind("docs/vrptw.1 against the program's help", 1,
+                   lambda programs, folder, random, seed: judge_manual(programs.program), is_fixed=True),
+}
