@@ -70,6 +70,8 @@ MORE = {
     "semicolons.csv": "number;name\n0;depot\n1;a.5\n2;1.5\n",
     "german.csv": FILES["t.csv"].replace("due", "bis"),
     "list.txt": "[[0, 1]]\n",
+    "globe.csv": "number,name,lat,lon\n0,depot,52.5,13.5\n1,a,52.5,13.25\n2,b,52.25,13.25\n",
+    "nowhere.csv": "number,name,lat,lon\n0,depot,52.5,13.5\n1,a,52.5,181\n2,b,52.25,13.25\n",
     # One customer with a vehicle and one without; one that nobody knows; and the number of another one.
     "moved.csv": "vehicle,name\nAnna,a\n,b\n",
     "nobody.csv": "vehicle,name\nAnna,a\nAnna,c\n",
@@ -110,6 +112,8 @@ convert point.csv o.txt --vehicles 5 --capacity 5 --times-as-numbers|0|o.txt: 1 
 draw waits.txt p.txt --times --depart late|0|-: Driving to customer 1: 95.0 to 100.0
 draw waits.txt p.txt --times --depart early|0|-: Driving to customer 1: 0.0 to 5.0
 draw i.txt p.txt --names names.csv|0|-: </svg>
+draw i.txt p.txt --names globe.csv --geojson|0|-: "LineString"
+draw i.txt p.txt --names globe.csv --gpx|0|-: <rtept lat="52.5" lon="13.25"><name>a</name>
 draw i.txt p.txt --times|0|-: </svg>
 draw i.txt p.txt --tree k.txt|0|-: </svg>
 draw i.txt p.txt --tree sets.txt --names names.csv|0|-: Leaf 1 has the value 20.0,
@@ -237,6 +241,9 @@ convert geo.csv o.txt --vehicles 5 --capacity 5 --speed 0|--speed|2|met "0"
 convert geo.csv o.txt --vehicles 5 --capacity 5 --speed 30 --detour x|--detour|2|met "x"
 convert t.csv o.txt --vehicles 5 --capacity 5 --column until=due|--column|2|met "until=due"
 convert end.csv o.txt --column due=end --vehicles 5 --capacity 5 --names nowhere/n.csv|--names|1|nowhere/n.csv: No such
+draw i.txt p.txt --gpx||1|--names: met no lat and lon of depot, wanted those of all places
+draw i.txt p.txt --names nowhere.csv --geojson||1|nowhere.csv: met no lat and lon of a, wanted those of all places
+draw i.txt p.txt --gpx --times||2|argument --times: not allowed with argument --gpx
 draw i.txt p.txt --times --depart never|--depart|2|invalid choice: 'never'
 draw i.txt p.txt --names names2.csv|--names|1|names2.csv: line 3: met no name of number 2
 draw i.txt p.txt --tree p.txt|--tree|1|p.txt: line 1: met

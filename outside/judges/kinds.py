@@ -14,9 +14,9 @@ judging judging_refusals devices calling refusing solving closing judging_starts
 judging_bytes
 judging_sets judging_made_sets
 judging_layouts judging_tables judging_times judging_visits judging_roundings judging_nights judging_readings
-judging_doubts judging_carried judging_plans judging_printouts judging_departures judging_moved judging_reports
-judging_served judging_fewest judging_module judging_rounds judging_breaks judging_batches judging_proofs judging_joins
-judging_literature judging_faults judging_options
+judging_doubts judging_carried judging_plans judging_printouts judging_departures judging_moved judging_globe
+judging_reports judging_served judging_fewest judging_module judging_rounds judging_breaks judging_batches
+judging_proofs judging_joins judging_literature judging_faults judging_options
 launching tutorial
 """.split()
 

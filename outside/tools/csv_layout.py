@@ -101,11 +101,15 @@ def names_in(text, table, quantities):
     taken = set(table.columns) | {column}
     others = [place for place, one in enumerate(table.heading) if one not in taken and (
         one or any(fields[place] for _, fields in table.rows))] if quantities.keeps_names else []
-    if column is None and not others:
+    degrees = [table.heading.index(one) for one in DEGREES
+               if one in table.columns] if quantities.keeps_names else []
+    if column is None and not others + degrees:
         return None, None
     names = [named(table.field(fields, column), number) for number, (_, fields) in enumerate(table.rows)]
     headings = [clean(table.heading[other]) + (" there" if table.heading[other] in KEPT else "") for other in others]
-    return column, Names(names, headings, [[clean(fields[other]) for other in others] for _, fields in table.rows])
+    further = [[clean(fields[other]) for other in others] + [fields[place].replace(",", ".") for place in degrees]
+               for _, fields in table.rows]
+    return column, Names(names, headings + DEGREES[:len(degrees)], further)
 
 
 def noted_columns(table, column, quantities):

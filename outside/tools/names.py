@@ -3,12 +3,14 @@ import csv
 import io
 
 from tools.table import Table
-from tools.tool import Text
+from tools.tool import Text, number
 from tools.units import PLAIN, units_in
 
 COLUMNS = ["number", "name"]
 # The further column that tells where a customer is found.
 ADDRESS = "address"
+# Those that tell it in degrees, and how far they go.
+DEGREES = {"lat": 90, "lon": 180}
 # What stands in place of a sign that can't be printed.
 UNKNOWN = "\ufffd"
 
@@ -26,9 +28,22 @@ class Names(list):
         """Where a customer is found, as far as the table says."""
         return self.further[i][self.headings.index(ADDRESS)] if ADDRESS in self.headings else ""
 
+    def place(self, i):
+        """Latitude and longitude of a place in degrees, or None where they aren't known."""
+        if not set(DEGREES) <= set(self.headings):
+            return None
+        words = [number(self.further[i][self.headings.index(one)]) for one in DEGREES]
+        is_one = all(word is not None and abs(word) <= limit for word, limit in zip(words, DEGREES.values()))
+        return tuple(map(float, words)) if is_one else None
+
+    def shown(self):
+        """The places of further columns that aren't degrees: those are told as places alone."""
+        return [place for place, heading in enumerate(self.headings) if heading not in DEGREES]
+
     def remarks(self, i):
         """What more stands there of a customer, as pairs of a heading and a field."""
-        return [pair for pair in zip(self.headings, self.further[i]) if pair[1] and pair[0] != ADDRESS]
+        pairs = [(self.headings[place], self.further[i][place]) for place in self.shown()]
+        return [pair for pair in pairs if pair[1] and pair[0] != ADDRESS]
 
     def has_names(self):
         """Whether a customer has a name beside its number."""
@@ -44,16 +59,16 @@ def clean(name):
     return "".join(sign if sign.isprintable() else UNKNOWN for sign in " ".join(name.split()))
 
 
-def named(name, number):
+def named(name, stop):
     """The name of a place; one that is blank is its number, or says that it is the depot."""
-    return clean(name) or (str(number) if number else "depot")
+    return clean(name) or (str(stop) if stop else "depot")
 
 
 def table_of(names, headings=(), further=None, units=PLAIN, separator=","):
     """The table of names, whose rows begin with the depot's; above it what the numbers were before."""
     found, further = io.StringIO(), further or [[] for _ in names]
     csv.writer(found, delimiter=separator, lineterminator="\n").writerows(
-        [[*COLUMNS, *headings], *([number, name, *more] for number, (name, more) in enumerate(zip(names, further)))])
+        [[*COLUMNS, *headings], *([stop, name, *more] for stop, (name, more) in enumerate(zip(names, further)))])
     return units.line() + found.getvalue()
 
 
@@ -68,14 +83,14 @@ def names_of(path, count):
     own = [table.heading.index(column) for column in COLUMNS]
     others = [place for place in range(len(table.heading)) if place not in own]
     for line, fields in table.rows:
-        number, name = (fields[place] for place in own)
-        number = text.whole(line, number, "a number of a customer", 0, count)
-        if number in found:
-            text.refuse(line, "number %d again" % number, wanted)
-        found[number] = named(name, int(number)), [clean(fields[place]) for place in others]
-    for number in range(count + 1):
-        if number not in found:
-            text.at_end(wanted, "no name of number %d" % number)
-    rows = [found[number] for number in range(count + 1)]
+        word, name = (fields[place] for place in own)
+        stop = text.whole(line, word, "a number of a customer", 0, count)
+        if stop in found:
+            text.refuse(line, "number %d again" % stop, wanted)
+        found[stop] = named(name, int(stop)), [clean(fields[place]) for place in others]
+    for stop in range(count + 1):
+        if stop not in found:
+            text.at_end(wanted, "no name of number %d" % stop)
+    rows = [found[stop] for stop in range(count + 1)]
     return Names([name for name, _ in rows], [table.heading[place] for place in others],
                  [further for _, further in rows], units_in(text), table.parted_by)

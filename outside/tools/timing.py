@@ -4,6 +4,7 @@ from collections import namedtuple
 
 from reference.instances import route_cost
 from tools.dialects import dialect_of, spelled
+from tools.names import DEGREES
 from tools.tool import number
 from tools.units import units_of
 
@@ -123,7 +124,9 @@ def further_cells(names, i):
     """A place's name, and what more the table of names says of it; of None the headings."""
     if not names:
         return []
-    return ["name", *names.headings] if i is None else [names[i], *names.further[i]]
+    shown = names.shown()
+    return (["name", *(names.headings[place] for place in shown)] if i is None
+            else [names[i], *(names.further[i][place] for place in shown)])
 
 
 def aligned(instance, routes, names=None, depart=LATE):
@@ -167,6 +170,8 @@ def as_json(instance, routes, names=None, depart=LATE):
         stop = valued(zip(Stop._fields, words))
         if names:
             stop["place"] = dict(zip(heading[columns:], words[columns - 1:]))
+            at = names.place(stop["stop"])
+            stop["place"].update(zip(DEGREES, at) if at else ())
         found[route]["stops"].append(stop)
     told = {"routes": list(found.values()),
             "plan": {**valued(zip(Sums._fields, by_route[-1][1:])), **valued(zip(*by_plan))}}
