@@ -70,6 +70,8 @@ MORE = {
     "semicolons.csv": "number;name\n0;depot\n1;a.5\n2;1.5\n",
     "german.csv": FILES["t.csv"].replace("due", "bis"),
     "list.txt": "[[0, 1]]\n",
+    "vans.csv": "name,driver\nVan A,Ann\n",
+    "no_vans.csv": "name,driver\n",
     "globe.csv": "number,name,lat,lon\n0,depot,52.5,13.5\n1,a,52.5,13.25\n2,b,52.25,13.25\n",
     "nowhere.csv": "number,name,lat,lon\n0,depot,52.5,13.5\n1,a,52.5,181\n2,b,52.25,13.25\n",
     # One customer with a vehicle and one without; one that nobody knows; and the number of another one.
@@ -189,6 +191,8 @@ set_prices small.txt c.txt two.txt --rounds 3 --neighbours 4 --seed 5 ; recheck 
 set_prices i.txt - --rounds 0|0|-: VRPTW-SETS 1
 sheets i.txt p.txt --names names.csv -o s.html|0|s.html: </html>
 sheets waits.txt p.txt|0|-: Leaves at 95.0, back at 115.0
+sheets i.txt p.txt --lang fr --title "The round" --date "1 May"|0|-: <p class="whole">The round, 1 May</p> & -: retour à
+sheets i.txt p.txt --vehicles-csv vans.csv|0|-: <h1>Vehicle 1: Van A</h1><p class="whole">Driver: Ann</p>
 sheets waits.txt p.txt --depart early|0|-: Leaves at 0.0, back at 115.0
 sheets i.txt p.txt --output s.html|0|s.html: </html>
 timetable i.txt p.txt --csv|0|-: 1,1,5.0,0.0,5.0,5.0,1,
@@ -349,6 +353,8 @@ set_prices i.txt i.txt||1|i.txt: met the file that is read
 set_prices i.txt p.txt p.txt||1|p.txt: met the file that is read
 set_prices i.txt c.txt cost.txt||1|cost.txt: line 2: met a cost of 20.1
 set_prices i.txt nowhere/c.txt||1|nowhere/c.txt: No such file
+sheets i.txt p.txt --lang it|--lang|2|invalid choice: 'it'
+sheets i.txt p.txt --vehicles-csv no_vans.csv|--vehicles-csv|1|no_vans.csv: met 0 vehicles, wanted one for each of the 1
 sheets i.txt p.txt --depart never|--depart|2|invalid choice: 'never'
 sheets i.txt p.txt -o i.txt|--output|1|i.txt: met the file that is read
 sheets i.txt p.txt --names p.txt -o s.html|--names|1|p.txt: line 1: met
@@ -375,7 +381,8 @@ outside/workshop/try_parallel --instal||2|unrecognized
 outside/workshop/try_slurm||1|isn't there; --install has apt-get install munge slurmctld slurmd slurm-client
 """
 # Options that take every value, with the reason.
-ANY = {"--name": "what ours can't hold becomes what it can, and that is noted"}
+ANY = {"--name": "what ours can't hold becomes what it can, and that is noted",
+       "--title": "it stands on the sheets as it is", "--date": "it stands on the sheets as it is"}
 
 
 def rows(table):

@@ -88,32 +88,51 @@ def texts_in(element):
     return [text.strip() for text in element.itertext() if text.strip()]
 
 
-def judge_sheet(section, instance, route, names, units):
-    """Each stop of a vehicle in its order, with what is handed over, and what is left falls to nothing."""
+# What a customer without a name, a window and a sheet's heading are called in each language.
+SPOKEN = {"en": ("customer %d", "%s to %s", "Vehicle %d"), "de": ("Kunde %d", "%s bis %s", "Fahrzeug %d"),
+          "fr": ("client %d", "%s à %s", "Véhicule %d")}
+
+
+def judge_sheet(section, instance, route, names, units, spoken):
+    """Each stop of a vehicle in its order, with what is handed over, and what is left falls to nothing; whoever is
+    loaded last is served first."""
     rows = [row for row in section.iter() if row.tag.endswith("}tr")][1:]
     demand(len(rows) == len(route) + 2, "%d rows for %d stops" % (len(rows), len(route)))
-    left = sum(instance.demand(i) for i in route)
+    left, called = sum(instance.demand(i) for i in route), []
     for row, i, stop in zip(rows[1:-1], route, stops(instance, route)):
         cells, left = list(row), left - instance.demand(i)
         told = [" ".join(texts_in(cell)) for cell in cells]
-        name = names[i] if names and names[i] != str(i) else "customer %d" % i
-        demand(texts_in(cells[1])[0] == name, "%r, and %r is right" % (told, name))
-        demand(told[2] == "%s to %s" % (units.moment(instance.ready(i)), units.moment(instance.due(i))), "%r" % told)
+        called.append(names[i] if names and names[i] != str(i) else spoken[0] % i)
+        demand(texts_in(cells[1])[0] == called[-1], "%r, and %r is right" % (told, called[-1]))
+        demand(told[2] == spoken[1] % (units.moment(instance.ready(i)), units.moment(instance.due(i))), "%r" % told)
         demand(units.moment(stop.begin) in told[3], "%r, and it begins at %s" % (told, units.moment(stop.begin)))
-        demand(told[4:] == [units.load(instance.demand(i)), units.load(left)], "%r, and %d are left" % (told, left))
-    demand(texts_in(list(rows[-1])[5]) == [units.load(0)], "something comes back")
+        demand(told[5] == units.moment(stop.end), "%r, and it leaves at %s" % (told, units.moment(stop.end)))
+        demand(told[6:8] == [units.load(instance.demand(i)), units.load(left)], "%r, and %d are left" % (told, left))
+    demand(texts_in(list(rows[-1])[7]) == [units.load(0)], "something comes back")
+    loaded = [" ".join(texts_in(item)) for item in section.iter() if item.tag.endswith("}li")]
+    right = ["%s: %s" % (name, units.load(instance.demand(i))) for name, i in zip(called, route)][::-1]
+    demand(loaded == (right if len(route) > 1 else []), "%r, and %r is right" % (loaded, right))
+
+
+def vehicles_drawn(random, count, path):
+    """A table of vehicles, and what their sheets say of them."""
+    rows = [("Van %d" % i, random.choice(["", "Ann & Co"]), random.choice(["", "05:45"])) for i in range(count)]
+    put(path, ("name,driver,start\n" + "".join(",".join(row) + "\n" for row in rows)).encode())
+    return rows
 
 
 def judge_sheets(folder, random):
-    """The sheets of a random plan, with names or none, by times as they are or of the day."""
+    """The sheets of a random plan, with names or none, by times as they are or of the day, in a language."""
     instance, _, path, routes = drawn(folder, random, 9)
-    plan, table, target = (os.path.join(folder, name) for name in ("solution", "names", "page.html"))
+    plan, table, target, vans = (os.path.join(folder, name) for name in ("solution", "names", "page.html", "vans"))
     put(plan, plan_text(instance, routes))
     units = random.choice([Units(), Units(clock=1), Units(scale=10, clock=1, speed=30), Units(scale=10)])
     names = [random.choice(NAMES) or (str(i) if i else "depot") for i in range(instance.count + 1)]
-    has_names = random.randrange(4) > 0
+    has_names, language = random.randrange(4) > 0, random.choice(list(SPOKEN))
     put(table, table_of(names, units=units).encode())
-    words = ["sheets", path, plan, "-o", target, *(["--names", table] if has_names else [])]
+    vehicles = vehicles_drawn(random, len(routes), vans) if random.randrange(2) else None
+    words = ["sheets", path, plan, "-o", target, "--lang", language, "--title", "<Round>", "--date", "1 May",
+             *(["--names", table] if has_names else []), *(["--vehicles-csv", vans] if vehicles else [])]
     out, errors, status = tool(*words)
     if checking.plan_defect(instance, routes):
         demand((out, status, got(target)) == (b"", 1, None), "no plan: status %d, %r" % (status, errors))
@@ -122,10 +141,19 @@ def judge_sheets(folder, random):
     root = ElementTree.fromstring(got(target))
     sections = [part for part in root.iter() if part.tag.endswith("}section")]
     demand(len(sections) == len(routes), "%d sheets for %d routes" % (len(sections), len(routes)))
-    for section, route in zip(sections, routes):
+    for place, (section, route) in enumerate(zip(sections, routes), 1):
         judge_sheet(section, instance, route, [clean(name) for name in names] if has_names else None,
-                    units if has_names else Units())
+                    units if has_names else Units(), SPOKEN[language])
+        judge_head(section, SPOKEN[language][2] % place, vehicles and vehicles[place - 1])
     return "with names" if has_names else "by numbers"
+
+
+def judge_head(section, called, vehicle):
+    """Title, date, vehicle and driver stand above the stops."""
+    head = texts_in(section)[:3]
+    demand(head[0] == "<Round>, 1 May", "%r" % head)
+    demand(head[1] == (called + ": " + vehicle[0] if vehicle else called), "%r" % head)
+    demand(not vehicle or all(word in head[2] for word in vehicle[1:]), "%r, and %r is right" % (head, vehicle))
 
 
 KINDS = {
