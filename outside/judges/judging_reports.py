@@ -2,12 +2,12 @@
 import os
 import re
 import shutil
-from judges.kind import Kind, program_by
 from xml.etree import ElementTree
 
 from cases.random_texts import certificate_of, solution_of, tree_of
 from judges.judging_layouts import tool
 from judges.judging_plans import NAMES, drawn, text_of
+from judges.kind import Kind, program_by
 from judges.running import demand, got, put, run, run_check, shown as as_text, solve
 from reference import bounding, checking
 from reference.instances import plan_cost
@@ -30,6 +30,20 @@ fire(document.querySelector('.bars g.route[data-route="0"] rect'), 'click'); tel
 fire(document.body, 'mouseover'); tell();
 document.dispatchEvent(new KeyboardEvent('keydown', {key: 'Escape'})); tell();
 document.title = told.join(', ');
+</script></body>"""
+# On a telephone: tells in the title how many pixels the page and its tables are too wide, how many pictures are without
+# a word that they go on, and how much of the map is seen after a click that zooms in, and after one that shows all.
+NARROW = """<script>
+function over(part) { return Math.max(0, part.scrollWidth - part.clientWidth); }
+function all(where) { return Array.from(document.querySelectorAll(where)); }
+function seen() { return document.querySelector('.map svg').viewBox.baseVal.width; }
+var buttons = document.querySelectorAll('.zoom button'), whole = seen(), told = [
+  over(document.documentElement), Math.max.apply(null, all('section table, .map').map(over).concat([0])),
+  all('.bars').filter(function (part) {
+    return over(part) > 0 ? getComputedStyle(part.nextElementSibling).display === 'none' : false; }).length];
+buttons[0].click(); told.push(whole > seen());
+buttons[2].click(); told.push(whole === seen());
+document.title = told.join(' ');
 </script></body>"""
 TREE = '<section id="the-certificates-tree">'
 LIT, UNLIT = "3 1 1 1 6 1", "0 0 0 0 0 0"
@@ -70,15 +84,24 @@ def judge_page(page, instance, routes, names, timetable):
 
 
 def judge_pointer(folder, page):
-    """What answers to the pointer in a browser."""
-    path = os.path.join(folder, "trial.html")
-    put(path, page.replace("</body>", TRIAL).encode())
-    out, _, status = run([BROWSER, "--headless", "--no-sandbox", "--disable-gpu", "--user-data-dir=%s/profile" % folder,
-                          "--dump-dom", "file://" + path])
-    title = re.search("<title>(.*?)</title>", as_text(out))
+    """What answers to the pointer in a browser, and how the page fits a telephone."""
+    told = titled(folder, page.replace("</body>", TRIAL))
     right = ", ".join([LIT, UNLIT, LIT, LIT, UNLIT])
-    demand(status == 0 and title and title[1] == right, "the browser: status %d, %r" % (status, title and title[1]))
+    demand(told == right, "the browser: %r, and %r is right" % (told, right))
+    told = titled(folder, page.replace("</body>", NARROW), "--window-size=390,800")
+    demand(told == "0 0 0 true true", "on a telephone: %r" % told)
+
+
+def titled(folder, page, *options):
+    """The title of a page once a browser has read it."""
+    path = os.path.join(folder, "trial.html")
+    put(path, page.encode())
+    out, _, status = run([BROWSER, "--headless", "--no-sandbox", "--disable-gpu", "--user-data-dir=%s/profile" % folder,
+                          *options, "--dump-dom", "file://" + path])
     shutil.rmtree(os.path.join(folder, "profile"), ignore_errors=True)
+    title = re.search("<title>(.*?)</title>", as_text(out))
+    demand(status == 0 and title, "the browser: status %d" % status)
+    return title[1]
 
 
 def texts_of(program, folder, random, instance, text, routes):

@@ -1,6 +1,6 @@
 """A plan's routes as bars over time, beside their map: driving, waiting and service, and the windows above them."""
-from tools.drawing import EDGE, HEAD, colour, customer_name, dash, of_route, sheet, text, title, told_of
-from tools.drawing_map import Frame, drawn_map, legend_rows
+from tools.drawing import EDGE, HEAD, colour, customer_name, dash, of_route, sheet, short, text, title, told_of
+from tools.drawing_map import MOST_NAMED, Frame, drawn_map, legend_rows
 from tools.timing import LATE, leaving, stops
 from tools.units import units_of
 
@@ -12,6 +12,8 @@ WINDOWS, BAR, THICK = 0.42, 0.48, 0.44
 LEVEL, MOST_LEVEL = 4.5, 8
 HINT = "thin: driving; pale: waiting; full: service; above: windows, with a dot where service begins"
 CUT = "; an arrow where one goes on"
+# How many signs of a name stand at a bar.
+LONGEST_NAME = 14
 
 
 class Scale:
@@ -41,23 +43,30 @@ class Scale:
 
 
 class Lane:
-    """Where a route's lane stands, and how its customers' numbers are written: their size, and in how many rows above
-    the bars; no row is in the bars, and size 0 is nowhere."""
+    """Where a route's lane stands, and how its customers' names or numbers are written: their size, and in how many
+    rows above the bars; no row is in the bars, and size 0 is nowhere. Names stand there where all of them fit."""
 
     def __init__(self, scale, instance, names, high, routes):
         self.scale, self.instance, self.names, self.high, self.units = scale, instance, names, high, units_of(names)
-        self.thick = THICK * high
-        self.size, self.rows = self.numbers(routes)
+        self.thick, self.is_named = THICK * high, bool(names) and instance.count <= MOST_NAMED
+        self.size, self.rows = self.labels(routes)
+        if self.is_named and not self.size:
+            self.is_named = False
+            self.size, self.rows = self.labels(routes)
         self.room = WINDOWS * high - self.size * self.rows
         self.levels = max(2, int(self.room / LEVEL))
 
     def spans(self, route):
-        """Where the services of a route begin and end, and how many digits their customers' numbers have."""
-        return [(self.scale.at(stop.begin), self.scale.at(stop.end), len(str(stop.stop)))
+        """Where the services of a route begin and end, and how many signs their customers' labels have."""
+        return [(self.scale.at(stop.begin), self.scale.at(stop.end), len(self.label(stop.stop)))
                 for stop in stops(self.instance, route, self.scale.depart)[:-1]]
 
-    def numbers(self, routes):
-        """All numbers stand in the bars where they fit, else above them where they fit, else nowhere."""
+    def label(self, i):
+        """What stands at a customer's bar."""
+        return short(self.names[i], LONGEST_NAME) if self.is_named else str(i)
+
+    def labels(self, routes):
+        """All labels stand in the bars where they fit, else above them where they fit, else nowhere."""
         found = [self.spans(route) for route in routes]
         most = min(11, 0.8 * self.thick)
         for size in (most, 9, 8):
@@ -115,14 +124,14 @@ def window(lane, stop, y):
 
 
 def service(lane, stop, top, row):
-    """The bar of a service, and the customer's number in it or in a row above it."""
+    """The bar of a service, and the customer's label in it or in a row above it."""
     scale, middle = lane.scale, (lane.scale.at(stop.begin) + lane.scale.at(stop.end)) / 2
     told = "Service of customer %d: %s to %s%s" % (
         stop.stop, lane.units.moment(stop.begin), lane.units.moment(stop.end), customer_name(lane.names, stop.stop))
     found = [box(scale, stop.begin, stop.end, top, lane.thick, 'stroke="white" stroke-width="0.5"', told)]
     if lane.size:
         y = top - 2 - row * lane.size if lane.rows else top + lane.thick / 2 + 0.36 * lane.size
-        found.append(text(middle, y, str(stop.stop), "%.1f" % lane.size, 'text-anchor="middle" stroke="none" fill="%s"'
+        found.append(text(middle, y, lane.label(stop.stop), "%.1f" % lane.size, 'text-anchor="middle" stroke="none" fill="%s"'
                           % ("black" if lane.rows else "white")))
     return found
 

@@ -17,6 +17,8 @@ WIDE = 1000
 # What is said of when vehicles leave.
 LEAVING = {LATE: "Each vehicle leaves as late as it may without being back later than it has to be.",
            EARLY: "All vehicles leave when the depot opens."}
+# What stands below a picture that a narrow screen cuts.
+PUSHED = '<p class="note push">The bars go on to the right: push them sideways.</p>'
 # What the tables say of a stop.
 STOP_COLUMNS = ("arrival", "wait", "begin", "end", "load", "slack")
 
@@ -121,17 +123,20 @@ def figures(report):
         told = shares(instance, report.sums(), units)
         yield "vehicles", "%d of %d (%s %%)" % (told.vehicles, told.fleet, told.fleet_percent)
         yield "cost (distance%s)" % (", km" if units.speed else ""), units.distance(report.cost)
-    if report.bound is not None and report.verdict() != "NO PLAN":
-        yield "bound", units.distance(report.bound)
-    if report.bound is not None and report.cost is not None:
-        gap = report.cost - report.bound
-        yield "gap", "%s (%s %%)" % (units.distance(gap), percent(gap, report.cost))
     yield "demand", "%s, and a vehicle holds %s" % (units.load(demand), units.load(instance.capacity))
     if report.cost is not None:
         yield "load of the vehicles", told.load_percent + " %"
         yield from times_of_all(report, told)
-    if report.certificate is not None:
-        yield "leaves of the certificate", "%d" % leaves_of(report.certificate.tree)
+
+
+def figures_of_proof(report):
+    """Pairs of a word and a figure of what is proved, as people read costs."""
+    if report.verdict() != "NO PLAN":
+        yield "every plan costs at least (the bound)", report.distance(report.bound)
+    if report.cost is not None:
+        gap = report.cost - report.bound
+        yield "the cheapest one may save (the gap)", "%s (%s %%)" % (report.distance(gap), percent(gap, report.cost))
+    yield "leaves of the certificate's tree", "%d" % leaves_of(report.certificate.tree)
 
 
 def times_of_all(report, told):
@@ -160,13 +165,17 @@ def sample(number):
                 hue, dash(number), "white" if is_hollow(number) else hue, hue))
 
 
-def row(cells, tag="td"):
-    return "".join("<%s>%s</%s>" % (tag, cell, tag) for cell in cells)
+def row(cells, tag="td", whats=()):
+    """The cells of a row; on a narrow screen what they are stands before them."""
+    marks = [' data-what="%s"' % what if what else "" for what in whats] or len(cells) * [""]
+    return "".join("<%s%s>%s</%s>" % (tag, mark, cell, tag) for mark, cell in zip(marks, cells))
 
 
 def vehicles(report):
     """The table of the vehicles: loads, distances and times."""
     instance, units, rows = report.instance, report.units, []
+    heading = ["", "vehicle", "stops", "load", "distance", "leaves at", "back at", "driving", "service", "waiting",
+               "duration"]
     for number, (route, found) in enumerate(zip(report.routes, report.sums())):
         part, whole = units.share(found.load, instance.capacity)
         filled = '<div class="load"><i style="width:%d%%"></i><b>%s of %s</b></div>' % (
@@ -174,9 +183,7 @@ def vehicles(report):
         rows.append('<tr class="route" data-route="%d" tabindex="0">%s</tr>' % (number, row([
             sample(number), number + 1, len(route), filled, units.distance(found.distance),
             units.moment(found.leaves), units.moment(found.back),
-            *map(units.span, (found.driving, found.service, found.waiting, found.duration))])))
-    heading = ["", "vehicle", "stops", "load", "distance", "leaves at", "back at", "driving", "service", "waiting",
-               "duration"]
+            *map(units.span, (found.driving, found.service, found.waiting, found.duration))], "td", heading)))
     return ('<table class="figures"><thead><tr>%s</tr></thead><tbody>%s</tbody></table>'
             '<p class="note">%s A duration goes from leaving to the return.</p>' % (
                 row(heading, "th"), "".join(rows), LEAVING[report.depart]))
@@ -190,7 +197,7 @@ def timetable(report):
             sample(number), number + 1, moment(leaving(report.instance, route, report.depart)))]
         for stop in stops(report.instance, route, report.depart):
             told = [stop.stop or "", escape(report.place(stop.stop)), *cells(stop, report.units)[1:]]
-            rows.append("<tr>%s</tr>" % row(told))
+            rows.append("<tr>%s</tr>" % row(told, "td", ("", "", *STOP_COLUMNS)))
         parts.append('<tbody class="route" data-route="%d">%s</tbody>' % (number, "".join(rows)))
     return '<table class="times"><thead><tr>%s</tr></thead>%s</table>' % (
         row(["stop", "", *STOP_COLUMNS], "th"), "".join(parts))
@@ -214,7 +221,7 @@ def bars_of(report):
     high = min(max(620 / count, LANES[0]), LANES[1])
     drawn = drawn_bars(scale, report.instance, report.routes, report.names, 26, high)
     height = round(26 + high * count + AXIS)
-    return picture("bars", scale.right + FIGURES, height, drawn, "bars of the routes over time")
+    return picture("bars", scale.right + FIGURES, height, drawn, "bars of the routes over time") + PUSHED
 
 
 def tree_of(report):
@@ -229,20 +236,23 @@ def checks(report):
         return ("<p>The plan is judged by <code>./vrptw check</code> with any certificate of the instance; "
                 "<code>./vrptw solve</code> writes one.</p>")
     again = check_command(report).replace("./vrptw check", "outside/recheck").replace(" --solution", "")
-    return ("<p>Who has these files can check the answer:</p><pre>$ %s\n%s\n$ %s\n%s</pre>"
-            "<p>The first command is a program that is proved to say this line only where it is true; the second is "
-            "plain Python that shares nothing with it. The line says: %s%s</p>" % (
-                escape(check_command(report)), report.verdict(), escape(again), report.verdict(), meaning(report),
-                counted(report)))
+    return ('<table class="pairs">%s</table>'
+            "<p>Who has these files can check the answer:</p><pre>$ %s\n%s\n$ %s\n%s</pre>"
+            "<p><code>%s</code> says: %s%s</p><p>The first command is a program that is proved to say this line only "
+            "where it is true; the second is plain Python that shares nothing with it.</p>" % (
+                "".join("<tr>%s</tr>" % row(pair) for pair in figures_of_proof(report)),
+                escape(check_command(report)), report.verdict(), escape(again), report.verdict(), report.verdict(),
+                meaning(report), counted(report)))
 
 
 def counted(report):
-    """What the line counts in, where that isn't what the page shows."""
-    units = report.units
-    if units.is_plain or units.scale == 1 and units.speed is None:
+    """What the numbers of the line are here, where it counts in other units."""
+    if report.units.is_plain or report.verdict() == "NO PLAN":
         return ""
-    return " It counts in units of the instance, of which %g are one %s." % (
-        units.scale * (60 / float(units.speed) if units.speed else 1), "km" if units.speed else "of the table")
+    numbers = [] if report.cost is None else [report.cost]
+    numbers += [report.bound] if report.bound != report.cost else []
+    return " It counts in units of the instance: %s." % " and ".join(
+        "%s are %s" % (shown(one), report.distance(one)) for one in numbers)
 
 
 def meaning(report):
@@ -273,6 +283,11 @@ def sections(report):
         yield from plan_sections(report.served)
     yield from plan_sections(report)
     yield "How to check", checks(report)
+    if report.cost is not None and report.values is not None:
+        yield "The certificate's tree", tree_of(report) + (
+            '<p class="note">Each leaf holds a part of all plans: those that use the arcs of full lines above it, and '
+            'none of the broken ones. None of them is cheaper than the value of the leaf, so the least value is the '
+            'bound.</p>')
 
 
 def plan_sections(report):
@@ -284,11 +299,6 @@ def plan_sections(report):
         yield "Timetable", timetable(report) + (
             '<p class="note">%s Slack is how much later service could begin before the due date.</p>' % in_units(
                 report))
-    if report.cost is not None and report.values is not None:
-        yield "The certificate's tree", tree_of(report) + (
-            '<p class="note">Each leaf holds a part of all plans: those that use the arcs of full lines above it, and '
-            'none of the broken ones. None of them is cheaper than the value of the leaf, so the least value is the '
-            'bound.</p>')
 
 
 def page(report):

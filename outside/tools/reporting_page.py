@@ -20,7 +20,14 @@ tbody th { text-align: left; font-weight: bold; padding-top: .8rem; }
 .picture, section table { max-width: 100%; overflow-x: auto; }
 section table { display: block; }
 .picture svg { width: 100%; min-width: 620px; height: auto; }
-.map svg { min-width: 420px; }
+.map svg { min-width: 0; cursor: grab; }
+.zoom { margin: 0 0 .3rem; }
+.zoom button { font: inherit; min-width: 2.2rem; margin-right: .3rem; }
+.push { display: none; }
+.bars { background: linear-gradient(to right, #fff 30%, #fff0) left / 3rem 100% local no-repeat,
+  linear-gradient(to left, #fff 30%, #fff0) right / 3rem 100% local no-repeat,
+  linear-gradient(to right, #0003, #0000) left / .8rem 100% scroll no-repeat,
+  linear-gradient(to left, #0003, #0000) right / .8rem 100% scroll no-repeat; }
 #in-figures, #vehicles { display: inline-block; vertical-align: top; margin-right: 3rem; max-width: 100%; }
 #vehicles .note { max-width: 36rem; }
 .figures th:nth-child(4) { text-align: center; }
@@ -38,7 +45,19 @@ tr.route:focus { outline: 2px solid #0072b2; }
   body { padding: .6rem; }
   th, td { padding: .15rem .28rem; font-size: .8rem; }
   .pairs td { white-space: normal; overflow-wrap: anywhere; }
-  .load { width: 4.5rem; }
+  .push { display: block; }
+  pre { white-space: pre-wrap; overflow-wrap: anywhere; }
+  .figures, .figures tbody, .figures tr, .times, .times tbody, .times tr { display: block; }
+  .figures thead, .times thead { display: none; }
+  .figures tr, .times tr { border-bottom: 1px solid #ddd; padding: .35rem 0; }
+  .figures td, .times td { display: inline-block; padding: .05rem .7rem .05rem 0; white-space: normal;
+    font-size: .9rem; }
+  .times th { display: block; padding: .6rem 0 0; }
+  .times td:nth-child(2) { display: inline; font-weight: bold; }
+  .times td:nth-child(2)::after { content: "\\A"; white-space: pre; }
+  td[data-what]::before { content: attr(data-what) " "; color: #555; }
+  td:empty { display: none; }
+  .load { display: inline-block; width: 6rem; }
 }
 @media print {
   @page { margin: 13mm; }
@@ -56,7 +75,8 @@ tr.route:focus { outline: 2px solid #0072b2; }
 }
 """
 
-# A route is lit while a pointer rests on it or a key has come to it; a click or Enter keeps it lit.
+# A route is lit while a pointer rests on it or a key has come to it; a click or Enter keeps it lit. The map is zoomed
+# by buttons or the wheel with Ctrl, and moved by dragging once it is zoomed.
 SCRIPT = """
 (function () {
   var kept = null;
@@ -84,6 +104,57 @@ SCRIPT = """
   document.addEventListener('keydown', function (event) {
     if (event.key === 'Escape') { keep(null); }
     if (event.key === 'Enter') { keep(routeOf(event)); }
+  });
+}());
+(function () {
+  document.querySelectorAll('.map').forEach(function (map) {
+    var svg = map.querySelector('svg'), whole = svg.viewBox.baseVal;
+    var all = [whole.x, whole.y, whole.width, whole.height], seen = all.slice(), held = null;
+    function show() {
+      var isZoomed = all[2] > seen[2];
+      svg.setAttribute('viewBox', seen.map(function (part) { return part.toFixed(1); }).join(' '));
+      svg.style.touchAction = isZoomed ? 'none' : 'auto';
+    }
+    function shut(value, least, most) { return Math.min(Math.max(value, least), most); }
+    function go(x, y, part) {
+      var wide = shut(all[2] * part, all[2] / 16, all[2]), high = all[3] * wide / all[2];
+      seen = [shut(x, all[0], all[0] + all[2] - wide), shut(y, all[1], all[1] + all[3] - high), wide, high];
+      show();
+    }
+    function zoom(times, x, y) {
+      var part = shut(seen[2] / times / all[2], 1 / 16, 1), scale = part * all[2] / seen[2];
+      go(x - (x - seen[0]) * scale, y - (y - seen[1]) * scale, part);
+    }
+    function at(event) {
+      var place = svg.getBoundingClientRect();
+      return [seen[0] + (event.clientX - place.left) / place.width * seen[2],
+        seen[1] + (event.clientY - place.top) / place.height * seen[3]];
+    }
+    function button(sign, told, act) {
+      var found = document.createElement('button');
+      found.textContent = sign; found.title = told; found.type = 'button';
+      found.addEventListener('click', function (event) { event.stopPropagation(); act(); });
+      bar.appendChild(found);
+    }
+    var bar = document.createElement('p');
+    bar.className = 'zoom';
+    map.parentNode.insertBefore(bar, map);
+    button('+', 'zoom in', function () { zoom(1.6, seen[0] + seen[2] / 2, seen[1] + seen[3] / 2); });
+    button('\u2212', 'zoom out', function () { zoom(1 / 1.6, seen[0] + seen[2] / 2, seen[1] + seen[3] / 2); });
+    button('\u2922', 'all of the map', function () { go(all[0], all[1], 1); });
+    svg.addEventListener('wheel', function (event) {
+      if (event.ctrlKey) { event.preventDefault(); zoom(0 > event.deltaY ? 1.2 : 1 / 1.2, at(event)[0], at(event)[1]); }
+    }, {passive: false});
+    svg.addEventListener('pointerdown', function (event) { if (all[2] > seen[2]) { held = at(event); } });
+    svg.addEventListener('pointermove', function (event) {
+      if (held !== null) {
+        var now = at(event);
+        go(seen[0] + held[0] - now[0], seen[1] + held[1] - now[1], seen[2] / all[2]);
+      }
+    });
+    ['pointerup', 'pointerleave', 'pointercancel'].forEach(function (kind) {
+      svg.addEventListener(kind, function () { held = null; });
+    });
   });
 }());
 """

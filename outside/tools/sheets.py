@@ -10,7 +10,7 @@ STYLE = """
 :root { color-scheme: light; }
 * { box-sizing: border-box; }
 body { font: 16px/1.45 system-ui, sans-serif; color: #1b1b1b; background: #fff; max-width: 60rem; margin: 0 auto;
-  padding: 1rem; overflow-wrap: anywhere; }
+  padding: 1rem; overflow-wrap: break-word; }
 nav a { display: inline-block; border: 1px solid #999; border-radius: .3rem; padding: .3rem .7rem;
   margin: 0 .3rem .4rem 0; color: inherit; text-decoration: none; }
 section { margin-bottom: 3rem; }
