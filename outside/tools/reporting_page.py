@@ -51,7 +51,7 @@ tr.route:focus { outline: 2px solid #0072b2; }
   .figures thead, .times thead { display: none; }
   .figures tr, .times tr { border-bottom: 1px solid #ddd; padding: .35rem 0; }
   .figures td, .times td { display: inline-block; padding: .05rem .7rem .05rem 0; white-space: normal;
-    font-size: .9rem; }
+    overflow-wrap: anywhere; font-size: .9rem; }
   .times th { display: block; padding: .6rem 0 0; }
   .times td:nth-child(2) { display: inline; font-weight: bold; }
   .times td:nth-child(2)::after { content: "\\A"; white-space: pre; }
