@@ -19,6 +19,7 @@ const LEAST_CUSTOMERS: u64 = 120;
 const CUSTOMERS_OF_PATIENCE: u16 = 150;
 const PRICING_PART: u64 = 28;
 const LEAST_PRICING_TURNS: u64 = 4;
+const DEAR_TURNS: u32 = 200;
 const FIRST_RISES: usize = 4;
 const LOWEST_PART: i128 = 64;
 
@@ -121,9 +122,14 @@ impl<'i> Tree<'i> {
         let labels = (looks / u64::from(instance.customer_count())).min(MOST_LABELS) as usize;
         let first = first_leaf(Global, nearness, instance, NEIGHBOURS, plan.as_ref(), None, Some(labels));
         let Ok(leaf) = first else { panic!("labels") };
+        let state = || {
+            let mut state = PricingState::new(Global, nearness);
+            state.expect(worth_of(instance) * u64::from(turns.max(DEAR_TURNS)));
+            state
+        };
         let bounder = |number| Bounder {
             pool: RoutePool::of_routes(Global, instance, routes.unwrap_or(&[])).unwrap(),
-            state: PricingState::new(Global, nearness),
+            state: state(),
             open: vec![Open { place: 0, value: 0, start: None }],
             shared: None,
             current: None,
