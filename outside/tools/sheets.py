@@ -20,7 +20,10 @@ table { border-collapse: collapse; width: 100%; font-variant-numeric: tabular-nu
 thead { display: table-header-group; }
 th { text-align: left; font-weight: normal; color: #555; border-bottom: 2px solid #888; padding: .2rem .5rem; }
 td { border-bottom: 1px solid #ccc; padding: .45rem .5rem; vertical-align: top; }
-td.number, th.number { text-align: right; white-space: nowrap; }
+td.number { text-align: right; white-space: nowrap; }
+th.number { text-align: right; }
+th { vertical-align: bottom; overflow-wrap: normal; }
+td.who { min-width: 9.5rem; overflow-wrap: anywhere; }
 td.time { white-space: nowrap; }
 .who b { display: block; }
 .who i { display: block; font-style: normal; color: #444; }
@@ -37,14 +40,15 @@ td.tick, th.tick { text-align: center; }
   thead { display: none; }
   table, tbody, tr, td { display: block; width: 100%; }
   tr { border: 1px solid #bbb; border-radius: .4rem; margin: 0 0 .6rem; padding: .4rem .6rem; }
-  td { border: 0; padding: .1rem 0; }
+  td, td.who { border: 0; padding: .1rem 0; min-width: 0; }
   td.number, td.time, td.tick { text-align: left; white-space: normal; }
   td[data-what]::before { content: attr(data-what) ": "; color: #555; }
   .depot td.time::before { content: none; }
   td:empty { display: none; }
 }
 @media print {
-  body { max-width: none; padding: 0; font-size: 11pt; }
+  body { max-width: none; padding: 0; font-size: 10.5pt; }
+  th, td { padding-left: .25rem; padding-right: .25rem; }
   nav { display: none; }
   section { break-after: page; margin: 0; }
   section:last-of-type { break-after: auto; }
