@@ -21,6 +21,7 @@ from judges.judging_doubts import judge_doubts, judge_faults
 from judges.judging_faults import judge_fault
 from judges.judging_fewest import judge_fewest
 from judges.judging_fleets import judge_fleets, judge_tight
+from judges.judging_folders import judge_folder
 from judges.judging_joins import judge_join
 from judges.judging_layouts import judge_layout, judge_round_trip, judge_wrong_layout
 from judges.judging_literature import judge_literature
@@ -28,6 +29,7 @@ from judges.judging_made_sets import judge_made, judge_priced
 from judges.judging_module import judge_module
 from judges.judging_nights import judge_nights
 from judges.judging_options import OPTIONS, judge_options
+from judges.judging_partial import judge_partial
 from judges.judging_plans import judge_picture, judge_respelled, judge_timetable, judge_wrong_spelling
 from judges.judging_printouts import judge_printout, judge_wrong_printout
 from judges.judging_proofs import judge_proof
@@ -165,12 +167,16 @@ KINDS = {
                    tools_by(judge_sheets)),
     "served": Kind("plan with a fleet near the edge: the least cost, or why not, and a plan of the others", 6,
                    program_by(judge_served)),
+    "partial": Kind("who is served of up to 9 customers where not all can be: at most one below all subsets", 60,
+                    tools_by(judge_partial)),
     "fewest": Kind("fewest on 1 to 8 customers: the fewest vehicles and the least cost with them, by all plans", 12,
                    program_by(judge_fewest)),
     "module": Kind("1 to 6 customers by the module for Python: answers, texts, cancelling and faults, by all plans", 20,
                    program_by(judge_module)),
     "breaks": Kind("plan, broken off at drawn times: texts that are right, never dearer than before", 4,
                    program_by(judge_break)),
+    "folders": Kind("plan over changed days, ended at any moment: pages and plan of one day, the one before whole", 4,
+                    program_by(judge_folder)),
     "rounds": Kind("drawn costs and bounds by rounds of the module and of a batch's step: the best stay, at an end too",
                    12, tools_by(judge_rounds)),
     "proofs": Kind("few customers by prove, one part killed or spoilt: right, never worse, all else kept", 4,
