@@ -69,6 +69,14 @@ MORE = {
     "machines": "localhost\n",
     "semicolons.csv": "number;name\n0;depot\n1;a.5\n2;1.5\n",
     "german.csv": FILES["t.csv"].replace("due", "bis"),
+    # Three customers for whom a vehicle of 2 has no room: by their priorities the one of 2 is served.
+    "short.csv": "name,x,y,demand,ready,due,service,priority\ndepot,0,0,,0,1000,,\nA,3,4,1,0,1000,0,1\n"
+                 "B,6,8,1,0,1000,0,\nC,9,12,2,0,1000,0,5\n",
+    "rank.csv": "name,x,y,demand,ready,due,service,rank\ndepot,0,0,,0,1000,,\nA,3,4,1,0,1000,0,1\n"
+                "B,6,8,1,0,1000,0,\nC,9,12,2,0,1000,0,5\n",
+    # A customer 20 minutes away who is due ten minutes after the depot opens.
+    "late.csv": "name,x,y,demand,ready,due,service\ndepot,0,0,,06:00,10:00,\nA,3,4,1,06:00,09:00,5\n"
+                "B,12,16,1,06:00,06:10,5\n",
     "list.txt": "[[0, 1]]\n",
     "vans.csv": "name,driver\nVan A,Ann\n",
     "no_vans.csv": "name,driver\n",
@@ -140,24 +148,31 @@ outside/workshop/large_trees i.txt --minutes 0.06 --turns 2,default --jobs 1 --s
 outside/workshop/large_trees i.txt --minutes 0.02 --turns 2 --jobs 1 --program {program}|0|\
 -: 1 certificates, & -: , 0 disagreements
 plan t.csv --into d --seconds 30 --vehicles 2 --capacity 5 --from csv --name Monday --scale 3|0|\
-d/instance.txt: Monday & d/instance.txt: 1 9 12 1 0 3000 0 & d/report.html: </html>
-plan plain.csv --into d --horizon 06:00-18:00 --vehicles 2 --capacity 5 --seconds 30|0|d/timetable.csv: 06:0
-plan geo.csv --into d --vehicles 5 --capacity 5 --speed 60 --detour 2 --seconds 30|0|d/plan.txt: Route #1: 1
-plan point.csv --into d --vehicles 2 --capacity 5 --times-as-numbers --seconds 30|0|d/instance.txt: 1 10 10 1 63 180 20
-plan waits.txt --into d --depart early --seconds 30|0|d/report.html: All vehicles leave when the depot opens.
-plan german.csv --into d --column due=bis --vehicles 2 --capacity 5 --seconds 30|0|d/plan.txt: Cost 10.0
-plan i.txt --into d --names names.csv --fewest --drivers --seconds 30|0|d/drivers.html: </html> & d/fewest/1.plan & \
-d/names.csv: 2,b & -: No plan does without a vehicle.
+d/now/instance.txt: Monday & d/now/instance.txt: 1 9 12 1 0 3000 0 & d/now/report.html: </html>
+plan plain.csv --into d --horizon 06:00-18:00 --vehicles 2 --capacity 5 --seconds 30|0|d/now/timetable.csv: 06:0
+plan geo.csv --into d --vehicles 5 --capacity 5 --speed 60 --detour 2 --seconds 30|0|d/now/plan.txt: Route #1: 1
+plan point.csv --into d --vehicles 2 --capacity 5 --times-as-numbers --seconds 30|0|d/now/instance.txt: 1 10 10 1 63 180 20
+plan waits.txt --into d --depart early --seconds 30|0|d/now/report.html: All vehicles leave when the depot opens.
+plan german.csv --into d --column due=bis --vehicles 2 --capacity 5 --seconds 30|0|d/now/plan.txt: Cost 10.0
+plan i.txt --into d --names names.csv --fewest --drivers --seconds 30|0|d/now/drivers.html: </html> & d/now/fewest/1.plan & \
+d/now/names.csv: 2,b & -: No plan does without a vehicle.
 plan i.txt --into d --searchers 1 --bounders 1 --labels 1000 --neighbours 4 --sets 3 --seed 3 --gap 5 --seconds 30|0|\
-d/plan.txt: Cost 20.0
+d/now/plan.txt: Cost 20.0
 plan i.txt --into d --seconds 30 --program {program}|0|-: 20.0
-plan i.txt --into held --seconds 30|0|held/certificate.txt: VRPTW-SETS 1 & -: 20.0
+plan i.txt --into held --seconds 30|0|held/now/certificate.txt: VRPTW-SETS 1 & -: 20.0
 prove i.txt --into d --neighbours 4 --seconds 60|0|-: BEST 20.0 & d/plan.txt: Cost 20.0 & d/gap.svg: </svg> & \
 d/certificate.txt: NEIGHBOURS 4 & d/rounds.csv: 1,0,0,0,1, & --: outside/prove: round 1: one run here,
 prove i.txt --into d ; prove i.txt --into d --seconds 9|0|-: 1       here
 prove i.txt --into held|0|-: BEST 20.0 & held/certificate.txt: VRPTW-SETS 1
 prove long.txt --into long|0|-: BEST 20.0 & long/certificate.txt: NEIGHBOURS 12
-plan long.txt --into long_days|0|long_days/certificate.txt: NEIGHBOURS 12
+plan short.csv --into d --vehicles 1 --capacity 2 --seconds 30|1|d/now/served/names.csv: 1,C,5 & -: Left out: 2 customers. & \
+-: A, 1, 0.0 to 1000.0: it takes 1, and the most that a vehicle has room for is 0 & \
+-: What would do: 2 vehicles, or vehicles that hold 4. & d/now/left_out.csv: name,demand,ready,due,reason,would_do & d/now/report.html: <section id="left-out">
+plan late.csv --into d --vehicles 2 --capacity 5 --seconds 30|1|-: What would do: B until 06:20. & d/now/served/names.csv: 1,A
+plan i.txt --into d --seconds 30 ; plan four.txt --into d --seconds 30|0|d/before/report.html: </html> & \
+d/now/changes.csv: customer 3,new,,3, & d/now/report.html: <section id="changes">
+plan rank.csv --into d --column priority=rank --vehicles 1 --capacity 2 --seconds 30|1|d/now/served/names.csv: 1,C,5
+plan long.txt --into long_days|0|long_days/now/certificate.txt: NEIGHBOURS 12
 prove four.txt --into open --engine here --parts 1 --jobs 1 --round 20 --searchers 1 --bounders 1 --labels 1000 \
 --sets 3 --seed 3 --program {program}|0|-: BEST 100.0 & --: outside/prove: round 1: 1 of 1 part, & open/gap.svg: </svg>
 prove four.txt --into open --engine parallel --sshloginfile machines --parts 1 --program {program}|0|\

@@ -124,12 +124,15 @@ def judge_ended(into, came):
     demand(not left_running(into), "left running: %s" % left_running(into))
     if status == -signal.SIGKILL:
         return True
-    if status < 0 or "KeyboardInterrupt" in errors:
-        # The signal came while Python itself was starting.
-        return False
     there = os.listdir(into) if os.path.isdir(into) else []
     demand(not [name for name in there if name.startswith(".")], "left behind: %s" % there)
+    if (status < 0 or status > 128) and not out:
+        # The signal came before the work began, or else once all was said.
+        demand(not errors and {-status, status - 128} & set(SIGNALS), "status %d, %r" % (status, errors))
+        return False
+    status = 0 if -status in SIGNALS else status
     demand(status in (0, 1), "status %d, %r" % (status, errors))
+    there = os.listdir(os.path.join(into, "now")) if "now" in there else []
     demand("Traceback" not in errors and (out or status), "%r" % errors)
     has_plan = "plan.txt" in there
     demand(status or has_plan and set(PAGES) <= set(there), "status %d, and there are %s" % (status, there))
@@ -142,20 +145,21 @@ def judge_break(program, folder, random):
     table, into = Table(random, os.path.join(folder, "customers.csv")), os.path.join(folder, "monday")
     words = [os.path.join(OUTSIDE, "plan"), table.path, "--into", into, "--seconds", str(SECONDS), "--program", program,
              "--vehicles", "25", "--capacity", str(table.capacity), "--searchers", "1", "--bounders", "1", "--drivers"]
-    before, breaks, is_changed = standing(program, folder, into), 0, False
+    now_there = os.path.join(into, "now")
+    before, breaks, is_changed = standing(program, folder, now_there), 0, False
     for _ in range(random.randint(2, 4)):
         number, after = random.choice(SIGNALS[:3] if is_changed else SIGNALS), random.uniform(0.05, LATEST)
         has_start = random.randrange(8) > 0
         came = broken_off(words, number, after, into if has_start else None)
         breaks += judge_ended(into, came)
-        now = standing(program, folder, into)
+        now = standing(program, folder, now_there)
         demand_no_less(before, now, is_changed)
         before = now
         if random.randrange(3) == 0:
             table.change()
             is_changed = True
     status, out, errors = broken_off(words, signal.SIGTERM, ENDING)
-    now = standing(program, folder, into)
+    now = standing(program, folder, now_there)
     demand_no_less(before, now, is_changed)
     judge_ended(into, (status, out, errors))
     demand(status == 0 and now[2] is not None, "at the end: status %d, %r, %r" % (status, out, errors))

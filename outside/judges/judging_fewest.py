@@ -71,6 +71,7 @@ def judge_planned(program, folder, source, instance):
         demand(status == 1 and is_told, "plan: %r, %r" % (told, errors))
         return
     demand(status == 0, "plan: %r, %r" % (told, errors))
+    into = os.path.join(into, "now")
     own, plan = (got(os.path.join(into, name)) for name in ("instance.txt", "plan.txt"))
     own, (routes, its) = read(own), read_solution(plan)
     demand(is_plan(own, routes) and own.rows == instance.rows and own.fleet >= fewest, "plan: %r" % told)

@@ -1,5 +1,7 @@
 """One run of `plan` on few customers with a fleet near the edge: the least cost, or why there is no plan and a plan of
 those that are served; and one of `sheets`."""
+import csv
+import io
 import os
 from judges.kind import Kind, program_by, tools_by
 from xml.etree import ElementTree
@@ -9,13 +11,15 @@ from cases.exact_tables import all_plans
 from cases.random_texts import laid_out
 from judges.judging_breaks import standing
 from judges.judging_layouts import tool
+from judges.judging_partial import demand_most, demand_no_room
 from judges.judging_plans import NAMES, drawn
 from judges.judging_tables import plan_text
 from judges.judging_visits import table_drawn, wrong_line
 from judges.running import demand, got, put
 from reference import checking
-from reference.instances import Instance, read
+from reference.instances import Instance, read, walk
 from reference.optimum import least_cost
+from reference.texts import read_solution
 from tools.names import clean, table_of
 from tools.timing import stops
 from tools.units import Units
@@ -28,25 +32,79 @@ def alone(instance, i):
     return Instance(instance.name, instance.fleet, instance.capacity, [instance.rows[0], instance.rows[i]])
 
 
+def numbers_of(instance, others):
+    """By the numbers of an instance of some those of the whole one, in their order."""
+    found, rest = [], list(range(1, instance.count + 1))
+    for row in others.rows[1:]:
+        while rest and instance.rows[rest[0]] != row:
+            rest.pop(0)
+        demand(rest, "a row of nobody: %r" % (row,))
+        found.append(rest.pop(0))
+    return found
+
+
+def told_out(into):
+    """The rows of the table of those that are left out."""
+    text = got(os.path.join(into, "now", "left_out.csv")).decode()
+    return list(csv.DictReader(io.StringIO(text)))
+
+
+def demand_advice(instance, advice):
+    """What would do does, by all plans: vehicles more or that hold more; a due date by the row of its customer."""
+    for words in advice:
+        number = [word for word in words.split() if word.isdigit()]
+        if not words.endswith("vehicles") and "that hold" not in words:
+            continue
+        is_room = "that hold" in words
+        other = Instance(instance.name, instance.fleet if is_room else int(number[0]),
+                         int(number[0]) if is_room else instance.capacity, instance.rows)
+        demand(least_cost(other) is not None, "%s wouldn't do" % words)
+
+
+def demand_due(instance, routes, i, words):
+    """A due date does for one who is left out, in the plan that stands."""
+    due = round(10 * float(words.split()[1]))
+    rows = [row[:4] + (due,) + row[5:] if at == i else row for at, row in enumerate(instance.rows)]
+    other = Instance(instance.name, instance.fleet, instance.capacity, rows)
+    longer = [route[:at] + [i] + route[at:] for route in routes for at in range(len(route) + 1)]
+    longer += [[i]] if len(routes) < instance.fleet else []
+    demand(any(walk(other, route) for route in longer), "%s doesn't do for %d" % (words, i))
+
+
 def judge_others(program, folder, instance, into, out):
-    """Some are left out, each named or counted, and the others' plan is one, by the check."""
-    served = os.path.join(into, "served")
+    """Those who are left out are as few as can be or one more, each told with its reason, and the others' plan is one,
+    by the check."""
+    served, rows = os.path.join(into, "now", "served"), told_out(into)
     if not os.path.isdir(served):
         demand(all(least_cost(alone(instance, i)) is None for i in range(1, instance.count + 1)),
                "nobody is served: %r" % out)
         return "nobody served"
     text, kind, cost, _ = standing(program, folder, served)
     others = read(text)
-    demand(kind in ("BEST", "GAP") and others.count < instance.count, "the others: %s" % kind)
-    rows = list(instance.rows)
-    for row in others.rows:
-        demand(row in rows, "a row of nobody: %r" % (row,))
-        rows.remove(row)
-    told = out.split("In %s" % served)[0]
-    demand(all(word in told for word in ("There is no plan of all customers: ",)) and (
-        "No plan can serve " in told or "Left out" in told), "who is left out isn't told: %r" % out)
+    numbers = numbers_of(instance, others)
+    demand(kind in ("BEST", "GAP") and len(rows) == instance.count - others.count > 0, "the others: %s" % kind)
+    left = [i for i in range(1, instance.count + 1) if i not in numbers]
+    routes = [[numbers[i - 1] for i in route] for route in read_solution(got(os.path.join(served, "plan.txt")))[0]]
+    demand_no_room(instance, routes, left)
+    demand_most(instance, [0] * (instance.count + 1), numbers)
+    demand("Left out: %d customer" % len(left) in out and all(row["reason"] in out for row in rows[:10]),
+           "who is left out isn't told: %r" % out)
     demand(kind != "BEST" or least_cost(others) == cost, "the others' plan isn't the cheapest")
-    return "%d of %d served" % (others.count, instance.count)
+    return "%d of %d served" % (others.count, instance.count), left, routes, rows
+
+
+def judge_advice(instance, out, found):
+    """What is said to do does."""
+    if isinstance(found, str):
+        return found
+    told, left, routes, rows = found
+    advice = [line.split(": ", 1)[1].rstrip(".").split(", or ") for line in out.split("\n")
+              if line.startswith("What would do: ")]
+    demand_advice(instance, advice[0] if advice else [])
+    for i, row in zip(left, rows):
+        if row["would_do"]:
+            demand_due(instance, routes, i, row["would_do"])
+    return told
 
 
 def instance_given(folder, random):
@@ -75,13 +133,14 @@ def judge_served(program, folder, random):
     out, errors, status = tool("plan", *words, "--into", into, "--seconds", "30", "--program", program)
     out = out.decode()
     demand("Traceback" not in errors, "plan: %r" % errors)
-    text, kind, cost, _ = standing(program, folder, into)
+    text, kind, cost, _ = standing(program, folder, os.path.join(into, "now"))
     if least is not None:
         demand(status == 0 and cost is not None and cost >= least and (kind != "BEST" or cost == least),
                "status %d, %s %s, and the least cost is %d" % (status, kind, cost, least))
         return kind
     demand(status == 1 and kind in ("NO PLAN", "OPEN"), "status %d, %s, and there is no plan" % (status, kind))
-    return judge_others(program, folder, read(text), into, out) if kind == "NO PLAN" else kind
+    found = judge_others(program, folder, read(text), into, out)
+    return judge_advice(read(text), out, found) if len(words) == 1 else found[0] if len(found) == 4 else found
 
 
 def texts_in(element):

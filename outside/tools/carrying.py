@@ -3,6 +3,7 @@ from itertools import groupby
 
 from reference.instances import walk_times
 from tools.tool import Refused, listed
+from tools.touring import Tables, put
 
 
 def marks_of(instance, names):
@@ -45,7 +46,9 @@ class Carried:
         kept = [[self.again[i] for i in route if i in self.again] for route in routes]
         kept, left = self.shortened([route for route in kept if route])
         self.note("customers that no longer fit where they were", left, self.told[1])
-        for customer in sorted(left + self.new, key=lambda i: (self.changed.due(i), i)):
+        placed_already = {i for route in kept for i in route}
+        others = [i for i in range(1, self.changed.count + 1) if i not in placed_already]
+        for customer in sorted(others, key=lambda i: (self.changed.due(i), i)):
             if self.put(kept, customer):
                 continue
             if absent is None:
@@ -83,8 +86,8 @@ class Carried:
 
 def placed(instance):
     """Routes that are built customer by customer, those that are due first before the others, and who fits nowhere."""
-    found, routes, left = Carried(instance, instance, (None, None)), [], []
+    tables, tours, left = Tables(instance), [], []
     for customer in sorted(range(1, instance.count + 1), key=lambda i: (instance.due(i), i)):
-        if not found.put(routes, customer):
+        if not put(tables, tours, customer, is_alone_last=True):
             left.append(customer)
-    return routes, left
+    return [tour.stops for tour in tours], left

@@ -15,7 +15,7 @@ READERS = {"ours": solomon_layout.read, "solomon": solomon_layout.read, "vrplib"
 WRITERS = {"ours": solomon_layout.write_ours, "solomon": solomon_layout.write, "vrplib": vrplib_layout.write,
            "csv": csv_layout.write}
 # What a column may be called otherwise.
-NAMED_COLUMNS = ("name", "address", "x", "y", "lat", "lon", "demand", "ready", "due", "service")
+NAMED_COLUMNS = ("name", "address", "priority", "x", "y", "lat", "lon", "demand", "ready", "due", "service")
 ENDINGS = {".txt": "ours", ".vrp": "vrplib", ".csv": "csv"}
 
 

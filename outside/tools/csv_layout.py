@@ -13,6 +13,7 @@ from tools.layouts import Read
 from tools.names import COLUMNS as KEPT
 from tools.names import Names, clean, named
 from tools.noting import OVER, Note
+from tools.priorities import judge_priorities
 from tools.sheet_faults import Faults
 from tools.table import DECIMAL_COMMA, Table, beginning
 from tools.tool import Found, listed, number, quoted
@@ -156,6 +157,7 @@ def read(text, quantities):
     """An instance without name, fleet and capacity."""
     table, faults = opened(text, quantities)
     values = Values(table, quantities, faults)
+    judge_priorities(table, faults)
     notes = laid_out(values, quantities) if DEGREES[0] in table.columns else []
     judge_rows(values, quantities)
     faults.refuse()

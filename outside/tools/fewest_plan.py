@@ -2,12 +2,10 @@
 import os
 import shutil
 
+from tools.day import FEWEST
 from tools.fleets import Fleets, with_fleet
 from tools.respelling import certificate
 from tools.standing import CERTIFICATE, INSTANCE, PLAN, Folder
-
-# The folder within that of the plan.
-FEWEST = "fewest"
 
 
 def narrowed(folder, instance, given, signals, until):

@@ -112,7 +112,7 @@ class Fleets:
             text, instance = with_fleet(self.instance, fleet)
             side = Side(self.folder, fleet)
             side.put(INSTANCE, text)
-            planner = Planner(side, instance, (text, b""), copy.copy(self.given), self.signals, self.line.tell, False)
+            planner = Planner(side, instance, (text, b""), copy.copy(self.given), self.signals, self.line.tell)
             planner.stand(self.until)
             for name, known in ((PLAN, planner.cost), (CERTIFICATE, planner.bound)):
                 if known is None and not planner.is_unread:

@@ -3,14 +3,15 @@ import re
 
 # Our names of columns. The first one of the two for names that is there has them.
 NAMED = ("name", "customer")
-OURS = (*NAMED, "address", "x", "y", "lat", "lon", "demand", "ready", "due", "service")
+OURS = (*NAMED, "address", "priority", "x", "y", "lat", "lon", "demand", "ready", "due", "service")
 # Those that the tools are told by, and of which nothing is solved.
-KEPT = (*NAMED, "address")
+KEPT = (*NAMED, "address", "priority")
 # Words for each of them in English, German, French, Spanish, Dutch and Italian.
 WORDS = {
     "name": "client, kunde, kundenname, firma, nom, nombre, cliente, naam, klant, nome",
     "address": "street, adresse, anschrift, straße, rue, dirección, direccion, calle, adres, straat, indirizzo, "
                "via",
+    "priority": "priorität, vorrang, priorité, priorite, prioridad, prioriteit, voorrang, priorità, priorita",
     "x": "x-coordinate, rechtswert, easting",
     "y": "y-coordinate, hochwert, northing",
     "lat": "latitude, breite, breitengrad, latitud, breedtegraad, latitudine",

@@ -1,19 +1,24 @@
 """What is made of a plan that stands: the timetable, the page, a sentence; and the line that tells how far it is."""
+import os
 import time
 
 from reference.set_texts import read_either
 from reference.texts import read_solution
 from tools import sheets
+from tools.changing import Changes
+from tools.day import CHANGES, LEFT_OUT, NOW, REPORT, SERVED, SHEETS, TIMETABLE
 from tools.drawing import plural
+from tools.left_out import MOST_TOLD
 from tools.names import names_of
+from tools.past import past_of
 from tools.reporting import Report, page, why_not
-from tools.serving import SERVED
 from tools.standing import CERTIFICATE, INSTANCE, NAMES, PLAN
 from tools.telling import Telling
 from tools.timing import percent, separated
-from tools.tool import listed
 
-TIMETABLE, REPORT, SHEETS = "timetable.csv", "report.html", "drivers.html"
+# Pages are thought to take so many times as long as those before; in the midst of the work they are written anew once
+# so many times as long as they take is over, and so many seconds.
+MEASURED, SELDOM, SELDOM_SECONDS = 1.5, 20, 10
 
 
 class Line:
@@ -62,49 +67,123 @@ def report_of(planner):
     return report
 
 
-def finish(planner, has_sheets, report=None):
-    """Writes the pages of the texts that stand, with the report that is given, or their own."""
+def put_pages(planner, has_sheets, report):
+    """Puts the pages of the texts that stand beside these; sheets that are there don't stay those of another plan."""
     folder, instance = planner.folder, planner.instance
-    # Pages that tell the bound aren't replaced by some that can't.
-    if not planner.is_in_place or planner.is_unread and folder.held(REPORT):
-        return
-    own = report_of(planner)
-    # Sheets that are there don't stay those of another plan.
     has_sheets = has_sheets or folder.held(SHEETS) is not None
     for name, make in ((TIMETABLE, separated), (SHEETS, sheets.page if has_sheets else None)):
         if planner.cost is None:
             folder.drop(name)
         elif make is separated:
-            folder.put(name, separated(instance, own.routes, own.names, own.depart).encode())
+            folder.put(name, separated(instance, report.routes, report.names, report.depart).encode())
         elif make:
-            folder.put(name, make(instance, own.names, own.routes, own.depart).encode())
-    if own is not None:
-        folder.put(REPORT, page(report or own).encode())
+            folder.put(name, make(instance, report.names, report.routes, report.depart).encode())
+    folder.put(REPORT, page(report).encode())
 
 
-def left_out(serving):
-    """Who isn't served, in a sentence or two."""
-    names, found = serving.names, []
-    if serving.impossible:
-        found.append("No plan can serve %s." % listed([names.called(i) for i in serving.impossible]))
-    if serving.left:
-        found.append("Left out%s, until the others had a plan: %s; fewer may do." % (
-            ", too" if found else "", listed([names.called(i) for i in serving.left])))
-    return " ".join(found)
+class Clock:
+    """The seconds of a command, of which those are kept back that the pages take."""
+
+    def __init__(self, began, seconds, customers):
+        self.began, self.seconds = began, seconds
+        self.back = min(0.3 * seconds, 0.2 + customers / 150)
+
+    def until(self):
+        """When the pages are begun with."""
+        return self.began + self.seconds - self.back
+
+    def part(self, part):
+        """The end of a part of the seconds, before which pages are written."""
+        return self.began + part * (self.seconds - self.back)
+
+    def note(self, took):
+        """Takes in how long pages took, whatever else is at work on the machine."""
+        self.back = min(0.6 * self.seconds, max(0.1, MEASURED * took))
 
 
-def finish_without(planner, serving, has_sheets):
-    """Writes the page of an instance without a plan, and those of the ones that are served."""
-    report, found = report_of(planner), serving.found
-    report.why = why_not(planner.instance, report.certificate, serving.names)
-    if found is not None:
-        report.left, report.served = left_out(serving), report_of(found)
-        report.served.folder, report.served.whom = SERVED + "/", "the others"
-        finish(found, has_sheets)
-    finish(planner, has_sheets, report)
-    told = "There is no plan of all customers: %s.\n" % "; ".join(report.why)
-    return told + ("" if found is None else "%s In %s: %s" % (
-        report.left, planner.folder.at(SERVED), sentence(found, serving.names.units, "the others")))
+class Pages:
+    """The pages of a planner's day, and what is said at the end."""
+
+    def __init__(self, planner, names, clock, has_sheets):
+        self.planner, self.names, self.clock, self.has_sheets = planner, names, clock, has_sheets
+        self.written, self.cost, self.bound = 0.0, None, None
+        planner.after_round = self.keep_up
+
+    def keep_up(self):
+        """Writes the pages in the midst of a long work, where they are of a plan that was bettered."""
+        is_late = time.monotonic() - self.written >= max(SELDOM * self.clock.back, SELDOM_SECONDS)
+        if self.planner.cost is not None and is_late and (self.cost, self.bound) != (
+                self.planner.cost, self.planner.bound):
+            self.write()
+
+    def write(self, serving=None):
+        """Writes all pages, and brings the day into place; what that took is kept back at the end."""
+        began, planner = time.monotonic(), self.planner
+        # Pages that tell the bound aren't replaced by some that can't.
+        if planner.is_in_place and not (planner.is_unread and planner.folder.held(REPORT)):
+            self.put(serving)
+        if planner.is_in_place:
+            planner.folder.publish()
+        self.written, self.cost, self.bound = time.monotonic(), planner.cost, planner.bound
+        self.clock.note(self.written - began)
+
+    def put(self, serving):
+        planner = self.planner
+        report = report_of(planner)
+        if serving is None:
+            planner.folder.drop(SERVED)
+            planner.folder.drop(LEFT_OUT)
+        elif serving.left_out is not None:
+            self.put_served(serving, report)
+        if report is not None:
+            report.changes = self.changes(serving, report)
+            put_pages(planner, self.has_sheets, report)
+
+    def put_served(self, serving, report):
+        """The pages of those that are served, and the table of those that are left out."""
+        planner, found = self.planner, serving.found
+        report.why = why_not(planner.instance, report.certificate, serving.names, "", serving.proofs)
+        report.left_out = serving.left_out
+        planner.folder.put(LEFT_OUT, serving.left_out.table().encode())
+        if found is not None:
+            report.served = report_of(found)
+            report.served.folder, report.served.whom = SERVED + "/", "the others"
+            put_pages(found, self.has_sheets, report_of(found))
+
+    def changes(self, serving, report):
+        """The changes from the day before, whose table is put beside; None where there is none."""
+        planner, folder = self.planner, self.planner.folder
+        past = past_of(folder.before())
+        routes = report.routes if serving is None else serving.routes_found() if serving.found else None
+        if past is None or routes is None or past.carried(planner.instance, self.names) is None:
+            folder.drop(CHANGES)
+            return None
+        found = Changes(past, planner.instance, self.names, routes, planner.given.depart)
+        folder.put(CHANGES, found.table().encode())
+        return found
+
+    def told(self, serving=None):
+        """What is said at the end."""
+        planner, units = self.planner, self.names.units
+        if serving is None:
+            return sentence(planner, units) + (planner.fewest + "\n" if planner.fewest else "")
+        found, where = serving.found, planner.folder.in_top(NOW)
+        told = [self.head(where, serving.proofs)]
+        if found is not None:
+            told.append("In %s: %s" % (os.path.join(where, SERVED), sentence(found, units, "the others").rstrip("\n")))
+        told += serving.left_out.told()
+        if len(serving.left_out.rows) > MOST_TOLD:
+            told.append("All that are left out are in %s." % os.path.join(where, LEFT_OUT))
+        return "\n".join(told) + "\n"
+
+    def head(self, where, proofs):
+        """Whether it is known that not all can be served, and by what."""
+        planner = self.planner
+        certificate = read_either(planner.folder.held(CERTIFICATE)) if planner.bound is not None else None
+        why = why_not(planner.instance, certificate, self.names, where, proofs)
+        if not why:
+            return "No plan of all customers was found; whether there is one isn't known."
+        return "There is no plan of all customers: %s." % "; ".join(why)
 
 
 def sentence(planner, units, whom=None):

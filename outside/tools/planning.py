@@ -2,11 +2,10 @@
 import re
 import time
 
-from reference.instances import Fault, plan_cost, read
-from reference.texts import TextFault, read_solution, tenths
-from tools.carrying import Carried, placed
+from reference.instances import plan_cost
+from reference.texts import tenths
+from tools.carrying import placed
 from tools.judged import judged, ran
-from tools.names import names_of
 from tools.respelling import certificate, text_of
 from tools.standing import CERTIFICATE, INSTANCE, NAMES, PLAN, TREES
 from tools.stopping import Patience
@@ -54,15 +53,16 @@ class Planner:
     """A folder, an instance with its text and its table of names or None, and what is known: cost, bound, count of
     vehicles and kind of verdict of the texts that stand, all None where none does."""
 
-    def __init__(self, folder, instance, texts, given, signals, tell, keeps_before=True):
+    def __init__(self, folder, instance, texts, given, signals, tell):
         self.folder, self.instance, self.given, self.signals, self.tell = folder, instance, given, signals, tell
-        self.keeps_before, self.is_unread = keeps_before, False
+        self.is_unread = self.is_built = False
         self.cost = self.bound = self.vehicles = self.kind = self.start = None
-        # What the pages say of fewer vehicles.
-        self.fewest = ""
+        # What the pages say of fewer vehicles, and routes of some customers to begin with.
+        self.fewest, self.some = "", []
         # The counts of neighbours whose trees were refused, and the certificates whose trees don't serve.
         self.left_out, self.early = set(), set()
-        self.notes = []
+        # What is done behind each round.
+        self.notes, self.after_round = [], lambda: None
         self.texts = {name: text for name, text in zip((INSTANCE, NAMES), texts) if text is not None}
         for name, text in self.texts.items():
             folder.put_beside(name, text)
@@ -120,25 +120,18 @@ class Planner:
             return 1000 * (self.cost - self.bound) <= self.given.gap * self.cost
         return self.kind in ("BEST", "NO PLAN")
 
-    def carry(self, names):
-        """Takes the plan of another instance along, by the names of both, or by places where one of them has none."""
-        text, plan = self.folder.held(INSTANCE), self.folder.held(PLAN)
-        if self.is_in_place or not text or not plan:
+    def carry(self, past, names):
+        """Takes the plan of another day along, by the names of both, or by places where one of them has none."""
+        if self.is_in_place or past is None:
             return
-        try:
-            before, routes = read(text), read_solution(plan)[0]
-            both = names_of(self.folder.at(NAMES), before.count), names
-        except (Fault, TextFault, Refused) as fault:
-            self.note_fault(PLAN, str(fault))
-            return
-        told = [own.called for own in both]
-        is_named = all(own.has_names() for own in both)
-        if not is_named and both[0].units.of_places() != both[1].units.of_places():
+        told = [own.called for own in (past.names, names)]
+        found, absent = past.carried(self.instance, names), []
+        if found is None:
             self.note_fault(PLAN, "its places are in other units, and not all of both have names")
             return
-        found, absent = Carried(before, self.instance, both if is_named else (None, None), told), []
-        routes = found.carry(routes, absent)
+        routes = found.carry(past.routes, absent)
         self.notes += found.notes
+        self.some = routes
         if absent:
             self.notes.append("these fit into no route of the plan before, and begin absent: %s" % ", ".join(
                 told[1](i) for i in absent))
@@ -146,8 +139,9 @@ class Planner:
         self.begin_with(routes)
 
     def build(self):
-        """Builds a plan customer by customer, to begin with, where all have a place."""
-        routes, unfit = placed(self.instance)
+        """Builds a plan customer by customer, once, to begin with, where all have a place."""
+        routes, unfit = ([], [0]) if self.is_built else placed(self.instance)
+        self.is_built = True
         if not unfit:
             self.begin_with(routes)
 
@@ -161,11 +155,20 @@ class Planner:
             return
         if self.start is None:
             self.build()
-        if self.start is None:
-            return
+        if self.start is not None:
+            self.take_start()
+
+    def take_start(self):
+        """Brings the plan to begin with into place, where it is better, with a bound of 0 where none is known."""
         fault = self.take_texts(held(self.start), certificate(self.instance).encode())
         if fault:
             self.notes.append("the plan to begin with isn't taken: %s" % fault)
+
+    def stand_open(self):
+        """Brings the instance into place where nothing is known of it, with a bound of 0."""
+        if self.bound is None and not self.is_unread:
+            self.folder.put_beside(CERTIFICATE, certificate(self.instance).encode())
+            self.take(None, 0)
 
     def take_texts(self, plan, proof):
         """Brings a plan and a certificate into place where they are better; answers why the check doesn't take them."""
@@ -177,10 +180,10 @@ class Planner:
             self.take(cost, bound)
         return fault
 
-    def go_on(self, until, is_any_enough=False):
+    def go_on(self, until, is_any_enough=False, schedule=None):
         """Makes rounds until nothing is left to find, the time is over, or a signal comes; or a plan stands, where any
-        is enough."""
-        schedule, number = Schedule(self.counts_of_neighbours()), 0
+        is enough. A schedule goes on with the one of rounds before."""
+        schedule, number = schedule or Schedule(self.counts_of_neighbours()), 0
         while not (self.is_done() or self.signals.came or is_any_enough and self.cost is not None):
             chosen = schedule.next(until - time.monotonic())
             if chosen is None:
@@ -193,6 +196,7 @@ class Planner:
                 return
             if bound is not None:
                 schedule.note(*chosen, time.monotonic() - began, bound)
+                self.after_round()
             elif not fault:
                 return
 
@@ -266,10 +270,8 @@ class Planner:
         return self.bound is None or bound > self.bound
 
     def take(self, cost, bound):
-        """Brings what is better into place; of another instance all texts, once there is a plan or none can be."""
+        """Brings what is better into place; of another instance all texts."""
         if not self.is_in_place:
-            if cost is None and bound <= self.instance.ceiling() and self.keeps_before and self.folder.held(PLAN):
-                return
             self.replace(cost is not None)
         else:
             if cost is not None and (self.cost is None or cost < self.cost):
@@ -282,10 +284,9 @@ class Planner:
         self.judge()
 
     def replace(self, has_plan):
-        """Brings the texts of this instance in the place of another's, which are kept."""
-        if self.keeps_before:
-            self.folder.keep_before()
-        for name in TREES.values() if has_plan else (PLAN, *TREES.values()):
+        """Brings the texts of this instance in the place of another's."""
+        # Texts of both are never told by an instance.
+        for name in (INSTANCE, *TREES.values()) if has_plan else (INSTANCE, PLAN, *TREES.values()):
             self.folder.drop(name)
         self.folder.take(NAMES, *([PLAN] if has_plan else []), CERTIFICATE, INSTANCE)
         self.folder.put_beside(INSTANCE, self.texts[INSTANCE])

@@ -59,7 +59,7 @@ class Prover(Planner):
 
     def __init__(self, folder, instance, given, signals, tell):
         folder.put_instance(instance.held)
-        super().__init__(folder, instance, (instance.held, None), given, signals, tell, False)
+        super().__init__(folder, instance, (instance.held, None), given, signals, tell)
         self.rounds = Rounds(folder)
         self.pace, self.seconds = Pace(self.rounds.last("turns")), given.round
         # How many parts may have more to do; None where none were dealt out yet.

@@ -98,3 +98,8 @@ def reasons(instance, names=None):
     """All reasons, those of single customers first, told by numbers or as a table of names has them."""
     words = Words(names)
     return [*heavy(instance, words), *late(instance, words), *too_much(instance, words)]
+
+
+def proofs_of(instance, names=None):
+    """The reasons that prove that there is no plan."""
+    return [reason for reason in reasons(instance, names) if reason.proves]

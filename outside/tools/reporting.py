@@ -8,7 +8,7 @@ from tools import drawing_tree
 from tools.drawing import HEAD, colour, dash, is_hollow, plural
 from tools.drawing_map import Frame, drawn_map
 from tools.drawing_times import AXIS, FIGURES, LANES, Scale, drawn_bars
-from tools.reasons import reasons
+from tools.reasons import proofs_of
 from tools.reporting_page import SCRIPT, SHELL, STYLE
 from tools.timing import EARLY, LATE, cells, leaving, percent, shares, stops, sums_shown, total
 from tools.units import units_of
@@ -33,7 +33,9 @@ class Report:
         self.bound = certificate.bound if certificate else None
         self.units = units_of(names)
         # Where there is no plan: lines that say why, who is left out, and the report of the others' plan.
-        self.why, self.left, self.served, self.folder, self.whom = [], "", None, "", "all"
+        self.why, self.left_out, self.served, self.folder, self.whom = [], None, None, "", "all"
+        # What changed from the day before.
+        self.changes = None
         # What is known of fewer vehicles, in a sentence.
         self.fewest = ""
 
@@ -73,11 +75,14 @@ def asked(report):
                 plural(instance.fleet, "vehicle"), report.units.load(instance.capacity)))
 
 
-def why_not(instance, certificate, names):
-    """Lines that say why there is no plan, in names, where the certificate shows that there is none."""
-    found = [reason.told for reason in reasons(instance, names) if reason.proves]
-    leaves = plural(leaves_of(certificate.tree), "leaf").replace("leafs", "leaves")
-    return found or ["the certificate proves it, by %s; plain arithmetic tells no reason" % leaves]
+def why_not(instance, certificate, names, where="", proofs=None):
+    """Lines that say why there is no plan, in names: what plain arithmetic tells, which may be known already, or else
+    that the certificate shows it; none where neither does."""
+    found = proofs_of(instance, names) if proofs is None else proofs
+    if found or certificate is None or certificate.bound <= instance.ceiling():
+        return [reason.told for reason in found]
+    paths = [shlex.quote(os.path.join(where, name)) for name in ("instance.txt", "certificate.txt")]
+    return ["it is proved that not all can be served, and ./vrptw check %s %s shows it" % tuple(paths)]
 
 
 def claim(report):
@@ -278,8 +283,12 @@ def sections(report):
         "<tr>%s</tr>" % row(pair) for pair in figures(report))
     if report.why:
         yield "Why there is no plan", "<ul>%s</ul>" % "".join("<li>%s</li>" % escape(line) for line in report.why)
+    if report.left_out is not None:
+        yield "Left out", left_out(report.left_out)
+    if report.changes is not None:
+        yield "Changes", changes(report.changes)
     if report.served is not None:
-        yield "A plan of the others", "<p>%s</p><p>%s</p>" % (escape(report.left), answer(report.served))
+        yield "A plan of the others", "<p>%s</p>" % answer(report.served)
         yield from plan_sections(report.served)
     yield from plan_sections(report)
     yield "How to check", checks(report)
@@ -288,6 +297,27 @@ def sections(report):
             '<p class="note">Each leaf holds a part of all plans: those that use the arcs of full lines above it, and '
             'none of the broken ones. None of them is cheaper than the value of the leaf, so the least value is the '
             'bound.</p>')
+
+
+def left_out(found):
+    """The table of those that are left out, and what would do."""
+    rows = "".join("<tr>%s</tr>" % row([escape(cell) for cell in one[1:]]) for one in found.rows)
+    advice = "<p>What would do: %s.</p>" % escape(", or ".join(found.advice)) if found.advice else ""
+    return ('<table class="words"><thead><tr>%s</tr></thead><tbody>%s</tbody></table>%s'
+            '<p class="note">What would do was tried: a plan was found with it.</p>' % (
+                row(["customer", "demand", "from", "until", "why", "would do"], "th"), rows, advice))
+
+
+def changes(found):
+    """The tables of what changed from the day before."""
+    rows = "".join("<tr>%s</tr>" % row([escape(cell) for cell in one]) for one in found.rows())
+    sums = "".join("<tr>%s</tr>" % row([escape(cell) for cell in one]) for one in found.sums())
+    return ('<table class="words"><thead><tr>%s</tr></thead><tbody>%s</tbody></table>'
+            '<table class="words"><thead><tr>%s</tr></thead><tbody>%s</tbody></table><p class="note">%s</p>' % (
+                row(["customer", "what changed", "vehicle before", "vehicle", "begin before", "begin"], "th"), rows,
+                row(["", "before", "now"], "th"), sums,
+                "The day before is in the folder before. A vehicle is the one of before with which it has the most "
+                "customers in common; earlier or later are told from ten minutes on."))
 
 
 def plan_sections(report):

@@ -12,7 +12,8 @@ table { border-collapse: collapse; font-variant-numeric: tabular-nums; }
 th, td { padding: .15rem .7rem; text-align: right; font-weight: normal; white-space: nowrap; }
 thead th { color: #555; border-bottom: 1px solid #ccc; }
 tbody th { text-align: left; font-weight: bold; padding-top: .8rem; }
-.times td:nth-child(2) { text-align: left; }
+.times td:nth-child(2), .words td, .words th { text-align: left; }
+.words td { white-space: normal; }
 .pairs td:first-child { text-align: left; color: #555; }
 .load { position: relative; width: 9rem; background: #eee; text-align: center; }
 .load i { position: absolute; left: 0; top: 0; bottom: 0; background: #b9d4e8; }

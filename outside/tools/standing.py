@@ -10,15 +10,15 @@ INSTANCE, NAMES, PLAN, CERTIFICATE = "instance.txt", "names.csv", "plan.txt", "c
 TEXTS = (INSTANCE, NAMES, PLAN, CERTIFICATE)
 # The certificate of the last round with each count of neighbours, whose tree the next one goes on from.
 TREES = {neighbours: "tree_%d.txt" % neighbours for neighbours in range(16)}
-# Where texts stand until they are checked, and where those of another instance stay.
-WORK, BEFORE = ".plan_", "before"
+# Where texts stand until they are checked.
+WORK = ".plan_"
 
 
 class Folder:
     """A folder that one command at a time works in."""
 
     def __init__(self, path):
-        self.path, self.is_new = path, not os.path.isdir(path)
+        self.path, self.top, self.is_new = path, path, not os.path.isdir(path)
         try:
             os.makedirs(path, exist_ok=True)
             self.lock = os.open(path, os.O_RDONLY)
@@ -27,22 +27,28 @@ class Folder:
             raise Refused("%s: met another plan at work there, wanted one at a time" % path)
         except OSError as fault:
             raise Refused("%s: %s" % (path, last_words(fault)))
-        # What a command left that was killed.
-        for name in os.listdir(path):
-            if name.startswith(WORK):
-                shutil.rmtree(self.at(name), ignore_errors=True)
+        self.clear()
         try:
             self.work = tempfile.mkdtemp(prefix=WORK, dir=path)
         except OSError as fault:
             raise Refused("%s: %s" % (path, last_words(fault)))
+
+    def killed(self):
+        """Where texts stand that a command left that was killed."""
+        return [os.path.join(self.top, name) for name in sorted(os.listdir(self.top)) if name.startswith(WORK)]
+
+    def clear(self):
+        """Takes away what a command left that was killed."""
+        for path in self.killed():
+            shutil.rmtree(path, ignore_errors=True)
 
     def __enter__(self):
         return self
 
     def __exit__(self, *fault):
         shutil.rmtree(self.work, ignore_errors=True)
-        if self.is_new and not os.listdir(self.path):
-            os.rmdir(self.path)
+        if self.is_new and not os.listdir(self.top):
+            os.rmdir(self.top)
         os.close(self.lock)
 
     def at(self, name):
@@ -99,16 +105,3 @@ class Folder:
             shutil.rmtree(self.at(name), ignore_errors=True)
         elif os.path.lexists(self.at(name)):
             os.remove(self.at(name))
-
-    def keep_before(self):
-        """Keeps the texts that stand in a folder within, so that those of another instance may come in their place."""
-        kept = self.beside(BEFORE)
-        os.mkdir(kept)
-        for name in TEXTS:
-            if os.path.isfile(self.at(name)):
-                shutil.copy2(self.at(name), os.path.join(kept, name))
-        if not os.listdir(kept):
-            os.rmdir(kept)
-            return
-        shutil.rmtree(self.at(BEFORE), ignore_errors=True)
-        os.replace(kept, self.at(BEFORE))

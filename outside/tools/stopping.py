@@ -1,25 +1,44 @@
-"""Signals that ask to stop."""
-import signal
+"""Signals that ask to stop. A command imports this first of all, so it takes in nothing that takes time."""
+import _signal
 import time
 
-STOPPING = (signal.SIGINT, signal.SIGTERM, signal.SIGHUP)
+STOPPING = (_signal.SIGINT, _signal.SIGTERM, _signal.SIGHUP)
 # Signals that come within so many seconds are one: `timeout` sends two.
 APART = 1
 
 
+def leave(number, frame):
+    """Ends the process as its end would, so that what it started is ended too."""
+    raise SystemExit(128 + number)
+
+
+def end_by_signals():
+    """From now on a signal to stop ends what was started here too, quietly; also one that waited until now."""
+    for number in STOPPING:
+        _signal.signal(number, leave)
+    _signal.pthread_sigmask(_signal.SIG_UNBLOCK, STOPPING)
+
+
 class Signals:
-    """Keeps that a signal to stop came, and that another one came later: nothing is broken off by it, and who works
-    asks for it."""
+    """Signals to stop end the command, quietly, until its work begins. From then on it is kept that one came: nothing
+    is broken off by it, and who works asks for it. With `ends_again` a later one ends the command all the same."""
 
     def __init__(self):
-        self.came, self.came_again, self.first = False, False, None
+        self.came, self.came_again, self.first, self.ends_again = False, False, None, False
+        end_by_signals()
+
+    def work(self, ends_again=False):
+        """The work begins."""
+        self.ends_again = ends_again
         for number in STOPPING:
-            signal.signal(number, self.keep)
+            _signal.signal(number, self.keep)
 
     def keep(self, number, frame):
         now = time.monotonic()
         self.first = now if self.first is None else self.first
         self.came, self.came_again = True, now - self.first >= APART
+        if self.came_again and self.ends_again:
+            leave(number, frame)
 
 
 class Patience:
@@ -31,14 +50,3 @@ class Patience:
     @property
     def came(self):
         return self.signals.came and time.monotonic() >= self.from_then
-
-
-def leave(number, frame):
-    """Ends the process as its end would, so that what it started is ended too."""
-    raise SystemExit(128 + number)
-
-
-def end_by_signals():
-    """From now on a signal to stop ends what was started here too, quietly."""
-    for number in STOPPING:
-        signal.signal(number, leave)
