@@ -152,6 +152,7 @@ d/now/instance.txt: Monday & d/now/instance.txt: 1 9 12 1 0 3000 0 & d/now/repor
 plan plain.csv --into d --horizon 06:00-18:00 --vehicles 2 --capacity 5 --seconds 30|0|d/now/timetable.csv: 06:0
 plan geo.csv --into d --vehicles 5 --capacity 5 --speed 60 --detour 2 --seconds 30|0|d/now/plan.txt: Route #1: 1
 plan point.csv --into d --vehicles 2 --capacity 5 --times-as-numbers --seconds 30|0|d/now/instance.txt: 1 10 10 1 63 180 20
+plan i.txt --into d --drivers --lang de --seconds 30|0|d/now/drivers.html: Fahrzeug 1
 plan waits.txt --into d --depart early --seconds 30|0|d/now/report.html: All vehicles leave when the depot opens.
 plan german.csv --into d --column due=bis --vehicles 2 --capacity 5 --seconds 30|0|d/now/plan.txt: Cost 10.0
 plan i.txt --into d --names names.csv --fewest --drivers --seconds 30|0|d/now/drivers.html: </html> & d/now/fewest/1.plan & \
@@ -308,6 +309,7 @@ plan geo.csv --into d --vehicles 2 --capacity 5 --speed -1|--speed|2|
 plan geo.csv --into d --vehicles 2 --capacity 5 --speed 30 --detour 0|--detour|2|met "0"
 plan t.csv --into d --vehicles 2 --capacity 5 --column due|--column|2|met "due"
 plan i.txt --into d --names names3.csv|--names|1|names3.csv: line 4: met "3"
+plan i.txt --into d --lang it|--lang|2|invalid choice: 'it'
 plan i.txt --into d --depart never|--depart|2|invalid choice: 'never'
 plan i.txt --into d --searchers 0|--searchers|2|met "0"
 plan i.txt --into d --bounders 33|--bounders|2|met "33"

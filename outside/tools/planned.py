@@ -77,7 +77,8 @@ def put_pages(planner, has_sheets, report):
         elif make is separated:
             folder.put(name, separated(instance, report.routes, report.names, report.depart).encode())
         elif make:
-            folder.put(name, make(instance, report.names, report.routes, report.depart).encode())
+            folder.put(name, make(instance, report.names, report.routes, report.depart,
+                                  sheets.Extras(language=planner.given.lang)).encode())
     folder.put(REPORT, page(report).encode())
 
 
