@@ -28,8 +28,8 @@ def ranks_of(priorities):
 
 class Choice:
     """Tours and those that are left of an instance, from routes or none, by priorities or none; who is barred is never
-    served. A customer of
-    a greater priority counts more than all below it together; among as many the demand counts, and then the way."""
+    served. A customer of a greater priority counts more than all below it together; among as many the demand counts,
+    and then the way."""
 
     def __init__(self, instance, routes=(), priorities=None, barred=(), seed=1):
         self.tables, self.random = Tables(instance), random.Random(seed)
