@@ -167,7 +167,7 @@ prove i.txt --into d ; prove i.txt --into d --seconds 9|0|-: 1       here
 prove i.txt --into held|0|-: BEST 20.0 & held/certificate.txt: VRPTW-SETS 1
 prove long.txt --into long|0|-: BEST 20.0 & long/certificate.txt: NEIGHBOURS 12
 plan short.csv --into d --vehicles 1 --capacity 2 --seconds 30|1|d/now/served/names.csv: 1,C,5 & -: Left out: 2 customers. & \
--: A, 1, 0.0 to 1000.0: it takes 1, and the most that a vehicle has room for is 0 & \
+-: A, 1, 0.0 to 1000.0: it takes 1, and every vehicle is full & \
 -: What would do: 2 vehicles, or vehicles that hold 4. & d/now/left_out.csv: name,demand,ready,due,reason,would_do & d/now/report.html: <section id="left-out">
 plan late.csv --into d --vehicles 2 --capacity 5 --seconds 30|1|-: What would do: B until 06:20. & d/now/served/names.csv: 1,A
 plan i.txt --into d --seconds 30 ; plan four.txt --into d --seconds 30|0|d/before/report.html: </html> & \

@@ -47,6 +47,8 @@ class LeftOut:
                     units.moment(at), units.moment(max(by, 0))))
         free = max([instance.capacity - tour.load for tour in self.tours], default=0)
         free = instance.capacity if len(self.tours) < instance.fleet else free
+        if instance.demand(i) > free and not units.whole(free):
+            return "it takes %s, and every vehicle is full" % units.load(instance.demand(i))
         if instance.demand(i) > free:
             return "it takes %s, and the most that a vehicle has room for is %s" % (
                 units.load(instance.demand(i)), units.load(free))

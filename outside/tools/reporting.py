@@ -299,25 +299,29 @@ def sections(report):
             'bound.</p>')
 
 
+def words_table(heading, rows):
+    """A table of words; a column in which nothing stands is left out, and on a narrow screen each row is a card."""
+    kept = [place for place in range(len(heading)) if heading[place] == "" or any(one[place] for one in rows)]
+    whats = [heading[place] for place in kept]
+    told = "".join("<tr>%s</tr>" % row([escape(one[place]) for place in kept], "td", whats) for one in rows)
+    return '<table class="words"><thead><tr>%s</tr></thead><tbody>%s</tbody></table>' % (row(whats, "th"), told)
+
+
 def left_out(found):
     """The table of those that are left out, and what would do."""
-    rows = "".join("<tr>%s</tr>" % row([escape(cell) for cell in one[1:]]) for one in found.rows)
-    advice = "<p>What would do: %s.</p>" % escape(", or ".join(found.advice)) if found.advice else ""
-    return ('<table class="words"><thead><tr>%s</tr></thead><tbody>%s</tbody></table>%s'
-            '<p class="note">What would do was tried: a plan was found with it.</p>' % (
-                row(["customer", "demand", "from", "until", "why", "would do"], "th"), rows, advice))
+    heading = ("customer", "demand", "from", "until", "why", "would do")
+    advice = ('<p>What would do: %s.</p><p class="note">What would do was tried: a plan was found with it.</p>' % (
+        escape(", or ".join(found.advice))) if found.advice else "")
+    return words_table(heading, [one[1:] for one in found.rows]) + advice
 
 
 def changes(found):
     """The tables of what changed from the day before."""
-    rows = "".join("<tr>%s</tr>" % row([escape(cell) for cell in one]) for one in found.rows())
-    sums = "".join("<tr>%s</tr>" % row([escape(cell) for cell in one]) for one in found.sums())
-    return ('<table class="words"><thead><tr>%s</tr></thead><tbody>%s</tbody></table>'
-            '<table class="words"><thead><tr>%s</tr></thead><tbody>%s</tbody></table><p class="note">%s</p>' % (
-                row(["customer", "what changed", "vehicle before", "vehicle", "begin before", "begin"], "th"), rows,
-                row(["", "before", "now"], "th"), sums,
-                "The day before is in the folder before. A vehicle is the one of before with which it has the most "
-                "customers in common; earlier or later are told from ten minutes on."))
+    heading = ("customer", "what changed", "vehicle before", "vehicle", "begin before", "begin")
+    return "%s%s<p class=\"note\">%s</p>" % (
+        words_table(heading, found.rows()), words_table(("", "before", "now"), found.sums()),
+        "The day before is in the folder before. A vehicle is the one of before with which it has the most customers "
+        "in common; earlier or later are told from ten minutes on.")
 
 
 def plan_sections(report):

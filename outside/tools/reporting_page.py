@@ -48,10 +48,11 @@ tr.route:focus { outline: 2px solid #0072b2; }
   .pairs td { white-space: normal; overflow-wrap: anywhere; }
   .push { display: block; }
   pre { white-space: pre-wrap; overflow-wrap: anywhere; }
-  .figures, .figures tbody, .figures tr, .times, .times tbody, .times tr { display: block; }
-  .figures thead, .times thead { display: none; }
-  .figures tr, .times tr { border-bottom: 1px solid #ddd; padding: .35rem 0; }
-  .figures td, .times td { display: inline-block; padding: .05rem .7rem .05rem 0; white-space: normal;
+  .figures, .figures tbody, .figures tr, .times, .times tbody, .times tr, .words, .words tbody, .words tr {
+    display: block; }
+  .figures thead, .times thead, .words thead { display: none; }
+  .figures tr, .times tr, .words tr { border-bottom: 1px solid #ddd; padding: .35rem 0; }
+  .figures td, .times td, .words td { display: inline-block; padding: .05rem .7rem .05rem 0; white-space: normal;
     overflow-wrap: anywhere; font-size: .9rem; }
   .times th { display: block; padding: .6rem 0 0; }
   .times td:nth-child(2) { display: inline; font-weight: bold; }
