@@ -303,7 +303,7 @@ def words_table(heading, rows):
     """A table of words; a column in which nothing stands is left out, and on a narrow screen each row is a card."""
     kept = [place for place in range(len(heading)) if heading[place] == "" or any(one[place] for one in rows)]
     whats = [heading[place] for place in kept]
-    told = "".join("<tr>%s</tr>" % row([escape(one[place]) for place in kept], "td", whats) for one in rows)
+    told = "".join("<tr>%s</tr>" % row([escape(one[place]) for place in kept], "td", ["", *whats[1:]]) for one in rows)
     return '<table class="words"><thead><tr>%s</tr></thead><tbody>%s</tbody></table>' % (row(whats, "th"), told)
 
 
