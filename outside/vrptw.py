@@ -7,18 +7,19 @@ Example:
     print(answer.kind, answer.cost, answer.routes)
 
 `solve` answers the best plan and the highest bound that it finds, `Solving` is the same as a thing that can be
-cancelled, and `check` judges texts by code that the solver doesn't use. This file needs nothing but the standard
-library and the program: the one that the launcher beside it runs, `vrptw` on the path, or the one that `program` names.
+cancelled, `check` judges texts by code that the solver doesn't use, and `schedule` tells when vehicles are where. This
+file needs nothing but the standard library and the program: the one that the launcher beside it runs, `vrptw` on the
+path, or the one that `program` names.
 
-Costs and bounds are exact tenths of a unit of the instance. `cost_tenths` has them as whole numbers, and `cost` is the
-nearest float, which prints and compares as the decimal does. Customers are numbered from 1; the depot stands in no
-route.
+Costs, bounds and times are exact tenths of a unit of the instance. `cost_tenths` has them as whole numbers, and `cost`
+is the nearest float, which prints and compares as the decimal does. Customers are numbered from 1; the depot's 0 may
+stand at the ends of a route that is given, and stands in none that is answered.
 """
 from __future__ import annotations
 
-import ctypes
 import fcntl
 import functools
+import operator
 import os
 import re
 import select
@@ -27,17 +28,28 @@ import signal
 import subprocess
 import threading
 import time
+from collections import Counter
 from dataclasses import dataclass, field, replace
 from math import hypot, isqrt
-from typing import Callable, Mapping, Optional, Sequence, Union
+from typing import (Any, Callable, Iterable, Mapping, NamedTuple, Optional, Sequence, SupportsFloat, SupportsIndex,
+                    TypeVar, Union)
 
-__all__ = ["Answer", "Fault", "Plan", "Progress", "Solving", "Text", "Tree", "check", "instance_text", "plan_text",
-           "program_here", "solve"]
+try:
+    import ctypes
+except ImportError:
+    # Some Pythons have none within a subinterpreter.
+    ctypes = None  # type: ignore[assignment]
+
+__all__ = ["Answer", "BadCertificate", "BadInstance", "BadOptions", "BadPlan", "Fault", "FileFault", "Given",
+           "Instance", "Limit", "OutOfMemory", "Plan", "Progress", "Reason", "Route", "Routes", "Solving", "Stop",
+           "Stopped", "Text", "Tree", "check", "instance_text", "plan_text", "program_here", "schedule", "solve"]
 
 # A text: the path of its file, or its bytes.
 Text = Union[str, "os.PathLike[str]", bytes]
-# A plan: a text, an answer that has one, or routes as lists of customers' numbers.
-Plan = Union[Text, "Answer", Sequence[Sequence[int]]]
+# An instance that is given: a text, or as an object.
+Given = Union[Text, "Instance"]
+# A plan in any form: a text, an answer that has one, a plan as an object, or routes as lists of customers' numbers.
+Routes = Union[Text, "Answer", "Plan", Iterable[Iterable[SupportsIndex]]]
 # A certificate, whose tree a work goes on from: a text, or an answer.
 Tree = Union[Text, "Answer"]
 
@@ -49,19 +61,74 @@ _OFTEN, _PORTION = 0.1, 1 << 16
 _PROGRESS = re.compile(r"vrptw: ([0-9]+) % of the turns, (?:no plan|cost ([0-9.]+)), bound ([0-9.]+)")
 _VERDICT = re.compile(r"(BEST|GAP|OPEN|BOUND|NO PLAN)(?: ([0-9.]+))?(?: ([0-9.]+))?\Z")
 _ROUTE = re.compile(rb"^Route #[0-9]+: ([0-9 ]+)$", re.M)
+# The lines of faults that are about a plan, among those with the status of plans and certificates.
+_OF_PLAN = re.compile(r"vrptw: (solution|plan|check: CostDiffers)\b")
 _NEIGHBOURS = re.compile(rb"^NEIGHBOURS ([0-9]{1,2})$", re.M)
 # How many words stand before the rows of an instance, which of them is the capacity, and how many a row has.
 _HEAD, _CAPACITY, _ROW = 18, 5, 7
+_COLUMNS = ("x", "y", "demand", "ready time", "due date", "service time")
+# The options with whole numbers, their least and greatest ones.
+_LIMITS = {"turns": (1, 1_000_000), "searchers": (1, 32), "bounders": (1, 32), "seed": (0, 2 ** 32 - 1),
+           "neighbours": (0, 15), "labels": (1, 10 ** 8), "sets": (0, 1000), "gap": (0, 1000), "leaves": (1, 100_000),
+           "states": (1, 50_000_000)}
 
 
 class Fault(Exception):
-    """The program refused what it was given, or failed. `line` is what it said, as docs/formats.md lists it, and
-    `status` tells the kind: 2 wrong options, 3 a refused instance, 4 memory or a thread, 5 a certificate or plan that
-    isn't right, 6 a file, 7 a limit; below 0 the signal that ended it; None where it couldn't be started."""
+    """The program refused what it was given, or failed, or this module refused it before. `line` says why, as
+    docs/formats.md lists it, and `status` is the program's, which the kinds below have; None where the program couldn't
+    be started."""
 
-    def __init__(self, line: str, status: Optional[int]) -> None:
-        super().__init__(line)
-        self.line, self.status = line, status
+    what = "program"
+    usual: Optional[int] = None
+
+    def __init__(self, line: str, status: Optional[int] = None) -> None:
+        super().__init__(line, status)
+        self.line, self.status = line, self.usual if status is None else status
+
+    def __str__(self) -> str:
+        return self.line
+
+
+class BadOptions(Fault, ValueError):
+    """An option that the program doesn't take, or an argument in a wrong place."""
+    what, usual = "options", 2
+
+
+class BadInstance(Fault):
+    """What is given is no instance."""
+    what, usual = "instance", 3
+
+
+class OutOfMemory(Fault):
+    """Memory or a thread was refused."""
+    usual = 4
+
+
+class BadPlan(Fault, IndexError):
+    """What is given is no plan of the instance."""
+    what, usual = "plan", 5
+
+
+class BadCertificate(Fault):
+    """What is given is no certificate of the instance."""
+    what, usual = "certificate", 5
+
+
+class FileFault(Fault):
+    """The program can't open, read or write a file."""
+    usual = 6
+
+
+class Limit(Fault):
+    """A limit of labels, leaves, customers or pairs."""
+    usual = 7
+
+
+class Stopped(Fault):
+    """A signal ended the program: the status is its number below 0."""
+
+
+_KINDS = {kind.usual: kind for kind in (BadOptions, BadInstance, OutOfMemory, FileFault, Limit)}
 
 
 def _units(tenths: Optional[int]) -> Optional[float]:
@@ -73,42 +140,14 @@ def _tenths(word: Optional[str]) -> Optional[int]:
     return None if word is None else int(word.replace(".", ""))
 
 
-@dataclass(frozen=True)
-class Progress:
-    """How far a work is: cost of the best plan so far (None before there is one) and highest bound so far in tenths,
-    the percent of the turns of the run at work, and the seconds since the work began."""
+Own = TypeVar("Own", bound="_Told")
 
-    percent: int
+
+class _Told:
+    """What has a cost and a bound in tenths or None, and can be told as an object of JSON."""
+
     cost_tenths: Optional[int]
     bound_tenths: Optional[int]
-    seconds: float
-
-    @property
-    def cost(self) -> Optional[float]:
-        """The cost in units."""
-        return _units(self.cost_tenths)
-
-    @property
-    def bound(self) -> Optional[float]:
-        """The bound in units."""
-        return _units(self.bound_tenths)
-
-
-@dataclass(frozen=True)
-class Answer:
-    """What is known of an instance.
-
-    `kind` is BEST (no plan is cheaper), GAP (a plan and a bound), OPEN (a bound; no plan was found), BOUND (a bound;
-    `check` was given no plan) or NO PLAN (there is none). `routes` has a list of customers for each vehicle that
-    drives, in the order of the stops, or is None without a plan. `plan` and `certificate` are the texts of
-    docs/formats.md; `plan` is empty without one."""
-
-    kind: str
-    routes: Optional[list[list[int]]]
-    cost_tenths: Optional[int]
-    bound_tenths: Optional[int]
-    plan: bytes = field(default=b"", repr=False)
-    certificate: bytes = field(default=b"", repr=False)
 
     @property
     def cost(self) -> Optional[float]:
@@ -119,6 +158,48 @@ class Answer:
     def bound(self) -> Optional[float]:
         """What every plan costs at least, in units; None where there is none."""
         return _units(self.bound_tenths)
+
+    def to_dict(self) -> dict[str, Any]:
+        """An object of JSON, with cost and bound in units, too."""
+        return {**vars(self), "cost": self.cost, "bound": self.bound}
+
+    @classmethod
+    def from_dict(cls: type[Own], told: Mapping[str, Any]) -> Own:
+        """What was told so; other names are passed over."""
+        return cls(**{name: told[name] for name in cls.__annotations__})
+
+
+@dataclass(frozen=True)
+class Progress(_Told):
+    """How far a work is: the percent of its time, or of its turns without `seconds`, cost of the best plan so far (None
+    before there is one), highest bound so far, and the seconds since it began. Only the cost ever falls."""
+
+    percent: int
+    cost_tenths: Optional[int]
+    bound_tenths: Optional[int]
+    seconds: float
+
+
+@dataclass(frozen=True)
+class Answer(_Told):
+    """What is known of an instance.
+
+    `kind` is BEST (no plan is cheaper), GAP (a plan and a bound), OPEN (a bound; no plan was found), BOUND (a bound;
+    `check` was given no plan) or NO PLAN (there is none). `routes` has a list of customers for each vehicle that
+    drives, in the order of the stops, or is None without a plan, as `has_plan` tells. `plan` and `certificate` are the
+    texts of docs/formats.md; `plan` is empty without one."""
+
+    kind: str
+    routes: Optional[list[list[int]]]
+    cost_tenths: Optional[int]
+    bound_tenths: Optional[int]
+    plan: bytes = field(default=b"", repr=False)
+    certificate: bytes = field(default=b"", repr=False)
+
+    @property
+    def has_plan(self) -> bool:
+        """Whether there is a plan here."""
+        return bool(self.plan)
 
     @property
     def is_best(self) -> bool:
@@ -131,6 +212,16 @@ class Answer:
         if self.cost_tenths is None or self.bound_tenths is None:
             return None
         return (self.cost_tenths - self.bound_tenths) / self.cost_tenths if self.cost_tenths else 0.0
+
+    def to_dict(self) -> dict[str, Any]:
+        """The same, with the texts as str."""
+        return {**super().to_dict(), "plan": self.plan.decode("latin-1"),
+                "certificate": self.certificate.decode("latin-1")}
+
+    @classmethod
+    def from_dict(cls, told: Mapping[str, Any]) -> Answer:
+        """What was told so."""
+        return super().from_dict({**told, **{name: told[name].encode("latin-1") for name in ("plan", "certificate")}})
 
 
 @functools.lru_cache(maxsize=None)
@@ -157,7 +248,7 @@ def verdict_of(line: str) -> tuple[Optional[str], Optional[int], Optional[int]]:
 
 
 try:
-    _PRCTL = ctypes.CDLL(None).prctl
+    _PRCTL: Optional[Callable[[int, int], object]] = ctypes.CDLL(None).prctl
 except (AttributeError, OSError):
     _PRCTL = None
 # The call of Linux by which a process gets a signal when the thread that started it ends.
@@ -227,27 +318,38 @@ class Ran:
 class Run:
     """A run of the program by its words, the program's path first. It has a group of its own, so no signal of a
     terminal reaches it, and it ends with the thread that started it. Variables are added to those of this process, and
-    files in memory stay open in it. Raises `Fault` where it can't be started."""
+    files in memory stay open in it. Raises `Fault` where it can't be started. In a subinterpreter, which can't prepare
+    a process, one outlives a Python that is killed."""
 
     def __init__(self, words: Sequence[str], variables: Optional[Mapping[str, str]] = None,
                  memory: Optional[Memory] = None) -> None:
         self.began = time.monotonic()
+        env = None if variables is None else {**os.environ, **variables}
         try:
-            self.process = subprocess.Popen(
-                words, stdin=subprocess.DEVNULL, stdout=subprocess.PIPE, stderr=subprocess.PIPE, start_new_session=True,
-                env=None if variables is None else {**os.environ, **variables},
-                pass_fds=memory.streams if memory else (), preexec_fn=end_with_parent)
+            self.process = self.started(words, env, memory, end_with_parent)
+        except RuntimeError:
+            self.process = self.started(words, env, memory, None)
         except OSError as fault:
             raise Fault("%s: %s" % (words[0], fault.strerror or fault), None)
+
+    @staticmethod
+    def started(words: Sequence[str], env: Optional[Mapping[str, str]], memory: Optional[Memory],
+                prepare: Optional[Callable[[], None]]) -> subprocess.Popen[bytes]:
+        """A process, prepared by a call of its own."""
+        return subprocess.Popen(
+            words, stdin=subprocess.DEVNULL, stdout=subprocess.PIPE, stderr=subprocess.PIPE, start_new_session=True,
+            env=env, pass_fds=memory.streams if memory else (), preexec_fn=prepare)
 
     def ended(self, is_over: Callable[[], bool] = lambda: False,
               tell: Optional[Callable[[Optional[Progress]], None]] = None) -> Ran:
         """Waits until it ends, or ends it once `is_over` answers true, which is asked ten times a second or more often.
         `tell` is called as often, with what a line of progress says, or None."""
-        streams = [self.process.stdout.fileno(), self.process.stderr.fileno()]
+        out, errors = self.process.stdout, self.process.stderr
+        assert out is not None and errors is not None
+        streams = [out.fileno(), errors.fileno()]
         held, told = dict.fromkeys(streams, b""), 0
         rest, status = list(streams), None
-        with self.process.stdout, self.process.stderr:
+        with out, errors:
             try:
                 while rest and not is_over():
                     for stream in select.select(rest, [], [], _OFTEN)[0]:
@@ -264,7 +366,7 @@ class Run:
                 if status is None:
                     self.process.kill()
                     self.process.wait()
-        return Ran(status, *held.values(), time.monotonic() - self.began)
+        return Ran(status, held[streams[0]], held[streams[1]], time.monotonic() - self.began)
 
     def told(self, errors: bytes, begin: int, tell: Callable[[Optional[Progress]], None]) -> int:
         """Tells the lines of progress behind a place, and answers the place behind the last line."""
@@ -304,13 +406,13 @@ class Schedule:
     """How many turns each round has, so that the last one ends in time. Rounds come in pairs of equal turns, each with
     its count of neighbours; the one that fills the time has that whose bound was higher."""
 
-    def __init__(self, neighbours: Sequence[int]) -> None:
+    def __init__(self, neighbours: Sequence[Optional[int]]) -> None:
         self.neighbours, self.turns, self.place = list(neighbours), 1, 0
-        self.seconds: dict[int, float] = {}
-        self.bounds: dict[int, int] = {}
+        self.seconds: dict[Optional[int], float] = {}
+        self.bounds: dict[Optional[int], int] = {}
         self.longest = 0
 
-    def next(self, left: float) -> Optional[tuple[int, int]]:
+    def next(self, left: float) -> Optional[tuple[int, Optional[int]]]:
         """Turns and neighbours of the next round in the time that is left; None where none would end in time."""
         if not self.seconds:
             return 1, self.neighbours[0]
@@ -321,11 +423,11 @@ class Schedule:
             return (turns, chosen) if turns >= max(1, self.longest // GROWTH) else None
         return min(turns, MOST_TURNS), chosen
 
-    def per_turn(self, neighbours: int) -> float:
+    def per_turn(self, neighbours: Optional[int]) -> float:
         """The seconds of a turn, by the last round with so many neighbours, else by any."""
         return self.seconds.get(neighbours) or 1.5 * max(self.seconds.values())
 
-    def note(self, turns: int, neighbours: int, seconds: float, bound: int) -> None:
+    def note(self, turns: int, neighbours: Optional[int], seconds: float, bound: int) -> None:
         """Takes in what a round took and came to; the first one has no pair."""
         is_first = not self.seconds
         self.seconds[neighbours] = max(seconds, 0.001) / turns
@@ -335,19 +437,114 @@ class Schedule:
         if self.place == 0:
             self.turns = min(GROWTH * self.turns, MOST_TURNS)
 
-    def drop(self, neighbours: int) -> bool:
+    def drop(self, neighbours: Optional[int]) -> bool:
         """Leaves out a count of neighbours by which the program ended in a fault; answers whether one is left."""
         self.neighbours = [one for one in self.neighbours if one != neighbours]
         self.place = 0
         return bool(self.neighbours)
 
 
-def _bytes(text: Text) -> bytes:
+def _bytes(text: Text, kind: type[Fault]) -> bytes:
     """The bytes of a text, or of the file that it names. Raises `OSError` where that can't be read."""
     if isinstance(text, bytes):
         return text
+    if not isinstance(text, (str, os.PathLike)):
+        raise kind("%s: met %.40r, wanted the path of its file, or its bytes" % (kind.what, text))
+    if "\n" in os.fspath(text):
+        raise kind("%s: met a text as str, which is read as a path, wanted its bytes: text.encode()" % kind.what)
     with open(text, "rb") as file:
         return file.read()
+
+
+def _whole(value: Any, scale: int = 1) -> Optional[int]:
+    """So many times a number, by its decimals; None where that isn't whole."""
+    try:
+        return operator.index(value) * scale
+    except TypeError:
+        # Not above: it warns within a subinterpreter.
+        from fractions import Fraction
+    try:
+        exact = Fraction(str(value)) * scale
+    except (ValueError, ZeroDivisionError):
+        return None
+    return exact.numerator if exact.denominator == 1 else None
+
+
+def _whole_row(place: str, names: Sequence[str], values: Iterable[Any], scale: int) -> tuple[int, ...]:
+    """Numbers of an instance, of which those that measure places and times are scaled."""
+    given = list(values)
+    if len(given) != len(names):
+        raise BadInstance("instance: %s: met %d numbers, wanted %s" % (place, len(given), ", ".join(names)))
+    found = [_whole(value, 1 if name in ("demand", "vehicles", "capacity") else scale)
+             for name, value in zip(names, given)]
+    for name, value, number in zip(names, given, found):
+        if number is None or number < 0:
+            raise BadInstance("instance: %s: met %.40s as %s, wanted a whole number from 0 on%s" % (
+                place, value, name, "" if scale == 1 else " by a scale of %d" % scale))
+    return tuple(number or 0 for number in found)
+
+
+@dataclass(frozen=True)
+class Instance:
+    """An instance. Row 0 is the depot, row i customer i: x, y, demand, ready time, due date and service time. What the
+    program can't hold it refuses itself."""
+
+    name: str
+    vehicles: int
+    capacity: int
+    rows: tuple[tuple[int, ...], ...]
+
+    @classmethod
+    def from_rows(cls, rows: Iterable[Iterable[Any]], vehicles: Any, capacity: Any, name: str = "instance", *,
+                  scale: int = 1) -> Instance:
+        """From lists or arrays; places and times are multiplied by the scale. Raises `BadInstance` for what isn't
+        whole then."""
+        if not re.match(r"[!-~]{1,32}\Z", name):
+            raise BadInstance("instance: met the name %.60r, wanted 1 to 32 signs of ASCII without blanks" % name)
+        fleet, room = _whole_row("fleet", ("vehicles", "capacity"), (vehicles, capacity), 1)
+        return cls(name, fleet, room, tuple(
+            _whole_row("row %d" % i, _COLUMNS, row, scale) for i, row in enumerate(rows)))
+
+    @classmethod
+    def from_file(cls, text: Text) -> Instance:
+        """From a file, or from its bytes. Raises `BadInstance` where numbers are lacking."""
+        held = _bytes(text, BadInstance)
+        head, rows = held.split()[:_HEAD], _rows(held)
+        for place, row in enumerate(rows):
+            if len(row) < _ROW or not all(map(bytes.isdigit, row)) or int(row[0]) != place:
+                raise BadInstance("instance: row %d: met %.60r, wanted that number and six more" % (
+                    place, b" ".join(row).decode("latin-1")))
+        if len(rows) < 2 or not all(map(bytes.isdigit, head[_CAPACITY - 1:_CAPACITY + 1])):
+            raise BadInstance("instance: met %.60r, wanted the layout of docs/formats.md" % held.decode("latin-1"))
+        return cls(head[0].decode("latin-1"), int(head[_CAPACITY - 1]), int(head[_CAPACITY]), tuple(
+            tuple(map(int, row[1:])) for row in rows))
+
+    @property
+    def text(self) -> bytes:
+        """The text that the program reads."""
+        return ("%s\nVEHICLE\nNUMBER CAPACITY\n%d %d\nCUSTOMER\nCUST NO. XCOORD. YCOORD. DEMAND READY TIME DUE DATE "
+                "SERVICE TIME\n" % (self.name, self.vehicles, self.capacity) + "".join(
+                    "%d %d %d %d %d %d %d\n" % (i, *row) for i, row in enumerate(self.rows))).encode()
+
+    @property
+    def customers(self) -> range:
+        """The customers' numbers."""
+        return range(1, len(self.rows))
+
+    def distance(self, i: int, j: int) -> float:
+        """How far it is between two customers, or the depot (0), in units: truncated to a tenth."""
+        return self.tenths[0][i][j] / 10
+
+    @functools.cached_property
+    def tenths(self) -> tuple[list[list[int]], list[tuple[int, ...]]]:
+        """The lengths of all arcs, and the rows with their times, in tenths."""
+        arcs = [[isqrt(100 * ((a[0] - b[0]) ** 2 + (a[1] - b[1]) ** 2)) for b in self.rows] for a in self.rows]
+        return arcs, [(*row[:3], *(10 * moment for moment in row[3:])) for row in self.rows]
+
+
+def _instance_bytes(instance: Given) -> bytes:
+    """The text of an instance in any form."""
+    return instance.text if isinstance(instance, Instance) else _bytes(instance, BadInstance)
 
 
 def _rows(instance: bytes) -> list[list[bytes]]:
@@ -356,38 +553,182 @@ def _rows(instance: bytes) -> list[list[bytes]]:
     return [words[at:at + _ROW] for at in range(0, len(words), _ROW)]
 
 
-def instance_text(rows: Sequence[Sequence[int]], vehicles: int, capacity: int, name: str = "instance") -> bytes:
-    """The text of an instance. Row 0 is the depot, row i customer i: x, y, demand, ready time, due date and service
-    time, whole numbers each. What the program can't hold it refuses itself."""
-    head = "%s\nVEHICLE\nNUMBER CAPACITY\n%d %d\nCUSTOMER\n" % (name, vehicles, capacity)
-    head += "CUST NO. XCOORD. YCOORD. DEMAND READY TIME DUE DATE SERVICE TIME\n"
-    return (head + "".join("%d %d %d %d %d %d %d\n" % (i, *row) for i, row in enumerate(rows))).encode()
+def instance_text(rows: Iterable[Iterable[Any]], vehicles: Any, capacity: Any, name: str = "instance", *,
+                  scale: int = 1) -> bytes:
+    """The text of `Instance.from_rows`."""
+    return Instance.from_rows(rows, vehicles, capacity, name, scale=scale).text
 
 
-def plan_text(instance: Text, routes: Sequence[Sequence[int]]) -> bytes:
-    """The text of routes at their exact cost: each arc is the distance truncated to a tenth. Raises `IndexError` for a
-    number that is no customer's; whether it is a plan `check` says."""
-    places = [(int(row[1]), int(row[2])) for row in _rows(_bytes(instance))]
-    lines, cost = [], 0
-    for number, route in enumerate(routes, 1):
-        stops = [places[i] for i in (0, *route, 0)]
-        cost += sum(isqrt(100 * ((a - c) ** 2 + (b - d) ** 2)) for (a, b), (c, d) in zip(stops, stops[1:]))
-        lines.append("Route #%d: %s\n" % (number, " ".join(map(str, route))))
-    return ("%sCost %d.%d\n" % ("".join(lines), *divmod(cost, 10))).encode()
+def _customers(routes: Iterable[Iterable[SupportsIndex]], count: int) -> list[list[int]]:
+    """The customers of routes, without the depot at the ends; a route without any is left out."""
+    found = []
+    for place, route in enumerate(routes, 1):
+        try:
+            stops = [operator.index(stop) for stop in route]
+        except TypeError:
+            raise BadPlan("plan: route %d: met %.60r, wanted the numbers of customers" % (place, route)) from None
+        stops = stops[stops[:1] == [0]:len(stops) - (stops[-1:] == [0])]
+        wrong = [stop for stop in stops if not 1 <= stop <= count]
+        if wrong:
+            raise BadPlan("plan: route %d: met customer %d, wanted 1 to %d" % (place, wrong[0], count))
+        found += [stops] if stops else []
+    return found
 
 
-def _plan_bytes(instance: bytes, plan: Plan) -> bytes:
+def _routes_of(instance: Instance, plan: Routes) -> list[list[int]]:
+    """The customers of a plan in any form."""
+    if isinstance(plan, Plan):
+        plan = [route.customers for route in plan.routes]
+    elif isinstance(plan, (Answer, str, bytes, os.PathLike)):
+        plan = [map(int, found.split()) for found in _ROUTE.findall(_plan_bytes(b"", plan))]
+    return _customers(plan, len(instance.customers))
+
+
+def plan_text(instance: Given, routes: Routes) -> bytes:
+    """The text of routes at their exact cost: each arc is the distance truncated to a tenth. Raises `BadPlan` for a
+    number that is no customer's; whether it is a plan `check` says, and `schedule`."""
+    plan = schedule(instance, routes)
+    lines = ["Route #%d: %s\n" % (route.route, " ".join(map(str, route.customers))) for route in plan.routes]
+    return ("%sCost %d.%d\n" % ("".join(lines), *divmod(plan.cost_tenths, 10))).encode()
+
+
+def _plan_bytes(instance: bytes, plan: Routes) -> bytes:
     """The text of a plan in any form."""
     if isinstance(plan, Answer):
+        if not plan.has_plan:
+            raise BadPlan("plan: met an answer without one (%s), wanted one whose has_plan is true" % plan.kind)
         return plan.plan
     if isinstance(plan, (str, bytes, os.PathLike)):
-        return _bytes(plan)
+        return _bytes(plan, BadPlan)
     return plan_text(instance, plan)
 
 
+# A stop in tenths: its number, arrival, wait, begin and end of service, load so far, slack until the due date.
+_Tenths = tuple[int, int, int, int, int, int, int]
+
+
+def walked(arcs: Sequence[Sequence[int]], rows: Sequence[Sequence[int]], route: Sequence[int],
+           leaves: int) -> list[_Tenths]:
+    """The stops of a route that leaves then, and the return (0); the slack of a late one is below 0."""
+    at, clock, load, found = 0, leaves, 0, []
+    for i in (*route, 0):
+        _, _, demand, ready, due, service = rows[i]
+        arrival = clock + arcs[at][i]
+        begin = max(arrival, ready)
+        at, clock, load = i, begin + service, load + demand
+        found.append((i, arrival, begin - arrival, begin, clock, load, due - begin))
+    return found
+
+
+def leaving(arcs: Sequence[Sequence[int]], rows: Sequence[Sequence[int]], route: Sequence[int]) -> int:
+    """When a vehicle leaves: as late as it may without being back later than it has to be, and in time for each due
+    date (forward time slack; Savelsbergh 1992). What is late anyway comes no later."""
+    opens, waited, rooms = rows[0][3], 0, []
+    for _, _, wait, _, _, _, slack in walked(arcs, rows, route, opens):
+        waited += wait
+        rooms.append(waited + slack)
+    return opens + max(0, min(waited, *rooms))
+
+
+class Stop(NamedTuple("Stop", [("stop", int), ("arrival", float), ("wait", float), ("begin", float), ("end", float),
+                               ("load", int), ("slack", float)])):
+    """A stop: a customer, or the depot (0) at the return. When the vehicle arrives, how long it waits, when service
+    begins and ends, the load so far, and the slack until the due date, which is below 0 where service begins late."""
+
+    @property
+    def late(self) -> float:
+        """How late service begins; 0 where it is in time."""
+        return max(0.0, -self.slack)
+
+
+class Route(NamedTuple("Route", [("route", int), ("distance", float), ("duration", float), ("waiting", float),
+                                 ("driving", float), ("service", float), ("leaves", float), ("back", float),
+                                 ("load", int), ("stops", list[Stop])])):
+    """A route by its number, its sums, when its vehicle leaves and is back, and its stops with the return."""
+
+    @property
+    def customers(self) -> list[int]:
+        """The customers, in order."""
+        return [stop.stop for stop in self.stops[:-1]]
+
+
+class Reason(NamedTuple("Reason", [("kind", str), ("route", Optional[int]), ("customer", Optional[int]),
+                                   ("line", str)])):
+    """Why routes are no plan: the program's word (OverCapacity, Late, Missing, Twice, FleetExceeded), the number of the
+    route and of the customer (0 is the depot) that it is about, or None, and a sentence."""
+
+
+@dataclass(frozen=True)
+class Plan:
+    """Routes with their times and loads, and all reasons why they are no plan, where they are none."""
+
+    routes: list[Route]
+    cost_tenths: int
+    reasons: list[Reason]
+
+    @property
+    def is_plan(self) -> bool:
+        """Whether the routes are a plan of the instance."""
+        return not self.reasons
+
+    @property
+    def cost(self) -> float:
+        """The cost in units."""
+        return self.cost_tenths / 10
+
+    def to_dict(self) -> dict[str, Any]:
+        """An object of JSON."""
+        return {"is_plan": self.is_plan, "cost": self.cost, "cost_tenths": self.cost_tenths, "routes": [
+            {**route._asdict(), "stops": [{**stop._asdict(), "late": stop.late} for stop in route.stops]}
+            for route in self.routes], "reasons": [reason._asdict() for reason in self.reasons]}
+
+    @classmethod
+    def from_dict(cls, told: Mapping[str, Any]) -> Plan:
+        """What was told so; other names are passed over."""
+        return cls([Route._make([*(route[name] for name in Route._fields[:-1]), [
+            Stop._make(stop[name] for name in Stop._fields) for stop in route["stops"]]]) for route in told["routes"]],
+                   told["cost_tenths"], [Reason(**reason) for reason in told["reasons"]])
+
+
+def _timed(instance: Instance, place: int, route: Sequence[int], is_early: bool) -> Route:
+    """A route with its times, in units."""
+    arcs, rows = instance.tenths
+    leaves = rows[0][3] if is_early else leaving(arcs, rows, route)
+    found = walked(arcs, rows, route, leaves)
+    back, driving = found[-1][4], sum(arcs[i][j] for i, j in zip((0, *route), (*route, 0)))
+    sums = (driving, back - leaves, sum(stop[2] for stop in found), driving,
+            sum(stop[4] - stop[3] for stop in found), leaves, back)
+    stops = [Stop._make([i, *(moment / 10 for moment in times), load, slack / 10]) for i, *times, load, slack in found]
+    return Route._make([place, *(value / 10 for value in sums), found[-1][5], stops])
+
+
+def _reasons(instance: Instance, routes: Sequence[Route]) -> list[Reason]:
+    """All reasons why routes are no plan."""
+    found = [Reason("OverCapacity", route.route, None, "route %d carries %d, and a vehicle holds %d" % (
+        route.route, route.load, instance.capacity)) for route in routes if route.load > instance.capacity]
+    found += [Reason("Late", route.route, stop.stop, "route %d is at %s at %.1f, %.1f late" % (
+        route.route, "customer %d" % stop.stop if stop.stop else "the depot", stop.begin, stop.late))
+              for route in routes for stop in route.stops if stop.late]
+    times = Counter(i for route in routes for i in route.customers)
+    found += [Reason("Twice" if times[i] else "Missing", None, i, "customer %d is served %d times" % (i, times[i]))
+              for i in instance.customers if times[i] != 1]
+    return found + [Reason("FleetExceeded", None, None, "%d vehicles drive, and there are %d" % (
+        len(routes), instance.vehicles))] * (len(routes) > instance.vehicles)
+
+
+def schedule(instance: Given, routes: Routes, *, depart: str = "late") -> Plan:
+    """When vehicles are where with which load, and whether routes are a plan. Vehicles leave as late as they may
+    without being back later, or with `depart="early"` when the depot opens."""
+    if depart not in ("late", "early"):
+        raise BadOptions("depart: met %.40r, wanted late or early" % depart)
+    own = instance if isinstance(instance, Instance) else Instance.from_file(instance)
+    found = [_timed(own, place, route, depart == "early") for place, route in enumerate(_routes_of(own, routes), 1)]
+    return Plan(found, sum(round(10 * route.distance) for route in found), _reasons(own, found))
+
+
 def _held_in_a_day(instance: bytes) -> float:
-    """How many customers a vehicle holds in a day: as many as its load has room for, or as there is time for service and
-    the way to the nearest one, whatever is less, in the mean."""
+    """How many customers a vehicle holds in a day: as many as its load has room for, or as there is time for service
+    and the way to the nearest one, whatever is less, in the mean."""
     words = [[int(word) for word in row] for row in _rows(instance)]
     capacity, (depot, *customers) = int(instance.split()[_CAPACITY]), words
     some = customers[::-(-len(customers) // _MEASURED)]
@@ -398,7 +739,7 @@ def _held_in_a_day(instance: bytes) -> float:
 
 
 def has_long_days(instance: bytes) -> bool:
-    """Whether a vehicle holds many customers in a day. Of a text that is no instance the program tells what is wrong."""
+    """Whether a vehicle holds many customers in a day; what is wrong with a text the program tells."""
     try:
         return _held_in_a_day(instance) >= LONG_DAY
     except (ValueError, IndexError, ZeroDivisionError, OverflowError):
@@ -430,24 +771,59 @@ def _zero_certificate(instance: bytes) -> bytes:
         name, count, b" 0" * count)
 
 
+def _fault(ran: Ran) -> Fault:
+    """The fault in which a run ended."""
+    if ran.status is not None and ran.status < 0:
+        return Stopped(ran.fault or "the program was ended by %s" % signal.Signals(-ran.status).name, ran.status)
+    of_text = BadPlan if _OF_PLAN.match(ran.fault) else BadCertificate
+    kind = of_text if ran.status == of_text.usual else _KINDS.get(ran.status, Fault)
+    return kind(ran.fault or "the program ended with status %s" % ran.status, ran.status)
+
+
 def _answer(ran: Ran, plan: bytes, certificate: bytes) -> Answer:
     """The answer of a run that ended. Raises `Fault` where it ended in one."""
     kind, cost, bound = verdict_of(ran.line)
     if kind is None or ran.status not in (0, 1):
-        raise Fault(ran.fault or "the program ended with status %s" % ran.status, ran.status)
+        raise _fault(ran)
     routes = [[int(word) for word in found.split()] for found in _ROUTE.findall(plan)] if plan else None
     return Answer(kind, routes, cost, bound, plan, certificate)
 
 
-def check(instance: Text, certificate: Optional[Text] = None, plan: Optional[Plan] = None, *,
+def _judge_place(certificate: object) -> None:
+    """Refuses a plan in the place of a certificate."""
+    is_text = isinstance(certificate, (str, bytes, os.PathLike))
+    if not is_text or _bytes(certificate, BadCertificate).startswith(b"Route #"):  # type: ignore[arg-type]
+        raise BadOptions("certificate: met a plan in its place, wanted check(instance, plan=..)")
+
+
+def check(instance: Given, certificate: Optional[Tree] = None, plan: Optional[Routes] = None, *,
           states: Optional[int] = None, program: Optional[str] = None) -> Answer:
-    """Judges a certificate, a plan, or both, whoever made them. Without a certificate the bound is 0. Raises `Fault`
-    with status 5 and the first thing that is wrong where a text isn't right. `states` limits the check of a leaf (1 to
+    """Judges a certificate, a plan, or both, whoever made them. Without a certificate the bound is 0. Raises a `Fault`
+    that tells the first thing that is wrong where a text isn't right; `schedule` tells all that is wrong with a plan.
+    An answer in the place of the certificate is judged with its plan. `states` limits the check of a leaf (1 to
     50,000,000)."""
-    text = _bytes(instance)
-    proof = _zero_certificate(text) if certificate is None else _bytes(certificate)
+    limit = _number("states", states)
+    if isinstance(certificate, Answer):
+        plan = certificate if plan is None and certificate.has_plan else plan
+        certificate = certificate.certificate
+    elif certificate is not None:
+        _judge_place(certificate)
+    text = _instance_bytes(instance)
+    proof = _zero_certificate(text) if certificate is None else _bytes(certificate, BadCertificate)
     routes = None if plan is None else _plan_bytes(text, plan)
-    return _answer(run_check(program or program_here(), text, proof, routes, states), routes or b"", proof)
+    return _answer(run_check(program or program_here(), text, proof, routes, limit), routes or b"", proof)
+
+
+def _number(name: str, value: Optional[SupportsIndex]) -> Optional[int]:
+    """The whole number of an option. Raises `BadOptions` for another one."""
+    if value is None:
+        return None
+    low, high = _LIMITS[name]
+    number = operator.index(value) if hasattr(value, "__index__") else low - 1
+    if not low <= number <= high:
+        raise BadOptions("%s: met %.40r, wanted a whole number of %d to %d%s" % (
+            name, value, low, high, ": tenths of a percent" if name == "gap" else ""))
+    return number
 
 
 def _words(given: Mapping[str, Optional[int]]) -> list[str]:
@@ -458,42 +834,49 @@ def _words(given: Mapping[str, Optional[int]]) -> list[str]:
 class Solving:
     """A work at an instance, which `run` does. `cancel` ends it from a callback, another thread or a signal handler.
 
-    The options are those of `vrptw solve`, whose defaults count where they are None, but for 200 sets, and 12 neighbours
-    where a vehicle holds 20 customers or more in a day; docs/formats.md has their limits.
+    The options are those of `vrptw solve`, whose defaults count where they are None, but for 200 sets, and 12
+    neighbours where a vehicle holds 20 customers or more in a day; docs/formats.md has their limits.
     With `seconds` it works in rounds of growing turns for at most so long, each from the best plan so far, and keeps
     the cheapest plan and the highest bound, as `outside/plan` does; `turns` can't be given then. Else one run is made.
     It ends sooner where no plan is cheaper, or at a gap of at most `gap` tenths of a percent of the cost. The answer
     never costs more than `start`, and its bound is never below that of `tree`, whose count of neighbours is that of
-    each run; rounds go on from the tree of the round before with so many, once it serves. `on_progress` is called in the thread of
-    `run`, at most a hundred times a run."""
+    each run; rounds go on from the tree of the round before with so many, once it serves. `on_progress` is called in
+    the thread of `run`, at most a hundred times a run."""
 
-    def __init__(self, instance: Text, *, seconds: Optional[float] = None, turns: Optional[int] = None,
+    def __init__(self, instance: Given, *, seconds: Optional[float] = None, turns: Optional[int] = None,
                  searchers: Optional[int] = None, bounders: Optional[int] = None, seed: Optional[int] = None,
                  neighbours: Optional[int] = None, labels: Optional[int] = None, sets: Optional[int] = None,
                  gap: Optional[int] = None, close: bool = False, leaves: Optional[int] = None,
-                 start: Optional[Plan] = None, tree: Optional[Tree] = None,
+                 start: Optional[Routes] = None, tree: Optional[Tree] = None,
                  on_progress: Optional[Callable[[Progress], None]] = None, program: Optional[str] = None) -> None:
-        if seconds is not None and (turns is not None or close):
-            raise ValueError("met seconds beside turns or close, wanted one of them")
-        if tree is not None and (neighbours is not None or close):
-            raise ValueError("met a tree beside neighbours or close, wanted one of them")
-        self.instance = _bytes(instance)
-        self.start = None if start is None else _plan_bytes(self.instance, start)
-        self.tree = tree.certificate if isinstance(tree, Answer) else None if tree is None else _bytes(tree)
-        if self.tree is not None:
-            neighbours = neighbours_of(self.tree)
-        elif neighbours is None and seconds is None and not close:
-            neighbours = neighbours_for(self.instance)[0]
-        # By counts of neighbours.
-        self.trees = {} if self.tree is None else {neighbours: self.tree}
-        self.seconds, self.turns, self.seed, self.neighbours, self.gap = seconds, turns, seed, neighbours, gap
-        given = {"searchers": searchers, "bounders": bounders, "labels": labels,
-                 "sets": SETS if sets is None else sets, "gap": gap, "leaves": leaves}
-        self.options = _words(given)
+        self.turns, self.seed, self.neighbours, self.gap = (_number(name, value) for name, value in (
+            ("turns", turns), ("seed", seed), ("neighbours", neighbours), ("gap", gap)))
+        self.options = _words({name: _number(name, value) for name, value in (
+            ("searchers", searchers), ("bounders", bounders), ("labels", labels),
+            ("sets", SETS if sets is None else sets), ("gap", gap), ("leaves", leaves))})
         self.options += ["--close"] if close else []
+        if seconds is not None and not (isinstance(seconds, SupportsFloat) and float(seconds) > 0):
+            raise BadOptions("seconds: met %.40r, wanted a number above 0" % seconds)
+        if seconds is not None and (turns is not None or close):
+            raise BadOptions("met seconds beside turns or close, wanted one of them")
+        if tree is not None and (neighbours is not None or close):
+            raise BadOptions("met a tree beside neighbours or close, wanted one of them")
+        self.seconds = None if seconds is None else float(seconds)
+        self.instance = _instance_bytes(instance)
+        self.start = None if start is None else _plan_bytes(self.instance, start)
+        self.tree = tree.certificate if isinstance(tree, Answer) else None if tree is None else _bytes(
+            tree, BadCertificate)
+        if self.tree is not None:
+            self.neighbours = neighbours_of(self.tree)
+        elif neighbours is None and seconds is None and not close:
+            self.neighbours = neighbours_for(self.instance)[0]
+        # By counts of neighbours.
+        self.trees = {} if self.tree is None else {self.neighbours: self.tree}
         self.on_progress, self.program = on_progress, program or program_here()
-        self.cancelled, self.best = threading.Event(), None
+        self.cancelled = threading.Event()
+        self.best: Optional[Answer] = None
         self.began = self.until = 0.0
+        self.percent = 0
 
     def cancel(self) -> None:
         """Ends the run at work within some tenths of a second. `run` then answers what stands: of rounds the best plan
@@ -504,7 +887,7 @@ class Solving:
     def run(self) -> Answer:
         """Does the work, and answers what it came to. Raises `Fault` where the program refuses or fails before
         anything stands."""
-        self.began, self.best = time.monotonic(), None
+        self.began, self.best, self.percent = time.monotonic(), None, 0
         self.until = float("inf") if self.seconds is None else self.began + self.seconds
         if self.seconds is not None:
             self.make_rounds()
@@ -526,17 +909,18 @@ class Solving:
     def is_done(self) -> bool:
         """Whether nothing more is to be found, or as much as was asked for."""
         best = self.best
-        if best is not None and best.kind == "GAP" and self.gap:
-            return 1000 * (best.cost_tenths - best.bound_tenths) <= self.gap * best.cost_tenths
-        return best is not None and best.kind in ("BEST", "NO PLAN")
+        if best is None or best.kind != "GAP" or not self.gap:
+            return best is not None and best.kind in ("BEST", "NO PLAN")
+        cost, bound = best.cost_tenths or 0, best.bound_tenths or 0
+        return 1000 * (cost - bound) <= self.gap * cost
 
     def make_rounds(self) -> None:
         """Makes rounds until nothing is left to find, or the time is over."""
         is_set = self.neighbours is not None or self.tree is not None
-        schedule, number = Schedule((self.neighbours,) if is_set else neighbours_for(self.instance)), 0
+        rounds, number = Schedule((self.neighbours,) if is_set else neighbours_for(self.instance)), 0
         first = 1 if self.seed is None else self.seed
         while not (self.is_done() or self.is_over()):
-            chosen = schedule.next(self.until - time.monotonic())
+            chosen = rounds.next(self.until - time.monotonic())
             if chosen is None:
                 return
             began = time.monotonic()
@@ -546,7 +930,7 @@ class Solving:
                 if self.trees.pop(chosen[1], self.tree) is not self.tree:
                     # Its leaves took more labels than before, say.
                     continue
-                if not schedule.drop(chosen[1]):
+                if not rounds.drop(chosen[1]):
                     if self.best is None:
                         raise
                     return
@@ -557,7 +941,7 @@ class Solving:
             self.take(came)
             if serves(came.certificate, chosen[0], self.instance):
                 self.trees[chosen[1]] = came.certificate
-            schedule.note(*chosen, time.monotonic() - began, came.bound_tenths or 0)
+            rounds.note(*chosen, time.monotonic() - began, came.bound_tenths or 0)
 
     def round(self, turns: Optional[int], neighbours: Optional[int], seed: Optional[int]) -> Optional[Answer]:
         """One run of the program; None where it was broken off."""
@@ -576,13 +960,14 @@ class Solving:
 
     def tell(self, came: Optional[Progress]) -> None:
         """Tells what a line of progress says, beside what stands."""
-        if came is None:
+        if came is None or self.on_progress is None:
             return
-        best = self.best
-        costs = [cost for cost in (came.cost_tenths, best and best.cost_tenths) if cost is not None]
-        bounds = [bound for bound in (came.bound_tenths, best and best.bound_tenths) if bound is not None]
-        self.on_progress(Progress(came.percent, min(costs, default=None), max(bounds, default=None),
-                                  time.monotonic() - self.began))
+        seconds, known = time.monotonic() - self.began, [one for one in (came, self.best) if one]
+        self.percent = max(self.percent, came.percent if self.seconds is None else min(
+            100, int(100 * seconds / self.seconds)))
+        self.on_progress(Progress(
+            self.percent, min((one.cost_tenths for one in known if one.cost_tenths is not None), default=None),
+            max((one.bound_tenths for one in known if one.bound_tenths is not None), default=None), seconds))
 
     def take(self, came: Optional[Answer]) -> None:
         """Keeps the cheaper plan and the higher bound, each with its text."""
@@ -592,15 +977,15 @@ class Solving:
             return
         plan = best if came.cost_tenths is None or (
             best.cost_tenths is not None and best.cost_tenths <= came.cost_tenths) else came
-        proof = best if best.bound_tenths >= came.bound_tenths else came
+        proof = best if (best.bound_tenths or 0) >= (came.bound_tenths or 0) else came
         kind = "OPEN" if plan.cost_tenths is None else "BEST" if plan.cost_tenths == proof.bound_tenths else "GAP"
         self.best = Answer(kind, plan.routes, plan.cost_tenths, proof.bound_tenths, plan.plan, proof.certificate)
 
 
-def solve(instance: Text, *, seconds: Optional[float] = None, turns: Optional[int] = None,
+def solve(instance: Given, *, seconds: Optional[float] = None, turns: Optional[int] = None,
           searchers: Optional[int] = None, bounders: Optional[int] = None, seed: Optional[int] = None,
           neighbours: Optional[int] = None, labels: Optional[int] = None, sets: Optional[int] = None,
-          gap: Optional[int] = None, close: bool = False, leaves: Optional[int] = None, start: Optional[Plan] = None,
+          gap: Optional[int] = None, close: bool = False, leaves: Optional[int] = None, start: Optional[Routes] = None,
           tree: Optional[Tree] = None, on_progress: Optional[Callable[[Progress], None]] = None,
           program: Optional[str] = None) -> Answer:
     """Solves an instance: what `Solving` with these options comes to."""

@@ -20,6 +20,7 @@ echo 7''',
 for list; do :; done
 while read -r name; do ./step "$name"; done <"$list"''',
     "rsync": "exit 0",
+    "ssh": '''case "$*" in *nowhere*) echo "ssh: connect to host nowhere port 22: Connection refused" >&2; exit 255 ;; esac''',
     "killing": '''case "$*" in solve*--part*) kill -9 $$ ;; esac
 exec %s/vrptw "$@"''' % shlex.quote(os.path.dirname(os.path.dirname(os.path.dirname(os.path.realpath(__file__))))),
 }
@@ -64,7 +65,11 @@ MORE = {
     "open/plan.txt": "Route #1: 1\nRoute #2: 2\nRoute #3: 3\nRoute #4: 4\nCost 100.0\n",
     "wrong/instance.txt": FOUR, "wrong/certificate.txt": EIGHT.replace("40.0", "40.1"),
     "theirs/C101.TXT": FILES["i.txt"],
+    "his/c101.2.txt": FILES["i.txt"], "his/C1_2_1.TXT": FILES["i.txt"],
+    "spoilt/empty.txt": "", "spoilt/i.txt": FILES["i.txt"],
     "best.txt": "i 20.0\n",
+    "more_best.txt": "b 1, 7.0\ni.txt 20.0\n",
+    "two_machines": "localhost\n4/ssh -p 2222 anna@nowhere\n",
     "published.txt": "C101 2 20.0 hand\n",
     "machines": "localhost\n",
     "semicolons.csv": "number;name\n0;depot\n1;a.5\n2;1.5\n",
@@ -95,15 +100,23 @@ MORE = {
 # The words of calls, the status of the last one, and what it promises: a file that isn't empty, or behind a colon what
 # stands in it; - is standard output, and -- is standard error. {program} stands for the program that is judged.
 RIGHT = """
-batch i.txt --into r --options "--turns 2" --jobs 1|0|r/table.csv: i,,2,20.0,20.0,0,1, & -: 1 BEST
+batch i.txt --into r --options "--turns 2" --jobs 1|0|r/table.csv: i,,2,20.0,1,20.0,0,1, & -: 1 BEST
 batch i.txt --into r --options "few: --turns 1" --options "more: --turns 2"|0|r/i@few/plan.txt & r/i@more/plan.txt
 batch i.txt --into r --options "--turns 1" --seeds 1,2|0|r/options: s2: --sets 200 --turns 1 --seed 2 & r/i@s1/plan.txt
 batch i.txt --into r --engine here|0|r/i/plan.txt: Cost 20.0
 batch i.txt --into r --engine parallel --sshloginfile machines|0|r/i/plan.txt: Cost 20.0 & r/asked.txt: /machines --
 batch i.txt --into r --engine slurm --slurm-options "--mem=0 --time 1" --jobs 3 --wait|0|r/asked.txt: --array 1-1%3 & \
 r/asked.txt: --mem=0 --time 1 job_0.sh & -: 1 BEST
+batch i.txt --into r --engine parallel --sshloginfile two_machines|0|-: machine anna@nowhere (line 2) isn't used: ssh: \
+connect to host nowhere port 22: Connection refused & r/engine.txt: machine anna@nowhere & r/machines: localhost & \
+r/asked.txt: --retries 1 & -: 1 BEST
+batch bad.txt i.txt --into r|1|-: no instance: line 8: met "1 3 4 x & r/i/plan.txt: Cost 20.0 & \
+r/table.csv: bad,,,,,,,,,"no instance: line 8: & -: 1 BEST, 1 no instance
+batch spoilt --into r|1|-: no instance: line 1: met "" (Truncated) & r/i/plan.txt: Cost 20.0 & -: 2 instances: 1 BEST
 batch i.txt --into r --best best.txt|0|-: 1 best known costs: 1 met
+batch i.txt --into r --best more_best.txt|0|-: 1 best known costs: 1 met & --: --best has names of no instance here: b_1
 batch i.txt --into r ; batch i.txt --into r --status|0|-: 1 BEST
+batch i.txt --into r ; batch --status r|0|-: 1 BEST & -: 20.0         1   20.0
 batch i.txt --into r --program {program}|0|-: 1 BEST
 batch i.txt --into many --status|0|-: 1 BEST
 batch i.txt --into many|0|many/i/certificate.txt: VRPTW-SETS 1 & -: 1 BEST
@@ -235,6 +248,8 @@ bench/make_instances --other RC1-1-5|0|-: rc1-1-5
 bench/make_instances --other RC1-5-5 --open 100|0|-: rc1-5-5-open100
 bench/solomon theirs --into l --customers 1,2 --options "--turns 2" --jobs 1 --published published.txt|0|-: met & \
 l/literature.csv: C101,2,20.0,hand,20.0,1,20.0,0,
+bench/solomon his --into l --customers 2,25 --options "--turns 2"|0|l/literature.csv: C101,2,,,20.0,1,20.0, & \
+l/literature.csv: C1_2_1,2,,,20.0,1,20.0,
 bench/solomon theirs --into l --program {program} --customers 2 --options --close|0|l/literature.csv: C101,2,
 """
 # The words with one wrong value, its option, the status and a part of the one line.
@@ -248,6 +263,7 @@ batch i.txt --into r --jobs 0|--jobs|2|met "0"
 batch i.txt --into r --engine parallel --sshloginfile nowhere|--sshloginfile|1|nowhere: No such file
 batch i.txt --into r --engine slurm --slurm-options "'"|--slurm-options|2|No closing quotation
 batch i.txt --into r --best nowhere|--best|1|nowhere: No such file
+batch --status nowhere|--status|1|nowhere: met no folder, wanted that of --into
 batch i.txt --into r --program nowhere|--program|1|nowhere: met no program
 carry i.txt p.txt i.txt --names nowhere|--names|1|nowhere: No such file
 carry i.txt p.txt i.txt --changed-names names2.csv|--changed-names|1|names2.csv: line 3: met no name of number 2

@@ -67,7 +67,6 @@ FILES = {
 # The words, the file that is at fault, its line, and a part of what is said; without a line that part is all.
 REFUSED = """
 batch nowhere --into r|nowhere|0|No such file or directory
-batch bad.txt --into r|bad.txt|8|BadNumber
 batch i.txt folder/../i.txt --into r|folder/../i.txt|0|met the name i again, after i.txt, wanted each name once
 batch folder --into r|folder|0|met no instance, wanted files that vrptw reads
 batch i.txt --into p.txt|p.txt|0|File exists
@@ -75,6 +74,8 @@ batch i.txt --into r --program nowhere|nowhere|0|met no program, wanted one that
 batch i.txt --into r --best nowhere|nowhere|0|No such file or directory
 batch i.txt --into r --best p.txt|p.txt|1|met "Route #1: 1 2", wanted a name and a cost above 0 with one decimal
 batch i.txt --into nowhere --status|nowhere|0|met no folder, wanted that of --into
+batch --status nowhere|nowhere|0|met no folder, wanted that of --into
+batch --status folder|folder|0|met no step, wanted the folder of a batch
 batch i.txt --into r --engine parallel --sshloginfile nowhere|nowhere|0|No such file or directory
 fewest nowhere.txt --into r|nowhere.txt|0|No such file or directory
 fewest bad.txt --into r|bad.txt|8|BadNumber
@@ -259,6 +260,7 @@ sheets i.txt|required: SOLUTION
 report i.txt p.txt --tree|--tree goes with a certificate
 recheck i.txt k.txt --jobs 0|met "0"
 batch i.txt|required: --into
+batch --into r|required: FOLDER
 batch i.txt --into r --options "--turns x"|met "x", wanted options of solve with numbers
 batch i.txt --into r --options "--turns 0"|0 is not in 1..=1000000
 batch i.txt --into r --options --veh|--veh

@@ -19,6 +19,8 @@ SETS = [
     (["--options", "one: --turns 1 " + FEW, "--options", "rounds: --seconds=1 --gap 900 " + FEW], ["one", "rounds"]),
     (["--options", "--turns=1", "--options", "b: --close", "--seeds", "7"], ["1.s7", "b.s7"]),
 ]
+# The name of a file that is no instance, which has a row all the same.
+UNREAD = ["zz"]
 NAMES = ["a", "b 1", "c-2.5", "\u00e9", "_x", "d.txt", "-e", "0"]
 
 
@@ -52,6 +54,7 @@ def judge_row(program, folder, text, row, into):
              "NO": ["NO PLAN", "", ""]}[kind]
     demand([row["status"], row["cost"], row["bound"]] == right, "%r, and the check says %r" % (row, line))
     demand(int(row["leaves"]) == certificate.count(b"\nP "), "leaves of %r" % row)
+    demand(row["vehicles"] == (str(plan.count(b"Route #")) if plan else ""), "vehicles of %r" % row)
     cost, bound = (float(word) if word else None for word in (row["cost"], row["bound"]))
     part = "" if cost is None else 100 * (cost - bound) / cost if cost else 0
     demand(row["gap"] == part or abs(float(row["gap"]) - part) < 1e-5, "gap of %r" % row)
@@ -88,20 +91,33 @@ def liar(program, folder):
 def judge_liar(program, folder, words):
     """What a machine spoiled is told as wrong, and solved anew by a call with another program."""
     out, errors, status = tool("batch", *[liar(program, folder) if word == program else word for word in words])
-    told = [row["status"] for row in table_of(words[2])]
+    told = [row["status"] for row in table_of(words[2]) if row["instance"] not in UNREAD]
     demand(status == 1 and all(word.startswith("wrong: ") for word in told), "spoiled: status %d, %r" % (status, told))
     out, errors, status = tool("batch", *words)
-    demand(status == 0 and errors.count("is solved anew: wrong: ") == len(told), "spoiled: %d, %r" % (status, errors))
+    demand(errors.count("is solved anew: wrong: ") == len(told), "spoiled: %d, %r" % (status, errors))
 
 
 def judge_table(out, errors, status, rows, files, columns):
     """A table of all steps, in order, with a column for each set of options."""
-    demand((status, len(rows)) == (0, len(files) * len(columns)), "batch: status %d, %r, %r" % (status, out, errors))
-    demand([row["set"] for row in rows] == columns * len(files), "columns: %r" % rows)
+    unread = [row for row in rows if row["status"].startswith("no instance: ")]
+    demand((status, len(rows)) == (1 if unread else 0, (len(files) + bool(unread)) * len(columns)),
+           "batch: status %d, %r, %r" % (status, out, errors))
+    demand([row["set"] for row in rows] == columns * (len(files) + bool(unread)), "columns: %r" % rows)
+    demand([row["instance"] for row in unread] == UNREAD * len(columns) * bool(unread), "unread: %r" % unread)
+    demand(not any(row[name] for row in unread for name in ("customers", "cost", "vehicles", "bound", "seconds")),
+           "unread: %r" % unread)
     lines = out.decode().split("\n")
     told = lines[0].split()[2:-3:2] if columns != [""] else [""]
     demand(told == columns, "columns: %r" % lines[0])
-    return rows[::len(columns)]
+    return [row for row in rows if row not in unread]
+
+
+def unread(random, source, text):
+    """Puts a file that is no instance beside the others, or none; answers whether."""
+    if random.randrange(2):
+        return False
+    put(os.path.join(source, UNREAD[0] + ".txt"), random.choice([b"", b"no instance", text + b" x", b"\xff"]))
+    return True
 
 
 def judge_batch(program, folder, random):
@@ -112,16 +128,16 @@ def judge_batch(program, folder, random):
         files.append(os.path.join(source, name + ".txt"))
         texts.append(laid_out(random, instance_words(random, random.randint(1, 6))))
         put(files[-1], texts[-1])
-    put(os.path.join(source, "notes.txt"), b"no instance")
+    is_unread = unread(random, source, texts[0])
     sets, columns = random.choice(SETS)
     words = [source, "--into", into, "--program", program, "--jobs", str(random.randint(1, 3))] + sets
     is_spoiled = random.randrange(4) == 0
     if is_spoiled:
         judge_liar(program, folder, words)
     out, errors, status = tool("batch", *words)
-    rows = table_of(into)
-    names = [row["instance"] for row in judge_table(out, errors, status, rows, files, columns)]
-    demand("notes.txt is passed over" in errors, "what isn't an instance isn't noted: %r" % errors)
+    rows = judge_table(out, errors, status, table_of(into), files, columns)
+    names = [row["instance"] for row in rows[::len(columns)]]
+    demand(("zz" in out.decode()) == is_unread, "what isn't an instance: %r" % out)
     for row in rows:
         judge_row(program, folder, texts[names.index(row["instance"])], row, into)
     before = done_in(into)
@@ -130,17 +146,17 @@ def judge_batch(program, folder, random):
     words = words if random.randrange(2) else words[:-len(sets)]
     standing = tool("batch", *words, "--status")
     out, errors, status = tool("batch", *words)
-    after, rows = done_in(into), table_of(into)
+    after, alone = done_in(into), tool("batch", "--status", into, "--program", program)
     demand(standing[0] == out or kind != "nothing", "--status: %r, and then %r" % (standing, out))
+    demand(sorted(alone[0].splitlines()) == sorted(out.splitlines()), "--status DIR: %r, and %r" % (alone, out))
     again = [other for other in before if after[other] != before[other]]
     right = [] if kind == "nothing" else [name] if kind != "instance" else [
         other for other in before if other.split("@")[0] == name.split("@")[0]]
     demand(sorted(again) == sorted(right), "%s: done again: %r" % (kind, again))
     demand(("has another text" in errors) == (kind in ("instance", "other")), "%s: %r" % (kind, errors))
     demand(("is solved anew: wrong" in errors) == (kind in ("plan", "certificate")), "%s: %r" % (kind, errors))
-    demand(status == 0, "%s: status %d, %r" % (kind, status, errors))
-    judge_table(out, errors, status, rows, files, columns)
-    for row in rows:
+    demand(status == is_unread, "%s: status %d, %r" % (kind, status, errors))
+    for row in judge_table(out, errors, status, table_of(into), files, columns):
         judge_row(program, folder, got(files[names.index(row["instance"])]), row, into)
     return kind + (", spoiled before" if is_spoiled else "")
 

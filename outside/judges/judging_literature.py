@@ -7,13 +7,13 @@ from importlib.util import module_from_spec, spec_from_loader
 
 from cases.random_texts import instance_words, laid_out
 from judges.kind import Kind, program_by
-from judges.running import demand, put, run, shown as as_text
+from judges.running import demand, got, put, run, shown as as_text
 from reference.instances import Instance, read
 from reference.optimum import least_cost
 from reference.texts import shown
 from tools.places import TOP
 
-NAMES = ["c101", "R102", "rc201", "C205", "r1_2_1", "RC2_4_10"]
+NAMES = ["c101", "R102", "rc201", "C205", "r1_2_1", "RC2_4_10", "C1_2_1"]
 # The names of files that are passed over.
 OTHERS = ["r1_6_1.txt", "notes.txt", "c101.csv", "c1011.txt"]
 MOST_CUSTOMERS, CUSTOMERS = 6, (2, 4)
@@ -23,10 +23,16 @@ def drawn(random, source, names):
     """Files in the folder; the least costs, or None, by the capital name and the count of customers."""
     found = {}
     for name in names:
-        text = laid_out(random, instance_words(random, random.randint(2, MOST_CUSTOMERS)))
-        put(os.path.join(source, name + random.choice([".txt", ".TXT"])), text)
-        whole = read(text)
-        counts = [whole.count] if "_" in name else [count for count in CUSTOMERS if count <= whole.count]
+        most = random.choice([CUSTOMERS[-1], *CUSTOMERS, random.randint(2, MOST_CUSTOMERS)])
+        text = laid_out(random, instance_words(random, most))
+        whole, is_apart = read(text), "_" not in name and most in CUSTOMERS and random.randrange(3) > 0
+        own = name + random.choice([".%d", "_%d", "-0%d"]) % most if is_apart else name
+        put(os.path.join(source, own + random.choice([".txt", ".TXT"])), text)
+        if is_apart and random.randrange(3) == 0:
+            # The same customers: what both files have is taken once.
+            put(os.path.join(source, name + ".Txt"), text)
+            is_apart = False
+        counts = [whole.count] if "_" in name or is_apart else [count for count in CUSTOMERS if count <= whole.count]
         for count in counts:
             own = Instance(whole.name, whole.fleet, whole.capacity, whole.rows[:count + 1])
             found[name.upper(), count] = least_cost(own)
@@ -74,8 +80,11 @@ def literature(*words):
 
 def judge_faults(random, source, words):
     """One thing wrong: refused in a line with its file, and nothing on standard output."""
-    kind = random.randrange(4)
-    if kind == 0:
+    kind = random.choice([0, 1, 2, 3, 4, 4])
+    if kind == 4:
+        path, line = os.path.join(source, "r212.9.txt"), " met 2 customers, wanted the 9 of its name"
+        put(path, laid_out(random, instance_words(random, 2)))
+    elif kind == 0:
         path, line = words[words.index("--published") + 1], " line 2: met "
         put(path, b"# none\nc101 25 191.3\n")
     elif kind == 1:
@@ -101,6 +110,7 @@ def judge_literature(program, folder, random):
     os.mkdir(source)
     names = random.sample(NAMES, random.randint(1, 3))
     costs = drawn(random, source, names)
+    before = os.listdir(source)
     right = known(random, costs, path)
     words = [source, "--into", into, "--published", path, "--customers", ",".join(map(str, CUSTOMERS)),
              "--options", "--close", "--program", program]
@@ -119,10 +129,12 @@ def judge_literature(program, folder, random):
         cost = costs[row["instance"], int(row["customers"])]
         wanted = ("NO PLAN", "") if cost is None else ("BEST", shown(cost))
         demand((row["status"], row["cost"]) == wanted, "%r, and %r is right" % (row, wanted))
+        held = os.path.join(into, "runs", "%s.%s" % (row["instance"], row["customers"]), "plan.txt")
+        demand(row["vehicles"] == ("" if cost is None else str(got(held).count(b"Route #"))), "vehicles: %r" % row)
     demand(status == ("differs" in right.values()), "status %d, %r" % (status, told))
     classes = {(re.match("[RC]+[12]", name)[0], count) for name, count in costs}
     demand(len(out.decode().split("\n\n")[1].splitlines()) == 1 + len(classes), "classes: %r" % out)
-    demand(len(os.listdir(source)) == len(names) + len(others), "the folder of theirs isn't as it was")
+    demand(sorted(os.listdir(source)) == sorted(before + others), "the folder of theirs isn't as it was")
     return "differs" if status else "as published"
 
 

@@ -1,6 +1,8 @@
 """One run of the module for Python on few customers: its answers are those of all plans, and right as texts and lists;
 it is cancelled, starts from plans in each form, and raises what the program says."""
+import json
 import os
+import pickle
 import time
 
 from cases.random_texts import instance_words, laid_out, plan_of
@@ -43,8 +45,14 @@ def forms(random, instance, routes, folder):
     text = text_of(routes, plan_cost(instance, routes)).encode()
     path = os.path.join(folder, "start.txt")
     put(path, text)
-    return random.choice([text, path, routes, tuple(map(tuple, routes)),
+    return random.choice([text, path, routes, tuple(map(tuple, routes)), vrptw.schedule(instance_of(instance), routes),
                           vrptw.Answer("GAP", routes, None, None, text)])
+
+
+def instance_of(instance):
+    """An instance of the reference as one of the module."""
+    rows = [row[:3] + tuple(moment // 10 for moment in row[3:]) for row in instance.rows]
+    return vrptw.Instance.from_rows(rows, instance.fleet, instance.capacity, instance.name.decode())
 
 
 def judge_cancelled(random, text, instance, cost, options):
@@ -56,16 +64,28 @@ def judge_cancelled(random, text, instance, cost, options):
     answer = work.run()
     demand(time.monotonic() - began < SOON, "a cancelled work took %.1f s" % (time.monotonic() - began))
     judge_answer(instance, answer, cost)
+    judge_progress(told, cost, options.get("seconds"))
+    return "cancelled"
+
+
+def judge_progress(told, cost, seconds):
+    """What was told on the way: with so many seconds the percent is that of the time, and only the cost falls."""
     demand(all(0 <= came.percent <= 100 and (came.cost is None or came.cost_tenths >= (cost or 0)) for came in told),
            "%r" % told)
-    return "cancelled"
+    demand(seconds is None or all(came.percent == min(100, int(100 * came.seconds / seconds)) for came in told),
+           "of %s seconds: %r" % (seconds, told))
+    for before, came in zip(told, told[1:]):
+        demand(before.percent <= came.percent and before.seconds <= came.seconds, "%r, and then %r" % (before, came))
+        demand((before.bound_tenths or 0) <= (came.bound_tenths or 0), "%r, and then %r" % (before, came))
+        demand(before.cost_tenths is None or came.cost_tenths <= before.cost_tenths, "%r, and then %r" % (before, came))
+    demand([vrptw.Progress.from_dict(json.loads(json.dumps(came.to_dict()))) for came in told] == told, "%r" % told)
 
 
 def judge_faults(program, text, routes):
     """What the program says is raised with its line and its status."""
     for call, status, words in (
             (lambda: vrptw.solve(b"x y", program=program), 3, "vrptw: instance: BadWord line 1"),
-            (lambda: vrptw.solve(text, turns=0, program=program), 2, "0 is not in 1..=1000000"),
+            (lambda: vrptw.solve(text, turns=0, program=program), 2, "turns: met 0, wanted a whole number of 1 to"),
             (lambda: vrptw.solve(text, start=b"x\n", program=program), 5, "vrptw: solution: BadLine line 1"),
             (lambda: vrptw.solve(text, tree=b"x\n", program=program), 5, "vrptw: certificate: BadLine line 1"),
             (lambda: vrptw.solve(text, seconds=9, tree=b"x\n", program=program), 5,
@@ -103,8 +123,13 @@ def judge_solved(random, folder, text, instance, cost, options):
         start = options["start"] = forms(random, instance, routes, folder)
     source = os.path.join(folder, "source.txt")
     put(source, text)
-    answer = vrptw.solve(random.choice([text, source]), **options)
+    told = []
+    given = random.choice([text, source, vrptw.Instance.from_file(text)])
+    answer = vrptw.solve(given, on_progress=told.append, **options)
     judge_answer(instance, answer, cost)
+    judge_progress(told, cost, options.get("seconds"))
+    demand(vrptw.Answer.from_dict(json.loads(json.dumps(answer.to_dict()))) == answer
+           == pickle.loads(pickle.dumps(answer)) and answer.has_plan == (answer.routes is not None), "%r" % answer)
     demand(answer.kind != "BOUND" and (start is None or answer.cost_tenths <= plan_cost(instance, routes)),
            "%r from %r" % (answer, start))
     demand(not options.get("close") or answer.kind in ("BEST", "NO PLAN"), "closed: %r" % answer)
@@ -124,8 +149,7 @@ def judge_module(program, folder, random):
     """An instance, by the module."""
     text = laid_out(random, instance_words(random, random.randint(1, MOST_CUSTOMERS)))
     instance = read(text)
-    rows = [row[:3] + tuple(moment // 10 for moment in row[3:]) for row in instance.rows]
-    made = vrptw.instance_text(rows, instance.fleet, instance.capacity, instance.name.decode())
+    made = instance_of(instance).text
     demand(read(made).rows == instance.rows and read(made).name == instance.name, "instance_text: %r" % made)
     how = random.choice([{"turns": random.randint(1, 5), **FEW}, {"seconds": random.choice([0.5, 2]), **FEW},
                          {"close": True}])

@@ -15,8 +15,9 @@ judging_bytes
 judging_sets judging_made_sets
 judging_layouts judging_tables judging_times judging_visits judging_roundings judging_nights judging_readings
 judging_doubts judging_carried judging_plans judging_printouts judging_departures judging_moved judging_globe
-judging_reports judging_served judging_partial judging_folders judging_fewest judging_module judging_rounds
-judging_breaks judging_batches judging_proofs judging_joins judging_literature judging_faults judging_options
+judging_reports judging_served judging_partial judging_folders judging_fewest judging_module judging_schedules
+judging_rounds judging_breaks judging_batches judging_proofs judging_joins judging_literature judging_faults
+judging_options
 launching tutorial
 """.split()
 

@@ -19,6 +19,12 @@ SECONDS, NOT_BESIDE = "--seconds", ("--turns", "--close")
 MOST_SEEDS, MOST_JOBS = 1000, 10_000
 
 
+def name_of(word):
+    """A name as folders and tables have it."""
+    name = re.sub(r"[^A-Za-z0-9_.-]", "_", word)
+    return name if name[:1].isalnum() else "_" + name
+
+
 class Column:
     """A column: its label, which is empty where it is the only one, and the options of its steps."""
 

@@ -1,14 +1,20 @@
 """The table of a batch, as text and as CSV, beside best known costs where some are given."""
 import csv
 import io
+import re
 from collections import Counter
 
 from reference.texts import shown, tenths
-from tools.tool import quoted
+from tools.batch_columns import name_of
+from tools.tool import listed, quoted
 
-COLUMNS = ("instance", "customers", "cost", "bound", "gap", "leaves", "seconds", "status")
+COLUMNS = ("instance", "customers", "cost", "vehicles", "bound", "gap", "leaves", "seconds", "status")
 # Before the last of them, where best known costs are given: the cost, and how far above it that of here is.
 BEST_COLUMNS = ("best known", "above")
+
+
+# A line of best known costs: a name, perhaps that of a file, and a number.
+BEST = re.compile(r"(.*?[^\s,])(?:\.txt)?[\s,]+([^\s,]+)\Z", re.I)
 
 
 def tenths_of(word):
@@ -36,17 +42,26 @@ def bound_of(outcome):
 
 
 def best_known(text):
-    """Costs in tenths by the names of instances: a name and a cost in each line, with blanks or a comma between."""
+    """Costs in tenths by the names of instances: a name and a cost in each line, with blanks or a comma between. Names
+    may be those of the files."""
     found = {}
     for line, told in text.filled():
-        name, *rest = told.replace(",", " ").split()
-        cost = tenths(rest[0].encode()) if len(rest) == 1 else None
+        parts = BEST.match(told.strip())
+        cost = tenths(parts[2].encode()) if parts else None
         if not cost:
             text.refuse(line, quoted(told), "a name and a cost above 0 with one decimal, as c1_25 339.8")
+        name = name_of(parts[1])
         if name in found:
             text.refuse(line, "the name %s again" % quoted(name), "each name once")
         found[name] = cost
     return found
+
+
+def unmatched(steps, best):
+    """A note of the names that no instance has."""
+    names = {step.instance for step in steps}
+    lacks = [name for name in best if name not in names]
+    return ["--best has names of no instance here: %s" % listed(lacks)] if lacks else []
 
 
 def above(step, best):
@@ -77,6 +92,11 @@ def too_low(steps, best):
             and best[step.instance] < tenths_of(step.outcome.bound)]
 
 
+def counted_of(number):
+    """A count as a word; nothing where it isn't known."""
+    return "" if number is None else str(number)
+
+
 def status(step):
     """The verdict, or what is known in its place."""
     return step.state if step.outcome is None else step.outcome.status
@@ -85,9 +105,9 @@ def status(step):
 def cells(step, best):
     """What is known of a step, as words; of one that isn't done its state alone."""
     outcome = step.outcome
-    found = [""] * 5 if outcome is None else [
-        outcome.cost or "", bound_of(outcome), percent(gap(outcome)),
-        "" if outcome.leaves is None else str(outcome.leaves), "%.1f" % outcome.seconds]
+    found = [""] * 6 if outcome is None else [
+        outcome.cost or "", counted_of(outcome.vehicles), bound_of(outcome), percent(gap(outcome)),
+        counted_of(outcome.leaves), "" if outcome.seconds is None else "%.1f" % outcome.seconds]
     if best is not None:
         known = best.get(step.instance)
         found += ["" if known is None else shown(known), percent(above_part(step, best))]
@@ -148,7 +168,7 @@ def column_line(label, steps, best):
     told = ["%s (%s): %s" % (label, " ".join(steps[0].column.words) or "defaults", counted(steps))]
     gaps = mean(map(gap, done))
     told += ["mean gap %s" % percent(gaps)] if gaps is not None else []
-    told += ["%.1f s" % sum(outcome.seconds for outcome in done)] if done else []
+    told += ["%.1f s" % sum(outcome.seconds or 0 for outcome in done)] if done else []
     if best is not None:
         more = mean(above_part(step, best) for step in steps)
         told += [compared(steps, best)] + (["%s above in the mean" % percent(more)] if more is not None else [])
@@ -185,9 +205,9 @@ def separated(steps, best=None):
     rows = [["instance", "set", *COLUMNS[1:-1], *more, COLUMNS[-1], "machine"]]
     for step in steps:
         outcome, known = step.outcome, (best or {}).get(step.instance)
-        row = [step.instance, step.column.label, step.count] + ([""] * 5 if outcome is None else [
-            outcome.cost or "", bound_of(outcome), value(gap(outcome)),
-            "" if outcome.leaves is None else outcome.leaves, value(outcome.seconds)])
+        row = [step.instance, step.column.label, step.count] + ([""] * 6 if outcome is None else [
+            outcome.cost or "", counted_of(outcome.vehicles), bound_of(outcome), value(gap(outcome)),
+            counted_of(outcome.leaves), value(outcome.seconds)])
         if best is not None:
             row += ["" if known is None else shown(known), value(above_part(step, best))]
         rows.append(row + [status(step), outcome.machine if outcome else ""])

@@ -3,16 +3,19 @@ import hashlib
 import os
 import re
 import shutil
+from collections import namedtuple
 
 from reference.instances import read
 from reference.set_texts import read_either
 from reference.texts import TextFault, read_solution, shown
-from tools.batch_columns import OPTIONS
+from tools.batch_columns import BETWEEN, OPTIONS, name_of
 from tools.judged import judged
 from tools.places import OUTSIDE
 from tools.plans import of_ours
 from tools.tool import Refused, Text, last_words, make_folder
 
+# The file of a step that has its instance.
+INSTANCE = "instance.txt"
 # What all steps share.
 SHARED = ("program", "step", OPTIONS)
 # What a step leaves, in the order in which it is brought back: the last one says that it is done.
@@ -49,9 +52,9 @@ def put(path, held):
 class Outcome:
     """What is known of a step that is done: status is a verdict, or why there is none."""
 
-    def __init__(self, status, cost=None, bound=None, leaves=None, seconds=None, machine=""):
-        self.status, self.cost, self.bound, self.leaves = status, cost, bound, leaves
-        self.seconds, self.machine = seconds, machine
+    def __init__(self, status, cost=None, bound=None, leaves=None, vehicles=None):
+        self.status, self.cost, self.bound, self.leaves, self.vehicles = status, cost, bound, leaves, vehicles
+        self.seconds, self.machine = None, ""
 
     def is_answer(self):
         return self.bound is not None
@@ -60,9 +63,9 @@ class Outcome:
 class Step:
     """An instance of a batch in a column, and its folder; the state is what is known as long as it isn't done."""
 
-    def __init__(self, source, text, into, instance, column):
-        self.source, self.held, self.instance, self.column = source, text.held, instance, column
-        self.name, self.count = column.step(instance), of_ours(text, read, "an instance").count
+    def __init__(self, source, into, instance, column):
+        self.source, self.held, self.count = source.path, source.held, source.count
+        self.instance, self.column, self.name = instance, column, column.step(instance)
         self.folder, self.outcome, self.state = os.path.join(into, self.name), None, NOT_DONE
 
     def path(self, name):
@@ -70,12 +73,12 @@ class Step:
 
     def prepare(self):
         """Puts the instance into its folder. Answers whether another text was solved there before; that goes."""
-        before = content(self.path("instance.txt"))
+        before = content(self.path(INSTANCE))
         if before == self.held:
             return False
         self.clear()
         os.makedirs(self.folder, exist_ok=True)
-        put(self.path("instance.txt"), self.held)
+        put(self.path(INSTANCE), self.held)
         return bool(before)
 
     def clear(self):
@@ -87,7 +90,7 @@ class Step:
 
     def is_of_this(self):
         """Whether the text in the folder is the one that is given."""
-        return content(self.path("instance.txt")) == self.held
+        return content(self.path(INSTANCE)) == self.held
 
     def is_done(self):
         return bool(DONE.match(content(self.path("done.txt")).decode(errors="replace")))
@@ -114,8 +117,9 @@ class Step:
         if not found:
             return Outcome("wrong: %s" % told.split("\n")[0])
         bound = shown(read_either(certificate).bound)
-        cost = shown(read_solution(plan)[1]) if plan else None
-        return Outcome({"BOUND": "OPEN"}.get(found[1], found[1]), cost, bound, leaves)
+        routes, cost = read_solution(plan) if plan else ((), None)
+        return Outcome({"BOUND": "OPEN"}.get(found[1], found[1]), None if cost is None else shown(cost), bound, leaves,
+                       len(routes) if routes else None)
 
     def verdict(self, program, certificate, plan):
         """What the check says of the texts, kept with their sums."""
@@ -123,48 +127,91 @@ class Step:
         kept = content(self.path("checked.txt"))
         if kept.startswith(sums + b"\n"):
             return kept[len(sums) + 1:].decode()
-        put(self.path("instance.txt"), self.held)
+        put(self.path(INSTANCE), self.held)
         line, fault = judged(program, self.held, certificate, plan or None)
         told = (line or fault) + "\n"
         put(self.path("checked.txt"), sums + b"\n" + told.encode())
         return told
 
 
+class Unread(Step):
+    """The step of a file that is no instance: its row tells why, and nothing runs. Its text is put into its folder,
+    where --status finds it."""
+
+    def __init__(self, source, into, instance, column):
+        super().__init__(source, into, instance, column)
+        self.outcome = Outcome("no instance: %s" % source.fault)
+
+    def prepare(self):
+        outcome = self.outcome
+        if self.held is not None:
+            self.clear()
+            os.makedirs(self.folder, exist_ok=True)
+            put(self.path(INSTANCE), self.held)
+        self.outcome = outcome
+        return False
+
+    def is_of_this(self):
+        return True
+
+    def is_done(self):
+        return False
+
+
+# A file that should be an instance: its bytes, or None where they can't be read, how many customers it has, and why it
+# is none, or None.
+Source = namedtuple("Source", "path held count fault")
+
+
+def source_of(path):
+    """What stands in a file."""
+    try:
+        text = Text(path)
+        return Source(path, text.held, of_ours(text, read, "an instance").count, None)
+    except Refused as fault:
+        held = content(path) if os.path.isfile(path) and os.access(path, os.R_OK) else None
+        return Source(path, held, "", str(fault).removeprefix(path + ": "))
+
+
 def sources_of(paths):
-    """The files of instances, and what is noted of those of a folder that are none."""
-    found, notes = [], []
+    """The files of instances: those that are named, and those of folders that end in .txt."""
+    found = []
     for path in paths:
-        if not os.path.isdir(path):
-            found.append((path, Text(path)))
-            of_ours(found[-1][1], read, "an instance")
-            continue
-        for name in sorted(os.listdir(path)):
-            inner = os.path.join(path, name)
-            if not name.endswith(".txt") or not os.path.isfile(inner):
-                continue
-            text = Text(inner)
-            try:
-                of_ours(text, read, "an instance")
-                found.append((inner, text))
-            except Refused:
-                notes.append("%s is passed over: it holds no instance" % inner)
+        if os.path.isdir(path):
+            inner = [os.path.join(path, name) for name in sorted(os.listdir(path)) if name.endswith(".txt")]
+            found += [source_of(one) for one in inner if not os.path.isdir(one)]
+        else:
+            # A path without a file is a wrong word.
+            found.append(source_of(path) if os.path.lexists(path) else Text(path))
     if not found:
         raise Refused("%s: met no instance, wanted files that vrptw reads" % paths[0])
-    return found, notes
+    return found
 
 
 def steps_of(paths, into, columns):
-    """A step for each instance, named after its file, and each column, and notes."""
+    """A step for each instance, named after its file, and each column."""
     steps, taken = [], {}
-    found, notes = sources_of(paths)
-    for path, text in found:
-        name = re.sub(r"[^A-Za-z0-9_.-]", "_", os.path.splitext(os.path.basename(path))[0])
-        name = name if name[:1].isalnum() else "_" + name
+    for source in sources_of(paths):
+        name = name_of(os.path.splitext(os.path.basename(source.path))[0])
         if name in taken:
-            raise Refused("%s: met the name %s again, after %s, wanted each name once" % (path, name, taken[name]))
-        taken[name] = path
-        steps += [Step(path, text, into, name, column) for column in columns]
-    return steps, notes
+            raise Refused("%s: met the name %s again, after %s, wanted each name once" % (
+                source.path, name, taken[name]))
+        taken[name] = source.path
+        steps += [(Unread if source.fault else Step)(source, into, name, column) for column in columns]
+    return steps
+
+
+def standing_steps(into, columns):
+    """The steps that stand in a folder, by the instances as it has them."""
+    if not os.path.isdir(into):
+        raise Refused("%s: met no folder, wanted that of a batch" % into)
+    paths = {name.partition(BETWEEN)[0]: os.path.join(into, name, INSTANCE) for name in sorted(os.listdir(into))
+             if os.path.isfile(os.path.join(into, name, INSTANCE))}
+    if not paths:
+        raise Refused("%s: met no step, wanted the folder of a batch" % into)
+    sources = {name: source_of(path) for name, path in paths.items()}
+    return [(Unread if source.fault else Step)(source, into, name, column)
+            for name, source in sources.items() for column in columns]
 
 
 def lay_out(into, columns, program):

@@ -1,6 +1,7 @@
 """What runs the steps of a batch: this machine, GNU parallel on machines by ssh, or Slurm."""
 import hashlib
 import os
+import re
 import shlex
 import shutil
 import signal
@@ -10,7 +11,7 @@ import threading
 from queue import Empty, Queue
 
 from tools.batch_columns import MOST_JOBS, words
-from tools.batching import ANSWERS, LIST, SHARED, found_tool, put
+from tools.batching import ANSWERS, LIST, SHARED, content, found_tool, put
 from tools.slurm import Waiting, slurm
 from tools.tool import Refused, Text, count
 
@@ -22,8 +23,17 @@ TAKES_WORDS = "--slurm-options"
 PATIENCE = 20
 # ssh by one connection a machine, which stays open for some seconds behind its last use.
 ONE_CONNECTION = """#!/bin/sh
-exec %s -o ControlMaster=auto -o ControlPersist=15 -o ControlPath=%s/%%C "$@"
+exec %s -o ConnectTimeout=20 -o ControlMaster=auto -o ControlPersist=15 -o ControlPath=%s/%%C "$@"
 """
+# A machine as --sshloginfile has it, behind its groups and its number of processors; and what stands for several.
+LOGIN, SEVERAL = re.compile(r"(?:@[^/ ]*/)?(?:[0-9]+/)?(.*)\Z"), re.compile(r"[][,]|\.\.\Z|-\Z")
+# What a machine is asked before steps go there, and how many seconds that may take.
+ASKED = """[ "$(uname -sm)" = "Linux x86_64" ] || { echo "met $(uname -sm), wanted Linux x86_64"; exit 1; }
+command -v rsync >/dev/null || { echo "met no rsync, wanted it (Debian's package rsync)"; exit 1; }
+[ -w "$HOME" ] || { echo "met the home $HOME, wanted one that can be written"; exit 1; }"""
+ANSWERS_IN = 60
+# The machines that are used, and how the log tells of one that isn't.
+USED, NOT_USED = "machines", "isn't used: "
 
 
 def add_engine(found, what):
@@ -77,25 +87,48 @@ class Here:
             end_group(child, signal.SIGKILL)
 
 
-class Command:
-    """A program of others that runs the steps; what it says is kept in a file."""
+class Connections:
+    """A folder with an ssh of one connection a machine, which comes before that of the path."""
 
-    def __init__(self, into, words):
+    def __init__(self):
         self.folder = tempfile.mkdtemp(prefix="vrptw_ssh_")
         own, ssh = os.path.join(self.folder, "ssh"), shutil.which("ssh")
         if ssh:
             put(own, (ONE_CONNECTION % (shlex.quote(ssh), shlex.quote(self.folder))).encode())
             os.chmod(own, 0o700)
-        environment = {**os.environ, "PATH": self.folder + os.pathsep + os.environ.get("PATH", os.defpath)}
-        with open(os.path.join(into, LOG), "ab") as log:
+        self.environment = {**os.environ, "PATH": self.folder + os.pathsep + os.environ.get("PATH", os.defpath)}
+
+    def asked(self, login):
+        """Asks a machine whether steps can go there: the process, and the file of what it says."""
+        told = tempfile.TemporaryFile(dir=self.folder)
+        command = "%s %s" % (login if " " in login else "ssh " + login,
+                             shlex.quote("exec sh -c " + shlex.quote(ASKED)))
+        return subprocess.Popen(command, shell=True, stdin=subprocess.DEVNULL, stdout=told, stderr=told,
+                                start_new_session=True, env=self.environment), told
+
+    def end(self):
+        shutil.rmtree(self.folder, ignore_errors=True)
+
+
+class Command:
+    """A program of others that runs the steps; what it says is kept in a file, no line twice."""
+
+    def __init__(self, into, words, connections):
+        self.log, self.connections = os.path.join(into, LOG), connections
+        with open(self.log, "ab") as log:
             self.child = subprocess.Popen(words, cwd=into, stdin=subprocess.DEVNULL, stdout=log, stderr=log,
-                                          start_new_session=True, env=environment)
+                                          start_new_session=True, env=connections.environment)
 
     def is_running(self):
         if self.child.poll() is None:
             return True
-        shutil.rmtree(self.folder, ignore_errors=True)
+        self.end()
         return False
+
+    def end(self):
+        self.connections.end()
+        lines = content(self.log).split(b"\n")
+        put(self.log, b"".join(line + b"\n" for line in dict.fromkeys(lines) if line))
 
     def stop(self):
         end_group(self.child, signal.SIGTERM)
@@ -104,7 +137,7 @@ class Command:
         except subprocess.TimeoutExpired:
             end_group(self.child, signal.SIGKILL)
             self.child.wait()
-        shutil.rmtree(self.folder, ignore_errors=True)
+        self.end()
 
 
 def end_group(child, number):
@@ -116,10 +149,50 @@ def end_group(child, number):
 
 
 def machines(path):
-    """Refuses this machine without ssh, to which GNU parallel brings no files."""
-    for line, told in Text(path).filled():
+    """The lines of machines. Refuses this one without ssh, to which GNU parallel brings no files."""
+    found = list(Text(path).filled())
+    for line, told in found:
         if told.rpartition("/")[2] == ":":
             raise Refused("%s: line %d: met \"%s\", wanted a machine by ssh, as localhost" % (path, line, told))
+    return found
+
+
+def said_by(child, told):
+    """Why a machine that was asked isn't used, in a line; nothing where it is."""
+    try:
+        status = child.wait(ANSWERS_IN)
+    except subprocess.TimeoutExpired:
+        end_group(child, signal.SIGKILL)
+        status = child.wait()
+    told.seek(0)
+    said = " ".join(told.read().decode(errors="replace").split())
+    return (said or "no answer (status %d)" % status) if status else ""
+
+
+def usable(path, into, connections):
+    """Asks all machines at once, and puts those that can be used into the folder; answers how many they are. What
+    another one said stands in the log, in place of what one said before."""
+    asked = [(line, told, LOGIN.match(told)[1]) for line, told in machines(path)]
+    asked = [(line, told, login, None if SEVERAL.search(login) else connections.asked(login))
+             for line, told, login in asked]
+    used, log = [], [line for line in content(os.path.join(into, LOG)).split(b"\n") if line]
+    log = [line for line in log if NOT_USED.encode() not in line]
+    for line, told, login, process in asked:
+        said = said_by(*process) if process else ""
+        used += [] if said else [told]
+        log += [("machine %s (line %d) %s%s" % (login.split(" ")[-1], line, NOT_USED, said)).encode()] if said else []
+    put(os.path.join(into, LOG), b"".join(line + b"\n" for line in log))
+    put(os.path.join(into, USED), "".join(told + "\n" for told in used).encode())
+    if not used:
+        connections.end()
+        raise Refused("%s: met no machine that can be used: %s" % (path, "; ".join(not_used(into))))
+    return len(used)
+
+
+def not_used(into):
+    """What the log says of machines that aren't used."""
+    lines = content(os.path.join(into, LOG)).decode(errors="replace").split("\n")
+    return [line for line in lines if NOT_USED in line]
 
 
 def folder_there(into):
@@ -129,19 +202,21 @@ def folder_there(into):
 
 def parallel(into, names, given, shared):
     """GNU parallel: to each machine go the files that steps share and the instance, and back come the answers. What
-    was brought goes at the end."""
+    was brought goes at the end. A step that fails on a machine goes to another one."""
     found_tool("parallel", "parallel")
     found_tool("rsync", "rsync")
-    machines(given.sshloginfile)
+    connections = Connections()
+    count = usable(given.sshloginfile, into, connections)
     put(os.path.join(into, LIST), "".join(name + "\n" for name in names).encode())
-    words = ["parallel", "--will-cite", "--sshloginfile", os.path.abspath(given.sshloginfile), "--workdir",
-             folder_there(into)]
+    words = ["parallel", "--will-cite", "--retries", str(count), "--sshloginfile",
+             os.path.join(os.path.abspath(into), USED), "--workdir", folder_there(into)]
     for name in shared:
         words += ["--basefile", name]
     words += ["--transferfile", "{}/instance.txt", "--cleanup"]
     for name in ANSWERS:
         words += ["--return", "{}/" + name]
-    return Command(into, words + (["--jobs", str(given.jobs)] if given.jobs else []) + ["./step", "{}", "::::", LIST])
+    return Command(into, words + (["--jobs", str(given.jobs)] if given.jobs else []) + ["./step", "{}", "::::", LIST],
+                   connections)
 
 
 def started(into, names, given, shared=SHARED, is_kept=True):

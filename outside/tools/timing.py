@@ -7,6 +7,7 @@ from tools.dialects import dialect_of, spelled
 from tools.names import DEGREES
 from tools.tool import number
 from tools.units import units_of
+import vrptw
 
 # A stop is a customer, or the depot (0) at the end; times in tenths, slack until the due date at the begin of service.
 Stop = namedtuple("Stop", "stop arrival wait begin end load slack")
@@ -29,25 +30,12 @@ def add_depart(words):
 
 def walked(instance, route, leaves):
     """The stops of a route that leaves at a moment, and the return; the slack of a late one is below 0."""
-    at, time, load, found = 0, leaves, 0, []
-    for i in route + [0]:
-        arrival = time + instance.arc[at][i]
-        begin = max(arrival, instance.ready(i))
-        at, time, load = i, begin + instance.service(i), load + instance.demand(i)
-        found.append(Stop(i, arrival, begin - arrival, begin, time, load, instance.due(i) - begin))
-    return found
+    return [Stop(*stop) for stop in vrptw.walked(instance.arc, instance.rows, route, leaves)]
 
 
 def leaving(instance, route, depart=LATE):
-    """When a vehicle leaves: as late as it may without being back later than it has to be, and in time for each due
-    date (forward time slack; Savelsbergh 1992). What is late anyway comes no later. Or when the depot opens."""
-    opens, waited, rooms = instance.ready(0), 0, []
-    if depart == EARLY:
-        return opens
-    for stop in walked(instance, route, opens):
-        waited += stop.wait
-        rooms.append(waited + stop.slack)
-    return opens + max(0, min(waited, *rooms))
+    """When a vehicle leaves: as late as it may without being back later, or when the depot opens."""
+    return instance.ready(0) if depart == EARLY else vrptw.leaving(instance.arc, instance.rows, route)
 
 
 def stops(instance, route, depart=LATE):
