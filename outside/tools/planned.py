@@ -19,6 +19,8 @@ from tools.timing import percent, separated
 # Pages are thought to take so many times as long as those before; in the midst of the work they are written anew once
 # so many times as long as they take is over, and so many seconds.
 MEASURED, SELDOM, SELDOM_SECONDS = 1.5, 20, 10
+# So many seconds of processor time tell little of a machine.
+LEAST_TIME = 0.05
 
 
 class Line:
@@ -83,11 +85,13 @@ def put_pages(planner, has_sheets, report):
 
 
 class Clock:
-    """The seconds of a command, of which those are kept back that the pages take."""
+    """The seconds of a command, of which those are kept back that the pages take. Before the first pages that is guessed
+    by the number of customers, and by how much slower than alone the command came so far."""
 
     def __init__(self, began, seconds, customers):
         self.began, self.seconds = began, seconds
-        self.back = min(0.3 * seconds, 0.2 + customers / 150)
+        slower = max(1, (time.monotonic() - began) / max(time.process_time(), LEAST_TIME))
+        self.back = min(0.6 * seconds, slower * min(0.3 * seconds, 0.3 + customers / 130))
 
     def until(self):
         """When the pages are begun with."""
@@ -115,6 +119,11 @@ class Pages:
         is_late = time.monotonic() - self.written >= max(SELDOM * self.clock.back, SELDOM_SECONDS)
         if self.planner.cost is not None and is_late and (self.cost, self.bound) != (
                 self.planner.cost, self.planner.bound):
+            self.write()
+
+    def finish(self):
+        """Writes the pages, where they aren't those of what stands already."""
+        if (self.cost, self.bound) != (self.planner.cost, self.planner.bound) or not self.written:
             self.write()
 
     def write(self, serving=None):
