@@ -15,7 +15,7 @@ from reference.instances import read
 from tools.names import table_of
 from tools.units import Units
 
-CELL = re.compile(r"<td>([^<]*)</td>")
+CELL = re.compile(r"<td[^>]*>([^<]*)</td>")
 # A route of the picture begins with the drive to its first stop.
 DRIVE = re.compile(r"Driving to customer ([0-9]+): (.*?) to (.*?)</title>")
 SHEET = re.compile(r"Leaves at (.*?), back at (.*?): (.*?) of driving, (.*?) of service, (.*?) of waiting\.")
