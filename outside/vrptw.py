@@ -255,11 +255,13 @@ except (AttributeError, OSError):
 _PR_SET_PDEATHSIG = 1
 
 
-def end_with_parent() -> None:
+def end_with_parent(parent: Optional[int] = None) -> None:
     """In a process that was just started: it ends when its parent does, where the system has that, and by no signal
-    of a terminal before."""
+    of a terminal before. Where the parent's number is given, at once if it has ended already."""
     if _PRCTL is not None:
         _PRCTL(_PR_SET_PDEATHSIG, int(signal.SIGKILL))
+    if parent not in (None, os.getppid()):
+        os._exit(1)
     signal.signal(signal.SIGINT, signal.SIG_IGN)
     for number in (signal.SIGTERM, signal.SIGHUP):
         signal.signal(number, signal.SIG_DFL)
@@ -326,7 +328,7 @@ class Run:
         self.began = time.monotonic()
         env = None if variables is None else {**os.environ, **variables}
         try:
-            self.process = self.started(words, env, memory, end_with_parent)
+            self.process = self.started(words, env, memory, functools.partial(end_with_parent, os.getpid()))
         except RuntimeError:
             self.process = self.started(words, env, memory, None)
         except OSError as fault:

@@ -38,7 +38,7 @@ class Table:
     def __init__(self, random, path):
         self.random, self.path = random, path
         self.rows, self.capacity = rows_of(random, random.choice([5, 12, 30, 60]))
-        self.names = ["depot"] + ["c%d" % i for i in range(1, len(self.rows))]
+        self.names, self.come = ["depot"] + ["c%d" % i for i in range(1, len(self.rows))], 0
         self.save()
 
     def save(self):
@@ -51,7 +51,8 @@ class Table:
             del self.rows[at], self.names[at]
         else:
             self.rows.append(self.rows[at])
-            self.names.append("new%d" % len(self.names))
+            self.come += 1
+            self.names.append("new%d" % self.come)
         self.save()
 
 

@@ -1,6 +1,7 @@
 """Signals that ask to stop. A command imports this first of all, so it takes in nothing that takes time."""
 import _signal
 import time
+from posix import _exit
 
 STOPPING = (_signal.SIGINT, _signal.SIGTERM, _signal.SIGHUP)
 # Signals that come within so many seconds are one: `timeout` sends two.
@@ -12,10 +13,15 @@ def leave(number, frame):
     raise SystemExit(128 + number)
 
 
-def end_by_signals():
+def leave_at_once(number, frame):
+    """Ends the process while it has started nothing: what is read in then may say much of an exception."""
+    _exit(128 + number)
+
+
+def end_by_signals(ending=leave):
     """From now on a signal to stop ends what was started here too, quietly; also one that waited until now."""
     for number in STOPPING:
-        _signal.signal(number, leave)
+        _signal.signal(number, ending)
     _signal.pthread_sigmask(_signal.SIG_UNBLOCK, STOPPING)
 
 
@@ -25,7 +31,7 @@ class Signals:
 
     def __init__(self):
         self.came, self.came_again, self.first, self.ends_again = False, False, None, False
-        end_by_signals()
+        end_by_signals(leave_at_once)
 
     def work(self, ends_again=False):
         """The work begins."""
