@@ -400,8 +400,6 @@ SETS = 200
 NEIGHBOURS, LONG_DAY = (8, 12), 20
 # Of so many customers at most the ways to the nearest are measured.
 _MEASURED = 200
-# A round goes on from a tree that one of so many turns made.
-LATE = 64
 
 
 class Schedule:
@@ -753,10 +751,10 @@ def neighbours_for(instance: bytes) -> tuple[int, ...]:
     return NEIGHBOURS[::-1] if has_long_days(instance) else NEIGHBOURS
 
 
-def serves(certificate: bytes, turns: int, instance: bytes) -> bool:
-    """Whether the next round goes on from what one of so many turns proved. Where days aren't long a run of few turns
-    parts its tree too soon, and a root is raised sooner from nothing than from its prices without the routes met."""
-    return has_long_days(instance) or turns >= LATE and b"\nTREE\nS " in certificate
+def serves(certificate: bytes, instance: bytes) -> bool:
+    """Whether the next round goes on from a tree: one that was split, since where days aren't long a root is raised
+    sooner from nothing than from its prices without the routes met."""
+    return b"\nTREE\nS " in certificate or has_long_days(instance)
 
 
 def neighbours_of(certificate: bytes) -> Optional[int]:
@@ -941,7 +939,7 @@ class Solving:
             if came is None:
                 return
             self.take(came)
-            if serves(came.certificate, chosen[0], self.instance):
+            if serves(came.certificate, self.instance):
                 self.trees[chosen[1]] = came.certificate
             rounds.note(*chosen, time.monotonic() - began, came.bound_tenths or 0)
 

@@ -76,7 +76,7 @@ def fitted_out(folder, rows):
 
 def judge_words(folder, rows, options, first=8, other=12):
     """Each call has the options, and begins with a plan once there is one, and with the tree of the last round with so
-    many neighbours that had 64 turns or more, or any where days are long; turns grow, neighbours change."""
+    many neighbours; turns grow, neighbours change."""
     calls = got(os.path.join(folder, "words")).decode().splitlines()
     has_plan = False
     for number, call in enumerate(calls):
@@ -89,7 +89,7 @@ def judge_words(folder, rows, options, first=8, other=12):
     turns = [int(call.split("--turns ")[1].split()[0]) for call in calls]
     rounds = [(int(call.split(" of ")[1]), made) for call, made in zip(calls, turns)]
     for number, call in enumerate(calls):
-        is_on = any(of == rounds[number][0] and (made >= 64 or first > other) for of, made in rounds[:number])
+        is_on = any(of == rounds[number][0] for of, _ in rounds[:number])
         demand((" --tree " in call, " --neighbours " in call) == (is_on, not is_on), "a tree in round %d: %r" % (
             number, calls))
     demand(counts == [first, first, other, first, other][:len(counts)], "neighbours: %r" % counts)

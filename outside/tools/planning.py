@@ -237,7 +237,7 @@ class Planner:
             return None, "the check says %s" % fault if fault else None
         text = held(proof)
         self.take(cost, bound)
-        self.keep_tree(neighbours, text, turns)
+        self.keep_tree(neighbours, text)
         return bound, None
 
     def tree_of(self, neighbours):
@@ -255,11 +255,11 @@ class Planner:
         self.left_out.add(neighbours)
         return True
 
-    def keep_tree(self, neighbours, text, turns):
-        """Keeps the certificate of a round of so many turns for the next one with so many neighbours, if it serves."""
+    def keep_tree(self, neighbours, text):
+        """Keeps the certificate of a round for the next one with so many neighbours, if it serves."""
         if not self.is_in_place:
             return
-        if serves(text, turns, self.texts[INSTANCE]):
+        if serves(text, self.texts[INSTANCE]):
             self.folder.put(TREES[neighbours], text)
             self.left_out.discard(neighbours)
         else:

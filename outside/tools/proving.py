@@ -105,7 +105,7 @@ class Prover(Planner):
         """Without the tree nothing is gone on from."""
         return False
 
-    def keep_tree(self, neighbours, text, turns):
+    def keep_tree(self, neighbours, text):
         """The tree that stands is the only one."""
 
     def prove(self):
