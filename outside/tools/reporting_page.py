@@ -65,6 +65,7 @@ tr.route:focus { outline: 2px solid #0072b2; }
   @page { margin: 13mm; }
   body { max-width: none; padding: 0; font-size: 10pt; }
   h2 { margin-top: 1.2rem; break-after: avoid; }
+  .zoom, .push { display: none; }
   #in-figures, #vehicles { display: block; margin: 0; }
   .picture, tr, pre, .note, tbody.route, #how-to-check { break-inside: avoid; }
   .route { opacity: 1 !important; }
