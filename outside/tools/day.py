@@ -52,12 +52,12 @@ def passed_over(place, names):
     return [name for name in names if name.startswith(".") or is_bare(os.path.join(place, name))]
 
 
-def copy(source, target):
+def copy(source, target, by=copied):
     """Copies the texts of a day, without what is at work in it."""
     if os.path.isdir(source):
-        shutil.copytree(source, target, copy_function=copied, ignore=passed_over, dirs_exist_ok=True)
+        shutil.copytree(source, target, copy_function=by, ignore=passed_over, dirs_exist_ok=True)
     else:
-        copied(source, target)
+        by(source, target)
 
 
 def removed(path):
@@ -149,9 +149,11 @@ class Day(Folder):
         kept = [day for day in days if os.path.dirname(day) == self.top]
         self.origin = next(filter(self.is_same, days), None) or max(kept, key=known, default=None)
         is_same = self.origin is not None and self.is_same(self.origin)
-        for name in os.listdir(self.origin) if self.origin else ():
+        # By which a day is known comes last: one whose copy was killed is none. Who writes into a text of one day by
+        # hand doesn't write into the other.
+        for name in sorted(os.listdir(self.origin), key=texts.__contains__) if self.origin else ():
             if is_same and not name.startswith(".") or name in TEXTS:
-                copy(os.path.join(self.origin, name), self.at(name))
+                copy(os.path.join(self.origin, name), self.at(name), shutil.copy2)
         for path in self.killed():
             if path != self.work:
                 shutil.rmtree(path, ignore_errors=True)
