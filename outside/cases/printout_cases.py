@@ -42,10 +42,10 @@ class Plan:
 def arrows(plan):
     """`Route 1: 0 -> 1 -> 0`, with or without what stands before the colon."""
     form = plan.random.choice(["Route %d: %s", "Route #%d : %s", "vehicle %d: %s", "Tour %d: %s", "%s"])
-    gap = plan.random.choice([" -> ", "->", " \u2192 "])
+    between = plan.random.choice([" -> ", "->", " \u2192 "])
 
     def formed(number):
-        return lambda words: form % (number, gap.join(words)) if "%d" in form else gap.join(words)
+        return lambda words: form % (number, between.join(words)) if "%d" in form else between.join(words)
     lines = [Stops(plan.closed(route), formed(number), str) for number, route in enumerate(plan.routes, 1)]
     return lines + plan.told("Cost: %s")
 
@@ -68,11 +68,11 @@ def or_tools(plan):
 
 def bare(plan):
     """A route a line, of numbers alone."""
-    gap, ends = plan.random.choice([" ", ", ", ","]), plan.random.randrange(2)
+    between, ends = plan.random.choice([" ", ", ", ","]), plan.random.randrange(2)
 
     def words(route):
         return plan.closed(route)[0 if ends else 1:None if ends else -1]
-    return [Stops(words(route), gap.join, str) for route in plan.routes] + plan.told("Cost %s")
+    return [Stops(words(route), between.join, str) for route in plan.routes] + plan.told("Cost %s")
 
 
 def spelled_in(random):

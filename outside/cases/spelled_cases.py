@@ -57,8 +57,8 @@ def spelled(random, count, routes, word, from_zero):
     kind = random.choice(["named", "named", "lists", "list each", "one line"])
     if kind == "named":
         form = random.choice(["Route #%d: %s", "Route %d : %s", "route %d: %s", "Route #%d : %s", "  Route #%d:\t%s"])
-        gap = random.choice([" ", "  ", ",", ", ", "\t"])
-        lines = [Line("route", form % (place, gap.join(str(stop) for stop in route)))
+        between = random.choice([" ", "  ", ",", ", ", "\t"])
+        lines = [Line("route", form % (place, between.join(str(stop) for stop in route)))
                  for place, route in enumerate(stops, 1)]
     elif kind == "one line":
         lines = [Line("route", str(stops))]
@@ -90,10 +90,10 @@ def wrong_stop(random, lines, count):
 def put_in(random, line, word):
     """Puts a word between the stops of a route, where its spelling has them."""
     at = max(line.text.rfind(":"), line.text.rfind("[")) + 1
-    gap = ", " if "[" in line.text else " "
+    between = ", " if "[" in line.text else " "
     rest = line.text[at:].lstrip()
     empty = not rest or rest[0] == "]"
-    line.text = line.text[:at] + " " + word + ("" if empty else gap) + rest
+    line.text = line.text[:at] + " " + word + ("" if empty else between) + rest
 
 
 def twice(random, lines, count):

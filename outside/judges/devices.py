@@ -37,27 +37,27 @@ def path_in(folder, name):
     return name if name.startswith("/") or not name else os.path.join(folder, name)
 
 
-def solve_words(program, folder, instance="instance", solution="plan", certificate="bound"):
+def solve_call(program, folder, instance="instance", solution="plan", certificate="bound"):
     return [program, "solve"] + [path_in(folder, name) for name in (instance, solution, certificate)]
 
 
-def close_words(program, folder, **names):
-    return solve_words(program, folder, **names) + ["--close"]
+def close_call(program, folder, **names):
+    return solve_call(program, folder, **names) + ["--close"]
 
 
-def check_words(program, folder, instance="instance", certificate="certificate", solution="solution"):
+def check_call(program, folder, instance="instance", certificate="certificate", solution="solution"):
     return [program, "check"] + [path_in(folder, instance), path_in(folder, certificate), "--solution",
                                  path_in(folder, solution)]
 
 
-def limited(words, kilobytes):
-    """The words of a run with so much memory."""
-    return ["/bin/sh", "-c", 'ulimit -v %d; exec "$@"' % kilobytes, "sh"] + words
+def limited(call, kilobytes):
+    """The call with so much memory."""
+    return ["/bin/sh", "-c", 'ulimit -v %d; exec "$@"' % kilobytes, "sh"] + call
 
 
-def expect(program, folder, words, wanted, plan=None, bound=None, streams=()):
-    """The lines and the status of the words, and then what both outputs of `solve` hold; None where there is none."""
-    came = tuple(run(words, None, streams, LONGEST))
+def expect(program, folder, call, wanted, plan=None, bound=None, streams=()):
+    """The lines and the status of the call, and then what both outputs of `solve` hold; None where there is none."""
+    came = tuple(run(call, None, streams, LONGEST))
     demand(came == wanted, "%r, and %r is right" % (came, wanted))
     left = (got(path_in(folder, "plan")), got(path_in(folder, "bound")))
     demand(left == (plan, bound), "files %r, and %r is right" % (left, (plan, bound)))
@@ -69,11 +69,11 @@ def front(name, size, program, folder):
     texts = [got(path_in(folder, each)) for each in ("instance", "certificate", "solution")]
     out, errors, status = checking.check(*texts, bounding.least_by_routes)
     demand(name == "instance" or errors == "vrptw: %s: Truncated\n" % name, "%d bytes: %s" % (size, errors))
-    expect(program, folder, check_words(program, folder), (out.encode(), errors.encode(), status))
+    expect(program, folder, check_call(program, folder), (out.encode(), errors.encode(), status))
     if name == "instance":
         is_whole = status == 0
         wanted = BEST if is_whole else (out.encode(), errors.encode(), status)
-        expect(program, folder, solve_words(program, folder), wanted, SOLUTION if is_whole else b"",
+        expect(program, folder, solve_call(program, folder), wanted, SOLUTION if is_whole else b"",
                CERTIFICATE if is_whole else b"")
 
 
@@ -97,12 +97,12 @@ def made(folder, name):
     os.mkdir(path_in(folder, name))
 
 
-def plain(words_of, wanted, plan=None, bound=None, streams=(), folder_named=None, **names):
-    """A case of `solve_words` or `check_words` with these names in place of the usual ones."""
+def plain(call_of, wanted, plan=None, bound=None, streams=(), folder_named=None, **names):
+    """A case of `solve_call` or `check_call` with these names in place of the usual ones."""
     def case(program, folder):
         if folder_named:
             made(folder, folder_named)
-        expect(program, folder, words_of(program, folder, **names), wanted, plan, bound, streams)
+        expect(program, folder, call_of(program, folder, **names), wanted, plan, bound, streams)
     return case
 
 
@@ -110,7 +110,7 @@ def refused_instance(streams, wanted):
     """A line on standard error that can't be written: the status stays, and no file gets the line."""
     def case(program, folder):
         put(path_in(folder, "instance"), INSTANCE[:-4])
-        expect(program, folder, solve_words(program, folder), wanted, b"", b"", streams)
+        expect(program, folder, solve_call(program, folder), wanted, b"", b"", streams)
     return case
 
 
@@ -118,19 +118,19 @@ def untold(stream):
     """Lines of `--progress` that can't be written: the answer stands."""
     def case(program, folder):
         shutil.copy(OPEN, path_in(folder, "instance"))
-        words = solve_words(program, folder) + ["--progress", "--turns", "3"]
-        out, errors, status = run(words, None, [stream], LONGEST)
-        told = tuple(run(check_words(program, folder, certificate="bound", solution="plan"), None, (), LONGEST))
+        call = solve_call(program, folder) + ["--progress", "--turns", "3"]
+        out, errors, status = run(call, None, [stream], LONGEST)
+        told = tuple(run(check_call(program, folder, certificate="bound", solution="plan"), None, (), LONGEST))
         demand((out, errors, status) == told and status in (0, 1), "%r, and the check: %r" % (out, told))
     return case
 
 
-def spoilt_first(words_of, plan, bound):
+def spoilt_first(call_of, plan, bound):
     """The instance begins with a byte that isn't ASCII."""
     def case(program, folder):
         put(path_in(folder, "instance"), b"\x80" + INSTANCE[1:])
         refused = (b"", b"vrptw: instance: NotAscii offset 0\n", 3)
-        expect(program, folder, words_of(program, folder), refused, plan, bound)
+        expect(program, folder, call_of(program, folder), refused, plan, bound)
     return case
 
 
@@ -140,19 +140,19 @@ def same_paths(first, second, third):
         names = {os.path.normpath(name) for name in (first, second, third)}
         for name in names - {"instance"}:
             put(path_in(folder, name), OLD)
-        came = tuple(run(solve_words(program, folder, first, second, third), None, (), LONGEST))
+        came = tuple(run(solve_call(program, folder, first, second, third), None, (), LONGEST))
         demand(came == FAILED, "%r" % (came,))
         for name in names:
             demand(got(path_in(folder, name)) == TEXTS.get(name, OLD), "the file %s was changed" % name)
     return case
 
 
-def pipe_closed_early(program, folder, words_of, wanted):
+def pipe_closed_early(program, folder, call_of, wanted):
     """Standard output is a pipe that nobody reads."""
     reading, writing = os.pipe()
     os.close(reading)
     try:
-        expect(program, folder, words_of(program, folder), FAILED, *wanted,
+        expect(program, folder, call_of(program, folder), FAILED, *wanted,
                streams=[(os.POSIX_SPAWN_DUP2, writing, 1)])
     finally:
         os.close(writing)
@@ -165,7 +165,7 @@ def reader_that_leaves(name, plan, bound):
         os.mkfifo(path)
         reader = threading.Thread(target=lambda: os.close(os.open(path, os.O_RDONLY)), daemon=True)
         reader.start()
-        came = tuple(run(solve_words(program, folder), None, (), LONGEST))
+        came = tuple(run(solve_call(program, folder), None, (), LONGEST))
         reader.join(LONGEST)
         os.remove(path)
         demand(came == FAILED, "%r" % (came,))
@@ -188,7 +188,7 @@ def from_a_pipe(name):
 
         writer = threading.Thread(target=write, daemon=True)
         writer.start()
-        expect(program, folder, check_words(program, folder), BEST)
+        expect(program, folder, check_call(program, folder), BEST)
         writer.join(LONGEST)
     return case
 
@@ -206,30 +206,30 @@ def into_a_pipe(name, text):
 
         reader = threading.Thread(target=read_all, daemon=True)
         reader.start()
-        came = tuple(run(solve_words(program, folder), None, (), LONGEST))
+        came = tuple(run(solve_call(program, folder), None, (), LONGEST))
         reader.join(LONGEST)
         demand((came, b"".join(pieces)) == (BEST, text), "%r, %r" % (came, pieces))
     return case
 
 
-def bound_by_permissions(words):
-    """The words of a run that files' permissions bind, the superuser's too, or None where that can't be had."""
+def bound_by_permissions(call):
+    """The call as one that files' permissions bind, the superuser's too, or None where that can't be had."""
     if os.geteuid() != 0:
-        return words
+        return call
     dropper = shutil.which("setpriv")
-    return dropper and [dropper, "--bounding-set=-dac_override,-dac_read_search"] + words
+    return dropper and [dropper, "--bounding-set=-dac_override,-dac_read_search"] + call
 
 
-def without_permission(words_of, name, mode, plan=None, bound=None):
+def without_permission(call_of, name, mode, plan=None, bound=None):
     """A file that may not be read, or an output that may not be written and stays as it was."""
     def case(program, folder):
-        words = bound_by_permissions(words_of(program, folder))
-        if words is None:
+        call = bound_by_permissions(call_of(program, folder))
+        if call is None:
             return "left out, the superuser may do all"
         if name not in TEXTS:
             put(path_in(folder, name), OLD)
         os.chmod(path_in(folder, name), mode)
-        expect(program, folder, words, FAILED, plan, bound)
+        expect(program, folder, call, FAILED, plan, bound)
         return None
     return case
 
@@ -239,15 +239,15 @@ def blanks(kilobytes, wanted):
     def case(program, folder):
         at = INSTANCE.rindex(b"1 3 4")
         put(path_in(folder, "instance"), INSTANCE[:at] + b" " * BLANKS + INSTANCE[at:])
-        words = check_words(program, folder)
-        expect(program, folder, limited(words, kilobytes) if kilobytes else words, wanted)
+        call = check_call(program, folder)
+        expect(program, folder, limited(call, kilobytes) if kilobytes else call, wanted)
     return case
 
 
 def endless(program, folder):
     """A device without an end is read until memory is refused, and no output is made."""
-    words = solve_words(program, folder, instance="/dev/zero")
-    expect(program, folder, limited(words, 100_000), MEMORY)
+    call = solve_call(program, folder, instance="/dev/zero")
+    expect(program, folder, limited(call, 100_000), MEMORY)
 
 
 def wrong_word(word):
@@ -277,43 +277,43 @@ def fronts():
 DEEP = "nowhere/file"
 LONG = "x" * 300
 STREAMS = [
-    ("nothing fails", plain(solve_words, BEST, SOLUTION, CERTIFICATE)),
-    ("nothing fails, close", plain(close_words, BEST, SOLUTION, CERTIFICATE)),
-    ("standard input closed", plain(solve_words, BEST, SOLUTION, CERTIFICATE, [CLOSED_IN])),
-    ("standard output closed, solve", plain(solve_words, FAILED, SOLUTION, CERTIFICATE, [CLOSED_OUT])),
-    ("standard output closed, check", plain(check_words, FAILED, streams=[CLOSED_OUT])),
+    ("nothing fails", plain(solve_call, BEST, SOLUTION, CERTIFICATE)),
+    ("nothing fails, close", plain(close_call, BEST, SOLUTION, CERTIFICATE)),
+    ("standard input closed", plain(solve_call, BEST, SOLUTION, CERTIFICATE, [CLOSED_IN])),
+    ("standard output closed, solve", plain(solve_call, FAILED, SOLUTION, CERTIFICATE, [CLOSED_OUT])),
+    ("standard output closed, check", plain(check_call, FAILED, streams=[CLOSED_OUT])),
     ("standard input and output closed, solve",
-     plain(solve_words, FAILED, SOLUTION, CERTIFICATE, [CLOSED_IN, CLOSED_OUT])),
-    ("standard output full, solve", plain(solve_words, FAILED, SOLUTION, CERTIFICATE, [FULL_OUT])),
-    ("standard output full, close", plain(close_words, FAILED, SOLUTION, CERTIFICATE, [FULL_OUT])),
-    ("standard output full, check", plain(check_words, FAILED, streams=[FULL_OUT])),
+     plain(solve_call, FAILED, SOLUTION, CERTIFICATE, [CLOSED_IN, CLOSED_OUT])),
+    ("standard output full, solve", plain(solve_call, FAILED, SOLUTION, CERTIFICATE, [FULL_OUT])),
+    ("standard output full, close", plain(close_call, FAILED, SOLUTION, CERTIFICATE, [FULL_OUT])),
+    ("standard output full, check", plain(check_call, FAILED, streams=[FULL_OUT])),
     ("standard output full, help", help_failed(FULL_OUT)),
     ("standard output closed, help", help_failed(CLOSED_OUT)),
-    ("standard error closed", plain(solve_words, BEST, SOLUTION, CERTIFICATE, [CLOSED_ERRORS])),
+    ("standard error closed", plain(solve_call, BEST, SOLUTION, CERTIFICATE, [CLOSED_ERRORS])),
     ("standard error closed, a refusal", refused_instance([CLOSED_ERRORS], (b"", b"", 3))),
     ("standard error full, a refusal", refused_instance([FULL_ERRORS], (b"", b"", 3))),
     ("standard error closed, progress", untold(CLOSED_ERRORS)),
     ("standard error full, progress", untold(FULL_ERRORS)),
-    ("both full", plain(solve_words, (b"", b"", 6), SOLUTION, CERTIFICATE, [FULL_OUT, FULL_ERRORS])),
+    ("both full", plain(solve_call, (b"", b"", 6), SOLUTION, CERTIFICATE, [FULL_OUT, FULL_ERRORS])),
     ("standard output a pipe that nobody reads, solve",
-     lambda program, folder: pipe_closed_early(program, folder, solve_words, (SOLUTION, CERTIFICATE))),
+     lambda program, folder: pipe_closed_early(program, folder, solve_call, (SOLUTION, CERTIFICATE))),
     ("standard output a pipe that nobody reads, check",
-     lambda program, folder: pipe_closed_early(program, folder, check_words, (None, None))),
+     lambda program, folder: pipe_closed_early(program, folder, check_call, (None, None))),
 ]
 OUTPUTS = [
-    ("the solution on a full device", plain(solve_words, FAILED, None, b"", solution="/dev/full")),
-    ("the certificate on a full device", plain(solve_words, FAILED, SOLUTION, certificate="/dev/full")),
-    ("the solution on a full device, close", plain(close_words, FAILED, None, b"", solution="/dev/full")),
-    ("the certificate on a full device, close", plain(close_words, FAILED, SOLUTION, certificate="/dev/full")),
-    ("the solution on a device that takes all", plain(solve_words, BEST, None, CERTIFICATE, solution="/dev/null")),
-    ("a folder in place of the solution", plain(solve_words, FAILED, folder_named="d", solution="d")),
-    ("a folder in place of the certificate", plain(solve_words, FAILED, b"", folder_named="d", certificate="d")),
-    ("the solution in no folder", plain(solve_words, FAILED, solution=DEEP)),
-    ("the certificate in no folder", plain(solve_words, FAILED, b"", certificate=DEEP)),
-    ("the solution without permission", without_permission(solve_words, "plan", 0o400, OLD)),
-    ("the certificate without permission", without_permission(solve_words, "bound", 0o400, b"", OLD)),
-    ("the solution with a long name", plain(solve_words, FAILED, solution=LONG)),
-    ("the solution without a name", plain(solve_words, FAILED, solution="")),
+    ("the solution on a full device", plain(solve_call, FAILED, None, b"", solution="/dev/full")),
+    ("the certificate on a full device", plain(solve_call, FAILED, SOLUTION, certificate="/dev/full")),
+    ("the solution on a full device, close", plain(close_call, FAILED, None, b"", solution="/dev/full")),
+    ("the certificate on a full device, close", plain(close_call, FAILED, SOLUTION, certificate="/dev/full")),
+    ("the solution on a device that takes all", plain(solve_call, BEST, None, CERTIFICATE, solution="/dev/null")),
+    ("a folder in place of the solution", plain(solve_call, FAILED, folder_named="d", solution="d")),
+    ("a folder in place of the certificate", plain(solve_call, FAILED, b"", folder_named="d", certificate="d")),
+    ("the solution in no folder", plain(solve_call, FAILED, solution=DEEP)),
+    ("the certificate in no folder", plain(solve_call, FAILED, b"", certificate=DEEP)),
+    ("the solution without permission", without_permission(solve_call, "plan", 0o400, OLD)),
+    ("the certificate without permission", without_permission(solve_call, "bound", 0o400, b"", OLD)),
+    ("the solution with a long name", plain(solve_call, FAILED, solution=LONG)),
+    ("the solution without a name", plain(solve_call, FAILED, solution="")),
     ("the solution's reader leaves", reader_that_leaves("plan", None, b"")),
     ("the certificate's reader leaves", reader_that_leaves("bound", SOLUTION, None)),
     ("the solution into a pipe", into_a_pipe("plan", SOLUTION)),
@@ -325,24 +325,24 @@ OUTPUTS = [
     ("same paths, dots and empty parts", same_paths("././/instance", "plan", ".//./instance")),
     ("same paths, an empty part", same_paths("instance", "./plan", ".//plan")),
     ("same paths, solution and certificate that aren't there, no instance", plain(
-        solve_words, FAILED, instance="none", solution="plan", certificate="plan")),
+        solve_call, FAILED, instance="none", solution="plan", certificate="plan")),
 ]
 INPUTS = [
-    ("no instance, solve", plain(solve_words, FAILED, instance="none")),
-    ("no instance, close", plain(close_words, FAILED, instance="none")),
-    ("a folder in place of the instance, solve", plain(solve_words, FAILED, folder_named="d", instance="d")),
-    ("a byte that isn't ASCII in front, solve", spoilt_first(solve_words, b"", b"")),
-    ("a byte that isn't ASCII in front, check", spoilt_first(check_words, None, None)),
-    ("an empty instance", plain(solve_words, (b"", b"vrptw: instance: Truncated\n", 3), b"", b"",
+    ("no instance, solve", plain(solve_call, FAILED, instance="none")),
+    ("no instance, close", plain(close_call, FAILED, instance="none")),
+    ("a folder in place of the instance, solve", plain(solve_call, FAILED, folder_named="d", instance="d")),
+    ("a byte that isn't ASCII in front, solve", spoilt_first(solve_call, b"", b"")),
+    ("a byte that isn't ASCII in front, check", spoilt_first(check_call, None, None)),
+    ("an empty instance", plain(solve_call, (b"", b"vrptw: instance: Truncated\n", 3), b"", b"",
                                 instance="/dev/null")),
     ("an instance without an end", endless),
     ("200 MB of blanks", blanks(0, BEST)),
     ("200 MB of blanks, 100 MB of memory", blanks(100_000, MEMORY)),
-] + [("no %s, check" % name, plain(check_words, FAILED, **{name: "none"})) for name in TEXTS
-     ] + [("a folder in place of the %s, check" % name, plain(check_words, FAILED, folder_named="d", **{name: "d"}))
+] + [("no %s, check" % name, plain(check_call, FAILED, **{name: "none"})) for name in TEXTS
+     ] + [("a folder in place of the %s, check" % name, plain(check_call, FAILED, folder_named="d", **{name: "d"}))
           for name in TEXTS
           ] + [("the %s from a pipe" % name, from_a_pipe(name)) for name in TEXTS
-               ] + [("the %s without permission, check" % name, without_permission(check_words, name, 0))
+               ] + [("the %s without permission, check" % name, without_permission(check_call, name, 0))
                     for name in TEXTS]
 WORDS = [("wrong words", wrong_word(word)) for word in (
     [], [""], ["solve"], ["check", "a"], ["solve", "a", "b"], ["solve", "a", "b", "c", "d"], ["solve", "--turns"],

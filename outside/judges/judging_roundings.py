@@ -104,11 +104,11 @@ def demand_numbers(drawn, instance, errors):
             demand(row[axis] == nearest(there), "a place at %s, and %s is right" % (row[axis], there))
             off.append(abs(row[axis] - there))
         ready, due, service = (right[field] * scale for field in (READY, DUE, SERVICE))
-        for gap in (row[READY] // 10 - ready, due - row[DUE] // 10, row[SERVICE] // 10 - service):
-            demand(0 <= gap < 1, "%r of %r times %d" % (row, right, scale))
-            off.append(gap)
+        for loss in (row[READY] // 10 - ready, due - row[DUE] // 10, row[SERVICE] // 10 - service):
+            demand(0 <= loss < 1, "%r of %r times %d" % (row, right, scale))
+            off.append(loss)
     told = re.search(r"([0-9]+) numbers are rounded, by at most ([0-9.]+) ", errors)
-    count = sum(gap > 0 for gap in off)
+    count = sum(loss > 0 for loss in off)
     demand(bool(told) == (count > 0), "%d numbers are off: %r" % (count, errors))
     if told:
         most = max(off) / scale

@@ -15,9 +15,9 @@ class Disagreement(Exception):
     """The program and the reference don't agree."""
 
 
-def demand(holds, words):
+def demand(holds, told):
     if not holds:
-        raise Disagreement(words)
+        raise Disagreement(told)
 
 
 def catcher(name):
@@ -27,14 +27,14 @@ def catcher(name):
     return stream
 
 
-def run(words, variables=None, streams=(), longest=LONGEST):
+def run(command, variables=None, streams=(), longest=LONGEST):
     """Standard output, standard error and the status, a signal's number below 0. The streams are further actions of
     the start, after standard input is empty and both outputs are caught."""
     caught = [catcher("out"), catcher("errors")]
     try:
         actions = [(os.POSIX_SPAWN_OPEN, 0, "/dev/null", os.O_RDONLY, 0), (os.POSIX_SPAWN_DUP2, caught[0], 1),
                    (os.POSIX_SPAWN_DUP2, caught[1], 2)] + list(streams)
-        child = os.posix_spawn(words[0], words, {**os.environ, **(variables or {})}, file_actions=actions)
+        child = os.posix_spawn(command[0], command, {**os.environ, **(variables or {})}, file_actions=actions)
         status = ended(child, longest)
         return [os.pread(stream, os.fstat(stream).st_size, 0) for stream in caught] + [status]
     finally:
@@ -76,10 +76,10 @@ def shown(line):
     return line.decode(errors="backslashreplace")
 
 
-def ran(words, variables=None):
+def ran(command, variables=None):
     """The program's lines and its status, by the module for Python; variables are added to those of this process."""
     ends = time.monotonic() + LONGEST
-    came = Run(words, variables).ended(lambda: time.monotonic() >= ends)
+    came = Run(command, variables).ended(lambda: time.monotonic() >= ends)
     demand(came.status is not None, "the program didn't end in %d s" % LONGEST)
     return shown(came.out), shown(came.errors), came.status
 
@@ -95,10 +95,10 @@ def solve(program, folder, text, options=(), variables=None):
 
 
 def run_check(program, folder, text, certificate, solution, further=(), variables=None):
-    """The program's lines and its status, with further words."""
+    """The program's lines and its status, with further options."""
     paths = [os.path.join(folder, name) for name in ("instance", "certificate", "solution")]
     for path, given in zip(paths, (text, certificate, solution)):
         if given is not None:
             put(path, given)
-    words = [program, "check", paths[0], paths[1]] + ([] if solution is None else ["--solution", paths[2]])
-    return ran(words + list(further), variables)
+    command = [program, "check", paths[0], paths[1]] + ([] if solution is None else ["--solution", paths[2]])
+    return ran(command + list(further), variables)

@@ -53,30 +53,30 @@ def judge_solve(program, folder, random, count, most_turns, is_small):
     """An instance and options. Answers the line's first word."""
     text = laid_out(random, instance_words(random, count))
     drawn = drawn_options(random, most_turns)
-    words = [word for name, value in drawn.items() for word in ("--" + name, str(value))]
-    words += random.choice([[], [], ["--progress"], ["--live"], ["--live", "--progress"]])
+    options = [word for name, value in drawn.items() for word in ("--" + name, str(value))]
+    options += random.choice([[], [], ["--progress"], ["--live"], ["--live", "--progress"]])
     with open(os.path.join(folder, "options"), "w") as file:
-        file.write(" ".join(words) + "\n")
+        file.write(" ".join(options) + "\n")
     try:
-        return judge_run(program, folder, text, words, {**DEFAULTS, **drawn}, is_small)
+        return judge_run(program, folder, text, options, {**DEFAULTS, **drawn}, is_small)
     except (Disagreement, TextFault) as found:
         raise Disagreement("%s\n  options: %s\n  instance: %s\n " % (
-            found, " ".join(words), " ".join(text.decode().split())))
+            found, " ".join(options), " ".join(text.decode().split())))
 
 
-def judge_run(program, folder, text, words, settings, is_small):
-    out, errors, status, solution, certificate = solve(program, folder, text, words)
+def judge_run(program, folder, text, options, settings, is_small):
+    out, errors, status, solution, certificate = solve(program, folder, text, options)
     said = (out, errors, status)
     if status == 7:
         demand(said == ("", "vrptw: limit: LabelLimit\n", 7), "solve: %r" % (said,))
         demand(settings["labels"] <= FEW_LABELS, "LabelLimit with %d labels" % settings["labels"])
         demand((solution, certificate) == (b"", b""), "files after LabelLimit")
         return "LabelLimit"
-    if "--live" in words:
+    if "--live" in options:
         judge_progress(lines_of_live(errors), out, settings)
-    elif "--progress" in words:
+    elif "--progress" in options:
         judge_progress(errors.splitlines(), out, settings)
-    if "--live" in words or "--progress" in words:
+    if "--live" in options or "--progress" in options:
         errors = ""
     demand(errors == "" and out.split()[:1] in (["BEST"], ["GAP"], ["NO"], ["OPEN"]), "solve: %r" % (said,))
     demand((solution == b"") == (out.split()[0] in ("NO", "OPEN")), "a solution's text beside %r" % out)

@@ -12,7 +12,7 @@ from tools.batch_columns import BETWEEN, OPTIONS, name_of
 from tools.judged import judged
 from tools.places import OUTSIDE
 from tools.plans import of_ours
-from tools.tool import Refused, Text, last_words, make_folder
+from tools.tool import Refused, Text, reason_of, make_folder
 
 # The file of a step that has its instance.
 INSTANCE = "instance.txt"
@@ -46,7 +46,7 @@ def put(path, held):
             file.write(held)
         os.replace(path + ".new", path)
     except OSError as fault:
-        raise Refused("%s: %s" % (path, last_words(fault)))
+        raise Refused("%s: %s" % (path, reason_of(fault)))
 
 
 class Outcome:

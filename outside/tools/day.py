@@ -5,7 +5,7 @@ import os
 import shutil
 
 from tools.standing import INSTANCE, TEXTS, TREES, Folder
-from tools.tool import Refused, last_words
+from tools.tool import Refused, reason_of
 
 # The day that stands, and the one before; within the folder of a command at work the day that it makes, the day that
 # goes into place, which day that is, and what stood where two can't be exchanged at once.
@@ -97,7 +97,7 @@ class Day(Folder):
             os.mkdir(self.path)
             self.take_old()
         except OSError as fault:
-            raise Refused("%s: %s" % (path, last_words(fault)))
+            raise Refused("%s: %s" % (path, reason_of(fault)))
 
     def in_top(self, name):
         return os.path.join(self.top, name)
@@ -180,7 +180,7 @@ class Day(Folder):
             elif files_of(made) != files_of(now):
                 self.turn(now, made)
         except OSError as fault:
-            raise Refused("%s: %s" % (self.top, last_words(fault)))
+            raise Refused("%s: %s" % (self.top, reason_of(fault)))
 
     def turn(self, now, made):
         """Exchanges the day that stands for the one that is made."""

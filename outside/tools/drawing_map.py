@@ -34,9 +34,9 @@ class Frame:
         return EDGE + self.scale * (row[0] - self.left), HEAD + EDGE + self.scale * (self.high - row[1])
 
 
-def line(frame, instance, stops, look):
+def line(frame, instance, stops, style):
     points = " ".join("%.1f,%.1f" % frame.place(instance.rows[stop]) for stop in stops)
-    return '<polyline points="%s" %s/>' % (points, look)
+    return '<polyline points="%s" %s/>' % (points, style)
 
 
 def route_lines(frame, instance, number, route, units):

@@ -91,10 +91,10 @@ def rows_of(spans, size, count):
     return rows
 
 
-def box(scale, begin, end, top, high, look, told):
+def box(scale, begin, end, top, high, style, told):
     left = scale.at(begin)
     return '<rect x="%.1f" y="%.1f" width="%.1f" height="%.1f" %s>%s</rect>' % (
-        left, top, max(scale.at(end) - left, 1), high, look, title(told))
+        left, top, max(scale.at(end) - left, 1), high, style, title(told))
 
 
 def levels_of(instance, found, count):

@@ -84,13 +84,13 @@ class Frame:
         return 1 + (value - self.cost) / (self.greatest - self.cost)
 
 
-def branches(frame, node):
+def lines_to_children(frame, node):
     """The lines to the children: full where the arc is used, broken where it isn't."""
     (x, y), found = frame.place(node), []
     told = "Split by the arc from %d to %d" % node.arc
-    for child, words, look in zip(node.children, ("used", "not used"), ("", ' stroke-dasharray="4 3"')):
+    for child, words, style in zip(node.children, ("used", "not used"), ("", ' stroke-dasharray="4 3"')):
         found.append('<path d="M%.1f %.1fL%.1f %.1f"%s>%s</path>' % (
-            x, y, *frame.place(child), look, title("%s: %s" % (told, words))))
+            x, y, *frame.place(child), style, title("%s: %s" % (told, words))))
     return found
 
 
@@ -103,9 +103,9 @@ def leaf(frame, node):
     x, y = frame.place(node)
     told = "a value that wasn't found" if node.value is None else "the value %s, %s above the bound" % (
         frame.shown(node.value), frame.shown(node.value - frame.bound))
-    look = 'fill="%s" stroke="#555" stroke-width="%.1f"' % (colour(frame.part(node.value)), min(0.6, frame.radius / 5))
+    style = 'fill="%s" stroke="#555" stroke-width="%.1f"' % (colour(frame.part(node.value)), min(0.6, frame.radius / 5))
     return '<circle cx="%.1f" cy="%.1f" r="%.1f" %s>%s</circle>' % (
-        x, y, frame.radius, look, title("Leaf %d has %s" % (node.across + 1, told)))
+        x, y, frame.radius, style, title("Leaf %d has %s" % (node.across + 1, told)))
 
 
 def strip(frame, found, top):
@@ -169,7 +169,7 @@ def picture(name, tree, values, bound, cost, shown=shown):
         name, plural(frame.leaves, "leaf").replace("leafs", "leaves"), below, frame.shown(cost), frame.shown(bound))
     splits = [node for node in found if node.children]
     drawn = ['<g stroke="#777" stroke-width="%.1f" fill="none">' % min(1, frame.radius / 3),
-             *(part for node in splits for part in branches(frame, node)), "</g>", NAMES]
+             *(part for node in splits for part in lines_to_children(frame, node)), "</g>", NAMES]
     drawn += [arc_name(frame, node) for node in splits if frame.leaves <= MOST_NAMED] + ["</g>"]
     leaves = [node for node in found if not node.children]
     bottom = HEAD + 2.6 * EDGE + frame.high

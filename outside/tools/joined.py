@@ -10,7 +10,7 @@ from tools.judged import program_of, ran
 from tools.pruning import Tree, pruned
 from tools.stopping import end_by_signals
 from tools.telling import Telling
-from tools.tool import Refused, last_words, printed_file, told_path
+from tools.tool import Refused, reason_of, printed_file, told_path
 from tools.tree_texts import TreeText, set_line
 from tools.valuing import Valuer, Valuers
 
@@ -165,7 +165,7 @@ def plan_text(path):
         with open(path, "rb") as file:
             return file.read()
     except OSError as fault:
-        raise Refused("%s: %s" % (path, last_words(fault)))
+        raise Refused("%s: %s" % (path, reason_of(fault)))
 
 
 def made(joined):

@@ -22,18 +22,18 @@ HANDED_ON = (("searchers", 1, 32, "threads that look for a plan"), ("bounders", 
              ("labels", 1, 10 ** 8, "labels active at once in a pricing"))
 
 
-def add_solving(words, neighbours="in place of 8 and 12 in turn"):
+def add_solving(parser, neighbours="in place of 8 and 12 in turn"):
     """Adds the options by which rounds are made."""
     for name, low, high, told in HANDED_ON:
-        words.add_argument("--" + name, type=count(low, high), metavar="N", help="%s, as solve has it" % told)
-    words.add_argument("--neighbours", type=count(0, 15), metavar="N", help=neighbours)
-    words.add_argument("--sets", type=count(0, 1000), default=SETS, metavar="N",
+        parser.add_argument("--" + name, type=count(low, high), metavar="N", help="%s, as solve has it" % told)
+    parser.add_argument("--neighbours", type=count(0, 15), metavar="N", help=neighbours)
+    parser.add_argument("--sets", type=count(0, 1000), default=SETS, metavar="N",
                        help="sets of customers that may have prices in the proof (default %(default)s)")
-    words.add_argument("--seed", type=count(0, 999_999_999), default=1, metavar="N", help="that of the first round")
+    parser.add_argument("--seed", type=count(0, 999_999_999), default=1, metavar="N", help="that of the first round")
 
 
 def handed_on(given):
-    """The options of solve that were given, as words, and how many sets may have prices."""
+    """The options of solve that were given, and how many sets may have prices."""
     names = [name for name, _, _, _ in HANDED_ON if getattr(given, name) is not None] + ["sets"]
     return [word for name in names for word in ("--" + name, str(getattr(given, name)))]
 
@@ -68,16 +68,16 @@ class Planner:
             folder.put_beside(name, text)
         self.is_in_place = folder.held(INSTANCE) == self.texts[INSTANCE]
 
-    def ran(self, words, signals, until, tell=None):
+    def ran(self, command, signals, until, tell=None):
         """What came of a run of the program, which is broken off by a signal or when the time is over."""
-        return ran(words, lambda: signals.came or time.monotonic() >= until, tell)
+        return ran(command, lambda: signals.came or time.monotonic() >= until, tell)
 
     def checked(self, certificate_path, plan_path, until, signals=None):
         """What the check says of two texts: kind, cost and bound, all None where they aren't right or it was broken
         off; and its line of a fault."""
-        words = [self.given.program, "check", self.folder.beside(INSTANCE), certificate_path]
-        words += [] if plan_path is None else ["--solution", plan_path]
-        came = self.ran(words, signals or self.signals, until)
+        command = [self.given.program, "check", self.folder.beside(INSTANCE), certificate_path]
+        command += [] if plan_path is None else ["--solution", plan_path]
+        came = self.ran(command, signals or self.signals, until)
         kind, cost, bound = verdict_of(came.line) if came.status in (0, 1) else (None, None, None)
         return kind, cost, self.instance.ceiling() + 1 if kind == "NO PLAN" else bound, came.fault
 
@@ -216,15 +216,15 @@ class Planner:
         """One round: its bound and no fault; no bound where it was broken off; or the fault of the program."""
         plan, proof = self.folder.beside(PLAN), self.folder.beside(CERTIFICATE)
         tree = self.tree_of(neighbours)
-        words = [self.given.program, "solve", self.folder.beside(INSTANCE), plan, proof, "--progress",
+        command = [self.given.program, "solve", self.folder.beside(INSTANCE), plan, proof, "--progress",
                  "--turns", str(turns), "--seed", str(seed % 2 ** 32)]
         if tree is not None:
-            words += ["--tree", self.folder.at(tree)]
+            command += ["--tree", self.folder.at(tree)]
         elif neighbours is not None:
-            words += ["--neighbours", str(neighbours)]
+            command += ["--neighbours", str(neighbours)]
         start = self.folder.at(PLAN) if self.cost is not None else self.start
-        words += self.given.options + (["--start", start] if start else [])
-        came = self.ran(words, self.signals, until, self.tell_of)
+        command += self.given.options + (["--start", start] if start else [])
+        came = self.ran(command, self.signals, until, self.tell_of)
         if came.status is None:
             return None, None
         kind, cost, _ = verdict_of(came.line)

@@ -164,16 +164,16 @@ class Prover(Planner):
     def seed(self):
         return self.given.seed + SEEDS * (self.rounds.last("number") + 1)
 
-    def part_words(self, turns, place):
+    def part_options(self, turns, place):
         """The options of a part. All together list no more sets than a certificate holds."""
         given, parts = self.given, self.given.parts
         listed = len(TreeText(self.folder.at(CERTIFICATE)).sets)
         sets = min(given.sets, listed + (MOST_SETS - listed) // parts)
-        words = ["--tree", "../" + TREE, "--part", "%d/%d" % (place, parts), "--turns", str(turns), "--sets", str(sets),
-                 "--searchers", str(given.searchers or 1), "--bounders", str(given.bounders or 1),
-                 "--seed", str((self.seed() + place) % 2 ** 32)]
-        words += ["--labels", str(given.labels)] if given.labels else []
-        return words + (["--start", "../" + START] if self.cost is not None else []) + ["--progress"]
+        options = ["--tree", "../" + TREE, "--part", "%d/%d" % (place, parts), "--turns", str(turns),
+                   "--sets", str(sets), "--searchers", str(given.searchers or 1), "--bounders", str(given.bounders or 1),
+                   "--seed", str((self.seed() + place) % 2 ** 32)]
+        options += ["--labels", str(given.labels)] if given.labels else []
+        return options + (["--start", "../" + START] if self.cost is not None else []) + ["--progress"]
 
     def deal(self, turns):
         """A round of parts. Answers what its row has of them, or None where it was broken off."""
@@ -182,7 +182,7 @@ class Prover(Planner):
         found = Round(self.folder.at(PARTS), self.rounds.last("number") + 1, count)
         plan = self.folder.held(PLAN) if self.cost is not None else b""
         texts = {INSTANCE: self.instance.held, TREE: self.folder.held(CERTIFICATE), START: plan}
-        found.lay_out(self.given.program, texts, [self.part_words(turns, place + 1) for place in range(count)], limit)
+        found.lay_out(self.given.program, texts, [self.part_options(turns, place + 1) for place in range(count)], limit)
         until = time.monotonic() + waves * limit + SLACK
         found.run(self.given, lambda: self.is_over() or time.monotonic() >= until)
         parts = found.parts()

@@ -4,7 +4,7 @@ import os
 import shutil
 import tempfile
 
-from tools.tool import Refused, last_words
+from tools.tool import Refused, reason_of
 
 INSTANCE, NAMES, PLAN, CERTIFICATE = "instance.txt", "names.csv", "plan.txt", "certificate.txt"
 TEXTS = (INSTANCE, NAMES, PLAN, CERTIFICATE)
@@ -26,12 +26,12 @@ class Folder:
         except BlockingIOError:
             raise Refused("%s: met another plan at work there, wanted one at a time" % path)
         except OSError as fault:
-            raise Refused("%s: %s" % (path, last_words(fault)))
+            raise Refused("%s: %s" % (path, reason_of(fault)))
         self.clear()
         try:
             self.work = tempfile.mkdtemp(prefix=WORK, dir=path)
         except OSError as fault:
-            raise Refused("%s: %s" % (path, last_words(fault)))
+            raise Refused("%s: %s" % (path, reason_of(fault)))
 
     def killed(self):
         """Where texts stand that a command left that was killed."""
@@ -67,7 +67,7 @@ class Folder:
         except FileNotFoundError:
             return None
         except OSError as fault:
-            raise Refused("%s: %s" % (self.at(name), last_words(fault)))
+            raise Refused("%s: %s" % (self.at(name), reason_of(fault)))
 
     def put_instance(self, text):
         """Puts the instance into place; another one that stands there is refused."""
@@ -83,7 +83,7 @@ class Folder:
                 file.flush()
                 os.fsync(file.fileno())
         except OSError as fault:
-            raise Refused("%s: %s" % (self.at(name), last_words(fault)))
+            raise Refused("%s: %s" % (self.at(name), reason_of(fault)))
         return self.beside(name)
 
     def take(self, *names):
@@ -92,7 +92,7 @@ class Folder:
             try:
                 os.replace(self.beside(name), self.at(name))
             except OSError as fault:
-                raise Refused("%s: %s" % (self.at(name), last_words(fault)))
+                raise Refused("%s: %s" % (self.at(name), reason_of(fault)))
 
     def put(self, name, text):
         """Writes a text that is in place whole or not at all."""

@@ -97,7 +97,7 @@ def content(path):
         with sys.stdin.buffer if path == STREAM else open(path, "rb") as file:
             return file.read()
     except (OSError, ValueError) as fault:
-        raise Refused("%s: %s" % (told_path(path), last_words(fault)))
+        raise Refused("%s: %s" % (told_path(path), reason_of(fault)))
 
 
 # What is noted at the end of a tool, beside what its work answers.
@@ -181,7 +181,7 @@ class Text:
         return Found(int(value * scale), line)
 
 
-def last_words(fault):
+def reason_of(fault):
     """Why a file wasn't read or written."""
     return getattr(fault, "strerror", None) or fault
 
@@ -192,7 +192,7 @@ def put(path, text):
         with open(path, "w", encoding="utf-8", newline="") as file:
             file.write(text)
     except (OSError, ValueError) as fault:
-        raise Refused("%s: %s" % (path, last_words(fault)))
+        raise Refused("%s: %s" % (path, reason_of(fault)))
 
 
 def make_folder(path):
@@ -200,7 +200,7 @@ def make_folder(path):
     try:
         os.makedirs(path, exist_ok=True)
     except OSError as fault:
-        raise Refused("%s: %s" % (path, last_words(fault)))
+        raise Refused("%s: %s" % (path, reason_of(fault)))
 
 
 def put_all(texts):
@@ -216,7 +216,7 @@ def put_all(texts):
     except (OSError, ValueError) as fault:
         for other in made:
             os.remove(other)
-        raise Refused("%s: %s" % (path, last_words(fault)))
+        raise Refused("%s: %s" % (path, reason_of(fault)))
     for path, text in texts.items():
         put(path, text)
     return streamed
@@ -276,7 +276,7 @@ def printed(text):
     except OSError as fault:
         # What is still held back can't be written at the end either.
         os.dup2(os.open(os.devnull, os.O_WRONLY), 1)
-        raise Refused("standard output: %s" % last_words(fault))
+        raise Refused("standard output: %s" % reason_of(fault))
 
 
 def printed_file(path):
@@ -290,7 +290,7 @@ def printed_file(path):
     except OSError as fault:
         # What is still held back can't be written at the end either.
         os.dup2(os.open(os.devnull, os.O_WRONLY), 1)
-        raise Refused("standard output: %s" % last_words(fault))
+        raise Refused("standard output: %s" % reason_of(fault))
 
 
 def run(tool, work):

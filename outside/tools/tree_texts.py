@@ -6,7 +6,7 @@ import sys
 from reference.set_texts import FIRST, NodesWithSets, read_sets
 from reference.texts import MOST_LEAVES, MOST_PRICE, Lines, Nodes, TextFault, read_end, read_head
 from tools.plans import EMPTY, WITH_SETS, told_place
-from tools.tool import INPUT, STREAM, Refused, last_words, quoted, told_path
+from tools.tool import INPUT, STREAM, Refused, reason_of, quoted, told_path
 
 PRICE = rb" (?:0|-?(?:[1-9][0-9]{0,11}|1000000000000))"
 SET_PRICES = re.compile(rb"M(?: [1-9][0-9]{0,3} [1-9][0-9]{0,12})*\Z")
@@ -191,4 +191,4 @@ def opened(path):
         stream, sys.stdin = sys.stdin.buffer, None
         return stream
     except (OSError, ValueError) as fault:
-        raise Refused("%s: %s" % (told_path(path), last_words(fault)))
+        raise Refused("%s: %s" % (told_path(path), reason_of(fault)))

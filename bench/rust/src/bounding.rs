@@ -1,9 +1,10 @@
-//! The tree of bound workers, as `worker_turns` grows it: one by itself, or several in the order of their looks.
+//! The tree of bound workers, as `worker_turns` grows it: one by itself, or several in the order of their work.
 
 use crate::fronts::Nearness;
 use crate::insertion::{Weights, build_whole};
 use crate::leaf_work::{
-    ChildStart, Children, Effort, Goal, Parted, PricingState, RoutePool, counted_routes, first_leaf, goal_of, part, raise,
+    ChildStart, Children, Effort, Goal, PricingState, RoutePool, SplitOrDecided, counted_routes, first_leaf, goal_of,
+    raise, split_or_decide,
 };
 use crate::priced_sets::PricedSet;
 use crate::prices::Priced;
@@ -14,7 +15,7 @@ use std::time::Instant;
 
 /// As in `worker_turns`.
 const ROOT_PRICINGS: u32 = 20;
-const CUSTOMER_LOOKS: u64 = 19_000;
+const CUSTOMER_WORK: u64 = 19_000;
 const LEAST_CUSTOMERS: u64 = 120;
 const CUSTOMERS_OF_PATIENCE: u16 = 150;
 const PRICING_PART: u64 = 28;
@@ -27,8 +28,8 @@ const LOWEST_PART: i128 = 64;
 const NEIGHBOURS: u32 = 8;
 const MOST_LABELS: u64 = 1_000_000;
 
-/// A worker that finds no leaf looks again after as long as so many looks take.
-const LOOKS_OF_WAIT: u64 = 20_000;
+/// A worker that finds no leaf looks again after as long as so much work takes.
+const WORK_OF_WAIT: u64 = 20_000;
 
 /// A node of the tree: a leaf with its prices, or a split with the places of both children.
 enum Node<'i> {
@@ -43,13 +44,13 @@ struct Open {
     start: Option<ChildStart>,
 }
 
-/// What came of a leaf, which the others see when the looks for it are over.
+/// What came of a leaf, which the others see when the work at it is over.
 enum Outcome<'i> {
     Same,
     Raised(Priced<'i>),
     Split(Children<'i>),
     /// No arc is left to split.
-    Settled,
+    Decided,
 }
 
 struct Bounder<'i> {
@@ -66,14 +67,14 @@ struct Bounder<'i> {
     tries: usize,
     /// How many turns in a row raised nothing at the root.
     idle: u16,
-    /// How long it waited, in looks.
+    /// How long it waited, as work.
     waited: u64,
 }
 
 impl<'i> Bounder<'i> {
-    /// How long it has been at work, in looks.
+    /// How long it has been at work, as work.
     fn clock(&self) -> u64 {
-        self.state.looks() + self.waited
+        self.state.work() + self.waited
     }
 
     fn take_least(&mut self) -> Option<Open> {
@@ -106,10 +107,10 @@ struct Tree<'i> {
     labels: usize,
     /// How many sets each worker may find.
     sets: usize,
-    /// What all turns are worth, in looks.
-    looks: u64,
+    /// How much work all turns are worth.
+    work: u64,
     /// The least value of the leaves that no arc is left to split.
-    settled: i128,
+    decided: i128,
 }
 
 impl<'i> Tree<'i> {
@@ -118,8 +119,8 @@ impl<'i> Tree<'i> {
         let instance = nearness.instance;
         let plan = build_whole(Global, instance, &Weights::plain()).unwrap().filter(|_| cost.is_some());
         let routes = plan.as_ref().map(|plan| plan.routes());
-        let looks = worth_of(instance) * (u64::from(turns) / PRICING_PART).max(LEAST_PRICING_TURNS);
-        let labels = (looks / u64::from(instance.customer_count())).min(MOST_LABELS) as usize;
+        let work = worth_of(instance) * (u64::from(turns) / PRICING_PART).max(LEAST_PRICING_TURNS);
+        let labels = (work / u64::from(instance.customer_count())).min(MOST_LABELS) as usize;
         let first = first_leaf(Global, nearness, instance, NEIGHBOURS, plan.as_ref(), None, Some(labels));
         let Ok(leaf) = first else { panic!("labels") };
         let state = || {
@@ -136,7 +137,7 @@ impl<'i> Tree<'i> {
             outcome: None,
             tries: 0,
             idle: 0,
-            // Each begins a look later than the one before, so that their order is known.
+            // Each begins a unit of work later than the one before, so that their order is known.
             waited: number,
         };
         Tree {
@@ -148,8 +149,8 @@ impl<'i> Tree<'i> {
             routes: counted_routes(instance, routes),
             labels,
             sets: (sets / workers) as usize,
-            looks: worth_of(instance) * u64::from(turns),
-            settled: i128::MAX,
+            work: worth_of(instance) * u64::from(turns),
+            decided: i128::MAX,
         }
     }
 
@@ -163,7 +164,7 @@ impl<'i> Tree<'i> {
     /// The least value of the leaves, if one is left to raise, and at most this much.
     fn bound(&self, most: i128) -> i128 {
         let leaves = (0..self.nodes.len()).filter_map(|place| self.leaf(place));
-        leaves.map(|leaf| leaf.value()).min().unwrap_or(most).min(most).min(self.settled)
+        leaves.map(|leaf| leaf.value()).min().unwrap_or(most).min(most).min(self.decided)
     }
 
     fn leaves(&self) -> usize {
@@ -175,7 +176,7 @@ impl<'i> Tree<'i> {
     }
 
     fn goal(&self, number: usize, leaf: &Priced<'i>, is_again: bool) -> Goal {
-        let effort = Effort { root_pricings: ROOT_PRICINGS, sets: self.sets, labels: Some(self.labels), looks: self.looks };
+        let effort = Effort { root_pricings: ROOT_PRICINGS, sets: self.sets, labels: Some(self.labels), work: self.work };
         let mut goal = goal_of(leaf, self.cost, self.routes, self.target, effort);
         if is_again {
             goal.rise = self.bounders[number].pool.rise();
@@ -237,9 +238,9 @@ impl<'i> Tree<'i> {
         if bounder.current.is_some() {
             return if is_raised { Outcome::Raised(raised.priced) } else { Outcome::Same };
         }
-        match part(&raised, &mut bounder.pool, &mut bounder.state, Some(self.labels)) {
-            Ok(Parted::Split(children)) => Outcome::Split(children),
-            _ => Outcome::Settled,
+        match split_or_decide(&raised, &mut bounder.pool, &mut bounder.state, Some(self.labels)) {
+            Ok(SplitOrDecided::Split(children)) => Outcome::Split(children),
+            _ => Outcome::Decided,
         }
     }
 
@@ -272,22 +273,22 @@ impl<'i> Tree<'i> {
                 }
             }
             Outcome::Split(children) => self.split(number, place, children),
-            Outcome::Settled => {
+            Outcome::Decided => {
                 let value = self.leaf(place).map_or(0, |leaf| leaf.value());
                 println!("a leaf that isn't split: {value} of {}", self.target);
-                self.settled = self.settled.min(value);
+                self.decided = self.decided.min(value);
             }
         }
     }
 
-    /// Goes on until each worker has done this many looks, or all is closed.
-    fn work(&mut self, looks: u64) {
+    /// Goes on until each worker has done this much work, or all is closed.
+    fn work(&mut self, work: u64) {
         while let Some(number) = (0..self.bounders.len()).min_by_key(|number| self.bounders[*number].clock()) {
             if let Some((place, outcome)) = self.bounders[number].outcome.take() {
                 self.bring(number, place, outcome);
                 continue;
             }
-            if self.bounders[number].clock() > looks || self.is_closed() {
+            if self.bounders[number].clock() > work || self.is_closed() {
                 return;
             }
             match self.take(number) {
@@ -296,7 +297,7 @@ impl<'i> Tree<'i> {
                     let outcome = self.outcome(number, open, is_again);
                     self.bounders[number].outcome = Some((place, outcome));
                 }
-                None => self.bounders[number].waited += LOOKS_OF_WAIT,
+                None => self.bounders[number].waited += WORK_OF_WAIT,
             }
         }
     }
@@ -354,9 +355,9 @@ impl<'i> Tree<'i> {
     }
 }
 
-/// What a turn is worth, in looks.
+/// How much work a turn is worth.
 fn worth_of(instance: &Instance) -> u64 {
-    CUSTOMER_LOOKS * u64::from(instance.customer_count()).max(LEAST_CUSTOMERS)
+    CUSTOMER_WORK * u64::from(instance.customer_count()).max(LEAST_CUSTOMERS)
 }
 
 /// Prints leaves and bound after each tenth of the turns, and the seconds; without a plan where the cost is 0. So many

@@ -30,7 +30,7 @@ pub fn tell_ascent(instance: &Instance) {
             routes: counted_routes(instance, None),
             sets: 0,
             labels: Some(MOST_LABELS),
-            looks: u64::MAX,
+            work: u64::MAX,
         };
         let (begin, mut pool) = (Instant::now(), RoutePool::new(Global));
         let mut state = PricingState::new(Global, &nearness);

@@ -27,7 +27,7 @@ use Rattle.certificate.specs.Text.{set_text, set_prices_text, node_texts, text_l
 use Rattle.certificate.specs.declared.fault.CertFault.TheVariants.{BadLine}
 use Rattle.certificate.specs.Reading.{next_at, small, members_at, signed_at, is_price, prices_at, set_count, is_some, pairs_at, set_prices_in, leaf_at, pair_at, is_arc, arc_eq, is_decided, arc_at, node_in, node_at, one_leaf, tree_at, fixed_at, second, field_at}
 use Rattle.certificate.specs.Reading.{is_name, name_at, within_from, within_at, bound_at, Head, sizes_at, version_in, version_at, title_at, head_at, set_in, sets_at, listed_at, nodes_at, reading}
-use Rattle.certificate.specs.Laws.{OneTextEach}
+use Rattle.certificate.specs.Laws.{TextsDiffer}
 use Rattle.certificate.proofs.SetTests.{le_again, customers_again, none_above, sum_within, set_prices_again, no_prices}
 use Rattle.certificate.proofs.Steps.{IsNodeOn, IsTreeOn, listed_of, decides_root, on_from_at, children_at, tree_at-leaf, tree_at-split, one_tree}
 use Rattle.certificate.proofs.Texts.{lines_of, text_is}
@@ -564,5 +564,5 @@ listed_apart c d e =
     same_parts c d (ap (λ (x : Content). x.version) e) (ap (λ (x : Content). x.name) e) (ap (λ (x : Content). x.size) e)
     (ap (λ (x : Content). x.neighbours) e) (ap (λ (x : Content). x.bound) e) tree.0
 
-pub one_text_each : OneTextEach
-one_text_each c d p q e = listed_apart c d (ok_is (listed c) (listed d) (sym (reading_again c p) ∙ ap reading e ∙ reading_again d q))
+pub texts_differ : TextsDiffer
+texts_differ c d p q e = listed_apart c d (ok_is (listed c) (listed d) (sym (reading_again c p) ∙ ap reading e ∙ reading_again d q))

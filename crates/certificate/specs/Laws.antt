@@ -5,8 +5,8 @@ use Rattle.certificate.specs.declared.fault.CertFault.{CertFault}
 use Rattle.certificate.specs.declared.fault.CertFault.TheVariants.{Truncated}
 use Rattle.certificate.specs.Reading.{reading}
 
-abbrev pub OneTextEach : Type 0
-OneTextEach = (c d : Certificate) → IsCertificate c → IsCertificate d → certificate_text c ≡ certificate_text d → c ≡ d
+abbrev pub TextsDiffer : Type 0
+TextsDiffer = (c d : Certificate) → IsCertificate c → IsCertificate d → certificate_text c ≡ certificate_text d → c ≡ d
 
 -- A fault that the first bytes show, other than that they end, is the fault of all bytes, however they go on. So the fault that is told is the first from the left.
 abbrev pub FirstFaultStays : Type 0

@@ -63,7 +63,7 @@ fn field<'a>(lines: &mut Lines<'a>, text: &[u8]) -> Result<&'a [u8], CertFault>
     }
 }
 
-fn are_graphic(word: &[u8]) -> bool
+fn are_letters(word: &[u8]) -> bool
     ensures { result ≡ list_all is_letter word.now }
 {
     word.iter().all(|b| 33 <= *b && *b <= 126)
@@ -72,7 +72,7 @@ fn are_graphic(word: &[u8]) -> bool
 pub fn is_name_word(word: &[u8]) -> bool
     ensures { result ≡ is_name word.now }
 {
-    1 <= word.len() && word.len() <= MOST_NAME && are_graphic(word)
+    1 <= word.len() && word.len() <= MOST_NAME && are_letters(word)
 }
 
 /// The name.

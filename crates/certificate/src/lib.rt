@@ -19,7 +19,7 @@ mod writing;
 
 pub use cert::Cert;
 pub use fault::{CertFault, ShapeFault, WriteFault};
-pub use laws::{first_fault, one_text_each};
+pub use laws::{first_fault_stays, texts_differ};
 pub use node::CertNode;
 pub use parts::CertParts;
 pub use reading::read;

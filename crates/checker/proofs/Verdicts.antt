@@ -129,7 +129,7 @@ module _ (t : Texts) (p : Problem) (c : Certificate) (s : Option Spelled) (are :
   same_problem = one_problem t.instance right.problem p right.instance are.instance
 
   same_certificate : right.accepted.certificate ≡ c
-  same_certificate = certificate.one_text_each right.accepted.certificate c right.accepted.shaped are.shaped (sym right.accepted.spelled ∙ are.spelled)
+  same_certificate = certificate.texts_differ right.accepted.certificate c right.accepted.shaped are.shaped (sym right.accepted.spelled ∙ are.spelled)
 
   right_name : c.name ≡ p.name
   right_name = sym (ap (λ (x : Certificate). x.name) same_certificate) ∙ right.accepted.name ∙ ap (λ (q : Problem). q.name) same_problem
@@ -164,10 +164,10 @@ module _ (p : Problem) where
   plan_wrong (Some text) None is right e h = absurd is
   plan_wrong (Some text) (Some s) is right fault.Memory h = tt
   plan_wrong (Some text) (Some s) is right (fault.PlanRefused why) h =
-      let same = solution.one_text_each right.0 s.0 (plan_cost p right.0) s.1 right.2.shaped is.shaped (sym right.2.spelled ∙ is.spelled) in
+      let same = solution.texts_differ right.0 s.0 (plan_cost p right.0) s.1 right.2.shaped is.shaped (sym right.2.spelled ∙ is.spelled) in
       absurd (no_plan p s.0 why h (subst (λ (routes : List (List ℕ)). IsPlan p routes) same.0 right.1))
   plan_wrong (Some text) (Some s) is right (fault.CostDiffers printed real) h =
-      let same = solution.one_text_each right.0 s.0 (plan_cost p right.0) s.1 right.2.shaped is.shaped (sym right.2.spelled ∙ is.spelled) in
+      let same = solution.texts_differ right.0 s.0 (plan_cost p right.0) s.1 right.2.shaped is.shaped (sym right.2.spelled ∙ is.spelled) in
       absurd (h.3 (h.1 ∙ sym same.1 ∙ ap (plan_cost p) same.0 ∙ sym h.2))
   plan_wrong (Some text) (Some s) is right fault.StateLimit h = absurd h
   plan_wrong (Some text) (Some s) is right fault.OtherName h = absurd h

@@ -11,7 +11,7 @@ ghost use Rattle.checker.specs.Plans.{RefusesRoutes};
 
 use crate::fault::CheckFault;
 use crate::serving::serve_once;
-use crate::walking::{drive, is_light};
+use crate::walking::{drive, is_within_capacity};
 use solomon_reader::{Instance, PlanFault};
 use std::alloc::Global;
 use tenths::Tenths;
@@ -31,7 +31,7 @@ fn drive_all(instance: &Instance, routes: &[Vec<u16>]) -> Result<u128, CheckFaul
     let mut cost = 0;
     let mut late = false;
     for route in routes {
-        if !is_light(instance, route.as_slice()) {
+        if !is_within_capacity(instance, route.as_slice()) {
             return Err(CheckFault::PlanRefused(PlanFault::OverCapacity));
         }
         match drive(instance, route.as_slice()) {

@@ -11,7 +11,7 @@ ghost use Rattle.solomon_reader.specs.Steps.{start_of};
 use solomon_reader::Instance;
 
 /// Whether the demands of a route are at most what a vehicle holds.
-pub(crate) fn is_light(instance: &Instance, stops: &[u16]) -> bool
+pub(crate) fn is_within_capacity(instance: &Instance, stops: &[u16]) -> bool
     requires { All (λ i. IsCustomer instance.now i) stops.now }
     ensures { MatchBool result (load_of instance.now stops.now ≤ instance.now.capacity)
         (instance.now.capacity < load_of instance.now stops.now) }

@@ -17,7 +17,7 @@ use Rattle.branching.specs.Arcs.{pair}
 use Rattle.branching.specs.Nodes.{node_of, set_price_of, IsListedTree}
 use Rattle.branching.specs.declared.tree_node.SetPrice.{SetPrice}
 use Rattle.branching.specs.declared.tree_node.TreeNode.{TreeNode}
-use Rattle.leaf_work.specs.Branching.{AreChildren}
+use Rattle.leaf_work.specs.Children.{AreChildren}
 use Rattle.leaf_work.specs.declared.child.Children.{Children}
 use Rattle.solomon_reader.specs.Plan.{Arc}
 use Rattle.solomon_reader.specs.CertificateText.{IsTreeAt, IsPrice, depth_of}

@@ -6,7 +6,7 @@ use Rattle.solomon_reader.specs.Region.{Region}
 use Rattle.branching.specs.Nodes.{node_of}
 use Rattle.prices.specs.ValuedPrices.{ValuedPrices}
 use Rattle.insertion.specs.Building.{IsServedAlone}
-use Rattle.leaf_work.specs.Branching.{AreChildren}
+use Rattle.leaf_work.specs.Children.{AreChildren}
 use Rattle.leaf_work.specs.declared.child.Children.{Children}
 use Rattle.closing.specs.Closing.{known_or_above, costs}
 use Rattle.closing.specs.declared.fault.CloseAloneFault.{CloseAloneFault}

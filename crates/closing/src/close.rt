@@ -19,7 +19,7 @@ use std::alloc::Global;
 
 /// Closes an instance of at most `MOST_CLOSED` customers: answers a plan that no plan is cheaper than, or
 /// that there is none, with a tree of that bound. It begins with a plan as a run does, takes plans from
-/// the routes that the prices lead to, and branches, depth first, on the leaves whose value stays below
+/// the routes that the prices lead to, and splits, depth first, the leaves whose value stays below
 /// the least cost known, until none is left or the tree has as many leaves as `leaf_limit`, 1 to
 /// `MOST_LEAVES`, allows. Each customer has this many neighbours in relaxed routes, at most 15. It works
 /// on the caller's thread and waits for nobody.

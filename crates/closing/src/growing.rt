@@ -8,8 +8,8 @@ use crate::bare::{raised_without_sets, without_sets};
 use crate::growth::Growth;
 use labelling::LabelFault;
 use leaf_work::{
-    ChildStart, Children, Effort, Goal, Parted, PricingState, Raised, RoutePool, counted_routes,
-    goal_of, met_plan, part, raise,
+    ChildStart, Children, Effort, Goal, PricingState, Raised, RoutePool, SplitOrDecided,
+    counted_routes, goal_of, met_plan, raise, split_or_decide,
 };
 use prices::Priced;
 use schedule::Feasible;
@@ -26,7 +26,7 @@ fn goal_at(leaf: &Priced<'_>, growth: &Growth<'_>) -> Goal {
         root_pricings: ROOT_PRICINGS,
         sets: 0,
         labels: None,
-        looks: u64::MAX,
+        work: u64::MAX,
     };
     let counted = counted_routes(growth.instance, routes);
     goal_of(leaf, cost, counted, growth.target(), effort)
@@ -49,20 +49,20 @@ fn offer_routes(growth: &mut Growth<'_>, pool: &RoutePool) -> Result<(), AllocEr
 
 /// Takes the plan of a leaf whose region leaves no arc open where it is cheaper than the best, and lists the leaf, whose
 /// value is the plan's cost, or above the ceiling without a plan.
-fn settle<'i>(
-    settled: &Priced<'i>,
+fn list_decided<'i>(
+    decided: &Priced<'i>,
     plan: Option<Feasible<'i>>,
     growth: &mut Growth<'i>,
 ) -> Result<(), AllocError>
     requires growth { IsGrowth growth.old }
     requires going { growth.old.is_stopped ≡ false }
-    requires own { settled.now.problem ≡ growth.old.instance.now }
-    requires bare { settled.now.sets ≡ [] }
+    requires own { decided.now.problem ≡ growth.old.instance.now }
+    requires bare { decided.now.sets ≡ [] }
     requires feasible { IfSome plan (λ f. f.problem ≡ growth.old.instance.now) }
-    requires value { MatchOption plan (ceiling_of growth.old.instance.now + 1 ≤ settled.now.value)
-        (λ f. settled.now.value ≡ f.cost) }
+    requires value { MatchOption plan (ceiling_of growth.old.instance.now + 1 ≤ decided.now.value)
+        (λ f. decided.now.value ≡ f.cost) }
     ensures growth { OnOk result (IsGrowth growth.new) }
-    ensures grows { OnOk result (Grows settled.now.neighbours settled.now.region growth.old
+    ensures grows { OnOk result (Grows decided.now.neighbours decided.now.region growth.old
         growth.new) }
     ensures leaves { OnOk result (growth.new.leaves ≡ growth.old.leaves) }
     ensures least { target_of growth.new ≤ target_of growth.old }
@@ -70,7 +70,7 @@ fn settle<'i>(
     if let Some(plan) = plan {
         growth.offer(plan);
     }
-    growth.lay_aside(settled)
+    growth.lay_aside(decided)
 }
 
 /// Takes the routes met where they are a cheaper plan, and lists a leaf whose value reaches the target.
@@ -100,10 +100,10 @@ fn work_at<'i>(
         growth.lay_aside(leaf)?;
         return Ok(None);
     }
-    let children = match part(raised, pool, state, None) {
-        Ok(Parted::Split(children)) => children,
-        Ok(Parted::Settled(settled, plan)) => {
-            settle(&settled, plan, growth)?;
+    let children = match split_or_decide(raised, pool, state, None) {
+        Ok(SplitOrDecided::Split(children)) => children,
+        Ok(SplitOrDecided::Decided(decided, plan)) => {
+            list_decided(&decided, plan, growth)?;
             return Ok(None);
         }
         Err(LabelFault::Memory) => return Err(AllocError),

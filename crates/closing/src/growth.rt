@@ -20,7 +20,7 @@ use solomon_reader::{Instance, bounds_hold};
 use std::alloc::{AllocError, Global};
 use tenths::Tenths;
 
-/// A tree that grows from the root of an instance, listed in the reverse of preorder as far as it is settled.
+/// A tree that grows from the root of an instance, listed in the reverse of preorder as far as it is known.
 #[derive(Drop)]
 pub(crate) struct Growth<'i> {
     pub(crate) alloc: Global,

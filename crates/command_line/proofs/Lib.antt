@@ -1,4 +1,4 @@
-mod Refusals
+mod Refused
 mod Sources
 mod Steps
 mod Parts

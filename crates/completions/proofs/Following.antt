@@ -12,7 +12,7 @@ use Rattle.solomon_reader.specs.States.{Pricing, State, arc_value, begins, step,
 use Rattle.fronts.specs.declared.front.Front.{Front}
 use Rattle.completions.specs.declared.bound.Bound.{Bound}
 use Rattle.completions.specs.declared.brink.Brink.{Brink}
-use Rattle.completions.specs.Completions.{most_paid, IsSmall, Holds, IsFrom, IsBound, StartsIn, IsBoundAmong, IsEndBound, IsBoundWith, IsOnward, IsBelowStep, IsJoined, IsBrink, IsNoNews}
+use Rattle.completions.specs.Completions.{most_paid, IsSmall, Holds, IsFrom, IsBound, StartsIn, IsBoundAmong, IsEndBound, IsBoundWith, IsOnward, IsBelowStep, IsJoined, IsBrink, IsLowEnough}
 use Rattle.fronts.specs.Fronts.{bare_state, IsPaid, IsAfter}
 use Rattle.solomon_reader.specs.Memories.{place_of}
 use Rattle.solomon_reader.proofs.Places.{near_at}
@@ -115,7 +115,7 @@ module _ (q : Pricing) (task : IsPaid q) (held : q.problem.capacity ≤ MOST_CAP
       bound_yes = record { small = joined.small; older = older; on = at_step }
 
     -- a step that brings no news
-    pub bound_same : (j : ℕ) (b : Bound) (next : Front) → IsAfter q.problem q.paid f j next → IsSmall b → IsNoNews q j next b → IsBoundWith q v t d j b b
+    pub bound_same : (j : ℕ) (b : Bound) (next : Front) → IsAfter q.problem q.paid f j next → IsSmall b → IsLowEnough q j next b → IsBoundWith q v t d j b b
     bound_same j b next after small none = record { small = small; older = λ a s h. h; on = on }
       where
         on_from : (a : State) → IsFrom v t d a → IsFrom j next.time 0 (step q a j)
@@ -187,9 +187,9 @@ module _ (q : Pricing) where
     least = λ a s from c. (h.holds a s from c).least;
   })
 
-  pub no_news : (j : ℕ) (f : Front) (b : Bound) (k : Brink) → IsBrink q k → k.row ≡ j → k.from ≤ f.time → f.load + k.room ≤ b.room
-      → b.least ≤ℤ (f.cost +ℤ k.least) → b.other ≤ℤ (f.cost +ℤ k.least) → IsNoNews q j f b
-  no_news j f b k is row soon room least other = record {
+  pub low_enough : (j : ℕ) (f : Front) (b : Bound) (k : Brink) → IsBrink q k → k.row ≡ j → k.from ≤ f.time → f.load + k.room ≤ b.room
+      → b.least ≤ℤ (f.cost +ℤ k.least) → b.other ≤ℤ (f.cost +ℤ k.least) → IsLowEnough q j f b
+  low_enough j f b k is row soon room least other = record {
     room = λ a s from c. omega (arith, is.room a s (on a from) c, room);
     least = λ a s from c. omega (arith, ints, is.least a s (on a from) c, least);
     other = λ a s from c. omega (arith, ints, is.least a s (on a from) c, other);

@@ -92,7 +92,7 @@ pub record IsBrink (q : Pricing) (b : Brink) : Type 0 where
   pub least : (a : State) (s : List ℕ) → IsFrom b.row b.from 0 a → Completes q a s → (a.cost +ℤ b.least) ≤ℤ value_with q a s
 
 -- the bound says as little as what follows on a visit of j that ends when the front does or later, with what the front has loaded and cost
-pub record IsNoNews (q : Pricing) (j : ℕ) (f : Front) (b : Bound) : Type 0 where
+pub record IsLowEnough (q : Pricing) (j : ℕ) (f : Front) (b : Bound) : Type 0 where
   pub room : (a : State) (s : List ℕ) → IsFrom j f.time 0 a → Completes q a s → f.load + load_of q.problem s ≤ b.room
   pub least : (a : State) (s : List ℕ) → IsFrom j f.time 0 a → Completes q a s → (a.cost +ℤ b.least) ≤ℤ (f.cost +ℤ value_with q a s)
   pub other : (a : State) (s : List ℕ) → IsFrom j f.time 0 a → Completes q a s → (a.cost +ℤ b.other) ≤ℤ (f.cost +ℤ value_with q a s)

@@ -4,7 +4,7 @@ ghost use Rattle.std.specs.Prelude.{◌≤◌, ◌*◌, pos, ◌+ℤ◌, ◌≤�
 ghost use Rattle.std.specs.List.{All};
 ghost use Rattle.solomon_reader.specs.declared.limits.TheConstants.{MOST_CAPACITY};
 ghost use Rattle.solomon_reader.specs.States.{most_grains};
-ghost use Rattle.completions.specs.Completions.{IsBrink, IsNoNews};
+ghost use Rattle.completions.specs.Completions.{IsBrink, IsLowEnough};
 ghost use Rattle.fronts.specs.Tasks.{pricing_of};
 
 use crate::bound::Bound;
@@ -24,10 +24,10 @@ pub(crate) struct Brink {
     pub(crate) room: u16,
 }
 
-/// Whether a bound says as little as what follows on a step that leads to a front. The task is named by the contract
+/// Whether a bound is as low as what follows on a step that leads to a front. The task is named by the contract
 /// alone.
 #[inline(always)]
-pub(crate) fn is_no_news(
+pub(crate) fn is_low_enough(
     _task: &Task<'_>,
     brinks: &[Brink],
     next: &Front,
@@ -38,7 +38,7 @@ pub(crate) fn is_no_news(
     requires load { next.now.load ≤ MOST_CAPACITY }
     requires low { pos 0 ≤ℤ (next.now.cost +ℤ pos (most_grains * MOST_CAPACITY)) }
     requires high { next.now.cost ≤ℤ pos (most_grains * MOST_CAPACITY) }
-    ensures { IsTrue result → IsNoNews (pricing_of _task.now) step.now.customer next.now bound.now }
+    ensures { IsTrue result → IsLowEnough (pricing_of _task.now) step.now.customer next.now bound.now }
 {
     let row = usize::from(step.customer);
     if row >= brinks.len() {

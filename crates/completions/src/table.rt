@@ -13,7 +13,7 @@ ghost use Rattle.fronts.specs.Tables.{IsAllowedRow};
 ghost use Rattle.fronts.specs.Tasks.{pricing_of};
 
 use crate::bound::{Bound, RowBound};
-use crate::brink::{Brink, is_no_news};
+use crate::brink::{Brink, is_low_enough};
 use crate::grid::{Corner, Grid, Loads};
 use crate::part::{Part, part_length, parts_of};
 use fronts::{CustomerSet, Front, Step, Task};
@@ -203,7 +203,7 @@ fn with_step(filled: &Filled<'_, '_>, front: &Front, load: u32, step: &Step, bou
 {
     let task = filled.task;
     let next = task.after(front, step);
-    if is_no_news(task, filled.brinks, &next, step, &bound) {
+    if is_low_enough(task, filled.brinks, &next, step, &bound) {
         return bound;
     }
     let load = load + u32::from(step.demand);
@@ -250,15 +250,15 @@ fn bound_from(filled: &Filled<'_, '_>, v: u16, corner: Corner, seed: Bound) -> (
     let load = u32::from(corner.load);
     let end = end_bound(task, &front, rows);
     let mut bound = with_seed(task, &front, end, seed);
-    let mut looks: u64 = 0;
+    let mut work: u64 = 0;
     for step in task.steps_from(v) {
         if step.is_late(front.time) {
-            return (bound, looks);
+            return (bound, work);
         }
         bound = with_step(filled, &front, load, step, bound);
-        looks = looks.saturating_add(1);
+        work = work.saturating_add(1);
     }
-    (bound, looks)
+    (bound, work)
 }
 
 /// What the bound of a row begins as: what it is in the next slot, where that has a place, or what leaves nothing out.
@@ -325,7 +325,7 @@ fn fill_at(
         bounds,
         brinks,
     };
-    let (bound, looks) = bound_from(&filled, v, corner, seed);
+    let (bound, work) = bound_from(&filled, v, corner, seed);
     note(task, brinks, &bound, v, corner);
     if place < bounds.len() {
         bounds[place] = RowBound {
@@ -335,7 +335,7 @@ fn fill_at(
             load: corner.load,
         };
     }
-    looks
+    work
 }
 
 /// Puts in the bounds of all customers in a slot, and says how many customers were looked at.
@@ -351,11 +351,11 @@ fn fill_slot(
     ensures bounds { All (IsRowBound (pricing_of task.now)) bounds.new }
     ensures brinks { All (IsBrink (pricing_of task.now)) brinks.new }
 {
-    let mut looks: u64 = 0;
+    let mut work: u64 = 0;
     for v in 1..task.instance.customer_count() + 1 {
-        looks = looks.saturating_add(fill_at(task, grid, bounds, brinks, v, slot));
+        work = work.saturating_add(fill_at(task, grid, bounds, brinks, v, slot));
     }
-    looks
+    work
 }
 
 /// Puts in all bounds, those of the last slot first, and says how many customers were looked at.
@@ -365,12 +365,12 @@ fn fill(task: &Task<'_>, grid: Grid<'_>, bounds: &mut [RowBound], brinks: &mut [
     ensures { All (IsRowBound (pricing_of task.now)) bounds.new }
 {
     let last = grid.last();
-    let mut looks: u64 = 0;
+    let mut work: u64 = 0;
     for past in 0..last.saturating_add(1) {
         let slot = last.saturating_sub(past);
-        looks = looks.saturating_add(fill_slot(task, grid, bounds, brinks, slot));
+        work = work.saturating_add(fill_slot(task, grid, bounds, brinks, slot));
     }
-    looks
+    work
 }
 
 /// The bounds of a grid, and how many customers were looked at for them.
@@ -392,19 +392,19 @@ fn bounds_of(task: &Task<'_>, grid: Grid<'_>) -> Result<(Vec<RowBound>, u64), Al
     };
     let mut bounds = vec![in task.alloc; nothing; grid.count(task.instance)]?;
     let mut brinks = vec![in task.alloc; unseen; grid.noted(task.instance)]?;
-    let looks = fill(task, grid, bounds.as_mut_slice(), brinks.as_mut_slice());
-    Ok((bounds, looks))
+    let work = fill(task, grid, bounds.as_mut_slice(), brinks.as_mut_slice());
+    Ok((bounds, work))
 }
 
-/// The slots of load of a task, if bounds for them pay: where an earlier search took this many looks, and few
+/// The slots of load of a task, if bounds for them pay: where an earlier search was this much work, and few
 /// customers fit a vehicle.
-fn loads_for(task: &Task<'_>, looks: u64) -> Option<Loads> {
+fn loads_for(task: &Task<'_>, work: u64) -> Option<Loads> {
     let loads = Loads::new(task.instance);
     let customers = u64::from(task.instance.customer_count());
     let filling = customers
         .saturating_mul(customers)
         .saturating_mul(u64::from(loads.count()));
-    (loads.count() <= MOST_LOADS && looks > filling).then_some(loads)
+    (loads.count() <= MOST_LOADS && work > filling).then_some(loads)
 }
 
 /// Bounds on what may follow from each row at each time, and where those pay, with each load.
@@ -416,7 +416,7 @@ pub struct Completions<'t, 'i> {
     by_load: Vec<RowBound>,
     loads: Option<Loads>,
     parts: Vec<Part>,
-    looks: u64,
+    work: u64,
     ghost at_parts: { All (IsPart (pricing_of task.now)) parts.items },
     ghost at_times: { All (IsRowBound (pricing_of task.now)) by_time.items },
     ghost at_loads: { All (IsRowBound (pricing_of task.now)) by_load.items },
@@ -433,17 +433,17 @@ impl<'t, 'i> Completions<'t, 'i> {
             by_load: Vec::new(task.alloc),
             loads: None,
             parts: Vec::new(task.alloc),
-            looks: 0,
+            work: 0,
         }
     }
 
-    /// The bounds of a task, after a search that took this many looks.
-    pub fn new(task: &'t Task<'i>, looks: u64) -> Result<Completions<'t, 'i>, AllocError>
+    /// The bounds of a task, after a search that was this much work.
+    pub fn new(task: &'t Task<'i>, work: u64) -> Result<Completions<'t, 'i>, AllocError>
         ensures { IfOk result (λ c. c.task.now ≡ task.now) }
     {
-        let (by_time, time_looks) = bounds_of(task, Grid::Times(task.slots))?;
-        let loads = loads_for(task, looks);
-        let (by_load, load_looks) = match loads {
+        let (by_time, time_work) = bounds_of(task, Grid::Times(task.slots))?;
+        let loads = loads_for(task, work);
+        let (by_load, load_work) = match loads {
             Some(loads) => bounds_of(task, Grid::Loads(task.slots, loads))?,
             None => (Vec::new(task.alloc), 0),
         };
@@ -454,13 +454,13 @@ impl<'t, 'i> Completions<'t, 'i> {
             by_load,
             loads,
             parts,
-            looks: time_looks.saturating_add(load_looks),
+            work: time_work.saturating_add(load_work),
         })
     }
 
     /// How many customers were looked at for them. No contract: it only measures.
-    pub fn looks(&self) -> u64 {
-        self.looks
+    pub fn work(&self) -> u64 {
+        self.work
     }
 
     /// What bounds all that may follow from a row at a time, in tenths, with any load.

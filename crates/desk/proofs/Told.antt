@@ -2,7 +2,7 @@
 use Rattle.std.proofs.Common.{◌≡◌, refl, ℕ, ◌<◌, ◌≤◌, Bool, true, false, [], ◌∷◌, Option, Some, None, MatchOption, arith, ap, List, length, ◌∙◌, inl, inr}
 use Rattle.std.specs.Prelude.{option_to_list, option_map, Err}
 use Rattle.std.proofs.lemmas.Bool.{cases_lt}
-use Rattle.solomon_reader.specs.History.{offered, Event, repriced, branched, costs_of, IsBestCost, IsCheaper}
+use Rattle.solomon_reader.specs.History.{offered, Event, repriced, was_split, costs_of, IsBestCost, IsCheaper}
 use Rattle.solomon_reader.specs.Problem.{Problem}
 use Rattle.solomon_reader.specs.AmongLaws.{among_all}
 use Rattle.solomon_reader.specs.Duality.{IsBelowPlans, IsPlanCost}
@@ -110,7 +110,7 @@ still_offered : (most : Option ℕ) (event : Event) (past : List Event) → WasO
 still_offered None event past was = tt
 still_offered (Some most) (offered worker cost better) past was = (was.0, inr was.1, was.2)
 still_offered (Some most) (repriced worker leaf value) past was = was
-still_offered (Some most) (branched worker leaf a used unused x y) past was = was
+still_offered (Some most) (was_split worker leaf a used unused x y) past was = was
 
 -- a book of our instance and number of neighbours, with a plan of at most this cost if one is named
 module _ (p : Problem) (k most : ℕ) (opening_cost : Option ℕ) (opening_bound : ℕ) (b : Contents) (before : Tally) (is : IsCounted p k most opening_cost opening_bound b before) where

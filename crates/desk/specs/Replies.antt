@@ -3,7 +3,7 @@ use Rattle.std.specs.Prelude.{◌≡◌, ℕ, ◌<◌, ◌≤◌, max, Bool, tru
 use Rattle.solomon_reader.specs.Problem.{Problem}
 use Rattle.solomon_reader.specs.Plan.{Arc}
 use Rattle.solomon_reader.specs.Duality.{IsBelowPlans, IsPlanCost}
-use Rattle.solomon_reader.specs.History.{offered, repriced, branched}
+use Rattle.solomon_reader.specs.History.{offered, repriced, was_split}
 use Rattle.schedule.specs.Solution.{Solution}
 use Rattle.prices.specs.ValuedPrices.{ValuedPrices}
 use Rattle.incumbent_book.specs.declared.offered.Offered.{Offered}
@@ -63,7 +63,7 @@ Reprices p k old m f (Err (returned, fault)) new = TellsForeign (f.problem ≡ p
 -- a split of a leaf by an arc: accepted and counted with the numbers that it made, or both children's prices come back and the share is as it was
 abbrev pub Splits : Problem → ℕ → Account → ℕ → Arc → ValuedPrices → ValuedPrices → Result (ℕ × ℕ) (ValuedPrices × ValuedPrices × BookFault) → Account → Type 0
 Splits p k old m a x y (Ok (used, unused)) new =
-    IsPricedFor p k x × IsPricedFor p k y × (new ≡ with_event old (branched old.worker m a used unused x.value y.value))
+    IsPricedFor p k x × IsPricedFor p k y × (new ≡ with_event old (was_split old.worker m a used unused x.value y.value))
 Splits p k old m a x y (Err (used, unused, fault)) new = TellsForeign ((x.problem ≡ p) × (y.problem ≡ p)) fault × (used ≡ x) × (unused ≡ y) × (new ≡ old)
 
 -- What is told of the best cost: none only where none was seen, else a plan's and at most the cost seen; the bound is one of all plans and at least the bound seen.

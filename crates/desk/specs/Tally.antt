@@ -1,6 +1,6 @@
 -- Counts and sums over a history.
 use Rattle.std.specs.Prelude.{ℕ, ◌+◌, List, [], ◌∷◌, if◌then◌else◌}
-use Rattle.solomon_reader.specs.History.{Event, offered, repriced, branched}
+use Rattle.solomon_reader.specs.History.{Event, offered, repriced, was_split}
 
 -- The accepted offers, the better ones, the reprices and the splits; and sums: of the worker's number, once for each accepted call, of the costs offered,
 -- of the reprices' values, of the leaves that the reprices named, of those that the splits named, and of the numbers that the splits made.
@@ -47,7 +47,7 @@ tally_of_event (offered worker cost better) =
     record { accepted = 1; better = if better then 1 else 0; repriced = 0; split = 0; workers = worker; costs = cost; values = 0; repriced_leaves = 0; split_leaves = 0; made = 0 }
 tally_of_event (repriced worker leaf value) =
     record { accepted = 0; better = 0; repriced = 1; split = 0; workers = worker; costs = 0; values = value; repriced_leaves = leaf; split_leaves = 0; made = 0 }
-tally_of_event (branched worker leaf a used unused x y) = split_tally worker leaf used unused
+tally_of_event (was_split worker leaf a used unused x y) = split_tally worker leaf used unused
 
 -- the sum of the tallies of the elements
 unfoldable pub tally_by : {X : Type 0} → (X → Tally) → List X → Tally

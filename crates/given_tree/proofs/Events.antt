@@ -3,7 +3,7 @@ use Rattle.std.proofs.Common.{◌≡◌, refl, ℕ, ◌≤◌, ◌∷◌, Some, 
 use Rattle.std.proofs.lemmas.Bool.{cases_eq}
 use Rattle.solomon_reader.specs.Problem.{customer_count}
 use Rattle.solomon_reader.specs.Plan.{Arc}
-use Rattle.solomon_reader.specs.History.{repriced, branched, split_count, used_number, unused_number, split_of, value_of, IsLegal, IsLeaf}
+use Rattle.solomon_reader.specs.History.{repriced, was_split, split_count, used_number, unused_number, split_of, value_of, IsLegal, IsLeaf}
 use Rattle.incumbent_book.specs.Contents.{Contents}
 use Rattle.incumbent_book.proofs.Histories.{here, elsewhere, not_yet, same_region, same_value, same_split, used_region, unused_region, which_number}
 use Rattle.given_tree.specs.Growing.{Keeps, IsGrownAt, IsStill, IsRaisedTo, IsSplitAt}
@@ -12,7 +12,7 @@ use Rattle.given_tree.specs.Growing.{Keeps, IsGrownAt, IsStill, IsRaisedTo, IsSp
 
 module _ (old new : Contents) (number worker : ℕ) (a : Arc) (i j x y : ℕ) (legal : IsLegal (customer_count old.problem) old.root old.past) (leaf : IsLeaf old.past number)
     (keeps : Keeps old new) (i_is : i ≡ used_number (split_count old.past)) (j_is : j ≡ unused_number (split_count old.past))
-    (past : new.past ≡ branched worker number a i j x y ∷ old.past) where
+    (past : new.past ≡ was_split worker number a i j x y ∷ old.past) where
   abbrev n : ℕ
   n = customer_count old.problem
 
@@ -38,7 +38,7 @@ module _ (old new : Contents) (number worker : ℕ) (a : Arc) (i j x y : ℕ) (l
 
   which_leaf : (m : ℕ) → IsLeaf new.past m → (m ≡ i) ⊎ ((m ≡ j) ⊎ IsStill old new number m)
   which_leaf m at =
-      let here_at : IsLeaf (branched worker number a i j x y ∷ old.past) m = rw past at at in
+      let here_at : IsLeaf (was_split worker number a i j x y ∷ old.past) m = rw past at at in
       elim (which_number n old.root old.past worker number a i j x y m here_at.made) [
         | inl made ↦ elim (cases_eq m number) [
           | inl e ↦ absurd (let s = here m number (Some (split_count old.past, a)) (split_of old.past m) e in let c : None ≡ Some (split_count old.past, a) = sym here_at.whole ∙ s in cc)

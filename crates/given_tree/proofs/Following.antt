@@ -4,7 +4,7 @@ use Rattle.std.specs.Prelude.{◌==◌}
 use Rattle.solomon_reader.specs.Problem.{customer_count}
 use Rattle.solomon_reader.specs.Plan.{Arc}
 use Rattle.solomon_reader.specs.Region.{Region, IsUndecided, used_child, unused_child}
-use Rattle.solomon_reader.specs.History.{Event, offered, repriced, branched, split_count, used_number, unused_number, region_of, IsLeaf}
+use Rattle.solomon_reader.specs.History.{Event, offered, repriced, was_split, split_count, used_number, unused_number, region_of, IsLeaf}
 use Rattle.solomon_reader.specs.Bound.{Version, LeafPrices, leaf_node, split_node, preorder, IsValueAt}
 use Rattle.certificate.specs.declared.node.CertNode.{CertNode}
 use Rattle.certificate.specs.Tree.{node_of, nodes_of}
@@ -25,7 +25,7 @@ pub region_size : (n : ℕ) (past : List Event) (m : ℕ) → (region_of n past 
 region_size n [] m = refl
 region_size n (offered worker cost better ∷ past) m = region_size n past m
 region_size n (repriced worker number value ∷ past) m = region_size n past m
-region_size n (branched worker number a i j x y ∷ past) m =
+region_size n (was_split worker number a i j x y ∷ past) m =
     let s = split_count past in
     chosen_size (m == used_number s) n (used_child (region_of n past number) a) (cond (m == unused_number s) (unused_child (region_of n past number) a) (region_of n past m))
     (region_size n past number) (chosen_size (m == unused_number s) n (unused_child (region_of n past number) a) (region_of n past m) (region_size n past number) (region_size n past m))

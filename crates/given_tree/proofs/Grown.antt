@@ -3,7 +3,7 @@ use Rattle.std.proofs.Common.{◌≡◌, refl, ℕ, ◌+◌, ◌≤◌, min, Lis
 use Rattle.solomon_reader.specs.Problem.{Problem}
 use Rattle.solomon_reader.specs.Plan.{Arc}
 use Rattle.solomon_reader.specs.Region.{Region, root_region, used_child, unused_child}
-use Rattle.solomon_reader.specs.History.{Event, offered, repriced, branched, split_count, split_of, region_of, IsLeaf}
+use Rattle.solomon_reader.specs.History.{Event, offered, repriced, was_split, split_count, split_of, region_of, IsLeaf}
 use Rattle.solomon_reader.specs.Bound.{Version, Tree, LeafPrices, Node, leaf_node, split_node, preorder, HasBound, IsValueAt, ceiling_of}
 use Rattle.incumbent_book.specs.Contents.{Contents}
 use Rattle.incumbent_book.specs.Faults.{region_at}
@@ -91,13 +91,13 @@ pub never_split : (past : List Event) (m : ℕ) → split_count past ≡ 0 → s
 never_split [] m whole = refl
 never_split (offered worker cost better ∷ past) m whole = never_split past m whole
 never_split (repriced worker number value ∷ past) m whole = never_split past m whole
-never_split (branched worker number a i j x y ∷ past) m whole = absurd (omega (arith, whole))
+never_split (was_split worker number a i j x y ∷ past) m whole = absurd (omega (arith, whole))
 
 pub whole_region : (n : ℕ) (past : List Event) (m : ℕ) → split_count past ≡ 0 → region_of n past m ≡ root_region n
 whole_region n [] m whole = refl
 whole_region n (offered worker cost better ∷ past) m whole = whole_region n past m whole
 whole_region n (repriced worker number value ∷ past) m whole = whole_region n past m whole
-whole_region n (branched worker number a i j x y ∷ past) m whole = absurd (omega (arith, whole))
+whole_region n (was_split worker number a i j x y ∷ past) m whole = absurd (omega (arith, whole))
 
 pub root_leaf : (past : List Event) → split_count past ≡ 0 → IsLeaf past 0
 root_leaf past whole = record { made = omega arith; whole = never_split past 0 whole }

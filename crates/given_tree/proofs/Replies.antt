@@ -4,7 +4,7 @@ use Rattle.std.specs.Prelude.{Result, Ok, Err, OnOk, ℤ}
 use Rattle.solomon_reader.specs.Problem.{Problem, customer_count}
 use Rattle.solomon_reader.specs.Plan.{Arc}
 use Rattle.solomon_reader.specs.Region.{Region, IsUndecided, used_child, unused_child}
-use Rattle.solomon_reader.specs.History.{repriced, branched, split_count, used_number, unused_number, value_of, IsLegal, IsLeaf}
+use Rattle.solomon_reader.specs.History.{repriced, was_split, split_count, used_number, unused_number, value_of, IsLegal, IsLeaf}
 use Rattle.solomon_reader.specs.Bound.{Version, listed_sets, LeafPrices, IsValueAt}
 use Rattle.solomon_reader.specs.SetPrices.{PricedSet, priced_sets}
 use Rattle.solomon_reader.specs.CertificateText.{AreSetPrices}
@@ -36,9 +36,9 @@ module _ (old new : Contents) (number worker : ℕ) (a : Arc) (x y : ValuedPrice
 
   pub split_done : IsBook new → IsSplitAt old new number a i j
   split_done book =
-      let past : new.past ≡ branched worker number a (used_number (split_count old.past)) (unused_number (split_count old.past)) x.value y.value ∷ old.past =
+      let past : new.past ≡ was_split worker number a (used_number (split_count old.past)) (unused_number (split_count old.past)) x.value y.value ∷ old.past =
       ap (λ (b : Contents). b.past) splits.3.2 in
-      let legal : IsLegal (customer_count old.problem) old.root (branched worker number a (used_number (split_count old.past)) (unused_number (split_count old.past)) x.value y.value ∷ old.past) =
+      let legal : IsLegal (customer_count old.problem) old.root (was_split worker number a (used_number (split_count old.past)) (unused_number (split_count old.past)) x.value y.value ∷ old.past) =
       rw (split_keeps.problem, split_keeps.root, past) at book.legal in
       let i_is = splits.1 in
       let j_is = splits.2 in

@@ -42,7 +42,7 @@ fn price_children<'i>(
 }
 
 /// Splits a leaf, with these prices at its children, and answers their numbers.
-fn part<'i>(
+fn split_with_prices<'i>(
     book: &mut Book<'i>,
     number: u32,
     arc: Arc,
@@ -76,5 +76,5 @@ pub(crate) fn split_leaf<'i>(
     ensures unlimited { IfErr result (λ e. e ≡ LabelLimit → tree.now.labels ≢ None) }
 {
     let (used, unused) = price_children(tree, handed_on, book, number, arc)?;
-    part(book, number, arc, used, unused)
+    split_with_prices(book, number, arc, used, unused)
 }

@@ -5,7 +5,7 @@ use Rattle.std.proofs.lemmas.Bool.{cases_lt, cases_eq}
 use Rattle.solomon_reader.specs.Plan.{Arc}
 use Rattle.solomon_reader.specs.Region.{used_child, unused_child, Among}
 use Rattle.solomon_reader.specs.AmongLaws.{weaker, among_all}
-use Rattle.solomon_reader.specs.History.{Event, offered, repriced, branched, costs_of, IsBestCost, IsCheaper, split_count, used_number, unused_number, last_number, split_of, region_of}
+use Rattle.solomon_reader.specs.History.{Event, offered, repriced, was_split, costs_of, IsBestCost, IsCheaper, split_count, used_number, unused_number, last_number, split_of, region_of}
 use Rattle.solomon_reader.specs.History.{depth_of, value_of, IsLegal, IsLeaf}
 use Rattle.solomon_reader.specs.Problem.{customer_count}
 use Rattle.incumbent_book.specs.Laws.{CostNeverRises, BoundNeverFalls}
@@ -23,14 +23,14 @@ pub not_yet : (n v : ℕ) (past : List Event) (m : ℕ) → IsLegal n v past →
 not_yet n v [] m legal h = refl
 not_yet n v (offered worker cost better ∷ past) m legal h = not_yet n v past m legal.1 h
 not_yet n v (repriced worker leaf value ∷ past) m legal h = not_yet n v past m legal.1 h
-not_yet n v (branched worker leaf a i j x y ∷ past) m legal h =
+not_yet n v (was_split worker leaf a i j x y ∷ past) m legal h =
     let made = legal.0.leaf.made in
     elsewhere m leaf (Some (split_count past, a)) (split_of past m) (omega arith) ∙ not_yet n v past m legal.1 (omega arith)
 
 -- what a split leaves as it was at a number made before
 module _ (n v : ℕ) (past : List Event) (worker leaf : ℕ) (a : Arc) (i j x y m : ℕ) (made : m ≤ last_number past) where
   abbrev now : List Event
-  now = branched worker leaf a i j x y ∷ past
+  now = was_split worker leaf a i j x y ∷ past
 
   abbrev s : ℕ
   s = split_count past
@@ -56,7 +56,7 @@ module _ (n v : ℕ) (past : List Event) (worker leaf : ℕ) (a : Arc) (i j x y 
 -- what stands at the two new numbers
 module _ (n v : ℕ) (past : List Event) (worker leaf : ℕ) (a : Arc) (i j x y : ℕ) where
   abbrev after : List Event
-  after = branched worker leaf a i j x y ∷ past
+  after = was_split worker leaf a i j x y ∷ past
 
   abbrev t : ℕ
   t = split_count past
@@ -119,7 +119,7 @@ still_offered : (more past : List Event) (cost : ℕ) → Among cost (costs_of p
 still_offered [] past cost h = h
 still_offered (offered worker other better ∷ more) past cost h = inr (still_offered more past cost h)
 still_offered (repriced worker leaf value ∷ more) past cost h = still_offered more past cost h
-still_offered (branched worker leaf a i j x y ∷ more) past cost h = still_offered more past cost h
+still_offered (was_split worker leaf a i j x y ∷ more) past cost h = still_offered more past cost h
 
 pub cost_never_rises : CostNeverRises
 cost_never_rises more past before after is now =
@@ -133,7 +133,7 @@ low_before n v past b (repriced worker leaf value) legal low m at = elim (cases_
   | inl e ↦ omega (arith, here m leaf value (value_of v past m) e, low leaf legal.0.leaf, legal.0.higher)
   | inr d ↦ omega (arith, elsewhere m leaf value (value_of v past m) d, low m (record { made = at.made; whole = at.whole }))
 ]
-low_before n v past b (branched worker leaf a i j x y) legal low m at = elim (which_number n v past worker leaf a i j x y m at.made) [
+low_before n v past b (was_split worker leaf a i j x y) legal low m at = elim (which_number n v past worker leaf a i j x y m at.made) [
   | inl made ↦ elim (cases_eq m leaf) [
     | inl e ↦ absurd (let s = here m leaf (Some (split_count past, a)) (split_of past m) e in let c : None ≡ Some (split_count past, a) = sym at.whole ∙ s in cc)
     | inr d ↦

@@ -5,7 +5,7 @@ use Rattle.std.proofs.lemmas.Bool.{cases_eq}
 use Rattle.solomon_reader.specs.Plan.{Arc as Pair}
 use Rattle.solomon_reader.specs.Bound.{Tree, leaf, split}
 use Rattle.solomon_reader.specs.CertificateText as certificate
-use Rattle.solomon_reader.specs.History.{Event, offered, repriced, branched, split_count, used_number, unused_number, last_number, split_of, IsLegal}
+use Rattle.solomon_reader.specs.History.{Event, offered, repriced, was_split, split_count, used_number, unused_number, last_number, split_of, IsLegal}
 use Rattle.solomon_reader.specs.SetPrices.{ListedSet}
 use Rattle.incumbent_book.specs.Contents.{OwnPrices}
 use Rattle.incumbent_book.specs.Trees.{GrowsAt}
@@ -17,7 +17,7 @@ abbrev under : List Event → ℕ → ℕ → ℕ
 under [] m q = if m == q then 1 else 0
 under (offered worker cost better ∷ past) m q = under past m q
 under (repriced worker l value ∷ past) m q = under past m q
-under (branched worker l b i j x y ∷ past) m q =
+under (was_split worker l b i j x y ∷ past) m q =
     if q == used_number (split_count past) then (if m == used_number (split_count past) then 1 else under past m l)
     else if q == unused_number (split_count past) then (if m == unused_number (split_count past) then 1 else under past m l)
     else under past m q
@@ -27,11 +27,11 @@ abbrev below : List Event → ℕ → ℕ
 below [] m = 1
 below (offered worker cost better ∷ past) m = below past m
 below (repriced worker l value ∷ past) m = below past m
-below (branched worker l b i j x y ∷ past) m = below past m + under past m l
+below (was_split worker l b i j x y ∷ past) m = below past m + under past m l
 
 module _ (past : List Event) (worker l : ℕ) (b : Pair) (i j x y : ℕ) where
   abbrev now : List Event
-  now = branched worker l b i j x y ∷ past
+  now = was_split worker l b i j x y ∷ past
 
   abbrev s : ℕ
   s = split_count past
@@ -64,14 +64,14 @@ itself : (past : List Event) (q : ℕ) → under past q q ≡ 1
 itself [] q = here q q 1 0 refl
 itself (offered worker cost better ∷ past) q = itself past q
 itself (repriced worker l value ∷ past) q = itself past q
-itself (branched worker l b i j x y ∷ past) q = under_itself past worker l b i j x y q (itself past q)
+itself (was_split worker l b i j x y ∷ past) q = under_itself past worker l b i j x y q (itself past q)
 
 -- nothing else is at a number that wasn't split
 alone : (past : List Event) (m q : ℕ) → split_of past m ≡ None → q ≢ m → under past m q ≡ 0
 alone [] m q whole d = elsewhere m q 1 0 (λ e. d (sym e))
 alone (offered worker cost better ∷ past) m q whole d = alone past m q whole d
 alone (repriced worker l value ∷ past) m q whole d = alone past m q whole d
-alone (branched worker l b i j x y ∷ past) m q whole d = elim (cases_eq m l) [
+alone (was_split worker l b i j x y ∷ past) m q whole d = elim (cases_eq m l) [
   | inl e ↦ absurd (let c : None ≡ Some (split_count past, b) = sym whole ∙ here m l (Some (split_count past, b)) (split_of past m) e in cc)
   | inr f ↦
       (let old : split_of past m ≡ None = sym (elsewhere m l (Some (split_count past, b)) (split_of past m) f) ∙ whole in
@@ -89,7 +89,7 @@ one_leaf : (n v : ℕ) (past : List Event) (m : ℕ) → IsLegal n v past → sp
 one_leaf n v [] m legal whole = refl
 one_leaf n v (offered worker cost better ∷ past) m legal whole = one_leaf n v past m legal.1 whole
 one_leaf n v (repriced worker l value ∷ past) m legal whole = one_leaf n v past m legal.1 whole
-one_leaf n v (branched worker l b i j x y ∷ past) m legal whole = elim (cases_eq m l) [
+one_leaf n v (was_split worker l b i j x y ∷ past) m legal whole = elim (cases_eq m l) [
   | inl e ↦ absurd (let c : None ≡ Some (split_count past, b) = sym whole ∙ here m l (Some (split_count past, b)) (split_of past m) e in cc)
   | inr f ↦
       (let old : split_of past m ≡ None = sym (elsewhere m l (Some (split_count past, b)) (split_of past m) f) ∙ whole in
@@ -102,7 +102,7 @@ apart : (n v : ℕ) (past : List Event) (m k q : ℕ) (a : Pair) → IsLegal n v
 apart n v [] m k q a legal e made d = absurd (let c : None ≡ Some (k, a) = e in cc)
 apart n v (offered worker cost better ∷ past) m k q a legal e made d = apart n v past m k q a legal.1 e made d
 apart n v (repriced worker l value ∷ past) m k q a legal e made d = apart n v past m k q a legal.1 e made d
-apart n v (branched worker l b i j x y ∷ past) m k q a legal e made d =
+apart n v (was_split worker l b i j x y ∷ past) m k q a legal e made d =
     let s = split_count past in
     let at = legal.0.leaf.made in
     let whole = legal.0.leaf.whole in
@@ -128,7 +128,7 @@ apart n v (branched worker l b i j x y ∷ past) m k q a legal e made d =
                 under_used past worker l b i j x y m q f (omega arith),
                 ap (λ (p : ℕ). under past p l) same,
                 itself past l,
-                ap (λ (p : ℕ). under (branched worker l b i j x y ∷ past) (used_number s) p) f,
+                ap (λ (p : ℕ). under (was_split worker l b i j x y ∷ past) (used_number s) p) f,
                 under_itself past worker l b i j x y (used_number s) (itself past (used_number s)),
                 under_used past worker l b i j x y (unused_number s) q f (omega arith),
                 alone past (unused_number s) l no_unused (omega arith),
@@ -138,7 +138,7 @@ apart n v (branched worker l b i j x y ∷ past) m k q a legal e made d =
                 under_unused past worker l b i j x y m q f (omega arith),
                 ap (λ (p : ℕ). under past p l) same,
                 itself past l,
-                ap (λ (p : ℕ). under (branched worker l b i j x y ∷ past) (unused_number s) p) f,
+                ap (λ (p : ℕ). under (was_split worker l b i j x y ∷ past) (unused_number s) p) f,
                 under_itself past worker l b i j x y (unused_number s) (itself past (unused_number s)),
                 under_unused past worker l b i j x y (used_number s) q f (omega arith),
                 alone past (used_number s) l no_used (omega arith),
@@ -183,7 +183,7 @@ both_below : (n v : ℕ) (past : List Event) (m k : ℕ) (a : Pair) → IsLegal 
 both_below n v [] m k a legal e = absurd (let c : None ≡ Some (k, a) = e in cc)
 both_below n v (offered worker cost better ∷ past) m k a legal e = both_below n v past m k a legal.1 e
 both_below n v (repriced worker l value ∷ past) m k a legal e = both_below n v past m k a legal.1 e
-both_below n v (branched worker l b i j x y ∷ past) m k a legal e =
+both_below n v (was_split worker l b i j x y ∷ past) m k a legal e =
     let s = split_count past in
     let at = legal.0.leaf.made in
     let whole = legal.0.leaf.whole in
@@ -213,7 +213,7 @@ below_root : (n v : ℕ) (past : List Event) (q : ℕ) → IsLegal n v past → 
 below_root n v [] q legal made = here 0 q 1 0 (omega arith)
 below_root n v (offered worker cost better ∷ past) q legal made = below_root n v past q legal.1 made
 below_root n v (repriced worker l value ∷ past) q legal made = below_root n v past q legal.1 made
-below_root n v (branched worker l b i j x y ∷ past) q legal made =
+below_root n v (was_split worker l b i j x y ∷ past) q legal made =
     elim (which_number n v past worker l b i j x y q made) [
       | inl old ↦ under_old past worker l b i j x y 0 q (omega arith) (omega arith) ∙ below_root n v past q legal.1 old
       | inr new ↦ elim new [
@@ -226,7 +226,7 @@ root_leaves : (n v : ℕ) (past : List Event) → IsLegal n v past → below pas
 root_leaves n v [] legal = refl
 root_leaves n v (offered worker cost better ∷ past) legal = root_leaves n v past legal.1
 root_leaves n v (repriced worker l value ∷ past) legal = root_leaves n v past legal.1
-root_leaves n v (branched worker l b i j x y ∷ past) legal = omega (arith, root_leaves n v past legal.1, below_root n v past l legal.1 legal.0.leaf.made)
+root_leaves n v (was_split worker l b i j x y ∷ past) legal = omega (arith, root_leaves n v past legal.1, below_root n v past l legal.1 legal.0.leaf.made)
 
 tree_leaves : (n v : ℕ) (past : List Event) (listed : List ListedSet) (prices : List OwnPrices) (m : ℕ) (tree : Tree) → IsLegal n v past → GrowsAt past listed prices m tree → certificate.leaf_count tree ≡ below past m
 tree_leaves n v past listed prices m (leaf ps) legal g = sym (one_leaf n v past m legal g.0.whole)

@@ -8,7 +8,7 @@ use Rattle.solomon_reader.specs.Bound.{version_2, ceiling_of, Tree, leaf, split,
 use Rattle.solomon_reader.specs.CertificateText.{IsTreeAt}
 use Rattle.branching.specs.Arcs.{pair}
 use Rattle.prices.specs.ValuedPrices.{ValuedPrices}
-use Rattle.solomon_reader.specs.History.{Event, offered, repriced, branched, split_count, used_number, unused_number, last_number, split_of, IsLeaf, region_of, depth_of, value_of, IsBound}
+use Rattle.solomon_reader.specs.History.{Event, offered, repriced, was_split, split_count, used_number, unused_number, last_number, split_of, IsLeaf, region_of, depth_of, value_of, IsBound}
 use Rattle.solomon_reader.specs.History.{IsLegal}
 use Rattle.solomon_reader.specs.Plan.{IsPlan, plan_cost, Arc as Pair}
 use Rattle.solomon_reader.specs.RegionLaws.{obeys_root, obeys_child}
@@ -92,7 +92,7 @@ parent : (n v : ℕ) (past : List Event) (m : ℕ) → IsLegal n v past → 0 < 
 parent n v [] m legal h k = absurd (omega arith)
 parent n v (offered worker cost better ∷ past) m legal h k = parent n v past m legal.1 h k
 parent n v (repriced worker l value ∷ past) m legal h k = parent n v past m legal.1 h k
-parent n v (branched worker l b i j x y ∷ past) m legal h k =
+parent n v (was_split worker l b i j x y ∷ past) m legal h k =
     let s = split_count past in
     let made = legal.0.leaf.made in
     elim (which_number n v past worker l b i j x y m k) [
@@ -109,7 +109,7 @@ root_same : (n : ℕ) (past : List Event) → region_of n past 0 ≡ root_region
 root_same n [] = refl
 root_same n (offered worker cost better ∷ past) = root_same n past
 root_same n (repriced worker l value ∷ past) = root_same n past
-root_same n (branched worker l b i j x y ∷ past) =
+root_same n (was_split worker l b i j x y ∷ past) =
     elsewhere 0 (used_number (split_count past)) (used_child (region_of n past l) b) _ (omega arith)
     ∙ (elsewhere 0 (unused_number (split_count past)) (unused_child (region_of n past l) b) (region_of n past 0) (omega arith) ∙ root_same n past)
 
@@ -117,7 +117,7 @@ root_depth : (past : List Event) → depth_of past 0 ≡ 0
 root_depth [] = refl
 root_depth (offered worker cost better ∷ past) = root_depth past
 root_depth (repriced worker l value ∷ past) = root_depth past
-root_depth (branched worker l b i j x y ∷ past) =
+root_depth (was_split worker l b i j x y ∷ past) =
     elsewhere 0 (used_number (split_count past)) (depth_of past l + 1) _ (omega arith)
     ∙ (elsewhere 0 (unused_number (split_count past)) (depth_of past l + 1) (depth_of past 0) (omega arith) ∙ root_depth past)
 
@@ -292,7 +292,7 @@ obeys_leaf n v (offered worker cost better ∷ past) routes legal =
     let l = obeys_leaf n v past routes legal.1 in (l.0, record { made = l.1.made; whole = l.1.whole }, l.2)
 obeys_leaf n v (repriced worker the_leaf value ∷ past) routes legal =
     let l = obeys_leaf n v past routes legal.1 in (l.0, record { made = l.1.made; whole = l.1.whole }, l.2)
-obeys_leaf n v (branched worker the_leaf a i j x y ∷ past) routes legal =
+obeys_leaf n v (was_split worker the_leaf a i j x y ∷ past) routes legal =
     let l = obeys_leaf n v past routes legal.1 in
     let made = l.1.made in
     let at = legal.0.leaf.made in

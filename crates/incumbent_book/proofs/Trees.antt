@@ -6,7 +6,7 @@ use Rattle.std.proofs.lemmas.Option.{slice_get-get_or, slice_get_past}
 use Rattle.solomon_reader.specs.Region.{IsUndecided, used_child, unused_child}
 use Rattle.branching.specs.declared.arc.Arc.{Arc}
 use Rattle.branching.specs.Arcs.{pair}
-use Rattle.solomon_reader.specs.History.{Event, offered, repriced, branched, split_count, used_number, unused_number, split_of, region_of, depth_of, IsLegal, last_number, IsLeaf, value_of}
+use Rattle.solomon_reader.specs.History.{Event, offered, repriced, was_split, split_count, used_number, unused_number, split_of, region_of, depth_of, IsLegal, last_number, IsLeaf, value_of}
 use Rattle.solomon_reader.specs.Problem.{Problem, customer_count}
 use Rattle.prices.specs.ValuedPrices.{ValuedPrices, IsValued}
 use Rattle.incumbent_book.specs.declared.node.Leaf.{Leaf}
@@ -53,7 +53,7 @@ split_facts n v (repriced worker l value ∷ past) m j a legal e =
       used_deep = f.used_deep;
       unused_deep = f.unused_deep;
     }
-split_facts n v (branched worker l b i k x y ∷ past) m j a legal e = elim (cases_eq m l) [
+split_facts n v (was_split worker l b i k x y ∷ past) m j a legal e = elim (cases_eq m l) [
   | inl same ↦
       (let s = split_count past in
       let got = from_some (s, b) (j, a) (sym (here m l (Some (s, b)) (split_of past m) same) ∙ e) in
@@ -188,7 +188,7 @@ module _ (p : Problem) (k v : ℕ) (past : List Event) (nodes : List Node) (is :
   s = split_count past
 
   abbrev new : List Event
-  new = branched worker m (pair arc) (used_number s) (unused_number s) x.value y.value ∷ past
+  new = was_split worker m (pair arc) (used_number s) (unused_number s) x.value y.value ∷ past
 
   abbrev node_split : Node
   node_split = Split arc (length nodes) (length nodes + 1)

@@ -10,7 +10,7 @@ use Rattle.solomon_reader.specs.Problem.{Problem, customer_count}
 use Rattle.schedule.specs.Solution.{Solution, IsSolution}
 use Rattle.prices.specs.ValuedPrices.{ValuedPrices, IsValued}
 use Rattle.branching.specs.Arcs.{pair}
-use Rattle.solomon_reader.specs.History.{Limits, IsWithin, IsLegal, IsBestCost, IsLeaf, last_number, region_of, value_of, offered, repriced, branched}
+use Rattle.solomon_reader.specs.History.{Limits, IsWithin, IsLegal, IsBestCost, IsLeaf, last_number, region_of, value_of, offered, repriced, was_split}
 use Rattle.solomon_reader.specs.History as history
 use Rattle.incumbent_book.specs.declared.limits.Limits.{Limits as Bounds}
 use Rattle.incumbent_book.specs.declared.event.Event.{Event}
@@ -20,7 +20,7 @@ use Rattle.incumbent_book.specs.declared.event.Event.TheVariants.{Offered, Repri
 abbrev pub event_of : Event → history.Event
 event_of (Offered worker cost better) = offered worker cost better
 event_of (Repriced worker leaf value) = repriced worker leaf value
-event_of (Split worker leaf arc used unused values) = branched worker leaf (pair arc) used unused values.0 values.1
+event_of (Split worker leaf arc used unused values) = was_split worker leaf (pair arc) used unused values.0 values.1
 
 -- a history in order, as a past
 abbrev pub past_of : List Event → List history.Event

@@ -7,7 +7,7 @@ use Rattle.prices.specs.ValuedPrices.{ValuedPrices}
 use Rattle.incumbent_book.specs.declared.fault.OpenFault.{OpenFault}
 use Rattle.incumbent_book.specs.declared.fault.OpenFault.TheVariants as fault
 use Rattle.solomon_reader.specs.Region.{root_region}
-use Rattle.solomon_reader.specs.History.{Limits, offered, repriced, branched, IsCheaper, IsBestCost, IsBound, IsLeaf, split_count, used_number, unused_number}
+use Rattle.solomon_reader.specs.History.{Limits, offered, repriced, was_split, IsCheaper, IsBestCost, IsBound, IsLeaf, split_count, used_number, unused_number}
 use Rattle.std.specs.List.{AllByRecursion}
 use Rattle.solomon_reader.specs.Region.{Among}
 use Rattle.solomon_reader.specs.SetPrices.{ListedSet, PricedSet, listed_of}
@@ -71,7 +71,7 @@ with_prices old worker m f more =
 abbrev pub with_split : Contents → ℕ → ℕ → Arc → ValuedPrices → ValuedPrices → List ListedSet → Contents
 with_split old worker m a x y more =
     record old {
-      past = branched worker m a (used_number (split_count old.past)) (unused_number (split_count old.past)) x.value y.value ∷ old.past;
+      past = was_split worker m a (used_number (split_count old.past)) (unused_number (split_count old.past)) x.value y.value ∷ old.past;
       listed = old.listed ++ more;
       prices = slice_set old.prices m no_prices ++ own_prices x ∷ own_prices y ∷ [];
     }

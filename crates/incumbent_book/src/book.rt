@@ -35,7 +35,7 @@ use tenths::Tenths;
 /// How many events a new book has room for.
 const FIRST_ROOM: usize = 16;
 
-/// The book of a search for a cheapest plan: the incumbent, the tree of the branchings with prices
+/// The book of a search for a cheapest plan: the incumbent, the tree of the splits with prices
 /// at its leaves, the list of all sets that had a price there, and the history of what was accepted.
 /// Contracts see the instance, the number of neighbours, the root's first value, the limits, how many
 /// sets may be listed, the incumbent, the history, the list and the prices.
@@ -223,7 +223,7 @@ impl<'i> Book<'i> {
     {
         let reply = match self.split_fault(leaf, arc, &used, &unused) {
             Some(fault) => Err((used, unused, fault)),
-            None => self.part(worker, leaf, arc, used, unused),
+            None => self.take_split(worker, leaf, arc, used, unused),
         };
         self.holds();
         reply
@@ -253,7 +253,8 @@ impl<'i> Book<'i> {
         self.gap_counted(&mut Steps::new())
     }
 
-    /// The answer of `gap`. It reads the value of one node at most, which `steps` counts.
+    /// The answer of `gap`. It reads the value of one node at most, and `steps` counts that: so a caller sees that
+    /// the bound is found at once, however many leaves stand.
     pub fn gap_counted(&self, steps: &mut Steps) -> Gap
         ensures gap { IsOptimalityGap self.now result }
         ensures within { result.bound ≤ MOST_TENTHS }

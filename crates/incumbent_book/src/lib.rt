@@ -1,4 +1,4 @@
-//! The book of a search: its incumbent plan, the tree of its branchings, and the history of what
+//! The book of a search: its incumbent plan, the tree of its splits, and the history of what
 //! was accepted.
 #![tactic(auto)]
 

@@ -153,7 +153,7 @@ impl<'i> Book<'i> {
     }
 
     /// Splits a leaf by an arc where that is accepted, unless memory or room for sets is refused.
-    pub(crate) fn part(
+    pub(crate) fn take_split(
         &mut self,
         worker: u16,
         leaf: u32,

@@ -1,4 +1,4 @@
 pub mod Weighing
-pub mod Gaps
+pub mod Places
 pub mod Routing
 pub mod Building

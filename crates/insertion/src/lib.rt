@@ -4,8 +4,8 @@
 mod building;
 mod built;
 mod fault;
-mod gap;
 mod opening;
+mod place;
 mod proposal;
 mod route;
 mod weights;

@@ -3,9 +3,9 @@
 ghost use Rattle.std.specs.Prelude.{◌≤◌, ◌<◌, ◌^◌, length, IfSome, unsigned_abs};
 ghost use Rattle.std.specs.List.{All};
 ghost use Rattle.solomon_reader.specs.Problem.{IsCustomer};
-ghost use Rattle.insertion.specs.Gaps.{IsBoundedGap};
+ghost use Rattle.insertion.specs.Places.{IsBoundedPlace};
 
-use crate::gap::Gap;
+use crate::place::Place;
 use crate::route::OpenRoute;
 use crate::weights::Weights;
 use solomon_reader::Instance;
@@ -26,36 +26,36 @@ pub(crate) struct Proposal {
     gain: i64,
 }
 
-/// The criterion c1 of a customer in this gap, or `None` where the route would be late.
-fn cost_in(instance: &Instance, weights: &Weights, gap: &Gap, customer: u16) -> Option<i64>
-    requires gap { IsBoundedGap instance.now gap.now }
+/// The criterion c1 of a customer in this place, or `None` where the route would be late.
+fn cost_in(instance: &Instance, weights: &Weights, place: &Place, customer: u16) -> Option<i64>
+    requires place { IsBoundedPlace instance.now place.now }
     requires customer { IsCustomer instance.now customer }
     ensures { IfSome result (λ cost. unsigned_abs cost ≤ 10 ^ 15) }
 {
-    let to = instance.distance(gap.before, customer).get();
-    let from = instance.distance(customer, gap.after).get();
-    let begins = (gap.leaves + to).max(instance.ready(customer));
+    let to = instance.distance(place.before, customer).get();
+    let from = instance.distance(customer, place.after).get();
+    let begins = (place.leaves + to).max(instance.ready(customer));
     let reached = begins + instance.service(customer) + from;
-    if begins > instance.due(customer) || reached > gap.latest {
+    if begins > instance.due(customer) || reached > place.latest {
         return None;
     }
-    let detour = weights.detour((to + from) as i64, gap.arc as i64);
-    let delay = reached.max(instance.ready(gap.after)) as i64 - gap.begins as i64;
+    let detour = weights.detour((to + from) as i64, place.arc as i64);
+    let delay = reached.max(instance.ready(place.after)) as i64 - place.begins as i64;
     Some(weights.cost(detour, delay))
 }
 
 /// The candidate of least c1 for a customer, ties to the lower position, or `None` where it has none.
 fn best_candidate(weights: &Weights, route: &OpenRoute<'_>, customer: u16) -> Option<Candidate>
     requires { IsCustomer route.now.instance.now customer }
-    ensures { IfSome result (λ candidate. candidate.position < length route.now.gaps.items) }
+    ensures { IfSome result (λ candidate. candidate.position < length route.now.places.items) }
 {
     let instance = route.instance;
     if u32::from(instance.demand(customer)) > route.room {
         return None;
     }
     let mut best: Option<Candidate> = None;
-    for (position, gap) in route.gaps.iter().enumerate() {
-        if let Some(cost) = cost_in(instance, weights, gap, customer) {
+    for (position, place) in route.places.iter().enumerate() {
+        if let Some(cost) = cost_in(instance, weights, place, customer) {
             if best.is_none_or(|least| cost < least.cost) {
                 best = Some(Candidate { position, cost });
             }

@@ -3,22 +3,22 @@
 ghost use Rattle.std.specs.Prelude.{◌≡◌, ◌+◌, ◌≤◌, length, IfOk, IfSome, IfNone};
 ghost use Rattle.std.specs.List.{All, insert};
 ghost use Rattle.solomon_reader.specs.Plan.{IsFitting};
-ghost use Rattle.insertion.specs.Gaps.{IsBoundedGap};
+ghost use Rattle.insertion.specs.Places.{IsBoundedPlace};
 
-use crate::gap::{Gap, gaps};
+use crate::place::{Place, places};
 use schedule::walk;
 use solomon_reader::Instance;
 use std::alloc::{AllocError, Global};
 
-/// A route with its gaps, and what its vehicle can still load.
+/// A route with its places, and what its vehicle can still load.
 #[derive(Drop)]
 pub(crate) struct OpenRoute<'i> {
     pub(crate) instance: &'i Instance,
     pub(crate) visits: Vec<u16>,
-    pub(crate) gaps: Vec<Gap>,
+    pub(crate) places: Vec<Place>,
     pub(crate) room: u32,
-    ghost known: { All (λ g. IsBoundedGap instance.now g) gaps.items },
-    ghost count: { length gaps.items ≡ length visits.items + 1 },
+    ghost known: { All (λ g. IsBoundedPlace instance.now g) places.items },
+    ghost count: { length places.items ≡ length visits.items + 1 },
 }
 
 impl<'i> OpenRoute<'i> {
@@ -38,12 +38,12 @@ impl<'i> OpenRoute<'i> {
         let Some(walk) = walk(instance, &visits) else {
             return Ok(None);
         };
-        let gaps = gaps(alloc, instance, &visits)?;
+        let places = places(alloc, instance, &visits)?;
         let room = u32::from(instance.capacity()) - walk.load;
         Ok(Some(OpenRoute {
             instance,
             visits,
-            gaps,
+            places,
             room,
         }))
     }

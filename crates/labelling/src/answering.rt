@@ -14,11 +14,11 @@ use crate::route_ends::cheapest;
 use labels::{Best, Label};
 use std::alloc::{AllocError, Global};
 
-/// A step takes about as long as this many looks.
-const LOOKS_OF_STEP: u64 = 4;
+/// A step takes about as long as this many units of work.
+const WORK_OF_STEP: u64 = 4;
 
-/// This many open steps, looked at before they are made, take about as long as one look.
-const SCANNED_OF_LOOK: u64 = 2;
+/// This many open steps, looked at before they are made, take about as long as one unit of work.
+const SCANNED_OF_UNIT: u64 = 2;
 
 /// The stops up to a label, by its parents.
 fn route_to(alloc: Global, labels: &[Label], index: usize) -> Result<Vec<u16>, AllocError>
@@ -60,12 +60,12 @@ fn answer(alloc: Global, labels: &[Label], best: Best) -> Result<Least, AllocErr
 impl<'t, 'i> Labeller<'t, 'i> {
     /// How much work the search was: the steps taken, four times each, those that others spared, half of the open
     /// steps, the customers that bounds looked at, and how often a label looked at others.
-    fn looks(&self) -> u64 {
-        let taken = self.taken.saturating_mul(LOOKS_OF_STEP);
-        let left_out = self.spared.saturating_add(self.scanned / SCANNED_OF_LOOK);
+    fn work(&self) -> u64 {
+        let taken = self.taken.saturating_mul(WORK_OF_STEP);
+        let left_out = self.spared.saturating_add(self.scanned / SCANNED_OF_UNIT);
         let steps = taken.saturating_add(left_out);
-        let looks = steps.saturating_add(self.completions.looks());
-        looks.saturating_add(self.lookup.looks())
+        let work = steps.saturating_add(self.completions.work());
+        work.saturating_add(self.lookup.work())
     }
 
     /// Tells further routes that were met, the cheapest ones.
@@ -106,7 +106,7 @@ impl<'t, 'i> Labeller<'t, 'i> {
         ensures unlimited { IfErr result (λ e. e ≡ LabelLimit → self.entry.limit ≢ None) }
     {
         let found = self.extend_all(kept);
-        kept.looks = self.looks();
+        kept.work = self.work();
         let Labeller { labels, lookup, .. } = self;
         kept.are_many = labels.len() > few;
         kept.lookup = Some(lookup);

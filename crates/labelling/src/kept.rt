@@ -10,10 +10,10 @@ pub struct Kept {
     /// Further routes that the last search met, by their customers: where a route of low reduced cost was known,
     /// those that cost less than it does.
     pub met: Vec<Vec<u16>>,
-    /// How much work the last search was, in looks: the steps from labels to customers, four times each, those that
+    /// How much work the last search was, in units: the steps from labels to customers, four times each, those that
     /// other labels spared, half of the open steps, the customers that bounds looked at, and how often a label
     /// looked at the labels that remember the same customers. Where it was much, bounds by load pay in the next.
-    pub looks: u64,
+    pub work: u64,
     /// Where it looked its labels up: the memory serves again.
     pub(crate) lookup: Option<Lookup>,
     /// Whether its labels were many, so that bounds on what may follow pay from the beginning.
@@ -25,7 +25,7 @@ impl Kept {
     pub fn nothing(alloc: Global) -> Kept {
         Kept {
             met: Vec::new(alloc),
-            looks: 0,
+            work: 0,
             lookup: None,
             are_many: false,
         }

@@ -25,17 +25,17 @@ use priced_sets::PricedSets;
 use solomon_reader::Instance;
 use std::alloc::{AllocError, Global};
 
-/// The bounds of a task where the labels are many, after a search that took this many looks; few labels don't pay for
+/// The bounds of a task where the labels are many, after a search that was this much work; few labels don't pay for
 /// them.
 fn completions_for<'t, 'i>(
     task: &'t Task<'i>,
-    looks: u64,
+    work: u64,
     are_many: bool,
 ) -> Result<Completions<'t, 'i>, AllocError>
     ensures { IfOk result (λ c. c.task.now ≡ task.now) }
 {
     if are_many {
-        return Completions::new(task, looks);
+        return Completions::new(task, work);
     }
     Ok(Completions::unknown(task))
 }
@@ -52,7 +52,7 @@ fn least_with_bounds(
     ensures least { IfOk result (IsLeastOf (pricing_of task.now)) }
     ensures unlimited { IfErr result (λ e. e ≡ LabelLimit → limit ≢ None) }
 {
-    let completions = Completions::new(task, kept.looks)?;
+    let completions = Completions::new(task, kept.work)?;
     let mut labeller = Labeller::new(&completions, limit, kept.lookup.take())?;
     labeller.follow(known)?;
     labeller.finish(few, kept)
@@ -76,7 +76,7 @@ fn least_of_task(
     let mut labeller = Labeller::new(&unknown, limit, kept.lookup.take())?;
     labeller.follow(known)?;
     labeller.extend_by_time(few)?;
-    let completions = completions_for(task, kept.looks, labeller.labels.len() > few)?;
+    let completions = completions_for(task, kept.work, labeller.labels.len() > few)?;
     labeller.with(&completions).finish(few, kept)
 }
 

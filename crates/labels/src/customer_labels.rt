@@ -12,8 +12,8 @@ use completions::Completions;
 use fronts::Memory;
 use std::alloc::{AllocError, Global};
 
-/// This many labels of a group, which stand side by side, count as one look.
-const LABELS_OF_LOOK: u64 = 4;
+/// This many labels of a group, which stand side by side, are one unit of work.
+const LABELS_OF_UNIT: u64 = 4;
 
 /// A label, by what it dominates others of its customer with.
 #[derive(Clone, Copy)]
@@ -240,7 +240,7 @@ pub(crate) struct CustomerLabels {
     /// Groups of an earlier search, whose memory serves again.
     spare: Vec<MemoryGroup>,
     /// How often newer labels looked at groups, and at labels of them.
-    looks: u64,
+    work: u64,
 }
 
 impl CustomerLabels {
@@ -249,13 +249,13 @@ impl CustomerLabels {
         CustomerLabels {
             groups: Vec::new(alloc),
             spare: Vec::new(alloc),
-            looks: 0,
+            work: 0,
         }
     }
 
     /// Drops all labels, and begins another search.
     pub(crate) fn clear(&mut self) -> Result<(), AllocError> {
-        self.looks = 0;
+        self.work = 0;
         for _ in 0..self.groups.len() {
             if let Some(group) = self.groups.pop() {
                 self.spare.push(group)?;
@@ -265,8 +265,8 @@ impl CustomerLabels {
     }
 
     /// How often newer labels looked at groups, and at labels of them.
-    pub(crate) fn looks(&self) -> u64 {
-        self.looks
+    pub(crate) fn work(&self) -> u64 {
+        self.work
     }
 
     /// Whether an active label dominates a newer one.
@@ -281,8 +281,8 @@ impl CustomerLabels {
     {
         for place in 0..self.groups.len() {
             let (found, labels_met) = self.groups[place].find_dominating(newer);
-            let looks = 1 + labels_met as u64 / LABELS_OF_LOOK;
-            self.looks = self.looks.saturating_add(looks);
+            let work = 1 + labels_met as u64 / LABELS_OF_UNIT;
+            self.work = self.work.saturating_add(work);
             if let Some(index) = found
                 && dominates_at(completions, labels, index, label)
             {
@@ -317,8 +317,8 @@ impl CustomerLabels {
                 keep(completions, labels, &mut memories, label, memory)?;
             }
         }
-        let looks = 1 + self.groups.len() as u64 / LABELS_OF_LOOK;
-        self.looks = self.looks.saturating_add(looks);
+        let work = 1 + self.groups.len() as u64 / LABELS_OF_UNIT;
+        self.work = self.work.saturating_add(work);
         Ok(memories)
     }
 

@@ -85,12 +85,12 @@ impl Lookup {
     }
 
     /// How often a newer label looked at labels of its customer, and at those together that remember the same.
-    pub fn looks(&self) -> u64 {
-        let mut looks: u64 = 0;
+    pub fn work(&self) -> u64 {
+        let mut work: u64 = 0;
         for labels in &self.customers {
-            looks = looks.saturating_add(labels.looks());
+            work = work.saturating_add(labels.work());
         }
-        looks
+        work
     }
 
     /// Whether an active label dominates a newer one.

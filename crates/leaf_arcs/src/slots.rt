@@ -108,7 +108,7 @@ fn shortest(instance: &Instance) -> u64 {
 }
 
 /// The greatest common divisor of two numbers; 1 where they have none.
-fn common(a: u64, b: u64) -> u64
+fn common_divisor(a: u64, b: u64) -> u64
     ensures { 1 ≤ result }
 {
     let (mut a, mut b) = (a, b);
@@ -129,7 +129,7 @@ fn load_length(instance: &Instance) -> u64
     let (mut divisor, mut least) = (0, u64::MAX);
     for i in 1..instance.customer_count() + 1 {
         let demand = u64::from(instance.demand(i));
-        (divisor, least) = (common(divisor, demand), demand.min(least));
+        (divisor, least) = (common_divisor(divisor, demand), demand.min(least));
     }
     let divisor = divisor.max(1);
     let slots = u64::from(instance.capacity()) / divisor;

@@ -1,4 +1,4 @@
 pub mod Gathered
 pub mod Obeying
-pub mod Settles
+pub mod DecidedPrices
 pub mod Within

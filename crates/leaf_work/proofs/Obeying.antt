@@ -9,7 +9,7 @@ use Rattle.solomon_reader.specs.Plan.{Arc, arcs, arcs_from, load_of, count_of}
 use Rattle.solomon_reader.specs.Region.{Region, IsAllowed, Among, Holds, Obeys, plan_arcs}
 use Rattle.solomon_reader.specs.AmongLaws.{weaker, among_all, among_append_left, among_append_right}
 use Rattle.solomon_reader.proofs.BoundedRows.{customer_row}
-use Rattle.branching.specs.Choosing.{IsSettled}
+use Rattle.branching.specs.Choosing.{IsDecided}
 use Rattle.solomon_reader.specs.PlanDefects.{stops}
 use Rattle.solomon_reader.specs.CountLaws.{mark, mark-other, count-cons, count-append}
 use Rattle.branching.specs.Consistent.{IsConsistent}
@@ -21,12 +21,12 @@ length_below_load p limits (i ∷ r) known =
     let some : 1 ≤ demand p i = (customer_row p i limits known.0).1 in
     omega (arith, sum_by-cons (demand p) i r, length_below_load p limits r known.1)
 
-module _ (g : Region) (settled : IsSettled g) where
+module _ (g : Region) (decided : IsDecided g) where
   pub same_next : (i x y : ℕ) → i ≢ 0 → IsAllowed g (i, x) → IsAllowed g (i, y) → x ≡ y
-  same_next i x y nz a b = ap (λ (e : Arc). e.1) (b.leaves nz (i, x) (settled (i, x) a) refl)
+  same_next i x y nz a b = ap (λ (e : Arc). e.1) (b.leaves nz (i, x) (decided (i, x) a) refl)
 
   pub same_before : (x y j : ℕ) → j ≢ 0 → IsAllowed g (x, j) → IsAllowed g (y, j) → x ≡ y
-  same_before x y j nz a b = ap (λ (e : Arc). e.0) (b.enters nz (x, j) (settled (x, j) a) refl)
+  same_before x y j nz a b = ap (λ (e : Arc). e.0) (b.enters nz (x, j) (decided (x, j) a) refl)
 
 -- the stops so far, of the one list on allowed arcs that begins at a customer, and the last of them
 pub record IsFollowed (p : Problem) (g : Region) (start : ℕ) (route : List ℕ) (last : ℕ) : Type 0 where
@@ -71,10 +71,10 @@ module _ (p : Problem) (g : Region) (start : ℕ) where
           length-append route (so_far.tail q f),
         )
 
-    module _ (settled : IsSettled g) where
+    module _ (decided : IsDecided g) where
       ended_at : (rest : List ℕ) → AllByRecursion (IsAllowed g) (arcs_from last rest) → AllByRecursion (λ i. 1 ≤ i) rest → IsAllowed g (last, 0) → rest ≡ []
       ended_at [] all known a = refl
-      ended_at (x ∷ rest) all known a = absurd (omega (arith, known.0, same_next g settled last x 0 so_far.customer all.0 a))
+      ended_at (x ∷ rest) all known a = absurd (omega (arith, known.0, same_next g decided last x 0 so_far.customer all.0 a))
 
       pub ended : IsAllowed g (last, 0) → IsLine p g start route
       ended a = record {
@@ -91,8 +91,8 @@ module _ (p : Problem) (g : Region) (start : ℕ) where
 
         goes_on : (rest : List ℕ) → AllByRecursion (IsAllowed g) (arcs_from last rest) → rest ≡ next ∷ rest_of rest
         unfolding rest_of
-        goes_on [] all = absurd (some (same_next g settled last next 0 so_far.customer a all.0))
-        goes_on (x ∷ rest) all = ap (λ y. y ∷ rest) (same_next g settled last x next so_far.customer all.0 a)
+        goes_on [] all = absurd (some (same_next g decided last next 0 so_far.customer a all.0))
+        goes_on (x ∷ rest) all = ap (λ y. y ∷ rest) (same_next g decided last x next so_far.customer all.0 a)
 
         pub followed_more : IsFollowed p g start (route ++ (next ∷ [])) next
         followed_more = record {

@@ -1,4 +1,4 @@
--- The routes that a settled region leaves, and prices that pay for them.
+-- The routes that a decided region leaves, and prices that pay for them.
 use Rattle.std.specs.Prelude.{◌≡◌, ℕ, ◌+◌, ◌*◌, ◌<◌, ◌≤◌, List, [], ◌∷◌, length, ℤ, pos, nat_abs}
 use Rattle.std.specs.List.{AllByRecursion}
 use Rattle.solomon_reader.specs.Problem.{Problem}

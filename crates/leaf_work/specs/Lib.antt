@@ -1,4 +1,4 @@
-pub mod Branching
+pub mod Children
 pub mod Gathering
-pub mod Settling
-pub mod Parting
+pub mod DecidedPrices
+pub mod Splitting

@@ -4,7 +4,7 @@ ghost use Rattle.std.specs.Prelude.{◌≡◌, ◌*◌, ◌≤◌, ℕ, List, �
 ghost use Rattle.solomon_reader.specs.Plan.{route_cost};
 ghost use Rattle.solomon_reader.specs.Region.{IsAllowed};
 ghost use Rattle.solomon_reader.specs.declared.limits.TheConstants.{MOST_TIME};
-ghost use Rattle.branching.specs.Choosing.{IsSettled};
+ghost use Rattle.branching.specs.Choosing.{IsDecided};
 ghost use Rattle.leaf_work.specs.Gathering.{FitsIn, IsOnly, IsLine};
 
 use branching::Region;
@@ -33,7 +33,7 @@ fn follow(
     region: &Region,
     start: u16,
 ) -> Result<Option<Vec<u16>>, AllocError>
-    requires settled { IsSettled region.now }
+    requires decided { IsDecided region.now }
     requires start { IsAllowed region.now (0, start) }
     ensures { IfOk result (λ o. MatchOption o
         ((q : List ℕ) → ¬ FitsIn instance.now region.now (start ∷ q))
@@ -63,7 +63,7 @@ pub(crate) fn route_from(
     region: &Region,
     start: u16,
 ) -> Result<Option<(Vec<u16>, u64)>, AllocError>
-    requires settled { IsSettled region.now }
+    requires decided { IsDecided region.now }
     ensures none { IfOk result (λ o. IfNone o
         ((q : List ℕ) → ¬ FitsIn instance.now region.now (start ∷ q))) }
     ensures route { IfOk result (λ o. IfSome o

@@ -1,10 +1,10 @@
 //! The children of a leaf, with their prices.
 
 ghost use Rattle.std.specs.Prelude.{◌≡◌, ◌≢◌, None, IfOk, IfErr, IfNone, IfSome};
-ghost use Rattle.branching.specs.Choosing.{IsSettled};
+ghost use Rattle.branching.specs.Choosing.{IsDecided};
 ghost use Rattle.labelling.specs.declared.fault.LabelFault.TheVariants.{LabelLimit};
 ghost use Rattle.prices.specs.Narrowing.{IsNarrower, IsPricedAt};
-ghost use Rattle.leaf_work.specs.Branching.{AreChildren};
+ghost use Rattle.leaf_work.specs.Children.{AreChildren};
 
 use crate::pricing::{price, task_without_sets};
 use crate::trying::{TriedArc, best_arc};
@@ -18,7 +18,7 @@ use std::alloc::{AllocError, Global};
 /// The children of a leaf by an arc, with their prices.
 #[derive(Drop)]
 pub struct Children<'i> {
-    /// The arc that the leaf is branched on.
+    /// The arc that the leaf is split by.
     pub arc: Arc,
     /// The child in which the arc is required.
     pub used: Priced<'i>,
@@ -99,7 +99,7 @@ fn stops_along(
             let stops = [between, tried.arc.from, tried.arc.to, between];
             Vec::from_slice(alloc, &stops)
         }
-        None => pool.branching_arcs(instance),
+        None => pool.arcs_to_split(instance),
     }
 }
 
@@ -128,14 +128,14 @@ fn starts_of(
 /// worth one by that which they leave most open; nothing where every arc that the leaf's region allows is required. That
 /// no value falls is for the book to see. At most this many labels may be active at once in a pricing, if there is a
 /// limit; `LabelLimit` where they don't suffice, and `Memory`.
-pub(crate) fn branch<'i>(
+pub(crate) fn children_of<'i>(
     leaf: &Priced<'i>,
     ascent: Option<&Ascent>,
     pool: &mut RoutePool,
     state: &mut PricingState<'_>,
     labels: Option<usize>,
 ) -> Result<Option<Children<'i>>, LabelFault>
-    ensures settled { IfOk result (λ found. IfNone found (IsSettled leaf.now.region)) }
+    ensures decided { IfOk result (λ found. IfNone found (IsDecided leaf.now.region)) }
     ensures children { IfOk result (λ found. IfSome found (AreChildren leaf.now)) }
     ensures unlimited { IfErr result (λ e. e ≡ LabelLimit → labels ≢ None) }
 {

@@ -72,7 +72,7 @@ pub(crate) fn polish<'i>(
 ) -> Option<Priced<'i>>
     ensures { IfSome result (IsPricedAt best.now.region best.now) }
 {
-    let is_done = best.value() >= goal.value || state.looks() >= goal.looks;
+    let is_done = best.value() >= goal.value || state.work() >= goal.work;
     if is_done || !state.are_pricings_dear() || !ascent.is_ahead_of(best.value(), POLISH_PARTS) {
         return None;
     }
@@ -84,7 +84,7 @@ pub(crate) fn polish<'i>(
 /// Whether a quick search is far less work than an exact pricing.
 fn are_searches_quick(state: &PricingState<'_>) -> bool {
     match &state.quick {
-        Some(way) => way.is_far_less_than(state.kept.looks),
+        Some(way) => way.is_far_less_than(state.kept.work),
         None => false,
     }
 }

@@ -19,8 +19,8 @@ pub struct Effort {
     pub sets: usize,
     /// The most labels that may be active at once in a pricing, if there is a limit.
     pub labels: Option<usize>,
-    /// Prices rise no further where the work of all leaves so far comes to this many looks.
-    pub looks: u64,
+    /// Prices rise no further where the work of all leaves so far comes to this much.
+    pub work: u64,
 }
 
 /// How far the prices of a leaf are raised: up to a value in tenths, from its first rise, where a plan of this cost is
@@ -47,6 +47,6 @@ pub fn goal_of(
         routes,
         sets: effort.sets,
         labels: effort.labels,
-        looks: effort.looks,
+        work: effort.work,
     }
 }

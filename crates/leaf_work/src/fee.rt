@@ -1,4 +1,4 @@
-//! The fee that lifts the value of a settled region without a plan above the ceiling.
+//! The fee that lifts the value of a decided region without a plan above the ceiling.
 
 ghost use Rattle.std.specs.Prelude.{◌≡◌, ◌+◌, ◌*◌, ◌≤◌};
 ghost use Rattle.solomon_reader.specs.Bound.{ceiling_of};

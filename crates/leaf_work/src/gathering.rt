@@ -1,10 +1,10 @@
-//! The routes that a settled region leaves, with prices that pay for each.
+//! The routes that a decided region leaves, with prices that pay for each.
 
 ghost use Rattle.std.specs.Prelude.{◌≡◌, ◌+◌, ◌*◌, ◌≤◌, pos, IfOk};
 ghost use Rattle.solomon_reader.specs.Problem.{customer_count};
 ghost use Rattle.solomon_reader.specs.Lists.{lists};
 ghost use Rattle.solomon_reader.specs.declared.limits.TheConstants.{MOST_TIME};
-ghost use Rattle.branching.specs.Choosing.{IsSettled};
+ghost use Rattle.branching.specs.Choosing.{IsDecided};
 ghost use Rattle.leaf_work.specs.Gathering.{IsGathered};
 
 use crate::chain::route_from;
@@ -31,14 +31,14 @@ fn priced(cost: u64, fee: u64) -> i64
     (1_000 * cost + fee) as i64
 }
 
-/// The routes that a settled region leaves, with their prices.
+/// The routes that a decided region leaves, with their prices.
 pub(crate) fn gather(
     alloc: Global,
     instance: &Instance,
     region: &Region,
     fee: u64,
 ) -> Result<Gathered, AllocError>
-    requires settled { IsSettled region.now }
+    requires decided { IsDecided region.now }
     requires fee { fee ≤ MOST_FEE }
     ensures prices { IfOk result (λ a. IsGathered instance.now region.now
         (customer_count instance.now + 1) 0 a.prices.items (lists a.routes.items)) }

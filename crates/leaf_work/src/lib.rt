@@ -7,6 +7,7 @@
 mod chain;
 mod child;
 mod dear;
+mod decided_prices;
 mod effort;
 mod fee;
 mod first;
@@ -19,7 +20,6 @@ mod raising;
 mod refuting;
 mod serving;
 mod set_round;
-mod settling;
 mod starting;
 mod tasks;
 mod trying;
@@ -27,7 +27,7 @@ mod trying;
 pub use child::Children;
 pub use effort::{Effort, goal_of};
 pub use first::first_leaf;
-pub use leaf::{Parted, part};
+pub use leaf::{SplitOrDecided, split_or_decide};
 pub use pool_plan::met_plan;
 pub use price_way::{
     Ascent, ChildStart, Goal, PricingState, RoutePool, counted_routes, first_rise,

@@ -2,7 +2,7 @@
 
 ghost use Rattle.std.specs.Prelude.{◌≡◌, ◌≢◌, IfOk, IfSome};
 ghost use Rattle.prices.specs.Narrowing.{IsPricedAt};
-ghost use Rattle.leaf_work.specs.Branching.{IsTaskAt};
+ghost use Rattle.leaf_work.specs.Children.{IsTaskAt};
 
 use crate::pricing::price;
 use crate::tasks::trial_task;
@@ -51,7 +51,7 @@ fn routes_at(
     };
     let found = quick_routes(&task, &way.likely, width.unwrap_or(way.width()))?;
     if width.is_none() {
-        way.looks = found.looks;
+        way.work = found.work;
     }
     Ok(found)
 }
@@ -70,7 +70,7 @@ fn search(
         return Ok(i64::MAX);
     }
     let found = routes_at(state, task, width)?;
-    state.count_looks(found.looks);
+    state.count_work(found.work);
     for route in &found.routes {
         if route.reduced_cost < most {
             pool.add(instance, route.stops.as_slice())?;
@@ -94,7 +94,7 @@ fn rows_of(pool: &RoutePool, task: &PricingTask<'_>) -> Result<Vec<i64>, AllocEr
 pub(crate) fn may_pay(state: &PricingState<'_>, leaf: &Priced<'_>) -> bool {
     let customers = u64::from(leaf.instance().customer_count());
     let least = customers.saturating_mul(customers).saturating_mul(8);
-    leaf.region().is_root() && state.kept.looks >= least
+    leaf.region().is_root() && state.kept.work >= least
 }
 
 /// Whether the next step of an ascent is a round of quick searches: at the root, where an exact pricing is
@@ -106,14 +106,14 @@ pub(crate) fn is_quick_next(
     goal: &Goal,
 ) -> Result<bool, AllocError> {
     let customers = u64::from(leaf.instance().customer_count());
-    let exact = state.kept.looks;
+    let exact = state.kept.work;
     if !may_pay(state, leaf) {
         return Ok(false);
     }
     if state.quick.is_none() {
         search(pool, state, leaf.task(), 0, None)?;
     }
-    let are_few = exact.saturating_mul(customers / 5) > goal.looks;
+    let are_few = exact.saturating_mul(customers / 5) > goal.work;
     Ok(match &mut state.quick {
         Some(way) => way.is_next(exact, are_few),
         None => false,
@@ -185,19 +185,19 @@ fn widen(
     Ok(is_wider)
 }
 
-/// Steps by quick searches alone, for this many looks, or until the widest of them lead no further.
+/// Steps by quick searches alone, for this much work, or until the widest of them lead no further.
 fn quick_steps(
     pool: &mut RoutePool,
     state: &mut PricingState<'_>,
     ascent: &mut Ascent,
     leaf: &Priced<'_>,
-    looks: u64,
+    work: u64,
 ) -> Result<(), AllocError> {
-    let end = state.looks().saturating_add(looks);
+    let end = state.work().saturating_add(work);
     let mut mark = ascent.centre.merit;
     let mut made: u32 = 0;
     for _ in 0..MOST_STEPS {
-        if state.looks() >= end || ascent.is_at_target() {
+        if state.work() >= end || ascent.is_at_target() {
             return Ok(());
         }
         let is_found = quick_step(pool, state, ascent, leaf)?;
@@ -280,7 +280,7 @@ fn end_round(
     if let Some(way) = &mut state.quick {
         way.learn(is_raised);
         if next.is_some() {
-            way.hold_back(lack);
+            way.learn_lack(lack);
         }
     }
     let known = pool.least(ascent.centre.prices.as_slice())?;
@@ -303,12 +303,12 @@ pub(crate) fn quick_round<'i>(
         Some(way) => (way.has_begun, way.margin),
         None => return Ok(None),
     };
-    let looks = if has_begun {
-        state.kept.looks
+    let work = if has_begun {
+        state.kept.work
     } else {
-        goal.looks / 10 * 3
+        goal.work / 10 * 3
     };
-    quick_steps(pool, state, ascent, leaf, looks)?;
+    quick_steps(pool, state, ascent, leaf, work)?;
     let scale = scale_of(pool, state, ascent, leaf)?;
     let scale = scale.min(WHOLE).saturating_sub(margin);
     let task = task_of_centre(pool, state, ascent, leaf, scale)?;

@@ -167,7 +167,7 @@ fn climb<'i>(
     let pricings = pricings_at(state, &best, goal);
     for made in 0..most_pricings(&best, pricings) {
         let before = best.value();
-        let is_spent = idle >= goal.idle_pricings || state.looks() >= goal.looks;
+        let is_spent = idle >= goal.idle_pricings || state.work() >= goal.work;
         let is_over = made >= pricings && !ascent.is_near(growth);
         if before >= goal.value || is_spent || is_over {
             return best;

@@ -81,7 +81,7 @@ impl SetRounds {
         let search = state.set_search()?;
         let most = left.min(SETS_OF_ROUND);
         let found = search.find(arcs.as_slice(), pool.rise(), known.as_slice(), most)?;
-        state.count_looks(found.looks);
+        state.count_work(found.work);
         if !found.sets.is_empty() {
             pool.add_sets(state.nearness.instance, found.sets.as_slice())?;
             ascent.take_sets(pool)?;

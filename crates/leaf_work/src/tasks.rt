@@ -1,7 +1,7 @@
 //! What is to be priced at a leaf.
 
 ghost use Rattle.std.specs.Prelude.{◌≡◌, IfOk};
-ghost use Rattle.leaf_work.specs.Branching.{IsTaskAt};
+ghost use Rattle.leaf_work.specs.Children.{IsTaskAt};
 
 use labelling::PricingTask;
 use pooled_routes::Trial;

@@ -107,14 +107,14 @@ fn try_arc(
     let unused_rise = rise_of(&unused, unused_mean, gap);
     let most = score(used_most, unused_rise, gap);
     if most <= best {
-        return Ok(untried(arc, most, unused.looks));
+        return Ok(untried(arc, most, unused.work));
     }
     let used = trials.of_child(arc, Child::Used)?;
     let used_rise = rise_of(&used, used_mean, gap);
     Ok(TriedArc {
         arc,
         score: score(used_rise, unused_rise, gap),
-        routes: used.looks.saturating_add(unused.looks),
+        routes: used.work.saturating_add(unused.work),
         used: Some(used.prices),
         unused: Some(unused.prices),
     })
@@ -146,6 +146,6 @@ pub(crate) fn best_arc(
             best = Some(tried);
         }
     }
-    state.count_looks(routes);
+    state.count_work(routes);
     Ok(best)
 }

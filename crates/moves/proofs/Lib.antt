@@ -4,4 +4,4 @@ pub mod JoinedStops
 pub mod ExactValues
 pub mod RouteStops
 pub mod MoveChanges
-pub mod GapChanges
+pub mod FlankChanges

@@ -295,7 +295,7 @@ or_opt_change p routes a i l b j c d v ne w hc hd exact =
           (exact_apart p routes b j 0 a i l d c _ v order (omega (arith, w.known)) (omega arith) w.chain hd hc (or_opt_earlier_is routes a i l b j w order) exact)
     ]
 
--- CHAINS THAT GO ELSEWHERE IN THEIR OWN ROUTE change the cost as if they went into a gap of another route like it
+-- CHAINS THAT GO ELSEWHERE IN THEIR OWN ROUTE change the cost as if they went into a place of another route like it
 
 pub cut_is_at : (r : List ℕ) (i l : ℕ) → IsCut r i l (cut_at r i l)
 cut_is_at r i l = record { before = refl; some = refl; first = refl; last = refl; behind = refl }

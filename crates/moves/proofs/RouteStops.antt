@@ -1,4 +1,4 @@
--- The stops round a chain and beside a gap, by their positions.
+-- The stops round a chain and beside a place, by their positions.
 use Rattle.std.proofs.Common.{◌≡◌, refl, ℕ, zero, suc, ◌+◌, ◌-◌, ◌<◌, ◌≤◌, true, false, List, [], ◌∷◌, length, get_or, take, drop, ap, ◌∙◌, arith, length-drop, sym}
 use Rattle.std.specs.List.{AllByRecursion}
 use Rattle.std.proofs.lemmas.List.{get_or-drop, length-map}
@@ -9,7 +9,7 @@ use Rattle.segments.specs.Segments.{Summary, first_of, last_of, last_from}
 use Rattle.segments.specs.PlanTrees.{problem_of}
 use Rattle.segments.specs.declared.plan_trees.PlanTrees.{PlanTrees}
 use Rattle.moves.specs.Trees.{visits_of, AreOfPlan}
-use Rattle.moves.specs.Gaps.{customers_of, gap_of, IsKnownGap}
+use Rattle.moves.specs.Flanks.{customers_of, flanks_of, AreKnownFlanks}
 
 pub last_taken : (x : ℕ) (r : List ℕ) (i : ℕ) → i < length r → last_from x (take (suc i) r) ≡ get_or r i 0
 last_taken x [] i h = absurd (omega arith)
@@ -86,9 +86,9 @@ all_dropped p zero r all = all
 all_dropped p (suc n) [] all = tt
 all_dropped p (suc n) (j ∷ r) all = all_dropped p n r all.1
 
--- the stops beside a gap of a plan's route are known
-pub known_gap : (t : PlanTrees) (a k : ℕ) → AreOfPlan t → IsKnownGap (problem_of t) (gap_of (route (visits_of t) a) k)
-known_gap t a k h =
+-- the stops beside a place of a plan's route are known
+pub known_flanks : (t : PlanTrees) (a k : ℕ) → AreOfPlan t → AreKnownFlanks (problem_of t) (flanks_of (route (visits_of t) a) k)
+known_flanks t a k h =
     let p = problem_of t in
     let r = route (visits_of t) a in
     let all = fitting_known p (visits_of t) h.plan.fitting a in

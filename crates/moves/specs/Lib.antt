@@ -4,5 +4,5 @@ pub mod Trees
 pub mod Changes
 pub mod Costs
 pub mod Search
-pub mod Gaps
+pub mod Flanks
 pub mod SecondRoutes

@@ -8,7 +8,7 @@ use Rattle.moves.specs.declared.candidate.Kind.TheVariants as kind
 use Rattle.moves.specs.declared.first_chain.FirstChain.{FirstChain}
 use Rattle.moves.specs.declared.second_route.SecondRoute.{SecondRoute}
 use Rattle.moves.specs.declared.second_route.SwapChanges.{SwapChanges}
-use Rattle.moves.specs.Gaps.{customers_of, gap_of, ends_change, entering_change, chain_at, IsSmall, HasChange, HasNone}
+use Rattle.moves.specs.Flanks.{customers_of, flanks_of, ends_change, entering_change, chain_at, IsSmall, HasChange, HasNone}
 
 -- the stops are those of the plan's route
 abbrev pub IsSecondRoute : List (List ℕ) → SecondRoute → Type 0
@@ -22,9 +22,9 @@ IsShiftKind kind.OrOpt = Unit {0}
 IsShiftKind kind.TwoOptStar = ⊥
 IsShiftKind kind.Cross = ⊥
 
--- by how much the cost changes where the first chain goes into gap k of a route
+-- by how much the cost changes where the first chain goes into place k of a route
 abbrev pub shift_change : Problem → FirstChain → List ℕ → ℕ → ℤ
-shift_change p c r k = c.leaving +ℤ entering_change p c.front c.rear (gap_of r k)
+shift_change p c r k = c.leaving +ℤ entering_change p c.front c.rear (flanks_of r k)
 
 -- by how much a move of the kind to a place changes the cost, none where none leaves a plan
 abbrev pub IsChange : Problem → List (List ℕ) → Kind → Chain → Chain → Option ℤ → Type 0
@@ -36,11 +36,11 @@ change_by c (suc zero) = c.one
 change_by c (suc (suc zero)) = c.two
 change_by c m = c.three
 
--- by how much exchanges of the ends behind the first chain and at the three gaps behind place j of a route change the cost, as far as there are gaps
+-- by how much exchanges of the ends behind the first chain and at the three places behind place j of a route change the cost, as far as there are places
 pub record AreRears (p : Problem) (c : FirstChain) (r : List ℕ) (j : ℕ) (rears : SwapChanges) : Type 0 where
-  pub one : j + 1 ≤ length r → rears.one ≡ ends_change p c.rear (gap_of r (j + 1))
-  pub two : j + 2 ≤ length r → rears.two ≡ ends_change p c.rear (gap_of r (j + 2))
-  pub three : j + 3 ≤ length r → rears.three ≡ ends_change p c.rear (gap_of r (j + 3))
+  pub one : j + 1 ≤ length r → rears.one ≡ ends_change p c.rear (flanks_of r (j + 1))
+  pub two : j + 2 ≤ length r → rears.two ≡ ends_change p c.rear (flanks_of r (j + 2))
+  pub three : j + 3 ≤ length r → rears.three ≡ ends_change p c.rear (flanks_of r (j + 3))
   pub small_one : IsSmall rears.one
   pub small_two : IsSmall rears.two
   pub small_three : IsSmall rears.three

@@ -5,7 +5,7 @@ ghost use Rattle.segments.specs.PlanTrees.{problem_of};
 ghost use Rattle.moves.specs.Trees.{visits_of, AreOfPlan};
 ghost use Rattle.moves.specs.Order.{IsBest, kind_of};
 ghost use Rattle.moves.specs.Search.{numbers, limit_behind, under, IsFirstLength, IsSecondLength, IsUnder, IsBestInRange, IsBestUnder};
-ghost use Rattle.moves.specs.Gaps.{HasChange};
+ghost use Rattle.moves.specs.Flanks.{HasChange};
 
 use crate::candidate::{Chain, Kind, Move, Place};
 use crate::first_chain::first_chain_of;

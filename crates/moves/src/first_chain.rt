@@ -3,20 +3,20 @@
 ghost use Rattle.std.specs.Prelude.{◌≡◌, MatchOption};
 ghost use Rattle.segments.specs.PlanTrees.{problem_of};
 ghost use Rattle.moves.specs.Trees.{visits_of, AreOfPlan};
-ghost use Rattle.moves.specs.Gaps.{taken_by, StandsFirst, IsFirstChain};
+ghost use Rattle.moves.specs.Flanks.{taken_by, StandsFirst, IsFirstChain};
 
 use crate::candidate::{Chain, Kind};
-use crate::gaps::{Gap, change_of_leaving, gap_at, stops_of};
+use crate::flanks::{Flanks, change_of_leaving, flanks_at, stops_of};
 use segments::PlanTrees;
 
-/// The chain that a move takes first: its numbers, how many stops it takes, the gaps at both ends, and by how
+/// The chain that a move takes first: its numbers, how many stops it takes, the places at both ends, and by how
 /// many tenths the cost changes where they leave.
 #[derive(Clone, Copy)]
 pub struct FirstChain {
     pub numbers: Chain,
     pub taken: u16,
-    pub front: Gap,
-    pub rear: Gap,
+    pub front: Flanks,
+    pub rear: Flanks,
     pub leaving: i64,
 }
 
@@ -46,7 +46,7 @@ pub fn first_chain_of(trees: &PlanTrees<'_>, kind: Kind, numbers: Chain) -> Opti
     if to > stops.len() {
         return None;
     }
-    let (front, rear) = (gap_at(stops, from), gap_at(stops, to));
+    let (front, rear) = (flanks_at(stops, from), flanks_at(stops, to));
     Some(FirstChain {
         numbers,
         taken,

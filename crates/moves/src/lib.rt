@@ -9,7 +9,7 @@ mod choosing;
 mod costing;
 mod fault;
 mod first_chain;
-mod gaps;
+mod flanks;
 mod parallel;
 mod ranges;
 mod second_route;

@@ -6,13 +6,13 @@ ghost use Rattle.segments.specs.PlanTrees.{problem_of};
 ghost use Rattle.moves.specs.declared.candidate.Kind.TheVariants as kinds;
 ghost use Rattle.moves.specs.Trees.{visits_of, AreOfPlan};
 ghost use Rattle.moves.specs.Search.{IsFirstLength, IsBestInRange};
-ghost use Rattle.moves.specs.Gaps.{gap_of, ends_change, chain_at, IsKnownGap, IsSmall, IsFirstChain};
+ghost use Rattle.moves.specs.Flanks.{flanks_of, ends_change, chain_at, AreKnownFlanks, IsSmall, IsFirstChain};
 ghost use Rattle.moves.specs.SecondRoutes.{IsSecondRoute, IsShiftKind, IsChange, AreRears, AreSwapChanges, change_by, shift_change};
 
 use crate::candidate::{Chain, Kind, Place};
 use crate::choosing::{Found, best_of_one, limit_behind};
 use crate::first_chain::FirstChain;
-use crate::gaps::{Gap, change_of_ends, change_of_entering, gap_at, stops_of};
+use crate::flanks::{Flanks, change_of_ends, change_of_entering, flanks_at, stops_of};
 use crate::ranges::{second_lengths, second_positions};
 use segments::{PlanTrees, Segment};
 
@@ -45,9 +45,10 @@ impl SwapChanges {
     }
 }
 
-/// By how many tenths the cost changes where a chain goes into a gap of a route, or `None` where there is no such gap.
+/// By how many tenths the cost changes where a chain goes into a place of a route, or `None` where there is none
+/// such.
 #[inline(always)]
-fn change_into_gap(
+fn change_into_place(
     trees: &PlanTrees<'_>,
     kind: Kind,
     first: &FirstChain,
@@ -64,8 +65,8 @@ fn change_into_gap(
     if position > second.stops.len() {
         return None;
     }
-    let gap = gap_at(second.stops, position);
-    Some(first.leaving + change_of_entering(trees.instance(), first.front, first.rear, gap))
+    let place = flanks_at(second.stops, position);
+    Some(first.leaving + change_of_entering(trees.instance(), first.front, first.rear, place))
 }
 
 /// By how many tenths the cost changes where a chain goes to a position of a route, or `None` where none leaves a
@@ -87,7 +88,7 @@ fn change_of_shift(
 {
     let to = usize::from(position);
     if second.route != first.numbers.route {
-        return change_into_gap(trees, kind, first, second, to);
+        return change_into_place(trees, kind, first, second, to);
     }
     if position == first.numbers.position {
         return Some(0);
@@ -97,25 +98,30 @@ fn change_of_shift(
     } else {
         to + usize::from(first.taken)
     };
-    change_into_gap(trees, kind, first, second, before)
+    change_into_place(trees, kind, first, second, before)
 }
 
-/// By how many tenths the cost changes where the ends behind two gaps change places, or a small number where the
-/// second gap isn't there.
+/// By how many tenths the cost changes where the ends behind two places are exchanged, or a small number where the
+/// second place isn't there.
 #[inline(always)]
-fn change_at_gap(trees: &PlanTrees<'_>, gap: Gap, second: &SecondRoute<'_>, position: usize) -> i64
+fn change_at_place(
+    trees: &PlanTrees<'_>,
+    place: Flanks,
+    second: &SecondRoute<'_>,
+    position: usize,
+) -> i64
     requires plan { AreOfPlan trees.now }
-    requires gap { IsKnownGap (problem_of trees.now) gap }
+    requires place { AreKnownFlanks (problem_of trees.now) place }
     requires second { IsSecondRoute (visits_of trees.now) second.now }
     ensures value { position ≤ length (route (visits_of trees.now) second.now.route)
-        → result ≡ ends_change (problem_of trees.now) gap
-        (gap_of (route (visits_of trees.now) second.now.route) position) }
+        → result ≡ ends_change (problem_of trees.now) place
+        (flanks_of (route (visits_of trees.now) second.now.route) position) }
     ensures small { IsSmall result }
 {
     if position > second.stops.len() {
         return 0;
     }
-    change_of_ends(trees.instance(), gap, gap_at(second.stops, position))
+    change_of_ends(trees.instance(), place, flanks_at(second.stops, position))
 }
 
 /// By how many tenths the cost changes where a stop changes places with the one at a position of a route, or `None`
@@ -136,10 +142,10 @@ fn change_of_exchange(
 {
     let (from, to) = (usize::from(first.numbers.position), usize::from(position));
     if second.route == first.numbers.route && to == from + 1 {
-        return change_into_gap(trees, Kind::Exchange, first, second, to + 1);
+        return change_into_place(trees, Kind::Exchange, first, second, to + 1);
     }
-    let front = change_at_gap(trees, first.front, second, to);
-    let rear = change_at_gap(trees, first.rear, second, to + 1);
+    let front = change_at_place(trees, first.front, second, to);
+    let rear = change_at_place(trees, first.rear, second, to + 1);
     Some(front + rear)
 }
 
@@ -162,7 +168,12 @@ fn change_at(
     match kind {
         Kind::Relocate | Kind::OrOpt => change_of_shift(trees, kind, first, second, position),
         Kind::Exchange => change_of_exchange(trees, first, second, position),
-        Kind::TwoOptStar => Some(change_at_gap(trees, first.front, second, usize::from(position))),
+        Kind::TwoOptStar => Some(change_at_place(
+            trees,
+            first.front,
+            second,
+            usize::from(position),
+        )),
         Kind::Cross => None,
     }
 }
@@ -256,7 +267,7 @@ fn best_cross_at(
     best
 }
 
-/// The changes of cost of the exchanges of ends behind a chain and at the three gaps behind a position of a route.
+/// The changes of cost of the exchanges of ends behind a chain and at the three places behind a position of a route.
 fn rears_at(
     trees: &PlanTrees<'_>,
     first: &FirstChain,
@@ -272,9 +283,9 @@ fn rears_at(
         (route (visits_of trees.now) second.now.route) position result }
 {
     SwapChanges {
-        one: change_at_gap(trees, first.rear, second, position + 1),
-        two: change_at_gap(trees, first.rear, second, position + 2),
-        three: change_at_gap(trees, first.rear, second, position + 3),
+        one: change_at_place(trees, first.rear, second, position + 1),
+        two: change_at_place(trees, first.rear, second, position + 2),
+        three: change_at_place(trees, first.rear, second, position + 3),
     }
 }
 
@@ -297,7 +308,7 @@ fn swap_changes(
     ensures { AreSwapChanges (problem_of trees.now) (visits_of trees.now) first.now second.now.route
         position result }
 {
-    let front = change_at_gap(trees, first.front, second, usize::from(position));
+    let front = change_at_place(trees, first.front, second, usize::from(position));
     SwapChanges {
         one: front + rears.one,
         two: front + rears.two,
@@ -305,7 +316,7 @@ fn swap_changes(
     }
 }
 
-/// The best of the crosses of a chain with those of a route. Each exchange of ends is found once for a gap.
+/// The best of the crosses of a chain with those of a route. Each exchange of ends is found once for a place.
 #[inline(always)]
 fn best_cross(
     trees: &PlanTrees<'_>,
@@ -332,7 +343,7 @@ fn best_cross(
         let changes = swap_changes(trees, first, second, position, &rears);
         let limit = limit_behind(best, limit);
         best = best_cross_at(trees, first, place, changes, limit).or(best);
-        let next = change_at_gap(trees, first.rear, second, usize::from(position) + 4);
+        let next = change_at_place(trees, first.rear, second, usize::from(position) + 4);
         rears = SwapChanges {
             one: rears.two,
             two: rears.three,

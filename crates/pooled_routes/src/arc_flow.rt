@@ -22,7 +22,7 @@ impl ArcFlow {
     }
 
     /// How far the arc is from one half of a route, in grains; somewhat more for an arc of the depot. An
-    /// arc that is nearer serves better for branching.
+    /// arc that is nearer serves better for a split.
     pub fn distance_from_half(self, rise: i64) -> u64 {
         let from_half = self.flow.abs_diff(rise / 2);
         if self.arc.from == 0 || self.arc.to == 0 {

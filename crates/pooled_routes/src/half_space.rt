@@ -25,17 +25,17 @@ pub struct HalfSpace<'r> {
     pub place: usize,
 }
 
-/// A route without sets takes as long as this many looks at customers.
-const LOOKS_AT_ROUTE: u64 = 4;
+/// The work of a projection onto a route without sets, in units of as long as a bound takes at a customer.
+const WORK_OF_ROUTE: u64 = 4;
 
 impl HalfSpace<'_> {
-    /// How many looks prices that are projected onto the route take: more where it enters sets.
-    pub fn looks(&self) -> u64 {
+    /// How much work it is to project prices onto the route: more where it enters sets.
+    pub fn work(&self) -> u64 {
         let more = self
             .fours
             .len()
             .saturating_sub(self.stops.len().div_ceil(4));
-        LOOKS_AT_ROUTE.saturating_add(more as u64)
+        WORK_OF_ROUTE.saturating_add(more as u64)
     }
 
     /// Whether a child by an arc forbids the route: it goes along the arc where that is forbidden, or

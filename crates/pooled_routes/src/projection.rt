@@ -18,8 +18,8 @@ const SWEEPS_BETWEEN: u32 = 10;
 pub struct Projection<'r> {
     /// What the routes say.
     pub spaces: Vec<HalfSpace<'r>>,
-    /// How much work it was, in looks.
-    pub looks: u64,
+    /// How much work it was.
+    pub work: u64,
 }
 
 impl<'r> Projection<'r> {
@@ -39,7 +39,7 @@ impl<'r> Projection<'r> {
     fn activate(&mut self, sweeps: &mut Sweeps<'r>, trial: &mut Trial) -> Result<bool, AllocError> {
         let mut is_any = false;
         for (place, space) in self.spaces.iter_mut().enumerate() {
-            self.looks = self.looks.saturating_add(space.looks());
+            self.work = self.work.saturating_add(space.work());
             if !space.is_active && trial.slack(space) <= -(ENOUGH as i64) {
                 space.is_active = true;
                 is_any = true;
@@ -57,7 +57,7 @@ impl<'r> Projection<'r> {
     /// and whether the last one was enough.
     fn sweep_on(&mut self, sweeps: &mut Sweeps<'r>, trial: &mut Trial, most: u32) -> (u32, bool) {
         for made in 0..most {
-            self.looks = self.looks.saturating_add(sweeps.looks());
+            self.work = self.work.saturating_add(sweeps.work());
             if sweeps.sweep(trial) < ENOUGH {
                 return (made + 1, true);
             }
@@ -66,7 +66,7 @@ impl<'r> Projection<'r> {
     }
 
     /// Activates and sweeps in turn until nothing is violated, by at most this many sweeps.
-    fn settle(
+    fn satisfy(
         &mut self,
         sweeps: &mut Sweeps<'r>,
         trial: &mut Trial,
@@ -97,7 +97,7 @@ impl<'r> Projection<'r> {
     ) -> Result<(), AllocError> {
         let mut sweeps = Sweeps::new(alloc, trial);
         self.begin(&mut sweeps, trial)?;
-        self.settle(&mut sweeps, trial, most)?;
+        self.satisfy(&mut sweeps, trial, most)?;
         sweeps.give_back(self.spaces.as_mut_slice());
         Ok(())
     }

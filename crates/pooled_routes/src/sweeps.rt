@@ -9,8 +9,8 @@ use std::alloc::{AllocError, Global};
 #[derive(Drop)]
 pub(crate) struct Sweeps<'r> {
     bindings: Vec<Binding<'r>>,
-    /// How many looks a sweep takes.
-    looks: u64,
+    /// How much work a sweep is.
+    work: u64,
     /// How many parts a vehicle's price has.
     parts: u8,
 }
@@ -20,7 +20,7 @@ impl<'r> Sweeps<'r> {
     pub(crate) fn new(alloc: Global, trial: &Trial) -> Sweeps<'r> {
         Sweeps {
             bindings: Vec::new(alloc),
-            looks: 0,
+            work: 0,
             parts: if trial.vehicle_price.below.is_some() {
                 2
             } else {
@@ -29,16 +29,16 @@ impl<'r> Sweeps<'r> {
         }
     }
 
-    /// How many looks a sweep takes.
-    pub(crate) fn looks(&self) -> u64 {
-        self.looks
+    /// How much work a sweep is.
+    pub(crate) fn work(&self) -> u64 {
+        self.work
     }
 
     /// Sweeps over a half-space, too, that stands at this place.
     pub(crate) fn add(&mut self, space: &HalfSpace<'r>, place: usize) -> Result<(), AllocError> {
         let parts = u64::from(self.parts);
         self.bindings.push(Binding::of(space, place, parts))?;
-        self.looks = self.looks.saturating_add(space.looks());
+        self.work = self.work.saturating_add(space.work());
         Ok(())
     }
 

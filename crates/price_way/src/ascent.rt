@@ -39,10 +39,10 @@ pub struct Ascent {
     pub target: i128,
     /// How much merit the last trial promised, in grains.
     promise: i128,
-    /// Whether only a quick search judged that trial.
-    is_promise_quick: bool,
+    /// Whether only a quick search judged the last trial.
+    is_trial_quick: bool,
     /// Whether only quick searches know the centre's least reduced cost.
-    is_quick: bool,
+    is_centre_quick: bool,
 }
 
 /// Tenths in grains.
@@ -76,8 +76,8 @@ impl Ascent {
             rise,
             target: goal.value,
             promise: i128::MAX,
-            is_promise_quick: false,
-            is_quick: false,
+            is_trial_quick: false,
+            is_centre_quick: false,
         })
     }
 
@@ -217,7 +217,7 @@ impl Ascent {
         if next.least < i128::from(trial.vehicle_price.value()) {
             pool.add(priced.instance(), priced.least().route.as_slice())?;
         }
-        self.is_promise_quick = false;
+        self.is_trial_quick = false;
         self.go_on(pool, trial, next);
         Ok(())
     }
@@ -231,9 +231,9 @@ impl Ascent {
         least: i64,
     ) {
         let next = Centre::at(prices, self.sets.as_slice(), i128::from(least), self.merit);
-        self.is_promise_quick = true;
+        self.is_trial_quick = true;
         if self.go_on(pool, trial, next) {
-            self.is_quick = true;
+            self.is_centre_quick = true;
         }
     }
 
@@ -246,15 +246,15 @@ impl Ascent {
             self.sets.as_slice(),
             self.centre.least,
         );
-        self.is_quick = true;
+        self.is_centre_quick = true;
         self.scale(pool, rise_in_range(rise));
     }
 
     /// Goes back to these prices as the centre, unless that was priced exactly.
     pub fn go_back_to(&mut self, pool: &RoutePool, priced: &Priced<'_>) -> Result<(), AllocError> {
-        if self.is_quick {
+        if self.is_centre_quick {
             self.centre = Centre::new(pool, priced, self.sets.as_slice(), self.merit)?;
-            self.is_quick = false;
+            self.is_centre_quick = false;
         }
         Ok(())
     }
@@ -277,14 +277,14 @@ impl Ascent {
     /// Whether the last trial, priced exactly, promised less than one of so many parts of the gap.
     pub fn promises_little(&self, parts: i128) -> bool {
         let is_little = self.promise.saturating_mul(parts) < self.gap();
-        is_little && !self.is_promise_quick && !self.is_quick
+        is_little && !self.is_trial_quick && !self.is_centre_quick
     }
 
     /// Whether a value in tenths lacks at least one of so many parts of the gap of the centre's merit, which was priced
     /// exactly.
     pub fn is_ahead_of(&self, value: i128, parts: i128) -> bool {
         let lack = self.centre.merit.saturating_sub(grains(value));
-        !self.is_quick && lack.saturating_mul(parts) >= self.gap()
+        !self.is_centre_quick && lack.saturating_mul(parts) >= self.gap()
     }
 
     /// Whether the merit has come to the target.

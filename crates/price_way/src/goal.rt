@@ -37,6 +37,6 @@ pub struct Goal {
     pub sets: usize,
     /// The most labels that may be active at once in a pricing.
     pub labels: Option<usize>,
-    /// Stops where the pool's work so far comes to this many looks.
-    pub looks: u64,
+    /// Stops where the pool's work so far comes to this much.
+    pub work: u64,
 }

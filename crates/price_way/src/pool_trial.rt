@@ -26,8 +26,8 @@ pub struct ChildTrial {
     pub prices: Trial,
     /// How far the merit rose above that of the leaf, in grains; nothing where no route is left.
     pub rise: Option<i128>,
-    /// How much work it was, in looks.
-    pub looks: u64,
+    /// How much work it was.
+    pub work: u64,
 }
 
 /// Routes of lower rank serve better: those that make up the prices, and then those of the least
@@ -79,7 +79,7 @@ impl<'r> PoolTrial<'r> {
     /// child doesn't forbid.
     pub fn of_child(&self, arc: Arc, child: Child) -> Result<ChildTrial, AllocError> {
         let spaces = self.spaces_of_child(arc, child)?;
-        let mut projection = Projection { spaces, looks: 0 };
+        let mut projection = Projection { spaces, work: 0 };
         let mut trial = self.ascent.start(self.alloc, self.rise)?;
         projection.project(self.alloc, &mut trial, MOST_SWEEPS)?;
         let spaces = projection.spaces.iter();
@@ -88,7 +88,7 @@ impl<'r> PoolTrial<'r> {
             .min();
         Ok(ChildTrial {
             rise: least.map(|least| self.ascent.rise_to(&trial, least)),
-            looks: projection.looks,
+            work: projection.work,
             prices: trial,
         })
     }

@@ -44,9 +44,9 @@ impl<'n> PricingState<'n> {
         }
     }
 
-    /// How much work the pricings, the projections and the trials were, in looks: those of pricings, and
+    /// How much work the pricings, the projections and the trials were: that of pricings, and
     /// some for a route that prices are projected onto. No contract: it only measures.
-    pub fn looks(&self) -> u64 {
+    pub fn work(&self) -> u64 {
         self.work.done
     }
 
@@ -55,9 +55,9 @@ impl<'n> PricingState<'n> {
         self.work.is_dear()
     }
 
-    /// Learns how much work there is to be in all, in looks. No contract: it only measures.
-    pub fn expect(&mut self, looks: u64) {
-        self.work.worth = looks;
+    /// Learns how much work there is to be in all. No contract: it only measures.
+    pub fn expect(&mut self, work: u64) {
+        self.work.worth = work;
     }
 
     /// The search for sets, which knows which are needed. `AllocError` where memory was refused.
@@ -71,14 +71,14 @@ impl<'n> PricingState<'n> {
         }
     }
 
-    /// Counts looks.
-    pub fn count_looks(&mut self, looks: u64) {
-        self.work.count(looks);
+    /// Counts work.
+    pub fn count_work(&mut self, work: u64) {
+        self.work.count(work);
     }
 
-    /// Counts the looks of the last pricing.
+    /// Counts the work of the last pricing.
     pub(crate) fn count_pricing(&mut self) {
-        self.work.count_pricing(self.kept.looks);
+        self.work.count_pricing(self.kept.work);
     }
 
     /// Learns from the ascent of a child how far its merit rose, where its value came to this many

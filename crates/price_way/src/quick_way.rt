@@ -57,8 +57,8 @@ pub struct QuickWay {
     idle: u32,
     /// Whether a round was made.
     pub has_begun: bool,
-    /// How much work the last quick search was, in looks.
-    pub looks: u64,
+    /// How much work the last quick search was.
+    pub work: u64,
 }
 
 impl QuickWay {
@@ -70,7 +70,7 @@ impl QuickWay {
             margin: FIRST_MARGIN,
             idle: 0,
             has_begun: false,
-            looks: 0,
+            work: 0,
         })
     }
 
@@ -89,7 +89,7 @@ impl QuickWay {
         is_one
     }
 
-    /// Whether the next step is a round of quick searches, where an exact pricing takes this many looks and there
+    /// Whether the next step is a round of quick searches, where an exact pricing is this much work and there
     /// will be few of them.
     pub fn is_next(&mut self, exact: u64, are_few: bool) -> bool {
         if self.idle >= IDLE_ROUNDS {
@@ -99,9 +99,9 @@ impl QuickWay {
         self.is_far_less_than(exact) && are_few
     }
 
-    /// Whether an exact pricing, which takes this many looks, is dear beside a quick search.
+    /// Whether an exact pricing, which is this much work, is dear beside a quick search.
     pub fn is_far_less_than(&self, exact: u64) -> bool {
-        exact > self.looks.saturating_mul(QUICK_OF_EXACT)
+        exact > self.work.saturating_mul(QUICK_OF_EXACT)
     }
 
     /// Learns whether a round raised the value.
@@ -115,7 +115,7 @@ impl QuickWay {
     }
 
     /// Learns how far the last prices that were priced exactly missed the whole, in millionths.
-    pub fn hold_back(&mut self, lack: i64) {
+    pub fn learn_lack(&mut self, lack: i64) {
         self.margin = self.margin.saturating_add(lack).max(0).saturating_mul(3) / 5;
     }
 }

@@ -95,7 +95,7 @@ impl RoutePool {
         self.met = self.met.saturating_add(1);
         let customers = usize::from(instance.customer_count());
         if self.routes.len() >= MOST_ROUTES.max(customers * ROUTES_OF_CUSTOMER) {
-            self.drop_one();
+            self.drop_least_used();
         }
         self.routes.push(route)?;
         Ok(())
@@ -204,12 +204,12 @@ impl RoutePool {
         merge(arcs, Vec::new(self.alloc))
     }
 
-    /// Arcs to branch on at the leaf whose prices were raised last, best ones first, for `choose` of
+    /// Arcs to split the leaf by whose prices were raised last, best ones first, for `choose` of
     /// its region: first those that the routes of the pool, weighted as they make up the prices, use
     /// nearly one half of a time. They stand one after the other as three numbers: one above the last customer,
     /// so that the arcs to and from it are none of the region's, and the arc's two rows. No contract: `choose`
     /// judges each.
-    pub fn branching_arcs(&self, instance: &Instance) -> Result<Vec<u16>, AllocError> {
+    pub fn arcs_to_split(&self, instance: &Instance) -> Result<Vec<u16>, AllocError> {
         let between = instance.customer_count() + 1;
         let mut arcs = self.flows()?;
         arcs.sort_by_key(|flow| flow.distance_from_half(self.rise))?;
@@ -235,7 +235,7 @@ impl RoutePool {
     }
 
     /// Drops the route that was of least use.
-    fn drop_one(&mut self) {
+    fn drop_least_used(&mut self) {
         let mut least = 0;
         for (i, route) in self.routes.iter().enumerate() {
             if route.yields_to(&self.routes[least]) {
@@ -276,16 +276,16 @@ impl RoutePool {
     }
 
     /// Projects a trial, and answers the places of the routes with the multipliers that it came to, and how
-    /// much work it was, in looks.
+    /// much work it was.
     fn projected(&self, trial: &mut Trial) -> Result<(Vec<(usize, i64)>, u64), AllocError> {
         let spaces = self.half_spaces()?;
-        let mut projection = Projection { spaces, looks: 0 };
+        let mut projection = Projection { spaces, work: 0 };
         projection.project(self.alloc, trial, MOST_SWEEPS)?;
         let spaces = projection.spaces.iter();
         let multipliers = spaces
             .map(|space| (space.place, space.multiplier))
             .collect(self.alloc)?;
-        Ok((multipliers, projection.looks))
+        Ok((multipliers, projection.work))
     }
 
     /// Projects a trial onto what all routes say, nearly, from where the multipliers lead.
@@ -294,8 +294,8 @@ impl RoutePool {
         state: &mut PricingState<'_>,
         trial: &mut Trial,
     ) -> Result<(), AllocError> {
-        let (multipliers, looks) = self.projected(trial)?;
-        state.count_looks(looks);
+        let (multipliers, work) = self.projected(trial)?;
+        state.count_work(work);
         for (place, multiplier) in &multipliers {
             if let Some(route) = self.routes.get_mut(*place) {
                 route.multiplier = *multiplier;

@@ -8,7 +8,9 @@ const LAST_PRICINGS: u64 = 20;
 /// Pricings are dear where the last ones took this part of all work, or more.
 const DEAR_PART: u64 = 25;
 
-/// How much work was done, in looks.
+/// How much work was done. A unit is a bound on what may follow at one customer, a label held against those of one
+/// memory, or a step that others spare; a step from a label counts four, and so does a route that prices are
+/// projected onto.
 #[derive(Clone, Copy)]
 pub(crate) struct Work {
     /// That of pricings, projections, trials and searches for sets.
@@ -29,16 +31,16 @@ impl Work {
         }
     }
 
-    /// Counts looks of any work.
-    pub(crate) fn count(&mut self, looks: u64) {
-        self.done = self.done.saturating_add(looks);
+    /// Counts any work.
+    pub(crate) fn count(&mut self, work: u64) {
+        self.done = self.done.saturating_add(work);
     }
 
     /// Counts those of a pricing.
-    pub(crate) fn count_pricing(&mut self, looks: u64) {
-        self.count(looks);
+    pub(crate) fn count_pricing(&mut self, work: u64) {
+        self.count(work);
         let gone = self.last / LAST_PRICINGS;
-        self.last = self.last.saturating_sub(gone).saturating_add(looks);
+        self.last = self.last.saturating_sub(gone).saturating_add(work);
     }
 
     /// Whether pricings are dear beside all work: there will be few of them, and what spares some pays.

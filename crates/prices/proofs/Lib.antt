@@ -1,4 +1,4 @@
-pub mod Ascending
+pub mod Improvements
 pub mod LeastCosts
 pub mod Narrower
 pub mod Values

@@ -2,5 +2,5 @@ pub mod Faults
 pub mod ValuedPrices
 pub mod Narrowing
 pub mod Steps
-pub mod Ascents
+pub mod Improvements
 pub mod Tasks

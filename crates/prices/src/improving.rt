@@ -3,7 +3,7 @@
 ghost use Rattle.std.specs.Prelude.{◌≡◌};
 ghost use Rattle.prices.specs.Steps.{Improves};
 
-use crate::ascent::Improvement;
+use crate::improvement::Improvement;
 use crate::priced::Priced;
 use std::alloc::Global;
 
@@ -20,12 +20,12 @@ pub fn improve<'i>(
 ) -> Priced<'i>
     ensures { Improves priced.entry steps.now result }
 {
-    let mut ascent = Improvement::new(priced);
+    let mut improvement = Improvement::new(priced);
     for step in steps {
-        ascent = match ascent.step(alloc, *step, limit) {
-            Ok(ascent) => ascent,
+        improvement = match improvement.step(alloc, *step, limit) {
+            Ok(improvement) => improvement,
             Err(best) => return best,
         };
     }
-    ascent.into_best()
+    improvement.into_best()
 }

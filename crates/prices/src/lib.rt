@@ -1,9 +1,9 @@
 //! Prices of the customers at a leaf, the lower bound that they give, and steps that raise it.
 #![tactic(auto)]
 
-mod ascent;
 mod fault;
 mod high;
+mod improvement;
 mod improving;
 mod narrowing;
 mod priced;

@@ -18,8 +18,8 @@ const MOST_ROUTES: usize = 20;
 
 const MOST_OF_CUSTOMER: usize = 2;
 
-/// This many labels of a customer, which stand side by side, count as one look.
-const LABELS_OF_LOOK: u64 = 4;
+/// This many labels of a customer, which stand side by side, are one unit of work.
+const LABELS_OF_UNIT: u64 = 4;
 
 /// A relaxed route.
 #[derive(Drop)]
@@ -36,7 +36,7 @@ pub struct QuickRoutes {
     /// The cheapest first.
     pub routes: Vec<QuickRoute>,
     /// How much work it was: steps, twice those that were taken, and how often a label looked at others.
-    pub looks: u64,
+    pub work: u64,
 }
 
 /// A label after which a route may end.
@@ -61,7 +61,7 @@ struct QuickSearch<'t, 'i> {
     waiting: Vec<Vec<usize>>,
     /// The cheapest ends at each row, the cheapest first.
     ends: Vec<Vec<QuickEnd>>,
-    looks: u64,
+    work: u64,
 }
 
 /// This many empty lists.
@@ -74,7 +74,7 @@ fn lists<T: Drop>(alloc: Global, count: usize) -> Result<Vec<Vec<T>>, AllocError
 }
 
 /// This many rows without labels.
-fn no_stairs(alloc: Global, count: usize) -> Result<Vec<Stairs>, AllocError> {
+fn empty_stairs(alloc: Global, count: usize) -> Result<Vec<Stairs>, AllocError> {
     let mut stairs = Vec::new(alloc);
     for _row in 0..count {
         stairs.push(Stairs::new(alloc))?;
@@ -101,11 +101,11 @@ impl<'t, 'i> QuickSearch<'t, 'i> {
             task,
             width,
             labels: Vec::new(alloc),
-            stairs: no_stairs(alloc, rows)?,
+            stairs: empty_stairs(alloc, rows)?,
             slot_width: (instance.due(0) / SLOTS).saturating_add(1),
             waiting: lists(alloc, SLOTS as usize + 1)?,
             ends: lists(alloc, rows)?,
-            looks: 0,
+            work: 0,
         };
         search.labels.push(beginning)?;
         search.wait(beginning.time, 0)?;
@@ -121,9 +121,9 @@ impl<'t, 'i> QuickSearch<'t, 'i> {
         Ok(())
     }
 
-    /// Counts looks.
-    fn look(&mut self, looks: u64) {
-        self.looks = self.looks.saturating_add(looks);
+    /// Counts work.
+    fn count(&mut self, work: u64) {
+        self.work = self.work.saturating_add(work);
     }
 
     /// Takes a step from the label at an index.
@@ -136,7 +136,7 @@ impl<'t, 'i> QuickSearch<'t, 'i> {
         let load = label.load.saturating_add(step.demand);
         let task = self.task;
         let last = task.instance.customer_count();
-        self.look(1);
+        self.count(1);
         if label.memory.contains(step.place.min(16)) || load > u32::from(task.instance.capacity()) {
             return Ok(());
         }
@@ -158,7 +158,7 @@ impl<'t, 'i> QuickSearch<'t, 'i> {
         };
         let count = self.labels.len();
         let (is_added, met) = stairs.add(&mut self.labels, &next, self.width.labels)?;
-        self.look((met / LABELS_OF_LOOK).saturating_add(2));
+        self.count((met / LABELS_OF_UNIT).saturating_add(2));
         if is_added {
             self.wait(next.time, count)?;
         }
@@ -281,10 +281,10 @@ pub fn quick_routes(
     let mut search = QuickSearch::new(task, width)?;
     let likely = likely.choose(task, width)?;
     let customers = u64::from(task.instance.customer_count());
-    search.look(customers.saturating_mul(customers));
+    search.count(customers.saturating_mul(customers));
     search.extend_all(likely.as_slice())?;
     Ok(QuickRoutes {
         routes: search.routes()?,
-        looks: search.looks,
+        work: search.work,
     })
 }

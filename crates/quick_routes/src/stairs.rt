@@ -30,7 +30,7 @@ impl Stairs {
 
     /// Whether a label is to be dropped, as this many others are no later and no dearer, or one that remembers
     /// no more; and how many it was compared with.
-    fn is_out(&self, place: usize, label: &QuickLabel, most: usize) -> (bool, u64) {
+    fn is_dropped(&self, place: usize, label: &QuickLabel, most: usize) -> (bool, u64) {
         let mut better: usize = 0;
         let mut met: u64 = 0;
         for stair in self.stairs.iter().take(place).rev() {
@@ -83,8 +83,8 @@ impl Stairs {
         let place = self
             .stairs
             .partition_point(|stair| stair.time <= label.time);
-        let (is_out, met) = self.is_out(place, label, most);
-        if is_out {
+        let (is_dropped, met) = self.is_dropped(place, label, most);
+        if is_dropped {
             return Ok((false, met));
         }
         self.drop_from(place, labels.as_mut_slice(), label, most);

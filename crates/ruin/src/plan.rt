@@ -254,7 +254,7 @@ impl Plan {
                 continue;
             }
             if place.version != slot.held.version {
-                steps = steps.saturating_add(slot.held.look(&newcomer, place));
+                steps = steps.saturating_add(slot.held.find_place(&newcomer, place));
             }
             if place.detour < least && below(random, PASSED_OVER) > 0 {
                 least = place.detour;
@@ -298,7 +298,7 @@ impl Plan {
         let side = &self.slots.get(number)?.held;
         let newcomer = self.tables.newcomer(customer, side.customer_count())?;
         let mut place = UNSEEN;
-        side.look(&newcomer, &mut place);
+        side.find_place(&newcomer, &mut place);
         if place.detour == NOWHERE {
             return None;
         }

@@ -150,7 +150,7 @@ impl Side {
     }
 
     /// Finds the cheapest place of a customer, and answers how many places were passed.
-    pub(crate) fn look(&self, newcomer: &Newcomer<'_>, place: &mut CheapestPlace) -> usize {
+    pub(crate) fn find_place(&self, newcomer: &Newcomer<'_>, place: &mut CheapestPlace) -> usize {
         place.version = self.version;
         place.detour = NOWHERE;
         if self.load > newcomer.most_load {

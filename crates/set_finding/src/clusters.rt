@@ -154,16 +154,16 @@ pub(crate) fn add_clusters(
     clusters: &mut Vec<Cluster>,
 ) -> Result<u64, AllocError> {
     let below = (flow.whole / 20).saturating_mul(39);
-    let mut looks: u64 = 0;
+    let mut work: u64 = 0;
     let mut beam = Vec::new(alloc);
     let alone = Vec::from_slice(alloc, &[first])?;
     beam.push(Cluster::of(alone, flow.into_row(first)))?;
     for size in 1..MOST_MEMBERS {
         let next = next_beam(alloc, flow, beam.as_slice(), below)?;
-        looks = looks.saturating_add((beam.len().saturating_mul(size) as u64).saturating_mul(6));
+        work = work.saturating_add((beam.len().saturating_mul(size) as u64).saturating_mul(6));
         add_all(clusters, beam)?;
         beam = next;
     }
     add_all(clusters, beam)?;
-    Ok(looks)
+    Ok(work)
 }

@@ -14,13 +14,13 @@ pub struct FoundSet {
 }
 
 /// How many customers are in both of two sets.
-fn common(one: &[u16], other: &[u16]) -> usize {
+fn common_count(one: &[u16], other: &[u16]) -> usize {
     one.iter().filter(|member| other.contains(*member)).count()
 }
 
 /// Whether two sets have more than half of the smaller one in common.
 fn are_near(one: &[u16], other: &[u16]) -> bool {
-    common(one, other) > one.len().min(other.len()) / 2
+    common_count(one, other) > one.len().min(other.len()) / 2
 }
 
 /// Whether a set is near one of these.

@@ -13,16 +13,16 @@ pub(crate) fn grow(
     least: i64,
     found: &mut Vec<FoundSet>,
 ) -> Result<u64, AllocError> {
-    let mut looks: u64 = 0;
+    let mut work: u64 = 0;
     for _step in inside.size..most {
-        looks = looks.saturating_add(u64::from(customers));
+        work = work.saturating_add(u64::from(customers));
         let Some(v) = inside.nearest() else {
-            return Ok(looks);
+            return Ok(work);
         };
         inside.toggle(v);
         inside.note(found, least)?;
     }
-    Ok(looks)
+    Ok(work)
 }
 
 /// The customer with whom a set lacks most once it is added or taken out, of those that may be changed at a step.
@@ -53,11 +53,11 @@ pub(crate) fn improve(
     found: &mut Vec<FoundSet>,
 ) -> Result<u64, AllocError> {
     let mut until = vec![in alloc; 0; usize::from(customers).saturating_add(1)]?;
-    let mut looks: u64 = 0;
+    let mut work: u64 = 0;
     for step in 0..steps {
-        looks = looks.saturating_add(u64::from(customers));
+        work = work.saturating_add(u64::from(customers));
         let Some(v) = best_change(&inside, until.as_slice(), step) else {
-            return Ok(looks);
+            return Ok(work);
         };
         inside.toggle(v);
         if let Some(end) = until.get_mut(usize::from(v)) {
@@ -65,5 +65,5 @@ pub(crate) fn improve(
         }
         inside.note(found, least)?;
     }
-    Ok(looks)
+    Ok(work)
 }

@@ -17,8 +17,8 @@ const MOST_CHANGED: usize = 20;
 
 const MOST_CHANGES: usize = 60;
 
-/// So many customers that a search looks at take as long as one look of a pricing.
-const STEPS_OF_LOOK: u64 = 2;
+/// So many customers that a search goes over are one unit of work, as it is counted of pricings.
+const STEPS_OF_UNIT: u64 = 2;
 
 /// A set may grow to so many customers.
 const MOST_GROWN: usize = 110;
@@ -40,7 +40,7 @@ pub struct SetFinds {
     /// Those first that lack most.
     pub sets: Vec<FoundSet>,
     /// How much work it was.
-    pub looks: u64,
+    pub work: u64,
 }
 
 /// The groups of the flow, those first that lack most, at most so many.
@@ -72,12 +72,12 @@ fn grown(
 ) -> Result<u64, AllocError> {
     let customers = flow.customers;
     let most = MOST_GROWN.min(usize::from(customers).saturating_sub(1));
-    let mut looks: u64 = 0;
+    let mut work: u64 = 0;
     for first in 1..flow.end() {
         let inside = Inside::of(alloc, flow, instance, &[first])?;
-        looks = looks.saturating_add(grow(inside, customers, most, least, found)?);
+        work = work.saturating_add(grow(inside, customers, most, least, found)?);
     }
-    Ok(looks)
+    Ok(work)
 }
 
 /// Sets whose load needs more than flows into them.
@@ -89,12 +89,12 @@ fn by_load(
     found: &mut Vec<FoundSet>,
 ) -> Result<u64, AllocError> {
     let customers = flow.customers;
-    let mut looks: u64 = 0;
+    let mut work: u64 = 0;
     for inside in best_starts(alloc, instance, flow, least, found)? {
         let changes = improve(alloc, inside, customers, MOST_CHANGES, least, found)?;
-        looks = looks.saturating_add(changes);
+        work = work.saturating_add(changes);
     }
-    Ok(looks.saturating_add(grown(alloc, instance, flow, least, found)?))
+    Ok(work.saturating_add(grown(alloc, instance, flow, least, found)?))
 }
 
 /// What customers have to be delivered together.
@@ -127,12 +127,12 @@ impl<'i> SetSearch<'i> {
     /// Small sets of customers of one place in the list, each once, that less than two routes enter.
     fn clusters(&self, flow: &FlowTable) -> Result<(Vec<Cluster>, u64), AllocError> {
         let mut clusters: Vec<Cluster> = Vec::new(self.alloc);
-        let mut looks: u64 = 0;
+        let mut work: u64 = 0;
         for first in 1..flow.end() {
-            looks = looks.saturating_add(add_clusters(self.alloc, flow, first, &mut clusters)?);
+            work = work.saturating_add(add_clusters(self.alloc, flow, first, &mut clusters)?);
         }
         clusters.sort_by_key(|cluster| cluster.hash)?;
-        Ok((clusters, looks))
+        Ok((clusters, work))
     }
 
     /// Notes a set that less than two routes enter where no vehicle can serve it in time, though it can carry its load.
@@ -155,20 +155,20 @@ impl<'i> SetSearch<'i> {
                 lack: flow.whole.saturating_mul(2).saturating_sub(cluster.inflow),
             })?;
         }
-        Ok(answer.looks)
+        Ok(answer.work)
     }
 
     /// Sets that less than two routes enter, and no vehicle can serve in time.
     fn by_time(&mut self, flow: &FlowTable, found: &mut Vec<FoundSet>) -> Result<u64, AllocError> {
-        let (clusters, mut looks) = self.clusters(flow)?;
+        let (clusters, mut work) = self.clusters(flow)?;
         let mut last: &[u16] = &[];
         for cluster in &clusters {
             if cluster.members.as_slice() != last {
-                looks = looks.saturating_add(self.note_timed(flow, cluster, found)?);
+                work = work.saturating_add(self.note_timed(flow, cluster, found)?);
                 last = cluster.members.as_slice();
             }
         }
-        Ok(looks)
+        Ok(work)
     }
 
     /// Sets that routes enter less often than each plan has to, by more than a twentieth: of those that are found at
@@ -189,7 +189,7 @@ impl<'i> SetSearch<'i> {
         let by_time = self.by_time(&flow, &mut found)?;
         Ok(SetFinds {
             sets: choose(alloc, found, known, most)?,
-            looks: by_load.saturating_add(by_time) / STEPS_OF_LOOK,
+            work: by_load.saturating_add(by_time) / STEPS_OF_UNIT,
         })
     }
 }

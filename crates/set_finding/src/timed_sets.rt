@@ -29,7 +29,7 @@ pub(crate) struct TimedSets {
 #[derive(Clone, Copy)]
 pub(crate) struct TimedAnswer {
     pub(crate) needs_two: bool,
-    pub(crate) looks: u64,
+    pub(crate) work: u64,
 }
 
 impl TimedSets {
@@ -68,18 +68,15 @@ impl TimedSets {
         let instance = needed.instance();
         let count = members.len() as u64;
         if let Some(needs_two) = self.seen(instance, needed, members)? {
-            let looks = count.saturating_mul(2);
-            return Ok(TimedAnswer { needs_two, looks });
+            let work = count.saturating_mul(2);
+            return Ok(TimedAnswer { needs_two, work });
         }
         let hash = hash_of(members);
         let place = self.asked.partition_point(|asked| asked.hash < hash);
         if let Some(asked) = self.asked.get(place) {
             if asked.members.as_slice() == members {
                 let needs_two = asked.needs_two;
-                return Ok(TimedAnswer {
-                    needs_two,
-                    looks: 1,
-                });
+                return Ok(TimedAnswer { needs_two, work: 1 });
             }
         }
         let needs_two = needed.is_needed(members, 2)?;
@@ -91,7 +88,7 @@ impl TimedSets {
         };
         self.asked.insert(place, asked)?;
         let subsets = 1u64 << count.min(20);
-        let looks = subsets.saturating_mul(count).saturating_mul(count) / 8;
-        Ok(TimedAnswer { needs_two, looks })
+        let work = subsets.saturating_mul(count).saturating_mul(count) / 8;
+        Ok(TimedAnswer { needs_two, work })
     }
 }

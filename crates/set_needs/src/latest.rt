@@ -50,7 +50,7 @@ pub(crate) fn later(one: Option<u64>, other: Option<u64>) -> Option<u64>
 }
 
 /// Whether a time is no later than a latest one, if there is one.
-pub(crate) fn is_by(time: u64, latest: Option<u64>) -> bool
+pub(crate) fn is_no_later(time: u64, latest: Option<u64>) -> bool
     ensures { IsTrue result ↔ IsBy latest time }
 {
     match latest {

@@ -6,7 +6,7 @@ ghost use Rattle.solomon_reader.specs.CustomerSets.{IsServedInTime, most_timed};
 ghost use Rattle.set_needs.specs.Quickest.{IsTable};
 ghost use Rattle.set_needs.specs.Latest.{IsLatest, IsLatestAt, AreLatest, chosen, subsets};
 
-use crate::latest::{is_by, later, latest_before, latest_return};
+use crate::latest::{is_no_later, later, latest_before, latest_return};
 use crate::ways::QuickestWays;
 use solomon_reader::Instance;
 use std::alloc::{AllocError, Global};
@@ -120,5 +120,5 @@ pub(crate) fn are_served_in_time(
     let all = subsets(members.len()) - 1;
     let table = latest_table(alloc, instance, ways, members, all)?;
     let latest = latest_for(instance, ways, members, table.as_slice(), all, 0);
-    Ok(is_by(instance.ready(0), latest))
+    Ok(is_no_later(instance.ready(0), latest))
 }

@@ -25,7 +25,7 @@ use Rattle.sol_writer.specs.Text.{label, route_text, cost_text, route_list, solu
 use Rattle.sol_writer.specs.Reading.{customer_at, customers_at, fixed_at, some_customers, route_at, only_tenths, cost_at, is_cost, end_at, sol_at, reading, Gives}
 use Rattle.sol_writer.specs.declared.fault.SolFault.{SolFault}
 use Rattle.sol_writer.specs.declared.sol.Sol.{Sol}
-use Rattle.sol_writer.specs.Laws.{OneTextEach}
+use Rattle.sol_writer.specs.Laws.{TextsDiffer}
 
 -- ---- words
 
@@ -271,8 +271,8 @@ lines_again rs t is =
 pub reading_again : (text : List ℕ) (rs : List (List ℕ)) (t : ℕ) → IsSolution rs t → text ≡ solution_text rs t → reading text ≡ Ok (rs, t)
 reading_again text rs t is e = ap reading (e ∙ sym (text_is rs t)) ∙ lines_again rs t is
 
-pub one_text_each : OneTextEach
-one_text_each r s b c p q e =
+pub texts_differ : TextsDiffer
+texts_differ r s b c p q e =
     let same : lines_text r b ≡ lines_text s c = text_is r b ∙ e ∙ sym (text_is s c) in
     let both : (r, b) ≡ (s, c) = ok_is (r, b) (s, c) (sym (lines_again r b p) ∙ ap reading same ∙ lines_again s c q) in
     (ap (λ (x : List (List ℕ) × ℕ). x.0) both, ap (λ (x : List (List ℕ) × ℕ). x.1) both)

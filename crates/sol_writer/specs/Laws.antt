@@ -5,8 +5,8 @@ use Rattle.sol_writer.specs.declared.fault.SolFault.{SolFault}
 use Rattle.sol_writer.specs.declared.fault.SolFault.TheVariants.{Truncated}
 use Rattle.sol_writer.specs.Reading.{reading}
 
-abbrev pub OneTextEach : Type 0
-OneTextEach = (r s : List (List ℕ)) (b c : ℕ) → IsSolution r b → IsSolution s c → solution_text r b ≡ solution_text s c → (r ≡ s) × (b ≡ c)
+abbrev pub TextsDiffer : Type 0
+TextsDiffer = (r s : List (List ℕ)) (b c : ℕ) → IsSolution r b → IsSolution s c → solution_text r b ≡ solution_text s c → (r ≡ s) × (b ≡ c)
 
 -- A fault that the first bytes show, other than that they end, is the fault of all bytes, however they go on. So the fault that is told is the first from the left.
 abbrev pub FirstFaultStays : Type 0

@@ -82,7 +82,7 @@ IsValueAt version_1 p g k prices v = IsLeafValue version_1 p g k prices.customer
 IsValueAt version_2 p g k prices v = IsLeafValue version_2 p g k prices.customers v
 IsValueAt (with_sets sets) p g k prices v = IsLeafValueWith (with_sets sets) p g k prices.customers (priced_sets sets prices.sets) v
 
--- a tree of branchings: prices at a leaf, or an arc with the tree where it is used and the tree where it isn't
+-- a tree of splits: prices at a leaf, or an arc with the tree where it is used and the tree where it isn't
 pub data Tree : Type 0 where
   leaf : LeafPrices → Tree
   split : Arc → Tree → Tree → Tree

@@ -1,4 +1,4 @@
--- Regions of the branching: arcs that a plan has to use, and arcs that it may not use.
+-- The regions of a tree: arcs that a plan has to use, and arcs that it may not use.
 use Rattle.std.specs.Prelude.{◌≡◌, ◌≢◌, refl, ℕ, ◌≤◌, List, [], ◌∷◌, ◌⊎◌, IsTrue}
 use Rattle.std.specs.Ordering.{nat_cmp, ordering_then}
 use Rattle.std.specs.declared.cmp.Ordering.{Ordering}

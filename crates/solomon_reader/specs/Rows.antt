@@ -66,14 +66,14 @@ pub record WorkedRows : Type 0 where
       ≡ codes "VRPTW-CERT 1\nINSTANCE T\nCUSTOMERS 1\nNEIGHBOURS 8\nBOUND 10.0\nTREE\nP 100000\nEND\n"
 
 -- a price at each leaf
-abbrev pub parted : Tree
-parted = split (0, 1) (leaf (of_customers (pos 100000 ∷ pos 301000 ∷ []))) (leaf (of_customers (pos 401000 ∷ pos 0 ∷ [])))
+abbrev pub two_leaves : Tree
+two_leaves = split (0, 1) (leaf (of_customers (pos 100000 ∷ pos 301000 ∷ []))) (leaf (of_customers (pos 401000 ∷ pos 0 ∷ [])))
 
 pub record WorkedBounds : Type 0 where
   pub free_1 : IsTreeBound version_1 one_customer 8 (leaf (of_customers (pos 0 ∷ []))) 0
   pub free_2 : IsTreeBound version_2 one_customer 8 (leaf (of_customers (pos 0 ∷ []))) 100
-  pub parted_1 : IsTreeBound version_1 narrow 8 parted 199
-  pub parted_2 : IsTreeBound version_2 narrow 8 parted 199
+  pub two_leaves_1 : IsTreeBound version_1 narrow 8 two_leaves 199
+  pub two_leaves_2 : IsTreeBound version_2 narrow 8 two_leaves 199
   pub used_leaf : IsLeafValue version_2 narrow (used_child (root_region 2) (0, 1)) 8 (pos 100000 ∷ pos 301000 ∷ []) 199
   pub unused_leaf : IsLeafValue version_2 narrow (unused_child (root_region 2) (0, 1)) 8 (pos 401000 ∷ pos 0 ∷ []) 801
   pub remembered : ¬ IsRelaxed revisits (root_region 2) 1 (2 ∷ 1 ∷ 2 ∷ [])

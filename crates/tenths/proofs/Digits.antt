@@ -15,7 +15,7 @@ use Rattle.std.specs.Fmt.{signed_decimal, digits, digits_onto, digit_glyph}
 use Rattle.tenths.specs.declared.numbers.TheConstants.{NUMBER_CAP}
 use Rattle.tenths.specs.Numbers.{is_digit, capped, is_canonical, number_of, signed_of, minus, clamped, tenths_from, tenths_between, tenths_of}
 use Rattle.tenths.specs.declared.value.TheConstants.{MOST_TENTHS}
-use Rattle.tenths.specs.Laws.{OneTextEach}
+use Rattle.tenths.specs.Laws.{TextsDiffer}
 use Rattle.tenths.specs.Text.{tenths_text}
 use Rattle.tenths.specs.Parts.{parts}
 use Rattle.tenths.proofs.Cuts.{Lacks, parts-one, parts-more, joined, joined-parts, Lacks-append}
@@ -423,8 +423,8 @@ tenths_told text (Some t) e = (tenths_takes text t (sym e)).0
 some_tenths : (s t : ℕ) → Some s ≡ Some t → s ≡ t
 some_tenths s t e = cc
 
-pub one_text_each : OneTextEach
-one_text_each s t small smaller e =
+pub texts_differ : TextsDiffer
+texts_differ s t small smaller e =
     let a : s < 10 ^ 13 = omega (arith, small) in
     let b : t < 10 ^ 13 = omega (arith, smaller) in
     some_tenths s t (sym (tenths_again s a) ∙ ap tenths_of e ∙ tenths_again t b)

@@ -1,8 +1,8 @@
 //! Laws of the texts.
 
-ghost use Rattle.tenths.specs.Laws.{OneTextEach};
+ghost use Rattle.tenths.specs.Laws.{TextsDiffer};
 
 /// Two numbers of tenths that aren't the same have different texts.
-pub fn one_text_each()
-    ensures { OneTextEach }
+pub fn texts_differ()
+    ensures { TextsDiffer }
 {}

@@ -15,7 +15,7 @@ mod value;
 mod writing;
 
 pub use failure_count::FailureCount;
-pub use laws::one_text_each;
+pub use laws::texts_differ;
 pub use lines::Lines;
 pub use numbers::{NUMBER_CAP, number, read_tenths, signed};
 pub use parts::Parts;

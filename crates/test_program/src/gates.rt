@@ -24,8 +24,8 @@ const ENDS: usize = (WORKERS as usize - 1) * TURNS as usize;
 /// The most pairs that a check may keep.
 const STATES: usize = 1_000_000;
 
-/// How often a gate looks, a millisecond apart.
-const LOOKS: u32 = 10_000;
+/// How often a gate tries to see enough passes, a millisecond apart.
+const TRIES: u32 = 10_000;
 
 /// All points of a turn.
 const POINTS: [GatePoint; 7] = [
@@ -67,7 +67,7 @@ fn held_until(
     }
 }
 
-/// A gate that holds workers, and knows whether one looked in vain.
+/// A gate that holds workers, and knows whether one tried in vain.
 #[derive(Drop)]
 struct Holds<'a, R: Clock> {
     rt: &'a R,
@@ -75,9 +75,9 @@ struct Holds<'a, R: Clock> {
     was_alone: AtomicBool,
 }
 
-/// Whether at one of the looks passes are as many as that.
+/// Whether at one of the tries passes are as many as that.
 fn are_seen<R: Clock>(rt: &R, passes: &AtomicUsize, count: usize) -> bool {
-    for _ in 0..LOOKS {
+    for _ in 0..TRIES {
         if passes.load(Ordering::SeqCst) >= count {
             return true;
         }

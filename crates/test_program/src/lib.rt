@@ -35,7 +35,7 @@ use crate::jobs::tell_job;
 use crate::library::tell_library;
 use crate::runs::{run, tell_printed, tell_unheard};
 use crate::sinks::tell_sinks;
-use crate::texts::{LOW, tell_file, write_file, write_text};
+use crate::texts::{LOW, tell_file, write_file, write_text_meant};
 use std::io;
 use std::rt::Runtime;
 use std::sync::Wait;
@@ -51,8 +51,8 @@ fn obey<R: Runtime + AllocGlobal + Threads + Wait + Sync>(
 ) -> io::Result<()> {
     match words {
         ["file", path, fleet, capacity, ..] => write_file(rt, line, [path, fleet, capacity]),
-        ["text", path, ..] => write_text(rt, line, path, LOW),
-        ["returns", path, ..] => write_text(rt, line, path, b'\r'),
+        ["text", path, ..] => write_text_meant(rt, line, path, LOW),
+        ["returns", path, ..] => write_text_meant(rt, line, path, b'\r'),
         ["show", path] => tell_file(rt, told, path),
         ["bound", path] => tell_bound(rt, told, path, 0),
         ["bound", path, most] => tell_bound(rt, told, path, most.parse().unwrap_or(0)),

@@ -46,7 +46,7 @@ pub(crate) fn write_file<R: Runtime + AllocGlobal>(
 }
 
 /// Writes the text of a call, in which a tilde stands for this byte.
-pub(crate) fn write_text<R: Runtime + AllocGlobal>(
+pub(crate) fn write_text_meant<R: Runtime + AllocGlobal>(
     rt: &R,
     line: &str,
     path: &str,

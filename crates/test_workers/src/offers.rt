@@ -119,7 +119,9 @@ fn value<R: Wait, J: Naming>(
 /// Splits the root, and is refused to split it again. Gives the child without the arc a higher value, and is
 /// refused an equal one and a split to lower ones. For the other child it is refused prices of another
 /// region, and as high ones.
-fn branch<R: Abort + Wait + AllocGlobal, J: Naming>(worker: &mut DeskWorker<'_, '_, R, J>) {
+fn split_and_reprice<R: Abort + Wait + AllocGlobal, J: Naming>(
+    worker: &mut DeskWorker<'_, '_, R, J>,
+) {
     let made = (split(worker, 0, ONWARD), split(worker, 0, ONWARD));
     assert_eq!(worker.rt; made, (Ok((1, 2)), Err(BookFault::NotALeaf)));
     let values = (value(worker, 1), value(worker, 2));
@@ -135,7 +137,7 @@ fn branch<R: Abort + Wait + AllocGlobal, J: Naming>(worker: &mut DeskWorker<'_, 
     );
 }
 
-/// Offers plans and branches with a share, which comes back.
+/// Offers plans, splits and reprices with a share, which comes back.
 pub(crate) fn work<'i, J: Naming, R: Abort + Wait + AllocGlobal>(
     rt: &R,
     desk: &Desk<'i, J>,
@@ -152,7 +154,7 @@ pub(crate) fn work<'i, J: Naming, R: Abort + Wait + AllocGlobal>(
         let told = offer(&mut worker, routes);
         assert_eq!(rt; told, Ok((is_better, cost.map(|cost| Tenths::from(cost)))));
     }
-    branch(&mut worker);
+    split_and_reprice(&mut worker);
     let DeskWorker { share, .. } = worker;
     share
 }

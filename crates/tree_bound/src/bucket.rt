@@ -59,7 +59,7 @@ struct Entry {
 }
 
 /// How many entries cost less.
-fn cheaper(entries: &[Entry], cost: i64) -> usize
+fn cheaper_count(entries: &[Entry], cost: i64) -> usize
     ensures { result ≤ length entries.now }
 {
     entries.partition_point(|entry| entry.cost < cost)
@@ -89,7 +89,7 @@ fn drop_from(
     ensures { IsThinned labels.old labels.new label.now }
 {
     let mut dropped: usize = 0;
-    let mut at = cheaper(entries.as_slice(), label.cost);
+    let mut at = cheaper_count(entries.as_slice(), label.cost);
     for _turn in at..entries.len() {
         if at >= entries.len() {
             break;
@@ -203,7 +203,7 @@ impl Bucket {
         }
         let (cost, time, memory) = (label.cost, label.time, label.memory);
         let entries = &mut self.groups[place].entries;
-        let at = cheaper(entries.as_slice(), cost);
+        let at = cheaper_count(entries.as_slice(), cost);
         entries.insert(
             at,
             Entry {

@@ -148,12 +148,12 @@ pub(crate) fn start_fault<Y: Sink>(alloc: Global, fault: StartFault, errors: &mu
     }
 }
 
-/// Writes a line of words and numbers on standard error, and answers the status that goes with it.
-fn fail_with<Y: Sink>(errors: &mut Y, words: &str, numbers: &[Tenths], status: u8) -> u8
+/// Writes a line of a text and numbers on standard error, and answers the status that goes with it.
+fn fail_with<Y: Sink>(errors: &mut Y, text: &str, numbers: &[Tenths], status: u8) -> u8
     ensures { result ≡ status }
 {
     // Where standard error fails too, the status alone tells.
-    let _ = write_line(words, numbers, errors);
+    let _ = write_line(text, numbers, errors);
     status
 }
 
@@ -195,9 +195,9 @@ pub(crate) fn check_fault<Y: Sink>(alloc: Global, fault: CheckFault, errors: &mu
     }
 }
 
-/// Writes a word, and numbers of tenths after it, as a line.
-fn write_line<X: Sink>(word: &str, numbers: &[Tenths], out: &mut X) -> Result<(), Device> {
-    write_text(word.as_bytes(), out)?;
+/// Writes a text, and numbers of tenths after it, as a line.
+fn write_line<X: Sink>(text: &str, numbers: &[Tenths], out: &mut X) -> Result<(), Device> {
+    write_text(text.as_bytes(), out)?;
     for number in numbers {
         write_text(b" ", out)?;
         write_tenths(*number, out)?;
@@ -205,21 +205,21 @@ fn write_line<X: Sink>(word: &str, numbers: &[Tenths], out: &mut X) -> Result<()
     write_text(b"\n", out)
 }
 
-/// Prints a line of a word and numbers, and answers the status that goes with it.
+/// Prints a line of a text and numbers, and answers the status that goes with it.
 fn tell_line<X: Sink, Y: Sink>(
-    word: &str,
+    text: &str,
     numbers: &[Tenths],
     status: u8,
     out: &mut X,
     errors: &mut Y,
 ) -> u8 {
-    match write_line(word, numbers, out) {
+    match write_line(text, numbers, out) {
         Ok(()) => status,
         Err(Device) => file_fault(errors),
     }
 }
 
-/// Prints a verdict, and answers its status: in the words of an answer, but for a bound alone.
+/// Prints a verdict, and answers its status: as an answer is printed, but for a bound alone.
 pub(crate) fn tell_verdict<X: Sink, Y: Sink>(verdict: &Verdict, out: &mut X, errors: &mut Y) -> u8 {
     let answer = match *verdict {
         Verdict::Best { cost } => Answer::Best { cost },

@@ -187,7 +187,7 @@ fn check_files<R: Files + AllocGlobal, X: Sink, Y: Sink>(
 }
 
 /// What flags ask for: one line where both are given.
-fn telling_of(progress: bool, live: bool) -> Telling {
+fn telling_asked(progress: bool, live: bool) -> Telling {
     if live {
         Telling::Live
     } else if progress {
@@ -238,7 +238,7 @@ pub fn run_words<R: Eprint + Files + AllocGlobal + Threads + Wait + Sync, X: Sin
                 certificate,
                 settings: &settings,
                 closing: close.then_some(leaves),
-                telling: telling_of(progress, live),
+                telling: telling_asked(progress, live),
             };
             solve_files(rt, alloc, job, out, errors)
         }

@@ -7,12 +7,12 @@ use crate::gate::{Gate, GatePoint};
 use crate::hub::Hub;
 use crate::nodes::{Nodes, OpenNode, Taken};
 use crate::pricing::{
-    Rules, expected_looks, goal_at, has_done_enough, own_limit, pricing_labels, turn_looks,
+    Rules, expected_work, goal_at, has_done_enough, own_limit, pricing_labels, turn_work,
 };
-use crate::refusal::Refusal;
+use crate::turn_fault::TurnFault;
 use crate::worker::Worker;
 use labelling::LabelFault;
-use leaf_work::{ChildStart, Children, Parted, Raised, met_plan, part, raise};
+use leaf_work::{ChildStart, Children, Raised, SplitOrDecided, met_plan, raise, split_or_decide};
 use prices::Priced;
 use run_settings::Settings;
 use schedule::Feasible;
@@ -24,7 +24,7 @@ const MOST_LEAVES: u32 = 10;
 fn offer_if_cheaper<'i, H: Hub<'i>, G: Gate>(
     worker: &mut Worker<'_, 'i, H, G>,
     plan: Feasible<'i>,
-) -> Result<(), Refusal>
+) -> Result<(), TurnFault>
     ensures words { worker.new.ceiling ≡ worker.old.ceiling }
 {
     if plan.cost().get() >= worker.target() {
@@ -41,7 +41,7 @@ fn split<'i, H: Hub<'i>, G: Gate>(
     is_root: bool,
     children: Children<'i>,
     nodes: &mut Nodes<'_>,
-) -> Result<(), Refusal>
+) -> Result<(), TurnFault>
     ensures words { worker.new.ceiling ≡ worker.old.ceiling }
 {
     let Children {
@@ -70,54 +70,55 @@ fn split<'i, H: Hub<'i>, G: Gate>(
 }
 
 /// Offers the plan of a leaf whose region leaves no arc open where it is cheaper than those known, and gives the leaf
-/// its settled prices where their value is above this one.
-fn settle<'i, H: Hub<'i>, G: Gate>(
+/// its decided prices where their value is above this one.
+fn bring_decided<'i, H: Hub<'i>, G: Gate>(
     worker: &mut Worker<'_, 'i, H, G>,
     number: u32,
     value: i128,
-    settled: Priced<'i>,
+    decided: Priced<'i>,
     plan: Option<Feasible<'i>>,
-) -> Result<(), Refusal>
+) -> Result<(), TurnFault>
     ensures words { worker.new.ceiling ≡ worker.old.ceiling }
 {
     worker.left.finish();
     if let Some(plan) = plan {
         offer_if_cheaper(worker, plan)?;
     }
-    if settled.value() > value {
-        return worker.reprice(number, settled);
+    if decided.value() > value {
+        return worker.reprice(number, decided);
     }
     Ok(())
 }
 
-/// Splits a leaf, with the raised prices at both children, or settles it where no arc is left to split.
-fn split_or_settle<'i, H: Hub<'i>, G: Gate>(
+/// Splits a leaf, with the raised prices at both children, or brings the decided leaf where no arc is left to split
+/// it by.
+fn bring_split_or_decided<'i, H: Hub<'i>, G: Gate>(
     worker: &mut Worker<'_, 'i, H, G>,
     number: u32,
     raised: Raised<'i>,
     labels: usize,
     nodes: &mut Nodes<'_>,
-) -> Result<(), Refusal>
+) -> Result<(), TurnFault>
     ensures words { worker.new.ceiling ≡ worker.old.ceiling }
 {
-    match part(&raised, &mut nodes.pool, &mut nodes.state, Some(labels)) {
-        Ok(Parted::Split(children)) => {
+    match split_or_decide(&raised, &mut nodes.pool, &mut nodes.state, Some(labels)) {
+        Ok(SplitOrDecided::Split(children)) => {
             let is_root = raised.priced.region().is_root();
             split(worker, number, is_root, children, nodes)
         }
-        Ok(Parted::Settled(settled, plan)) => {
-            settle(worker, number, raised.priced.value(), settled, plan)
+        Ok(SplitOrDecided::Decided(decided, plan)) => {
+            bring_decided(worker, number, raised.priced.value(), decided, plan)
         }
         Err(LabelFault::LabelLimit) => {
             worker.left.finish();
             worker.reprice(number, raised.priced)
         }
-        Err(LabelFault::Memory) => Err(Refusal::EndsWork),
+        Err(LabelFault::Memory) => Err(TurnFault::EndsWork),
     }
 }
 
 /// Gives the root its raised prices, to which the next turn returns as long as it rises or sets are added, and another
-/// leaf where they end the work at it; parts it elsewhere.
+/// leaf where they end the work at it; splits it elsewhere.
 fn bring<'i, H: Hub<'i>, G: Gate>(
     worker: &mut Worker<'_, 'i, H, G>,
     number: u32,
@@ -125,7 +126,7 @@ fn bring<'i, H: Hub<'i>, G: Gate>(
     is_raised: bool,
     rules: Rules,
     nodes: &mut Nodes<'_>,
-) -> Result<(), Refusal>
+) -> Result<(), TurnFault>
     ensures words { worker.new.ceiling ≡ worker.old.ceiling }
 {
     if raised.priced.value() >= i128::from(worker.target()) {
@@ -144,7 +145,7 @@ fn bring<'i, H: Hub<'i>, G: Gate>(
             Ok(())
         };
     }
-    split_or_settle(worker, number, raised, rules.labels, nodes)
+    bring_split_or_decided(worker, number, raised, rules.labels, nodes)
 }
 
 /// Offers the routes that make up the prices raised last, where they are a plan that is cheaper than those
@@ -152,7 +153,7 @@ fn bring<'i, H: Hub<'i>, G: Gate>(
 fn offer_routes<'i, H: Hub<'i>, G: Gate>(
     worker: &mut Worker<'_, 'i, H, G>,
     nodes: &Nodes<'_>,
-) -> Result<(), Refusal>
+) -> Result<(), TurnFault>
     ensures words { worker.new.ceiling ≡ worker.old.ceiling }
 {
     match met_plan(worker.instance, &nodes.pool)? {
@@ -184,7 +185,7 @@ fn work_at<'i, H: Hub<'i>, G: Gate>(
     leaf: Priced<'i>,
     rules: Rules,
     nodes: &mut Nodes<'_>,
-) -> Result<(), Refusal>
+) -> Result<(), TurnFault>
     ensures words { worker.new.ceiling ≡ worker.old.ceiling }
 {
     let Taken {
@@ -208,7 +209,7 @@ fn work_on<'i, H: Hub<'i>, G: Gate>(
     rules: Rules,
     made: u32,
     nodes: &mut Nodes<'_>,
-) -> Result<bool, Refusal>
+) -> Result<bool, TurnFault>
     ensures words { worker.new.ceiling ≡ worker.old.ceiling }
 {
     if worker.is_closed() || has_done_enough(nodes, made) {
@@ -237,7 +238,7 @@ fn turn<'i, H: Hub<'i>, G: Gate>(
     rules: Rules,
     made: u32,
     nodes: &mut Nodes<'_>,
-) -> Result<(), Refusal>
+) -> Result<(), TurnFault>
     ensures words { worker.new.ceiling ≡ worker.old.ceiling }
 {
     for _leaf in 0..MOST_LEAVES {
@@ -271,15 +272,15 @@ pub fn bound_worker<'i, H: Hub<'i>, G: Gate>(
         labels: pricing_labels(settings, nodes.customers),
         sets: (settings.sets / settings.bounders.max(1)) as usize,
         place: u32::from(worker.number).saturating_sub(settings.searchers),
-        looks: turn_looks(nodes.customers).saturating_mul(u64::from(settings.turns)),
+        work: turn_work(nodes.customers).saturating_mul(u64::from(settings.turns)),
     };
-    let looks = expected_looks(settings, nodes.customers);
-    let mut nodes = nodes.for_work(looks);
+    let work = expected_work(settings, nodes.customers);
+    let mut nodes = nodes.for_work(work);
     for made in 0..settings.turns {
         worker.pass(GatePoint::Start);
         let done = turn(worker, rules, made, &mut nodes);
         worker.end_turn();
-        if let Err(Refusal::EndsWork) = done {
+        if let Err(TurnFault::EndsWork) = done {
             return made + 1;
         }
     }

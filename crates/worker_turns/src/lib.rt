@@ -7,8 +7,8 @@ mod hub;
 mod leaves_left;
 mod nodes;
 mod pricing;
-mod refusal;
 mod searching;
+mod turn_fault;
 mod worker;
 
 pub use bounding::bound_worker;

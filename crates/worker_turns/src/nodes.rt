@@ -5,7 +5,7 @@ ghost use Rattle.std.specs.List.{All};
 ghost use Rattle.node_pool.specs.Deques.{FitsAt};
 ghost use Rattle.node_pool.specs.Ends.{deque_at};
 
-use crate::refusal::Refusal;
+use crate::turn_fault::TurnFault;
 use fronts::Nearness;
 use leaf_work::{ChildStart, PricingState, RoutePool, counted_routes};
 use node_pool::{Hand, Pass, Stolen, Thief};
@@ -25,14 +25,14 @@ pub(crate) struct OpenNode {
 /// For this many customers a turn at the root may be in vain.
 const CUSTOMERS_OF_PATIENCE: u16 = 150;
 
-/// After this many looks for a leaf the processor is given away.
-const LOOKS_BETWEEN: u32 = 2_000;
+/// After this many tries to find a leaf the processor is given away.
+const TRIES_BETWEEN: u32 = 2_000;
 
-/// How often a turn looks for a leaf, which takes some milliseconds, and how often a worker looks in vain
-/// before its turns look once each.
-const LOOKS_OF_TURN: u32 = 50_000;
+/// How often a turn tries to find a leaf, which takes some milliseconds, and how often a worker tries in vain
+/// before its turns try once each.
+const TRIES_OF_TURN: u32 = 50_000;
 
-const MOST_LOOKS: u32 = 5_000_000;
+const MOST_TRIES: u32 = 5_000_000;
 
 /// What a bound worker has: the leaves that it made, the end of a deque of its own, in which one of them
 /// stands for others to steal, the deques that it steals from, and the routes that it met, whatever the
@@ -45,13 +45,13 @@ pub struct Nodes<'p> {
     shared: Option<OpenNode>,
     deques: &'p [Thief],
     pass: Pass,
-    /// How often it looked through the deques: each time it begins at the next one.
-    looks: usize,
+    /// How often it tried to steal from the deques: each time it begins at the next one.
+    tries: usize,
     /// The leaf to go on with.
     pub(crate) current: Option<u32>,
     /// How many turns in a row raised nothing at the root.
     idle_at_root: u16,
-    /// How often the worker looked for a leaf in vain since it had one.
+    /// How often the worker tried in vain to find a leaf since it had one.
     missed: u32,
     pub(crate) pool: RoutePool,
     pub(crate) state: PricingState<'p>,
@@ -141,7 +141,7 @@ impl<'p> Nodes<'p> {
             shared: None,
             deques,
             pass,
-            looks: 0,
+            tries: 0,
             current: None,
             idle_at_root: 0,
             missed: 0,
@@ -152,9 +152,9 @@ impl<'p> Nodes<'p> {
         })
     }
 
-    /// These nodes, for work of so many looks, beside which pricings are dear or aren't.
-    pub(crate) fn for_work(mut self, looks: u64) -> Nodes<'p> {
-        self.state.expect(looks);
+    /// These nodes, for so much work, beside which pricings are dear or aren't.
+    pub(crate) fn for_work(mut self, work: u64) -> Nodes<'p> {
+        self.state.expect(work);
         self
     }
 
@@ -170,16 +170,16 @@ impl<'p> Nodes<'p> {
     }
 
     /// Keeps a leaf that waits for its turn. Where memory is refused, the worker's work ends.
-    fn push(&mut self, node: OpenNode) -> Result<(), Refusal> {
+    fn push(&mut self, node: OpenNode) -> Result<(), TurnFault> {
         match self.open.push(node) {
             Ok(()) => Ok(()),
-            Err(_) => Err(Refusal::EndsWork),
+            Err(_) => Err(TurnFault::EndsWork),
         }
     }
 
     /// Puts the leaf of the least value that is left into the worker's own deque, for others to steal.
     /// Where the deque takes no more, the worker's work ends.
-    fn share_next(&mut self) -> Result<(), Refusal> {
+    fn share_next(&mut self) -> Result<(), TurnFault> {
         let Some(next) = take_least(&mut self.open) else {
             return Ok(());
         };
@@ -188,12 +188,12 @@ impl<'p> Nodes<'p> {
                 self.shared = Some(next);
                 Ok(())
             }
-            Err(_) => Err(Refusal::EndsWork),
+            Err(_) => Err(TurnFault::EndsWork),
         }
     }
 
     /// Takes the leaf back that the worker shares, unless somebody stole it.
-    fn take_back(&mut self) -> Result<(), Refusal> {
+    fn take_back(&mut self) -> Result<(), TurnFault> {
         let shared = self.shared.take();
         match self.own.pop() {
             Some(number) => self.push(came_back(number, shared)),
@@ -202,7 +202,7 @@ impl<'p> Nodes<'p> {
     }
 
     /// Takes the leaf of the least value that the worker made and nobody stole, and shares the next.
-    fn take_own(&mut self) -> Result<Option<OpenNode>, Refusal> {
+    fn take_own(&mut self) -> Result<Option<OpenNode>, TurnFault> {
         self.take_back()?;
         let Some(least) = take_least(&mut self.open) else {
             return Ok(None);
@@ -217,7 +217,7 @@ impl<'p> Nodes<'p> {
         &mut self,
         first: OpenNode,
         second: OpenNode,
-    ) -> Result<(), Refusal> {
+    ) -> Result<(), TurnFault> {
         self.push(first)?;
         self.push(second)?;
         match self.take_own()? {
@@ -239,13 +239,13 @@ impl<'p> Nodes<'p> {
 
     /// Takes a leaf that another worker shares, where none of the worker's own has a value up to a limit, and shares
     /// the next of its own.
-    fn take_stolen(&mut self, limit: i128) -> Result<Option<Taken>, Refusal> {
+    fn take_stolen(&mut self, limit: i128) -> Result<Option<Taken>, TurnFault> {
         self.take_back()?;
         if self.open.iter().any(|node| node.value <= limit) {
             return Ok(None);
         }
-        self.looks = self.looks.wrapping_add(1);
-        let from = self.looks % self.deques.len().max(1);
+        self.tries = self.tries.wrapping_add(1);
+        let from = self.tries % self.deques.len().max(1);
         let Some(number) = steal(self.deques, from, &mut self.pass) else {
             return Ok(None);
         };
@@ -261,7 +261,7 @@ impl<'p> Nodes<'p> {
     /// The leaf to go on with, else that of the least value of the worker's own, so that the bound rises; where
     /// that is above a limit, one of another worker comes before it. Where memory is refused or the deque is full,
     /// the worker's work ends.
-    fn take(&mut self, limit: i128) -> Result<Option<Taken>, Refusal> {
+    fn take(&mut self, limit: i128) -> Result<Option<Taken>, TurnFault> {
         if let Some(number) = self.current.take() {
             return Ok(Some(Taken {
                 number,
@@ -294,21 +294,21 @@ impl<'p> Nodes<'p> {
     }
 
     /// Takes a node, one of another worker first where the worker's own have values above a limit. Where there is
-    /// none, it looks again and again for one that another worker shares, and now and then gives the processor away,
+    /// none, it tries again and again to steal one that another shares, and now and then gives the processor away,
     /// so that idle turns aren't used up before the others have leaves to share.
-    pub(crate) fn wait(&mut self, limit: i128) -> Result<Option<Taken>, Refusal> {
-        let looks = if self.missed < MOST_LOOKS {
-            LOOKS_OF_TURN
+    pub(crate) fn wait(&mut self, limit: i128) -> Result<Option<Taken>, TurnFault> {
+        let tries = if self.missed < MOST_TRIES {
+            TRIES_OF_TURN
         } else {
             1
         };
-        for _look in 0..looks {
+        for _try in 0..tries {
             if let Some(taken) = self.take(limit)? {
                 self.missed = 0;
                 return Ok(Some(taken));
             }
             self.missed = self.missed.saturating_add(1);
-            if self.missed % LOOKS_BETWEEN == 0 {
+            if self.missed % TRIES_BETWEEN == 0 {
                 yield_now();
             }
         }

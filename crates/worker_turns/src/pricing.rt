@@ -11,9 +11,9 @@ use tenths::Tenths;
 /// The most pricings of a turn at the root.
 const ROOT_PRICINGS: u32 = 20;
 
-/// How many looks a turn is worth for each customer, and for how many customers at least. A look takes about
+/// How many units of work a turn is worth for each customer, and for how many customers at least. A unit takes about
 /// as long on every instance, so that turns do, too.
-const CUSTOMER_LOOKS: u64 = 19_000;
+const CUSTOMER_WORK: u64 = 19_000;
 
 const LEAST_CUSTOMERS: u64 = 120;
 
@@ -26,15 +26,15 @@ const LEAST_PRICING_TURNS: u64 = 4;
 /// Pricings are dear beside the work of so many turns, or of all turns where those are more.
 const DEAR_TURNS: u32 = 200;
 
-/// How much work a turn is worth, in looks: steps, bounds on what may follow and the projections of prices
+/// How much work a turn is worth: steps, bounds on what may follow and the projections of prices
 /// count alike, so that turns take about as long at narrow windows as at wide ones.
-pub(crate) fn turn_looks(customers: u16) -> u64 {
-    CUSTOMER_LOOKS.saturating_mul(u64::from(customers).max(LEAST_CUSTOMERS))
+pub(crate) fn turn_work(customers: u16) -> u64 {
+    CUSTOMER_WORK.saturating_mul(u64::from(customers).max(LEAST_CUSTOMERS))
 }
 
-/// Beside how much work pricings are dear, in looks.
-pub(crate) fn expected_looks(settings: &Settings, customers: u16) -> u64 {
-    turn_looks(customers).saturating_mul(u64::from(settings.turns.max(DEAR_TURNS)))
+/// Beside how much work pricings are dear.
+pub(crate) fn expected_work(settings: &Settings, customers: u16) -> u64 {
+    turn_work(customers).saturating_mul(u64::from(settings.turns.max(DEAR_TURNS)))
 }
 
 /// What a bound worker goes by.
@@ -46,8 +46,8 @@ pub(crate) struct Rules {
     pub(crate) sets: usize,
     /// Its place among the bound workers.
     pub(crate) place: u32,
-    /// How much work all its turns are worth, in looks.
-    pub(crate) looks: u64,
+    /// How much work all its turns are worth.
+    pub(crate) work: u64,
 }
 
 /// How many labels may be active at once in a bound worker's pricing on this many customers: what the settings
@@ -55,17 +55,17 @@ pub(crate) struct Rules {
 pub fn pricing_labels(settings: &Settings, customers: u16) -> usize
     ensures { result ≤ settings.now.labels }
 {
-    let worth = turn_looks(customers);
+    let worth = turn_work(customers);
     let part = worth.saturating_mul(u64::from(settings.turns)) / PRICING_PART;
-    let looks = part.max(worth.saturating_mul(LEAST_PRICING_TURNS));
-    // A label takes about one look for each customer: steps, other labels, and others that it dominates.
-    let labels = looks / u64::from(customers.max(1));
+    let work = part.max(worth.saturating_mul(LEAST_PRICING_TURNS));
+    // A label takes about one unit for each customer: steps, other labels, and others that it dominates.
+    let labels = work / u64::from(customers.max(1));
     labels.min(u64::from(settings.labels)) as usize
 }
 
 /// Whether a worker has done more than the turns that it made so far are worth.
 pub(crate) fn has_done_enough(nodes: &Nodes<'_>, made: u32) -> bool {
-    nodes.state.looks() > turn_looks(nodes.customers).saturating_mul(u64::from(made))
+    nodes.state.work() > turn_work(nodes.customers).saturating_mul(u64::from(made))
 }
 
 /// Leaves within this part of the gap above the bound count as the lowest ones.
@@ -96,7 +96,7 @@ pub(crate) fn goal_at(
         root_pricings: ROOT_PRICINGS,
         sets: rules.sets,
         labels: Some(rules.labels),
-        looks: rules.looks,
+        work: rules.work,
     };
     let mut goal = goal_of(leaf, cost, nodes.routes, target, effort);
     if is_again {

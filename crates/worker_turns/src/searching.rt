@@ -5,7 +5,7 @@ ghost use Rattle.ceiling.specs.Seats.{IsSeatOf};
 
 use crate::gate::{Gate, GatePoint};
 use crate::hub::Hub;
-use crate::refusal::Refusal;
+use crate::turn_fault::TurnFault;
 use crate::worker::Worker;
 use insertion::{Weights, build_whole};
 use rand_core::Rng;
@@ -41,7 +41,7 @@ impl<'i, R: Rng + Drop> Search<'i, R> {
 fn go_on<'i, R: Rng + Drop>(
     mut searcher: Searcher<'i, R>,
     pace: Pace,
-) -> Result<Search<'i, R>, Refusal> {
+) -> Result<Search<'i, R>, TurnFault> {
     searcher.keep_pace(pace);
     searcher.turn()?;
     Ok(Search::Improving(searcher))
@@ -54,7 +54,7 @@ fn seek_first<'i, R: Rng + Drop>(
     instance: &'i Instance,
     mut seeker: Seeker<'i, R>,
     pace: Pace,
-) -> Result<Search<'i, R>, Refusal> {
+) -> Result<Search<'i, R>, TurnFault> {
     let spared = seeker.next_word();
     let from_depot = seeker.next_word();
     let detour = seeker.next_word();
@@ -76,7 +76,7 @@ fn begin<'i, R: Rng + Drop>(
     plan: Option<HeldPlan<'i>>,
     random: R,
     pace: Pace,
-) -> Result<Search<'i, R>, Refusal> {
+) -> Result<Search<'i, R>, TurnFault> {
     match plan {
         Some(held) => {
             let mut searcher = Searcher::holding(alloc, held, random);
@@ -93,7 +93,7 @@ fn seek<'i, R: Rng + Drop>(
     instance: &'i Instance,
     search: Search<'i, R>,
     pace: Pace,
-) -> Result<Search<'i, R>, Refusal> {
+) -> Result<Search<'i, R>, TurnFault> {
     match search {
         Search::Improving(searcher) => go_on(searcher, pace),
         Search::Seeking(seeker) => seek_first(alloc, instance, seeker, pace),
@@ -105,7 +105,7 @@ fn seek<'i, R: Rng + Drop>(
 fn offer<'i, H: Hub<'i>, G: Gate, R: Rng + Drop>(
     worker: &mut Worker<'_, 'i, H, G>,
     search: &Search<'i, R>,
-) -> Result<(), Refusal>
+) -> Result<(), TurnFault>
     ensures words { worker.new.ceiling ≡ worker.old.ceiling }
 {
     let Some(plan) = search.plan() else {
@@ -135,8 +135,8 @@ fn turn<'i, H: Hub<'i>, G: Gate, R: Rng + Drop>(
         return None;
     };
     match offer(worker, &search) {
-        Ok(()) | Err(Refusal::EndsTurn) => Some(search),
-        Err(Refusal::EndsWork) => None,
+        Ok(()) | Err(TurnFault::EndsTurn) => Some(search),
+        Err(TurnFault::EndsWork) => None,
     }
 }
 

@@ -6,7 +6,7 @@ ghost use Rattle.ceiling.specs.Seats.{IsSeatOf};
 use crate::gate::{Gate, GatePoint};
 use crate::hub::Hub;
 use crate::leaves_left::LeavesLeft;
-use crate::refusal::Refusal;
+use crate::turn_fault::TurnFault;
 use branching::Arc;
 use ceiling::{Ceiling, CeilingSeat};
 use incumbent_book::Gap;
@@ -98,7 +98,7 @@ impl<'i, H: Hub<'i>, G: Gate> Worker<'_, 'i, H, G> {
     }
 
     /// Offers a plan.
-    pub(crate) fn offer(&mut self, plan: Feasible<'i>) -> Result<(), Refusal>
+    pub(crate) fn offer(&mut self, plan: Feasible<'i>) -> Result<(), TurnFault>
         ensures { self.new.ceiling ≡ self.old.ceiling }
     {
         match self.hub.offer(plan) {
@@ -106,7 +106,7 @@ impl<'i, H: Hub<'i>, G: Gate> Worker<'_, 'i, H, G> {
                 self.move_words(told.1);
                 Ok(())
             }
-            Err((_, fault)) => Err(Refusal::from(fault)),
+            Err((_, fault)) => Err(TurnFault::from(fault)),
         }
     }
 
@@ -121,12 +121,12 @@ impl<'i, H: Hub<'i>, G: Gate> Worker<'_, 'i, H, G> {
     }
 
     /// Gives a leaf its higher prices.
-    pub(crate) fn reprice(&mut self, leaf: u32, priced: Priced<'i>) -> Result<(), Refusal>
+    pub(crate) fn reprice(&mut self, leaf: u32, priced: Priced<'i>) -> Result<(), TurnFault>
         ensures { self.new.ceiling ≡ self.old.ceiling }
     {
         let gap = match self.hub.reprice(leaf, priced) {
             Ok(gap) => gap,
-            Err((_, fault)) => return Err(Refusal::from(fault)),
+            Err((_, fault)) => return Err(TurnFault::from(fault)),
         };
         self.move_words(gap);
         Ok(())
@@ -139,12 +139,12 @@ impl<'i, H: Hub<'i>, G: Gate> Worker<'_, 'i, H, G> {
         arc: Arc,
         used: Priced<'i>,
         unused: Priced<'i>,
-    ) -> Result<(u32, u32), Refusal>
+    ) -> Result<(u32, u32), TurnFault>
         ensures { self.new.ceiling ≡ self.old.ceiling }
     {
         let (numbers, gap) = match self.hub.split(leaf, arc, used, unused) {
             Ok(made) => made,
-            Err((_, _, fault)) => return Err(Refusal::from(fault)),
+            Err((_, _, fault)) => return Err(TurnFault::from(fault)),
         };
         self.move_words(gap);
         self.pass(GatePoint::Split);

@@ -8,10 +8,10 @@ use Rattle.solomon_reader.proofs.Passes.{all_more, driven_more}
 use Rattle.checker.proofs.judging.drive_all.Goals as goal
 use Rattle.checker.proofs.judging.drive_all.Goals.{in-Some, in-None}
 
-pub returns-then-not-is_light-clause-refused : goal.returns-then-not-is_light-clause-refused
-returns-then-not-is_light-clause-refused c = record {
+pub returns-then-not-is_within_capacity-clause-refused : goal.returns-then-not-is_within_capacity-clause-refused
+returns-then-not-is_within_capacity-clause-refused c = record {
   holds = Any-map (λ r. c.args.instance.now.capacity < load_of c.args.instance.now r) (λ (v : Vec ℕ Global). v.items) c.args.routes.now
-      (c.loop-route.route-index, c.route-item.result, c.loop-route-test.true, sym c.route-item.is, rw c.as_slice.ensures.value at c.if-not-is_light.ensures);
+      (c.loop-route.route-index, c.route-item.result, c.loop-route-test.true, sym c.route-item.is, rw c.as_slice.ensures.value at c.if-not-is_within_capacity.ensures);
   lowest = after_missing _ _ c.requires.some c.requires.known (λ i h. omega (arith, c.requires.once i h)) (λ i h. omega (arith, c.requires.once i h));
 }
 
@@ -24,7 +24,7 @@ loop-route-preserved c =
     let within = c.loop-route-test.true in
     record {
       light = all_more p routes place route within c.route-item.is (λ v. load_of p v.items ≤ p.capacity) c.loop-route.invariant.light
-          (rw c.as_slice.ensures.value at c.if-not-is_light.ensures);
+          (rw c.as_slice.ensures.value at c.if-not-is_within_capacity.ensures);
       small = elim c.match-drive.branch [
         | in-Some w ↦ rw w.cost-is (omega (arith, w.from-cost.ensures, w.in-Some.ensures.small, c.loop-route.invariant.small))
         | in-None w ↦ rw w.cost-is (omega (arith, c.loop-route.invariant.small))

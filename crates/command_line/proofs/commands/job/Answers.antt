@@ -4,7 +4,7 @@ use Rattle.clap.specs.Words.{is_simple_and_free, subcommand_of}
 use Rattle.command_line.specs.Commands.{program}
 use Rattle.command_line.specs.Jobs.{Gives}
 use Rattle.command_line.proofs.Named.{same_job}
-use Rattle.command_line.proofs.Refusals.{given, is_free, not_given, refused}
+use Rattle.command_line.proofs.Refused.{given, is_free, not_given, refused}
 use Rattle.command_line.proofs.commands.job.Goals as goal
 
 pub returns-in-Some-clause-ok : goal.returns-in-Some-clause-ok

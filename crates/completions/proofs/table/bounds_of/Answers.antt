@@ -6,14 +6,14 @@ use Rattle.completions.proofs.Following.{brink_of}
 use Rattle.fronts.specs.Tasks.{pricing_of}
 use Rattle.completions.proofs.table.bounds_of.Goals as goal
 
-pub fill-looks-requires-clause-bounds : goal.fill-looks-requires-clause-bounds
-fill-looks-requires-clause-bounds c =
+pub fill-work-requires-clause-bounds : goal.fill-work-requires-clause-bounds
+fill-work-requires-clause-bounds c =
     let task = c.args.task.now in
     rw (c.as_mut_slice.ensures.value, c.in_ok-bounds.ensures.items_if_clones_equal (λ y h. h))
     (All-replicate (IsRowBound (pricing_of task)) c.count.result (record { bound = c.unknown-bound.result; from = 0; row = 0; load = 0 }) (c.unknown-bound.ensures 0 0 0))
 
-pub fill-looks-requires-clause-brinks : goal.fill-looks-requires-clause-brinks
-fill-looks-requires-clause-brinks c =
+pub fill-work-requires-clause-brinks : goal.fill-work-requires-clause-brinks
+fill-work-requires-clause-brinks c =
     let task = c.args.task.now in
     let bound = c.unknown-bound.result in
     let least = (c.unknown-bound.ensures 0 0 0).small.least in

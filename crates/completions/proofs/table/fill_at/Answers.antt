@@ -7,4 +7,4 @@ pub returns-then-place-bounds-clause-bounds : goal.returns-then-place-bounds-cla
 returns-then-place-bounds-clause-bounds c =
     let task = c.args.task.now in
     All-set (IsRowBound (pricing_of task)) c.args.bounds.now c.place-place.result
-    (record { bound = c.bound_from-looks.result.0; from = c.in-Some.corner.from; row = c.args.v; load = c.in-Some.corner.load }) c.bound_from-looks.ensures c.requires.bounds
+    (record { bound = c.bound_from-work.result.0; from = c.in-Some.corner.from; row = c.args.v; load = c.in-Some.corner.load }) c.bound_from-work.ensures c.requires.bounds

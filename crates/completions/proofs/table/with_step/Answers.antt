@@ -10,8 +10,8 @@ returns c =
     (omega (arith, ints, c.least_onward-least.ensures.cut.low, c.least_onward-least.ensures.cut.high)) c.joined.result
     c.after-next.ensures.after c.bound_in-on.ensures c.least_onward-least.ensures c.joined.ensures
 
-pub returns-then-is_no_news : goal.returns-then-is_no_news
-returns-then-is_no_news c =
+pub returns-then-is_low_enough : goal.returns-then-is_low_enough
+returns-then-is_low_enough c =
     bound_same _ c.args.filled.now.task.now.task c.requires.bounded.held c.args.front.now _ _ c.args.load refl refl c.requires.empty c.requires.cost
     c.args.step.now.customer c.args.bound c.after-next.result c.after-next.ensures.after c.requires.small
-    (c.is_no_news.ensures c.if-is_no_news.true)
+    (c.is_low_enough.ensures c.if-is_low_enough.true)

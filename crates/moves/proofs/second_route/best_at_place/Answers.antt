@@ -3,7 +3,7 @@ use Rattle.std.proofs.lemmas.Int.{ints}
 use Rattle.segments.specs.PlanTrees.{problem_of}
 use Rattle.moves.specs.Trees.{visits_of}
 use Rattle.moves.proofs.Searching.{at_end}
-use Rattle.moves.proofs.GapChanges.{none_there, takes_one}
+use Rattle.moves.proofs.FlankChanges.{none_there, takes_one}
 use Rattle.moves.proofs.second_route.best_at_place.Goals as goal
 
 pub returns : goal.returns

@@ -5,7 +5,7 @@ use Rattle.segments.specs.PlanTrees.{problem_of}
 use Rattle.moves.specs.declared.candidate.Kind.TheVariants as kinds
 use Rattle.moves.specs.Trees.{visits_of}
 use Rattle.moves.proofs.Searching.{neighbours, at_none, at_end}
-use Rattle.moves.proofs.GapChanges.{next_rears}
+use Rattle.moves.proofs.FlankChanges.{next_rears}
 use Rattle.moves.proofs.second_route.best_cross.Goals as goal
 
 pub loop-position-init : goal.loop-position-init
@@ -17,7 +17,7 @@ pub loop-position-preserved : goal.loop-position-preserved
 loop-position-preserved c =
     let f = c.args.first.now.numbers in
     let range = c.second_positions-positions in
-    let next = c.change_at_gap-next in
+    let next = c.change_at_place-next in
     let rears = c.loop-position.rears in
     let behind = c.loop-position.invariant.1 in
     let two : to_z w64 (of_z w64 rears.two) ≡ rears.two = omega (arith, ints, behind.small_two.0, behind.small_two.1) in

@@ -4,11 +4,11 @@ use Rattle.std.specs.Int.RustNames.{FitsSigned}
 use Rattle.std.proofs.lemmas.Int.{to_z-of_z}
 use Rattle.std.proofs.lemmas.List.{take_more, take-append-drop}
 use mir.Syntax.{w64}
-use Rattle.prices.proofs.Ascending.{no_step, one_more, improves}
+use Rattle.prices.proofs.Improvements.{no_step, one_more, improves}
 use Rattle.prices.proofs.improving.improve.Goals as goal
 
 pub loop-step-init : goal.loop-step-init
-loop-step-init c = no_step _ _ _ c.new-ascent.ensures.best c.new-ascent.ensures.last
+loop-step-init c = no_step _ _ _ c.new-improvement.ensures.best c.new-improvement.ensures.last
 
 pub returns-in-Err : goal.returns-in-Err
 returns-in-Err c =
@@ -19,7 +19,7 @@ pub loop-step-preserved : goal.loop-step-preserved
 loop-step-preserved c =
     let fits : FitsSigned w64 (get_or c.args.steps.now c.loop-step.step-index (pos 0)) = search rules in
     let one = rw (to_z-of_z w64 (get_or c.args.steps.now c.loop-step.step-index (pos 0)) fits) at c.in-Ok.ensures.one_on in
-    one_more _ _ _ _ c.loop-step.ascent c.in-Ok.ascent c.loop-step.invariant one (take_more c.args.steps.now c.loop-step.step-index (pos 0) c.loop-step-test.true)
+    one_more _ _ _ _ c.loop-step.improvement c.in-Ok.improvement c.loop-step.invariant one (take_more c.args.steps.now c.loop-step.step-index (pos 0) c.loop-step-test.true)
 
 pub returns : goal.returns
 returns c =

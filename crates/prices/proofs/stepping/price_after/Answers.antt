@@ -2,7 +2,7 @@ use Rattle.std.proofs.Common.{subst, sym}
 use Rattle.std.specs.Prelude.{ℤ}
 use Rattle.std.specs.Int.RustNames.{FitsSigned}
 use mir.Syntax.{w128}
-use Rattle.prices.proofs.Ascending.{product_fits, exact_change, moved_fits, exact_moved, exact_cut}
+use Rattle.prices.proofs.Improvements.{product_fits, exact_change, moved_fits, exact_moved, exact_cut}
 use Rattle.prices.proofs.stepping.price_after.Goals as goal
 
 pub overflow_mul-change : goal.overflow_mul-change

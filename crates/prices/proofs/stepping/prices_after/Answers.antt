@@ -6,7 +6,7 @@ use mir.Syntax.{w64}
 use Rattle.solomon_reader.specs.Problem.{customer_count}
 use Rattle.solomon_reader.specs.CertificateText.{IsPrice}
 use Rattle.prices.proofs.Values.{all_pushed}
-use Rattle.prices.proofs.Ascending.{stepped_pushed, stepped_length, stepped_as}
+use Rattle.prices.proofs.Improvements.{stepped_pushed, stepped_length, stepped_as}
 use Rattle.prices.proofs.stepping.prices_after.Goals as goal
 
 pub loop-customer-preserved : goal.loop-customer-preserved

@@ -1,7 +1,7 @@
 use Rattle.std.proofs.Common.{◌≡◌, ◌-◌}
 use Rattle.std.specs.List.{AllByRecursion}
 use Rattle.solomon_reader.specs.CertificateText.{IsPrice}
-use Rattle.prices.proofs.Ascending.{stepped_to}
+use Rattle.prices.proofs.Improvements.{stepped_to}
 use Rattle.prices.proofs.stepping.prices_after.Given as goal
 
 abbrev pub invariant-loop-customer : goal.invariant-loop-customer

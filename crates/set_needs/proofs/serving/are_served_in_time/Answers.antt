@@ -10,8 +10,8 @@ latest_table-requires-clause-count c = omega (arith, c.subsets-all.ensures.value
 pub returns : goal.returns
 returns c =
     let all : (c.subsets-all.result - 1) + 1 ≡ subsets (length c.args.members.now) = omega (arith, c.subsets-all.ensures.value, subsets_some (length c.args.members.now)) in (
-      λ early. served_by c.args.instance.now c.args.members.now (c.subsets-all.result - 1) all c.latest_for-latest.result c.latest_for-latest.ensures c.ready.result c.ready.ensures.value (c.is_by.ensures.0 early),
-      λ served. c.is_by.ensures.1 (by_served c.args.instance.now c.args.members.now (c.subsets-all.result - 1) all c.latest_for-latest.result c.latest_for-latest.ensures c.ready.result c.ready.ensures.value served),
+      λ early. served_by c.args.instance.now c.args.members.now (c.subsets-all.result - 1) all c.latest_for-latest.result c.latest_for-latest.ensures c.ready.result c.ready.ensures.value (c.is_no_later.ensures.0 early),
+      λ served. c.is_no_later.ensures.1 (by_served c.args.instance.now c.args.members.now (c.subsets-all.result - 1) all c.latest_for-latest.result c.latest_for-latest.ensures c.ready.result c.ready.ensures.value served),
     )
 
 pub latest_for-latest-requires-clause-mask : goal.latest_for-latest-requires-clause-mask

@@ -202,8 +202,8 @@ pub returns : goal.returns
 returns c = record {
   free_1 = (0, value_free_1, omega (arith, ceiling_of_one));
   free_2 = (100, value_free_2, omega (arith, ceiling_of_one));
-  parted_1 = (undecided, (199, (401, ((199, value_with_1, omega (arith, ceiling)), (401, value_without_1, omega (arith, ceiling)), refl))));
-  parted_2 = (undecided, (199, (401, ((199, value_with_2, omega (arith, ceiling)), (801, value_without_2, omega (arith, ceiling)), refl))));
+  two_leaves_1 = (undecided, (199, (401, ((199, value_with_1, omega (arith, ceiling)), (401, value_without_1, omega (arith, ceiling)), refl))));
+  two_leaves_2 = (undecided, (199, (401, ((199, value_with_2, omega (arith, ceiling)), (801, value_without_2, omega (arith, ceiling)), refl))));
   used_leaf = value_with_2;
   unused_leaf = value_without_2;
   remembered = λ h. let f = h.forgets [] (1 ∷ []) [] 2 refl in remembers_two f.0 f.1 f.2;

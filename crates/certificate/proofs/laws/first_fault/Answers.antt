@@ -1,5 +1,0 @@
-use Rattle.certificate.proofs.Loops.{reading_stays}
-use Rattle.certificate.proofs.laws.first_fault.Goals as goal
-
-pub returns : goal.returns
-returns c = reading_stays

@@ -1,5 +1,0 @@
-use Rattle.sol_writer.proofs.Loops.{reading_stays}
-use Rattle.sol_writer.proofs.laws.first_fault.Goals as goal
-
-pub returns : goal.returns
-returns c = reading_stays
