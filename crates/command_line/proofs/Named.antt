@@ -19,7 +19,7 @@ one_name name solve check =
 -- no number of pairs is given
 pub no_check : (rows : List Row) → ((n : ℕ) → HasNumber (codes "states") rows n → ⊥) → (other : Job) → Says (codes "check") rows other → ⊥
 no_check rows none (Check instance certificate solution states) says = none states says.1.states_are
-no_check rows none (Solve instance solution certificate start tree part settings close leaves progress live) says = absurd (one_name (codes "check") says.0 refl)
+no_check rows none (Solve instance solution certificate start tree part settings close leaves progress live plans) says = absurd (one_name (codes "check") says.0 refl)
 
 -- one of the numbers of `solve` is not given
 pub no_number : (id : Text) (number : Settings → ℕ) (rows : List Row)
@@ -29,7 +29,7 @@ no_number id number rows has none other settings = none (number other) (has othe
 
 -- no settings are given
 pub no_solve : (rows : List Row) → ((other : Settings) → HasSettings rows other → ⊥) → (other : Job) → Says (codes "solve") rows other → ⊥
-no_solve rows none (Solve instance solution certificate start tree part settings close leaves progress live) says = none settings says.1.settings_are
+no_solve rows none (Solve instance solution certificate start tree part settings close leaves progress live plans) says = none settings says.1.settings_are
 no_solve rows none (Check instance certificate solution states) says = absurd (one_name (codes "solve") refl says.0)
 
 some_is_one : {X : Type 0} (o : Option X) (x y : X) → o ≡ Some x → o ≡ Some y → x ≡ y
@@ -51,13 +51,13 @@ no_leaves rows none close leaves has = none leaves has.leaves_are
 
 -- no job to solve is given where no closing is
 pub no_closing : (rows : List Row) → ((close : Bool) (leaves : ℕ) → HasClosing rows close leaves → ⊥) → (other : Job) → Says (codes "solve") rows other → ⊥
-no_closing rows none (Solve instance solution certificate start tree part settings close leaves progress live) says = none close leaves says.1.closing_is
+no_closing rows none (Solve instance solution certificate start tree part settings close leaves progress live plans) says = none close leaves says.1.closing_is
 no_closing rows none (Check instance certificate solution states) says = absurd (one_name (codes "solve") refl says.0)
 
 -- no job to solve is given where no tree and part are
 pub no_tree : (rows : List Row) (close : Bool) → HasFlag (codes "close") rows close
     → ((tree : Option Text) (part : Part) → HasTree rows tree part close → ⊥) → (other : Job) → Says (codes "solve") rows other → ⊥
-no_tree rows close flag none (Solve instance solution certificate start tree part settings other leaves progress live) says =
+no_tree rows close flag none (Solve instance solution certificate start tree part settings other leaves progress live plans) says =
     none _ part (subst (HasTree rows (option_map (λ s. s.now) tree) part) (same_flag (codes "close") rows other close says.1.closing_is.close_is flag) says.1.tree_is)
 no_tree rows close flag none (Check instance certificate solution states) says = absurd (one_name (codes "solve") refl says.0)
 
@@ -88,8 +88,8 @@ same_settings rows a b p q =
 -- what a command and its rows say is one job
 pub same_job : (named : Option (Text × List Row)) (found other : Job) → SaysAny named found → SaysAny named other → IsSameJob found other
 same_job None found other says also = absurd says
-same_job (Some (name, rows)) (Solve instance solution certificate start tree part settings close leaves progress live)
-    (Solve second_instance second_solution second_certificate second_start second_tree second_part second_settings second_close second_leaves second_progress second_live) (_, p) (_, q) = (
+same_job (Some (name, rows)) (Solve instance solution certificate start tree part settings close leaves progress live plans)
+    (Solve second_instance second_solution second_certificate second_start second_tree second_part second_settings second_close second_leaves second_progress second_live second_plans) (_, p) (_, q) = (
       some_is_one _ _ _ p.instance_path q.instance_path,
       some_is_one _ _ _ p.solution_path q.solution_path,
       some_is_one _ _ _ p.certificate_path q.certificate_path,
@@ -101,6 +101,7 @@ same_job (Some (name, rows)) (Solve instance solution certificate start tree par
       same_number _ rows leaves second_leaves p.closing_is.leaves_are q.closing_is.leaves_are,
       same_flag (codes "progress") rows progress second_progress p.progress_is q.progress_is,
       same_flag (codes "live") rows live second_live p.live_is q.live_is,
+      sym p.plans_path ∙ q.plans_path,
     )
 same_job (Some (name, rows)) (Check instance certificate solution states) (Check second_instance second_certificate second_solution second_states) (_, p) (_, q) = (
   some_is_one _ _ _ p.instance_path q.instance_path,
@@ -108,8 +109,8 @@ same_job (Some (name, rows)) (Check instance certificate solution states) (Check
   sym p.solution_path ∙ q.solution_path,
   same_number _ rows states second_states p.states_are q.states_are,
 )
-same_job (Some (name, rows)) (Solve instance solution certificate start tree part settings close leaves progress live) (Check second_instance second_certificate second_solution second_states) p q =
+same_job (Some (name, rows)) (Solve instance solution certificate start tree part settings close leaves progress live plans) (Check second_instance second_certificate second_solution second_states) p q =
     absurd (one_name name p.0 q.0)
 same_job (Some (name, rows)) (Check instance certificate solution states)
-    (Solve second_instance second_solution second_certificate second_start second_tree second_part second_settings second_close second_leaves second_progress second_live) p q =
+    (Solve second_instance second_solution second_certificate second_start second_tree second_part second_settings second_close second_leaves second_progress second_live second_plans) p q =
     absurd (one_name name q.0 p.0)

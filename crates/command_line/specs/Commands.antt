@@ -62,9 +62,9 @@ starting_rules = path_option_rule (codes "start") ∷ number_option_rule (codes 
 abbrev pub tree_rules : List Rule
 tree_rules = path_option_rule (codes "tree") ∷ path_option_rule (codes "part") ∷ []
 
--- whether to tell how far the turns are, line by line or on one line
+-- whether to tell how far the turns are, line by line or on one line, and the file of plans
 abbrev pub telling_rules : List Rule
-telling_rules = flag_rule (codes "progress") ∷ flag_rule (codes "live") ∷ []
+telling_rules = flag_rule (codes "progress") ∷ flag_rule (codes "live") ∷ path_option_rule (codes "plans") ∷ []
 
 abbrev pub shape_with : Text → List Rule → Shape
 shape_with name rules = record (new_app name).top { rules = rules }

@@ -78,9 +78,9 @@ IsTreeFault rows close fault.Close = IsSome (first_of (codes "tree") rows) × (c
 IsTreeFault rows close fault.NoTree = (first_of (codes "tree") rows ≡ None) × IsSome (first_of (codes "part") rows)
 IsTreeFault rows close (fault.Part met) = IsPartFault (first_of (codes "part") rows) (fault.Part met)
 
--- the rows of the arguments of `solve` have these paths, this tree, these settings and this closing, and say whether to tell how far the turns are, line by line or on one line
+-- the rows of the arguments of `solve` have these paths, this tree, these settings and this closing, say whether to tell how far the turns are, line by line or on one line, and may name a file of plans
 pub record SaysSolve (rows : List Row) (instance solution certificate : Text) (start tree : Option Text)
-    (part : Part) (settings : Settings) (close : Bool) (leaves : ℕ) (progress live : Bool) : Type 0 where
+    (part : Part) (settings : Settings) (close : Bool) (leaves : ℕ) (progress live : Bool) (plans : Option Text) : Type 0 where
   pub instance_path : first_of (codes "INSTANCE") rows ≡ Some instance
   pub solution_path : first_of (codes "SOLUTION") rows ≡ Some solution
   pub certificate_path : first_of (codes "CERTIFICATE") rows ≡ Some certificate
@@ -90,6 +90,7 @@ pub record SaysSolve (rows : List Row) (instance solution certificate : Text) (s
   pub tree_is : HasTree rows tree part close
   pub progress_is : HasFlag (codes "progress") rows progress
   pub live_is : HasFlag (codes "live") rows live
+  pub plans_path : first_of (codes "plans") rows ≡ plans
 
 -- the rows of the arguments of `check` have these paths, and this number of pairs, which is within its range
 pub record SaysCheck (rows : List Row) (instance certificate : Text) (solution : Option Text) (states : ℕ) : Type 0 where
@@ -101,8 +102,8 @@ pub record SaysCheck (rows : List Row) (instance certificate : Text) (solution :
 
 -- the command's name and the rows of its arguments are the job's
 abbrev pub Says : Text → List Row → Job → Type 0
-Says name rows (Solve instance solution certificate start tree part settings close leaves progress live) =
-    (name ≡ codes "solve") × SaysSolve rows instance.now solution.now certificate.now (option_map (λ s. s.now) start) (option_map (λ s. s.now) tree) part settings close leaves progress live
+Says name rows (Solve instance solution certificate start tree part settings close leaves progress live plans) =
+    (name ≡ codes "solve") × SaysSolve rows instance.now solution.now certificate.now (option_map (λ s. s.now) start) (option_map (λ s. s.now) tree) part settings close leaves progress live (option_map (λ s. s.now) plans)
 Says name rows (Check instance certificate solution states) =
     (name ≡ codes "check") × SaysCheck rows instance.now certificate.now (option_map (λ s. s.now) solution) states
 
@@ -126,14 +127,15 @@ IsFaultOf error (Usage told) = (told ≡ error) × (kind_of error ≢ OutOfMemor
 
 -- two jobs of one kind with the same paths, as texts, and the same part, numbers and flags
 abbrev pub IsSameJob : Job → Job → Type 0
-IsSameJob (Solve instance solution certificate start tree part settings close leaves progress live)
-    (Solve second_instance second_solution second_certificate second_start second_tree second_part second_settings second_close second_leaves second_progress second_live) =
+IsSameJob (Solve instance solution certificate start tree part settings close leaves progress live plans)
+    (Solve second_instance second_solution second_certificate second_start second_tree second_part second_settings second_close second_leaves second_progress second_live second_plans) =
     (instance.now ≡ second_instance.now) × (solution.now ≡ second_solution.now)
     × (certificate.now ≡ second_certificate.now)
     × (option_map (λ s. s.now) start ≡ option_map (λ s. s.now) second_start)
     × (option_map (λ s. s.now) tree ≡ option_map (λ s. s.now) second_tree) × (part ≡ second_part)
     × (settings ≡ second_settings)
     × (close ≡ second_close) × (leaves ≡ second_leaves) × (progress ≡ second_progress) × (live ≡ second_live)
+    × (option_map (λ s. s.now) plans ≡ option_map (λ s. s.now) second_plans)
 IsSameJob (Check instance certificate solution states) (Check second_instance second_certificate second_solution second_states) =
     (instance.now ≡ second_instance.now) × (certificate.now ≡ second_certificate.now)
     × (option_map (λ s. s.now) solution ≡ option_map (λ s. s.now) second_solution) × (states ≡ second_states)

@@ -20,7 +20,7 @@ const PROGRAM: &str = "vrptw";
 
 /// What `--version` prints behind the program's name.
 const VERSION: &str =
-    "1.17.0 (writes certificates of version 2 or with sets, reads 1, 2 and those with sets)";
+    "1.18.0 (writes certificates of version 2 or with sets, reads 1, 2 and those with sets)";
 
 /// A path that has to be given.
 fn path<'a>(alloc: Global, id: &'a str, help: &'a str) -> Arg<'a>
@@ -193,7 +193,7 @@ fn with_tree_options<'a>(alloc: Global, command: Command<'a>) -> Result<Command<
         ))
 }
 
-/// Adds the flags that say whether to tell how far the turns are.
+/// Adds the flags that say whether to tell how far the turns are, and the option that names a file of plans.
 fn with_telling_options<'a>(alloc: Global, command: Command<'a>) -> Result<Command<'a>, AllocError>
     ensures { IfOk result (AddsRules telling_rules command.entry) }
 {
@@ -207,6 +207,11 @@ fn with_telling_options<'a>(alloc: Global, command: Command<'a>) -> Result<Comma
             alloc,
             "live",
             "Tells the same on one line, which is written anew each time",
+        ))?
+        .arg(path_option(
+            alloc,
+            "plans",
+            "The file to write each plan to, at once, that is cheaper than all before, emptied before the solving",
         ))
 }
 
@@ -334,6 +339,7 @@ fn solve_job<'a>(found: &ArgMatches<'a>) -> Option<Job<'a>>
         leaves,
         progress: flag_of(found, "progress"),
         live: flag_of(found, "live"),
+        plans: text_of(found, "plans"),
     })
 }
 

@@ -36,6 +36,8 @@ pub enum Job<'a> {
         progress: bool,
         /// Whether to tell the same on one line, which is written anew each time.
         live: bool,
+        /// The path that each plan is written to that is cheaper than all before, if it is named.
+        plans: Option<&'a str>,
     },
     /// To check a certificate, and a plan if there is one.
     Check {

@@ -16,7 +16,10 @@ fn run<R: Env + Eprint + Files + AllocGlobal + Threads + Wait + Sync, X: Sink, Y
     alloc: Global,
     out: &mut X,
     errors: &mut Y,
-) -> io::Result<u8> {
+) -> io::Result<u8>
+where
+    R::File: Send,
+{
     let given: Vec<String> = env::args(rt)?.skip(1).collect(alloc)?;
     let mut words = Vec::new(alloc);
     for word in &given {

@@ -13,7 +13,10 @@ use std::{env, fs, io};
 fn tell_program<R: Runtime + AllocGlobal + Threads + Wait + Sync>(
     rt: &R,
     path: &str,
-) -> io::Result<()> {
+) -> io::Result<()>
+where
+    R::File: Send,
+{
     test_program::tell_rows(rt, fs::read_to_string(rt, path)?.as_str())
 }
 

@@ -27,7 +27,7 @@ use search::{HeldPlan, descended_parallel};
 use solomon_reader::Instance;
 use std::alloc::{AllocError, Global};
 use std::thread::Threads;
-use worker_turns::pricing_labels;
+use worker_turns::{Gate, pricing_labels};
 
 /// The worker that offers the first plan.
 const FIRST_WORKER: u16 = 0;
@@ -46,11 +46,12 @@ pub(crate) struct Opening<'i> {
     pub(crate) begin: Beginning<'i>,
 }
 
-/// The plan that insertion builds, or a given one where that is cheaper.
+/// The plan that insertion builds, or a given one where that is cheaper. The gate meets it.
 #[tactic(auto, using(crate::proofs::Starts::cheaper_no_dearer))]
-fn first_plan<'i>(
+fn first_plan<'i, G: Gate>(
     alloc: Global,
     instance: &'i Instance,
+    gate: &G,
     start: Option<Feasible<'i>>,
 ) -> Result<Option<Feasible<'i>>, AllocError>
     requires { IfSome start (λ f. f.problem ≡ instance.now) }
@@ -62,6 +63,7 @@ fn first_plan<'i>(
     let Some(plan) = cheaper(start, built) else {
         return Ok(None);
     };
+    gate.meet(&plan);
     Ok(Some(plan))
 }
 
@@ -100,12 +102,13 @@ fn offer<'i>(book: &mut Book<'i>, plan: Feasible<'i>) -> Result<(), RunFault>
     }
 }
 
-/// Offers a plan, and what a descent makes of it where that is cheaper; answers the latter, which no single move makes
-/// cheaper.
+/// Offers a plan, and what a descent makes of it where that is cheaper, which the gate meets before; answers the latter,
+/// which no single move makes cheaper.
 #[tactic(auto, using(crate::proofs::Starts::offered_at))]
-fn offer_both<'i, R: Threads + Sync>(
+fn offer_both<'i, R: Threads + Sync, G: Gate>(
     rt: &R,
     alloc: Global,
+    gate: &G,
     book: &mut Book<'i>,
     plan: Feasible<'i>,
 ) -> Result<HeldPlan<'i>, RunFault>
@@ -125,6 +128,7 @@ fn offer_both<'i, R: Threads + Sync>(
     offer(book, plan)?;
     let lower = descended_parallel(rt, alloc, begun)?;
     if lower.plan.cost().get() < cost.get() {
+        gate.meet(&lower.plan);
         offer(book, lower.plan.try_clone()?)?;
     }
     Ok(lower)
@@ -176,12 +180,13 @@ impl<'i> Opening<'i> {
     /// or one is given, the cheaper one; else its prices begin where they may show that there is no plan. Where a tree is
     /// given it grows there again. The tables of the instance are lent.
     #[tactic(auto, using(crate::proofs::Starts::still_no_dearer, crate::proofs::Starts::offered_still))]
-    pub(crate) fn new<R: Threads + Sync>(
+    pub(crate) fn new<R: Threads + Sync, G: Gate>(
         rt: &R,
         alloc: Global,
         instance: &'i Instance,
         settings: &Settings,
         nearness: &Nearness<'_>,
+        gate: &G,
         begun: Begun<'_, 'i>,
     ) -> Result<Opening<'i>, RunFault>
         requires few { settings.now.neighbours ≤ MOST_NEIGHBOURS }
@@ -202,7 +207,7 @@ impl<'i> Opening<'i> {
         ensures refused { IfErr result (λ e. (e ≡ Memory) ⊎ (e ≡ LabelLimit)) }
     {
         let Begun { start, tree } = begun;
-        let plan = first_plan(alloc, instance, start)?;
+        let plan = first_plan(alloc, instance, gate, start)?;
         let root = first_root(
             alloc,
             instance,
@@ -213,7 +218,7 @@ impl<'i> Opening<'i> {
         )?;
         let mut book = open_book(alloc, root, settings.sets)?;
         let plan = match plan {
-            Some(plan) => Some(offer_both(rt, alloc, &mut book, plan)?),
+            Some(plan) => Some(offer_both(rt, alloc, gate, &mut book, plan)?),
             None => None,
         };
         let tree = regrow(alloc, nearness, &mut book, tree, settings.labels)?;

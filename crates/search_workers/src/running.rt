@@ -276,9 +276,9 @@ fn run_within<'i, R: Threads + Wait + Sync, G: Gate + Sync>(
         instance,
         settings,
         nearness,
-        ..
+        gate,
     } = *input;
-    let opening = Opening::new(rt, alloc, instance, settings, nearness, begun)?;
+    let opening = Opening::new(rt, alloc, instance, settings, nearness, gate, begun)?;
     let workers = settings.searchers + settings.bounders;
     let outcome = run_at_desk::<R, Brand, G>(input, opening, Blanks::new(workers as u16))?;
     // brings in that the incumbent is the cheapest plan offered

@@ -40,7 +40,10 @@ fn tell_holding<R: Runtime + AllocGlobal + Threads + Wait + Sync>(
     path: &str,
     printed: &Printed,
     bound: &str,
-) -> io::Result<()> {
+) -> io::Result<()>
+where
+    R::File: Send,
+{
     let line = str::from_utf8(printed.out.as_slice()).unwrap_or("");
     let mut words = line.split_whitespace();
     let (word, cost) = (words.next().unwrap_or(""), words.next().unwrap_or(""));
@@ -72,7 +75,10 @@ pub(crate) fn tell_solving<R: Runtime + AllocGlobal + Threads + Wait + Sync>(
     told: &mut String,
     path: &str,
     options: &[&str],
-) -> io::Result<()> {
+) -> io::Result<()>
+where
+    R::File: Send,
+{
     let mut words = Vec::from_slice(rt.alloc(), &["solve", path, "solution", "certificate"])?;
     words.extend_from_slice(options)?;
     let printed = run(rt, words.as_slice());

@@ -19,6 +19,7 @@ pub(crate) fn tell_job(alloc: Global, told: &mut String, words: &[&str]) -> Resu
                 leaves,
                 progress,
                 live,
+                plans,
             },
         ) => {
             writeln!(told, "solve {instance} {solution} {certificate}")?;
@@ -28,6 +29,9 @@ pub(crate) fn tell_job(alloc: Global, told: &mut String, words: &[&str]) -> Resu
                 "close {close} leaves {leaves} progress {progress} live {live}"
             )?;
             writeln!(told, " start {start:?}")?;
+            if let Some(plans) = plans {
+                writeln!(told, "plans {plans}")?;
+            }
             match tree {
                 Some(tree) => writeln!(told, "tree {tree} part {}/{}", part.place, part.count),
                 None => Ok(()),

@@ -48,7 +48,10 @@ fn obey<R: Runtime + AllocGlobal + Threads + Wait + Sync>(
     told: &mut String,
     line: &str,
     words: &[&str],
-) -> io::Result<()> {
+) -> io::Result<()>
+where
+    R::File: Send,
+{
     match words {
         ["file", path, fleet, capacity, ..] => write_file(rt, line, [path, fleet, capacity]),
         ["text", path, ..] => write_text_meant(rt, line, path, LOW),
@@ -79,7 +82,10 @@ fn obey<R: Runtime + AllocGlobal + Threads + Wait + Sync>(
 pub fn tell_rows<R: Runtime + AllocGlobal + Threads + Wait + Sync>(
     rt: &R,
     script: &str,
-) -> io::Result<()> {
+) -> io::Result<()>
+where
+    R::File: Send,
+{
     let mut rows = Rows::new(rt.alloc());
     for line in script.lines() {
         if rows.take(rt, line)? {

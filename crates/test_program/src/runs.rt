@@ -20,7 +20,10 @@ pub(crate) struct Printed {
 pub(crate) fn run<R: Runtime + AllocGlobal + Threads + Wait + Sync>(
     rt: &R,
     words: &[&str],
-) -> Printed {
+) -> Printed
+where
+    R::File: Send,
+{
     let mut out = MemorySink::new(rt.alloc());
     let mut errors = MemorySink::new(rt.alloc());
     let status = run_words(rt, rt.alloc(), words, &mut out, &mut errors);

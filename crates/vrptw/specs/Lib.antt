@@ -4,3 +4,4 @@ pub mod Found
 pub mod Closing
 pub mod Starting
 pub mod GoingOn
+pub mod Plans

@@ -9,6 +9,7 @@ mod found;
 mod going_on;
 mod lines;
 mod paths;
+mod plans;
 mod program;
 mod progress;
 mod solving;

@@ -9,6 +9,7 @@ use crate::lines::{
     check_fault, file_fault, open_fault, start_fault, tell, tell_verdict, usage_fault,
 };
 use crate::paths::is_same_path;
+use crate::plans::PlansGate;
 use crate::progress::{ProgressGate, Telling};
 use crate::starting::StartFault;
 use checker::check;
@@ -18,6 +19,7 @@ use std::alloc::Global;
 use std::rt::Files;
 use std::sync::Wait;
 use std::thread::Threads;
+use std::io::Write;
 use std::{fs, io};
 use tenths::{Sink, StdSink};
 
@@ -31,6 +33,7 @@ struct SolveJob<'a> {
     part: Part,
     solution: &'a str,
     certificate: &'a str,
+    plans: Option<&'a str>,
     settings: &'a Settings,
     closing: Option<u32>,
     telling: Telling,
@@ -44,21 +47,52 @@ impl SolveJob<'_> {
                 || self.start.is_some_and(|start| is_same_path(start, path))
                 || self.tree.is_some_and(|tree| is_same_path(tree, path))
         };
+        let is_written = |path: &str| {
+            is_same_path(self.solution, path) || is_same_path(self.certificate, path)
+        };
         is_same_path(self.solution, self.certificate)
             || is_read(self.solution)
             || is_read(self.certificate)
+            || self.plans.is_some_and(|plans| is_read(plans) || is_written(plans))
     }
 }
 
+/// The files that a run writes: the last of them the plans that it meets, if that is named.
+#[derive(Drop)]
+struct Outputs<W: Write + Drop> {
+    solution: StdSink<W>,
+    certificate: StdSink<W>,
+    plans: Option<StdSink<W>>,
+}
+
+/// Makes the files that a run writes, each empty.
+fn make_outputs<R: Files>(rt: &R, job: SolveJob<'_>) -> io::Result<Outputs<R::File>> {
+    let solution = StdSink::new(fs::create(rt, job.solution)?);
+    let certificate = StdSink::new(fs::create(rt, job.certificate)?);
+    let plans = match job.plans {
+        Some(path) => Some(StdSink::new(fs::create(rt, path)?)),
+        None => None,
+    };
+    Ok(Outputs {
+        solution,
+        certificate,
+        plans,
+    })
+}
+
 /// Closes the instance of a text, or solves it, from a plan and a tree where there are some.
-fn solve_text<R: Eprint + Threads + Wait + Sync, X: Sink, Y: Sink>(
+fn solve_text<R: Eprint + Threads + Wait + Sync, W: Write + Drop + Send>(
     rt: &R,
     alloc: Global,
     (text, given): (&[u8], GivenTexts<'_>),
     job: SolveJob<'_>,
-    solution: &mut X,
-    certificate: &mut Y,
+    outputs: Outputs<W>,
 ) -> Result<Answer, StartFault> {
+    let Outputs {
+        mut solution,
+        mut certificate,
+        plans,
+    } = outputs;
     let settings = job.settings;
     if let Some(leaves) = job.closing {
         return close_from(
@@ -67,11 +101,12 @@ fn solve_text<R: Eprint + Threads + Wait + Sync, X: Sink, Y: Sink>(
             given.start,
             settings,
             leaves,
-            solution,
-            certificate,
+            &mut solution,
+            &mut certificate,
         );
     }
-    let gate = ProgressGate::new(rt, settings, job.telling);
+    let progress = ProgressGate::new(rt, settings, job.telling);
+    let gate = PlansGate::new(rt, alloc, progress, plans);
     let answer = solve_on(
         rt,
         alloc,
@@ -79,8 +114,8 @@ fn solve_text<R: Eprint + Threads + Wait + Sync, X: Sink, Y: Sink>(
         given,
         settings,
         &gate,
-        solution,
-        certificate,
+        &mut solution,
+        &mut certificate,
     );
     gate.end();
     answer
@@ -112,15 +147,18 @@ fn bytes_of(text: &Option<Vec<u8>>) -> Option<&[u8]> {
     }
 }
 
-/// Solves the instance of a file, from the plan and the tree of others where they are named, into two others, which
-/// are made once both were read. No file that is written may be another of them, since it would be overwritten.
+/// Solves the instance of a file, from the plan and the tree of others where they are named, into others, which are made
+/// once those were read. No file that is written may be another of them, since it would be overwritten.
 fn solve_files<R: Eprint + Files + AllocGlobal + Threads + Wait + Sync, X: Sink, Y: Sink>(
     rt: &R,
     alloc: Global,
     job: SolveJob<'_>,
     out: &mut X,
     errors: &mut Y,
-) -> u8 {
+) -> u8
+where
+    R::File: Send,
+{
     if job.overwrite() {
         return file_fault(errors);
     }
@@ -132,12 +170,8 @@ fn solve_files<R: Eprint + Files + AllocGlobal + Threads + Wait + Sync, X: Sink,
         Ok(texts) => texts,
         Err(error) => return open_fault(&error, errors),
     };
-    let mut solution = match fs::create(rt, job.solution) {
-        Ok(file) => StdSink::new(file),
-        Err(error) => return open_fault(&error, errors),
-    };
-    let mut certificate = match fs::create(rt, job.certificate) {
-        Ok(file) => StdSink::new(file),
+    let outputs = match make_outputs(rt, job) {
+        Ok(outputs) => outputs,
         Err(error) => return open_fault(&error, errors),
     };
     let given = GivenTexts {
@@ -146,7 +180,7 @@ fn solve_files<R: Eprint + Files + AllocGlobal + Threads + Wait + Sync, X: Sink,
         part: job.part,
     };
     let texts = (text.as_slice(), given);
-    match solve_text(rt, alloc, texts, job, &mut solution, &mut certificate) {
+    match solve_text(rt, alloc, texts, job, outputs) {
         Err(fault) => start_fault(alloc, fault, errors),
         Ok(answer) => tell(&answer, out, errors),
     }
@@ -203,14 +237,17 @@ fn telling_asked(progress: bool, live: bool) -> Telling {
 /// 3 for a refused instance, 4 where memory was refused, 5 for a refused certificate or solution, or plan or
 /// tree to go on from, 6 where a file or a stream failed or `solve` would overwrite one of its files, 7 where the
 /// labels, the states or the leaves don't suffice, or an instance is too large to be closed. With `--progress`
-/// and `--live` lines stand on standard error itself besides. What files hold no contract can say.
+/// and `--live` lines stand on standard error itself besides; a file of plans that fails changes nothing. What files hold no contract can say.
 pub fn run_words<R: Eprint + Files + AllocGlobal + Threads + Wait + Sync, X: Sink, Y: Sink>(
     rt: &R,
     alloc: Global,
     words: &[&str],
     out: &mut X,
     errors: &mut Y,
-) -> u8 {
+) -> u8
+where
+    R::File: Send,
+{
     let job = match job(alloc, words) {
         Ok(job) => job,
         Err(fault) => return usage_fault(alloc, &fault, out, errors),
@@ -228,6 +265,7 @@ pub fn run_words<R: Eprint + Files + AllocGlobal + Threads + Wait + Sync, X: Sin
             leaves,
             progress,
             live,
+            plans,
         } => {
             let job = SolveJob {
                 instance,
@@ -236,6 +274,7 @@ pub fn run_words<R: Eprint + Files + AllocGlobal + Threads + Wait + Sync, X: Sin
                 part,
                 solution,
                 certificate,
+                plans,
                 settings: &settings,
                 closing: close.then_some(leaves),
                 telling: telling_asked(progress, live),

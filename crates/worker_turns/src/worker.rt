@@ -97,10 +97,11 @@ impl<'i, H: Hub<'i>, G: Gate> Worker<'_, 'i, H, G> {
         self.pass(GatePoint::End);
     }
 
-    /// Offers a plan.
+    /// Offers a plan, which the gate meets before.
     pub(crate) fn offer(&mut self, plan: Feasible<'i>) -> Result<(), TurnFault>
         ensures { self.new.ceiling ≡ self.old.ceiling }
     {
+        self.gate.meet(&plan);
         match self.hub.offer(plan) {
             Ok(told) => {
                 self.move_words(told.1);
