@@ -9,7 +9,7 @@ from judges.running import demand, got, put
 from tools.places import TOP
 
 # The files of a copy; a folder of the program's crate in which sums are taken is copied, too, all others are linked.
-COPIED = ("vrptw", "crates.txt", "HANDLES", "release", "outside/vrptw.py", "bench/run", "crates/program/src")
+COPIED = ("vrptw", "crates.txt", "HANDLES", "release", "outside/vrptw", "bench/run", "crates/program/src")
 BUILT, STAMP, SOURCE = "crates/program/out/program", "out/built", "crates/program/src/main.rt"
 ASK = "import vrptw; print(vrptw.Run([vrptw.program_here(), '--version']).ended().out.decode(), end='')"
 # Cases: what became of the sources, whether the built program is of these sources, the variable that asks for the

@@ -1,4 +1,4 @@
-"""Where the repository and its programs stand; the program that tools run is found by vrptw.py."""
+"""Where the repository and its programs stand; the program that tools run is found by the module vrptw."""
 import os
 
 OUTSIDE = os.path.dirname(os.path.dirname(os.path.realpath(__file__)))
