@@ -4,12 +4,14 @@ from __future__ import annotations
 import threading
 import time
 from dataclasses import replace
+from functools import partial
 from typing import Callable, Mapping, Optional, SupportsFloat, SupportsIndex
 
 from .answers import Answer, Progress
 from .checking import Tree, answer_of, check, whole_option, zero_certificate
 from .faults import BadCertificate, BadOptions, Fault
 from .instances import Given, held_bytes, instance_bytes
+from .met import Met
 from .plans import Routes, plan_bytes
 from .rounds import SETS, Schedule, neighbours_for, neighbours_of, serves
 from .running import Memory, Run, program_here
@@ -18,6 +20,15 @@ from .running import Memory, Run, program_here
 def words_of(given: Mapping[str, Optional[int]]) -> list[str]:
     """Options that are given, as words."""
     return [word for name, value in given.items() if value is not None for word in ("--" + name, str(value))]
+
+
+def merged(best: Answer, came: Answer) -> Answer:
+    """The cheaper plan and the higher bound of two answers, each with its text."""
+    plan = best if came.cost_tenths is None or (
+        best.cost_tenths is not None and best.cost_tenths <= came.cost_tenths) else came
+    proof = best if (best.bound_tenths or 0) >= (came.bound_tenths or 0) else came
+    kind = "OPEN" if plan.cost_tenths is None else "BEST" if plan.cost_tenths == proof.bound_tenths else "GAP"
+    return Answer(kind, plan.routes, plan.cost_tenths, proof.bound_tenths, plan.plan, proof.certificate)
 
 
 class Solving:
@@ -29,15 +40,18 @@ class Solving:
     the cheapest plan and the highest bound, as `outside/plan` does; `turns` can't be given then. Else one run is made.
     It ends sooner where no plan is cheaper, or at a gap of at most `gap` tenths of a percent of the cost. The answer
     never costs more than `start`, and its bound is never below that of `tree`, whose count of neighbours is that of
-    each run; rounds go on from the tree of the round before with so many, once it serves. `on_progress` is called in
-    the thread of `run`, at most a hundred times a run."""
+    each run; rounds go on from the tree of the round before with so many, once it serves. In the thread of `run`
+    `on_progress` is called, at most a hundred times a run, and `on_plan` with the routes and the cost of each plan that
+    is cheaper than all before, within some tenths of a second."""
 
     def __init__(self, instance: Given, *, seconds: Optional[float] = None, turns: Optional[int] = None,
                  searchers: Optional[int] = None, bounders: Optional[int] = None, seed: Optional[int] = None,
                  neighbours: Optional[int] = None, labels: Optional[int] = None, sets: Optional[int] = None,
                  gap: Optional[int] = None, close: bool = False, leaves: Optional[int] = None,
                  start: Optional[Routes] = None, tree: Optional[Tree] = None,
-                 on_progress: Optional[Callable[[Progress], None]] = None, program: Optional[str] = None) -> None:
+                 on_progress: Optional[Callable[[Progress], None]] = None,
+                 on_plan: Optional[Callable[[list[list[int]], float], None]] = None,
+                 program: Optional[str] = None) -> None:
         self.turns, self.seed, self.neighbours, self.gap = (whole_option(name, value) for name, value in (
             ("turns", turns), ("seed", seed), ("neighbours", neighbours), ("gap", gap)))
         self.options = words_of({name: whole_option(name, value) for name, value in (
@@ -61,28 +75,31 @@ class Solving:
             self.neighbours = neighbours_for(self.instance)[0]
         # By counts of neighbours.
         self.trees = {} if self.tree is None else {self.neighbours: self.tree}
-        self.on_progress, self.program = on_progress, program or program_here()
+        self.on_progress, self.on_plan, self.program = on_progress, on_plan, program or program_here()
         self.cancelled = threading.Event()
         self.best: Optional[Answer] = None
+        # The cheapest plan that a run has met.
+        self.met: Optional[Answer] = None
         self.began = self.until = 0.0
         self.percent = 0
 
     def cancel(self) -> None:
-        """Ends the run at work within some tenths of a second. `run` then answers what stands: of rounds the best plan
-        and bound of those that ended, else the start and the tree as `check` judges them, else OPEN with a bound of 0.
-        """
+        """Ends the run at work within some tenths of a second. `run` then answers what stands: the cheapest plan that
+        a run has met or ended with, and the highest bound of those that ended, else that of the tree as `check` judges
+        it, else 0."""
         self.cancelled.set()
 
     def run(self) -> Answer:
         """Does the work, and answers what it came to. Raises `Fault` where the program refuses or fails before
         anything stands."""
-        self.began, self.best, self.percent = time.monotonic(), None, 0
+        self.began, self.best, self.met, self.percent = time.monotonic(), None, None, 0
         self.until = float("inf") if self.seconds is None else self.began + self.seconds
         if self.seconds is not None:
             self.make_rounds()
         elif not self.cancelled.is_set():
             self.take(self.round(self.turns, self.neighbours, self.seed))
-        return self.best or self.from_start()
+        came = self.best or self.from_start()
+        return came if self.met is None else merged(came, self.met)
 
     def from_start(self) -> Answer:
         """What stands before a run has ended."""
@@ -136,22 +153,44 @@ class Solving:
         """One run of the program; None where it was broken off."""
         tree = self.trees.get(neighbours)
         given = {"turns": turns, "neighbours": neighbours if tree is None else None, "seed": seed}
-        plan = self.best.plan if self.best is not None and self.best.plan else self.start
+        plan = self.start if self.met is None else self.met.plan
         with Memory() as memory:
-            paths = [memory.put(text) for text in (self.instance, b"", b"")]
-            words = [self.program, "solve", *paths, *self.options]
+            paths, met = [memory.put(text) for text in (self.instance, b"", b"")], Met(memory)
+            words = [self.program, "solve", *paths, "--plans", met.path, *self.options]
             words += words_of(given)
             words += [] if plan is None else ["--start", memory.put(plan)]
             words += [] if tree is None else ["--tree", memory.put(tree)]
             words += ["--progress"] if self.on_progress else []
-            ran = Run(words, memory=memory).ended(self.is_over, self.tell if self.on_progress else None)
+            is_told = self.on_progress is not None or self.on_plan is not None
+            ran = Run(words, memory=memory).ended(self.is_over, partial(self.look, met) if is_told else None)
+            self.meet(met)
             return None if ran.status is None else answer_of(ran, *(memory.held(path) for path in paths[1:]))
+
+    def look(self, met: Met, came: Optional[Progress]) -> None:
+        """Tells of plans that were met, and what a line of progress says."""
+        self.meet(met)
+        self.tell(came)
+
+    def meet(self, met: Met) -> None:
+        """Takes in the plans that a run has met."""
+        for plan in met.next_ones():
+            self.note(plan)
+
+    def note(self, came: Answer) -> None:
+        """Keeps a plan that is cheaper than all before, and tells of it."""
+        if came.cost_tenths is None or came.routes is None:
+            return
+        if self.met is not None and (self.met.cost_tenths or 0) <= came.cost_tenths:
+            return
+        self.met = came
+        if self.on_plan is not None:
+            self.on_plan([list(route) for route in came.routes], came.cost_tenths / 10)
 
     def tell(self, came: Optional[Progress]) -> None:
         """Tells what a line of progress says, beside what stands."""
         if came is None or self.on_progress is None:
             return
-        seconds, known = time.monotonic() - self.began, [one for one in (came, self.best) if one]
+        seconds, known = time.monotonic() - self.began, [one for one in (came, self.best, self.met) if one]
         self.percent = max(self.percent, came.percent if self.seconds is None else min(
             100, int(100 * seconds / self.seconds)))
         self.on_progress(Progress(
@@ -160,15 +199,11 @@ class Solving:
 
     def take(self, came: Optional[Answer]) -> None:
         """Keeps the cheaper plan and the higher bound, each with its text."""
-        best = self.best
-        if came is None or best is None or came.kind == "NO PLAN":
-            self.best = came or best
+        if came is None:
             return
-        plan = best if came.cost_tenths is None or (
-            best.cost_tenths is not None and best.cost_tenths <= came.cost_tenths) else came
-        proof = best if (best.bound_tenths or 0) >= (came.bound_tenths or 0) else came
-        kind = "OPEN" if plan.cost_tenths is None else "BEST" if plan.cost_tenths == proof.bound_tenths else "GAP"
-        self.best = Answer(kind, plan.routes, plan.cost_tenths, proof.bound_tenths, plan.plan, proof.certificate)
+        self.note(came)
+        is_alone = self.best is None or came.kind == "NO PLAN"
+        self.best = came if is_alone or self.best is None else merged(self.best, came)
 
 
 def solve(instance: Given, *, seconds: Optional[float] = None, turns: Optional[int] = None,
@@ -176,8 +211,8 @@ def solve(instance: Given, *, seconds: Optional[float] = None, turns: Optional[i
           neighbours: Optional[int] = None, labels: Optional[int] = None, sets: Optional[int] = None,
           gap: Optional[int] = None, close: bool = False, leaves: Optional[int] = None, start: Optional[Routes] = None,
           tree: Optional[Tree] = None, on_progress: Optional[Callable[[Progress], None]] = None,
-          program: Optional[str] = None) -> Answer:
+          on_plan: Optional[Callable[[list[list[int]], float], None]] = None, program: Optional[str] = None) -> Answer:
     """Solves an instance: what `Solving` with these options comes to."""
     return Solving(instance, seconds=seconds, turns=turns, searchers=searchers, bounders=bounders, seed=seed,
                    neighbours=neighbours, labels=labels, sets=sets, gap=gap, close=close, leaves=leaves, start=start,
-                   tree=tree, on_progress=on_progress, program=program).run()
+                   tree=tree, on_progress=on_progress, on_plan=on_plan, program=program).run()
