@@ -59,6 +59,9 @@ def judge_row(program, folder, text, row, into):
     part = "" if cost is None else 100 * (cost - bound) / cost if cost else 0
     demand(row["gap"] == part or abs(float(row["gap"]) - part) < 1e-5, "gap of %r" % row)
     demand(float(row["seconds"]) >= 0 and row["machine"] == os.uname().nodename, "%r" % row)
+    is_closed = "--close" in got(os.path.join(into, "options")).decode()
+    demand(is_closed or (row["met at"] == "") == (row["cost"] == ""), "%r" % row)
+    demand(float(row["met at"] or 0) <= float(row["seconds"]), "%r" % row)
 
 
 def changed(random, into, files, names):

@@ -8,7 +8,7 @@ from reference.texts import shown, tenths
 from tools.batch_columns import name_of
 from tools.tool import listed, quoted
 
-COLUMNS = ("instance", "customers", "cost", "vehicles", "bound", "gap", "leaves", "seconds", "status")
+COLUMNS = ("instance", "customers", "cost", "vehicles", "bound", "gap", "leaves", "seconds", "met at", "status")
 # Before the last of them, where best known costs are given: the cost, and how far above it that of here is.
 BEST_COLUMNS = ("best known", "above")
 
@@ -102,12 +102,17 @@ def status(step):
     return step.state if step.outcome is None else step.outcome.status
 
 
+def seconds(number):
+    """Seconds as a word; nothing where they aren't known."""
+    return "" if number is None else "%.1f" % number
+
+
 def cells(step, best):
     """What is known of a step, as words; of one that isn't done its state alone."""
     outcome = step.outcome
-    found = [""] * 6 if outcome is None else [
+    found = [""] * 7 if outcome is None else [
         outcome.cost or "", counted_of(outcome.vehicles), bound_of(outcome), percent(gap(outcome)),
-        counted_of(outcome.leaves), "" if outcome.seconds is None else "%.1f" % outcome.seconds]
+        counted_of(outcome.leaves), seconds(outcome.seconds), seconds(outcome.met)]
     if best is not None:
         known = best.get(step.instance)
         found += ["" if known is None else shown(known), percent(above_part(step, best))]
@@ -205,9 +210,9 @@ def separated(steps, best=None):
     rows = [["instance", "set", *COLUMNS[1:-1], *more, COLUMNS[-1], "machine"]]
     for step in steps:
         outcome, known = step.outcome, (best or {}).get(step.instance)
-        row = [step.instance, step.column.label, step.count] + ([""] * 6 if outcome is None else [
+        row = [step.instance, step.column.label, step.count] + ([""] * 7 if outcome is None else [
             outcome.cost or "", counted_of(outcome.vehicles), bound_of(outcome), value(gap(outcome)),
-            counted_of(outcome.leaves), value(outcome.seconds)])
+            counted_of(outcome.leaves), value(outcome.seconds), value(outcome.met)])
         if best is not None:
             row += ["" if known is None else shown(known), value(above_part(step, best))]
         rows.append(row + [status(step), outcome.machine if outcome else ""])

@@ -20,7 +20,7 @@ INSTANCE = "instance.txt"
 SHARED = ("program", "step", OPTIONS)
 # What a step leaves, in the order in which it is brought back: the last one says that it is done.
 ANSWERS = ("plan.txt", "certificate.txt", "line.txt", "errors.txt", "done.txt")
-DONE = re.compile(r"([0-9]{1,3}) ([0-9]{1,12}) (\S{1,255})\n\Z")
+DONE = re.compile(r"([0-9]{1,3}) ([0-9]{1,12}) (\S{1,255})(?: ([0-9]{1,12}))?\n\Z")
 VERDICT = re.compile(r"(BEST|GAP|BOUND|NO PLAN)( [0-9.]+)?( [0-9.]+)?\n\Z")
 # What the machine said of a step, as far as it says something.
 MACHINE_LOG = "log.txt"
@@ -54,7 +54,7 @@ class Outcome:
 
     def __init__(self, status, cost=None, bound=None, leaves=None, vehicles=None):
         self.status, self.cost, self.bound, self.leaves, self.vehicles = status, cost, bound, leaves, vehicles
-        self.seconds, self.machine = None, ""
+        self.seconds, self.met, self.machine = None, None, ""
 
     def is_answer(self):
         return self.bound is not None
@@ -98,13 +98,15 @@ class Step:
     def judge(self, program):
         """Finds out what came of the step. The texts are checked here, by the program here and the instance as it was
         given; a check of the same texts isn't made again."""
-        status, milliseconds, machine = DONE.match(content(self.path("done.txt")).decode()).groups()
+        status, milliseconds, machine, met = DONE.match(content(self.path("done.txt")).decode()).groups()
         if int(status) > 1:
             told = content(self.path("errors.txt")).decode(errors="replace").split("\n")[0]
             self.outcome = Outcome("failed: %s" % (told or "status %s" % status))
         else:
             self.outcome = self.checked(program)
         self.outcome.seconds, self.outcome.machine = int(milliseconds) / 1000, machine
+        if self.outcome.cost is not None and met is not None:
+            self.outcome.met = int(met) / 1000
 
     def checked(self, program):
         certificate, plan = content(self.path("certificate.txt")), content(self.path("plan.txt"))
