@@ -10,7 +10,7 @@ from reference.texts import TextFault
 
 # The modules of judges/ that have kinds, in the order of the help: solver, check and library, sets, tools, all else.
 MODULES = """
-judging judging_refusals devices calling refusing solving closing judging_starts judging_fleets judging_trees
+judging judging_refusals devices calling refusing solving closing judging_starts judging_met judging_fleets judging_trees
 judging_bytes
 judging_sets judging_made_sets
 judging_layouts judging_tables judging_times judging_visits judging_roundings judging_nights judging_readings

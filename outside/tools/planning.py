@@ -11,8 +11,11 @@ from tools.standing import CERTIFICATE, INSTANCE, NAMES, PLAN, TREES
 from tools.stopping import Patience
 from tools.tool import Refused, count
 from vrptw import SETS, Schedule, neighbours_for, neighbours_of, serves, verdict_of
+from vrptw.met import plans_in
 
 START = "start.txt"
+# Where a round writes each plan that it meets.
+PLANS = "plans.txt"
 # How many seconds the check of a certificate that stands goes on after a signal, from its start.
 PATIENCE = 3
 # The line of a certificate that tells its bound.
@@ -215,9 +218,10 @@ class Planner:
     def round(self, turns, neighbours, seed, until):
         """One round: its bound and no fault; no bound where it was broken off; or the fault of the program."""
         plan, proof = self.folder.beside(PLAN), self.folder.beside(CERTIFICATE)
+        met = self.folder.put_beside(PLANS, b"")
         tree = self.tree_of(neighbours)
         command = [self.given.program, "solve", self.folder.beside(INSTANCE), plan, proof, "--progress",
-                 "--turns", str(turns), "--seed", str(seed % 2 ** 32)]
+                 "--plans", met, "--turns", str(turns), "--seed", str(seed % 2 ** 32)]
         if tree is not None:
             command += ["--tree", self.folder.at(tree)]
         elif neighbours is not None:
@@ -226,6 +230,7 @@ class Planner:
         command += self.given.options + (["--start", start] if start else [])
         came = self.ran(command, self.signals, until, self.tell_of)
         if came.status is None:
+            self.take_met(met)
             return None, None
         kind, cost, _ = verdict_of(came.line)
         if kind is None and tree is not None and self.leaves_out(neighbours):
@@ -239,6 +244,14 @@ class Planner:
         self.take(cost, bound)
         self.keep_tree(neighbours, text)
         return bound, None
+
+    def take_met(self, path):
+        """Brings the cheapest plan that a broken-off round has met into place, with a bound of 0 where none is known."""
+        found = list(plans_in(held(path)))
+        if found and (self.cost is None or found[-1][0] < self.cost):
+            fault = self.take_texts(found[-1][1], certificate(self.instance).encode())
+            if fault:
+                self.notes.append("the plan that a round has met isn't taken: %s" % fault)
 
     def tree_of(self, neighbours):
         """Which certificate a round goes on from: of those with so many neighbours that whose bound is highest."""
