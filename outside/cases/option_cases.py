@@ -213,6 +213,7 @@ respell i.txt p.txt --scale 2|0|-: Cost 20.0
 run --minutes 0.03 --kinds medium --jobs 1 --program {program}|0|-: medium: & -: , 0 disagreements
 run --runs 1 --seed 7 --kinds medium --jobs 1|0|-: 1 runs, 0 disagreements
 run --instruments {program} --kinds manual|0|-: 1 runs, 0 disagreements
+outside/workshop/completions --into c|0|c/vrptw: complete -F _vrptw vrptw & c/_vrptw: #compdef & c/vrptw.fish: -l sets
 outside/workshop/set_maker i.txt --sets 3 --leaves 2 --neighbours 4 --seed 5 >made.txt ; recheck i.txt made.txt|0|\
 made.txt: NEIGHBOURS 4
 set_prices small.txt c.txt two.txt --rounds 3 --neighbours 4 --seed 5 ; recheck small.txt c.txt two.txt|0|\
@@ -374,6 +375,7 @@ run --kinds manual --jobs 0|--jobs|2|met "0"
 run --kinds manual --program nowhere|--program|1|nowhere: met no program
 run --kinds turns --instruments nowhere|--instruments|1|nowhere: met no program
 run --kinds manual,none|--kinds|2|no such kind: none
+outside/workshop/completions --into p.txt|--into|1|p.txt: File exists
 outside/workshop/set_maker i.txt --sets 1001|--sets|2|met "1001"
 outside/workshop/set_maker i.txt --leaves 0|--leaves|2|met "0"
 outside/workshop/set_maker i.txt --leaves 65||1|i.txt: met 65 leaves, wanted at most 64 by its arcs

@@ -330,7 +330,7 @@ WHY = [
                       "the fleet can't serve all: met a demand of 5, wanted at most 4, which 2 vehicles hold"]),
 ]
 TOOLS = ("batch", "plan", "fewest", "convert", "carry", "respell", "timetable", "draw", "report", "sheets", "recheck",
-         "join", "why", "workshop/manual", "workshop/set_maker", "set_prices")
+         "join", "why", "workshop/completions", "workshop/manual", "workshop/set_maker", "set_prices")
 # With standard output on a full device or closed.
 PRINTING = ("convert i.txt - --to csv", "convert - - --from csv --to ours --vehicles 2 --capacity 2 --name T < t.csv",
             "respell i.txt p.txt", "timetable - p.txt < i.txt", "timetable i.txt p.txt", "timetable i.txt p.txt --json",

@@ -5,6 +5,7 @@ import re
 
 from judges.kind import Kind
 from judges.running import demand, got, put, run, shown
+from tools.completions import completions
 from tools.manual import page
 from tools.places import TOP
 
@@ -97,8 +98,10 @@ def judge_instances():
 
 
 def judge_manual(program):
-    """The manual page is what the program's help and the formats make of it."""
+    """The manual page and the completions are what the program's help makes of them."""
     demand(held("vrptw.1") == page(program, held("formats.md")), "docs/vrptw.1 isn't what outside/workshop/manual prints")
+    for name, text in completions(program).items():
+        demand(held("completions/" + name) == text, "outside/workshop/completions writes another %s" % name)
     return "as the help says"
 
 
@@ -108,6 +111,6 @@ KINDS = {
                          (judge_tutorial, judge_embedding)[seed](programs.program, folder), is_fixed=True),
     "instances": Kind("bench/instances against what bench/make_instances makes", 1,
                       lambda programs, folder, random, seed: judge_instances(), is_fixed=True),
-    "manual": Kind("docs/vrptw.1 against the program's help", 1,
+    "manual": Kind("docs/vrptw.1 and docs/completions against the program's help", 1,
                    lambda programs, folder, random, seed: judge_manual(programs.program), is_fixed=True),
 }

@@ -4,6 +4,7 @@ import shutil
 
 from tools.day import FEWEST
 from tools.fleets import Fleets, with_fleet
+from tools.places import as_called
 from tools.respelling import certificate
 from tools.standing import CERTIFICATE, INSTANCE, PLAN, Folder
 
@@ -43,7 +44,7 @@ def fewest_told(found, folder, units):
     if high is None or fewer == 0:
         return "" if high is None or high > 1 else "No plan does without a vehicle."
     if found.known.get(fewer, (None,))[0] == "NO PLAN":
-        why = "./vrptw check %s %s shows it" % tuple(
+        why = as_called("./vrptw check") + " %s %s shows it" % tuple(
             os.path.join(folder, "%d.%s" % (fewer, ending)) for ending in ("instance", "certificate"))
     else:
         why = "the demands are %s, and so many hold %s" % (

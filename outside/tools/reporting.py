@@ -8,6 +8,7 @@ from tools import drawing_tree
 from tools.drawing import HEAD, colour, dash, is_hollow, plural
 from tools.drawing_map import Frame, drawn_map
 from tools.drawing_times import AXIS, FIGURES, LANES, Scale, drawn_bars
+from tools.places import as_called
 from tools.reasons import proofs_of
 from tools.reporting_page import SCRIPT, SHELL, STYLE
 from tools.timing import EARLY, LATE, cells, leaving, percent, shares, stops, sums_shown, total
@@ -82,7 +83,7 @@ def why_not(instance, certificate, names, where="", proofs=None):
     if found or certificate is None or certificate.bound <= instance.ceiling():
         return [reason.told for reason in found]
     paths = [shlex.quote(os.path.join(where, name)) for name in ("instance.txt", "certificate.txt")]
-    return ["it is proved that not all can be served, and ./vrptw check %s %s shows it" % tuple(paths)]
+    return [as_called("it is proved that not all can be served, and ./vrptw check %s %s shows it" % tuple(paths))]
 
 
 def claim(report):
@@ -116,7 +117,8 @@ def answer(report):
 def check_command(report):
     """The words of the check, with the names of the files."""
     names = [shlex.quote(report.folder + os.path.basename(path)) for path in report.paths]
-    return "./vrptw check %s %s%s" % (names[0], names[1], "" if report.cost is None else " --solution " + names[2])
+    return "%s %s %s%s" % (as_called("./vrptw check"), names[0], names[1],
+                           "" if report.cost is None else " --solution " + names[2])
 
 
 def figures(report):
@@ -238,9 +240,10 @@ def tree_of(report):
 def checks(report):
     """How anybody checks the answer, with the line that comes."""
     if report.certificate is None:
-        return ("<p>The plan is judged by <code>./vrptw check</code> with any certificate of the instance; "
-                "<code>./vrptw solve</code> writes one.</p>")
-    again = check_command(report).replace("./vrptw check", "outside/recheck").replace(" --solution", "")
+        return as_called("<p>The plan is judged by <code>./vrptw check</code> with any certificate of the instance; "
+                         "<code>./vrptw solve</code> writes one.</p>")
+    again = check_command(report).replace(as_called("./vrptw check"), as_called("outside/recheck"), 1).replace(
+        " --solution", "")
     return ('<table class="pairs">%s</table>'
             "<p>Who has these files can check the answer:</p><pre>$ %s\n%s\n$ %s\n%s</pre>"
             "<p><code>%s</code> says: %s%s</p><p>The first command is a program that is proved to say this line only "

@@ -2,6 +2,8 @@
 import sys
 import time
 
+from tools.places import as_called
+
 # How often it is told, in seconds, on a terminal and elsewhere; nothing is told of a work that ends before.
 OFTEN, SELDOM = 0.5, 10.0
 
@@ -13,7 +15,7 @@ class Telling:
         stream = sys.stderr
         self.is_terminal = stream is not None and not stream.closed and stream.isatty()
         self.is_told = self.is_terminal or stream is not None and is_elsewhere
-        self.head, self.wide, self.often = head, 0, often if self.is_terminal else SELDOM
+        self.head, self.wide, self.often = as_called(head), 0, often if self.is_terminal else SELDOM
         self.began = self.last = time.monotonic()
 
     def is_due(self):

@@ -7,6 +7,8 @@ import sys
 from codecs import BOM_UTF8, BOM_UTF16_BE, BOM_UTF16_LE
 from fractions import Fraction
 
+from tools.places import as_called
+
 NUMBER = re.compile(r"[+-]?([0-9]{1,30}(\.[0-9]{0,30})?|\.[0-9]{1,30})([eE][+-]?[0-9]{1,2})?\Z")
 MOST_SHOWN = 40
 # The path of standard input and output, and what the former is called.
@@ -235,7 +237,7 @@ def refuse_same(first, second, met="the file that is read"):
 
 def path_of(tool):
     """What a tool is called: one that doesn't stand in outside says its folder."""
-    return tool if "/" in tool else "outside/" + tool
+    return tool if "/" in tool else as_called("outside/" + tool)
 
 
 class Words(argparse.ArgumentParser):
@@ -244,6 +246,9 @@ class Words(argparse.ArgumentParser):
     def __init__(self, tool, told):
         super().__init__(prog=path_of(tool), description=told.strip(), allow_abbrev=False,
                          formatter_class=argparse.RawDescriptionHelpFormatter)
+
+    def format_help(self):
+        return as_called(super().format_help())
 
     def error(self, message):
         self.exit(2, "%s: words: %s\n" % (self.prog, " ".join(message.split())))
@@ -261,7 +266,7 @@ def count(low, high):
 def told(line):
     """A line on standard error, where that is open."""
     if sys.stderr is not None:
-        print(line, file=sys.stderr)
+        print(as_called(line), file=sys.stderr)
 
 
 def printed(text):
