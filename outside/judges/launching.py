@@ -23,6 +23,10 @@ ROWS = [
     ("solve i.txt new.txt tree.txt --tree k.txt", "tree.txt and k.txt are one file"),
     ("solve i.txt tree.txt c.txt --tree=k.txt --start p.txt", "tree.txt and k.txt are one file"),
     ("solve --start p.txt i.txt c.txt --tree k.txt hard.txt", "hard.txt and p.txt are one file"),
+    ("solve i.txt new.txt c.txt --plans sub/../p.txt --start p.txt", "sub/../p.txt and p.txt are one file"),
+    ("solve i.txt new.txt c.txt --plans=sub/../i.txt", "sub/../i.txt and i.txt are one file"),
+    ("solve --plans link.txt i.txt p.txt c.txt", "p.txt and link.txt are one file"),
+    ("solve i.txt new.txt c.txt --plans no/m.txt", "the folder no of m.txt isn't there"),
     ("solve nowhere p.txt c.txt", "nowhere isn't there"),
     ("solve i.txt sub c.txt", "sub is a folder"),
     ("solve i.txt new.txt no/c.txt", "the folder no of c.txt isn't there"),
@@ -41,6 +45,7 @@ RIGHT = [
     ("solve i.txt new.txt c.txt --turns 1", 0, "BEST 20.0\n"),
     ("solve i.txt new.txt c.txt --start p.txt --turns 1", 0, "BEST 20.0\n"),
     ("solve i.txt new.txt c.txt --start p.txt --tree k.txt --part 1/2 --turns 1", 0, "BEST 20.0\n"),
+    ("solve i.txt new.txt c.txt --plans m.txt --turns 1", 0, "BEST 20.0\n"),
     ("solve i.txt p.txt link.txt --turns 0", 2, ""),
     ("solve i.txt p.txt", 2, ""),
     ("check i.txt k.txt --solution p.txt", 1, "GAP 20.0 0.0\n"),
@@ -56,12 +61,14 @@ STREAMS = [
     ("solve i.txt --turns 1 sub/../o.txt c.txt >o.txt", "sub/../o.txt and standard output are one file"),
     ("solve --turns 1 i.txt c.txt -- link.txt >>p.txt", "link.txt and standard output are one file"),
     ("solve i.txt hard.txt c.txt >>p.txt", "hard.txt and standard output are one file"),
+    ("solve i.txt p.txt c.txt --plans=/dev/stdout --turns 1 >o.txt", "/dev/stdout and standard output are one file"),
     ("solve i.txt /dev/stderr c.txt 2>o.txt", None),
     ("solve i.txt c.txt o.txt 2>o.txt", None),
 ]
 # Words with streams by which nothing is lost, with the status, and what standard output or the file o.txt has then.
 KEPT = [
     ("solve i.txt /dev/stdout c.txt --turns 1 | cat", 0, "Route #1: 1 2\nCost 20.0\nBEST 20.0\n"),
+    ("solve i.txt c.txt p.txt --plans /dev/stdout --turns 1 | cat", 0, "Route #1: 1 2\nCost 20.0\nBEST 20.0\n"),
     ("solve i.txt /dev/fd/1 c.txt --turns 1 | cat >o.txt", 0, "Route #1: 1 2\nCost 20.0\nBEST 20.0\n"),
     ("solve i.txt /dev/stderr c.txt --turns 1", 0, "BEST 20.0\n"),
     ("solve i.txt /dev/null c.txt --turns 1 >o.txt", 0, "BEST 20.0\n"),
