@@ -98,6 +98,10 @@ class Solving:
             self.make_rounds()
         elif not self.cancelled.is_set():
             self.take(self.round(self.turns, self.neighbours, self.seed))
+        return self.standing()
+
+    def standing(self) -> Answer:
+        """What stands: of the rounds that have ended, and the cheapest plan that one has met."""
         came = self.best or self.from_start()
         return came if self.met is None else merged(came, self.met)
 
@@ -202,8 +206,7 @@ class Solving:
         if came is None:
             return
         self.note(came)
-        is_alone = self.best is None or came.kind == "NO PLAN"
-        self.best = came if is_alone or self.best is None else merged(self.best, came)
+        self.best = came if self.best is None or came.kind == "NO PLAN" else merged(self.best, came)
 
 
 def solve(instance: Given, *, seconds: Optional[float] = None, turns: Optional[int] = None,
