@@ -18,7 +18,7 @@ judging_doubts judging_carried judging_plans judging_printouts judging_departure
 judging_reports judging_served judging_partial judging_folders judging_fewest judging_module judging_schedules
 judging_rounds judging_breaks judging_batches judging_proofs judging_joins judging_literature judging_faults
 judging_options judging_package
-launching tutorial
+launching tutorial judging_many
 """.split()
 
 
