@@ -139,6 +139,6 @@ IsSameJob (Solve instance solution certificate start tree part settings close le
 IsSameJob (Check instance certificate solution states) (Check second_instance second_certificate second_solution second_states) =
     (instance.now ≡ second_instance.now) × (certificate.now ≡ second_certificate.now)
     × (option_map (λ s. s.now) solution ≡ option_map (λ s. s.now) second_solution) × (states ≡ second_states)
-IsSameJob (Solve instance solution certificate start tree part settings close leaves progress live) (Check second_instance second_certificate second_solution second_states) = ⊥
+IsSameJob (Solve instance solution certificate start tree part settings close leaves progress live plans) (Check second_instance second_certificate second_solution second_states) = ⊥
 IsSameJob (Check instance certificate solution states)
-    (Solve second_instance second_solution second_certificate second_start second_tree second_part second_settings second_close second_leaves second_progress second_live) = ⊥
+    (Solve second_instance second_solution second_certificate second_start second_tree second_part second_settings second_close second_leaves second_progress second_live second_plans) = ⊥
