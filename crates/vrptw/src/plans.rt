@@ -71,14 +71,14 @@ impl<X: Sink + Drop> PlansFile<X> {
 /// A gate that holds nobody but for the time of a write: it may tell on standard error how far the turns are, and adds
 /// the plans that it meets to a file, if there is one.
 #[derive(Drop)]
-pub(crate) struct PlansGate<'a, R: Eprint + Wait, X: Sink + Drop> {
+pub(crate) struct PlansGate<'a, R: Eprint, X: Sink + Drop> {
     rt: &'a R,
     alloc: Global,
     progress: ProgressGate<'a, R>,
     plans: Option<Mutex<PlansFile<X>>>,
 }
 
-impl<'a, R: Eprint + Wait, X: Sink + Drop> PlansGate<'a, R, X> {
+impl<'a, R: Eprint, X: Sink + Drop> PlansGate<'a, R, X> {
     /// A gate that adds plans to what this sink takes.
     pub(crate) fn new(
         rt: &'a R,
