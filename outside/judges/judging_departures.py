@@ -149,7 +149,8 @@ def judge_departures(folder, random):
             demand_moved(instance, route, leaves, 10 * units.scale)
         demand_stops(instance, route, leaves, [stop for stop in stops if stop["route"] == str(place)], units)
         demand_sums(row)
-    demand([str(row["leaves"]) for row in told["routes"]] == [row["leaves"] for row in sums[:-1]], "%r" % told)
+    spelled = [row["clock"]["leaves"] if units.clock else str(row["leaves"]) for row in told["routes"]]
+    demand(spelled == [row["leaves"] for row in sums[:-1]], "%r" % told)
     demand_plan(sums, shares, instance)
     demand_pages(folder, words, sums)
     demand_bars(words, routes, stops, sums)

@@ -98,10 +98,13 @@ def by_walk(instance, place, route):
 def judge_object(text, stops, sums, shares):
     """The object has the numbers of the table."""
     told = json.loads(text)
-    right = [{"route": int(place), **valued(Sums._fields, row),
-              "stops": [valued(Stop._fields, stop[1:]) for stop in stops if stop[0] == place]}
-             for place, *row in sums[:-1]]
-    demand(told == {"routes": right, "plan": {**valued(Sums._fields, sums[-1][1:]), **valued(*shares)}}, "%r" % told)
+    for route, (place, *row) in zip(told["routes"], sums[:-1]):
+        right = [valued(Stop._fields, stop[1:]) for stop in stops if stop[0] == place]
+        came = [{name: stop[name] for name in Stop._fields} for stop in route["stops"]]
+        demand(came == right and {**route, "route": int(place), **valued(Sums._fields, row)} == route, "%r" % route)
+    plan = told["plan"]
+    demand({**plan, **valued(Sums._fields, sums[-1][1:]), **valued(*shares)} == plan and
+           len(told["routes"]) == len(sums) - 1, "%r" % told)
 
 
 def valued(names, words):

@@ -110,10 +110,17 @@ def judge_timetable(folder, text, instance, routes, told, depart):
     put(paths[0], text)
     put(paths[1], text_of(routes, plan_cost(instance, routes)).encode())
     out, _, status = tool("timetable", *paths, "--json", "--depart", depart)
-    right = json.loads(out)["routes"]
-    for route in told["routes"]:
-        route["stops"] = [{name: stop[name] for name in stop if name != "late"} for stop in route["stops"]]
-    demand(status == 0 and told["routes"] == right, "%r, and timetable says %r" % (told["routes"], right))
+    said = json.loads(out)
+    right = [{name: route[name] for name in mine} for route, mine in zip(said["routes"], told["routes"])]
+    for route, mine in zip(right, told["routes"]):
+        for stop in mine["stops"]:
+            stop["is_late"] = stop.pop("late") > 0
+        route["stops"] = [{name: stop[name] for name in one} for stop, one in zip(route["stops"], mine["stops"])]
+    demand(status == 0 and told["routes"] == right and len(said["routes"]) == len(right),
+           "%r, and timetable says %r" % (told["routes"], right))
+    reasons = [{name: reason[name] for name in ("kind", "route", "customer")} for reason in told["reasons"]]
+    demand((said["plan"]["is_plan"], said["plan"]["reasons"]) == (told["is_plan"], reasons), "%r, and timetable says %r"
+           % (told["reasons"], said["plan"]))
 
 
 def judge_unknown(instance, text, routes):

@@ -3,7 +3,7 @@ import argparse
 import os
 from fractions import Fraction
 
-from tools import csv_layout, names, solomon_layout, vrplib_layout
+from tools import csv_layout, json_layout, names, objects, solomon_layout, vrplib_layout
 from tools.clock_times import minutes_of
 from tools.layouts import MOST_CAPACITY, MOST_FLEET, MOST_SCALE, MOST_TIME, Quantities, problem_of
 from tools.noting import grouped
@@ -11,12 +11,14 @@ from tools.tool import Refused, Text, count, number, quoted
 from tools.units import Units
 
 READERS = {"ours": solomon_layout.read, "solomon": solomon_layout.read, "vrplib": vrplib_layout.read,
-           "csv": csv_layout.read}
+           "csv": csv_layout.read, "json": json_layout.read}
 WRITERS = {"ours": solomon_layout.write_ours, "solomon": solomon_layout.write, "vrplib": vrplib_layout.write,
-           "csv": csv_layout.write}
+           "csv": csv_layout.write, "json": objects.of_problem}
+# The layouts whose places have names.
+NAMED_LAYOUTS = ("csv", "json")
 # What a column may be called otherwise.
 NAMED_COLUMNS = ("name", "address", "priority", "x", "y", "lat", "lon", "demand", "ready", "due", "service")
-ENDINGS = {".txt": "ours", ".vrp": "vrplib", ".csv": "csv"}
+ENDINGS = {".txt": "ours", ".vrp": "vrplib", ".csv": "csv", ".json": "json"}
 
 
 class Horizon:

@@ -1,11 +1,8 @@
 """When the vehicles of a plan are where: the stops of each route with their times, as a table."""
-import json
 from collections import namedtuple
 
 from reference.instances import route_cost
 from tools.dialects import dialect_of, spelled
-from tools.names import DEGREES
-from tools.tool import number
 from tools.units import units_of
 import vrptw
 
@@ -140,27 +137,3 @@ def separated(instance, routes, names=None, depart=LATE, dialect=None):
     by_stop, by_route, by_plan = tables(instance, routes, names, depart)
     parts = [(by_stop, 1 + len(Stop._fields)), (by_route, len(by_route[0])), (by_plan, len(by_plan[0]))]
     return spelled(parts, dialect or dialect_of(names))
-
-
-def valued(words):
-    """Words of a table by their headings: numbers where they spell some, else as they stand."""
-    return {name: word if number(word) is None else json.loads(word) for name, word in words}
-
-
-def as_json(instance, routes, names=None, depart=LATE):
-    """The tables as one object: routes with their sums and stops, and the sums and shares of the plan. What the table
-    of names says of a stop is in `place`, as words."""
-    by_stop, by_route, by_plan = tables(instance, routes, names, depart)
-    found = {route: {"route": int(route), **valued(zip(Sums._fields, sums)), "stops": []}
-             for route, *sums in by_route[1:-1]}
-    heading, columns = by_stop[0], 1 + len(Stop._fields)
-    for route, *words in by_stop[1:]:
-        stop = valued(zip(Stop._fields, words))
-        if names:
-            stop["place"] = dict(zip(heading[columns:], words[columns - 1:]))
-            at = names.place(stop["stop"])
-            stop["place"].update(zip(DEGREES, at) if at else ())
-        found[route]["stops"].append(stop)
-    told = {"routes": list(found.values()),
-            "plan": {**valued(zip(Sums._fields, by_route[-1][1:])), **valued(zip(*by_plan))}}
-    return json.dumps(told, ensure_ascii=False, indent=1) + "\n"

@@ -41,12 +41,20 @@ class Units:
         self.scale, self.clock, self.speed, self.demands, self.visits = scale, clock, speed, demands, visits
         self.is_plain = (scale, clock, speed, demands, visits) == (1, 0, None, 1, 1)
 
-    def line(self):
-        """The line of a table that tells it; nothing where the numbers are as they were."""
+    def words(self):
+        """The words that tell it; nothing where the numbers are as they were."""
         told = [("scale", self.scale, 1), ("clock", self.clock, 0), ("speed", self.speed, None),
                 ("demands", self.demands, 1), ("visits", self.visits, 1)]
         pairs = ["%s=%s" % (key, value) for key, value, usual in told if value != usual]
-        return "%s %s\n" % (MARK, " ".join(pairs)) if pairs else ""
+        return " ".join(pairs)
+
+    def line(self):
+        """The line of a table that tells it; nothing where the numbers are as they were."""
+        return "%s %s\n" % (MARK, self.words()) if self.words() else ""
+
+    def exact(self):
+        """The same units with times as numbers."""
+        return Units(self.scale, 0, self.speed, self.demands, self.visits)
 
     def of_places(self):
         """What one unit of a place is."""
