@@ -49,7 +49,7 @@ impl<X: Sink + Drop> PlansFile<X> {
     fn add(&mut self, alloc: Global, plan: &Feasible<'_>) -> Result<(), AllocError>
         ensures added { IfOk result (λ _. IsDue self.old.has_failed self.old.least plan.now
             → Adds plan.now (X.held self.old.sink) (X.held self.new.sink)
-                self.old.least self.new.least self.new.has_failed) }
+            self.old.least self.new.least self.new.has_failed) }
         ensures kept { (IsDue self.old.has_failed self.old.least plan.now → ⊥) → self.new ≡ self.old }
         ensures memory { IfErr result (λ _. self.new ≡ self.old) }
     {

@@ -16,10 +16,10 @@ use checker::check;
 use command_line::{Job, job};
 use run_settings::{Part, Settings};
 use std::alloc::Global;
+use std::io::Write;
 use std::rt::Files;
 use std::sync::Wait;
 use std::thread::Threads;
-use std::io::Write;
 use std::{fs, io};
 use tenths::{Sink, StdSink};
 
@@ -53,7 +53,9 @@ impl SolveJob<'_> {
         is_same_path(self.solution, self.certificate)
             || is_read(self.solution)
             || is_read(self.certificate)
-            || self.plans.is_some_and(|plans| is_read(plans) || is_written(plans))
+            || self
+                .plans
+                .is_some_and(|plans| is_read(plans) || is_written(plans))
     }
 }
 
