@@ -108,8 +108,8 @@ convert i.txt folder --to csv|folder|0|Is a directory
 convert i.txt i.txt|i.txt|0|met the file that is read, wanted another one to write
 convert i.txt link.txt|link.txt|0|met the file that is read, wanted another one to write
 convert i.txt /dev/full --to csv|/dev/full|0|No space left on device
-convert i.xml o.txt|i.xml|0|met the ending ".xml", wanted .txt, .vrp, .csv, or a layout by --from
-convert i.txt o|o|0|met the ending "", wanted .txt, .vrp, .csv, or a layout by --to
+convert i.xml o.txt|i.xml|0|met the ending ".xml", wanted .txt, .vrp, .csv, .json, or a layout by --from
+convert i.txt o|o|0|met the ending "", wanted .txt, .vrp, .csv, .json, or a layout by --to
 convert t.csv o.txt --capacity 5|t.csv|3|--vehicles
 convert t.csv o.txt --vehicles 5|t.csv|3|--capacity
 convert half.csv o.txt --vehicles 5 --capacity 5 --scale 3|half.csv|3|met "3.5" in "x", wanted x, a whole number by --scale 3
@@ -185,7 +185,7 @@ timetable i.txt - <&-|standard input|0|met a closed one, or it for a second file
 draw small.txt - < p.txt|standard input|1|met a route with a load of 2
 recheck other.txt - < k.txt|standard input|2|another instance
 convert - o.txt --from csv --vehicles 5 --capacity 5 < end.csv|standard input|1|met no column "due", and headings that aren't known: "end", wanted
-convert - o.txt < i.txt|-|0|met the ending "", wanted .txt, .vrp, .csv, or a layout by --from
+convert - o.txt < i.txt|-|0|met the ending "", wanted .txt, .vrp, .csv, .json, or a layout by --from
 convert i.txt - --to csv --names -|-|0|met the file of the instance, wanted another one to write
 respell i.txt - --certificate - < p.txt|-|0|met the stream of the plan, wanted another one to write
 timetable folder p.txt|folder|0|Is a directory
