@@ -4,13 +4,18 @@ use crate::fronts::Nearness;
 use crate::insertion::{Weights, build_whole};
 use crate::leaf_work::{
     ChildStart, Children, Effort, Goal, PricingState, RoutePool, SplitOrDecided, counted_routes, first_leaf, goal_of,
-    raise, split_or_decide,
+    Raised, child::children_by, met_plan, raise, split_or_decide, trying::likely_arcs,
 };
 use crate::priced_sets::PricedSet;
+use crate::pooled_routes::Pseudocosts;
 use crate::prices::Priced;
 use crate::shim::Global;
 use crate::solomon_reader::Instance;
+use crate::price_way::{rise_at, route_pool::CarriedRoute};
+use crate::schedule::Feasible;
+use crate::sharing::{Sharing, Start};
 use crate::tenths::Tenths;
+use std::rc::Rc;
 use std::time::Instant;
 
 /// As in `worker_turns`.
@@ -24,12 +29,15 @@ const DEAR_TURNS: u32 = 200;
 const FIRST_RISES: usize = 4;
 const LOWEST_PART: i128 = 64;
 
+/// How many pricings has each child by an arc that is tried.
+const TRIED_PRICINGS: u32 = 4;
+
 /// The defaults of the program.
-const NEIGHBOURS: u32 = 8;
+pub const NEIGHBOURS: u32 = 8;
 const MOST_LABELS: u64 = 1_000_000;
 
 /// A worker that finds no leaf looks again after as long as so much work takes.
-const WORK_OF_WAIT: u64 = 20_000;
+pub const WORK_OF_WAIT: u64 = 20_000;
 
 /// A node of the tree: a leaf with its prices, or a split with the places of both children.
 enum Node<'i> {
@@ -38,14 +46,15 @@ enum Node<'i> {
 }
 
 /// A leaf's place among the nodes, with its value when it was made, and where its ascent starts, if that is known.
-struct Open {
-    place: usize,
-    value: i128,
-    start: Option<ChildStart>,
+pub struct Open {
+    pub place: usize,
+    pub value: i128,
+    pub start: Option<Start>,
+    pub is_stolen: bool,
 }
 
 /// What came of a leaf, which the others see when the work at it is over.
-enum Outcome<'i> {
+pub enum Outcome<'i> {
     Same,
     Raised(Priced<'i>),
     Split(Children<'i>),
@@ -53,28 +62,52 @@ enum Outcome<'i> {
     Decided,
 }
 
-struct Bounder<'i> {
-    pool: RoutePool,
-    state: PricingState<'i>,
-    open: std::vec::Vec<Open>,
-    /// The leaf that others may steal.
-    shared: Option<Open>,
+pub struct Bounder<'i> {
+    pub pool: RoutePool,
+    pub state: PricingState<'i>,
+    pub open: std::vec::Vec<Open>,
+    /// The leaves that others may steal: one, or all that a bounder left.
+    pub shared: std::vec::Vec<Open>,
     /// The root, as long as it goes on there.
-    current: Option<usize>,
+    pub current: Option<usize>,
     /// What came of the leaf of this place.
-    outcome: Option<(usize, Outcome<'i>)>,
+    pub outcome: Option<(usize, Outcome<'i>)>,
+    /// The cost of the cheapest plan that it met meanwhile.
+    pub met: Option<u64>,
     /// How often it looked for a leaf: each time it begins at the next worker.
     tries: usize,
     /// How many turns in a row raised nothing at the root.
     idle: u16,
-    /// How long it waited, as work.
-    waited: u64,
+    /// How long it waited, or searched for plans, as work.
+    pub waited: u64,
+    /// How much of its work others did.
+    spared: u64,
+    /// Up to which route of each other bounder it knows what they met.
+    seen: std::vec::Vec<u64>,
 }
 
 impl<'i> Bounder<'i> {
+    /// Each begins a unit of work later than the one before, so that their order is known.
+    fn new(number: u64, pool: RoutePool, state: PricingState<'i>, open: std::vec::Vec<Open>) -> Bounder<'i> {
+        Bounder {
+            pool,
+            state,
+            open,
+            shared: vec![],
+            current: None,
+            outcome: None,
+            met: None,
+            tries: 0,
+            idle: 0,
+            waited: number,
+            spared: 0,
+            seen: vec![],
+        }
+    }
+
     /// How long it has been at work, as work.
-    fn clock(&self) -> u64 {
-        self.state.work() + self.waited
+    pub fn clock(&self) -> u64 {
+        self.state.work() + self.waited - self.spared
     }
 
     fn take_least(&mut self) -> Option<Open> {
@@ -83,24 +116,37 @@ impl<'i> Bounder<'i> {
     }
 
     fn take_back(&mut self) {
-        self.open.extend(self.shared.take());
+        self.open.append(&mut self.shared);
     }
 
     fn take_own(&mut self) -> Option<Open> {
         self.take_back();
         let least = self.take_least();
-        self.shared = self.take_least();
+        let next = self.take_least();
+        self.shared.extend(next);
         least
+    }
+
+    /// Leaves all open leaves to others.
+    pub fn leave(&mut self) {
+        self.take_back();
+        std::mem::swap(&mut self.open, &mut self.shared);
+    }
+
+    /// Notes the cost of a plan that it met.
+    fn meet(&mut self, plan: Option<Feasible<'i>>) {
+        let cost = plan.map(|plan| plan.cost().get());
+        self.met = [self.met, cost].into_iter().flatten().min();
     }
 }
 
-struct Tree<'i> {
+pub struct Tree<'i> {
     instance: &'i Instance,
-    bounders: std::vec::Vec<Bounder<'i>>,
+    pub bounders: std::vec::Vec<Bounder<'i>>,
     /// All nodes, the root first.
     nodes: std::vec::Vec<Node<'i>>,
     /// The cost to reach, or one more than any plan's.
-    target: u64,
+    pub target: u64,
     /// The cost of the plan, if one is known.
     cost: Option<Tenths>,
     routes: u16,
@@ -111,11 +157,28 @@ struct Tree<'i> {
     work: u64,
     /// The least value of the leaves that no arc is left to split.
     decided: i128,
+    /// What bounders share, and what of it isn't each one's own.
+    sharing: Sharing,
+    pool: RoutePool,
+    pseudocosts: Pseudocosts,
+    /// What was spent below the root at leaves of a worker's own, and at stolen ones.
+    pub spent: [Spent; 2],
+}
+
+/// How many leaves, and how much work.
+#[derive(Clone, Copy, Default)]
+pub struct Spent(pub u64, pub u64);
+
+impl Spent {
+    /// How many turns a leaf took in the mean.
+    pub fn mean(self, turn_work: u64) -> f64 {
+        self.1 as f64 / self.0.max(1) as f64 / turn_work as f64
+    }
 }
 
 impl<'i> Tree<'i> {
     /// The tree of the root: with the routes of a built plan, or without one where no cost is given.
-    fn new(nearness: &'i Nearness<'i>, workers: u64, turns: u32, cost: Option<Tenths>, sets: u64) -> Tree<'i> {
+    pub fn new(nearness: &'i Nearness<'i>, workers: u64, turns: u32, cost: Option<Tenths>, sets: u64) -> Tree<'i> {
         let instance = nearness.instance;
         let plan = build_whole(Global, instance, &Weights::plain()).unwrap().filter(|_| cost.is_some());
         let routes = plan.as_ref().map(|plan| plan.routes());
@@ -128,18 +191,9 @@ impl<'i> Tree<'i> {
             state.expect(worth_of(instance) * u64::from(turns.max(DEAR_TURNS)));
             state
         };
-        let bounder = |number| Bounder {
-            pool: RoutePool::of_routes(Global, instance, routes.unwrap_or(&[])).unwrap(),
-            state: state(),
-            open: vec![Open { place: 0, value: 0, start: None }],
-            shared: None,
-            current: None,
-            outcome: None,
-            tries: 0,
-            idle: 0,
-            // Each begins a unit of work later than the one before, so that their order is known.
-            waited: number,
-        };
+        let pool = || RoutePool::of_routes(Global, instance, routes.unwrap_or(&[])).unwrap();
+        let root = || vec![Open { place: 0, value: 0, start: None, is_stolen: false }];
+        let bounder = |number| Bounder::new(number, pool(), state(), root());
         Tree {
             instance,
             bounders: (0..workers).map(bounder).collect(),
@@ -151,6 +205,31 @@ impl<'i> Tree<'i> {
             sets: (sets / workers) as usize,
             work: worth_of(instance) * u64::from(turns),
             decided: i128::MAX,
+            sharing: Sharing::default(),
+            pool: pool(),
+            pseudocosts: Pseudocosts::new(Global),
+            spent: [Spent::default(); 2],
+        }
+    }
+
+    /// Adds so many workers that have no leaf, and lets all share.
+    pub fn add_helpers(&mut self, nearness: &'i Nearness<'i>, helpers: u64, turns: u32, sharing: Sharing) {
+        let plan = build_whole(Global, self.instance, &Weights::plain()).unwrap();
+        for _helper in 0..helpers {
+            let mut state = PricingState::new(Global, nearness);
+            state.expect(worth_of(self.instance) * u64::from(turns.max(DEAR_TURNS)));
+            let pool = RoutePool::of_routes(Global, self.instance, plan.as_ref().map_or(&[], |plan| plan.routes()));
+            let number = self.bounders.len() as u64;
+            self.bounders.push(Bounder::new(number, pool.unwrap(), state, vec![]));
+        }
+        self.sharing = sharing;
+    }
+
+    /// Takes a plan of this cost, if that is cheaper than those known.
+    pub fn take_cost(&mut self, cost: u64) {
+        if cost < self.target {
+            self.target = cost;
+            self.cost = Tenths::new(cost);
         }
     }
 
@@ -162,21 +241,26 @@ impl<'i> Tree<'i> {
     }
 
     /// The least value of the leaves, if one is left to raise, and at most this much.
-    fn bound(&self, most: i128) -> i128 {
+    pub fn bound(&self, most: i128) -> i128 {
         let leaves = (0..self.nodes.len()).filter_map(|place| self.leaf(place));
         leaves.map(|leaf| leaf.value()).min().unwrap_or(most).min(most).min(self.decided)
     }
 
-    fn leaves(&self) -> usize {
+    pub fn leaves(&self) -> usize {
         self.nodes.len() / 2 + 1
     }
 
-    fn is_closed(&self) -> bool {
+    pub fn is_closed(&self) -> bool {
         self.bound(i128::from(self.target)) >= i128::from(self.target)
     }
 
+    fn root_pricings(&self) -> u32 {
+        self.sharing.root_pricings.unwrap_or(ROOT_PRICINGS)
+    }
+
     fn goal(&self, number: usize, leaf: &Priced<'i>, is_again: bool) -> Goal {
-        let effort = Effort { root_pricings: ROOT_PRICINGS, sets: self.sets, labels: Some(self.labels), work: self.work };
+        let (root_pricings, labels) = (self.root_pricings(), Some(self.labels));
+        let effort = Effort { root_pricings, sets: self.sets, labels, work: self.work };
         let mut goal = goal_of(leaf, self.cost, self.routes, self.target, effort);
         if is_again {
             goal.rise = self.bounders[number].pool.rise();
@@ -197,36 +281,49 @@ impl<'i> Tree<'i> {
         }
         let from = bounder.tries;
         let mut places = (from..from + count).map(|place| place % count);
-        let place = places.find(|place| self.bounders[*place].shared.is_some())?;
-        let stolen = self.bounders[place].shared.take()?;
-        self.bounders[number].shared = self.bounders[number].take_least();
-        Some(Open { start: None, ..stolen })
+        let place = if self.sharing.lowest {
+            let others = places.filter(|place| !self.bounders[*place].shared.is_empty());
+            others.min_by_key(|place| self.bounders[*place].shared[0].value)?
+        } else {
+            places.find(|place| !self.bounders[*place].shared.is_empty())?
+        };
+        let stolen = self.bounders[place].shared.remove(0);
+        let bounder = &mut self.bounders[number];
+        let next = bounder.take_least();
+        bounder.shared.extend(next);
+        let start = stolen.start.and_then(|start| start.stolen(self.instance, &mut bounder.pool, self.sharing));
+        Some(Open { start, is_stolen: true, ..stolen })
     }
 
     /// The leaf that a worker works at next, and whether it was the one before.
-    fn take(&mut self, number: usize) -> Option<(Open, bool)> {
+    pub fn take(&mut self, number: usize) -> Option<(Open, bool)> {
         self.bounders[number].tries += 1;
         if let Some(place) = self.bounders[number].current.take() {
             // The turn ends where the root was split meanwhile.
             self.leaf(place)?;
-            return Some((Open { place, value: 0, start: None }, true));
+            return Some((Open { place, value: 0, start: None, is_stolen: false }, true));
         }
         let open = self.steal(number).or_else(|| self.bounders[number].take_own())?;
         Some((open, false))
     }
 
     /// Raises a leaf, and splits it, unless its value reaches the cost or it is the root that still rises.
-    fn outcome(&mut self, number: usize, open: Open, is_again: bool) -> Outcome<'i> {
+    fn outcome_of(&mut self, number: usize, open: Open, is_again: bool) -> Outcome<'i> {
         let Some(leaf) = self.leaf(open.place).map(|leaf| leaf.try_clone().unwrap()) else { return Outcome::Same };
         let (target, before, goal) = (i128::from(self.target), leaf.value(), self.goal(number, &leaf, is_again));
         if before >= target {
             return Outcome::Same;
         }
-        let patience = self.instance.customer_count() / CUSTOMERS_OF_PATIENCE;
+        // Shorter turns at the root may be in vain more often.
+        let shorter = (ROOT_PRICINGS / self.root_pricings()) as u16 - 1;
+        let patience = self.instance.customer_count() / CUSTOMERS_OF_PATIENCE + shorter;
         let bounder = &mut self.bounders[number];
-        let raised = raise(&mut bounder.pool, &mut bounder.state, leaf, open.start, &goal);
+        let start = open.start.map(|start| start.child);
+        let raised = raise(&mut bounder.pool, &mut bounder.state, leaf, start, &goal);
+        bounder.meet(met_plan(self.instance, &bounder.pool).unwrap());
         let is_raised = raised.priced.value() > before;
-        let is_flat = raised.is_flat(&bounder.state);
+        let is_little = |parts| raised.ascent.as_ref().is_some_and(|ascent| ascent.promises_little(parts));
+        let is_flat = raised.is_flat(&bounder.state) || raised.added == 0 && self.sharing.flat.is_some_and(is_little);
         if raised.priced.value() >= target {
             return Outcome::Raised(raised.priced);
         }
@@ -236,11 +333,117 @@ impl<'i> Tree<'i> {
             bounder.current = stays.then_some(open.place);
         }
         if bounder.current.is_some() {
-            return if is_raised { Outcome::Raised(raised.priced) } else { Outcome::Same };
+            let brings = is_raised && !(self.sharing.hands && number > 0);
+            return if brings { Outcome::Raised(raised.priced) } else { Outcome::Same };
         }
+        if let Some(children) = self.tried_children(number, open.place, &raised, &goal) {
+            return Outcome::Split(children);
+        }
+        let bounder = &mut self.bounders[number];
         match split_or_decide(&raised, &mut bounder.pool, &mut bounder.state, Some(self.labels)) {
             Ok(SplitOrDecided::Split(children)) => Outcome::Split(children),
+            Ok(SplitOrDecided::Decided(decided, plan)) => {
+                bounder.meet(plan);
+                if decided.value() > before { Outcome::Raised(decided) } else { Outcome::Decided }
+            }
             _ => Outcome::Decided,
+        }
+    }
+
+    /// The children by the arc that ascents of both children show to be the best, near the root where a rule says so.
+    fn tried_children(
+        &mut self,
+        number: usize,
+        place: usize,
+        raised: &Raised<'i>,
+        goal: &Goal,
+    ) -> Option<Children<'i>> {
+        let depth = self.depth(place);
+        if self.sharing.strong == 0 || depth >= self.sharing.depth {
+            return None;
+        }
+        let (ascent, target) = (raised.ascent.as_ref()?, i128::from(self.target));
+        let leaf = &raised.priced;
+        let bounder = &mut self.bounders[number];
+        let (pool, state) = (&mut bounder.pool, &mut bounder.state);
+        let before = state.work();
+        let arcs = likely_arcs(leaf, ascent, pool, self.sharing.strong).ok()?;
+        let tried: std::vec::Vec<Children<'i>> = arcs
+            .into_iter()
+            .filter_map(|arc| children_by(leaf, ascent, pool, state, arc, goal.labels).ok())
+            .collect();
+        let mut best: Option<(i128, Children<'i>)> = None;
+        for children in tried {
+            let Children { arc, used, unused, used_start, unused_start } = children;
+            let goal = Goal { rise: rise_at(&used, self.cost), pricings: TRIED_PRICINGS, ..*goal };
+            let used = raise(pool, state, used, used_start, &goal).priced;
+            let unused = raise(pool, state, unused, unused_start, &goal).priced;
+            let rise = |child: &Priced<'i>| (child.value().min(target) - leaf.value()).max(0) * 10 + 1;
+            let score = rise(&used) * rise(&unused);
+            if best.as_ref().is_none_or(|(least, _)| score > *least) {
+                best = Some((score, Children { arc, used, unused, used_start: None, unused_start: None }));
+            }
+        }
+        let triers = if depth == 0 { self.sharing.hands_at_trials.max(1) } else { 1 };
+        let share = (state.work() - before) / triers;
+        bounder.spared += state.work() - before - share;
+        for other in (0..self.bounders.len()).filter(|other| triers > 1 && *other != number).take(triers as usize - 1) {
+            self.bounders[other].waited += share;
+        }
+        best.map(|(_, children)| children)
+    }
+
+    /// How many splits led to a node.
+    fn depth(&self, place: usize) -> u32 {
+        let is_parent = |node: &Node<'i>| match node {
+            Node::Leaf(_) => false,
+            Node::Split { used, unused, .. } => *used == place || *unused == place,
+        };
+        self.nodes.iter().position(is_parent).map_or(0, |parent| 1 + self.depth(parent))
+    }
+
+    /// Takes in the routes that others met since.
+    fn learn_routes(&mut self, number: usize) {
+        let count = self.bounders.len();
+        let mut pool = std::mem::replace(&mut self.bounders[number].pool, RoutePool::new(Global));
+        let mut seen = std::mem::take(&mut self.bounders[number].seen);
+        seen.resize(count, 0);
+        for other in (0..count).filter(|other| *other != number) {
+            let from = &self.bounders[other].pool;
+            for stops in from.met_from(seen[other], self.sharing.met_in_use) {
+                pool.add(self.instance, &stops).unwrap();
+            }
+            seen[other] = from.count_met();
+        }
+        self.bounders[number].pool = pool;
+        self.bounders[number].seen = seen;
+    }
+
+    /// What comes of a leaf, with what all share in the place of the worker's own.
+    pub fn outcome(&mut self, number: usize, open: Open, is_again: bool) -> Outcome<'i> {
+        let is_below = self.nodes.len() > 1;
+        let is_new = self.bounders[number].seen.is_empty();
+        let Sharing { met, met_at_root, met_once, .. } = self.sharing;
+        if met || met_at_root && !is_below || met_once && is_below && is_new {
+            self.learn_routes(number);
+        }
+        self.swap_shared(number);
+        let (is_stolen, before) = (open.is_stolen, self.bounders[number].state.work());
+        let outcome = self.outcome_of(number, open, is_again);
+        if is_below {
+            let spent = &mut self.spent[usize::from(is_stolen)];
+            *spent = Spent(spent.0 + 1, spent.1 + self.bounders[number].state.work() - before);
+        }
+        self.swap_shared(number);
+        outcome
+    }
+
+    fn swap_shared(&mut self, number: usize) {
+        if self.sharing.one_pool {
+            std::mem::swap(&mut self.pool, &mut self.bounders[number].pool);
+        }
+        if self.sharing.pseudocosts {
+            std::mem::swap(&mut self.pseudocosts, &mut self.bounders[number].state.pseudocosts);
         }
     }
 
@@ -254,8 +457,11 @@ impl<'i> Tree<'i> {
         }
         let first = self.nodes.len();
         let bounder = &mut self.bounders[number];
-        bounder.open.push(Open { place: first, value: used.value(), start: used_start });
-        bounder.open.push(Open { place: first + 1, value: unused.value(), start: unused_start });
+        let carried: Rc<[CarriedRoute]> = if self.sharing.routes { bounder.pool.carried().into() } else { Rc::new([]) };
+        let start = |child: Option<ChildStart>| child.map(|child| Start { child, carried: carried.clone() });
+        let open = |place, value, child| Open { place, value, start: start(child), is_stolen: false };
+        bounder.open.push(open(first, used.value(), used_start));
+        bounder.open.push(open(first + 1, unused.value(), unused_start));
         let lowest = bounder.take_own();
         bounder.open.extend(lowest);
         self.nodes[place] = Node::Split { from: arc.from, to: arc.to, used: first, unused: first + 1 };
@@ -264,7 +470,10 @@ impl<'i> Tree<'i> {
     }
 
     /// Brings what came of a leaf to the others.
-    fn bring(&mut self, number: usize, place: usize, outcome: Outcome<'i>) {
+    pub fn bring(&mut self, number: usize, place: usize, outcome: Outcome<'i>) {
+        if let Some(cost) = self.bounders[number].met.take() {
+            self.take_cost(cost);
+        }
         match outcome {
             Outcome::Same => {}
             Outcome::Raised(leaf) => {
@@ -356,7 +565,7 @@ impl<'i> Tree<'i> {
 }
 
 /// How much work a turn is worth.
-fn worth_of(instance: &Instance) -> u64 {
+pub fn worth_of(instance: &Instance) -> u64 {
     CUSTOMER_WORK * u64::from(instance.customer_count()).max(LEAST_CUSTOMERS)
 }
 

@@ -10,6 +10,7 @@ mod branching;
 mod certificate;
 mod checking;
 mod completions;
+mod crew;
 mod fronts;
 mod insertion;
 mod labelling;
@@ -25,16 +26,19 @@ mod prices;
 mod quick_routes;
 mod rand_core;
 mod ruin;
+mod rule;
 mod schedule;
 mod search;
 mod searching;
 mod set_finding;
 mod set_needs;
+mod sharing;
 mod segments;
 mod shim;
 mod solomon_reader;
 mod tenths;
 mod tree_bound;
+mod way;
 
 use solomon_reader::Instance;
 
@@ -46,6 +50,7 @@ fn main() {
         "ascent" => measuring::tell_ascent(&instance),
         "labels" => measuring::tell_labels(&instance, &words[3]),
         "check" => checking::tell(&instance, &words[3]),
+        "crew" => crew::tell(&instance, number(3) as u32, number(4), number(5), number(6), &words[7]),
         "bound" => bounding::tell(&instance, number(3) as u32, number(4), number(5), number(6), words.get(7)),
         _ => searching::tell(&instance, number(3) as u32, number(4)),
     }
