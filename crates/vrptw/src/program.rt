@@ -40,22 +40,28 @@ struct SolveJob<'a> {
 }
 
 impl SolveJob<'_> {
+    /// Whether a path is one of those that are read.
+    fn reads(&self, path: &str) -> bool {
+        is_same_path(self.instance, path)
+            || self.start.is_some_and(|start| is_same_path(start, path))
+            || self.tree.is_some_and(|tree| is_same_path(tree, path))
+    }
+
     /// Whether a file that is to be written is also to be read, or to be written again.
     fn overwrite(&self) -> bool {
-        let is_read = |path: &str| {
-            is_same_path(self.instance, path)
-                || self.start.is_some_and(|start| is_same_path(start, path))
-                || self.tree.is_some_and(|tree| is_same_path(tree, path))
-        };
-        let is_written = |path: &str| {
-            is_same_path(self.solution, path) || is_same_path(self.certificate, path)
-        };
-        is_same_path(self.solution, self.certificate)
-            || is_read(self.solution)
-            || is_read(self.certificate)
-            || self
-                .plans
-                .is_some_and(|plans| is_read(plans) || is_written(plans))
+        let (solution, certificate) = (self.solution, self.certificate);
+        let has_two = is_same_path(solution, certificate);
+        if has_two || self.reads(solution) || self.reads(certificate) {
+            return true;
+        }
+        match self.plans {
+            Some(plans) => {
+                self.reads(plans)
+                    || is_same_path(solution, plans)
+                    || is_same_path(certificate, plans)
+            }
+            None => false,
+        }
     }
 }
 
