@@ -161,6 +161,6 @@ def judge_objects(folder, random):
 
 
 KINDS = {
-    "objects": Kind("objects of timetable --json, by their schema, and back by convert; objects by hand, wrong ones too",
+    "objects": Kind("objects of timetable --json, by their schema, and back by convert; objects by hand, wrong ones",
                     20, tools_by(judge_objects)),
 }

@@ -1,5 +1,5 @@
-"""Instances and timetables as objects of JSON; docs/timetable.schema.json says what they have. Numbers are exact, in the
-units of the table that came in; where its times are of the day, `clock` has them as words, cut to the minute."""
+"""Instances and timetables as objects of JSON; docs/timetable.schema.json says what they have. Numbers are exact, in
+the units of the table that came in; where its times are of the day, `clock` has them as words, cut to the minute."""
 import json
 
 from tools.names import DEGREES
