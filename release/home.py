@@ -6,10 +6,10 @@ TOP = os.path.dirname(os.path.dirname(os.path.realpath(__file__)))
 RELEASE = ("made-from", "sources.sh", "vrptw-x86_64-linux", "vrptw-x86_64-linux.sha256", "which")
 # The folders of outside that tools import from, with what runs elsewhere.
 FOLDERS = ("reference", "tools")
-# The manual page and the completions, and where systems look for them below a prefix.
+# The manual page, the completions and the schema, and where systems look for them below a prefix.
 SHARED = {"docs/vrptw.1": "share/man/man1", "docs/completions/vrptw": "share/bash-completion/completions",
           "docs/completions/_vrptw": "share/zsh/site-functions",
-          "docs/completions/vrptw.fish": "share/fish/vendor_completions.d"}
+          "docs/completions/vrptw.fish": "share/fish/vendor_completions.d", "docs/timetable.schema.json": "share/vrptw"}
 
 
 def listed(folder):
