@@ -66,9 +66,10 @@ def judge_whole(program, folder, random):
     """A run on a few customers that ends, perhaps from a plan, closing, or with a file that takes nothing."""
     text = laid_out(random, instance_words(random, random.randint(1, 8)))
     instance = read(text)
-    routes = plan_of(random, instance)
+    routes = [[i for i in route if i <= instance.count] for route in plan_of(random, instance)]
+    most = plan_cost(instance, routes)
     path, start = (os.path.join(folder, name) for name in ("plans", "start"))
-    put(start, text_of(routes, plan_cost(instance, routes)).encode())
+    put(start, text_of(routes, most).encode())
     more = random.choice([[], [], ["--start", start], ["--close"]])
     options = ["--turns", str(random.randint(1, 30)), "--searchers", str(random.randint(1, 4))] + more
     before = solve(program, folder, text, options)
@@ -77,7 +78,7 @@ def judge_whole(program, folder, random):
     costs = judge_met(program, folder, random, text, got(path) or b"", came[1])
     if costs:
         demand("--close" not in more and read_solution(came[3])[1] <= costs[-1], "a plan of %s: %r" % (costs, came))
-        demand(more[:1] != ["--start"] or costs[0] <= plan_cost(instance, routes), "%s from a start" % costs)
+        demand(more[:1] != ["--start"] or costs[0] <= most, "%s from a start of %s" % (costs, most))
     elif came[3] and "--close" not in more:
         demand(not os.path.exists(path), "no plan stands there: %r" % (came,))
     return "%s, %s" % (more[0] if more else "plain", "%d plans" % min(len(costs), 3))
