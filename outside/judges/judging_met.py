@@ -73,14 +73,15 @@ def judge_whole(program, folder, random):
     more = random.choice([[], [], ["--start", start], ["--close"]])
     options = ["--turns", str(random.randint(1, 30)), "--searchers", str(random.randint(1, 4))] + more
     before = solve(program, folder, text, options)
-    came = solve(program, folder, text, options + ["--plans", random.choice([path, path, "/dev/full"]), "--progress"])
+    target = random.choice([path, path, "/dev/full"])
+    came = solve(program, folder, text, options + ["--plans", target, "--progress"])
     demand("--close" not in more or came == before, "%r, and with a file of plans %r" % (before, came))
-    costs = judge_met(program, folder, random, text, got(path) or b"", came[1])
+    costs = judge_met(program, folder, random, text, got(path) or b"", came[1] if target == path else "")
     if costs:
         demand("--close" not in more and read_solution(came[3])[1] <= costs[-1], "a plan of %s: %r" % (costs, came))
         demand(more[:1] != ["--start"] or costs[0] <= most, "%s from a start of %s" % (costs, most))
     elif came[3] and "--close" not in more:
-        demand(not os.path.exists(path), "no plan stands there: %r" % (came,))
+        demand(target != path, "no plan stands there: %r" % (came,))
     return "%s, %s" % (more[0] if more else "plain", "%d plans" % min(len(costs), 3))
 
 
