@@ -26,7 +26,7 @@ ROWS = [
     ("solve i.txt new.txt c.txt --plans sub/../p.txt --start p.txt", "sub/../p.txt and p.txt are one file"),
     ("solve i.txt new.txt c.txt --plans=sub/../i.txt", "sub/../i.txt and i.txt are one file"),
     ("solve --plans link.txt i.txt p.txt c.txt", "p.txt and link.txt are one file"),
-    ("solve i.txt new.txt c.txt --plans no/m.txt", "the folder no of m.txt isn't there"),
+    ("solve i.txt new.txt other.txt --plans no/m.txt", "the folder no of m.txt isn't there"),
     ("solve nowhere p.txt c.txt", "nowhere isn't there"),
     ("solve i.txt sub c.txt", "sub is a folder"),
     ("solve i.txt new.txt no/c.txt", "the folder no of c.txt isn't there"),
