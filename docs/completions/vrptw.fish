@@ -17,6 +17,7 @@ complete -c vrptw -n '__fish_seen_subcommand_from solve' -l tree -rF -d 'The fil
 complete -c vrptw -n '__fish_seen_subcommand_from solve' -l part -x -d 'Works only at those open leaves of the tree whose place among them is K modulo N, as K/N, 1 <= K <= N <= 10000'
 complete -c vrptw -n '__fish_seen_subcommand_from solve' -l progress -d 'Tells on standard error how far the turns are, and cost, bound, gap and leaves'
 complete -c vrptw -n '__fish_seen_subcommand_from solve' -l live -d 'Tells the same on one line, which is written anew each time'
+complete -c vrptw -n '__fish_seen_subcommand_from solve' -l plans -rF -d 'The file to write each plan to, at once, that is cheaper than all before, emptied before the solving'
 complete -c vrptw -n '__fish_seen_subcommand_from solve' -s h -l help -d 'Print help'
 complete -c vrptw -n __fish_use_subcommand -f -a check -d 'Checks a certificate of a lower bound, and a plan if one is given'
 complete -c vrptw -n '__fish_seen_subcommand_from check' -l solution -rF -d 'The file to read the plan from'
