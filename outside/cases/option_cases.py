@@ -111,7 +111,7 @@ batch i.txt --into r --engine parallel --sshloginfile two_machines|0|-: machine 
 connect to host nowhere port 22: Connection refused & r/engine.txt: machine anna@nowhere & r/machines: localhost & \
 r/asked.txt: --retries 1 & -: 1 BEST
 batch bad.txt i.txt --into r|1|-: no instance: line 8: met "1 3 4 x & r/i/plan.txt: Cost 20.0 & \
-r/table.csv: bad,,,,,,,,,"no instance: line 8: & -: 1 BEST, 1 no instance
+r/table.csv: bad,,,,,,,,,,"no instance: line 8: & -: 1 BEST, 1 no instance
 batch spoilt --into r|1|-: no instance: line 1: met "" (Truncated) & r/i/plan.txt: Cost 20.0 & -: 2 instances: 1 BEST
 batch i.txt --into r --best best.txt|0|-: 1 best known costs: 1 met
 batch i.txt --into r --best more_best.txt|0|-: 1 best known costs: 1 met & --: --best has names of no instance here: b_1
