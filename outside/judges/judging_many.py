@@ -1,6 +1,6 @@
 """The commands of the page on many instances, run one after the other in a folder: what they say is what the page
-shows, but for seconds, leaves and the order in which runs end. Programs of the same names stand for GNU parallel, ssh,
-rsync and Slurm, and small instances for the larger ones."""
+shows, but for seconds, leaves, gaps and the order in which runs end. Programs of the same names stand for GNU
+parallel, ssh, rsync and Slurm, and small instances for the larger ones."""
 import os
 import re
 import shutil
@@ -17,9 +17,9 @@ INSTANCES = {"bench/instances/c1_25.txt": "bench/instances/c1_25.txt", "bench/in
              "bench/instances/r1_25.txt", "bench/instances/rc1_25.txt": "bench/instances/rc1_25.txt",
              "bench/instances/c1_50.txt": "examples/c1_20.txt", "bench/instances/rc2_100.txt": "examples/c1_20.txt"}
 # Columns and words that differ from run to run.
-DIFFERING = ("leaves", "seconds")
+DIFFERING = ("leaves", "seconds", "met at")
 WORDS = ((re.compile(r"\b[0-9]+ of ([0-9]+): "), r"\1: "), (re.compile(r"\bjob [0-9]+"), "job"),
-         (re.compile(r"\b[0-9.]+ s\b"), "s"))
+         (re.compile(r"\b[0-9.]+ s\b"), "s"), (re.compile(r"\b[0-9.]+ %"), "%"))
 # The page's own end of an output that is left out, and the file that another command writes.
 LEFT_OUT, MACHINES = "...", "cat machines"
 
