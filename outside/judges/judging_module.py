@@ -57,15 +57,29 @@ def instance_of(instance):
 
 def judge_cancelled(random, text, instance, cost, options):
     """A work that is cancelled by its callback, or before it begins: what it answers is right, and it ends soon."""
-    began, told = time.monotonic(), []
-    work = vrptw.Solving(text, on_progress=lambda came: (told.append(came), work.cancel()), **options)
+    began, told, met = time.monotonic(), [], []
+    work = vrptw.Solving(text, on_progress=lambda came: (told.append(came), work.cancel()),
+                         on_plan=lambda *plan: met.append(plan), **options)
     if random.randrange(2):
         work.cancel()
     answer = work.run()
     demand(time.monotonic() - began < SOON, "a cancelled work took %.1f s" % (time.monotonic() - began))
     judge_answer(instance, answer, cost)
     judge_progress(told, cost, options.get("seconds"))
+    judge_met(instance, met, told, answer)
     return "cancelled"
+
+
+def judge_met(instance, met, told, answer):
+    """The plans that were met, each cheaper than the one before; the answer costs what the last of them does, and no more
+    than progress told."""
+    costs = [cost for _, cost in met]
+    demand(all(before > after for before, after in zip(costs, costs[1:])), "met: %s" % costs)
+    demand(all(plan_cost(instance, routes) == round(10 * cost) and is_plan(instance, routes) for routes, cost in met),
+           "met: %r" % met)
+    demand(not costs or answer.cost == costs[-1], "%r, and met %s" % (answer, costs))
+    least = min((came.cost_tenths for came in told if came.cost_tenths is not None), default=None)
+    demand(least is None or answer.has_plan and answer.cost_tenths <= least, "%r, and %s was told" % (answer, least))
 
 
 def judge_progress(told, cost, seconds):
@@ -123,11 +137,12 @@ def judge_solved(random, folder, text, instance, cost, options):
         start = options["start"] = forms(random, instance, routes, folder)
     source = os.path.join(folder, "source.txt")
     put(source, text)
-    told = []
+    told, met = [], []
     given = random.choice([text, source, vrptw.Instance.from_file(text)])
-    answer = vrptw.solve(given, on_progress=told.append, **options)
+    answer = vrptw.solve(given, on_progress=told.append, on_plan=lambda *plan: met.append(plan), **options)
     judge_answer(instance, answer, cost)
     judge_progress(told, cost, options.get("seconds"))
+    judge_met(instance, met, told, answer)
     demand(vrptw.Answer.from_dict(json.loads(json.dumps(answer.to_dict()))) == answer
            == pickle.loads(pickle.dumps(answer)) and answer.has_plan == (answer.routes is not None), "%r" % answer)
     demand(answer.kind != "BOUND" and (start is None or answer.cost_tenths <= plan_cost(instance, routes)),
