@@ -176,6 +176,9 @@ def judge_prefix(folder, random):
     demanded(folder, [*words, "uninstall"])
     left = [os.path.join(at, name) for at, _, files in os.walk(prefix) for name in files]
     demand(not left, "make uninstall leaves %s" % left)
+    empty = subprocess.run([sys.executable, os.path.join(TOP, "release", "install"), ""], cwd=place,
+                           stdout=subprocess.PIPE, stderr=subprocess.PIPE)
+    demand(empty.returncode == 2 and b"PREFIX: met nothing" in empty.stderr, "no PREFIX: %r" % (empty,))
     return "prefix"
 
 
