@@ -1,6 +1,6 @@
 //! A file of the plans that a run meets, each cheaper than the one before.
 
-ghost use Rattle.std.specs.Prelude.{◌≡◌, ◌↔◌, IsTrue, IfErr, IfOk};
+ghost use Rattle.std.specs.Prelude.{◌≡◌, ◌↔◌, None, false, IsTrue, IfErr, IfOk};
 ghost use Rattle.vrptw.specs.Plans.{Adds, IsDue};
 
 use crate::progress::ProgressGate;
@@ -23,7 +23,9 @@ pub(crate) struct PlansFile<X: Sink + Drop> {
 
 impl<X: Sink + Drop> PlansFile<X> {
     /// A file in which no plan stands.
-    pub(crate) fn new(sink: X) -> PlansFile<X> {
+    pub(crate) fn new(sink: X) -> PlansFile<X>
+        ensures { (result.least ≡ None) × (result.has_failed ≡ false) }
+    {
         PlansFile {
             sink,
             least: None,
@@ -44,13 +46,15 @@ impl<X: Sink + Drop> PlansFile<X> {
         }
     }
 
-    /// Adds a plan that is cheaper than all that stand there, by one write of its whole text where the sink takes it so.
+    /// Adds a plan that is cheaper than all that stand there, by one write of its whole text where the sink takes it
+    /// so.
     /// An error where memory was refused; then nothing changed.
     fn add(&mut self, alloc: Global, plan: &Feasible<'_>) -> Result<(), AllocError>
         ensures added { IfOk result (λ _. IsDue self.old.has_failed self.old.least plan.now
             → Adds plan.now (X.held self.old.sink) (X.held self.new.sink)
             self.old.least self.new.least self.new.has_failed) }
-        ensures kept { (IsDue self.old.has_failed self.old.least plan.now → ⊥) → self.new ≡ self.old }
+        ensures kept { (IsDue self.old.has_failed self.old.least plan.now → ⊥)
+            → self.new ≡ self.old }
         ensures memory { IfErr result (λ _. self.new ≡ self.old) }
     {
         if !self.is_due(plan) {

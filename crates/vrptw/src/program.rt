@@ -155,8 +155,8 @@ fn bytes_of(text: &Option<Vec<u8>>) -> Option<&[u8]> {
     }
 }
 
-/// Solves the instance of a file, from the plan and the tree of others where they are named, into others, which are made
-/// once those were read. No file that is written may be another of them, since it would be overwritten.
+/// Solves the instance of a file, from the plan and the tree of others where they are named, into others, which are
+/// made once those were read. No file that is written may be another of them, since it would be overwritten.
 fn solve_files<R: Eprint + Files + AllocGlobal + Threads + Wait + Sync, X: Sink, Y: Sink>(
     rt: &R,
     alloc: Global,
@@ -245,7 +245,8 @@ fn telling_asked(progress: bool, live: bool) -> Telling {
 /// 3 for a refused instance, 4 where memory was refused, 5 for a refused certificate or solution, or plan or
 /// tree to go on from, 6 where a file or a stream failed or `solve` would overwrite one of its files, 7 where the
 /// labels, the states or the leaves don't suffice, or an instance is too large to be closed. With `--progress`
-/// and `--live` lines stand on standard error itself besides; a file of plans that fails changes nothing. What files hold no contract can say.
+/// and `--live` lines stand on standard error itself besides; a file of plans that fails changes nothing. What files hold
+/// no contract can say.
 pub fn run_words<R: Eprint + Files + AllocGlobal + Threads + Wait + Sync, X: Sink, Y: Sink>(
     rt: &R,
     alloc: Global,
