@@ -3,9 +3,9 @@
 
 class Kind:
     """A kind: its line, how many runs a round has, or all rounds together where it draws nothing (`is_fixed`), and
-    whether it needs the program of instruments or the library that refuses allocations. Its judge takes the programs,
-    a folder, the random source and the run's number; it answers what came of the run, or raises a disagreement. The
-    runs of a round are so many that each kind has some seconds of it."""
+    whether it needs the program of instruments or the library that refuses allocations or holds threads (`refuses`).
+    Its judge takes the programs, a folder, the random source and the run's number; it answers what came of the run, or
+    raises a disagreement. The runs of a round are so many that each kind has some seconds of it."""
 
     def __init__(self, meaning, runs, judge, is_fixed=False, of_library=False, refuses=False):
         self.meaning, self.runs, self.judge, self.is_fixed = meaning, runs, judge, is_fixed

@@ -40,7 +40,7 @@ def told_kinds():
 
 
 class Programs:
-    """The paths of what is judged, and of the library that refuses allocations."""
+    """The paths of what is judged, and of the library that refuses allocations or holds threads."""
 
     def __init__(self, program, instruments, library):
         self.program, self.instruments, self.library = program, instruments, library

@@ -1,14 +1,18 @@
-/* Loaded before a program: refuses its allocations in turn.
+/* Loaded before a program: refuses its allocations in turn, or holds its threads at some, so that they meet otherwise.
 
    The file that ALLOCATIONS names holds three numbers of 64 bits: how many allocations and threads the program asked
    for, and how many of them were refused. REFUSED is the number of the first allocation that is refused, from 1;
-   REFUSED_LAST that of the last one, by default the same. THREADS_REFUSED is the number of the thread that is. */
+   REFUSED_LAST that of the last one, by default the same. THREADS_REFUSED is the number of the thread that is.
+
+   HELD_ONE_IN says how many allocations go by, in the mean, between two at which a thread is held, for less than
+   HELD_AT_MOST microseconds. Each thread draws by its own words, from HELD_SEED. */
 #define _GNU_SOURCE
 #include <dlfcn.h>
 #include <errno.h>
 #include <fcntl.h>
 #include <pthread.h>
 #include <stdatomic.h>
+#include <stdint.h>
 #include <stdlib.h>
 #include <sys/mman.h>
 #include <unistd.h>
@@ -26,6 +30,8 @@ struct counts {
 
 static struct counts *counts;
 static long first, last, thread_refused;
+static uint64_t one_in, at_most, seed;
+static atomic_ulong threads_held;
 
 static long number(const char *name, long absent) {
   const char *text = getenv(name);
@@ -33,6 +39,9 @@ static long number(const char *name, long absent) {
 }
 
 __attribute__((constructor)) static void begin(void) {
+  seed = number("HELD_SEED", 0);
+  at_most = number("HELD_AT_MOST", 1);
+  one_in = number("HELD_ONE_IN", 0);
   const char *path = getenv("ALLOCATIONS");
   int file = path ? open(path, O_RDWR) : -1;
   if (file < 0)
@@ -45,7 +54,22 @@ __attribute__((constructor)) static void begin(void) {
   counts = map == MAP_FAILED ? NULL : map;
 }
 
+/* Draws by xorshift (Marsaglia 2003). */
+static void hold(void) {
+  static _Thread_local uint64_t word;
+  if (!one_in)
+    return;
+  if (!word)
+    word = (seed + 1) * 0x9E3779B97F4A7C15 + atomic_fetch_add(&threads_held, 1);
+  word ^= word << 13;
+  word ^= word >> 7;
+  word ^= word << 17;
+  if (word % one_in == 0)
+    usleep((word >> 32) % at_most);
+}
+
 static int is_refused(void) {
+  hold();
   if (!counts)
     return 0;
   long mine = atomic_fetch_add(&counts->allocations, 1) + 1;

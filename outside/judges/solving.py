@@ -49,8 +49,8 @@ def least(instance, region, prices, neighbours, priced=()):
     return by(instance, region, prices, neighbours, priced)
 
 
-def judge_solve(program, folder, random, count, most_turns, is_small):
-    """An instance and options. Answers the line's first word."""
+def judge_solve(program, folder, random, count, most_turns, is_small, variables=None):
+    """An instance and options, with further variables for the run. Answers the line's first word."""
     text = laid_out(random, instance_words(random, count))
     drawn = drawn_options(random, most_turns)
     options = [word for name, value in drawn.items() for word in ("--" + name, str(value))]
@@ -58,14 +58,23 @@ def judge_solve(program, folder, random, count, most_turns, is_small):
     with open(os.path.join(folder, "options"), "w") as file:
         file.write(" ".join(options) + "\n")
     try:
-        return judge_run(program, folder, text, options, {**DEFAULTS, **drawn}, is_small)
+        return judge_run(program, folder, text, options, {**DEFAULTS, **drawn}, is_small, variables)
     except (Disagreement, TextFault) as found:
         raise Disagreement("%s\n  options: %s\n  instance: %s\n " % (
             found, " ".join(options), " ".join(text.decode().split())))
 
 
-def judge_run(program, folder, text, options, settings, is_small):
-    out, errors, status, solution, certificate = solve(program, folder, text, options)
+def judge_held(program, folder, random, library):
+    """Threads that are held at drawn allocations, mostly few and long holds or many short ones."""
+    one_in = random.choice([2, 10, 100, 1000])
+    variables = {"LD_PRELOAD": library, "HELD_SEED": random.randrange(2 ** 31), "HELD_ONE_IN": one_in,
+                 "HELD_AT_MOST": random.choice([20, 200, 20 * one_in])}
+    texts = {name: str(value) for name, value in variables.items()}
+    return judge_solve(program, folder, random, random.randint(3, 9), 60, False, texts)
+
+
+def judge_run(program, folder, text, options, settings, is_small, variables=None):
+    out, errors, status, solution, certificate = solve(program, folder, text, options, variables)
     said = (out, errors, status)
     if status == 7:
         demand(said == ("", "vrptw: limit: LabelLimit\n", 7), "solve: %r" % (said,))
@@ -167,4 +176,7 @@ KINDS = {
     "medium": Kind("9 to 25 customers, drawn options: bound and cost in order", 4,
                    lambda programs, folder, random, seed:
                        judge_solve(programs.program, folder, random, random.randint(9, 25), 3, False)),
+    "held": Kind("3 to 9 customers, threads held at drawn allocations: bound and cost in order", 12,
+                 lambda programs, folder, random, seed:
+                     judge_held(programs.program, folder, random, programs.library), refuses=True),
 }
