@@ -17,5 +17,6 @@ pub use fronts::Nearness;
 pub use run_settings::{MOST_PARTS, Part, Settings, generator};
 pub use running::{run, run_from};
 pub use worker_turns::{
-    Gate, GatePoint, Hub, LeavesLeft, NoGate, Nodes, Worker, bound_worker, search_worker,
+    Gate, GatePoint, Hub, LeavesLeft, NoGate, Nodes, Team, Worker, bound_worker, lending_worker,
+    search_worker,
 };

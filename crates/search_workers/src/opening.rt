@@ -67,6 +67,40 @@ fn first_plan<'i, G: Gate>(
     Ok(Some(plan))
 }
 
+/// A first plan, and what a descent makes of it, which no single move makes cheaper.
+#[derive(Drop)]
+struct FirstPlans<'i> {
+    built: Feasible<'i>,
+    lower: HeldPlan<'i>,
+    ghost problem: { lower.plan.problem ≡ built.problem },
+    ghost no_dearer: { lower.plan.cost ≤ built.cost },
+    ghost optimum: { lower.is_optimum ≡ true },
+}
+
+/// The first plan and what a descent makes of it. The gate meets both.
+fn first_plans<'i, R: Threads + Sync, G: Gate>(
+    rt: &R,
+    alloc: Global,
+    instance: &'i Instance,
+    gate: &G,
+    start: Option<Feasible<'i>>,
+) -> Result<Option<FirstPlans<'i>>, RunFault>
+    requires { IfSome start (λ f. f.problem ≡ instance.now) }
+    ensures plan { IfOk result (λ plans. MatchOption plans (¬ IsServedAlone instance.now)
+        (λ f. f.built.problem ≡ instance.now)) }
+    ensures no_dearer { IfOk result (λ plans. IsNoDearer start.entry (option_map (λ f. f.built) plans)) }
+    ensures memory { IfErr result (λ e. e ≡ Memory) }
+{
+    let Some(built) = first_plan(alloc, instance, gate, start)? else {
+        return Ok(None);
+    };
+    let lower = descended_parallel(rt, alloc, built.try_clone()?)?;
+    if lower.plan.cost().get() < built.cost().get() {
+        gate.meet(&lower.plan);
+    }
+    Ok(Some(FirstPlans { built, lower }))
+}
+
 /// A book of the root, in which at most so many sets are listed.
 fn open_book<'i>(alloc: Global, root: Priced<'i>, sets: u32) -> Result<Book<'i>, RunFault>
     requires root { root.region ≡ root_region (customer_count root.problem) }
@@ -102,33 +136,24 @@ fn offer<'i>(book: &mut Book<'i>, plan: Feasible<'i>) -> Result<(), RunFault>
     }
 }
 
-/// Offers a plan, and what a descent makes of it where that is cheaper, which the gate meets before; answers the latter,
-/// which no single move makes cheaper.
+/// Offers a plan, and what a descent made of it where that is cheaper; answers the latter.
 #[tactic(auto, using(crate::proofs::Starts::offered_at))]
-fn offer_both<'i, R: Threads + Sync, G: Gate>(
-    rt: &R,
-    alloc: Global,
-    gate: &G,
-    book: &mut Book<'i>,
-    plan: Feasible<'i>,
-) -> Result<HeldPlan<'i>, RunFault>
-    requires problem { plan.problem ≡ book.old.problem }
+fn offer_both<'i>(book: &mut Book<'i>, plans: FirstPlans<'i>) -> Result<HeldPlan<'i>, RunFault>
+    requires problem { plans.built.problem ≡ book.old.problem }
     requires room { length book.old.past + 1 < book.old.limits.events }
     ensures problem { book.new.problem ≡ book.old.problem }
     ensures neighbours { book.new.neighbours ≡ book.old.neighbours }
     ensures sets { book.new.most_sets ≡ book.old.most_sets }
     ensures splits { split_count book.new.past ≡ split_count book.old.past }
     ensures offered { IfOk result (λ h. WasOffered (Some h.plan.cost) book.new.past) }
-    ensures no_dearer { IfOk result (λ h. h.plan.cost ≤ plan.entry.cost) }
+    ensures no_dearer { IfOk result (λ h. h.plan.cost ≤ plans.entry.built.cost) }
     ensures optimum { IfOk result (λ h. h.is_optimum ≡ true) }
     ensures memory { IfErr result (λ e. e ≡ Memory) }
 {
-    let cost = plan.cost();
-    let begun = plan.try_clone()?;
-    offer(book, plan)?;
-    let lower = descended_parallel(rt, alloc, begun)?;
+    let FirstPlans { built, lower } = plans;
+    let cost = built.cost();
+    offer(book, built)?;
     if lower.plan.cost().get() < cost.get() {
-        gate.meet(&lower.plan);
         offer(book, lower.plan.try_clone()?)?;
     }
     Ok(lower)
@@ -207,18 +232,16 @@ impl<'i> Opening<'i> {
         ensures refused { IfErr result (λ e. (e ≡ Memory) ⊎ (e ≡ LabelLimit)) }
     {
         let Begun { start, tree } = begun;
-        let plan = first_plan(alloc, instance, gate, start)?;
-        let root = first_root(
-            alloc,
-            instance,
-            settings,
-            nearness,
-            plan.as_ref(),
-            tree.is_some(),
-        )?;
+        let plans = first_plans(rt, alloc, instance, gate, start)?;
+        let built = match &plans {
+            Some(plans) => Some(&plans.built),
+            None => None,
+        };
+        let has_tree = tree.is_some();
+        let root = first_root(alloc, instance, settings, nearness, built, has_tree)?;
         let mut book = open_book(alloc, root, settings.sets)?;
-        let plan = match plan {
-            Some(plan) => Some(offer_both(rt, alloc, gate, &mut book, plan)?),
+        let plan = match plans {
+            Some(plans) => Some(offer_both(&mut book, plans)?),
             None => None,
         };
         let tree = regrow(alloc, nearness, &mut book, tree, settings.labels)?;

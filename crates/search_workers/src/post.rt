@@ -7,20 +7,14 @@ use rand_xoshiro::Xoshiro256PlusPlus;
 use run_settings::Settings;
 use search::HeldPlan;
 use std::sync::Wait;
-use worker_turns::{Gate, Nodes, Worker, bound_worker, search_worker};
+use worker_turns::{Gate, Nodes, Worker, lending_worker};
 
-/// What a worker does.
+/// What a worker begins with: a plan, random words, and nodes. By its number it searches first or raises the bound.
 #[derive(Drop)]
-pub(crate) enum Role<'a, 'i> {
-    /// It looks for plans, from this one on, with these random words.
-    Search {
-        plan: Option<HeldPlan<'i>>,
-        random: Xoshiro256PlusPlus,
-    },
-    /// It raises the bound at these nodes.
-    Bound {
-        nodes: Nodes<'a>,
-    },
+pub(crate) struct Role<'a, 'i> {
+    pub(crate) plan: Option<HeldPlan<'i>>,
+    pub(crate) random: Xoshiro256PlusPlus,
+    pub(crate) nodes: Nodes<'a>,
 }
 
 /// A worker at a desk with its role: all that it takes into its thread.
@@ -41,12 +35,12 @@ impl<'a, 'i, R: Wait + Sync, J: Naming + Send + Sync, G: Gate + Sync> ThreadWork
             settings,
             role,
         } = self;
-        let _made = match role {
-            Role::Search { plan, random } => {
-                search_worker(&mut worker, plan, settings.turns, random)
-            }
-            Role::Bound { nodes } => bound_worker(&mut worker, settings, nodes),
-        };
+        let Role {
+            plan,
+            random,
+            nodes,
+        } = role;
+        let _made = lending_worker(&mut worker, settings, plan, random, nodes);
         worker.hub.share
     }
 }

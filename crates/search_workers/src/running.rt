@@ -35,7 +35,7 @@ use std::alloc::{AllocError, Global};
 use std::marker::Brand;
 use std::sync::Wait;
 use std::thread::Threads;
-use worker_turns::{Gate, Nodes, Worker};
+use worker_turns::{Gate, Nodes, Team, Worker};
 
 /// How many numbers each deque takes in its life.
 const PUSHES: usize = 1_000_000;
@@ -62,6 +62,7 @@ struct Shared<'a, 'i, R: Wait, J: Naming, G> {
     desk: &'a Desk<'i, J>,
     ceiling: &'a Ceiling,
     deques: &'a [Thief],
+    team: &'a Team,
     begin: &'a Beginning<'i>,
 }
 
@@ -81,39 +82,37 @@ fn deal(
     Ok(())
 }
 
-/// The role of a worker: it raises the bound where it has the end of a deque, else it looks for plans by the random
-/// words of its number.
+/// The role of a worker with the end of a deque of its own: the random words are those of its number, and of a given
+/// tree a bound worker has its part of the leaves.
 fn role_of<'a, 'i, R: Wait, J: Naming, G>(
     shared: &Shared<'a, 'i, R, J, G>,
     number: u16,
-    own: Option<Hand>,
-    pass: Option<Pass>,
+    own: Hand,
+    pass: Pass,
 ) -> Result<Role<'a, 'i>, AllocError>
-    requires { IfSome pass (λ p. All (λ t. FitsAt (deque_at t) p) shared.now.deques.now) }
+    requires { All (λ t. FitsAt (deque_at t) pass) shared.now.deques.now }
     ensures { IfOk result (DrawsFor shared.now.input.now.settings.now.seed number) }
 {
     let input = shared.input;
-    if let (Some(own), Some(pass)) = (own, pass) {
-        let plan = match &shared.begin.plan {
-            Some(held) => Some(&held.plan),
-            None => None,
-        };
-        let mut nodes = Nodes::new(input.alloc, input.nearness, plan, own, shared.deques, pass)?;
-        if let Some(leaves) = &shared.begin.tree.leaves {
-            deal(&mut nodes, leaves.as_slice(), number, input.settings)?;
-        }
-        return Ok(Role::Bound { nodes });
-    }
-    let plan = match &shared.begin.plan {
-        Some(held) => Some(held.try_clone()?),
-        None => None,
+    let (plan, held) = match &shared.begin.plan {
+        Some(held) => (Some(&held.plan), Some(held.try_clone()?)),
+        None => (None, None),
     };
+    let mut nodes = Nodes::new(input.alloc, input.nearness, plan, own, shared.deques, pass)?;
+    let bounds = u32::from(number) >= input.settings.searchers;
+    if let (true, Some(leaves)) = (bounds, &shared.begin.tree.leaves) {
+        deal(&mut nodes, leaves.as_slice(), number, input.settings)?;
+    }
     let random = generator(input.settings.seed, number);
-    Ok(Role::Search { plan, random })
+    Ok(Role {
+        plan: held,
+        random,
+        nodes,
+    })
 }
 
-/// The workers of a run, the last first: a share and a seat for each, in the order of their numbers, and for the last of
-/// them the end of a deque and what they steal by. The workers from 0 on search; the bound workers follow.
+/// The workers of a run, the last first: for each a share, a seat, the end of a deque and what it steals by, in the order
+/// of their numbers. The workers from 0 on search first; the bound workers follow.
 fn post_workers<'a, 'i, R: Wait, J: Naming, G>(
     shared: &Shared<'a, 'i, R, J, G>,
     mut shares: Vec<Share<J>>,
@@ -123,6 +122,8 @@ fn post_workers<'a, 'i, R: Wait, J: Naming, G>(
 ) -> Result<Vec<ReadyWorker<'a, 'i, R, J, G>>, AllocError>
     requires few { vec_len shares ≤ 2 ^ 16 }
     requires seats { vec_len seats ≡ vec_len shares }
+    requires hands { vec_len hands ≡ vec_len shares }
+    requires passes { vec_len passes ≡ vec_len shares }
     requires own { All (IsSeatOf shared.now.ceiling.now) seats.items }
     requires fits { All (λ p. All (λ t. FitsAt (deque_at t) p) shared.now.deques.now)
         passes.items }
@@ -130,9 +131,14 @@ fn post_workers<'a, 'i, R: Wait, J: Naming, G>(
 {
     let input = shared.input;
     let mut crew = Vec::with_capacity(input.alloc, shares.len())?;
-    while let (Some(share), Some(seat)) = (shares.pop(), seats.pop()) {
+    while let (Some(share), Some(seat), Some(own), Some(pass)) = (
+        shares.pop(),
+        seats.pop(),
+        hands.pop(),
+        passes.pop(),
+    ) {
         let number = shares.len() as u16;
-        let role = role_of(shared, number, hands.pop(), passes.pop())?;
+        let role = role_of(shared, number, own, pass)?;
         crew.push_reserved(ReadyWorker {
             worker: Worker {
                 alloc: input.alloc,
@@ -147,6 +153,7 @@ fn post_workers<'a, 'i, R: Wait, J: Naming, G>(
                 ceiling: shared.ceiling,
                 seat,
                 left: &shared.begin.tree.left,
+                team: shared.team,
                 enough: input.settings.gap,
             },
             settings: input.settings,
@@ -156,27 +163,30 @@ fn post_workers<'a, 'i, R: Wait, J: Naming, G>(
     Ok(crew)
 }
 
-/// Puts the root into empty deques.
-fn put_root(hands: &mut [Hand]) {
-    for hand in hands.iter_mut() {
+/// Puts the root into the empty deques of the bound workers.
+fn put_root(hands: &mut [Hand], searchers: usize) {
+    for hand in hands.iter_mut().skip(searchers) {
         // An empty deque has room.
         let _ = hand.push(ROOT);
     }
 }
 
-/// The deques of the bound workers. The root stands in each where all begin there.
+/// The deques of all workers. The root stands in those of the bound workers where they begin there.
 fn deques(
     alloc: Global,
-    bounders: usize,
+    workers: usize,
+    searchers: usize,
     at_root: bool,
 ) -> Result<(Vec<Hand>, Vec<Thief>, Vec<Pass>), AllocError>
-    ensures { IfOk result (λ r. All (λ p. All (λ t. FitsAt (deque_at t) p) r.1.items) r.2.items) }
+    ensures fits { IfOk result (λ r. All (λ p. All (λ t. FitsAt (deque_at t) p) r.1.items) r.2.items) }
+    ensures hands { IfOk result (λ r. vec_len r.0 ≡ workers) }
+    ensures passes { IfOk result (λ r. vec_len r.2 ≡ workers) }
 {
-    let Ok((mut hands, thieves, passes)) = Pool::new(alloc, bounders, PUSHES) else {
+    let Ok((mut hands, thieves, passes)) = Pool::new(alloc, workers, PUSHES) else {
         return Err(AllocError);
     };
     if at_root {
-        put_root(hands.as_mut_slice());
+        put_root(hands.as_mut_slice(), searchers);
     }
     Ok((hands, thieves, passes))
 }
@@ -201,13 +211,16 @@ fn work_together<'i, R: Threads + Wait + Sync, J: Naming + Send + Sync, G: Gate 
     let Ok((ceiling, seats)) = Ceiling::new(input.alloc, shares.len(), cost, gap.bound.get()) else {
         return Err(RunFault::Memory);
     };
-    let bounders = input.settings.bounders as usize;
-    let (hands, thieves, passes) = deques(input.alloc, bounders, begin.tree.leaves.is_none())?;
+    let at_root = begin.tree.leaves.is_none();
+    let searchers = input.settings.searchers as usize;
+    let (hands, thieves, passes) = deques(input.alloc, shares.len(), searchers, at_root)?;
+    let team = Team::new(!at_root);
     let shared = Shared {
         input,
         desk,
         ceiling: &ceiling,
         deques: thieves.as_slice(),
+        team: &team,
         begin,
     };
     let crew = post_workers(&shared, shares, seats, hands, passes)?;

@@ -1,7 +1,7 @@
 //! Prices at leaves: their values, steps, and the least reduced costs.
 
 use crate::words::{List, OrNone, list_of, pair_of};
-use crate::workers::{tell_bounder, tell_searcher};
+use crate::workers::{tell_bounder, tell_lender, tell_searcher};
 use branching::{Arc, Region};
 use labelling::{Hints, Kept, least, least_by_hints};
 use prices::{Priced, improve};
@@ -138,6 +138,15 @@ pub(crate) fn tell_leaf(
                 instance,
                 leaf,
                 [number, turns, labels, room, how],
+            )
+        }
+        ("lender", [crew, number, turns, tree, how]) => {
+            tell_lender(
+                alloc,
+                told,
+                instance,
+                leaf,
+                [crew, number, turns, tree, how],
             )
         }
         ("searcher", [first, fault, bound]) => {

@@ -116,7 +116,7 @@ fn tell_held<R: AllocGlobal + Threads + Wait + Sync>(
         ["alone"] => tell_alone(alloc, told, instance),
         ["build", mu, lambda, a1] => tell_build(alloc, told, instance, [mu, lambda, a1]),
         [
-            call @ ("leaf" | "least" | "met" | "steps" | "bounder" | "searcher"),
+            call @ ("leaf" | "least" | "met" | "steps" | "bounder" | "lender" | "searcher"),
             region,
             neighbours,
             prices,

@@ -5,19 +5,21 @@ ghost use Rattle.node_pool.specs.Deques.{FitsAt};
 ghost use Rattle.node_pool.specs.Ends.{deque_at};
 
 use crate::fake::{Counts, Fake};
+use crate::words::pair_of;
 use ceiling::Ceiling;
 use incumbent_book::BookFault;
 use node_pool::{Hand, Pass, Pool, Thief};
 use prices::Priced;
 use search_workers::{
-    LeavesLeft, Nearness, Nodes, Settings, Worker, bound_worker, generator, search_worker,
+    LeavesLeft, Nearness, Nodes, Settings, Team, Worker, bound_worker, generator, lending_worker,
+    search_worker,
 };
 use solomon_reader::Instance;
 use std::alloc::Global;
 use std::sync::atomic::Ordering;
 
 /// The nodes of the worker at the second of two deques: its own has the root, the other where the worker is to steal
-/// it, or both.
+/// it, or both, or none.
 fn second_nodes<'p>(
     alloc: Global,
     nearness: &'p Nearness<'p>,
@@ -30,7 +32,7 @@ fn second_nodes<'p>(
 {
     let mut own = hands.pop()?;
     let mut other = hands.pop()?;
-    if how != "stolen" {
+    if how != "stolen" && how != "none" {
         own.push(0).ok()?;
     }
     if how == "stolen" || how == "both" {
@@ -54,12 +56,22 @@ struct Done {
     ended: usize,
 }
 
-/// Turns of a worker at a hub, one that raises the bound where it has nodes, else one that looks for plans without
-/// a first one. The words for cost and bound hold 1000 and this bound at first.
+/// What a worker does.
+#[derive(Drop)]
+enum Role<'p> {
+    /// It looks for plans, without a first one.
+    Search,
+    /// It raises the bound at these nodes.
+    Bound(Nodes<'p>),
+    /// It lends a hand, at a tree that is split or isn't.
+    Lend(Nodes<'p>, bool),
+}
+
+/// Turns of a worker at a hub. The words for cost and bound hold 1000 and this bound at first.
 fn turns_over<'i>(
     instance: &'i Instance,
     hub: Fake<'i>,
-    nodes: Option<Nodes<'_>>,
+    role: Role<'_>,
     (number, bound): (u16, u64),
     settings: &Settings,
     alloc: Global,
@@ -72,6 +84,8 @@ fn turns_over<'i>(
         return None;
     };
     let left = LeavesLeft::of_all();
+    let team = Team::new(matches!(role, Role::Lend(_, true)));
+    let random = generator(1, number);
     let mut worker = Worker {
         alloc,
         instance,
@@ -81,11 +95,13 @@ fn turns_over<'i>(
         ceiling: &ceiling,
         seat,
         left: &left,
+        team: &team,
         enough: 0,
     };
-    let turns = match nodes {
-        Some(nodes) => bound_worker(&mut worker, settings, nodes),
-        None => search_worker(&mut worker, None, settings.turns, generator(1, number)),
+    let turns = match role {
+        Role::Search => search_worker(&mut worker, None, settings.turns, random),
+        Role::Bound(nodes) => bound_worker(&mut worker, settings, nodes),
+        Role::Lend(nodes, _) => lending_worker(&mut worker, settings, None, random, nodes),
     };
     Some(Done {
         turns,
@@ -134,10 +150,45 @@ pub(crate) fn tell_bounder<'i>(
     let nearness = Nearness::new(alloc, instance, settings.neighbours).ok()?;
     let nodes = second_nodes(alloc, &nearness, hands, deques, passes, how)?;
     let number = (number.parse().ok()?, 0);
-    let done = turns_over(instance, hub, Some(nodes), number, &settings, alloc)?;
+    let done = turns_over(instance, hub, Role::Bound(nodes), number, &settings, alloc)?;
     let (turns, raises, looked) = (done.turns, done.raises, done.looked);
     write!(told, "turns {turns} raises {raises} looked {looked}").ok()?;
     writeln!(told, " stolen {} ended {}", done.stolen, done.ended).ok()
+}
+
+/// Tells what the worker of a number does that lends a hand, in a crew of so many searchers and bound workers, at the
+/// second of two deques, in so many turns at a tree that is split or whole.
+pub(crate) fn tell_lender<'i>(
+    alloc: Global,
+    told: &mut String,
+    instance: &'i Instance,
+    leaf: Priced<'i>,
+    [crew, number, turns, tree, how]: [&str; 5],
+) -> Option<()> {
+    let (searchers, bounders) = pair_of(crew)?;
+    let hub = Fake::new(leaf);
+    let mut settings = Settings::default();
+    settings.searchers = searchers.into();
+    settings.bounders = bounders.into();
+    settings.turns = turns.parse().ok()?;
+    let Ok((hands, deques, passes)) = Pool::new(alloc, 2, 100) else {
+        return None;
+    };
+    let deques = deques.as_slice();
+    let nearness = Nearness::new(alloc, instance, settings.neighbours).ok()?;
+    let nodes = second_nodes(alloc, &nearness, hands, deques, passes, how)?;
+    let role = Role::Lend(nodes, tree == "split");
+    let number = (number.parse().ok()?, 0);
+    let done = turns_over(instance, hub, role, number, &settings, alloc)?;
+    let (turns, offers, raises) = (done.turns, done.offers, done.raises);
+    write!(told, "turns {turns} offers {offers} raises {raises}").ok()?;
+    let (looked, stolen) = (done.looked, done.stolen);
+    writeln!(
+        told,
+        " looked {looked} stolen {stolen} ended {}",
+        done.ended
+    )
+    .ok()
 }
 
 /// Tells what a worker does in five turns that looks for plans, where from this offer on each is refused so.
@@ -153,7 +204,7 @@ pub(crate) fn tell_searcher<'i>(
     let mut settings = Settings::default();
     settings.turns = 5;
     let number = (0, bound.parse().ok()?);
-    let done = turns_over(instance, hub, None, number, &settings, alloc)?;
+    let done = turns_over(instance, hub, Role::Search, number, &settings, alloc)?;
     let (turns, offers, offered) = (done.turns, done.offers, done.offered);
     writeln!(
         told,

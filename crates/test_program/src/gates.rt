@@ -18,6 +18,9 @@ const WORKERS: u16 = 4;
 /// The turns of each.
 const TURNS: u32 = 3;
 
+/// The turns of each where they lend a hand: behind 100 that made its plan no cheaper a searcher does.
+const TURNS_OF_LENDING: u32 = 130;
+
 /// How often the others end a turn.
 const ENDS: usize = (WORKERS as usize - 1) * TURNS as usize;
 
@@ -165,9 +168,21 @@ pub(crate) fn tell_held<R: Runtime + AllocGlobal + Threads + Wait + Sync>(
     Ok(writeln!(told, "")?)
 }
 
+/// Solves the instance of a text in so many turns while workers are held. Tells the cost in tenths, and whether one of
+/// them looked in vain.
+fn tell_cost<R: Runtime + AllocGlobal + Threads + Wait + Sync>(
+    rt: &R,
+    told: &mut String,
+    text: &[u8],
+    turns: u32,
+    holds: &[Hold],
+) -> io::Result<()> {
+    let (cost, was_alone) = cost_held(rt, text, turns, holds);
+    Ok(writeln!(told, "cost {cost:?} was_alone {was_alone}")?)
+}
+
 /// Solves the instance of a file while worker 0 is held at its start until worker 1 has offered, and worker 1 at its
-/// end until worker 0 has started, so that both have to run at once. Tells the cost in tenths, and whether one of
-/// them was alone.
+/// end until worker 0 has started, so that both have to run at once.
 pub(crate) fn tell_meeting<R: Runtime + AllocGlobal + Threads + Wait + Sync>(
     rt: &R,
     told: &mut String,
@@ -178,6 +193,26 @@ pub(crate) fn tell_meeting<R: Runtime + AllocGlobal + Threads + Wait + Sync>(
         held_until((0, GatePoint::Start), (Some(1), GatePoint::Offered, 1)),
         held_until((1, GatePoint::End), (Some(0), GatePoint::Start, 1)),
     ];
-    let (cost, was_alone) = cost_held(rt, text.as_slice(), 1, &holds);
-    Ok(writeln!(told, "cost {cost:?} was_alone {was_alone}")?)
+    tell_cost(rt, told, text.as_slice(), 1, &holds)
+}
+
+/// Solves the instance of a file while the searcher 0 is held at its start until the bound worker 2 has split the root,
+/// and that and all others until the searcher has stolen a leaf. Then once more while the bound worker 2 is held at its
+/// start until the other one, 3, has offered a plan.
+pub(crate) fn tell_lending<R: Runtime + AllocGlobal + Threads + Wait + Sync>(
+    rt: &R,
+    told: &mut String,
+    path: &str,
+) -> io::Result<()> {
+    let text = fs::read(rt, path)?;
+    let stolen = (Some(0), GatePoint::Stolen, 1);
+    let until_stolen = [
+        held_until((0, GatePoint::Start), (Some(2), GatePoint::Split, 1)),
+        held_until((1, GatePoint::Start), stolen),
+        held_until((2, GatePoint::Split), stolen),
+        held_until((3, GatePoint::Start), stolen),
+    ];
+    tell_cost(rt, told, text.as_slice(), TURNS_OF_LENDING, &until_stolen)?;
+    let until_offered = [held_until((2, GatePoint::Start), (Some(3), GatePoint::Offered, 1))];
+    tell_cost(rt, told, text.as_slice(), TURNS_OF_LENDING, &until_offered)
 }

@@ -30,7 +30,7 @@ mod texts;
 
 use crate::answers::tell_solving;
 use crate::bounds::tell_bound;
-use crate::gates::{tell_held, tell_meeting};
+use crate::gates::{tell_held, tell_lending, tell_meeting};
 use crate::jobs::tell_job;
 use crate::library::tell_library;
 use crate::runs::{run, tell_printed, tell_unheard};
@@ -73,6 +73,7 @@ where
             worker.parse().unwrap_or(0),
         ),
         ["meeting", path] => tell_meeting(rt, told, path),
+        ["lending", path] => tell_lending(rt, told, path),
         _ => Ok(writeln!(told, "not understood")?),
     }
 }

@@ -9,6 +9,7 @@ use crate::nodes::{Nodes, OpenNode, Taken};
 use crate::pricing::{
     Rules, expected_work, goal_at, has_done_enough, own_limit, pricing_labels, turn_work,
 };
+use crate::trade::is_done_at_root;
 use crate::turn_fault::TurnFault;
 use crate::worker::Worker;
 use labelling::LabelFault;
@@ -30,7 +31,8 @@ fn offer_if_cheaper<'i, H: Hub<'i>, G: Gate>(
     if plan.cost().get() >= worker.target() {
         return Ok(());
     }
-    worker.offer(plan)
+    worker.offer(plan)?;
+    Ok(())
 }
 
 /// Splits a leaf, and keeps both children, which wait for their turn. Where another worker raised the root
@@ -66,7 +68,10 @@ fn split<'i, H: Hub<'i>, G: Gate>(
         start: unused_start,
     };
     worker.left.split();
-    nodes.push_children(first, second)
+    worker.team.split();
+    let kept = nodes.push_children(first, second);
+    worker.pass(GatePoint::Split);
+    kept
 }
 
 /// Offers the plan of a leaf whose region leaves no arc open where it is cheaper than those known, and gives the leaf
@@ -202,22 +207,34 @@ fn work_at<'i, H: Hub<'i>, G: Gate>(
     bring(worker, number, raised, is_raised, rules, nodes)
 }
 
+/// What became of a turn at a leaf.
+#[derive(Clone, Copy, Debug, PartialEq, Eq)]
+enum Found {
+    /// The worker worked at a leaf.
+    Leaf,
+    /// It found none.
+    None,
+    /// There was nothing to be done, or it was ahead of the turns that it made.
+    Enough,
+}
+
 /// Takes a node, unless there is none, cost and bound are near enough, or the worker is ahead of the turns that
-/// it made; and works at it, unless its value reaches the cost. Answers whether there was one.
+/// it made; and works at it, unless its value reaches the cost.
 fn work_on<'i, H: Hub<'i>, G: Gate>(
     worker: &mut Worker<'_, 'i, H, G>,
     rules: Rules,
     made: u32,
+    tries: u32,
     nodes: &mut Nodes<'_>,
-) -> Result<bool, TurnFault>
+) -> Result<Found, TurnFault>
     ensures words { worker.new.ceiling ≡ worker.old.ceiling }
 {
     if worker.is_closed() || has_done_enough(nodes, made) {
-        return Ok(false);
+        return Ok(Found::Enough);
     }
     let limit = own_limit(worker.gap().bound, worker.target());
-    let Some(taken) = nodes.wait(limit)? else {
-        return Ok(false);
+    let Some(taken) = nodes.wait(limit, tries)? else {
+        return Ok(Found::None);
     };
     if taken.is_stolen {
         worker.pass(GatePoint::Stolen);
@@ -229,61 +246,63 @@ fn work_on<'i, H: Hub<'i>, G: Gate>(
     } else {
         worker.left.finish();
     }
-    Ok(true)
+    Ok(Found::Leaf)
 }
 
-/// Works at one leaf after the other, until it has done what the turns so far are worth.
-fn turn<'i, H: Hub<'i>, G: Gate>(
-    worker: &mut Worker<'_, 'i, H, G>,
+/// A bound worker's nodes, what it goes by, and how many turns it made with them.
+#[derive(Drop)]
+pub(crate) struct Bounding<'p> {
+    nodes: Nodes<'p>,
     rules: Rules,
     made: u32,
-    nodes: &mut Nodes<'_>,
-) -> Result<(), TurnFault>
-    ensures words { worker.new.ceiling ≡ worker.old.ceiling }
-{
-    for _leaf in 0..MOST_LEAVES {
-        if !work_on(worker, rules, made, nodes)? {
-            break;
-        }
-    }
-    Ok(())
 }
 
-/// Makes as many turns as the settings say, or fewer where a refusal of memory or a full history,
-/// tree or deque ends the work, and answers how many.
-///
-/// In each turn the worker takes the open node of its own that has the least value, or steals one where that is well
-/// above the bound, and raises the value of the leaf. It gives the leaf the new prices at the root and where the value
-/// reaches the ceiling, else splits it; a leaf whose value had reached the ceiling is laid aside. Then it takes the next
-/// one, until it has done as much as the turns so far are worth, or ten leaves. The leaves that are open at the end are
-/// left for others to steal.
-/// A refusal of the hub ends the turn. Where the words for cost and bound have met, or are near enough, a turn does
-/// nothing, and where the worker has done more than the turns so far are worth, so that dear pricings don't make the work
-/// endless.
-pub fn bound_worker<'i, H: Hub<'i>, G: Gate>(
-    worker: &mut Worker<'_, 'i, H, G>,
-    settings: &Settings,
-    nodes: Nodes<'_>,
-) -> u32
-    ensures turns { result ≤ settings.now.turns }
-    ensures own { IsSeatOf worker.old.ceiling.now worker.new.seat }
-{
-    let rules = Rules {
-        labels: pricing_labels(settings, nodes.customers),
-        sets: (settings.sets / settings.bounders.max(1)) as usize,
-        place: u32::from(worker.number).saturating_sub(settings.searchers),
-        work: turn_work(nodes.customers).saturating_mul(u64::from(settings.turns)),
-    };
-    let work = expected_work(settings, nodes.customers);
-    let mut nodes = nodes.for_work(work);
-    for made in 0..settings.turns {
-        worker.pass(GatePoint::Start);
-        let done = turn(worker, rules, made, &mut nodes);
-        worker.end_turn();
-        if let Err(TurnFault::EndsWork) = done {
-            return made + 1;
+impl<'p> Bounding<'p> {
+    /// These nodes, for a worker of this place among the bound workers, or behind them.
+    pub(crate) fn new(settings: &Settings, place: u32, nodes: Nodes<'p>) -> Bounding<'p> {
+        let customers = nodes.customers;
+        let rules = Rules {
+            labels: pricing_labels(settings, customers),
+            sets: (settings.sets / settings.bounders.max(1)) as usize,
+            place,
+            work: turn_work(customers).saturating_mul(u64::from(settings.turns)),
+        };
+        let work = expected_work(settings, customers);
+        Bounding {
+            nodes: nodes.for_work(work),
+            rules,
+            made: 0,
         }
     }
-    nodes.leave();
-    settings.turns
+
+    /// Whether the worker has done its part at the root.
+    pub(crate) fn is_done_at_root(&self) -> bool {
+        is_done_at_root(self.rules.place, self.made)
+    }
+
+    /// Leaves the open nodes for others to steal.
+    pub(crate) fn leave(&mut self) {
+        self.nodes.leave();
+    }
+
+    /// Works at one leaf after the other, until it has done what the turns so far are worth, and answers whether there
+    /// was something to be done. It tries so often to find one.
+    pub(crate) fn turn<'i, H: Hub<'i>, G: Gate>(
+        &mut self,
+        worker: &mut Worker<'_, 'i, H, G>,
+        tries: u32,
+    ) -> Result<bool, TurnFault>
+        ensures words { worker.new.ceiling ≡ worker.old.ceiling }
+    {
+        let made = self.made;
+        self.made = made.saturating_add(1);
+        for leaf in 0..MOST_LEAVES {
+            match work_on(worker, self.rules, made, tries, &mut self.nodes)? {
+                Found::Leaf => {}
+                Found::None => return Ok(leaf > 0),
+                Found::Enough => return Ok(true),
+            }
+        }
+        Ok(true)
+    }
 }

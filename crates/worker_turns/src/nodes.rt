@@ -28,9 +28,11 @@ const CUSTOMERS_OF_PATIENCE: u16 = 150;
 /// After this many tries to find a leaf the processor is given away.
 const TRIES_BETWEEN: u32 = 2_000;
 
-/// How often a turn tries to find a leaf, which takes some milliseconds, and how often a worker tries in vain
-/// before its turns try once each.
-const TRIES_OF_TURN: u32 = 50_000;
+/// How often a turn of a bound worker tries to find a leaf, which takes about as long as a turn's work, and how often one
+/// in which a worker lends a hand; and how often a worker tries in vain before its turns try once each.
+pub(crate) const TRIES_OF_TURN: u32 = 200_000;
+
+pub(crate) const TRIES_OF_HAND: u32 = 40_000;
 
 const MOST_TRIES: u32 = 5_000_000;
 
@@ -286,22 +288,23 @@ impl<'p> Nodes<'p> {
 
     /// Puts the open leaves into the worker's own deque, for others to steal, as far as it takes them.
     pub(crate) fn leave(&mut self) {
-        for node in &self.open {
+        for _node in 0..self.open.len() {
+            let Some(node) = self.open.pop() else {
+                return;
+            };
             if self.own.push(node.number).is_err() {
+                // It has just made room for the node.
+                let _ = self.open.push(node);
                 return;
             }
         }
     }
 
     /// Takes a node, one of another worker first where the worker's own have values above a limit. Where there is
-    /// none, it tries again and again to steal one that another shares, and now and then gives the processor away,
-    /// so that idle turns aren't used up before the others have leaves to share.
-    pub(crate) fn wait(&mut self, limit: i128) -> Result<Option<Taken>, TurnFault> {
-        let tries = if self.missed < MOST_TRIES {
-            TRIES_OF_TURN
-        } else {
-            1
-        };
+    /// none, it tries so often to steal one that another shares, and now and then gives the processor away, so that
+    /// idle turns aren't used up before the others have leaves to share.
+    pub(crate) fn wait(&mut self, limit: i128, tries: u32) -> Result<Option<Taken>, TurnFault> {
+        let tries = if self.missed < MOST_TRIES { tries } else { 1 };
         for _try in 0..tries {
             if let Some(taken) = self.take(limit)? {
                 self.missed = 0;

@@ -1,10 +1,11 @@
 //! A worker that looks for plans.
 
-ghost use Rattle.std.specs.Prelude.{◌≡◌, ◌≤◌};
-ghost use Rattle.ceiling.specs.Seats.{IsSeatOf};
+ghost use Rattle.std.specs.Prelude.{◌≡◌};
 
 use crate::gate::{Gate, GatePoint};
 use crate::hub::Hub;
+use crate::team::Team;
+use crate::trade::is_stale;
 use crate::turn_fault::TurnFault;
 use crate::worker::Worker;
 use insertion::{Weights, build_whole};
@@ -101,71 +102,94 @@ fn seek<'i, R: Rng + Drop>(
     }
 }
 
-/// Offers a copy of the plan, if there is one.
+/// Offers a copy of the plan, if there is one. Where it has just become cheaper and another worker's costs as little, all
+/// are told.
 fn offer<'i, H: Hub<'i>, G: Gate, R: Rng + Drop>(
     worker: &mut Worker<'_, 'i, H, G>,
     search: &Search<'i, R>,
+    is_cheaper: bool,
 ) -> Result<(), TurnFault>
     ensures words { worker.new.ceiling ≡ worker.old.ceiling }
 {
     let Some(plan) = search.plan() else {
         return Ok(());
     };
-    worker.offer(plan.try_clone()?)?;
+    let cost = plan.cost().get();
+    let is_first = worker.offer(plan.try_clone()?)?;
+    if is_first {
+        worker.team.disagree();
+    } else if is_cheaper && cost == worker.target() {
+        worker.team.agree(cost);
+    }
     worker.pass(GatePoint::Offered);
     Ok(())
 }
 
-/// What the worker has after a turn, unless that ended its work. Where cost and bound have met, or are
-/// near enough, it has what it had.
-fn turn<'i, H: Hub<'i>, G: Gate, R: Rng + Drop>(
-    worker: &mut Worker<'_, 'i, H, G>,
+/// A worker's search, how many turns it made, and how many of these in a row made its plan no cheaper.
+#[derive(Drop)]
+pub(crate) struct Searching<'i, R> {
     search: Search<'i, R>,
-    pace: Pace,
-) -> Option<Search<'i, R>>
-    ensures words { worker.new.ceiling ≡ worker.old.ceiling }
-{
-    if worker.is_closed() {
-        if search.plan().is_some() {
-            worker.pass(GatePoint::Offered);
-        }
-        return Some(search);
-    }
-    let Ok(search) = seek(worker.alloc, worker.instance, search, pace) else {
-        return None;
-    };
-    match offer(worker, &search) {
-        Ok(()) | Err(TurnFault::EndsTurn) => Some(search),
-        Err(TurnFault::EndsWork) => None,
-    }
+    made: u32,
+    idle: u32,
 }
 
-/// Makes this many turns, or fewer where a refusal of memory or a full history ends the work, and
-/// answers how many.
-///
-/// In each turn the worker makes a turn of a searcher, whose temperature falls twice over all of them, and offers
-/// the plan that it has then. Where it has none, it builds one with drawn weights; where that leaves customers
-/// out, it goes on with a search from which they are absent, until it meets a plan. A refusal of the hub ends
-/// the turn, and the worker keeps its plan. Where the words for cost and bound have met,
-/// or are near enough, a turn does nothing.
-pub fn search_worker<'i, H: Hub<'i>, G: Gate, R: Rng + Drop>(
-    worker: &mut Worker<'_, 'i, H, G>,
-    plan: Option<HeldPlan<'i>>,
-    turns: u32,
-    random: R,
-) -> u32
-    ensures turns { result ≤ turns }
-    ensures own { IsSeatOf worker.old.ceiling.now worker.new.seat }
-{
-    let mut search = Search::Beginning(plan, random);
-    for made in 0..turns {
-        worker.pass(GatePoint::Start);
-        let left = turn(worker, search, Pace { made, turns });
-        worker.end_turn();
-        let Some(next) = left else {
-            return made + 1;
-        };
-        search = next;
+impl<'i, R: Rng + Drop> Searching<'i, R> {
+    /// A search from this plan, if there is one, by these random words.
+    pub(crate) fn new(plan: Option<HeldPlan<'i>>, random: R) -> Searching<'i, R> {
+        Searching {
+            search: Search::Beginning(plan, random),
+            made: 0,
+            idle: 0,
+        }
     }
-    turns
+
+    /// The cost of the plan that the worker has, in tenths.
+    fn cost(&self) -> Option<u64> {
+        match self.search.plan() {
+            Some(plan) => Some(plan.cost().get()),
+            None => None,
+        }
+    }
+
+    /// Whether a plan is there that hasn't become cheaper for long.
+    pub(crate) fn is_stale(&self, team: &Team) -> bool {
+        match self.cost() {
+            Some(cost) => is_stale(self.idle, self.made, team.has_agreed(cost)),
+            None => false,
+        }
+    }
+
+    /// What the worker has after a turn, unless that ended its work. Where cost and bound have met, or are
+    /// near enough, it has what it had.
+    pub(crate) fn turn<H: Hub<'i>, G: Gate>(
+        self,
+        worker: &mut Worker<'_, 'i, H, G>,
+        pace: Pace,
+    ) -> Option<Searching<'i, R>>
+        ensures words { worker.new.ceiling ≡ worker.old.ceiling }
+    {
+        if worker.is_closed() {
+            if self.search.plan().is_some() {
+                worker.pass(GatePoint::Offered);
+            }
+            return Some(self);
+        }
+        let (before, idle, made) = (self.cost(), self.idle, self.made.saturating_add(1));
+        let Ok(search) = seek(worker.alloc, worker.instance, self.search, pace) else {
+            return None;
+        };
+        let mut after = Searching {
+            search,
+            made,
+            idle: 0,
+        };
+        let is_cheaper = after.cost() != before;
+        if !is_cheaper {
+            after.idle = idle.saturating_add(1);
+        }
+        match offer(worker, &after.search, is_cheaper) {
+            Ok(()) | Err(TurnFault::EndsTurn) => Some(after),
+            Err(TurnFault::EndsWork) => None,
+        }
+    }
 }

@@ -6,10 +6,11 @@ ghost use Rattle.ceiling.specs.Seats.{IsSeatOf};
 use crate::gate::{Gate, GatePoint};
 use crate::hub::Hub;
 use crate::leaves_left::LeavesLeft;
+use crate::team::Team;
 use crate::turn_fault::TurnFault;
 use branching::Arc;
 use ceiling::{Ceiling, CeilingSeat};
-use incumbent_book::Gap;
+use incumbent_book::{Gap, Offered};
 use prices::Priced;
 use schedule::Feasible;
 use solomon_reader::Instance;
@@ -36,6 +37,8 @@ pub struct Worker<'a, 'i, H, G> {
     pub seat: CeilingSeat,
     /// How many leaves all workers have left.
     pub left: &'a LeavesLeft,
+    /// What all workers know of each other.
+    pub team: &'a Team,
     /// No work is left once cost and bound are no further apart than this many tenths of a percent of the cost.
     pub enough: u32,
     pub ghost own: { IsSeatOf ceiling.now seat },
@@ -97,15 +100,15 @@ impl<'i, H: Hub<'i>, G: Gate> Worker<'_, 'i, H, G> {
         self.pass(GatePoint::End);
     }
 
-    /// Offers a plan, which the gate meets before.
-    pub(crate) fn offer(&mut self, plan: Feasible<'i>) -> Result<(), TurnFault>
+    /// Offers a plan, which the gate meets before. Answers whether it became the incumbent.
+    pub(crate) fn offer(&mut self, plan: Feasible<'i>) -> Result<bool, TurnFault>
         ensures { self.new.ceiling ≡ self.old.ceiling }
     {
         self.gate.meet(&plan);
         match self.hub.offer(plan) {
-            Ok(told) => {
-                self.move_words(told.1);
-                Ok(())
+            Ok((offered, gap)) => {
+                self.move_words(gap);
+                Ok(matches!(offered, Offered::Better { .. }))
             }
             Err((_, fault)) => Err(TurnFault::from(fault)),
         }
@@ -148,7 +151,6 @@ impl<'i, H: Hub<'i>, G: Gate> Worker<'_, 'i, H, G> {
             Err((_, _, fault)) => return Err(TurnFault::from(fault)),
         };
         self.move_words(gap);
-        self.pass(GatePoint::Split);
         Ok(numbers)
     }
 }

@@ -9,15 +9,16 @@ use Rattle.search_workers.proofs.running.post_workers.Goals as goal
 -- the pass that is taken fits
 pub role_of-requires : goal.role_of-requires
 role_of-requires g c =
-    (All-pop (λ p. All (λ t. FitsAt (deque_at t) p) c.args.shared.now.deques.now) c.loop-share.passes.items c.pop-in-Some-Some-2.new.self.items
-    c.pop-in-Some-Some-2.result c.pop-in-Some-Some-2.ensures.items c.loop-share.invariant.4).1
+    let taken = (All-pop (λ p. All (λ t. FitsAt (deque_at t) p) c.args.shared.now.deques.now) c.loop-share.passes.items c.pop-in-loop-share-3.new.self.items
+    c.pop-in-loop-share-3.result c.pop-in-loop-share-3.ensures.items c.loop-share.invariant.6).1 in
+    rw c.in-Some-Some-Some-Some.is-3 at taken
 
 -- the seat that is taken is one of these words
 pub invariant_of-push_reserved : goal.invariant_of-push_reserved
 invariant_of-push_reserved g c =
     let taken = (All-pop (IsSeatOf c.args.shared.now.ceiling.now) c.loop-share.seats.items c.pop-in-loop-share.new.self.items
-    c.pop-in-loop-share.result c.pop-in-loop-share.ensures.items c.loop-share.invariant.3).1 in
-    record { own = rw c.in-Some-Some.is-1 at taken }
+    c.pop-in-loop-share.result c.pop-in-loop-share.ensures.items c.loop-share.invariant.5).1 in
+    record { own = rw c.in-Some-Some-Some-Some.is-1 at taken }
 
 pub loop-share-preserved : goal.loop-share-preserved
 loop-share-preserved g c =
@@ -25,7 +26,9 @@ loop-share-preserved g c =
       search rules,
       search rules,
       search rules,
-      (All-pop (IsSeatOf c.args.shared.now.ceiling.now) c.loop-share.seats.items c.pop-in-loop-share.new.self.items c.pop-in-loop-share.result c.pop-in-loop-share.ensures.items was.3).0,
-      (All-pop (λ p. All (λ t. FitsAt (deque_at t) p) c.args.shared.now.deques.now) c.loop-share.passes.items c.pop-in-Some-Some-2.new.self.items
-          c.pop-in-Some-Some-2.result c.pop-in-Some-Some-2.ensures.items was.4).0,
+      search rules,
+      search rules,
+      (All-pop (IsSeatOf c.args.shared.now.ceiling.now) c.loop-share.seats.items c.pop-in-loop-share.new.self.items c.pop-in-loop-share.result c.pop-in-loop-share.ensures.items was.5).0,
+      (All-pop (λ p. All (λ t. FitsAt (deque_at t) p) c.args.shared.now.deques.now) c.loop-share.passes.items c.pop-in-loop-share-3.new.self.items
+          c.pop-in-loop-share-3.result c.pop-in-loop-share-3.ensures.items was.6).0,
     )

@@ -11,6 +11,8 @@ invariant-loop-share g l =
     (vec_len l.crew + vec_len l.shares ≡ vec_len l.fn.shares)
     × (vec_len l.fn.shares ≤ vec_capacity l.crew)
     × (vec_len l.seats ≡ vec_len l.shares)
+    × (vec_len l.hands ≡ vec_len l.shares)
+    × (vec_len l.passes ≡ vec_len l.shares)
     × All (IsSeatOf l.shared.ceiling.now) l.seats.items
     × All (λ p. All (λ t. FitsAt (deque_at t) p) l.shared.deques.now) l.passes.items
 
