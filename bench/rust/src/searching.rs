@@ -11,7 +11,7 @@ use std::time::Instant;
 fn seek<'i>(instance: &'i Instance, turns: u32, random: Generator) -> (Option<Searcher<'i, Generator>>, u32) {
     let mut seeker = Seeker::new(Global, instance, random).unwrap();
     for made in 0..turns {
-        if let Some(plan) = seeker.turn(Pace { made, turns }).unwrap() {
+        if let Some(plan) = seeker.turn(Pace::of_run(made, turns)).unwrap() {
             return (Some(seeker.into_searcher(plan)), made + 1);
         }
     }
@@ -35,7 +35,7 @@ pub fn tell(instance: &Instance, turns: u32, seed: u64) {
     }
     searcher.descend().unwrap();
     for turn in first + 1..=turns {
-        searcher.keep_pace(Pace { made: turn - 1, turns });
+        searcher.keep_pace(Pace::of_run(turn - 1, turns));
         searcher.turn().unwrap();
         let cost = searcher.plan().cost().get();
         if turn % turns.div_ceil(10) == 0 || turn == turns {

@@ -49,7 +49,7 @@ impl<'i> Way<'i> {
             let held = HeldPlan { plan: opened_with(self.instance), is_optimum: true };
             let mut searcher = Searcher::holding(Global, held, Generator::of_seed(self.seed));
             for made in 0..self.made.len() as u32 {
-                searcher.keep_pace(Pace { made, turns: self.turns });
+                searcher.keep_pace(Pace::of_run(made, self.turns));
                 searcher.turn().unwrap();
             }
             self.searcher = Some(searcher);
@@ -63,7 +63,7 @@ impl<'i> Way<'i> {
             Some(cost) => *cost,
             None => {
                 let searcher = self.begun();
-                searcher.keep_pace(Pace { made, turns });
+                searcher.keep_pace(Pace::of_run(made, turns));
                 searcher.turn().unwrap();
                 searcher.plan().cost().get()
             }

@@ -55,7 +55,7 @@ fn take_turn<'i, R: Rng + Drop>(searcher: &mut Searcher<'i, R>, made: u32)
     ensures cost { (plan_of searcher.new).cost ≤ (plan_of searcher.old).cost }
 {
     let turns = TURNS;
-    searcher.keep_pace(Pace { made, turns });
+    searcher.keep_pace(Pace::of_run(made, turns));
     let _ = searcher.turn();
 }
 

@@ -15,26 +15,57 @@ use solomon_reader::Instance;
 use std::alloc::{AllocError, Global};
 use std::thread::Threads;
 
-/// How far a run of turns is: how many were made before the next one, of how many.
+/// How far a run of turns is: how many were made before the next one, of how many. The next call makes that one whole, or
+/// one of its parts.
 #[derive(Clone, Copy)]
 pub struct Pace {
     /// The turns made.
     pub made: u32,
     /// All turns.
     pub turns: u32,
+    /// The parts made of the next turn.
+    part: u32,
+    /// All its parts.
+    parts: u32,
 }
 
 impl Pace {
-    /// A run of one turn.
-    pub(crate) const fn alone() -> Pace {
-        Pace { made: 0, turns: 1 }
+    /// A run of so many turns, some of which were made. A call makes a whole turn. No contract: a pace decides only how
+    /// warm a search is and when a call ends.
+    pub const fn of_run(made: u32, turns: u32) -> Pace {
+        Pace {
+            made,
+            turns,
+            part: 0,
+            parts: 1,
+        }
     }
 
-    /// The progress after some of the turns, each of the given number of steps.
-    fn after(self, made: u64, work: u64) -> Progress {
+    /// A run of one turn.
+    pub(crate) const fn alone() -> Pace {
+        Pace::of_run(0, 1)
+    }
+
+    /// The same where a call makes a part of the next turn, of so many, some of which were made. No contract, as for
+    /// `of_run`.
+    pub const fn in_parts(self, part: u32, parts: u32) -> Pace {
+        Pace {
+            part,
+            parts,
+            ..self
+        }
+    }
+
+    /// How many calls so many turns take.
+    fn calls(self, turns: u32) -> u64 {
+        u64::from(turns).saturating_mul(u64::from(self.parts.max(1)))
+    }
+
+    /// The progress after so many calls, each of so many steps.
+    fn after(self, calls: u64, steps: u64) -> Progress {
         Progress {
-            done: made.saturating_mul(work),
-            whole: u64::from(self.turns).saturating_mul(work),
+            done: calls.saturating_mul(steps),
+            whole: self.calls(self.turns).saturating_mul(steps),
         }
     }
 }
@@ -84,18 +115,19 @@ pub(crate) fn whole_plan<'i>(
     }
 }
 
-/// Lets a search do the work of a turn. No contract: its routes are checked.
+/// Lets a search do the work of a turn, or of its part. No contract: its routes are checked.
 pub(crate) fn work<R: Rng>(
     search: &mut RuinSearch<'_>,
     instance: &Instance,
     random: &mut R,
     pace: Pace,
 ) {
-    let work = STEPS_OF_CUSTOMER.saturating_mul(u64::from(instance.customer_count()));
-    let made = u64::from(pace.made);
-    let from = pace.after(made, work);
-    let to = pace.after(made + 1, work);
-    search.search(random, work, from, to);
+    let turn = STEPS_OF_CUSTOMER.saturating_mul(u64::from(instance.customer_count()));
+    let steps = turn / u64::from(pace.parts.max(1));
+    let calls = pace.calls(pace.made).saturating_add(u64::from(pace.part));
+    let from = pace.after(calls, steps);
+    let to = pace.after(calls.saturating_add(1), steps);
+    search.search(random, steps, from, to);
 }
 
 /// A search that begins with the routes of a plan.

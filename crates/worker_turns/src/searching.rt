@@ -38,13 +38,24 @@ impl<'i, R: Rng + Drop> Search<'i, R> {
     }
 }
 
-/// Makes a turn of a searcher.
-fn go_on<'i, R: Rng + Drop>(
+/// A turn has so many parts, so that it ends soon where cost and bound meet meanwhile.
+const PARTS_OF_TURN: u32 = 4;
+
+/// Makes a turn of a searcher, or as much of it as is made until cost and bound have met.
+fn go_on<'i, H: Hub<'i>, G: Gate, R: Rng + Drop>(
+    worker: &mut Worker<'_, 'i, H, G>,
     mut searcher: Searcher<'i, R>,
     pace: Pace,
-) -> Result<Search<'i, R>, TurnFault> {
-    searcher.keep_pace(pace);
-    searcher.turn()?;
+) -> Result<Search<'i, R>, TurnFault>
+    ensures words { worker.new.ceiling ≡ worker.old.ceiling }
+{
+    for part in 0..PARTS_OF_TURN {
+        searcher.keep_pace(pace.in_parts(part, PARTS_OF_TURN));
+        searcher.turn()?;
+        if worker.is_closed() {
+            break;
+        }
+    }
     Ok(Search::Improving(searcher))
 }
 
@@ -71,34 +82,37 @@ fn seek_first<'i, R: Rng + Drop>(
 
 /// Begins with a descent from the plan, unless it is known as a local optimum, and a turn from there; or looks for a
 /// first plan.
-fn begin<'i, R: Rng + Drop>(
-    alloc: Global,
-    instance: &'i Instance,
+fn begin<'i, H: Hub<'i>, G: Gate, R: Rng + Drop>(
+    worker: &mut Worker<'_, 'i, H, G>,
     plan: Option<HeldPlan<'i>>,
     random: R,
     pace: Pace,
-) -> Result<Search<'i, R>, TurnFault> {
+) -> Result<Search<'i, R>, TurnFault>
+    ensures words { worker.new.ceiling ≡ worker.old.ceiling }
+{
+    let (alloc, instance) = (worker.alloc, worker.instance);
     match plan {
         Some(held) => {
             let mut searcher = Searcher::holding(alloc, held, random);
             searcher.descend()?;
-            go_on(searcher, pace)
+            go_on(worker, searcher, pace)
         }
         None => seek_first(alloc, instance, Seeker::new(alloc, instance, random)?, pace),
     }
 }
 
 /// Looks for a plan once, from the one that the worker has or from nothing.
-fn seek<'i, R: Rng + Drop>(
-    alloc: Global,
-    instance: &'i Instance,
+fn seek<'i, H: Hub<'i>, G: Gate, R: Rng + Drop>(
+    worker: &mut Worker<'_, 'i, H, G>,
     search: Search<'i, R>,
     pace: Pace,
-) -> Result<Search<'i, R>, TurnFault> {
+) -> Result<Search<'i, R>, TurnFault>
+    ensures words { worker.new.ceiling ≡ worker.old.ceiling }
+{
     match search {
-        Search::Improving(searcher) => go_on(searcher, pace),
-        Search::Seeking(seeker) => seek_first(alloc, instance, seeker, pace),
-        Search::Beginning(plan, random) => begin(alloc, instance, plan, random, pace),
+        Search::Improving(searcher) => go_on(worker, searcher, pace),
+        Search::Seeking(seeker) => seek_first(worker.alloc, worker.instance, seeker, pace),
+        Search::Beginning(plan, random) => begin(worker, plan, random, pace),
     }
 }
 
@@ -175,7 +189,7 @@ impl<'i, R: Rng + Drop> Searching<'i, R> {
             return Some(self);
         }
         let (before, idle, made) = (self.cost(), self.idle, self.made.saturating_add(1));
-        let Ok(search) = seek(worker.alloc, worker.instance, self.search, pace) else {
+        let Ok(search) = seek(worker, self.search, pace) else {
             return None;
         };
         let mut after = Searching {

@@ -112,7 +112,7 @@ fn make_turns<'p, 'i, H: Hub<'i>, G: Gate, R: Rng + Drop>(
 {
     for made in 0..turns {
         worker.pass(GatePoint::Start);
-        let done = trades.turn(worker, Pace { made, turns });
+        let done = trades.turn(worker, Pace::of_run(made, turns));
         worker.end_turn();
         if let Err(TurnFault::EndsWork) = done {
             return made + 1;
