@@ -23,7 +23,7 @@ use crate::crew::all_at_once;
 use crate::fault::RunFault;
 use crate::opening::{Beginning, Opening};
 use crate::post::{ReadyWorker, Role};
-use crate::regrown::OpenLeaf;
+use crate::regrown::{OpenLeaf, Regrown};
 use ceiling::{Ceiling, CeilingSeat};
 use desk::{Blanks, Desk, Naming, Share};
 use fronts::Nearness;
@@ -37,8 +37,12 @@ use std::sync::Wait;
 use std::thread::Threads;
 use worker_turns::{Gate, Nodes, Team, Worker};
 
-/// How many numbers each deque takes in its life.
-const PUSHES: usize = 1_000_000;
+/// For how many numbers a deque has room in each turn of its worker, which works at ten leaves and puts some numbers in
+/// at each.
+const PUSHES_OF_TURN: usize = 60;
+
+/// For how many numbers a deque has room at most.
+const MOST_PUSHES: usize = 1_000_000;
 
 /// The number of the root.
 const ROOT: u32 = 0;
@@ -171,10 +175,23 @@ fn put_root(hands: &mut [Hand], searchers: usize) {
     }
 }
 
-/// The deques of all workers. The root stands in those of the bound workers where they begin there.
+/// How many numbers a deque takes in its life: those of its worker's turns, and the open leaves of a given tree.
+fn room_of_deque(settings: &Settings, tree: &Regrown) -> usize {
+    let leaves = match &tree.leaves {
+        Some(leaves) => leaves.len(),
+        None => 0,
+    };
+    (settings.turns as usize)
+        .saturating_mul(PUSHES_OF_TURN)
+        .saturating_add(leaves)
+        .min(MOST_PUSHES)
+}
+
+/// The deques of all workers, each with this room. The root stands in those of the bound workers where they begin there.
 fn deques(
     alloc: Global,
     workers: usize,
+    room: usize,
     searchers: usize,
     at_root: bool,
 ) -> Result<(Vec<Hand>, Vec<Thief>, Vec<Pass>), AllocError>
@@ -182,7 +199,7 @@ fn deques(
     ensures hands { IfOk result (λ r. vec_len r.0 ≡ workers) }
     ensures passes { IfOk result (λ r. vec_len r.2 ≡ workers) }
 {
-    let Ok((mut hands, thieves, passes)) = Pool::new(alloc, workers, PUSHES) else {
+    let Ok((mut hands, thieves, passes)) = Pool::new(alloc, workers, room) else {
         return Err(AllocError);
     };
     if at_root {
@@ -213,7 +230,8 @@ fn work_together<'i, R: Threads + Wait + Sync, J: Naming + Send + Sync, G: Gate 
     };
     let at_root = begin.tree.leaves.is_none();
     let searchers = input.settings.searchers as usize;
-    let (hands, thieves, passes) = deques(input.alloc, shares.len(), searchers, at_root)?;
+    let room = room_of_deque(input.settings, &begin.tree);
+    let (hands, thieves, passes) = deques(input.alloc, shares.len(), room, searchers, at_root)?;
     let team = Team::new(!at_root);
     let shared = Shared {
         input,
