@@ -88,7 +88,8 @@ fn first_plans<'i, R: Threads + Sync, G: Gate>(
     requires { IfSome start (λ f. f.problem ≡ instance.now) }
     ensures plan { IfOk result (λ plans. MatchOption plans (¬ IsServedAlone instance.now)
         (λ f. f.built.problem ≡ instance.now)) }
-    ensures no_dearer { IfOk result (λ plans. IsNoDearer start.entry (option_map (λ f. f.built) plans)) }
+    ensures no_dearer { IfOk result (λ plans. IsNoDearer start.entry
+        (option_map (λ f. f.built) plans)) }
     ensures memory { IfErr result (λ e. e ≡ Memory) }
 {
     let Some(built) = first_plan(alloc, instance, gate, start)? else {
