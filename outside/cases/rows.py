@@ -25,10 +25,13 @@ INSTANCES = {
     "room": instance_text(1, 3, DEPOT, IN_LINE),
     "wide": instance_text(1, 4, DEPOT, IN_LINE),
     "near": instance_text(1, 3, DEPOT, "1 30 40 1 0 1000 0\n2 33 44 1 0 1000 0\n"),
+    "alike": instance_text(1, 3, DEPOT, "1 110 1 1 0 1000 0\n2 110 0 1 0 1000 0\n3 100 0 1 0 1000 0\n"),
     "three": instance_text(2, 2, "0 0 1 0 0 1000 0\n", THREE),
     "many": instance_text(400, 1, DEPOT, MANY),
 }
 
+# alike: as in set_rows.py, with 100,000 more for customer 2 in the place of the set's price.
+#
 # The instance, the certificate's version, customers, neighbours, bound and tree, the solution (none where it is empty)
 # and the line that is printed. A semicolon is a line feed.
 TABLE = """
@@ -56,6 +59,7 @@ few|1|2|8|40.1|P 401000 401000;||NO PLAN
 apart|1|2|8|19.9|S 0 1;P 100000 301000;P 401000 0;||BOUND 19.9
 apart|1|2|8|40.1|S 0 1;P 100000 301000;P 401000 0;||vrptw: check: BoundDiffers 40.1 19.9
 apart|1|2|8|30.0|S 0 1;P 100000 200000;P 401000 0;|Route #1: 2;Route #2: 1;Cost 30.0;|BEST 30.0
+alike|2|3|1|130.0|P 0 1100000 100000;|Route #1: 3 2 1;Cost 221.0;|GAP 221.0 130.0
 three|1|3|8|302.0|P 1000000 1010000 1010000;||BOUND 302.0
 three|1|3|8|401.0|S 1 2;P 0 2010000 2000000;S 2 1;P 0 2010000 2000000;P 1990000 2000000 20000;|Route #1: 2 1;Route #2: 3;Cost 401.0;|BEST 401.0
 three|2|3|8|401.0|P 10000 20000 20000;||BOUND 401.0

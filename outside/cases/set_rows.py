@@ -35,7 +35,17 @@ from cases.rows import DEPOT, INSTANCES, instance_text
 # 1 2 has 40,000 - 50,000, and no other less: the value is 50,000 - 20,000. With 30,000 for 1 and 2 as a set alone, the
 # route 1 enters it once and has -10,000, 1 2 enters it once and has 40,000 - 30,000, 1 3 2 enters it twice and has
 # 60,000 - 60,000: the value is 30,000 - 10,000.
+#
+# alike: the depot and three customers at 1,100, 1,100 and 1,000 tenths from it, one vehicle for all. 3 is 100 from 2,
+# and from 1 the root of 10,100, which is 100, too (101 * 101 is 10,201). So the one neighbour of 3 is 1, by its number;
+# by exact distances it were 2. 1 and 2 are 10 apart, each the neighbour of the other. So 2 3 2 is relaxed: it costs
+# 2,400, has the price 1,000,000 twice and 100,000 for 3, and enters the set of 1 and 2 twice, at 100,000 each time:
+# 2,400,000 - 2,000,000 - 100,000 - 200,000 = 100,000. No other has less: 3 2 3 has 2,200,000 - 1,000,000 - 200,000 -
+# 100,000 = 900,000, and 1 3 1 isn't relaxed. The value is 1,100,000, 100,000 for the one entry needed, and 100,000 for
+# the one route that all demands need: 1,300,000. By version 1's rule it were 1,200,000, without the last; by exact
+# distances 2,100,000, with 3 2 3 in the place of 2 3 2. 3 2 1 costs 1,000 + 100 + 10 + 1,100.
 BY_HAND = {
+    "alike": INSTANCES["alike"],
     "apart": INSTANCES["apart"],
     "three": INSTANCES["three"],
     "slow": instance_text(3, 3, DEPOT, "".join("%d 3 4 1 0 20 10\n" % number for number in (1, 2, 3))),
@@ -48,6 +58,7 @@ BY_HAND = {
 # The instance, the bound, the sets and the tree, the solution (none where it is empty), and the line that is printed,
 # or that of the certificate which is refused and what is said of it. A semicolon is a line feed.
 TABLE = """
+alike|130.0|S 1 1 2;TREE;P 0 1000000 100000;M 1 100000;|Route #1: 3 2 1;Cost 221.0;|GAP 221.0 130.0
 apart|30.0|S 2 1 2;TREE;P 0 100000;M 1 100000;|Route #1: 1;Route #2: 2;Cost 30.0;|BEST 30.0
 apart|30.0|S 2 1 2;TREE;P 100000 200000;M;||BOUND 30.0
 apart|20.0|S 1 1 2;TREE;P 0 100000;M 1 100000;|Route #1: 1;Route #2: 2;Cost 30.0;|GAP 30.0 20.0
@@ -139,17 +150,17 @@ FIRSTS = [("VRPTW-SETS 2", "BadLine line 1"), ("VRPTW-SETS 1 ", "BadLine line 1"
           ("VRPTW-CERT 2", "BadLine line 6")]
 
 
-def certificate_text(count, bound, rest):
-    """A certificate with the lines of a row."""
-    return ("VRPTW-SETS 1\nINSTANCE T\nCUSTOMERS %d\nNEIGHBOURS 8\nBOUND %s\n%sEND\n"
-            % (count, bound, rest.replace(";", "\n")))
+def certificate_text(count, neighbours, bound, rest):
+    """A certificate with the lines of a row, and so many neighbours."""
+    return ("VRPTW-SETS 1\nINSTANCE T\nCUSTOMERS %d\nNEIGHBOURS %d\nBOUND %s\n%sEND\n"
+            % (count, neighbours, bound, rest.replace(";", "\n")))
 
 
 def checked(line):
     """An instance, a certificate and a solution, and what recheck says of them."""
     name, bound, rest, solution, said = line.split("|")
     instance = BY_HAND[name]
-    certificate = certificate_text(instance.count("\n") - 7, bound, rest)
+    certificate = certificate_text(instance.count("\n") - 7, 1 if name == "alike" else 8, bound, rest)
     return "check", instance, certificate, solution.replace(";", "\n"), said
 
 
