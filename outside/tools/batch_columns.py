@@ -14,13 +14,15 @@ WORD = re.compile(r"--[a-z]+(=[0-9]{1,12})?\Z|[0-9]{1,12}\Z")
 LABEL = re.compile(r"([A-Za-z0-9][A-Za-z0-9_-]{0,19}):\Z")
 # What stands between an instance's name and a column's in the name of a step: no name of an instance has it.
 BETWEEN = "@"
+# A name as folders and tables have it.
+NAME = re.compile(r"[A-Za-z0-9_][A-Za-z0-9_.-]*\Z")
 # The option of a step that works in rounds: the program doesn't know it, nor what goes with it.
 SECONDS, NOT_BESIDE = "--seconds", ("--turns", "--close")
 MOST_SEEDS, MOST_JOBS = 1000, 10_000
 
 
 def name_of(word):
-    """A name as folders and tables have it."""
+    """The name of a word as folders and tables have it."""
     name = re.sub(r"[^A-Za-z0-9_.-]", "_", word)
     return name if name[:1].isalnum() else "_" + name
 
@@ -134,7 +136,12 @@ def kept_columns(into):
     path = os.path.join(into, OPTIONS)
     if not os.path.exists(path):
         return None
-    return [column_of(line) for line in content(path).decode(errors="replace").split("\n")[:-1]]
+    found = [column_of(line) for line in content(path).decode(errors="replace").split("\n")[:-1]]
+    for line, column in enumerate(found, 1):
+        wrong = next((word for word in column.words if not WORD.match(word)), None)
+        if wrong is not None:
+            raise Refused("%s: line %d: met %s, wanted options of solve with numbers" % (path, line, quoted(wrong)))
+    return found
 
 
 def joined_columns(into, given):

@@ -6,7 +6,7 @@ from collections import Counter
 
 from reference.texts import shown, tenths
 from tools.batch_columns import name_of
-from tools.tool import listed, quoted
+from tools.tool import Refused, listed, quoted
 
 COLUMNS = ("instance", "customers", "cost", "vehicles", "bound", "gap", "leaves", "seconds", "met at", "status")
 # Before the last of them, where best known costs are given: the cost, and how far above it that of here is.
@@ -90,6 +90,19 @@ def too_low(steps, best):
         step.name, shown(best[step.instance]), step.outcome.bound) for step in steps
             if step.instance in best and step.outcome and step.outcome.bound is not None
             and best[step.instance] < tenths_of(step.outcome.bound)]
+
+
+def demand_agreement(steps, into, kept):
+    """Refuses a plan below a bound of the same instance, or where there is none: one of both verdicts is false."""
+    for group in by_instance(steps):
+        answers = [step for step in group if step.outcome is not None and step.outcome.is_answer()]
+        cheapest = min((step for step in answers if step.outcome.cost is not None),
+                       key=lambda step: tenths_of(step.outcome.cost), default=None)
+        highest = max(answers, key=lambda step: tenths_of(step.outcome.bound), default=None)
+        if cheapest is not None and tenths_of(cheapest.outcome.cost) < tenths_of(highest.outcome.bound):
+            raise Refused("%s: met a plan of %s at %s, and in %s a bound of %s, wanted none below a bound; one of both "
+                          "verdicts is false: without %s all is checked again" % (
+                              into, cheapest.name, cheapest.outcome.cost, highest.name, highest.outcome.bound, kept))
 
 
 def counted_of(number):

@@ -1,5 +1,4 @@
 """The steps of a batch: an instance, a column, a folder, a command that can be run again; and what is known of each."""
-import hashlib
 import os
 import re
 import shutil
@@ -8,11 +7,13 @@ from collections import namedtuple
 from reference.instances import read
 from reference.set_texts import read_either
 from reference.texts import TextFault, read_solution, shown
-from tools.batch_columns import BETWEEN, OPTIONS, name_of
+from tools.batch_columns import BETWEEN, NAME, OPTIONS, name_of
+from tools.foreign import LARGEST, LARGEST_LOG, content, drop, is_own_folder, is_plain, make_own_folder, put
 from tools.judged import judged
+from tools.known import sum_of
 from tools.places import OUTSIDE
 from tools.plans import of_ours
-from tools.tool import Refused, Text, reason_of, make_folder
+from tools.tool import Refused, Text, content as read_file, listed, make_folder, spelled
 
 # The file of a step that has its instance.
 INSTANCE = "instance.txt"
@@ -20,33 +21,16 @@ INSTANCE = "instance.txt"
 SHARED = ("program", "step", OPTIONS)
 # What a step leaves, in the order in which it is brought back: the last one says that it is done.
 ANSWERS = ("plan.txt", "certificate.txt", "line.txt", "errors.txt", "done.txt")
-DONE = re.compile(r"([0-9]{1,3}) ([0-9]{1,12}) (\S{1,255})(?: ([0-9]{1,12}))?\n\Z")
-VERDICT = re.compile(r"(BEST|GAP|BOUND|NO PLAN)( [0-9.]+)?( [0-9.]+)?\n\Z")
+DONE = re.compile(rb"([0-9]{1,3}) ([0-9]{1,12}) (\S{1,255})(?: ([0-9]{1,12}))?\n\Z")
+VERDICT = re.compile(r"(BEST|GAP|BOUND|NO PLAN)( [0-9.]+)?( [0-9.]+)?\Z")
 # What the machine said of a step, as far as it says something.
 MACHINE_LOG = "log.txt"
 # The names of the steps that an engine runs, a line each.
 LIST = "steps.txt"
+# Where earlier versions kept in a step's folder what the check said.
+CHECKED = "checked.txt"
 # The state of a step of which nothing else is known.
 NOT_DONE = "not done"
-
-
-def content(path):
-    """What a file holds; nothing where it isn't there."""
-    try:
-        with open(path, "rb") as file:
-            return file.read()
-    except FileNotFoundError:
-        return b""
-
-
-def put(path, held):
-    """Writes a file whole or not at all."""
-    try:
-        with open(path + ".new", "wb") as file:
-            file.write(held)
-        os.replace(path + ".new", path)
-    except OSError as fault:
-        raise Refused("%s: %s" % (path, reason_of(fault)))
 
 
 class Outcome:
@@ -71,69 +55,79 @@ class Step:
     def path(self, name):
         return os.path.join(self.folder, name)
 
+    def content(self, name, most=LARGEST_LOG):
+        """What a file in its folder holds; nothing where the folder is a link."""
+        return content(self.path(name), most) if is_own_folder(self.folder) else b""
+
     def prepare(self):
         """Puts the instance into its folder. Answers whether another text was solved there before; that goes."""
-        before = content(self.path(INSTANCE))
-        if before == self.held:
-            return False
-        self.clear()
-        os.makedirs(self.folder, exist_ok=True)
-        put(self.path(INSTANCE), self.held)
-        return bool(before)
+        is_other = is_plain(self.path(INSTANCE)) and not self.is_of_this()
+        make_own_folder(self.folder)
+        if not self.is_of_this():
+            self.clear()
+            put(self.path(INSTANCE), self.held)
+        end = self.path(ANSWERS[-1])
+        if os.path.lexists(end) and os.path.getsize(end) and not self.is_done():
+            # The step would else leave it at that.
+            drop(end)
+        return is_other
 
     def clear(self):
         """Takes away what was done, what says so first."""
         self.outcome = None
-        for name in ANSWERS[::-1] + ("checked.txt", MACHINE_LOG):
-            if os.path.exists(self.path(name)):
-                os.remove(self.path(name))
+        for name in ANSWERS[::-1] + (CHECKED, MACHINE_LOG):
+            drop(self.path(name))
 
     def is_of_this(self):
         """Whether the text in the folder is the one that is given."""
-        return content(self.path(INSTANCE)) == self.held
+        return is_plain(self.path(INSTANCE), len(self.held)) and self.content(INSTANCE) == self.held
+
+    def done(self):
+        """What the step says of its end, or None."""
+        return DONE.match(self.content(ANSWERS[-1]))
 
     def is_done(self):
-        return bool(DONE.match(content(self.path("done.txt")).decode(errors="replace")))
+        return self.done() is not None
 
-    def judge(self, program):
+    def judge(self, program, known):
         """Finds out what came of the step. The texts are checked here, by the program here and the instance as it was
-        given; a check of the same texts isn't made again."""
-        status, milliseconds, machine, met = DONE.match(content(self.path("done.txt")).decode()).groups()
+        given; a check that is known isn't made again."""
+        done = self.done()
+        if done is None:
+            # It was taken away meanwhile.
+            return
+        status, milliseconds, machine, met = done.groups()
         if int(status) > 1:
-            told = content(self.path("errors.txt")).decode(errors="replace").split("\n")[0]
-            self.outcome = Outcome("failed: %s" % (told or "status %s" % status))
+            said = self.content("errors.txt").split(b"\n")[0].decode(errors="replace")
+            self.outcome = Outcome("failed: %s" % (spelled(said) or "status %d" % int(status)))
         else:
-            self.outcome = self.checked(program)
-        self.outcome.seconds, self.outcome.machine = int(milliseconds) / 1000, machine
-        if self.outcome.cost is not None and met is not None:
+            self.outcome = self.checked(program, known)
+        self.outcome.seconds, self.outcome.machine = int(milliseconds) / 1000, name_of(machine.decode(errors="replace"))
+        if self.outcome.cost is not None and met is not None and int(met) <= int(milliseconds):
             self.outcome.met = int(met) / 1000
 
-    def checked(self, program):
-        certificate, plan = content(self.path("certificate.txt")), content(self.path("plan.txt"))
+    def checked(self, program, known):
+        certificate, plan = self.content("certificate.txt", LARGEST), self.content("plan.txt", LARGEST)
+        line, fault = self.verdict(program, known, certificate, plan)
+        found = VERDICT.match(line)
         try:
-            leaves = certificate.count(b"\nP ")
-            told = self.verdict(program, certificate, plan)
-        except TextFault as fault:
-            return Outcome("wrong: %s" % fault)
-        found = VERDICT.match(told)
+            bound = read_either(certificate).bound if found else None
+            routes, cost = read_solution(plan) if found and plan else ((), None)
+        except TextFault as told:
+            found, fault = None, str(told)
         if not found:
-            return Outcome("wrong: %s" % told.split("\n")[0])
-        bound = shown(read_either(certificate).bound)
-        routes, cost = read_solution(plan) if plan else ((), None)
-        return Outcome({"BOUND": "OPEN"}.get(found[1], found[1]), None if cost is None else shown(cost), bound, leaves,
-                       len(routes) if routes else None)
+            return Outcome("wrong: %s" % spelled(fault.split("\n")[0]))
+        return Outcome({"BOUND": "OPEN"}.get(found[1], found[1]), None if cost is None else shown(cost), shown(bound),
+                       certificate.count(b"\nP "), len(routes) or None)
 
-    def verdict(self, program, certificate, plan):
-        """What the check says of the texts, kept with their sums."""
-        sums = b" ".join(hashlib.sha256(text).hexdigest().encode() for text in (self.held, certificate, plan))
-        kept = content(self.path("checked.txt"))
-        if kept.startswith(sums + b"\n"):
-            return kept[len(sums) + 1:].decode()
-        put(self.path(INSTANCE), self.held)
-        line, fault = judged(program, self.held, certificate, plan or None)
-        told = (line or fault) + "\n"
-        put(self.path("checked.txt"), sums + b"\n" + told.encode())
-        return told
+    def verdict(self, program, known, certificate, plan):
+        """What the check says of the texts, as it is known, or found out; and its fault."""
+        texts = (self.held, certificate, plan)
+        line, fault = known.verdict(texts), ""
+        if line is None:
+            line, fault = judged(program, self.held, certificate, plan or None)
+            known.note(texts, line)
+        return line, fault
 
 
 class Unread(Step):
@@ -147,8 +141,8 @@ class Unread(Step):
     def prepare(self):
         outcome = self.outcome
         if self.held is not None:
+            make_own_folder(self.folder)
             self.clear()
-            os.makedirs(self.folder, exist_ok=True)
             put(self.path(INSTANCE), self.held)
         self.outcome = outcome
         return False
@@ -165,13 +159,14 @@ class Unread(Step):
 Source = namedtuple("Source", "path held count fault")
 
 
-def source_of(path):
-    """What stands in a file."""
+def source_of(path, held=None):
+    """What stands in a file, or what is held of it."""
     try:
-        text = Text(path)
+        text = Text(path, held=held)
         return Source(path, text.held, of_ours(text, read, "an instance").count, None)
     except Refused as fault:
-        held = content(path) if os.path.isfile(path) and os.access(path, os.R_OK) else None
+        if held is None and os.path.isfile(path) and os.access(path, os.R_OK):
+            held = read_file(path)
         return Source(path, held, "", str(fault).removeprefix(path + ": "))
 
 
@@ -203,17 +198,34 @@ def steps_of(paths, into, columns):
     return steps
 
 
-def standing_steps(into, columns):
-    """The steps that stand in a folder, by the instances as it has them."""
+def standing_source(paths, given):
+    """The instance that stands at one of these paths: the one with the sum of what was given, where that is known."""
+    found = [(path, content(path)) for path in paths if is_plain(path)]
+    for path, held in found:
+        if given in (None, sum_of(held)):
+            return source_of(path, held)
+    return Source(paths[0], None, "", "met another text than was given" if found else "met none, wanted what was given")
+
+
+def standing_steps(into, columns, known):
+    """The steps that stand in a folder, by the instances as they were given here, or as the folder has them; and a note
+    of the latter."""
     if not os.path.isdir(into):
         raise Refused("%s: met no folder, wanted that of a batch" % into)
-    paths = {name.partition(BETWEEN)[0]: os.path.join(into, name, INSTANCE) for name in sorted(os.listdir(into))
-             if os.path.isfile(os.path.join(into, name, INSTANCE))}
-    if not paths:
+    folders = [name for name in sorted(os.listdir(into)) if is_own_folder(os.path.join(into, name))]
+    names = filter(NAME.match, dict.fromkeys(folder.partition(BETWEEN)[0] for folder in folders))
+    sources = {}
+    for name in names:
+        paths = [os.path.join(into, column.step(name), INSTANCE) for column in columns if column.step(name) in folders]
+        if name in known.given and paths or any(map(is_plain, paths)):
+            sources[name] = standing_source(paths, known.given.get(name))
+    if not sources:
         raise Refused("%s: met no step, wanted the folder of a batch" % into)
-    sources = {name: source_of(path) for name, path in paths.items()}
+    others = [name for name in sources if name not in known.given]
     return [(Unread if source.fault else Step)(source, into, name, column)
-            for name, source in sources.items() for column in columns]
+            for name, source in sources.items() for column in columns], [
+        "these instances weren't given on this machine, and are taken as %s has them: %s" % (
+            into, listed(others))] if others else []
 
 
 def lay_out(into, columns, program):
@@ -221,13 +233,16 @@ def lay_out(into, columns, program):
     make_folder(into)
     put(os.path.join(into, OPTIONS), "".join(column.line() for column in columns).encode())
     for name, source in (("program", program), ("step", os.path.join(OUTSIDE, "tools", "step"))):
-        put(os.path.join(into, name), content(source))
+        put(os.path.join(into, name), read_file(source))
         os.chmod(os.path.join(into, name), 0o755)
 
 
-def prepared(steps, into, columns, program):
+def prepared(steps, into, columns, program, known):
     """Lays out the folder of a batch; answers what is noted."""
     lay_out(into, columns, program)
+    for step in steps:
+        if step.held is not None:
+            known.give(step.instance, step.held)
     changed = dict.fromkeys(step.source for step in steps if step.prepare())
     return ["%s has another text than before, and is solved anew" % path for path in changed]
 

@@ -11,9 +11,10 @@ import threading
 from queue import Empty, Queue
 
 from tools.batch_columns import MOST_JOBS, words
-from tools.batching import ANSWERS, LIST, SHARED, content, found_tool, put
+from tools.batching import ANSWERS, LIST, SHARED, found_tool
+from tools.foreign import content, put
 from tools.slurm import Waiting, slurm
-from tools.tool import Refused, Text, count
+from tools.tool import Refused, Text, count, spelled
 
 ENGINES = ("here", "parallel", "slurm")
 LOG = "engine.txt"
@@ -192,7 +193,7 @@ def usable(path, into, connections):
 def not_used(into):
     """What the log says of machines that aren't used."""
     lines = content(os.path.join(into, LOG)).decode(errors="replace").split("\n")
-    return [line for line in lines if NOT_USED in line]
+    return [spelled(line) for line in lines if NOT_USED in line]
 
 
 def folder_there(into):

@@ -5,10 +5,11 @@ import shutil
 import time
 
 from tools.batch_columns import Column
-from tools.batching import DONE, SHARED, content, lay_out, put
+from tools.batching import DONE, SHARED, lay_out
 from tools.engines import PATIENCE, started
+from tools.foreign import LARGEST_LOG, content, is_own_folder, is_plain, put
 from tools.standing import INSTANCE
-from tools.tool import make_folder
+from tools.tool import make_folder, spelled
 
 # What all parts of a round share, beside what steps of a batch do: the tree, the plan to begin with, and how many
 # seconds a part may take.
@@ -18,8 +19,9 @@ TOO_LONG = (124, 137)
 # How often the parts are looked at, in seconds.
 OFTEN = 0.2
 # How far a run came, and what its children took of the processors, by the last line of `times` in a shell.
-PERCENT = re.compile(rb"vrptw: ([0-9]+) % of the turns")
-TIMES = re.compile(rb"([0-9]+)m([0-9.]+)s ([0-9]+)m([0-9.]+)s\n\Z")
+PERCENT = re.compile(rb"vrptw: ([0-9]{1,2}|100) % of the turns")
+TIME = rb"([0-9]{1,9})m([0-9]{1,2}(?:\.[0-9]{1,9})?)s"
+TIMES = re.compile(TIME + rb" " + TIME + rb"\n\Z")
 
 
 class Part:
@@ -28,9 +30,9 @@ class Part:
 
     def __init__(self, folder):
         self.folder = folder
-        done = DONE.match(content(self.path("done.txt")).decode(errors="replace"))
+        done = DONE.match(self.content("done.txt"))
         self.status, self.seconds = (int(done[1]), int(done[2]) / 1000) if done else (None, None)
-        errors = content(self.path("errors.txt"))
+        errors = self.content("errors.txt")
         percents, times = PERCENT.findall(errors), TIMES.search(errors)
         self.percent = int(percents[-1]) if percents else None
         self.spent = sum(60 * int(times[at]) + float(times[at + 1]) for at in (1, 3)) if times else 0.0
@@ -38,9 +40,13 @@ class Part:
     def path(self, name):
         return os.path.join(self.folder, name)
 
+    def content(self, name):
+        """What a file in its folder holds; nothing where the folder is a link."""
+        return content(self.path(name), LARGEST_LOG) if is_own_folder(self.folder) else b""
+
     def has_answer(self):
         """Whether the program said that it came to something."""
-        return self.status in (0, 1) and os.path.exists(self.path("certificate.txt"))
+        return self.status in (0, 1) and is_plain(self.path("certificate.txt"))
 
     def fault(self):
         """Why it came to nothing, in one line."""
@@ -48,9 +54,9 @@ class Part:
             return "it didn't end in time, or its machine was lost"
         if self.status in TOO_LONG:
             return "it took too long"
-        lines = content(self.path("errors.txt")).decode(errors="replace").split("\n")
+        lines = self.content("errors.txt").decode(errors="replace").split("\n")
         said = [line for line in lines if line.startswith("vrptw: ") and "of the turns" not in line]
-        return said[0] if said else "its program ended with status %d" % self.status
+        return spelled(said[0]) if said else "its program ended with status %d" % self.status
 
     def is_out_of_work(self):
         """Whether it ended before its turns were made, since no leaf of it was open any more."""

@@ -6,7 +6,7 @@ import time
 
 from reference.set_texts import MOST_SETS
 from reference.texts import TextFault, read_solution, shown
-from tools.batching import content
+from tools.foreign import content
 from tools.joined import TooMany
 from tools.judged import judged
 from tools.parting import START, TREE, Round

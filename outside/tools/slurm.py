@@ -4,10 +4,12 @@ import re
 import shutil
 import subprocess
 
-from tools.batching import LIST, MACHINE_LOG, content, found_tool, put
+from tools.batching import LIST, MACHINE_LOG, found_tool
+from tools.foreign import content, put
 from tools.tool import Refused
 
 JOBS = "slurm_jobs.txt"
+JOB = re.compile(r"([0-9]{1,18})(?: ([0-9]{1,9}))?\Z")
 # The jobs of one array at most, below what Slurm's default allows.
 MOST_JOBS = 1000
 # A job of an array: the step that its number says. What it and Slurm say stands beside the texts.
@@ -57,8 +59,8 @@ class Jobs:
 
 def jobs_of(into):
     """The jobs of the last call by their numbers, each with the place of its first step among those of the list."""
-    lines = content(os.path.join(into, JOBS)).decode().split("\n")[:-1]
-    return {line.split()[0]: int((line.split() + ["0"])[1]) for line in lines if line.split()}
+    lines = map(JOB.match, content(os.path.join(into, JOBS)).decode(errors="replace").split("\n"))
+    return {found[1]: int(found[2] or 0) for found in lines if found}
 
 
 def still_there(into):
@@ -92,7 +94,7 @@ def told_by(words):
 def states(into):
     """What Slurm says of the steps of the last call, by their names: its queue knows those of some minutes, its
     accounts all, where it keeps some."""
-    jobs, names = jobs_of(into), content(os.path.join(into, LIST)).decode().split("\n")[:-1]
+    jobs, names = jobs_of(into), content(os.path.join(into, LIST)).decode(errors="replace").split("\n")[:-1]
     if not jobs:
         return {}
     told, found = ",".join(jobs), {}
@@ -110,7 +112,7 @@ def note_states(steps, into):
     found = states(into)
     for step in steps:
         if step.outcome is None:
-            log = content(step.path(MACHINE_LOG))
+            log = step.content(MACHINE_LOG)
             logged = next((state for words, state in LOGGED if words in log), step.state)
             step.state = found.get(step.name, logged)
 

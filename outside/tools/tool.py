@@ -10,7 +10,8 @@ from fractions import Fraction
 from tools.places import as_called
 
 NUMBER = re.compile(r"[+-]?([0-9]{1,30}(\.[0-9]{0,30})?|\.[0-9]{1,30})([eE][+-]?[0-9]{1,2})?\Z")
-MOST_SHOWN = 40
+# How much is shown of a word, and of what a program of others said.
+MOST_SHOWN, MOST_SAID = 40, 300
 # The path of standard input and output, and what the former is called.
 STREAM, INPUT = "-", "standard input"
 # Standard output, which may go to a file that is written, too.
@@ -66,9 +67,14 @@ class Cell(str):
 
 def quoted(word):
     """A word between quotes, as it stands where it can be printed; of a long one the beginning."""
-    cut = word if len(word) <= MOST_SHOWN else word[:MOST_SHOWN] + "..."
-    return '"%s"' % "".join(sign if sign.isprintable() and sign != "\\" else sign.encode("unicode_escape").decode()
-                            for sign in cut)
+    return '"%s"' % spelled(word, MOST_SHOWN)
+
+
+def spelled(word, most=MOST_SAID):
+    """A word as it stands where it can be printed; of a long one the beginning."""
+    cut = word if len(word) <= most else word[:most] + "..."
+    return "".join(sign if sign.isprintable() and sign != "\\" else sign.encode("unicode_escape").decode()
+                   for sign in cut)
 
 
 def listed(numbers, most=12):

@@ -5,7 +5,7 @@ from concurrent.futures import ThreadPoolExecutor
 
 from reference.pricing import MOST_LABELS
 from reference.texts import MOST_LEAVES
-from tools.batching import put
+from tools.foreign import put
 from tools.joined import Joined, TooMany, made, texts_of
 from tools.joining import Joining
 from tools.judged import ran
