@@ -36,6 +36,8 @@ WAYS = {
     "other name": 'wait $child; sed -i "s/^INSTANCE ./INSTANCE xx/" "$4"; exit 1',
     "other arcs": 'wait $child; sed -i "s/^S \\([0-9]*\\) \\([0-9]*\\)$/S \\2 \\1/" "$4"; exit 1',
     "cut": 'wait $child; head -c %(size)d "$4" >cut; mv cut "$4"; exit 1',
+    "folders": 'mkdir plan.txt errors.txt',
+    "boast": 'wait $child; printf "vrptw: 1%%0500d %%%% of the turns\\n" 0 >&2; exit 1',
     "noise": 'wait $child; head -c %(size)d /dev/urandom >"$4"; cp "$4" "$3"; exit 1',
 }
 # What comes while a round is joined, once: nothing, a signal, or two of them.

@@ -69,5 +69,7 @@ def judge_all(given):
     os.makedirs(KEPT, exist_ok=True)
     in_memory = "/dev/shm" if os.access("/dev/shm", os.W_OK) else None
     with tempfile.TemporaryDirectory(prefix="outside_", dir=in_memory) as folder:
+        # What the tools keep for this user goes, too.
+        os.environ["XDG_STATE_HOME"] = os.path.join(folder, "state")
         library = build(folder) if any(KINDS[kind].refuses for kind in given.kinds) else None
         return judge_rounds(given, Programs(given.program, given.instruments, library), folder)
