@@ -155,9 +155,9 @@ FORGED = {"cost and bound": lowered, "bound": raised, "routes": rerouted, "bytes
 BESIDE = ["\x1b[31mred", "a b", ".hid", "q@", "q@other", "-q", "@few", "\u00e9"]
 
 
-def forge(random, own, case):
+def forge(random, own, case, way=None):
     """Changes the folder of a step in one way, where it is still one; answers which."""
-    way = random.choice(sorted(FORGED))
+    way = way or random.choice(sorted(FORGED))
     try:
         FORGED[way](random, own, case)
     except (OSError, ValueError):

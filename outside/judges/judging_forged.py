@@ -193,16 +193,17 @@ def demand_kept(case):
     demand(not os.path.islink(path) and got(path) == HOLDS, "a link was written through: %r" % got(path))
 
 
-def judge_liar(case):
-    """By a program that believes each plan a plan below another one's bound, or where there is none, is told, and what
-    it says isn't believed later."""
+def judge_liar(case, way):
+    """By a program that believes each plan a plan below another one's bound, or where there is none, is told, without a
+    table, and what it says isn't believed later. Answers whether it was told."""
     path = os.path.join(case.folder, "liar")
     put(path, (LIAR % case.program).encode())
     os.chmod(path, 0o755)
-    out, errors, status = case.batch("given", path)
+    out, errors, status = case.batch(way, path)
     demand("Traceback" not in errors, errors)
     if "wanted none below a bound" in errors:
         demand((out, status) == (b"", 1) and errors.rstrip("\n").split("\n")[-1].startswith("outside/batch: "), errors)
+        demand(way != "anew" or not os.path.exists(os.path.join(case.into, "table.csv")), "a table of before stays")
         return True
     demand(not re.search(rb"-[0-9.]+ %", out), "a gap below 0: %r" % out)
     return False
@@ -232,19 +233,26 @@ def judge_columns(case, random):
            and "\x1b" not in errors, "columns: %r, %r" % (out, errors))
 
 
+def drawn_step(case, random):
+    """The folder of one of the steps."""
+    return case.step(random.choice(sorted(case.texts)), random.choice(sorted(case.columns)))
+
+
 def judge_forged(program, folder, random):
     """A folder as machines may leave it, perhaps one whose texts were judged before."""
     case = Case(program, folder, random)
     case.planted, is_known = [], random.randrange(3) == 0
     if is_known:
         demand_table(case, case.batch("anew"), case.texts)
-    ways = [forge(random, case.step(random.choice(sorted(case.texts)), random.choice(sorted(case.columns))), case)
-            for _ in range(random.choice([1, 1, 2, 3]))]
+    ways = [forge(random, drawn_step(case, random), case) for _ in range(random.choice([1, 1, 2, 3]))]
     if random.randrange(4) == 0:
         os.mkdir(os.path.join(case.into, random.choice(BESIDE)))
         case.planted = ["zz"]
         case.lay_step(case.step("zz", sorted(case.columns)[0]), case.other)
-    is_told = random.randrange(12) == 0 and judge_liar(case)
+    is_told, way = False, random.choice(["given", "anew"])
+    if random.randrange(8) == 0:
+        forge(random, drawn_step(case, random), case, "cost and bound")
+        is_told, is_known = judge_liar(case, way), is_known or way == "anew"
     way = random.choice(["given", "standing"])
     came = case.batch(way)
     demand_table(case, came, instances(case, way, is_known))
