@@ -34,24 +34,26 @@ def shift_told(before, now):
     return [] if abs(far) <= MINUTES else ["%g units %s" % (abs(far), "later" if far > 0 else "earlier")]
 
 
-def demand_vehicles(before, now, others):
-    """A vehicle of now goes on as one of before, and each of these once: who isn't told to be on another vehicle is on
-    the same, and who is told isn't."""
-    pairs = {(before[name][0], now[name][0]) for name in before.keys() & now.keys() if name not in others}
-    demand(len({one for one, _ in pairs}) == len(pairs) == len({two for _, two in pairs}),
-           "vehicles go on as several: %r" % pairs)
-    strange = [name for name in others if (before[name][0], now[name][0]) in pairs]
-    demand(not strange, "on another vehicle: %r, and it isn't" % strange)
-    stay = {two: sum(now[name][0] == two for name in before.keys() & now.keys() if name not in others)
-            for _, two in pairs}
-    for two in {now[name][0] for name in others} & stay.keys():
-        most = max(sum((before[name][0], now[name][0]) == (one, two) for name in before.keys() & now.keys())
-                   for one in {one for one, _ in before.values()} - {one for one, other in pairs if other != two})
-        demand(stay[two] >= most, "vehicle %s goes on as one with fewer in common" % two)
+def demand_numbers(before, now):
+    """No exchange of numbers among the vehicles of now, in a row of any length, has more customers keep their vehicle's
+    number."""
+    numbers = sorted({int(at[0]) for at in now.values()})
+    demand(numbers == list(range(1, len(numbers) + 1)), "vehicles %r" % numbers)
+    stay = {}
+    for name in before.keys() & now.keys():
+        pair = int(now[name][0]), int(before[name][0])
+        stay[pair] = stay.get(pair, 0) + 1
+    # By two vehicles how many more keep it where the first gets the number of the second, and all between give way.
+    more = {(one, two): stay.get((one, two), 0) - stay.get((one, one), 0) for one in numbers for two in numbers}
+    for between in numbers:
+        for one in numbers:
+            for two in numbers:
+                more[one, two] = max(more[one, two], more[one, between] + more[between, two])
+    demand(all(more[one, one] <= 0 for one in numbers), "more customers could keep the number of their vehicle")
 
 
-def right_change(name, days, own):
-    """What has to be told of somebody, but for the vehicle."""
+def right_change(name, days):
+    """What has to be told of somebody."""
     (names_before, before), (names, now) = days
     if name not in names:
         return ["gone"]
@@ -61,7 +63,8 @@ def right_change(name, days, own):
         return ["served again"] if name in now else []
     if name not in now:
         return ["left out"]
-    return (["on another vehicle"] if "on another vehicle" in own else []) + shift_told(before[name][1], now[name][1])
+    is_other = before[name][0] != now[name][0]
+    return (["on another vehicle"] if is_other else []) + shift_told(before[name][1], now[name][1])
 
 
 def judge_changes(into):
@@ -75,7 +78,7 @@ def judge_changes(into):
     own = {row[0]: row[1].split("; ") for row in told[1:]}
     days = [(named(path), timed(path)) for path in (before, now)]
     for name in days[0][0] | days[1][0]:
-        right = right_change(name, days, own.get(name, []))
+        right = right_change(name, days)
         demand(own.get(name, []) == right, "%s: %r, and %r is right" % (name, own.get(name), right))
-    demand_vehicles(days[0][1], days[1][1], [name for name in own if "on another vehicle" in own[name]])
+    demand_numbers(days[0][1], days[1][1])
     demand(sums[2][1:] == [str(len(at)) for _, at in days], "served before and now: %r" % sums)

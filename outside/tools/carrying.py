@@ -2,18 +2,10 @@
 from itertools import groupby
 
 from reference.instances import walk_times
+from tools.knowing import Knowing
 from tools.tool import Refused, listed
 from tools.touring import Tables, put
-
-
-def marks_of(instance, names):
-    """What a customer is known by, its place or its name, and how many before it have the same: the numbers by that."""
-    found, count = {}, {}
-    for i in range(1, instance.count + 1):
-        mark = names[i] if names else tuple(instance.rows[i][:2])
-        count[mark] = count.get(mark, 0) + 1
-        found[mark, count[mark]] = i
-    return found
+from tools.vehicle_numbers import in_order
 
 
 def fits(instance, route):
@@ -22,27 +14,32 @@ def fits(instance, route):
 
 
 class Carried:
-    """Two instances, by names where both have some; notes of what was done, in which customers are told as the two
-    functions say, those of the first instance and of the changed one."""
+    """Two instances with their names or None, and who is who; notes of what was done, in which customers without a
+    table of names are told by their numbers."""
 
-    def __init__(self, instance, changed, names, told=(str, str)):
-        self.told = told
-        both = names if all(names) else (None, None)
-        before, after = marks_of(instance, both[0]), marks_of(changed, both[1])
+    def __init__(self, instance, changed, names):
         self.changed, self.notes = changed, []
-        self.again = {i: after[mark] for mark, i in before.items() if mark in after}
-        gone = [i for i in before.values() if i not in self.again]
-        self.new = sorted(set(after.values()) - set(self.again.values()))
-        self.note("customers that are gone%s" % (", by their numbers before" if told[0] is str else ""), gone, told[0])
-        self.note("new customers", self.new, told[1])
+        self.knowing = Knowing((instance, changed), names)
+        self.again = self.knowing.again
+        self.told = [str if own is None else own.told for own in names]
+        numbers = ", by their numbers before" if names[0] is None else ""
+        self.note("customers that are gone" + numbers, self.knowing.gone, self.told[0])
+        self.note("new customers", self.knowing.new, self.told[1])
+        where = [str if own is None else own.told_with_place for own in names]
+        self.note("customers that are perhaps gone" + numbers, self.knowing.perhaps_gone, where[0], instance.count)
+        self.note("customers that are perhaps new", self.knowing.perhaps_new, where[1], changed.count)
 
-    def note(self, words, numbers, told):
+    def note(self, words, numbers, told, *most):
         if numbers:
-            self.notes.append("%s: %s" % (words, listed([told(number) for number in sorted(numbers)])))
+            self.notes.append("%s: %s" % (words, listed([told(number) for number in sorted(numbers)], *most)))
+
+    def vehicles(self, routes):
+        """By customers of the changed instance the vehicles that serve them in routes of the first one."""
+        return {self.again[i]: number for number, route in enumerate(routes, 1) for i in route if i in self.again}
 
     def carry(self, routes, absent=None):
-        """The routes of the changed instance that serve each customer once. Who fits into none of them is put into the
-        list of those that are absent; without one that is refused."""
+        """The routes of the changed instance that serve each customer once, in the order of the vehicles of before. Who
+        fits into none of them is put into the list of those that are absent; without one that is refused."""
         kept = [[self.again[i] for i in route if i in self.again] for route in routes]
         kept, left = self.shortened([route for route in kept if route])
         self.note("customers that no longer fit where they were", left, self.told[1])
@@ -54,7 +51,7 @@ class Carried:
             if absent is None:
                 raise Refused("customer %s of the changed instance fits into no route" % self.told[1](customer))
             absent.append(customer)
-        return kept
+        return in_order(kept, self.vehicles(routes))
 
     def shortened(self, routes):
         """The routes as far as they still fit, the longest ones first where there are too many; and who is left."""

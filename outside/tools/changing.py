@@ -1,13 +1,15 @@
 """What changed from one day's plan to another's: who is new, gone, left out, on another vehicle, earlier or later."""
-from collections import Counter, namedtuple
+from collections import namedtuple
 
 from reference.instances import route_cost
 from tools.dialects import dialect_of, spelled
 from tools.timing import stops, sums_shown
 
-# A customer's change: what it is called, what changed, the vehicles and the moments of before and now.
-Change = namedtuple("Change", "name change vehicle_before vehicle begin_before begin")
+# A customer's change: what it is called, what changed, the vehicles and the moments of before and now, and its address.
+Change = namedtuple("Change", "name change vehicle_before vehicle begin_before begin address")
 NEW, GONE, OUT, AGAIN, OTHER = "new", "gone", "left out", "served again", "on another vehicle"
+# Of whom name or place alone doesn't tell who of the other day it is.
+PERHAPS = "perhaps "
 # How many minutes, or units, earlier or later are told.
 MINUTES = 10
 
@@ -21,15 +23,6 @@ class Served:
             self.at.update({stop.stop: (number, stop.begin) for stop in stops(instance, route, depart) if stop.stop})
 
 
-def matched(pairs):
-    """By the vehicles of now those of before with which they have the most customers in common, each once."""
-    found = {}
-    for (before, now), _ in sorted(Counter(pairs).items(), key=lambda one: (-one[1], one[0])):
-        if now not in found and before not in found.values():
-            found[now] = before
-    return found
-
-
 class Changes:
     """The changes from a past day to a plan, whose routes are by the numbers of its own instance."""
 
@@ -37,11 +30,8 @@ class Changes:
         self.past, self.instance, self.names, self.routes, self.depart = past, instance, names, routes, depart
         self.before = Served(past.instance, past.routes, depart).at
         self.now = Served(instance, routes, depart).at
-        again = past.carried(instance, names).again
-        self.back = {now: before for before, now in again.items()}
-        self.gone = [i for i in range(1, past.instance.count + 1) if i not in again]
-        self.vehicles = matched([(self.before[before][0], self.now[now][0]) for before, now in again.items()
-                                 if before in self.before and now in self.now])
+        self.knowing = past.carried(instance, names).knowing
+        self.back = self.knowing.back
 
     def shift(self, before, now):
         """How much later a customer is served, in words, or nothing where that is little."""
@@ -57,12 +47,13 @@ class Changes:
         """What changed for a customer of now."""
         before = self.back.get(i)
         if before is None:
-            return [NEW] + ([OUT] if i not in self.now else [])
+            head = PERHAPS if i in self.knowing.perhaps_new else ""
+            return [head + NEW] + ([OUT] if i not in self.now else [])
         if before not in self.before:
             return [AGAIN] if i in self.now else []
         if i not in self.now:
             return [OUT]
-        is_same = self.vehicles.get(self.now[i][0]) == self.before[before][0]
+        is_same = self.now[i][0] == self.before[before][0]
         return ([] if is_same else [OTHER]) + self.shift(before, i)
 
     def cells(self, units, at, i):
@@ -76,10 +67,12 @@ class Changes:
             if told:
                 (was, begun), (vehicle, begin) = (self.cells(self.past.names.units, self.before, self.back.get(i)),
                                                   self.cells(self.names.units, self.now, i))
-                yield Change(self.names.called(i), "; ".join(told), was, vehicle, begun, begin)
-        for i in self.gone:
-            was, begun = self.cells(self.past.names.units, self.before, i)
-            yield Change(self.past.names.called(i), GONE, was, "", begun, "")
+                yield Change(self.names.called(i), "; ".join(told), was, vehicle, begun, begin, self.names.address(i))
+        names, perhaps = self.past.names, self.knowing.perhaps_gone
+        for i in sorted(self.knowing.gone + perhaps):
+            was, begun = self.cells(names.units, self.before, i)
+            yield Change(names.called(i), (PERHAPS if i in perhaps else "") + GONE, was, "", begun, "",
+                         names.address(i))
 
     def sums(self):
         """Rows of a word, and what it is before and now."""

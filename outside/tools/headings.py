@@ -1,5 +1,6 @@
 """What the columns of a table are called in six languages, and in which line its heading stands."""
 import re
+import unicodedata
 
 # Our names of columns. The first one of the two for names that is there has them.
 NAMED = ("name", "customer")
@@ -26,6 +27,15 @@ WORDS = {
                "temps de service, duración, duracion, servicio, duur, servicetijd, lostijd, durata, servizio",
 }
 MEANING = {word.strip(): ours for ours, words in WORDS.items() for word in words.split(",")}
+# Headings of numbers that a customer or an order keeps, without blanks and signs: a word alone, or whose number it is
+# beside a word for a number.
+ALONE = ("order auftrag bestellung commande pedido bestelling ordine id ref reference referenz référence referencia "
+         "referentie riferimento number nummer numéro numero número nr no").split()
+WHOSE = ("order customer client account job shipment delivery auftrag auftrags bestell bestellungs kunden kd "
+         "lieferschein sendungs commande commandes pedido cliente klant klanten bestelling zending ordine").split()
+COUNTED = "number no nr num id code ref nummer numéro numero número código codigo codice".split()
+NUMBERED = re.compile("%(alone)s|(%(whose)s)(%(counted)s)|(%(counted)s|n)(de|del|di|d)?(%(whose)s)" % {
+    "alone": "|".join(ALONE), "whose": "|".join(WHOSE), "counted": "|".join(COUNTED)})
 # What a heading may say of its measure, as in "Menge (kg)".
 MEASURE = re.compile(r"\s*[(\[][^()\[\]]*[)\]]\s*\Z")
 # How many of our columns make a heading line of one that has others above it, and in how many lines it is looked for.
@@ -53,6 +63,12 @@ def meaning_of(heading):
     """Our name for a heading, or None."""
     own = without_measure(heading)
     return own if own in OURS else MEANING.get(own)
+
+
+def is_number(heading):
+    """Whether a heading says that its column has the numbers of customers or orders."""
+    told = unicodedata.normalize("NFKC", without_measure(heading))
+    return NUMBERED.fullmatch("".join(filter(str.isalnum, told))) is not None
 
 
 def heading_line(lines, renamed):

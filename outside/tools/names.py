@@ -53,6 +53,16 @@ class Names(list):
         """How a customer is told in a sentence."""
         return self[i] if self[i] != str(i) else "customer %d" % i
 
+    def told(self, i):
+        """The same, with the place where others have the name, too."""
+        return self.told_with_place(i) if self.count(self[i]) > 1 else self.called(i)
+
+    def told_with_place(self, i):
+        """How a customer is told, with its address, or else its degrees or number."""
+        at = self.place(i)
+        return "%s (%s)" % (self.called(i), self.address(i) or (
+            "%g, %g" % at if at else "in row %d of the customers" % i))
+
 
 def clean(name):
     """A name in one line, of signs that can be printed."""

@@ -40,12 +40,14 @@ class Past:
         self.instance, self.names, self.routes = instance, names, routes
 
     def carried(self, instance, names):
-        """Who is known again in another instance; None where neither names nor places tell."""
-        both = self.names, names
-        is_named = all(own.has_names() for own in both)
-        if not is_named and both[0].units.of_places() != both[1].units.of_places():
-            return None
-        return Carried(self.instance, instance, both if is_named else (None, None), [own.called for own in both])
+        """Who is known again in another instance; None where neither numbers nor names nor places tell."""
+        found = Carried(self.instance, instance, (self.names, names))
+        return found if found.knowing.tells else None
+
+    def vehicles(self, instance, names):
+        """By customers of another instance the vehicles that serve them on this day, as far as they are known again."""
+        found = self.carried(instance, names)
+        return found.vehicles(self.routes) if found else {}
 
     def known(self, instance, names):
         """How many of another instance's customers this day serves."""

@@ -320,11 +320,12 @@ def left_out(found):
 
 def changes(found):
     """The tables of what changed from the day before."""
-    heading = ("customer", "what changed", "vehicle before", "vehicle", "begin before", "begin")
+    heading = ("customer", "what changed", "vehicle before", "vehicle", "begin before", "begin",
+               "address")
     return "%s%s<p class=\"note\">%s</p>" % (
         words_table(heading, found.rows()), words_table(("", "before", "now"), found.sums()),
-        "The day before is in the folder before. A vehicle is the one of before with which it has the most customers "
-        "in common; earlier or later are told from ten minutes on.")
+        "The day before is in the folder before. Vehicles are numbered so that most customers keep the number of before; "
+        "earlier or later are told from ten minutes on.")
 
 
 def plan_sections(report):
