@@ -10,6 +10,7 @@ from tools.respelling import certificate, text_of
 from tools.standing import CERTIFICATE, INSTANCE, NAMES, PLAN, TREES
 from tools.stopping import Patience
 from tools.tool import Refused, count
+from tools.vehicle_numbers import ordered
 from vrptw import SETS, Schedule, neighbours_for, neighbours_of, serves, verdict_of
 from vrptw.met import plans_in
 
@@ -62,6 +63,8 @@ class Planner:
         self.cost = self.bound = self.vehicles = self.kind = self.start = None
         # What the pages say of fewer vehicles, and routes of some customers to begin with.
         self.fewest, self.some = "", []
+        # By customers the vehicles that served them the day before, whose numbers stay.
+        self.vehicles_before = {}
         # The counts of neighbours whose trees were refused, and the certificates whose trees don't serve.
         self.left_out, self.early = set(), set()
         # What is done behind each round.
@@ -93,11 +96,14 @@ class Planner:
         if self.folder.held(NAMES) != self.texts.get(NAMES, self.folder.held(NAMES)):
             self.folder.take(NAMES)
         if plan:
+            plan = self.ordered(plan)
             line, fault = judged(self.given.program, self.texts[INSTANCE], certificate(self.instance).encode(), plan)
             _, self.cost, _ = verdict_of(line)
             self.note_fault(PLAN, fault)
         if self.cost is not None:
             self.vehicles = plan.count(b"\nRoute #") + 1
+            if plan != self.folder.held(PLAN):
+                self.folder.put(PLAN, plan)
         if proof:
             patient = Patience(self.signals, PATIENCE)
             until = max(until, time.monotonic() + PATIENCE)
@@ -105,6 +111,10 @@ class Planner:
             self.note_fault(CERTIFICATE, fault)
             self.is_unread = kind is None and not fault
         self.judge()
+
+    def ordered(self, plan):
+        """The text of a plan with the vehicles' numbers of the day before."""
+        return ordered(plan, self.vehicles_before)
 
     def note_fault(self, name, fault):
         if fault:
@@ -127,7 +137,6 @@ class Planner:
         """Takes the plan of another day along, by the names of both, or by places where one of them has none."""
         if self.is_in_place or past is None:
             return
-        told = [own.called for own in (past.names, names)]
         found, absent = past.carried(self.instance, names), []
         if found is None:
             self.note_fault(PLAN, "its places are in other units, and not all of both have names")
@@ -137,7 +146,7 @@ class Planner:
         self.some = routes
         if absent:
             self.notes.append("these fit into no route of the plan before, and begin absent: %s" % ", ".join(
-                told[1](i) for i in absent))
+                names.told(i) for i in absent))
             return
         self.begin_with(routes)
 
@@ -175,6 +184,7 @@ class Planner:
 
     def take_texts(self, plan, proof):
         """Brings a plan and a certificate into place where they are better; answers why the check doesn't take them."""
+        plan = self.ordered(plan)
         self.folder.put_beside(PLAN, plan)
         self.folder.put_beside(CERTIFICATE, proof)
         line, fault = judged(self.given.program, self.texts[INSTANCE], proof, plan)
@@ -237,6 +247,8 @@ class Planner:
             return self.round(turns, neighbours, seed, until)
         if kind is None:
             return None, came.fault or "the program ended with status %d" % came.status
+        if cost is not None:
+            self.folder.put_beside(PLAN, self.ordered(held(plan)))
         kind, cost, bound, fault = self.checked(proof, None if cost is None else plan, until)
         if kind is None:
             return None, "the check says %s" % fault if fault else None

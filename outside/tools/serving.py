@@ -107,6 +107,7 @@ class Serving:
         planner = self.planner
         other = Planner(self.folder, read(text), (text, table_of(names).encode()), planner.given, planner.signals,
                         planner.tell)
+        other.vehicles_before = {number[i]: vehicle for i, vehicle in planner.vehicles_before.items() if i in number}
         other.stand(time.monotonic())
         other.begin_with([[number[i] for i in route] for route in routes])
         other.take_start()
