@@ -91,6 +91,13 @@ MORE = {
     "moved.csv": "vehicle,name\nAnna,a\n,b\n",
     "nobody.csv": "vehicle,name\nAnna,a\nAnna,c\n",
     "beside.csv": "vehicle,name,stop\nAnna,a,2\n",
+    # Two customers of one name, and the second of them alone. By hand: its way is 10.0 there and 10.0 back.
+    "twins.csv": "number,name,address\n0,depot,\n1,a,Weg 1\n2,a,Weg 2\n",
+    "second.csv": "number,name,address\n0,depot,\n1,a,Weg 2\n",
+    "second.txt": FILES["i.txt"].replace("1 3 4 1 0 1000 0\n2 6 8", "1 6 8"),
+    "own.csv": "route,stop,name\n1,2,a\n1,1,a\n1,0,depot\n",
+    "doors.csv": "route,name,address\n1,a,Weg 2\n1,a,Weg 1\n",
+    "alike.csv": "route,name\n1,a\n1,a\n",
     "grown.txt": CUT + "BOUND 10.0\nTREE\nS 1 2\nP 0 0\nP 0 0\nEND\n",
     "one.txt": CUT + "BOUND 20.0\nTREE\nS 1 2\nP 0 0\nS 2 1\nP 50000 100000\nP 50000 100000\nEND\n",
     "better.txt": CUT + "BOUND 20.0\nTREE\nS 1 2\nP 50000 100000\nP 50000 100000\nEND\n",
@@ -121,6 +128,8 @@ batch i.txt --into r --program {program}|0|-: 1 BEST
 batch i.txt --into many --status|0|-: 1 BEST
 batch i.txt --into many|0|many/i/certificate.txt: VRPTW-SETS 1 & -: 1 BEST
 carry i.txt p.txt i.txt --names names.csv --changed-names names.csv|0|-: Route #1: 1 2
+carry i.txt p.txt second.txt --names twins.csv --changed-names second.csv|0|-: Cost 20.0 & --: customers that are \
+gone: a (Weg 1)
 convert i.txt o.vrp --to vrplib|0|o.vrp: DIMENSION : 3
 convert i.txt - --to solomon|0|-: CUST NO.
 convert t.csv o.txt --from csv --vehicles 5 --capacity 7 --name Monday|0|o.txt: Monday & o.txt: 5 7
@@ -153,6 +162,8 @@ join i.txt grown.txt better.txt one.txt --bound 20.0 --check|0|-: S 2 1 & --: vr
 join i.txt grown.txt one.txt grown.txt --prune 20.0|0|-: BOUND 20.0 & --: leaves: 1 in place of 3
 judge i.txt p.txt --best p.txt -o o.txt|0|-: as far as the best plan & o.txt: Route #1: 1 2
 judge i.txt moved.csv --names names.csv|3|-: not served: b
+judge i.txt own.csv --names twins.csv -o o.txt|0|o.txt: Route #1: 2 1
+judge i.txt doors.csv --names twins.csv -o o.txt|0|o.txt: Route #1: 2 1
 judge i.txt p.txt --output o.txt|0|o.txt: Cost 20.0
 judge waits.txt p.txt --depart early|0|-: 0.0  115.0
 judge waits.txt p.txt --depart late|0|-: 95.0  115.0
@@ -304,6 +315,7 @@ join i.txt grown.txt one.txt --program nowhere|--program|1|nowhere: met no progr
 judge i.txt moved.csv --names names.csv -o o.txt||1|moved.csv: met a plan that doesn't serve each customer once
 judge i.txt nobody.csv --names names.csv||1|nobody.csv: line 3: met "c", wanted a customer's number or name
 judge i.txt beside.csv --names names.csv||1|beside.csv: line 2: met "a" beside "2", wanted name and
+judge i.txt alike.csv --names twins.csv||1|alike.csv: line 2: met "a", the name of 1 (Weg 1), 2 (Weg 2), wanted one
 judge i.txt p.txt --best cost.txt|--best|1|cost.txt: line 2: met a cost of 20.1
 judge i.txt p.txt -o p.txt|--output|1|p.txt: met the file that is read
 judge i.txt p.txt --names names2.csv|--names|1|names2.csv: line 3: met no name of number 2

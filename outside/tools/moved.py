@@ -2,6 +2,8 @@
 import csv
 
 from tools.headings import NAMED, SEPARATORS, meaning_of
+from tools.moved_names import Alike
+from tools.names import clean
 from tools.naming import ARROW, Naming, numbering_of
 from tools.respelling import HEAD, ROUTE, Spelled
 from tools.tool import quoted
@@ -20,6 +22,7 @@ class Moved:
 
     def __init__(self, text, instance, names):
         self.text, self.count, self.names, self.notes = text, instance.count, names, []
+        self.instance = instance
         self.naming = Naming(text, numbering_of(instance.count, False, names))
         rows = self.rows()
         if not rows:
@@ -55,19 +58,25 @@ class Moved:
     def by_stop(self, rows):
         """The routes of a table with a line for each stop, up to the next table in it."""
         columns, found = Column(rows[0][1]), {}
+        alike = None if self.names is None else Alike(self.instance, self.names, rows[0][1])
         for line, fields in rows[1:]:
             if Column(fields).vehicle is not None:
                 break
             called = columns.field(fields, columns.vehicle)
-            stop = self.stop_of(line, fields, columns)
+            stop = self.stop_of(line, fields, columns, alike)
             if stop and called:
                 found.setdefault(called, []).append(stop)
         return list(found.items())
 
-    def stop_of(self, line, fields, columns):
-        """The customer of a line, 0 for the depot, or None; name and number have to be those of one."""
+    def stop_of(self, line, fields, columns, alike):
+        """The customer of a line, 0 for the depot, or None; name and number have to be those of one. Where several have
+        the name, the number tells, or what else stands there."""
         name, number = (columns.field(fields, place) for place in (columns.name, columns.number))
-        told = [self.number(line, word) for word in (name, number) if word]
+        told = [self.number(line, number)] if number else []
+        same = self.naming.numbers.get(clean(name), []) if name else []
+        if len(same) > 1:
+            same = [i for i in told if i in same] or alike.parted(fields, same)
+        told += same if len(same) == 1 else [self.number(line, name)] if name else []
         if len(set(told)) > 1:
             self.text.refuse(line, "%s beside %s" % (quoted(name), quoted(number)), "name and number of one customer")
         return told[0] if told else None

@@ -32,9 +32,9 @@ class Judged:
     def wrong(self):
         """A line for each thing that is wrong."""
         found = [line for called, route in self.routes for line in self.wrong_of(called, route)]
-        missing = [self.names.called(i) for i in range(1, self.instance.count + 1) if i not in self.vehicles]
+        missing = [self.names.told(i) for i in range(1, self.instance.count + 1) if i not in self.vehicles]
         found += ["not served: %s" % listed(missing)] if missing else []
-        found += ["%s is served %d times, by %s" % (self.names.called(i), len(called), listed(called))
+        found += ["%s is served %d times, by %s" % (self.names.told(i), len(called), listed(called))
                   for i, called in sorted(self.vehicles.items()) if len(called) > 1]
         more = len(self.routes) - self.instance.fleet
         return found + (["%d vehicles drive, and there are %d" % (len(self.routes), self.instance.fleet)]
@@ -50,7 +50,7 @@ class Judged:
             if stop.slack < 0:
                 begin, due = units.floor(stop.begin), units.floor(stop.begin + stop.slack)
                 yield "vehicle %s is at %s at %s, %s after %s" % (
-                    called, self.names.called(stop.stop) if stop.stop else "the depot", units.moment(begin),
+                    called, self.names.told(stop.stop) if stop.stop else "the depot", units.moment(begin),
                     units.span(begin - due), units.moment(due))
 
     def rows(self):

@@ -61,7 +61,9 @@ class Naming:
         if self.is_name(word):
             numbers = self.numbers[clean(word)]
             if len(numbers) > 1:
-                self.text.refuse(line, "%s, the name of %s" % (quoted(word), listed(numbers)), "one of one customer")
+                where = getattr(self.numbering.names, "address", lambda number: "")
+                told = ["%d (%s)" % (number, where(number)) if where(number) else number for number in numbers]
+                self.text.refuse(line, "%s, the name of %s" % (quoted(word), listed(told)), "one of one customer")
             return Found(self.numbering.there(numbers[0]), line)
         if self.takes_numbers and STOP.match(word):
             return Found(int(word), line)
