@@ -42,6 +42,8 @@ class TwoDays:
         self.free = [(40 + at, random.randint(-9, 30)) for at in range(40)]
         self.has_address, self.has_doors = random.randrange(4) > 0, random.randrange(3) == 0
         self.is_nameless = random.choice([(0, 0)] * 8 + [(1, 1), (0, 1)])
+        if all(self.is_nameless) and random.randrange(2):
+            self.has_address, self.kind, self.heading = False, NO_NUMBERS, None
         first = [self.person() for _ in range(random.randint(1, 9))]
         second = [self.next_day(one) for one in first if random.randrange(5)]
         second += [self.newcomer(first, second) for _ in range(random.randint(0 if second else 1, 2))]

@@ -234,12 +234,14 @@ def told_list(errors, words):
 
 
 def judge_carry(folder, tables, paths, routes, known):
-    """The plan of the first day carried to the second one: notes, and vehicles that keep their numbers."""
-    drawn, words = tables.drawn, []
-    for path in paths:
-        words.append(os.path.join(path, "instance.txt"))
-    out, errors, status = tool("carry", words[0], os.path.join(paths[0], "plan.txt"), words[1], "--names", os.path.join(
-        paths[0], "names.csv"), "--changed-names", os.path.join(paths[1], "names.csv"))
+    """The plan of the first day carried to the second one: notes, and vehicles that keep their numbers. Where the tables
+    of names tell nothing, it goes without them."""
+    drawn, is_bare = tables.drawn, not any(
+        names.headings or names.has_names() or names.units.scale > 1 for names in tables.names)
+    first, plan, second, *both = (os.path.join(path, name) for path, name in zip(
+        [paths[0], paths[0], paths[1], *paths], ["instance.txt", "plan.txt", "instance.txt", "names.csv", "names.csv"]))
+    out, errors, status = tool("carry", first, plan, second, *(
+        [] if is_bare else ["--names", both[0], "--changed-names", both[1]]))
     demand(status == 0, "carry: %r" % errors)
     found, cost = read_solution(out)
     demand(is_plan(tables.instances[1], found) and cost == plan_cost(tables.instances[1], found), "%r: no plan" % out)
@@ -250,8 +252,10 @@ def judge_carry(folder, tables, paths, routes, known):
                             ("new customers", 1, [j for j in new if j not in perhaps_new]),
                             ("customers that are perhaps gone", 0, perhaps_gone),
                             ("customers that are perhaps new", 1, perhaps_new)):
-        own, names = told_list(errors, words), tables.names[at]
-        right = sorted(", ".join(told_of(names, i, "perhaps" in words) for i in some).split(", ")) if some else []
+        names, further = tables.names[at], ", by their numbers before" if is_bare and not at else ""
+        own = told_list(errors, words + further)
+        told = map(str, some) if is_bare else (told_of(names, i, "perhaps" in words) for i in some)
+        right = sorted(", ".join(told).split(", ")) if some else []
         demand(own == right, "%s: %r, and %r is right" % (words, own, right))
     before, now = ({i: k for k, route in enumerate(one, 1) for i in route} for one in (routes[0], found))
     demand_most_stay([before, now], pairs, "carry")
@@ -260,12 +264,11 @@ def judge_carry(folder, tables, paths, routes, known):
 def told_of(names, i, has_place):
     """How a note tells a customer: with the place where the name doesn't tell."""
     called = names[i] if names[i] != str(i) else "customer %d" % i
-    if not has_place and list(names).count(names[i]) == 1:
-        return called
     row = dict(zip(names.headings, names.further[i]))
     where = row.get("address") or ("%g, %g" % (float(row["lat"]), float(row["lon"])) if "lat" in row
-                                   else "in row %d of the customers" % i)
-    return "%s (%s)" % (called, where)
+                                   else "number %d" % i if called == names[i] else "")
+    has_place = where and (has_place or list(names).count(names[i]) > 1)
+    return "%s (%s)" % (called, where) if has_place else called
 
 
 def judge_own(folder, tables, paths, routes, random):

@@ -28,9 +28,9 @@ WORDS = {
 }
 MEANING = {word.strip(): ours for ours, words in WORDS.items() for word in words.split(",")}
 # Headings of numbers that a customer or an order keeps, without blanks and signs: a word alone, or whose number it is
-# beside a word for a number.
+# beside a word for a number, which alone may be that of a house.
 ALONE = ("order auftrag bestellung commande pedido bestelling ordine id ref reference referenz référence referencia "
-         "referentie riferimento number nummer numéro numero número nr no").split()
+         "referentie riferimento").split()
 WHOSE = ("order customer client account job shipment delivery auftrag auftrags bestell bestellungs kunden kd "
          "lieferschein sendungs commande commandes pedido cliente klant klanten bestelling zending ordine").split()
 COUNTED = "number no nr num id code ref nummer numéro numero número código codigo codice".split()

@@ -15,9 +15,6 @@ from tools.headings import OURS, is_number, meaning_of
 from tools.names import Names
 from tools.units import units_of
 
-# What a column of names has behind its heading where that is one of ours.
-BEHIND = " there"
-
 
 class Side:
     """A day's customers, by their numbers in it: names, blank where there are none, places, addresses, what else is
@@ -110,7 +107,7 @@ class Knowing:
         self.take_unchanged(named_place)
         self.take(named_address)
         for heading in self.shared():
-            if not is_number(heading.removesuffix(BEHIND)) and self.is_of_numbers(heading) and self.settled():
+            if not is_number(heading) and self.is_of_numbers(heading) and self.settled():
                 self.take(lambda side, i: (side.names[i], side.columns[heading][i]))
         self.take(lambda side, i: (side.names[i],))
         self.take_nameless()
@@ -157,7 +154,7 @@ class Knowing:
 
     def numbers(self):
         """The heading of the numbers that decide, or None: of several that by which most are known again."""
-        found = [heading for heading in self.shared() if is_number(heading.removesuffix(BEHIND))
+        found = [heading for heading in self.shared() if is_number(heading)
                  and self.is_of_numbers(heading)]
         return max(found, key=lambda heading: len(self.by_column(heading)), default=None)
 

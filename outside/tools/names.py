@@ -60,8 +60,8 @@ class Names(list):
     def told_with_place(self, i):
         """How a customer is told, with its address, or else its degrees or number."""
         at = self.place(i)
-        return "%s (%s)" % (self.called(i), self.address(i) or (
-            "%g, %g" % at if at else "in row %d of the customers" % i))
+        where = self.address(i) or ("%g, %g" % at if at else "" if self[i] == str(i) else "number %d" % i)
+        return self.called(i) + (" (%s)" % where if where else "")
 
 
 def clean(name):
