@@ -28,8 +28,8 @@ def drawn_asked(random):
 
 
 class TwoDays:
-    """Both days, each a list of persons in the order of its table. Where it is clean nobody comes who looks like another:
-    who is new or moved has a place of its own, a name that was free or that of somebody who stays, and another number."""
+    """Both days, each a list of persons in the order of its table. Where they are clean nobody comes who looks like
+    another: who is new or moved has a place of its own, and who is new a free name or that of somebody who stays."""
 
     def __init__(self, random):
         self.random, self.is_clean, self.met = random, random.randrange(2) == 0, 0

@@ -81,7 +81,7 @@ def add(pairs, more):
 
 
 def unchanged(one, two, pairs, parts, is_one=lambda i, side: True):
-    """Pairs within groups of which nobody is in a pair, by what is asked of each, where that is the same on both days."""
+    """Pairs within groups of which nobody is in one, by what is asked of each, where that is the same on both days."""
     rest = [[i for i in range(1, side.size + 1) if i not in known and is_one(i, side)]
             for side, known in ((one, set(pairs)), (two, set(pairs.values())))]
     for i in rest[0]:
@@ -234,7 +234,7 @@ def told_list(errors, words):
 
 
 def judge_carry(folder, tables, paths, routes, known):
-    """The plan of the first day carried to the second one: notes, and vehicles that keep their numbers. Where the tables
+    """The plan of the first day carried to the second one: notes, and vehicles that keep their numbers. Where tables
     of names tell nothing, it goes without them."""
     drawn, is_bare = tables.drawn, not any(
         names.headings or names.has_names() or names.units.scale > 1 for names in tables.names)
@@ -317,8 +317,8 @@ def judge_planned(program, folder, drawn, random):
         put(os.path.join(folder, "day%d.csv" % at), found.getvalue().encode())
         whole = max(sum(one.asked[0] for one in day) * random.choice([40, 70, 100]) // 100, 40)
         out, errors, status = tool("plan", os.path.join(folder, "day%d.csv" % at), "--into", into, "--vehicles", "9",
-                                   "--capacity", str(whole), "--seconds", "1", "--program", program, "--searchers", "1",
-                                   "--bounders", "1")
+                                   "--capacity", str(whole), "--seconds", "1", "--program", program,
+                                   "--searchers", "1", "--bounders", "1")
         demand(status == 0, "plan: %r, %r" % (out, errors))
     # Both days of one instance: nothing is carried.
     if not os.path.isdir(os.path.join(into, "before")):
