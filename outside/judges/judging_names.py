@@ -22,7 +22,7 @@ from tools.names import Names, table_of
 from tools.past import past_of
 from tools.timing import EARLY, separated
 from tools.units import Units
-from tools.vehicle_numbers import ordered
+from tools.vehicle_numbers import in_order, ordered
 
 # How often `plan` runs: once in so many runs.
 SELDOM = 50
@@ -207,6 +207,20 @@ def demand_most_stay(vehicles, pairs, what):
         demand(most <= stay, "%s: %d keep their vehicle's number, and by %r %d do" % (what, stay, other, most))
 
 
+def judge_numbers(random):
+    """Drawn routes of customers who had vehicles before, in which the most in common soon stand in each other's way."""
+    count = random.randint(2, 5)
+    before = {i: random.randint(1, count + 1) for i in range(1, random.randint(3, 20)) if random.randrange(8)}
+    routes = [[i + 100 for i in range(count)]] + [[] for _ in range(count)]
+    for i in before:
+        random.choice(routes[1:]).append(i)
+    routes = [route for route in routes if route]
+    found = in_order(random.sample(routes, len(routes)), before)
+    demand(sorted(found) == sorted(routes), "%r of %r" % (found, routes))
+    now = {i: number for number, route in enumerate(found, 1) for i in route}
+    demand_most_stay([before, now], {i: i for i in now}, "numbers")
+
+
 def judge_told(tables, paths, routes, known, random):
     """The changes from one prepared day to another, whose routes come in any order."""
     drawn, instance, names = tables.drawn, tables.instances[1], tables.names[1]
@@ -348,6 +362,7 @@ def judge_names(program, folder, random):
     demand(not (drawn.is_clean and strangers), "by the rule strangers are the same: %r" % strangers)
     if random.randrange(SELDOM) == 0:
         return judge_planned(program, folder, drawn, random)
+    judge_numbers(random)
     judge_told(tables, paths, routes, known, random)
     if random.randrange(2):
         judge_carry(folder, tables, paths, routes, known)

@@ -154,8 +154,7 @@ class Knowing:
 
     def numbers(self):
         """The heading of the numbers that decide, or None: of several that by which most are known again."""
-        found = [heading for heading in self.shared() if is_number(heading)
-                 and self.is_of_numbers(heading)]
+        found = [heading for heading in self.shared() if is_number(heading) and self.is_of_numbers(heading)]
         return max(found, key=lambda heading: len(self.by_column(heading)), default=None)
 
     def by_column(self, heading):
