@@ -166,8 +166,9 @@ def read(text, quantities):
     nodes = {Found(number, line): quantities.row([(line, row[column]) for column in COLUMNS])
              for number, (line, row) in enumerate(values.rows)}
     column, names = names_in(text, table, quantities)
-    units = Units(quantities.scale, int(values.is_clock), quantities.speed if DEGREES[0] in table.columns else None,
-                  quantities.demand_scale)
+    units = Units(quantities.scale, int(values.is_clock), demands=quantities.demand_scale)
+    units = units.but(speed=quantities.speed, detour=quantities.detour) if quantities.is_projected else units.but(
+        off=quantities.off)
     return Read(None, None, None, nodes, 0, noted_columns(table, column, quantities) + table.notes
                 + list(noted_numbers(table, values.is_clock)) + values.notes + notes, names, units, True,
                 ";" if table.parted_by == ";" else ",")

@@ -50,23 +50,27 @@ def nearest(value):
     return floor(value + Fraction(1, 2))
 
 
+# By how many times as much as a coordinate a way between two places is off at most: twice the root of 2, and more by
+# less than a thousandth.
+APART = Fraction(2829, 1000)
 # How what isn't whole is rounded: no service begins before its window or after it, or is cut short.
 WAYS = {"x": nearest, "y": nearest, "ready": ceil, "due": floor, "service": ceil}
 
 
 def rounded(values, scale, measure):
     """Rounds what isn't whole; a window in which nothing is whole then is a fault. Answers what is noted."""
-    count, most = 0, Fraction(0)
+    count, most, places = 0, Fraction(0), Fraction(0)
     for line, row in values.rows:
         for column, way in WAYS.items():
             value = row[column].value * scale
             if value.denominator > 1:
-                count, most = count + 1, max(most, abs(way(value) - value))
+                off = abs(way(value) - value)
+                count, most, places = count + 1, max(most, off), max(places, off if column in PLACE else 0)
                 row[column] = Cell(row[column], Fraction(way(value), scale))
         if row["due"].value < row["ready"].value:
             values.faults.add(line, None, "a window from %s to %s, in which no moment times %d is whole" % (
                 quoted(row["ready"]), quoted(row["due"]), scale), "one in which one is" + HINT)
-    values.quantities.is_rounded = True
+    values.quantities.off = Fraction(ceil(1000 * (APART * places + Fraction(1, 10))), 1000)
     return [Note("%d numbers are rounded, by at most %s %s: places to the nearest, windows inwards, services up. What "
                  "is proved is proved of the rounded numbers" % (count, at_most(most / scale), measure), ROUNDED)]
 

@@ -2,11 +2,13 @@
 import os
 import shutil
 
+from tools.apart import apart_of
 from tools.day import FEWEST
 from tools.fleets import Fleets, with_fleet
 from tools.places import as_called
 from tools.respelling import certificate
 from tools.standing import CERTIFICATE, INSTANCE, PLAN, Folder
+from tools.units import units_of
 
 
 def narrowed(folder, instance, given, signals, until):
@@ -37,20 +39,21 @@ def take_fewest(planner, fleet):
     planner.take_texts(*texts)
 
 
-def fewest_told(found, folder, units):
+def fewest_told(found, folder, names):
     """What is known of how few vehicles do, in a sentence: that fewer don't, and what shows it."""
     low, high, instance = found.low, found.high, found.instance
-    fewer = low - 1
+    fewer, units, apart, whose = low - 1, units_of(names), apart_of(instance, names), ""
     if high is None or fewer == 0:
         return "" if high is None or high > 1 else "No plan does without a vehicle."
     if found.known.get(fewer, (None,))[0] == "NO PLAN":
         why = as_called("./vrptw check") + " %s %s shows it" % tuple(
             os.path.join(folder, "%d.%s" % (fewer, ending)) for ending in ("instance", "certificate"))
+        whose = " of %s" % apart.called if apart else ""
     else:
         why = "the demands are %s, and so many hold %s" % (
             units.load(sum(row[2] for row in instance.rows)), units.room(instance.capacity, fewer))
     vehicles = "%d vehicle%s" % (fewer, "" if fewer == 1 else "s")
     if low == high:
-        return "Fewer vehicles don't do: with %s there is no plan (%s)." % (vehicles, why)
-    return "With %s there is no plan (%s), and whether %s do%s isn't known." % (
-        vehicles, why, "%d" % low if high - low == 1 else "%d to %d" % (low, high - 1), "es" if low == 1 else "")
+        return "Fewer vehicles don't do: with %s there is no plan%s (%s)." % (vehicles, whose, why)
+    return "With %s there is no plan%s (%s), and whether %s do%s isn't known." % (
+        vehicles, whose, why, "%d" % low if high - low == 1 else "%d to %d" % (low, high - 1), "es" if low == 1 else "")

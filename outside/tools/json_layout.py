@@ -100,7 +100,7 @@ def told_units(text, found, quantities):
     if "units" not in found:
         return None
     units = read_line(text, found.line, word_of(text, found.line, "units", found["units"]))
-    return Units(quantities.scale if quantities.is_scaled else units.scale, units.clock, units.speed, units.demands)
+    return units.but(scale=quantities.scale if quantities.is_scaled else units.scale, visits=1)
 
 
 def line_of(columns, row):

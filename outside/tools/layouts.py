@@ -47,7 +47,8 @@ class Quantities:
         self.keeps_names, self.needs_names, self.renamed = keeps_names, needs_names, given.columns
         self.as_numbers = given.times_as_numbers
         self.speed, self.detour, self.demand_scale = given.speed, given.detour or DETOUR, 1
-        self.is_projected = self.is_rounded = False
+        # By how much a way of rounded numbers is off at most, in units of the instance; None where none is rounded.
+        self.is_projected, self.off = False, None
 
     def noted_scale(self, why=None):
         """What is noted of a scale."""
@@ -204,7 +205,7 @@ def problem_of(text, quantities, read, given):
     capacity = number_of(text, "--capacity", given.capacity, read.capacity, CAPACITY, notes)
     units = read.units or Units(quantities.scale, int(quantities.is_clock))
     rows, capacity, visits, is_visited = with_visits(text, rows, capacity * units.demands)
-    names.units, names.separator = Units(units.scale, units.clock, units.speed, units.demands, visits), read.separator
+    names.units, names.separator = units.but(visits=visits), read.separator
     found = Problem(name_of(text.path, given.name, read.name, notes), fleet, capacity, rows, names)
-    head = "by the rounded numbers " if quantities.is_rounded else ""
+    head = "by the rounded numbers " if quantities.off is not None else ""
     return found, [head + note for note in unservable.notes(found)] + renumbered + is_moved + notes + is_visited

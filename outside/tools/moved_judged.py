@@ -1,5 +1,8 @@
 """What is wrong with a plan that was moved by hand, and what it takes."""
+from fractions import Fraction
+
 from reference.instances import route_cost
+from tools.apart import apart_of
 from tools.names import Names
 from tools.timing import EARLY, leaving, walked
 from tools.tool import listed
@@ -13,6 +16,7 @@ class Judged:
 
     def __init__(self, instance, names, moved, depart):
         self.instance, self.routes, self.depart, self.units = instance, moved.routes, depart, units_of(names)
+        self.apart = apart_of(instance, names)
         self.names = names or Names([str(i) for i in range(instance.count + 1)])
         self.vehicles = {}
         for called, route in self.routes:
@@ -65,20 +69,25 @@ class Judged:
         return rows + [["plan", "%d" % len(whole), units.load(sum(map(instance.demand, whole))),
                         units.distance(self.cost()), "", ""]]
 
-    def compared(self, best):
-        """How much farther all drive than in the best plan."""
+    def compared(self, best, routes):
+        """How much farther all drive than in the best plan, and by how much that is off at most."""
         cost, units = self.cost(), self.units
+        offs = [self.apart.off(own) for own in (routes, [own for _, own in self.routes])] if self.apart else [None]
+        # Both costs and their difference are rounded where they are shown, each by half of the last digit.
+        off = "" if None in offs else ", at most %s %s off" % (
+            self.apart.cut(sum(map(Fraction, offs)) + units.last() * 3 / 2, True), units.measure())
         if cost == best:
-            return "as far as the best plan"
-        return "%s %s %s than the best plan, which has %s (%.1f %%)" % (
+            return "as far as the best plan" + off
+        return "%s %s %s than the best plan, which has %s (%.1f %%)%s" % (
             units.distance(abs(cost - best)), units.measure(), "more" if cost > best else "less",
-            units.distance(best), 100 * abs(cost - best) / best if best else 0)
+            units.distance(best), 100 * abs(cost - best) / best if best else 0, off)
 
-    def told(self, best):
-        """All of it: the verdict, a table of vehicles, and the comparison."""
+    def told(self, best, routes):
+        """All of it: the verdict, a table of vehicles, and the comparison with the cost and the routes of the best plan,
+        or None."""
         wrong = self.wrong()
         head = ["no plan: %d thing%s wrong" % (len(wrong), " is" if len(wrong) == 1 else "s are")] if wrong else ["a plan"]
         rows = [list(HEADING)] + self.rows()
         widths = [max(map(len, column)) + 2 for column in zip(*rows)]
         table = ["".join(word.rjust(width) for word, width in zip(row, widths)).rstrip() for row in rows]
-        return "\n".join([*head, *wrong, "", *table] + ([] if best is None else ["", self.compared(best)]) + [""])
+        return "\n".join([*head, *wrong, "", *table] + ([] if best is None else ["", self.compared(best, routes)]) + [""])

@@ -2,6 +2,7 @@
 the units of the table that came in; where its times are of the day, `clock` has them as words, cut to the minute."""
 import json
 
+from tools.apart import apart_of
 from tools.names import DEGREES
 from tools.timing import LATE, Stop, Sums, cells, further_cells, shares, stops, sum_cells, sums_shown, total
 from tools.tool import number
@@ -87,6 +88,12 @@ def flags(reasons):
     return {"is_late": LATE_REASON in kinds, "is_too_full": FULL_REASON in kinds}
 
 
+def off_object(apart, routes):
+    """By how much the distance is off at most, where the table's ways were rounded."""
+    off = apart.off(routes) if apart else None
+    return {} if off is None else valued([("distance_off", apart.cut(off, True))])
+
+
 def plan_object(instance, exact, shown, units, reasons):
     """The verdict, what is wrong with a plan that is none, its sums and its shares."""
     told, spelled = shares(instance, exact, units.exact()), shares(instance, shown, units)
@@ -103,15 +110,17 @@ def plan_object(instance, exact, shown, units, reasons):
 
 def timetable(instance, routes, names=None, depart=LATE):
     """Instance, routes with their stops, and plan, as a text."""
-    units, reasons, found = units_of(names), reasons_of(instance, routes), []
+    units, reasons, found, apart = units_of(names), reasons_of(instance, routes), [], apart_of(instance, names)
     exact, shown = ([sums_shown(instance, route, one, depart) for route in routes] for one in (units.exact(), units))
     for place, route in enumerate(routes, 1):
         own = [reason for reason in reasons if reason.route == place]
-        found.append({"route": place, **sums_object(exact[place - 1], shown[place - 1], units), **flags(own),
+        found.append({"route": place, **sums_object(exact[place - 1], shown[place - 1], units),
+                      **off_object(apart, [route]), **flags(own),
                       "stops": [stop_object(instance, stop, units, names)
                                 for stop in stops(instance, route, depart)]})
     told = instance_object(instance.name.decode(), instance.fleet, instance.capacity, instance.rows, names)
-    return written({"instance": told, "routes": found, "plan": plan_object(instance, exact, shown, units, reasons)})
+    plan = {**plan_object(instance, exact, shown, units, reasons), **off_object(apart, routes)}
+    return written({"instance": told, "routes": found, "plan": plan})
 
 
 def written(told):

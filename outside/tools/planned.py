@@ -5,13 +5,14 @@ import time
 from reference.set_texts import read_either
 from reference.texts import read_solution
 from tools import sheets
+from tools.apart import apart_of
 from tools.changing import Changes
 from tools.day import CHANGES, LEFT_OUT, NOW, REPORT, SERVED, SHEETS, TIMETABLE
 from tools.drawing import plural
 from tools.left_out import MOST_TOLD
 from tools.names import names_of
 from tools.past import past_of
-from tools.reporting import Report, page, why_not
+from tools.reporting import FEW, Report, page, why_not
 from tools.standing import CERTIFICATE, INSTANCE, NAMES, PLAN
 from tools.telling import Telling
 from tools.timing import percent, separated
@@ -65,6 +66,7 @@ def report_of(planner):
         return None
     paths = [INSTANCE] + ([CERTIFICATE] if certificate else []) + ([PLAN] if routes else [])
     report = Report(instance, names, routes, cost, certificate, None, paths, planner.given.depart)
+    report.apart = planner.apart = planner.apart or report.apart
     report.fewest = planner.fewest
     return report
 
@@ -174,13 +176,14 @@ class Pages:
 
     def told(self, serving=None):
         """What is said at the end."""
-        planner, units = self.planner, self.names.units
+        planner = self.planner
         if serving is None:
-            return sentence(planner, units) + (planner.fewest + "\n" if planner.fewest else "")
+            return sentence(planner, self.names) + (planner.fewest + "\n" if planner.fewest else "")
         found, where = serving.found, planner.folder.in_top(NOW)
         told = [self.head(where, serving.proofs)]
         if found is not None:
-            told.append("In %s: %s" % (os.path.join(where, SERVED), sentence(found, units, "the others").rstrip("\n")))
+            told.append("In %s: %s" % (os.path.join(where, SERVED), sentence(
+                found, names_of(found.folder.at(NAMES), found.instance.count), "the others").rstrip("\n")))
         told += serving.left_out.told()
         if len(serving.left_out.rows) > MOST_TOLD:
             told.append("All that are left out are in %s." % os.path.join(where, LEFT_OUT))
@@ -193,22 +196,40 @@ class Pages:
         why = why_not(planner.instance, certificate, self.names, where, proofs)
         if not why:
             return "No plan of all customers was found; whether there is one isn't known."
-        return "There is no plan of all customers: %s." % "; ".join(why)
+        planner.apart = planner.apart or apart_of(planner.instance, self.names)
+        is_rounded = planner.apart and all(reason.is_timed for reason in proofs)
+        return "There is no plan of all customers%s: %s." % (
+            " by " + planner.apart.called if is_rounded else "", "; ".join(why))
 
 
-def sentence(planner, units, whom=None):
-    """One sentence on what came of the work."""
+def routes_of(planner):
+    """The routes that stand, or None."""
+    return None if planner.cost is None else read_solution(planner.folder.held(PLAN))[0]
+
+
+def sentence(planner, names, whom=None):
+    """One sentence on what came of the work, and where the table's ways were rounded one on what that says of it."""
+    planner.apart = planner.apart or apart_of(planner.instance, names)
+    apart, routes, units = planner.apart, routes_of(planner), names.units
+    few = FEW if planner.fewest else ""
+    told = summed_up(planner, units, whom, apart.told_off(routes) if apart and routes else "",
+                     (" of %s" % apart.called if apart else "") + few)
+    of_table = apart.told(routes, planner.bound, few) if apart and planner.kind != "NO PLAN" else ""
+    return told + (of_table + "\n" if of_table else "")
+
+
+def summed_up(planner, units, whom, off, whose):
+    """What came of the work; the cost with its error, and whose plans a bound is of."""
     if planner.cost is None:
-        return "No plan was found%s.\n" % (
-            "" if planner.bound is None else "; every plan costs at least %s" % measured(units, planner.bound))
+        return "No plan was found%s.\n" % ("" if planner.bound is None else "; every plan%s costs at least %s" % (
+            whose, measured(units, planner.bound)))
     whom = whom or "all %s" % plural(planner.instance.count, "customer")
-    told = "%s %s and %s %s" % (plural(planner.vehicles, "vehicle"), *(
+    told = "%s %s and %s %s%s" % (plural(planner.vehicles, "vehicle"), *(
         ("serves " + whom, "drives") if planner.vehicles == 1 else ("serve " + whom, "drive")),
-        measured(units, planner.cost))
-    few = " with so few" if planner.fewest else ""
+        measured(units, planner.cost), " (%s)" % off if off else "")
     if planner.kind == "BEST":
-        return told + ", and no plan%s is shorter.\n" % few
+        return told + ", and no plan%s is shorter.\n" % whose
     if not planner.bound:
-        return told + ", and how much shorter a plan%s may be isn't known yet.\n" % few
+        return told + ", and how much shorter a plan%s may be isn't known yet.\n" % whose
     return told + ", and the shortest plan%s saves at most %s %% of that.\n" % (
-        few, percent(planner.cost - planner.bound, planner.cost))
+        whose, percent(planner.cost - planner.bound, planner.cost))

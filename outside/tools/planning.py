@@ -65,6 +65,8 @@ class Planner:
         self.fewest, self.some = "", []
         # By customers the vehicles that served them the day before, whose numbers stay.
         self.vehicles_before = {}
+        # How far the instance is from its table, once that is known.
+        self.apart = None
         # The counts of neighbours whose trees were refused, and the certificates whose trees don't serve.
         self.left_out, self.early = set(), set()
         # What is done behind each round.

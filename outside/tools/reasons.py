@@ -3,8 +3,8 @@ from collections import namedtuple
 
 from tools.units import units_of
 
-# One line, whether it proves that there is no plan, and the customer that it is of, or None.
-Reason = namedtuple("Reason", "told proves customer")
+# One line, whether it proves that there is no plan, the customer that it is of, or None, and whether times say it.
+Reason = namedtuple("Reason", "told proves customer is_timed", defaults=(False,))
 
 
 def earliest(instance):
@@ -81,7 +81,7 @@ def late(instance, words):
                      "%s: met %s, wanted by %s" % (
                          words.customer(i), words.moment(alone), words.moment(alone_by(instance, i)), "can't either"
                          if proves else "may be, so this proves nothing", words.moment(at[i]), words.moment(by[i])),
-                     proves, i)
+                     proves, i, True)
 
 
 def too_much(instance, words):

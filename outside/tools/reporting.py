@@ -5,6 +5,7 @@ from html import escape
 
 from reference.texts import shown
 from tools import drawing_tree
+from tools.apart import apart_of
 from tools.drawing import HEAD, colour, dash, is_hollow, plural
 from tools.drawing_map import Frame, drawn_map
 from tools.drawing_times import AXIS, FIGURES, LANES, Scale, drawn_bars
@@ -18,6 +19,8 @@ WIDE = 1000
 # What is said of when vehicles leave.
 LEAVING = {LATE: "Each vehicle leaves as late as it may without being back later than it has to be.",
            EARLY: "All vehicles leave when the depot opens."}
+# Of whose plans a bound is where a fleet is as small as does.
+FEW = " with so few"
 # What stands below a picture that a narrow screen cuts.
 PUSHED = '<p class="note push">The bars go on to the right: push them sideways.</p>'
 # What the tables say of a stop.
@@ -32,7 +35,7 @@ class Report:
         self.instance, self.names, self.routes, self.cost, self.depart = instance, names, routes, cost, depart
         self.certificate, self.values, self.paths = certificate, values, paths
         self.bound = certificate.bound if certificate else None
-        self.units = units_of(names)
+        self.units, self.apart = units_of(names), apart_of(instance, names)
         # Where there is no plan: lines that say why, who is left out, and the report of the others' plan.
         self.why, self.left_out, self.served, self.folder, self.whom = [], None, None, "", "all"
         # What changed from the day before.
@@ -53,6 +56,15 @@ class Report:
     def distance(self, tenths):
         """A distance with its measure."""
         return "%s %s" % (self.units.distance(tenths), self.units.measure())
+
+    def whose(self):
+        """Of what the plans are that a bound is of, where that isn't plain."""
+        return " of %s" % self.apart.called if self.apart else ""
+
+    def off(self):
+        """What stands behind the cost: by how much it is off."""
+        off = self.apart.told_off(self.routes) if self.apart else ""
+        return " (%s)" % off if off else ""
 
     def verdict(self):
         """The line that the check prints, or None without a certificate."""
@@ -90,19 +102,19 @@ def claim(report):
     """What the certificate shows, as a part of a sentence."""
     kind = report.verdict().split()[0]
     if kind == "GAP":
-        return "no plan costs less than %s, so the cheapest one saves at most %s %% of this cost" % (
-            report.distance(report.bound), percent(report.cost - report.bound, report.cost))
-    return {"BEST": "no plan is cheaper than this one", "NO": "there is no plan that serves all customers",
-            "BOUND": "every plan costs at least %s" % report.distance(report.bound)}[kind]
+        return "no plan%s costs less than %s, so the cheapest one saves at most %s %% of this cost" % (
+            report.whose(), report.distance(report.bound), percent(report.cost - report.bound, report.cost))
+    return {"BEST": "no plan%s is cheaper than this one", "NO": "there is no plan%s that serves all customers",
+            "BOUND": "every plan%%s costs at least %s" % report.distance(report.bound)}[kind] % report.whose()
 
 
 def answer(report):
     """What was answered, in sentences, of which each is true of what was checked."""
     found = []
     if report.cost is not None:
-        found.append("%s %s, at a cost of %s of distance." % (
+        found.append("%s %s, at a cost of %s of distance%s." % (
             "1 vehicle serves" if len(report.routes) == 1 else "%d vehicles serve" % len(report.routes), report.whom,
-            report.distance(report.cost)))
+            report.distance(report.cost), report.off()))
     elif report.verdict() != "NO PLAN":
         found.append("No plan was found.")
     found += [escape(report.fewest)] if report.fewest else []
@@ -111,7 +123,9 @@ def answer(report):
     told = claim(report)
     found.append("%s, and anybody can check that with <code>%s</code>." % (
         escape(told[0].upper() + told[1:]), escape(check_command(report))))
-    return " ".join(found)
+    if report.apart and report.verdict() != "NO PLAN":
+        found.append(escape(report.apart.told(report.routes, report.bound, FEW if report.fewest else "")))
+    return " ".join(filter(None, found))
 
 
 def check_command(report):
@@ -139,10 +153,10 @@ def figures(report):
 def figures_of_proof(report):
     """Pairs of a word and a figure of what is proved, as people read costs."""
     if report.verdict() != "NO PLAN":
-        yield "every plan costs at least (the bound)", report.distance(report.bound)
+        yield "every plan%s costs at least (the bound)" % report.whose(), report.distance(report.bound)
     if report.cost is not None:
         gap = report.cost - report.bound
-        yield "the cheapest one may save (the gap)", "%s (%s %%)" % (report.distance(gap), percent(gap, report.cost))
+        yield "the cheapest one%s may save (the gap)" % report.whose(), "%s (%s %%)" % (report.distance(gap), percent(gap, report.cost))
     yield "leaves of the certificate's tree", "%d" % leaves_of(report.certificate.tree)
 
 
@@ -266,9 +280,9 @@ def counted(report):
 def meaning(report):
     kind = report.verdict().split()[0]
     plan = "the plan serves each customer once within capacity, windows and fleet at "
-    return {"BEST": plan + "this cost, and no plan is cheaper.",
-            "GAP": plan + "the first number, and every plan costs at least the second one.",
-            "BOUND": "every plan costs at least this number.", "NO": "there is no plan."}[kind]
+    return {"BEST": plan + "this cost, and no plan%s is cheaper.",
+            "GAP": plan + "the first number, and every plan%s costs at least the second one.",
+            "BOUND": "every plan%s costs at least this number.", "NO": "there is no plan%s."}[kind] % report.whose()
 
 
 def in_units(report):

@@ -9,7 +9,8 @@ WORDS = {
         "arrival": "arrival", "begins": "begins at {}", "service": "service", "departure": "departure",
         "hand over": "hand over", "left": "left in vehicle", "done": "done", "visit": "a visit",
         "leaves": "leaves at", "back": "back at", "units": "units", "driver": "Driver: {}", "start": "Start: {}",
-        "whole": "{}: {}, {} to hand over, {} {}. Leaves at {}, back at {}: {} of driving, {} of service, {} of "
+        "within": " (within {} {})",
+        "whole": "{}: {}, {} to hand over, {} {}{}. Leaves at {}, back at {}: {} of driving, {} of service, {} of "
                  "waiting.",
         "loading": "Load in this order, the last stop first:", "sign": "Signature",
     },
@@ -19,7 +20,8 @@ WORDS = {
         "arrival": "Ankunft", "begins": "Beginn um {}", "service": "Dauer", "departure": "Abfahrt",
         "hand over": "abzugeben", "left": "bleibt im Wagen", "done": "erledigt", "visit": "ein Besuch",
         "leaves": "Abfahrt um", "back": "zurück um", "units": "Einheiten", "driver": "Fahrer: {}", "start": "Beginn: {}",
-        "whole": "{}: {}, {} abzugeben, {} {}. Abfahrt um {}, zurück um {}: {} Fahrt, {} bei Kunden, {} Warten.",
+        "within": " (auf {} {} genau)",
+        "whole": "{}: {}, {} abzugeben, {} {}{}. Abfahrt um {}, zurück um {}: {} Fahrt, {} bei Kunden, {} Warten.",
         "loading": "In dieser Reihenfolge laden, der letzte Halt zuerst:", "sign": "Unterschrift",
     },
     FRENCH: {
@@ -28,7 +30,8 @@ WORDS = {
         "arrival": "arrivée", "begins": "début à {}", "service": "durée", "departure": "départ",
         "hand over": "à livrer", "left": "reste à bord", "done": "fait", "visit": "une visite",
         "leaves": "départ à", "back": "retour à", "units": "unités", "driver": "Conducteur : {}", "start": "Début : {}",
-        "whole": "{} : {}, {} à livrer, {} {}. Départ à {}, retour à {} : {} de conduite, {} chez les clients, {} "
+        "within": " (à {} {} près)",
+        "whole": "{} : {}, {} à livrer, {} {}{}. Départ à {}, retour à {} : {} de conduite, {} chez les clients, {} "
                  "d'attente.",
         "loading": "Charger dans cet ordre, le dernier arrêt d'abord :", "sign": "Signature",
     },

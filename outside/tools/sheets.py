@@ -2,6 +2,7 @@
 from collections import namedtuple
 from html import escape
 
+from tools.apart import apart_of
 from tools.sheet_words import ENGLISH, WORDS
 from tools.timing import LATE, as_shown, stops, sums_shown
 from tools.units import units_of
@@ -85,6 +86,7 @@ class Sheets:
     def __init__(self, instance, names, routes, depart, extras):
         self.instance, self.names, self.routes, self.units = instance, names, routes, units_of(names)
         self.depart, self.extras, self.words = depart, extras, WORDS[extras.language]
+        self.apart = apart_of(instance, names)
 
     def say(self, word, *parts):
         return self.words[word].format(*parts)
@@ -162,10 +164,11 @@ def loading(sheets, route):
 
 def told_whole(sheets, route, sums):
     """The sums of a route in a sentence."""
-    units = sheets.units
+    units, off = sheets.units, sheets.apart.off([route]) if sheets.apart else None
+    within = "" if off is None else sheets.say("within", sheets.apart.cut(off, True), sheets.measure())
     count = sheets.say("one stop") if len(route) == 1 else sheets.say("stops", len(route))
     return sheets.say("whole", sheets.instance.name.decode(), count, units.load(sums.load),
-                      units.distance(sums.distance), sheets.measure(), units.moment(sums.leaves),
+                      units.distance(sums.distance), sheets.measure(), within, units.moment(sums.leaves),
                       units.moment(sums.back), *map(units.span, (sums.driving, sums.service, sums.waiting)))
 
 

@@ -2,6 +2,7 @@
 import re
 from decimal import ROUND_UP, Context, Decimal
 from fractions import Fraction
+from math import ceil, floor
 
 from reference.texts import shown
 
@@ -9,7 +10,10 @@ from reference.texts import shown
 MARK = "# vrptw units:"
 TOLD = re.compile(r'"?# ?vrptw units:(.*)\Z')
 PAIR = re.compile(r"([a-z]+)=([0-9]{1,9}(?:/[0-9]{1,9})?)\Z")
-KEYS = ("scale", "clock", "speed", "demands", "visits")
+# What is usual of each, which isn't told.
+USUAL = {"scale": 1, "clock": 0, "speed": None, "demands": 1, "visits": 1, "detour": None, "off": None}
+# Those that may be parts of a whole.
+PARTS = ("speed", "detour", "off")
 HOUR, DAY = 60, 24 * 60
 UPWARDS = Context(prec=2, rounding=ROUND_UP)
 
@@ -34,19 +38,26 @@ def at_most(value):
 
 class Units:
     """`scale` units of the instance are one there. Where times are of the day, one there is a minute since midnight.
-    With a speed in km/h one there is a minute of driving. Demands there are multiplied by two factors, of which the
-    second one makes room for stops without demand: each of them has 1, and all of them less than the factor."""
+    With a speed in km/h one there is a minute of driving, by ways that are so many times (`detour`) as long as straight
+    lines. Demands there are multiplied by two factors, of which the second one makes room for stops without demand:
+    each of them has 1, and all of them less than the factor. Where numbers were rounded, a way is `off` by at most so
+    many units of the instance."""
 
-    def __init__(self, scale=1, clock=0, speed=None, demands=1, visits=1):
+    def __init__(self, scale=1, clock=0, speed=None, demands=1, visits=1, detour=None, off=None):
         self.scale, self.clock, self.speed, self.demands, self.visits = scale, clock, speed, demands, visits
-        self.is_plain = (scale, clock, speed, demands, visits) == (1, 0, None, 1, 1)
+        self.detour, self.off = detour, off
+        self.is_plain = self.told() == USUAL
+
+    def told(self):
+        return {key: getattr(self, key) for key in USUAL}
+
+    def but(self, **other):
+        """The same units but for these."""
+        return Units(**{**self.told(), **other})
 
     def words(self):
         """The words that tell it; nothing where the numbers are as they were."""
-        told = [("scale", self.scale, 1), ("clock", self.clock, 0), ("speed", self.speed, None),
-                ("demands", self.demands, 1), ("visits", self.visits, 1)]
-        pairs = ["%s=%s" % (key, value) for key, value, usual in told if value != usual]
-        return " ".join(pairs)
+        return " ".join("%s=%s" % (key, value) for key, value in self.told().items() if value != USUAL[key])
 
     def line(self):
         """The line of a table that tells it; nothing where the numbers are as they were."""
@@ -54,11 +65,11 @@ class Units:
 
     def exact(self):
         """The same units with times as numbers."""
-        return Units(self.scale, 0, self.speed, self.demands, self.visits)
+        return self.but(clock=0)
 
     def of_places(self):
         """What one unit of a place is."""
-        return self.scale, self.speed
+        return self.scale, self.speed, self.detour
 
     def digits(self):
         """How many digits behind the point a tenth of a unit has there."""
@@ -70,9 +81,20 @@ class Units:
 
     def distance(self, tenths):
         """A distance or a cost: in kilometres where a speed is known."""
-        if self.speed is None:
-            return self.number(tenths)
-        return decimal(Fraction(tenths, 10 * self.scale) * self.speed / HOUR, 1)
+        return self.number(tenths) if self.speed is None else decimal(self.way(tenths), 1)
+
+    def way(self, tenths):
+        """A distance or a cost as a number, in what distances are shown in."""
+        return Fraction(tenths, 10 * self.scale) * (1 if self.speed is None else self.speed / HOUR)
+
+    def cut(self, way, is_up):
+        """Such a number in words, with as many digits, rounded up or down."""
+        whole = way / self.last()
+        return decimal((ceil(whole) if is_up else floor(whole)) * self.last(), self.digits() if self.speed is None else 1)
+
+    def last(self):
+        """What the last digit of a distance counts."""
+        return Fraction(1, 10 ** (self.digits() if self.speed is None else 1))
 
     def measure(self):
         """The word for what distances are counted in."""
@@ -137,10 +159,10 @@ def read_line(text, place, told):
     for word in told.split():
         pair = PAIR.match(word)
         is_number = pair and all(part.strip("0") for part in pair[2].split("/"))
-        if not is_number or pair[1] not in KEYS or pair[1] in found:
-            text.refuse(place, '"%s"' % word, "%s as convert writes them" % ", ".join(KEYS))
+        if not is_number or pair[1] not in USUAL or pair[1] in found:
+            text.refuse(place, '"%s"' % word, "%s as convert writes them" % ", ".join(USUAL))
         value = Fraction(pair[2])
-        if pair[1] != "speed" and value.denominator != 1:
+        if pair[1] not in PARTS and value.denominator != 1:
             text.refuse(place, '"%s"' % word, "a whole number")
-        found[pair[1]] = value if pair[1] == "speed" else int(value)
+        found[pair[1]] = value if pair[1] in PARTS else int(value)
     return Units(**found)
