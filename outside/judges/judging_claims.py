@@ -158,11 +158,13 @@ def demand_off(shown, off, own, digits, is_globe, told):
 
 
 def demand_pages(drawn, into, out, ways, routes, digits, language):
-    """Page and sheets say the same."""
+    """Page and sheets say the same, and the page says of what kilometres are made beside the first of them."""
     page, sheets = (got(os.path.join(into, name)).decode() for name in ("report.html", "drivers.html"))
     told = SERVES.search(out)
-    head = "at a cost of %s %s of distance (at most %s %s off)." % (told[2], drawn.measure(), told[4], drawn.measure())
-    demand(head in page, "no %r on the page" % head)
+    made = "straight lines times %g, driven at %d km/h; " % (float(drawn.detour or "1.3"), drawn.speed)
+    head = "at a cost of %s %s of distance (%sat most %s %s off)." % (
+        told[2], drawn.measure(), made if drawn.is_globe else "", told[4], drawn.measure())
+    demand(head in page and " km" not in page[:page.index(head)] and "of road" not in page, "no %r on the page" % head)
     found = LEAST.search(out)
     demand(found is None or found[0] in page, "the page lacks %r" % (found and found[0]))
     demand(not re.search("no plan (is|costs)|every plan costs", page, re.I), "the page doesn't say whose plans it is of")

@@ -125,7 +125,7 @@ def scale_line(frame, units):
     one = units.scale * (60 / float(units.speed) if units.speed else 1)
     count = round_step((frame.width - 2 * EDGE) / 4 / frame.scale / one, -2)
     y, wide = frame.height - 12, count * one * frame.scale
-    told = "%g km of road" % count if units.speed else "%g units" % count if count != 1 else "1 unit"
+    told = "%g km driven" % count if units.speed else "%g units" % count if count != 1 else "1 unit"
     return ['<path d="M%d %.1fv6h%.1fv-6" fill="none" stroke="#444"/>' % (EDGE, y - 6, wide),
             text(EDGE + wide + 8, y, told, 11, 'fill="#444"')]
 

@@ -62,9 +62,10 @@ class Report:
         return " of %s" % self.apart.called if self.apart else ""
 
     def off(self):
-        """What stands behind the cost: by how much it is off."""
+        """What stands behind the cost: of what kilometres are made, and by how much it is off."""
         off = self.apart.told_off(self.routes) if self.apart else ""
-        return " (%s)" % off if off else ""
+        told = "; ".join(word for word in (self.units.made_of(), off) if word)
+        return " (%s)" % told if told else ""
 
     def verdict(self):
         """The line that the check prints, or None without a certificate."""
@@ -290,7 +291,7 @@ def in_units(report):
     units = report.units
     if units.clock:
         return "Times are of the day, cut to minutes; distances are in %s." % (
-            "km of road" if units.speed else "units of the table")
+            "km" if units.speed else "units of the table")
     return "Times and distances are in units of the %s." % ("instance" if units.is_plain else "table")
 
 

@@ -100,6 +100,13 @@ class Units:
         """The word for what distances are counted in."""
         return "units" if self.speed is None else "km"
 
+    def made_of(self):
+        """Of what kilometres and minutes are made, in words; nothing where there are no kilometres."""
+        if self.speed is None:
+            return ""
+        way = "" if self.detour is None else "straight lines times %g, " % float(self.detour)
+        return way + "driven at %g km/h" % float(self.speed)
+
     def floor(self, tenths):
         """A moment cut to what is shown of it, so that no begin of service is shown after its due date."""
         return tenths - tenths % (10 * self.scale) if self.clock else tenths
