@@ -62,6 +62,7 @@ FILES = {
     "lkh.txt": "T, Cost: 0_20\nThe tours traveled by the 1 salesmen are:\n1 2 3 4 1 (#4)  Cost: 20\n",
     "c.vrp": "NAME : c\nTYPE : CVRP\nDIMENSION : 2\nCAPACITY : 9\nEDGE_WEIGHT_TYPE : EUC_2D\nNODE_COORD_SECTION\n"
              "1 0 0\n2 3 4\nDEMAND_SECTION\n1 0\n2 1\nDEPOT_SECTION\n1\n-1\nEOF\n",
+    "book.xlsx": "PK\x03\x04\x14", "book.csv": "PK\x03\x04\x14",
     "empty.csv": "", "empty.vrp": "", "empty.txt": "",
 }
 # The words, the file that is at fault, its line, and a part of what is said; without a line that part is all.
@@ -99,6 +100,10 @@ convert t.csv o.txt --vehicles 5 --capacity 5 --column due=bis|t.csv|1|met no co
 timetable i.txt p.txt --names units.csv|units.csv|1|met "scale=x", wanted scale, clock, speed, demands, visits, detour, off as
 convert nowhere.csv o.txt|nowhere.csv|0|No such file or directory
 convert folder o.txt --from csv|folder|0|Is a directory
+convert book.xlsx o.txt --vehicles 5 --capacity 5|book.xlsx|0|met a workbook, wanted its sheet saved as CSV: in Excel by File, Save As, CSV UTF-8
+plan book.xlsx --into r --vehicles 5 --capacity 5|book.xlsx|0|met a workbook, wanted its sheet saved as CSV: in Excel by File, Save As, CSV UTF-8
+convert book.csv o.txt --vehicles 5 --capacity 5|book.csv|0|met a workbook, wanted its sheet saved as CSV: in Excel by File, Save As, CSV UTF-8
+timetable i.txt p.txt --names book.xlsx|book.xlsx|0|met a workbook, wanted its sheet saved as CSV: in Excel by File, Save As, CSV UTF-8
 convert empty.csv o.txt|empty.csv|1|the end
 convert empty.vrp o.txt|empty.vrp|1|the end
 convert empty.txt o.txt|empty.txt|1|the end

@@ -18,6 +18,8 @@ WRITERS = {"ours": solomon_layout.write_ours, "solomon": solomon_layout.write, "
 NAMED_LAYOUTS = ("csv", "json")
 # What a column may be called otherwise.
 NAMED_COLUMNS = ("name", "address", "priority", "x", "y", "lat", "lon", "demand", "ready", "due", "service")
+# Those of workbooks, of which a sheet is read once it is saved as CSV.
+BOOKS = (".xlsx", ".xlsm", ".xls", ".ods", ".numbers")
 ENDINGS = {".txt": "ours", ".vrp": "vrplib", ".csv": "csv", ".json": "json"}
 
 
@@ -94,6 +96,9 @@ def add_words(found):
 def layout(path, given, option):
     """The layout of a file, by the option or by its ending."""
     ending = os.path.splitext(path)[1].lower()
+    if given is None and option == "--from" and ending in BOOKS:
+        # What is in it says what to do.
+        return "csv"
     if given is None and ending not in ENDINGS:
         raise Refused("%s: met the ending \"%s\", wanted %s, or a layout by %s"
                       % (path, ending, ", ".join(ENDINGS), option))

@@ -118,6 +118,10 @@ def remember(note):
         REMEMBERED.append(note)
 
 
+# What files of spreadsheets begin with: .xlsx and .ods, and .xls.
+WORKBOOKS = (b"PK\x03\x04", b"\xd0\xcf\x11\xe0\xa1\xb1\x1a\xe1")
+
+
 class Text:
     """A file's lines, counted from 1. A byte order mark goes, and each kind of line end is one. One that takes others
     may be in UTF-16 or Latin-1 too, as spreadsheets write tables, and that is noted. What was read before may be handed
@@ -125,6 +129,9 @@ class Text:
 
     def __init__(self, path, takes_others=False, held=None):
         self.path, self.held = told_path(path), content(path) if held is None else held
+        if takes_others and self.held.startswith(WORKBOOKS):
+            raise Refused("%s: met a workbook, wanted its sheet saved as CSV: in Excel by File, Save As, CSV UTF-8" % (
+                self.path))
         begin = len(BOM_UTF8) if self.held.startswith(BOM_UTF8) else 0
         try:
             whole = self.utf_16() if takes_others else None
