@@ -9,7 +9,7 @@ from tools.csv_values import PLACE, TIMES, WINDOW, Values
 from tools.doubts import doubts
 from tools.globe import laid_out
 from tools.headings import FIRST_LINES, NAMED, SEPARATORS, Headings, heading_line, plain
-from tools.layouts import Read
+from tools.layouts import Read, judge_count
 from tools.names import COLUMNS as KEPT
 from tools.names import Names, clean, named
 from tools.noting import OVER, Note
@@ -143,6 +143,7 @@ def opened(text, quantities):
     if set(WINDOW) <= set(table.columns):
         quantities.refuse_horizon(table.line)
     table.notes = sheet.notes(table) + table.notes + without_total(table)
+    judge_count(text, [line for line, _ in table.rows][1:])
     faults = Faults(table, told_names(table))
     for line, fields in table.odd:
         faults.add(line, None, *table.width(fields))

@@ -99,14 +99,19 @@ def add(text, nodes, number, row):
     nodes[number] = row
 
 
+def judge_count(text, lines):
+    """Refuses more customers than ours has, by the lines of all."""
+    if len(lines) > MOST_CUSTOMERS:
+        text.refuse(sorted(lines)[MOST_CUSTOMERS], "customer %d" % (MOST_CUSTOMERS + 1),
+                    "at most %d customers" % MOST_CUSTOMERS)
+
+
 def in_order(text, read):
     """The depot's row and then the customers', in the order of their numbers; their names; and what is noted of it."""
     others = sorted(number for number in read.nodes if number != read.depot)
     if not others:
         text.at_end("a customer")
-    if len(others) > MOST_CUSTOMERS:
-        over = sorted(number.line for number in others)[MOST_CUSTOMERS]
-        text.refuse(over, "customer %d" % (MOST_CUSTOMERS + 1), "at most %d customers" % MOST_CUSTOMERS)
+    judge_count(text, [number.line for number in others])
     rows = [read.nodes[read.depot]] + [read.nodes[number] for number in others]
     judge_rows(text, rows, read.has_visits)
     names = read.names or Names([str(number) for number in [read.depot] + others])
