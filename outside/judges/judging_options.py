@@ -4,7 +4,7 @@ import os
 import shlex
 import sys
 
-from cases.option_cases import ANY, FAKES, FEW, MORE, OPTION_ROWS
+from cases.option_cases import ANY, FAKES, FEW, LIMITED_ROWS, MANY, MORE, OPTION_ROWS
 from judges.judging_faults import fitted_out
 from judges.kind import Kind, number_by
 from judges.running import demand, got, put, run, shown
@@ -34,7 +34,8 @@ FOLDERS = ("outside", "outside/workshop", "bench")
 # The commands, as rows have them, and then the rows.
 COMMANDS = [name if folder == "outside" else "%s/%s" % (folder, name) for folder in FOLDERS
             for name in sorted(os.listdir(os.path.join(TOP, folder))) if is_asked(folder, name)]
-OPTIONS = [("covered", name) for name in COMMANDS] + [("help", name) for name in COMMANDS] + OPTION_ROWS
+OPTIONS = [("covered", name) for name in COMMANDS] + [("help", name) for name in COMMANDS] + (
+    OPTION_ROWS + LIMITED_ROWS)
 
 
 def options_of(command):
@@ -117,6 +118,18 @@ def judge_wrong(folder, words, status, part):
     demand(not more, "%s wrote %s" % (words, more))
 
 
+def judge_limited(folder, words, limit, part):
+    """One line on standard error, by way of a stream that has no limit, and the status 1."""
+    put(os.path.join(folder, "many.csv"), MANY.encode())
+    command, _, rest = words.partition(" ")
+    put(os.path.join(folder, "command"), ("cd '%s'\n(ulimit %s; exec '%s'/%s %s) 2>&1 | cat\nexit ${PIPESTATUS[0]}\n" % (
+        folder, limit, TOP, path_of(command), rest)).encode())
+    out, _, status = run(["/bin/bash", os.path.join(folder, "command")])
+    out = shown(out)
+    demand(status == 1 and out.count("\n") == 1 and out.startswith(path_of(command) + ": ") and part in out,
+           "%s by ulimit %s: status %d, %r, and %r is right" % (words, limit, status, out[-900:], part))
+
+
 def judge_options(program, folder, seed):
     """One row, or one command."""
     kind, words, *told = OPTIONS[seed]
@@ -129,6 +142,8 @@ def judge_options(program, folder, seed):
         demand((errors, status, lacks) == ("", 0, []), "%s --help: %r, without %s" % (words, errors, lacks))
     elif kind == "right":
         judge_right(folder, program, words, *told)
+    elif kind == "limited":
+        judge_limited(folder, words, *told)
     else:
         judge_wrong(folder, words, *told[1:])
     return kind

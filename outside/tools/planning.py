@@ -7,7 +7,7 @@ from reference.texts import tenths
 from tools.carrying import placed
 from tools.judged import judged, ran
 from tools.respelling import certificate, text_of
-from tools.standing import CERTIFICATE, INSTANCE, NAMES, PLAN, TREES
+from tools.standing import CERTIFICATE, INSTANCE, NAMES, PLAN, TREES, lack_of
 from tools.stopping import Patience
 from tools.tool import Refused, count
 from tools.vehicle_numbers import ordered
@@ -15,6 +15,8 @@ from vrptw import SETS, Schedule, neighbours_for, neighbours_of, serves, verdict
 from vrptw.met import plans_in
 
 START = "start.txt"
+# What the program says where it couldn't read or write a file.
+NO_FILE = "vrptw: file"
 # Where a round writes each plan that it meets.
 PLANS = "plans.txt"
 # How many seconds the check of a certificate that stands goes on after a signal, from its start.
@@ -248,7 +250,9 @@ class Planner:
         if kind is None and tree is not None and self.leaves_out(neighbours):
             return self.round(turns, neighbours, seed, until)
         if kind is None:
-            return None, came.fault or "the program ended with status %d" % came.status
+            lack = lack_of(plan) if came.fault == NO_FILE else None
+            return None, lack and "%s: %s" % (self.folder.at(PLAN), lack) or came.fault or (
+                "the program ended with status %d" % came.status)
         if cost is not None:
             self.folder.put_beside(PLAN, self.ordered(held(plan)))
         kind, cost, bound, fault = self.checked(proof, None if cost is None else plan, until)

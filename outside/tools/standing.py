@@ -14,6 +14,20 @@ TREES = {neighbours: "tree_%d.txt" % neighbours for neighbours in range(16)}
 WORK = ".plan_"
 
 
+# So many bytes are tried where the program couldn't write a file.
+TRIED = 1 << 16
+
+
+def lack_of(path):
+    """Why nothing can be written beside a path, in words; None where it can be."""
+    try:
+        with tempfile.TemporaryFile(dir=os.path.dirname(path)) as file:
+            file.write(bytes(TRIED))
+            file.flush()
+    except OSError as fault:
+        return reason_of(fault)
+
+
 class Folder:
     """A folder that one command at a time works in."""
 

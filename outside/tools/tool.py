@@ -1,5 +1,6 @@
 """What the tools have in common: files in and out, numbers, notes, and the one line of a refusal."""
 import argparse
+import errno
 import os
 import re
 import shutil
@@ -16,6 +17,10 @@ MOST_SHOWN, MOST_SAID = 40, 300
 STREAM, INPUT = "-", "standard input"
 # Standard output, which may go to a file that is written, too.
 OUTPUT = "/dev/stdout"
+
+
+# Of a disk without room, of who may have no more of it, and of a file that may grow no more.
+FULL = (errno.ENOSPC, errno.EDQUOT, errno.EFBIG)
 
 
 class Refused(Exception):
@@ -311,16 +316,26 @@ def printed_file(path):
         raise Refused("standard output: %s" % reason_of(fault))
 
 
+def end_with(tool, lines):
+    """Ends with lines on standard error, and the status 1."""
+    for line in lines:
+        told("%s: %s" % (path_of(tool), line))
+    sys.exit(1)
+
+
 def run(tool, work):
     """Does the work, which answers the text for standard output, what is noted, and perhaps a status; a refusal is one
-    line on standard error, or a line for each fault of a table, and the status 1."""
+    line on standard error, or a line for each fault of a table, and the status 1. So is a disk that is full."""
     try:
         text, notes, *status = work()
         printed(text)
     except Refused as refused:
-        for line in refused.lines():
-            told("%s: %s" % (path_of(tool), line))
-        sys.exit(1)
+        end_with(tool, refused.lines())
+    except OSError as fault:
+        # Where no file at all can be written, Python finds no folder for its own, and names none.
+        if fault.errno not in FULL and (fault.errno != errno.ENOENT or fault.filename):
+            raise
+        end_with(tool, ["%s: %s" % (fault.filename or "a file beside", reason_of(fault))])
     for note in REMEMBERED + notes:
         told("%s: note: %s" % (path_of(tool), note))
     sys.exit(status[0] if status else 0)
