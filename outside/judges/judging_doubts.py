@@ -19,6 +19,11 @@ LANGUAGES = {
     "Italian": ("Cliente", "Latitudine", "Longitudine", "Quantità", "Dalle", "Alle", "Durata"),
 }
 TOTALS = ("", "Summe", "Total:", "Totale", "Gesamt")
+# Places in whose midst a sheet lies, and what is said of them where all have latitude and longitude exchanged: of a
+# place in the sea or the ice, or of one that Europe has.
+SOMEWHERE = {(52.5, 13.4): "exchanged they lie in western Europe, ", (40.4, -3.7): "exchanged they lie in western Europe, ",
+             (40.7, -74.0): "nobody lives ", (-23.5, -46.6): "nobody lives ", (28.6, 77.2): "nobody lives ",
+             (-1.9, 30.1): None, (24.7, 46.7): None, (-33.9, 18.4): "nobody lives "}
 DOUBTFUL = re.compile(r"note: doubtful: (.*)\n")
 # What may be put into a field of a customer, and what is wanted there.
 WRONG = {LAT: [("x", "degrees, a number"), ("99,5", "lat of -90 to 90"), ("", "degrees, a number")],
@@ -34,6 +39,7 @@ class Sheet:
 
     def __init__(self, random, most=9):
         self.random, self.language = random, random.choice(sorted(LANGUAGES))
+        self.centre = random.choice(list(SOMEWHERE))
         self.titles = random.choice([[], ["Tour Montag"], ["Tour 7;;;;;;", ""]])
         self.rows = [["Lager", *self.place(), "", "06:00", "18:00", ""]] + [
             ["Kunde %d" % i, *self.place(), "%d" % random.randint(1, 9), "07:%02d" % random.randint(0, 59), "16:30", "%d"
@@ -44,7 +50,7 @@ class Sheet:
 
     def place(self):
         """Degrees with a decimal comma, some kilometres from each other."""
-        return ["%.5f" % (at + self.random.choice([-1, 1]) * self.random.uniform(0.02, 0.06)) for at in (52.5, 13.4)]
+        return ["%.5f" % (at + self.random.choice([-1, 1]) * self.random.uniform(0.02, 0.06)) for at in self.centre]
 
     def summed(self):
         """The sums of demands and of services."""
@@ -83,7 +89,7 @@ def same_place(sheet, i, j):
 
 def far(sheet, i, j):
     """A degree of latitude is 111 km; the others are at most 17 km from the depot."""
-    sheet.rows[i][LAT] = "56.5"
+    sheet.rows[i][LAT] = "%.1f" % (sheet.centre[0] + 4)
     return [i], "%s, line %d: more than 10 times as far from the depot as the median" % (
         sheet.rows[i][NAME], sheet.line_of(i))
 
@@ -92,6 +98,15 @@ def swapped(sheet, i, j):
     i = sheet.random.choice([i, 0])
     sheet.rows[i][LAT], sheet.rows[i][LON] = sheet.rows[i][LON], sheet.rows[i][LAT]
     return [i], "%s, line %d: lat and lon look swapped" % (sheet.rows[i][NAME], sheet.line_of(i))
+
+
+def all_swapped(sheet, i, j):
+    """All places exchanged, where that may be known."""
+    if SOMEWHERE[sheet.centre] is None:
+        return [], None
+    for row in sheet.rows:
+        row[LAT], row[LON] = row[LON], row[LAT]
+    return [], "lat and lon look swapped in all rows: %s" % SOMEWHERE[sheet.centre]
 
 
 def short_window(sheet, i, j):
@@ -104,7 +119,7 @@ def long_service(sheet, i, j):
     return [i], "%s, line %d: a service that is longer than the day" % (sheet.rows[i][NAME], sheet.line_of(i))
 
 
-PLANTED = (same_name, same_row, same_place, far, swapped, short_window, long_service)
+PLANTED = (same_name, same_row, same_place, far, swapped, all_swapped, all_swapped, short_window, long_service)
 
 
 def converted(folder, sheet):

@@ -2,7 +2,7 @@
 from math import hypot
 from statistics import median
 
-from tools.globe import looks_swapped, on_globe
+from tools.globe import all_swapped, looks_swapped, on_globe
 from tools.headings import NAMED
 from tools.noting import DOUBT, Note
 from tools.tool import listed, quoted
@@ -93,6 +93,8 @@ def doubts(values):
     swapped = [row for row, is_so in zip([depot, *rows], looks_swapped([row.place for row in (depot, *rows)])) if is_so
                ] if values.is_projected else []
     found = ["%s: lat and lon look swapped" % several([row.told() for row in swapped])] if swapped else []
+    all_of_them = all_swapped([row.place for row in (depot, *rows)]) if values.is_projected else ""
+    found += ["lat and lon look swapped in all rows: %s" % all_of_them] if all_of_them else []
     lines = {row.line for row in swapped}
     found += [*far(depot, rows, values.is_projected, lines), *doubled(rows), *timed(depot, rows)]
     return [Note("doubtful: " + told, DOUBT) for told in found]

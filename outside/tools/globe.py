@@ -17,6 +17,11 @@ FINE = 10 ** 6
 # How much farther than most a place is that looks swapped, and by how many kilometres at least.
 FAR, LEAST_FAR = 10, 50
 SWAPPED = "; lat and lon look swapped"
+# Where people live, in boxes of least and greatest latitude and longitude; and western Europe, whose places lie in East
+# Africa, Arabia or the sea between where both are exchanged.
+INHABITED = ((7, 72, -170, -52), (-56, 13, -82, -34), (34, 72, -25, 180), (-36, 38, -26, 63), (5, 54, 60, 146),
+             (-48, 20, 92, 180))
+EUROPE = ((35, 71, -11, 20),)
 
 
 def on_globe(first, second):
@@ -55,6 +60,21 @@ def looks_swapped(places):
     most = max(FAR * median(ways), LEAST_FAR)
     return [way > most and abs(place[1]) <= LIMITS["lat"] and on_globe(centre, place[::-1]) < way / FAR
             for way, place in zip(ways, places)]
+
+
+def is_in(place, boxes):
+    return any(south <= place[0] <= north and west <= place[1] <= east for south, north, west, east in boxes)
+
+
+def all_swapped(places):
+    """What speaks for it that latitude and longitude are exchanged in all rows, in words; nothing where nothing does."""
+    here = middle(places)
+    there = here[::-1]
+    if not is_in(here, INHABITED) and is_in(there, INHABITED):
+        return "nobody lives where the places lie"
+    if is_in(there, EUROPE) and not is_in(here, EUROPE):
+        return "exchanged they lie in western Europe, and else in East Africa, Arabia or the sea there"
+    return ""
 
 
 def judge_degrees(values):
