@@ -57,7 +57,7 @@ class Apart:
     def told(self, routes, bound, whose=""):
         """What a bound says of the table, in a sentence, and of how much more routes drive; nothing where that isn't
         known. It may be of some plans, as those with few vehicles."""
-        least = None if bound is None else self.least(bound)
+        least = self.least(bound) if bound else None
         if least is None or least <= 0:
             return ""
         told = "By your table no plan%s that %s allows is shorter than %s %s" % (

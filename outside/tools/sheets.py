@@ -36,7 +36,7 @@ td.tick, th.tick { text-align: center; }
 .box { display: inline-block; width: 1.1em; height: 1.1em; border: 1.5px solid #444; border-radius: .15em; }
 .loading { columns: 16rem auto; color: #333; margin-top: .2rem; }
 .sign { margin-top: 2.2rem; border-top: 1px solid #444; width: 18rem; max-width: 100%; color: #555; }
-@media (max-width: 640px) {
+@media screen and (max-width: 640px) {
   body { padding: .6rem; }
   thead { display: none; }
   table, tbody, tr, td { display: block; width: 100%; }
@@ -48,8 +48,16 @@ td.tick, th.tick { text-align: center; }
   td:empty { display: none; }
 }
 @media print {
-  body { max-width: none; padding: 0; font-size: 10.5pt; }
-  th, td { padding-left: .25rem; padding-right: .25rem; }
+  body { max-width: none; padding: 0; font-size: 9.5pt; line-height: 1.2; }
+  .many { font-size: 7.5pt; line-height: 1.15; }
+  h1 { font-size: 1.1rem; margin: 0; }
+  p, .whole { margin: .15rem 0; }
+  th, td { padding: .1rem .25rem; }
+  td.who { min-width: 0; width: 45%; }
+  .who b, .who i, .late, .loading li { display: inline; }
+  .who i::before, .late::before, .loading li + li::before { content: ", "; }
+  .loading { columns: auto; padding: 0; margin: 0; }
+  .sign { margin-top: 1.2rem; }
   nav { display: none; }
   section { break-after: page; margin: 0; }
   section:last-of-type { break-after: auto; }
@@ -75,6 +83,8 @@ SHELL = """<!DOCTYPE html>
 
 COLUMNS = (("", "number"), ("stop", "who"), ("window", "time"), ("arrival", "time"), ("service", "time"),
            ("departure", "time"), ("hand over", "number"), ("left", "number"), ("done", "tick"))
+# A sheet of more stops is printed in smaller letters, so that it goes on one page as far as it fits.
+MANY = 15
 BOX = '<span class="box"></span>'
 # What stands on the sheets beside the plan: a title, a date, the vehicles by their order, and the language.
 Extras = namedtuple("Extras", "title date vehicles language", defaults=("", "", None, ENGLISH))
@@ -182,9 +192,9 @@ def sheet(sheets, number, route):
     rows.append(depot_row(sheets, "back", units.moment(sums.back), 0))
     head = "".join('<th class="%s">%s</th>' % (kind, escape(sheets.say(word)) if word else "")
                    for word, kind in COLUMNS)
-    return ('<section id="vehicle-%d">%s<p class="whole">%s</p>'
+    return ('<section id="vehicle-%d"%s>%s<p class="whole">%s</p>'
             '<table><thead><tr>%s</tr></thead><tbody>%s</tbody></table>%s<p class="sign">%s</p></section>' % (
-                number, heading(sheets, number), escape(told_whole(sheets, route, sums)), head, "".join(rows),
+                number, ' class="many"' * (len(route) > MANY), heading(sheets, number), escape(told_whole(sheets, route, sums)), head, "".join(rows),
                 loading(sheets, route), escape(sheets.say("sign"))))
 
 
