@@ -62,6 +62,7 @@ FILES = {
     "lkh.txt": "T, Cost: 0_20\nThe tours traveled by the 1 salesmen are:\n1 2 3 4 1 (#4)  Cost: 20\n",
     "c.vrp": "NAME : c\nTYPE : CVRP\nDIMENSION : 2\nCAPACITY : 9\nEDGE_WEIGHT_TYPE : EUC_2D\nNODE_COORD_SECTION\n"
              "1 0 0\n2 3 4\nDEMAND_SECTION\n1 0\n2 1\nDEPOT_SECTION\n1\n-1\nEOF\n",
+    "rules.csv": "Kunde,x,y,Menge,von,bis,Dauer,Abholung,Fahrer-Nr,Farbe\nA,0,0,,0,1000,,,,\nB,3,4,1,0,1000,0,1,7,rot\n",
     "book.xlsx": "PK\x03\x04\x14", "book.csv": "PK\x03\x04\x14",
     "empty.csv": "", "empty.vrp": "", "empty.txt": "",
 }
@@ -246,6 +247,9 @@ report i.txt cr.txt k.txt|cr.txt: lines end in a carriage return and a line feed
 convert point.csv - --to ours --vehicles 5 --capacity 5|times such as "06.00" (line 2) are taken as times of the day, here 06:00
 convert half.csv - --to ours --vehicles 5 --capacity 5|multiplied by 10, the least power of ten
 convert - - --from csv --to ours --vehicles 5 --capacity 5 < half.csv|multiplied by 10, the least power of ten
+convert rules.csv - --to ours --vehicles 5 --capacity 5|note: not used: Abholung, Fahrer-Nr, Farbe
+convert rules.csv - --to ours --vehicles 5 --capacity 5|"Abholung" sounds like a rule (pickup), and the plan doesn't keep
+convert rules.csv - --to ours --vehicles 5 --capacity 5|"Fahrer-Nr" sounds like a rule (driver), and the plan doesn't keep
 """
 # Wrong words, with a part of the one line that tells them; the status is 2.
 WORDS = """

@@ -8,12 +8,13 @@ from tools.csv_scales import fitting
 from tools.csv_values import PLACE, TIMES, WINDOW, Values
 from tools.doubts import doubts
 from tools.globe import laid_out
-from tools.headings import FIRST_LINES, NAMED, SEPARATORS, Headings, heading_line, plain
+from tools.headings import FIRST_LINES, KEPT as KEPT_HEADINGS, NAMED, SEPARATORS, Headings, heading_line, plain
 from tools.layouts import Read, judge_count
 from tools.names import COLUMNS as KEPT
 from tools.names import Names, clean, named
 from tools.noting import OVER, Note
 from tools.priorities import judge_priorities
+from tools.rule_words import noted_rules
 from tools.sheet_faults import Faults
 from tools.table import DECIMAL_COMMA, Table, beginning
 from tools.tool import Found, listed, number, quoted
@@ -114,13 +115,14 @@ def names_in(text, table, quantities):
 
 
 def noted_columns(table, column, quantities):
-    """What is noted of columns that are passed over."""
-    if quantities.keeps_names:
-        return []
-    others = [quoted(one) for one in table.heading if one not in table.columns]
-    return [Note("these columns are passed over: %s%s" % (
-        listed(others), " (--names FILE keeps the names of %s)" % quoted(column) if column else ""), OVER)
-    ] if others else []
+    """What is noted of columns that are passed over, and of those that nobody reads."""
+    used = {*table.columns, *KEPT_HEADINGS, *DEGREES}
+    notes = noted_rules([told for told, one in zip(table.told, table.heading) if told and one not in used])
+    others = [quoted(one) for one in table.heading if one in KEPT_HEADINGS]
+    if not quantities.keeps_names and others:
+        notes.append(Note("these columns are passed over: %s%s" % (
+            listed(others), " (--names FILE keeps the names of %s)" % quoted(column) if column else ""), OVER))
+    return notes
 
 
 def told_names(table):
