@@ -135,6 +135,7 @@ convert i.txt o.vrp --to vrplib|0|o.vrp: DIMENSION : 3
 convert i.txt - --to solomon|0|-: CUST NO.
 convert t.csv o.txt --from csv --vehicles 5 --capacity 7 --name Monday|0|o.txt: Monday & o.txt: 5 7
 convert t.csv o.txt --vehicles 5 --capacity 7 --name ""|0|o.txt: 5 7
+convert t.csv o.txt --vehicles 5 --capacity 12.5|0|o.txt: 5 1 & --: loads are counted in other units, so they fit exactly
 convert t.csv o.txt --vehicles 5 --capacity 7 --scale 3|0|o.txt: 1 9 12 1 0 3000 0
 convert c.vrp o.txt --horizon 9 --vehicles 2|0|o.txt: 1 3 4 1 0 9 0
 convert plain.csv o.txt --horizon 06:00-18:00 --vehicles 2 --capacity 5|0|o.txt: 1 0 4 1 360 1080 0
@@ -331,7 +332,7 @@ outside/workshop/large_trees i.txt --solver folder|--solver|1|folder: met no pro
 plan t.csv --into p.txt --vehicles 2 --capacity 5|--into|1|p.txt: File exists
 plan t.csv --into d --vehicles 2 --capacity 5 --seconds x|--seconds|2|met "x"
 plan t.csv --into d --vehicles 0 --capacity 5|--vehicles|2|met "0"
-plan t.csv --into d --vehicles 2 --capacity 10001|--capacity|2|met "10001"
+plan t.csv --into d --vehicles 2 --capacity x|--capacity|2|met "x"
 plan t.csv --into d --vehicles 2 --capacity 5 --from vrplib|--from|1|t.csv: line 1: met
 plan t.csv --into d --vehicles 2 --capacity 5 --scale 0|--scale|2|met "0"
 plan plain.csv --into d --vehicles 2 --capacity 5 --horizon 0|--horizon|2|met "0"

@@ -62,6 +62,9 @@ FILES = {
     "lkh.txt": "T, Cost: 0_20\nThe tours traveled by the 1 salesmen are:\n1 2 3 4 1 (#4)  Cost: 20\n",
     "c.vrp": "NAME : c\nTYPE : CVRP\nDIMENSION : 2\nCAPACITY : 9\nEDGE_WEIGHT_TYPE : EUC_2D\nNODE_COORD_SECTION\n"
              "1 0 0\n2 3 4\nDEMAND_SECTION\n1 0\n2 1\nDEPOT_SECTION\n1\n-1\nEOF\n",
+    # By hand: 10,000 parts of 30000.1 have 3.00001 each, so the demands take 3334 of them (10002.03334, 2.00334 more) and
+    # 6667: 10001 together.
+    "heavy.csv": "x,y,demand,ready,due,service\n0,0,0,0,1000,0\n3,4,10000.03,0,1000,0\n3,5,20000.07,0,1000,0\n",
     "rules.csv": "Kunde,x,y,Menge,von,bis,Dauer,Abholung,Fahrer-Nr,Farbe\nA,0,0,,0,1000,,,,\nB,3,4,1,0,1000,0,1,7,rot\n",
     "book.xlsx": "PK\x03\x04\x14", "book.csv": "PK\x03\x04\x14",
     "empty.csv": "", "empty.vrp": "", "empty.txt": "",
@@ -92,7 +95,8 @@ plan t.csv --into r --capacity 5|t.csv|3|--vehicles
 plan geo.csv --into r --vehicles 5 --capacity 5|geo.csv|1|met degrees without a speed, wanted --speed N, in km/h
 convert geo.csv o.txt --vehicles 5 --capacity 5|geo.csv|1|met degrees without a speed
 convert far.csv o.txt --vehicles 5 --capacity 5 --speed 30|far.csv|3|met "91" in "lat", wanted lat of -90 to 90
-convert visits.csv o.txt --vehicles 5 --capacity 3333|visits.csv|3|demands 3 times as high, up to 10001
+convert heavy.csv o.txt --vehicles 1 --capacity 30000.1|heavy.csv|4|demands that 1 vehicle holds, and don't fit once they
+convert i.txt o.vrp --capacity 12.5|--capacity|0|met 12.5, wanted a whole number of 1 to 10000 here
 convert moment.csv o.txt --vehicles 5 --capacity 5|moment.csv|3|no moment times 100 is whole
 convert below.csv o.txt --vehicles 5 --capacity 5|below.csv|3|met "-0.4" in "service", wanted a service time of 0 to 1000000
 convert t.csv o.txt --vehicles 5 --capacity 5 --speed 30|t.csv|0|met --speed and no lat and lon, wanted both or none
@@ -247,6 +251,8 @@ report i.txt cr.txt k.txt|cr.txt: lines end in a carriage return and a line feed
 convert point.csv - --to ours --vehicles 5 --capacity 5|times such as "06.00" (line 2) are taken as times of the day, here 06:00
 convert half.csv - --to ours --vehicles 5 --capacity 5|multiplied by 10, the least power of ten
 convert - - --from csv --to ours --vehicles 5 --capacity 5 < half.csv|multiplied by 10, the least power of ten
+convert visits.csv - --to ours --vehicles 5 --capacity 3333|loads are counted in other units, so they fit exactly where they did
+convert heavy.csv - --to ours --vehicles 2 --capacity 30000.1|10000 of it: each load counts up to 2
 convert rules.csv - --to ours --vehicles 5 --capacity 5|note: not used: Abholung, Fahrer-Nr, Farbe
 convert rules.csv - --to ours --vehicles 5 --capacity 5|"Abholung" sounds like a rule (pickup), and the plan doesn't keep
 convert rules.csv - --to ours --vehicles 5 --capacity 5|"Fahrer-Nr" sounds like a rule (driver), and the plan doesn't keep

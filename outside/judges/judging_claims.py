@@ -17,7 +17,7 @@ RADIUS, FINE = 6371.0088, 1e-6
 NUMBER = r"([0-9]+(?:\.[0-9]+)?)"
 SERVES = re.compile(r"[0-9]+ vehicles? serves? (.*) and drives? %s (km|units)(?: \(at most %s \3 off\))?(, and .*)\.$" % (
     NUMBER, NUMBER), re.M)
-LEAST = re.compile(r"^By your table no plan(?: with so few)? that (.*) allows is shorter than %s (km|units), so this one is at most %s \3 "
+LEAST = re.compile(r"^By your table no plan(?: with so few)? that (.*?) allows? is shorter than %s (km|units), so this one is at most %s \3 "
                    r"longer than the best of them\.$" % (NUMBER, NUMBER), re.M)
 MOVED = re.compile(r"^(?:%s (?:km|units) (more|less) than|as far as) the best plan(?:, which has [^,]*)?, at most %s (km|units) "
                    r"off$" % (NUMBER, NUMBER), re.M)

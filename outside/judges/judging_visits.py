@@ -6,7 +6,8 @@ import re
 from fractions import Fraction
 
 from cases.exact_tables import DEMAND, DUE, ExactTable, all_plans, power_for
-from judges.judging_layouts import demand_notes, demand_refusals, tool
+from judges.judging_layouts import demand_notes, tool
+from judges.judging_loads import judge_counted
 from judges.judging_tables import plan_text
 from judges.kind import Kind, tools_by
 from judges.running import demand, got, put
@@ -54,7 +55,7 @@ def place(random, far, tenths):
 
 
 def wrong_line(table):
-    """The line that has to be refused, since the limits don't hold the demands, or None."""
+    """The line of what the limits don't hold by a power of ten, or None."""
     demands, visits = [row[DEMAND] for row in table.rows[1:]], table.visits()
     tens = power_for(demands)
     if tens > 1 and tens * table.capacity > MOST:
@@ -154,16 +155,13 @@ def demand_reasons(table, tens, words, errors):
 def judge_visits(folder, random):
     """A table with any number of stops without demand, by all plans, and what a tool shows of it."""
     table = table_drawn(random)
+    if wrong_line(table) is not None:
+        return "beyond the limits, " + judge_counted(folder, random, table)
     source, target, names, plan = (os.path.join(folder, name) for name in (
         "table.csv", "instance.txt", "names.csv", "plan.txt"))
     put(source, table.text(random))
     came = tool("convert", source, target, "--names", names, "--vehicles", str(table.fleet), "--capacity",
                 str(table.capacity))
-    line = wrong_line(table)
-    if line is not None:
-        demand_refusals("convert", source, line, came)
-        demand(got(target) is None, "convert wrote a file after a refusal")
-        return "refused"
     out, errors, status = came
     demand((out, status) == (b"", 0), "convert: status %d, %r" % (status, errors))
     demand_notes("convert", errors)

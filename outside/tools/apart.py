@@ -60,8 +60,8 @@ class Apart:
         least = self.least(bound) if bound else None
         if least is None or least <= 0:
             return ""
-        told = "By your table no plan%s that %s allows is shorter than %s %s" % (
-            whose, self.called, self.cut(least, False), self.units.measure())
+        told = "By your table no plan%s that %s allow%s is shorter than %s %s" % (
+            whose, self.called, "" if self.called.endswith("s") else "s", self.cut(least, False), self.units.measure())
         if routes is not None:
             more = self.shown(plan_cost(self.instance, routes)) + Fraction(self.off(routes)) - Fraction(least)
             told += ", so this one is at most %s %s longer than the best of them" % (

@@ -5,7 +5,8 @@ from fractions import Fraction
 
 from tools import csv_layout, json_layout, names, objects, solomon_layout, vrplib_layout
 from tools.clock_times import minutes_of
-from tools.layouts import MOST_CAPACITY, MOST_FLEET, MOST_SCALE, MOST_TIME, Quantities, problem_of
+from tools.layouts import MOST_FLEET, MOST_NUMBER, MOST_SCALE, MOST_TIME, Quantities, problem_of
+from tools.loads import DIGITS
 from tools.noting import grouped
 from tools.tool import Refused, Text, count, number, quoted
 from tools.units import Units
@@ -55,6 +56,15 @@ def positive(word):
     return value
 
 
+def load(word):
+    """The reader of what a vehicle holds: of a table it may be any number above 0."""
+    value = number(word)
+    if value is None or not 0 < value <= MOST_NUMBER or value * 10 ** DIGITS % 1:
+        raise argparse.ArgumentTypeError("met %s, wanted a number above 0 and up to %d, of at most %d decimals" % (
+            quoted(word), MOST_NUMBER, DIGITS))
+    return int(value) if value % 1 == 0 else value
+
+
 def column(word):
     """The reader of a pair: our name of a column, and the heading there."""
     ours, sign, theirs = word.partition("=")
@@ -79,7 +89,7 @@ def add_words(found):
     """Adds the options that say what a file doesn't hold, or how it is read."""
     found.add_argument("--from", dest="source_layout", choices=READERS, help="the layout of FROM")
     found.add_argument("--vehicles", type=count(1, MOST_FLEET), metavar="N", help="how many vehicles there are")
-    found.add_argument("--capacity", type=count(1, MOST_CAPACITY), metavar="N", help="what each vehicle holds")
+    found.add_argument("--capacity", type=load, metavar="N", help="what each vehicle holds")
     found.add_argument("--name", help="the name of the instance")
     found.add_argument("--scale", type=count(1, MOST_SCALE), metavar="N", help="multiplies coordinates and times")
     found.add_argument("--horizon", type=horizon, metavar="TIME",

@@ -105,13 +105,15 @@ def names_in(text, table, quantities):
         one or any(fields[place] for _, fields in table.rows))] if quantities.keeps_names else []
     degrees = [table.heading.index(one) for one in DEGREES
                if one in table.columns] if quantities.keeps_names else []
-    if column is None and not others + degrees:
+    loads = quantities.counted.words() if quantities.counted else []
+    if column is None and not others + degrees + loads:
         return None, None
     names = [named(table.field(fields, column), number) for number, (_, fields) in enumerate(table.rows)]
     headings = [clean(table.heading[other]) + (" there" if table.heading[other] in KEPT else "") for other in others]
     further = [[clean(fields[other]) for other in others] + [fields[place].replace(",", ".") for place in degrees]
                for _, fields in table.rows]
-    return column, Names(names, headings + DEGREES[:len(degrees)], further)
+    further = [own + loads[number:number + 1] for number, own in enumerate(further)]
+    return column, Names(names, headings + DEGREES[:len(degrees)] + ["demand"] * bool(loads), further)
 
 
 def noted_columns(table, column, quantities):
@@ -172,6 +174,8 @@ def read(text, quantities):
     units = Units(quantities.scale, int(values.is_clock), demands=quantities.demand_scale)
     units = units.but(speed=quantities.speed, detour=quantities.detour) if quantities.is_projected else units.but(
         off=quantities.off)
+    if quantities.counted:
+        units = units.but(demands=10 ** quantities.counted.digits(), capacity=quantities.counted.whole)
     return Read(None, None, None, nodes, 0, noted_columns(table, column, quantities) + table.notes
                 + list(noted_numbers(table, values.is_clock)) + values.notes + notes, names, units, True,
                 ";" if table.parted_by == ";" else ",")

@@ -44,11 +44,13 @@ def judge_depot(values):
 
 def judge_rows(values, quantities):
     """Keeps all numbers that no scale, or not the given one, makes right as faults, and windows that are reversed."""
-    given = quantities.scale if quantities.is_scaled else None
+    given, capacity = quantities.scale if quantities.is_scaled else None, quantities.capacity_given or 0
     judged = [column for column in LIMITS if column in values.table.columns]
     for line, row in values.rows:
         for column in judged:
-            judge_cell(values.faults, line, column, row[column], None if column == "demand" else given)
+            # A demand above the limit may be within a capacity above it.
+            if column != "demand" or row[column].value is None or not 0 <= row[column].value <= capacity:
+                judge_cell(values.faults, line, column, row[column], None if column == "demand" else given)
         ready, due = row["ready"], row["due"]
         # What an empty field has of the depot may be at fault there.
         is_wrong = values.faults.has(line, WINDOW) or values.faults.has(values.rows[0][0], values.filled[line])

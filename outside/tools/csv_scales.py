@@ -2,6 +2,7 @@
 from fractions import Fraction
 from math import ceil, floor
 
+from tools.counting import counted
 from tools.csv_values import PLACE, TIMES
 from tools.layouts import HINT, MOST_CAPACITY, MOST_COORDINATE, MOST_TIME
 from tools.noting import ROUNDED, Note
@@ -53,6 +54,8 @@ def nearest(value):
 # By how many times as much as a coordinate a way between two places is off at most: twice the root of 2, and more by
 # less than a thousandth.
 APART = Fraction(2829, 1000)
+# The tenth of a unit to which a way is cut.
+CUT = Fraction(1, 10)
 # How what isn't whole is rounded: no service begins before its window or after it, or is cut short.
 WAYS = {"x": nearest, "y": nearest, "ready": ceil, "due": floor, "service": ceil}
 
@@ -70,7 +73,7 @@ def rounded(values, scale, measure):
         if row["due"].value < row["ready"].value:
             values.faults.add(line, None, "a window from %s to %s, in which no moment times %d is whole" % (
                 quoted(row["ready"]), quoted(row["due"]), scale), "one in which one is" + HINT)
-    values.quantities.off = Fraction(ceil(1000 * (APART * places + Fraction(1, 10))), 1000)
+    values.quantities.off = Fraction(ceil(1000 * (APART * places + CUT)), 1000)
     return [Note("%d numbers are rounded, by at most %s %s: places to the nearest, windows inwards, services up. What "
                  "is proved is proved of the rounded numbers" % (count, at_most(most / scale), measure), ROUNDED)]
 
@@ -78,14 +81,27 @@ def rounded(values, scale, measure):
 def demands(values, quantities):
     """Chooses the power of ten that makes demands whole, as far as the capacity has room. Answers what is noted; a
     demand that isn't whole then, or too high, is a fault."""
-    cells = values.cells(["demand"])
+    cells, given = values.cells(["demand"]), quantities.capacity_given
     exact = [scale for scale in POWERS if is_whole(cells, scale)]
-    given = quantities.capacity_given
-    if exact and exact[0] > 1 and given is not None and given * exact[0] <= MOST_CAPACITY:
-        quantities.demand_scale = exact[0]
+    if given is None or exact and holds(values, given, exact[0]):
+        quantities.demand_scale = exact[0] if exact and given is not None else 1
+    else:
+        quantities.counted = counted(values, given)
     judge_demands(values, quantities.demand_scale)
+    if quantities.counted is not None:
+        # Ways are no less exact than without.
+        quantities.off = CUT if quantities.off is None and quantities.counted.lost else quantities.off
+        return [quantities.counted.noted()]
     return [Note("demands and the capacity are multiplied by %d, so that all are whole" % exact[0], ROUNDED)
             ] if quantities.demand_scale > 1 else []
+
+
+def holds(values, capacity, scale):
+    """Whether the limits hold capacity and demands multiplied by a scale, with room for stops without demand."""
+    found = [row["demand"].value for _, row in values.rows]
+    visits = found[1:].count(0)
+    most = max(capacity * (visits + 1) * scale + visits, max(found) * (visits + 1) * scale)
+    return (capacity * scale) % 1 == 0 and most <= MOST_CAPACITY
 
 
 def judge_demands(values, scale):

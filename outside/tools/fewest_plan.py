@@ -5,6 +5,7 @@ import shutil
 from tools.apart import apart_of
 from tools.day import FEWEST
 from tools.fleets import Fleets, with_fleet
+from tools.loads import as_there
 from tools.places import as_called
 from tools.respelling import certificate
 from tools.standing import CERTIFICATE, INSTANCE, PLAN, Folder
@@ -50,8 +51,11 @@ def fewest_told(found, folder, names):
             os.path.join(folder, "%d.%s" % (fewer, ending)) for ending in ("instance", "certificate"))
         whose = " of %s" % apart.called if apart else ""
     else:
-        why = "the demands are %s, and so many hold %s" % (
-            units.load(sum(row[2] for row in instance.rows)), units.room(instance.capacity, fewer))
+        there = as_there(instance, names)
+        whole = sum(row[2] for row in there.rows)
+        why = "the demands are %s, and so many hold %s" % (units.load(whole), units.room(there.capacity, fewer))
+        if units.whole(whole) <= fewer * units.whole(there.capacity):
+            whose, why = " of the rounded loads", why + ", but not once loads are rounded"
     vehicles = "%d vehicle%s" % (fewer, "" if fewer == 1 else "s")
     if low == high:
         return "Fewer vehicles don't do: with %s there is no plan%s (%s)." % (vehicles, whose, why)

@@ -89,7 +89,8 @@ def multiplied(word, scale):
 
 def in_units(rows, units):
     """Rows whose numbers are those of the instance that had these units."""
-    factors = {**dict.fromkeys(MEASURED, units.scale), "demand": units.demands}
+    # Loads that are counted otherwise are those of the table, and counted anew.
+    factors = {**dict.fromkeys(MEASURED, units.scale), **({"demand": units.demands} if units.capacity is None else {})}
     return [{name: multiplied(word, factors[name]) if name in factors else word for name, word in row.items()}
             for row in rows]
 
@@ -138,8 +139,11 @@ def read(text, quantities):
     quantities.as_numbers = True
     if units is not None:
         rows, quantities.scale, quantities.is_scaled = in_units(rows, units), 1, True
-    fleet, capacity = (judge(found.line, told[name]) if name in told else None for name, judge in (
-        ("vehicles", quantities.fleet), ("capacity", quantities.capacity)))
+    is_counted = units is not None and units.capacity is not None
+    fleet, capacity = (judge(found.line, told[name]) if name in told and not (is_counted and name == "capacity") else None
+                       for name, judge in (("vehicles", quantities.fleet), ("capacity", quantities.capacity)))
+    if quantities.capacity_given is None and is_counted:
+        quantities.capacity_given = units.capacity
     if quantities.capacity_given is None and units is None:
         quantities.capacity_given = capacity
     came = csv_layout.read(as_table(text, rows, [place.line for place in found[PLACES]]), quantities)

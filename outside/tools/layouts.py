@@ -12,7 +12,7 @@ from reference.instances import MOST_CUSTOMERS
 from tools import unservable
 from tools.names import Names
 from tools.noting import OVER, ROUNDED, Note
-from tools.tool import Found, quoted
+from tools.tool import Found, Refused, bare, quoted
 from tools.units import Units
 
 # The limits of ours, and those of the numbers of places there and of the scale.
@@ -49,6 +49,8 @@ class Quantities:
         self.speed, self.detour, self.demand_scale = given.speed, given.detour or DETOUR, 1
         # By how much a way of rounded numbers is off at most, in units of the instance; None where none is rounded.
         self.is_projected, self.off = False, None
+        # How loads are counted where no power of ten does.
+        self.counted = None
 
     def noted_scale(self, why=None):
         """What is noted of a scale."""
@@ -198,6 +200,22 @@ def with_visits(text, rows, capacity):
         "capacity of %d becomes %d, so loads fit exactly where they did" % (len(visits), line, factor, capacity, room)]
 
 
+def capacity_of(text, quantities, read, given, fleet, notes):
+    """What a vehicle holds, as loads are counted."""
+    found = quantities.counted
+    if found is not None:
+        if found.refuses(fleet):
+            text.at_end("less, or a vehicle more", "demands that %s, and don't fit once they are rounded to parts of the "
+                        "capacity, %d of it" % ("1 vehicle holds" if fleet == 1 else "%d vehicles hold" % fleet,
+                                                found.capacity))
+        return found.capacity
+    capacity = number_of(text, "--capacity", given.capacity, read.capacity, CAPACITY, notes)
+    capacity = capacity * (read.units.demands if read.units else 1)
+    if capacity % 1 or capacity > MOST_CAPACITY:
+        raise Refused("--capacity: met %s, wanted a whole number of 1 to %d here" % (bare(given.capacity), MOST_CAPACITY))
+    return int(capacity)
+
+
 def problem_of(text, quantities, read, given):
     """The problem of what was read, and what is noted; given are the options."""
     notes = list(read.notes)
@@ -207,9 +225,9 @@ def problem_of(text, quantities, read, given):
     rows, names, renumbered = in_order(text, read)
     rows, is_moved = moved(text, rows)
     fleet = number_of(text, "--vehicles", given.vehicles, read.fleet, FLEET, notes)
-    capacity = number_of(text, "--capacity", given.capacity, read.capacity, CAPACITY, notes)
     units = read.units or Units(quantities.scale, int(quantities.is_clock))
-    rows, capacity, visits, is_visited = with_visits(text, rows, capacity * units.demands)
+    capacity = capacity_of(text, quantities, read, given, fleet, notes)
+    rows, capacity, visits, is_visited = with_visits(text, rows, capacity)
     names.units, names.separator = units.but(visits=visits), read.separator
     found = Problem(name_of(text.path, given.name, read.name, notes), fleet, capacity, rows, names)
     head = "by the rounded numbers " if quantities.off is not None else ""

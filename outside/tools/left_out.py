@@ -5,6 +5,7 @@ from collections import namedtuple
 from reference.instances import is_plan, walk_times
 from tools.choosing import Choice
 from tools.dialects import dialect_of, spelled
+from tools.loads import as_there
 from tools.reasons import earliest, latest
 from tools.touring import Tables, Tour
 
@@ -22,6 +23,7 @@ class LeftOut:
 
     def __init__(self, instance, names, routes, barred):
         self.instance, self.names, self.units, self.barred = instance, names, names.units, set(barred)
+        self.there = as_there(instance, names)
         self.tables, self.routes = Tables(instance), [list(route) for route in routes]
         self.tours = [Tour(self.tables, route) for route in self.routes]
         served = {i for route in routes for i in route}
@@ -35,10 +37,9 @@ class LeftOut:
 
     def reason(self, i):
         """Why one isn't served, in a planner's words; of the plan that stands where no plan at all is at fault."""
-        units, instance = self.units, self.instance
+        units, instance, there = self.units, self.instance, self.there
         if self.is_heavy(i):
-            return "it takes %s, and a vehicle holds %s" % (
-                units.load(instance.demand(i)), units.load(instance.capacity))
+            return "it takes %s, and a vehicle holds %s" % (units.load(there.demand(i)), units.load(there.capacity))
         if i in self.barred:
             at, by = self.bounds(i)
             return "a vehicle is there at %s at the earliest, and it is due at %s" % (
@@ -48,11 +49,19 @@ class LeftOut:
         free = max([instance.capacity - tour.load for tour in self.tours], default=0)
         free = instance.capacity if len(self.tours) < instance.fleet else free
         if instance.demand(i) > free and not units.whole(free):
-            return "it takes %s, and every vehicle is full" % units.load(instance.demand(i))
+            return "it takes %s, and every vehicle is full" % units.load(there.demand(i))
+        if instance.demand(i) > free and there.demand(i) <= self.free():
+            return "it takes %s, which no vehicle has room for once loads are rounded" % units.load(there.demand(i))
         if instance.demand(i) > free:
             return "it takes %s, and the most that a vehicle has room for is %s" % (
-                units.load(instance.demand(i)), units.load(free))
+                units.load(there.demand(i)), units.load(self.free()))
         return "no vehicle that has room for it can be there in time and serve its others in time"
+
+    def free(self):
+        """The most that a vehicle has room for, in loads of the table."""
+        there = self.there
+        loads = [sum(map(there.demand, route)) for route in self.routes]
+        return there.capacity - min(loads if len(loads) == self.instance.fleet else [*loads, 0])
 
     def bounds(self, i):
         """When the service of one may begin at the earliest, and has to at the latest, by any ways."""
@@ -86,7 +95,7 @@ class LeftOut:
 
     def row(self, i):
         units, instance = self.units, self.instance
-        demand = units.load(instance.demand(i)) if instance.demand(i) >= units.visits else "a visit"
+        demand = units.load(self.there.demand(i)) if self.there.demand(i) >= units.visits else "a visit"
         return Row(i, self.names.called(i), demand, units.moment(instance.ready(i)), units.moment(instance.due(i)),
                    self.reason(i), self.due_that_does(i))
 
@@ -95,7 +104,7 @@ class LeftOut:
         self.advice = []
         if not self.barred:
             self.advice += self.tried(self.more_vehicles(), is_over)
-        if all(self.is_heavy(i) for i in self.barred):
+        if all(self.is_heavy(i) for i in self.barred) and self.units.capacity is None:
             self.advice += self.tried(self.more_room(), is_over)
         if len(self.rows) == 1 and self.rows[0].would_do:
             self.advice.append("%s %s" % (self.rows[0].name, self.rows[0].would_do))

@@ -3,6 +3,7 @@ from fractions import Fraction
 
 from reference.instances import route_cost
 from tools.apart import apart_of
+from tools.loads import as_there
 from tools.names import Names
 from tools.timing import EARLY, leaving, walked
 from tools.tool import listed
@@ -16,7 +17,7 @@ class Judged:
 
     def __init__(self, instance, names, moved, depart):
         self.instance, self.routes, self.depart, self.units = instance, moved.routes, depart, units_of(names)
-        self.apart = apart_of(instance, names)
+        self.apart, self.there = apart_of(instance, names), as_there(instance, names)
         self.names = names or Names([str(i) for i in range(instance.count + 1)])
         self.vehicles = {}
         for called, route in self.routes:
@@ -47,9 +48,10 @@ class Judged:
     def wrong_of(self, called, route):
         """What is wrong with a vehicle: its load, and each stop that is late though it leaves when the depot opens."""
         instance, units = self.instance, self.units
-        load = sum(instance.demand(i) for i in route)
-        if load > instance.capacity:
-            yield "vehicle %s carries %s, and holds %s" % (called, units.load(load), units.load(instance.capacity))
+        load, there = sum(map(self.there.demand, route)), self.there
+        if sum(map(instance.demand, route)) > instance.capacity:
+            by = "" if load > there.capacity else ", which its rounded loads fill"
+            yield "vehicle %s carries %s, and holds %s%s" % (called, units.load(load), units.load(there.capacity), by)
         for stop in walked(instance, route, leaving(instance, route, EARLY)):
             if stop.slack < 0:
                 begin, due = units.floor(stop.begin), units.floor(stop.begin + stop.slack)
@@ -62,11 +64,11 @@ class Judged:
         instance, units, rows = self.instance, self.units, []
         for called, route in self.routes:
             leaves = leaving(instance, route, self.depart)
-            rows.append([called, "%d" % len(route), units.load(sum(instance.demand(i) for i in route)),
+            rows.append([called, "%d" % len(route), units.load(sum(map(self.there.demand, route))),
                          units.distance(route_cost(instance, route)), units.moment(units.floor(leaves)),
                          units.moment(units.floor(walked(instance, route, leaves)[-1].end))])
         whole = [i for _, route in self.routes for i in route]
-        return rows + [["plan", "%d" % len(whole), units.load(sum(map(instance.demand, whole))),
+        return rows + [["plan", "%d" % len(whole), units.load(sum(map(self.there.demand, whole))),
                         units.distance(self.cost()), "", ""]]
 
     def compared(self, best, routes):

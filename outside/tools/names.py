@@ -37,8 +37,9 @@ class Names(list):
         return tuple(map(float, words)) if is_one else None
 
     def shown(self):
-        """The places of further columns that aren't degrees: those are told as places alone."""
-        return [place for place, heading in enumerate(self.headings) if heading not in DEGREES]
+        """The places of further columns that aren't degrees or demands: those are told as places and loads alone."""
+        kept = {*DEGREES, *(["demand"] if self.units.capacity is not None else [])}
+        return [place for place, heading in enumerate(self.headings) if heading not in kept]
 
     def remarks(self, i):
         """What more stands there of a customer, as pairs of a heading and a field."""

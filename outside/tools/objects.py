@@ -3,6 +3,7 @@ the units of the table that came in; where its times are of the day, `clock` has
 import json
 
 from tools.apart import apart_of
+from tools.loads import as_there
 from tools.names import DEGREES
 from tools.timing import LATE, Stop, Sums, cells, further_cells, shares, stops, sum_cells, sums_shown, total
 from tools.tool import number
@@ -111,6 +112,7 @@ def plan_object(instance, exact, shown, units, reasons):
 def timetable(instance, routes, names=None, depart=LATE):
     """Instance, routes with their stops, and plan, as a text."""
     units, reasons, found, apart = units_of(names), reasons_of(instance, routes), [], apart_of(instance, names)
+    instance = as_there(instance, names)
     exact, shown = ([sums_shown(instance, route, one, depart) for route in routes] for one in (units.exact(), units))
     for place, route in enumerate(routes, 1):
         own = [reason for reason in reasons if reason.route == place]

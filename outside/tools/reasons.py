@@ -1,6 +1,7 @@
 """Why an instance has no plan, as far as plain arithmetic tells."""
 from collections import namedtuple
 
+from tools.loads import as_there
 from tools.units import units_of
 
 # One line, whether it proves that there is no plan, the customer that it is of, or None, and whether times say it.
@@ -49,8 +50,8 @@ def alone_by(instance, i):
 class Words:
     """How customers, times and demands are told: by numbers, or as a table of names has them."""
 
-    def __init__(self, names=None):
-        self.names, self.units = names, units_of(names)
+    def __init__(self, instance, names=None):
+        self.names, self.units, self.there = names, units_of(names), as_there(instance, names)
 
     def customer(self, i):
         return "customer %d" % i if self.names is None else self.names.called(i)
@@ -65,7 +66,7 @@ def heavy(instance, words):
     for i in range(1, instance.count + 1):
         if instance.demand(i) > instance.capacity:
             yield Reason("%s can't be served: met a demand of %s, wanted at most %s, which a vehicle holds" % (
-                words.customer(i), words.units.load(instance.demand(i)), words.units.load(instance.capacity)), True, i)
+                words.customer(i), words.units.load(words.there.demand(i)), words.units.load(words.there.capacity)), True, i)
 
 
 def late(instance, words):
@@ -87,16 +88,16 @@ def late(instance, words):
 def too_much(instance, words):
     """All demands together, where the fleet doesn't hold them: as they were before some had none, which proves it,
     too, since parts that are cut to whole ones are together no more than their sum cut so."""
-    units, whole = words.units, sum(row[2] for row in instance.rows)
+    units, whole = words.units, sum(row[2] for row in words.there.rows)
     if sum(units.whole(row[2]) for row in instance.rows) > instance.fleet * units.whole(instance.capacity):
         yield Reason("the fleet can't serve all: met a demand of %s, wanted at most %s, which %s" % (
-            units.load(whole), units.room(instance.capacity, instance.fleet),
+            units.load(whole), units.room(words.there.capacity, instance.fleet),
             "1 vehicle holds" if instance.fleet == 1 else "%d vehicles hold" % instance.fleet), True, None)
 
 
 def reasons(instance, names=None):
     """All reasons, those of single customers first, told by numbers or as a table of names has them."""
-    words = Words(names)
+    words = Words(instance, names)
     return [*heavy(instance, words), *late(instance, words), *too_much(instance, words)]
 
 

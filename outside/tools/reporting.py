@@ -9,6 +9,7 @@ from tools.apart import apart_of
 from tools.drawing import HEAD, colour, dash, is_hollow, plural
 from tools.drawing_map import Frame, drawn_map
 from tools.drawing_times import AXIS, FIGURES, LANES, Scale, drawn_bars
+from tools.loads import as_there
 from tools.places import as_called
 from tools.reasons import proofs_of
 from tools.reporting_page import SCRIPT, SHELL, STYLE
@@ -32,7 +33,7 @@ class Report:
     where there is none, and the values of its leaves where its tree isn't drawn; and when vehicles leave."""
 
     def __init__(self, instance, names, routes, cost, certificate, values, paths, depart=LATE):
-        self.instance, self.names, self.routes, self.cost, self.depart = instance, names, routes, cost, depart
+        self.instance, self.names, self.routes, self.cost, self.depart = as_there(instance, names), names, routes, cost, depart
         self.certificate, self.values, self.paths = certificate, values, paths
         self.bound = certificate.bound if certificate else None
         self.units, self.apart = units_of(names), apart_of(instance, names)

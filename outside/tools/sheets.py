@@ -3,6 +3,7 @@ from collections import namedtuple
 from html import escape
 
 from tools.apart import apart_of
+from tools.loads import as_there
 from tools.sheet_words import ENGLISH, WORDS
 from tools.timing import LATE, as_shown, stops, sums_shown
 from tools.units import units_of
@@ -94,7 +95,7 @@ class Sheets:
     """What the sheets of a plan are made of."""
 
     def __init__(self, instance, names, routes, depart, extras):
-        self.instance, self.names, self.routes, self.units = instance, names, routes, units_of(names)
+        self.instance, self.names, self.routes, self.units = as_there(instance, names), names, routes, units_of(names)
         self.depart, self.extras, self.words = depart, extras, WORDS[extras.language]
         self.apart = apart_of(instance, names)
 

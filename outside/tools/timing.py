@@ -3,6 +3,7 @@ from collections import namedtuple
 
 from reference.instances import route_cost
 from tools.dialects import dialect_of, spelled
+from tools.loads import as_there
 from tools.units import units_of
 import vrptw
 
@@ -85,7 +86,7 @@ def tables(instance, routes, names=None, depart=LATE):
     """The stops of all routes, the sums, and the shares of the plan, as rows of words below their headings; names, and
     what more their table says, stand in the stops' last columns. Times and distances are as they were there, where it
     tells that."""
-    units = units_of(names)
+    units, instance = units_of(names), as_there(instance, names)
     by_stop = [["route", *Stop._fields] + further_cells(names, None)]
     by_route = [["route", *Sums._fields]]
     found = [sums_shown(instance, route, units, depart) for route in routes]

@@ -11,9 +11,10 @@ MARK = "# vrptw units:"
 TOLD = re.compile(r'"?# ?vrptw units:(.*)\Z')
 PAIR = re.compile(r"([a-z]+)=([0-9]{1,9}(?:/[0-9]{1,9})?)\Z")
 # What is usual of each, which isn't told.
-USUAL = {"scale": 1, "clock": 0, "speed": None, "demands": 1, "visits": 1, "detour": None, "off": None}
+USUAL = {"scale": 1, "clock": 0, "speed": None, "demands": 1, "visits": 1, "detour": None, "off": None,
+         "capacity": None}
 # Those that may be parts of a whole.
-PARTS = ("speed", "detour", "off")
+PARTS = ("speed", "detour", "off", "capacity")
 HOUR, DAY = 60, 24 * 60
 UPWARDS = Context(prec=2, rounding=ROUND_UP)
 
@@ -41,11 +42,11 @@ class Units:
     With a speed in km/h one there is a minute of driving, by ways that are so many times (`detour`) as long as straight
     lines. Demands there are multiplied by two factors, of which the second one makes room for stops without demand:
     each of them has 1, and all of them less than the factor. Where numbers were rounded, a way is `off` by at most so
-    many units of the instance."""
+    many units of the instance. Where loads are counted otherwise the names' table has them, and this the capacity."""
 
-    def __init__(self, scale=1, clock=0, speed=None, demands=1, visits=1, detour=None, off=None):
+    def __init__(self, scale=1, clock=0, speed=None, demands=1, visits=1, detour=None, off=None, capacity=None):
         self.scale, self.clock, self.speed, self.demands, self.visits = scale, clock, speed, demands, visits
-        self.detour, self.off = detour, off
+        self.detour, self.off, self.capacity = detour, off, capacity
         self.is_plain = self.told() == USUAL
 
     def told(self):

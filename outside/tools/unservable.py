@@ -2,6 +2,7 @@
 import heapq
 
 from reference.instances import Instance
+from tools.loads import as_there
 from tools.reasons import earliest
 from tools.tool import listed
 
@@ -49,19 +50,20 @@ def notes(problem):
     full = [i for i in everyone if instance.demand(i) > instance.capacity]
     late = [i for i in everyone if arrivals[i] > instance.due(i)]
     behind = [i for i in everyone if i not in late and finish[i] > instance.due(0)]
-    units = problem.names.units
+    units, there = problem.names.units, as_there(instance, problem.names)
     if full:
         yield told(full, head(problem, full[0], 2) + "has a demand of %s, and a vehicle holds %s" % (
-            units.load(instance.demand(full[0])), units.load(instance.capacity)))
+            units.load(there.demand(full[0])), units.load(there.capacity)))
     if late:
         yield told(late, head(problem, late[0], 4) + "is reached at %s at the earliest, and is due at %s" % (
             units.moment(arrivals[late[0]]), units.moment(instance.due(late[0]))))
     if behind:
         yield told(behind, head(problem, behind[0], 4) + "lets a vehicle be back at %s at the earliest, and the depot "
                    "closes at %s" % (units.moment(finish[behind[0]]), units.moment(instance.due(0))))
-    total = sum(instance.demand(i) for i in everyone)
-    if not full and units.whole(total) > instance.fleet * units.whole(instance.capacity):
+    total = sum(there.demand(i) for i in everyone)
+    is_much = units.whole(sum(map(instance.demand, everyone))) > instance.fleet * units.whole(instance.capacity)
+    if not full and is_much:
         yield "there is no plan: the demands are %s together, and %s of %s hold%s %s" % (
             units.load(total), "1 vehicle" if instance.fleet == 1 else "%d vehicles" % instance.fleet,
-            units.load(instance.capacity), "s" if instance.fleet == 1 else "",
-            units.room(instance.capacity, instance.fleet))
+            units.load(there.capacity), "s" if instance.fleet == 1 else "",
+            units.room(there.capacity, instance.fleet))
