@@ -62,10 +62,11 @@ FILES = {
     "lkh.txt": "T, Cost: 0_20\nThe tours traveled by the 1 salesmen are:\n1 2 3 4 1 (#4)  Cost: 20\n",
     "c.vrp": "NAME : c\nTYPE : CVRP\nDIMENSION : 2\nCAPACITY : 9\nEDGE_WEIGHT_TYPE : EUC_2D\nNODE_COORD_SECTION\n"
              "1 0 0\n2 3 4\nDEMAND_SECTION\n1 0\n2 1\nDEPOT_SECTION\n1\n-1\nEOF\n",
-    # By hand: 10,000 parts of 30000.1 have 3.00001 each, so the demands take 3334 of them (10002.03334, 2.00334 more) and
-    # 6667: 10001 together.
+    # By hand: 10,000 parts of 30000.1 have 3.00001 each, so the demands take 3334 of them (10002.03334, 2.00334 more)
+    # and 6667: 10001 together.
     "heavy.csv": "x,y,demand,ready,due,service\n0,0,0,0,1000,0\n3,4,10000.03,0,1000,0\n3,5,20000.07,0,1000,0\n",
-    "rules.csv": "Kunde,x,y,Menge,von,bis,Dauer,Abholung,Fahrer-Nr,Farbe\nA,0,0,,0,1000,,,,\nB,3,4,1,0,1000,0,1,7,rot\n",
+    "rules.csv": "Kunde,x,y,Menge,von,bis,Dauer,Abholung,Fahrer-Nr,Farbe\nA,0,0,,0,1000,,,,\n"
+                 "B,3,4,1,0,1000,0,1,7,rot\n",
     "book.xlsx": "PK\x03\x04\x14", "book.csv": "PK\x03\x04\x14",
     "empty.csv": "", "empty.vrp": "", "empty.txt": "",
 }

@@ -21,9 +21,9 @@ LANGUAGES = {
 TOTALS = ("", "Summe", "Total:", "Totale", "Gesamt")
 # Places in whose midst a sheet lies, and what is said of them where all have latitude and longitude exchanged: of a
 # place in the sea or the ice, or of one that Europe has.
-SOMEWHERE = {(52.5, 13.4): "exchanged they lie in western Europe, ", (40.4, -3.7): "exchanged they lie in western Europe, ",
-             (40.7, -74.0): "nobody lives ", (-23.5, -46.6): "nobody lives ", (28.6, 77.2): "nobody lives ",
-             (-1.9, 30.1): None, (24.7, 46.7): None, (-33.9, 18.4): "nobody lives "}
+EUROPE, NOBODY = "exchanged they lie in western Europe, ", "nobody lives "
+SOMEWHERE = {(52.5, 13.4): EUROPE, (40.4, -3.7): EUROPE, (40.7, -74.0): NOBODY, (-23.5, -46.6): NOBODY,
+             (28.6, 77.2): NOBODY, (-33.9, 18.4): NOBODY, (-1.9, 30.1): None, (24.7, 46.7): None}
 DOUBTFUL = re.compile(r"note: doubtful: (.*)\n")
 # What may be put into a field of a customer, and what is wanted there.
 WRONG = {LAT: [("x", "degrees, a number"), ("99,5", "lat of -90 to 90"), ("", "degrees, a number")],

@@ -1,5 +1,5 @@
-"""One run of `convert` on a table with loads that no power of ten makes whole within the limits: what fits in the instance
-fits in the table, by all plans, and no load counts more than is told; the tools show the table's loads."""
+"""One run of `convert` on a table with loads that no power of ten makes whole within the limits: what fits in the
+instance fits in the table, by all plans, and no load counts more than is told; the tools show the table's loads."""
 import csv
 import math
 import os
@@ -33,7 +33,7 @@ def table_drawn(random):
     if random.randrange(6) == 0 and max(demands) <= MOST:
         capacity = Fraction(max(1, int(max(demands) / 2)))
     rows = [(Fraction(0),) * 4 + (Fraction(1000), Fraction(0))] + [
-        (Fraction(random.randint(0, 30)), Fraction(random.randint(0, 30)), own, Fraction(0), Fraction(1000), Fraction(0))
+        (*(Fraction(random.randint(0, 30)) for _ in "xy"), own, Fraction(0), Fraction(1000), Fraction(0))
         for own in demands]
     return ExactTable(rows, random.randint(1, 3), capacity)
 
@@ -64,8 +64,8 @@ def demand_lost(table, instance, errors):
     if told is None:
         return
     parts = finest(table)[0]
-    demand(int(told[1]) == parts and instance.capacity == parts * (visits + 1) + visits, "%d parts, and %d are right" % (
-        instance.capacity, parts))
+    demand(int(told[1]) == parts and instance.capacity == parts * (visits + 1) + visits, "%d is the capacity, and %d "
+           "parts are right" % (instance.capacity, parts))
     more = [Fraction(instance.demand(i) // (visits + 1), parts) * table.capacity - table.rows[i][DEMAND]
             for i in range(1, table.count + 1) if table.rows[i][DEMAND]]
     demand(max(more) <= Fraction(told[2]) <= max(more) * Fraction(11, 10) and min(more) >= 0, "%r: %s" % (
@@ -87,8 +87,8 @@ def demand_shown(table, instance, plan, folder):
     demand(again and (again.rows, again.capacity) == (instance.rows, instance.capacity), "of the object: %r" % errors)
     page = os.path.join(folder, "page.html")
     out, errors, status = tool("report", *paths[:2], "--names", paths[2], "-o", page)
-    holds = "and a vehicle holds "
-    demand(status == 0 and Fraction(got(page).decode().partition(holds)[2].split("<")[0]) == table.capacity, "%r" % errors)
+    held = got(page).decode().partition("and a vehicle holds ")[2].split("<")[0]
+    demand(status == 0 and Fraction(held) == table.capacity, "report: %r, %r" % (held, errors))
 
 
 def judge_loads(folder, random):
@@ -104,8 +104,8 @@ def judge_counted(folder, random, table):
         table.capacity), "--names", names)
     tens = power_for([table.capacity, *(row[DEMAND] for row in table.rows)])
     if status:
-        demand(finest(table)[1] and "fit once they are rounded" in errors and errors.count("\n") == 1 and got(target) is None,
-               "refused: %r" % errors)
+        is_one = "fit once they are rounded" in errors and errors.count("\n") == 1
+        demand(finest(table)[1] and is_one and got(target) is None, "refused: %r" % errors)
         return "refused"
     demand_notes("convert", errors)
     instance = read(got(target))
@@ -118,6 +118,6 @@ def judge_counted(folder, random, table):
 
 
 KINDS = {
-    "loads": Kind("a table with loads that the limits don't hold, by convert: what fits here fits there, by all plans", 30,
-                  tools_by(judge_loads)),
+    "loads": Kind("a table with loads that the limits don't hold, by convert: what fits here fits there, by all plans",
+                  30, tools_by(judge_loads)),
 }

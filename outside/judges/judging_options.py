@@ -4,7 +4,8 @@ import os
 import shlex
 import sys
 
-from cases.option_cases import ANY, FAKES, FEW, LIMITED_ROWS, MANY, MORE, OPTION_ROWS
+from cases.limited_cases import LIMITED_ROWS, MANY
+from cases.option_cases import ANY, FAKES, FEW, MORE, OPTION_ROWS
 from judges.judging_faults import fitted_out
 from judges.kind import Kind, number_by
 from judges.running import demand, got, put, run, shown
@@ -122,8 +123,9 @@ def judge_limited(folder, words, limit, part):
     """One line on standard error, by way of a stream that has no limit, and the status 1."""
     put(os.path.join(folder, "many.csv"), MANY.encode())
     command, _, rest = words.partition(" ")
-    put(os.path.join(folder, "command"), ("cd '%s'\n(ulimit %s; exec '%s'/%s %s) 2>&1 | cat\nexit ${PIPESTATUS[0]}\n" % (
-        folder, limit, TOP, path_of(command), rest)).encode())
+    put(os.path.join(folder, "command"), (
+        "cd '%s'\n(ulimit %s; exec '%s'/%s %s) 2>&1 | cat\nexit ${PIPESTATUS[0]}\n" % (
+            folder, limit, TOP, path_of(command), rest)).encode())
     out, _, status = run(["/bin/bash", os.path.join(folder, "command")])
     out = shown(out)
     demand(status == 1 and out.count("\n") == 1 and out.startswith(path_of(command) + ": ") and part in out,

@@ -1,4 +1,4 @@
-"""One run of `sheets` on vehicles with as many stops as a van makes in a day, printed by chromium: each has one page."""
+"""One run of `sheets` on vehicles with as many stops as a van makes in a day, printed by chromium: a page for each."""
 import os
 import re
 
@@ -37,11 +37,13 @@ def judge_printed(folder, random):
     if not BROWSER:
         return "no browser"
     instance, routes, names = drawn(random)
-    path, plan, table, page, printed = (os.path.join(folder, name) for name in ("i", "p", "n.csv", "page.html", "page.pdf"))
+    path, plan, table, page, printed = (os.path.join(folder, name) for name in (
+        "i.txt", "p.txt", "n.csv", "page.html", "page.pdf"))
     put(path, text_of(instance))
     put(plan, plan_text(read(got(path)), routes))
     put(table, names.encode())
-    _, errors, status = tool("sheets", path, plan, "--names", table, "-o", page, "--lang", random.choice(["en", "de", "fr"]))
+    language = random.choice(["en", "de", "fr"])
+    _, errors, status = tool("sheets", path, plan, "--names", table, "-o", page, "--lang", language)
     demand((errors, status) == ("", 0), "sheets: status %d, %r" % (status, errors))
     run([BROWSER, "--headless", "--no-sandbox", "--disable-gpu", "--user-data-dir=%s/profile" % folder,
          "--print-to-pdf=" + printed, "file://" + page])

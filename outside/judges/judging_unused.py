@@ -22,7 +22,8 @@ RULES = {
 ORDER = ("English", "German", "French", "Spanish", "Dutch", "Italian")
 # What is no rule in any of them.
 OTHERS = ("Telefon", "Note", "E-Mail", "Colour", "Kundennr.", "Région", "7", "a & b", "Tarif <1>")
-SOUNDS = re.compile(r'^outside/convert: note: "(.*)" sounds like a rule \((.*)\), and the plan doesn\'t keep it: (.+)$', re.M)
+SOUNDS = re.compile(r'^outside/convert: note: "(.*)" sounds like a rule \((.*)\), and the plan doesn\'t keep it: (.+)$',
+                    re.M)
 UNUSED = re.compile(r"^outside/convert: note: not used: (.*)$", re.M)
 
 

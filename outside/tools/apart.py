@@ -1,5 +1,5 @@
-"""How far an instance is from the table that it was made of where that has rounded its ways: the error of a plan's cost,
-and what a bound of the instance says of the table."""
+"""How far an instance is from the table that it was made of, where ways were rounded: the error of a plan's cost, and
+what a bound of the instance says of the table."""
 from fractions import Fraction
 from functools import cached_property
 from heapq import nlargest

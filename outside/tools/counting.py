@@ -11,9 +11,9 @@ from tools.units import at_most, decimal
 
 
 class Counted:
-    """Demands, the depot's first, and a capacity, as whole numbers within the limits. A route fits exactly where it does
-    in the table, or where that can't be, where it fits by demands that are rounded up to parts of the capacity; `lost`
-    is by how much one of them counts more at most."""
+    """Demands, the depot's first, and a capacity, as whole numbers within the limits. A route fits exactly where it
+    does in the table, or where that can't be, where it fits by demands that are rounded up to parts of the capacity;
+    `lost` is by how much one of them counts more at most."""
 
     def __init__(self, loads, capacity):
         self.loads, self.whole, self.lost = loads, capacity, Fraction(0)
@@ -54,9 +54,10 @@ class Counted:
         return [decimal(load, self.digits()) for load in self.loads]
 
     def noted(self):
-        told = "loads are counted in %s, so they fit exactly where they did" if not self.lost else (
-            "loads are counted in %%s: each load counts up to %s more" % at_most(self.lost))
-        return Note(told % ("other units" if not self.lost else "parts of the capacity, %d of it" % self.capacity), ROUNDED)
+        if not self.lost:
+            return Note("loads are counted in other units, so they fit exactly where they did", ROUNDED)
+        return Note("loads are counted in parts of the capacity, %d of it: each load counts up to %s more" % (
+            self.capacity, at_most(self.lost)), ROUNDED)
 
 
 def counted(values, capacity):

@@ -67,7 +67,7 @@ def is_in(place, boxes):
 
 
 def all_swapped(places):
-    """What speaks for it that latitude and longitude are exchanged in all rows, in words; nothing where nothing does."""
+    """What speaks for it that latitude and longitude are exchanged in all rows, in words, or nothing."""
     here = middle(places)
     there = here[::-1]
     if not is_in(here, INHABITED) and is_in(there, INHABITED):

@@ -140,8 +140,10 @@ def read(text, quantities):
     if units is not None:
         rows, quantities.scale, quantities.is_scaled = in_units(rows, units), 1, True
     is_counted = units is not None and units.capacity is not None
-    fleet, capacity = (judge(found.line, told[name]) if name in told and not (is_counted and name == "capacity") else None
-                       for name, judge in (("vehicles", quantities.fleet), ("capacity", quantities.capacity)))
+    if is_counted:
+        told.pop("capacity", None)
+    fleet, capacity = (judge(found.line, told[name]) if name in told else None for name, judge in (
+        ("vehicles", quantities.fleet), ("capacity", quantities.capacity)))
     if quantities.capacity_given is None and is_counted:
         quantities.capacity_given = units.capacity
     if quantities.capacity_given is None and units is None:

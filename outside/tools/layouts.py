@@ -205,14 +205,15 @@ def capacity_of(text, quantities, read, given, fleet, notes):
     found = quantities.counted
     if found is not None:
         if found.refuses(fleet):
-            text.at_end("less, or a vehicle more", "demands that %s, and don't fit once they are rounded to parts of the "
-                        "capacity, %d of it" % ("1 vehicle holds" if fleet == 1 else "%d vehicles hold" % fleet,
-                                                found.capacity))
+            holds = "1 vehicle holds" if fleet == 1 else "%d vehicles hold" % fleet
+            text.at_end("less, or a vehicle more", "demands that %s, and don't fit once they are rounded to parts of "
+                        "the capacity, %d of it" % (holds, found.capacity))
         return found.capacity
     capacity = number_of(text, "--capacity", given.capacity, read.capacity, CAPACITY, notes)
     capacity = capacity * (read.units.demands if read.units else 1)
     if capacity % 1 or capacity > MOST_CAPACITY:
-        raise Refused("--capacity: met %s, wanted a whole number of 1 to %d here" % (bare(given.capacity), MOST_CAPACITY))
+        raise Refused("--capacity: met %s, wanted a whole number of 1 to %d here" % (
+            bare(given.capacity), MOST_CAPACITY))
     return int(capacity)
 
 

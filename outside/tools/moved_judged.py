@@ -85,11 +85,12 @@ class Judged:
             units.distance(best), 100 * abs(cost - best) / best if best else 0, off)
 
     def told(self, best, routes):
-        """All of it: the verdict, a table of vehicles, and the comparison with the cost and the routes of the best plan,
-        or None."""
+        """All of it: the verdict, a table of vehicles, and the comparison with cost and routes of the best plan, or
+        None."""
         wrong = self.wrong()
         head = ["no plan: %d thing%s wrong" % (len(wrong), " is" if len(wrong) == 1 else "s are")] if wrong else ["a plan"]
         rows = [list(HEADING)] + self.rows()
         widths = [max(map(len, column)) + 2 for column in zip(*rows)]
         table = ["".join(word.rjust(width) for word, width in zip(row, widths)).rstrip() for row in rows]
-        return "\n".join([*head, *wrong, "", *table] + ([] if best is None else ["", self.compared(best, routes)]) + [""])
+        compared = [] if best is None else ["", self.compared(best, routes)]
+        return "\n".join([*head, *wrong, "", *table, *compared, ""])

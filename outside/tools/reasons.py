@@ -65,8 +65,9 @@ def heavy(instance, words):
     """Customers whose demand no vehicle holds."""
     for i in range(1, instance.count + 1):
         if instance.demand(i) > instance.capacity:
+            own, most = (words.units.load(load) for load in (words.there.demand(i), words.there.capacity))
             yield Reason("%s can't be served: met a demand of %s, wanted at most %s, which a vehicle holds" % (
-                words.customer(i), words.units.load(words.there.demand(i)), words.units.load(words.there.capacity)), True, i)
+                words.customer(i), own, most), True, i)
 
 
 def late(instance, words):

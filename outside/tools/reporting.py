@@ -33,7 +33,8 @@ class Report:
     where there is none, and the values of its leaves where its tree isn't drawn; and when vehicles leave."""
 
     def __init__(self, instance, names, routes, cost, certificate, values, paths, depart=LATE):
-        self.instance, self.names, self.routes, self.cost, self.depart = as_there(instance, names), names, routes, cost, depart
+        self.instance, self.names, self.depart = as_there(instance, names), names, depart
+        self.routes, self.cost = routes, cost
         self.certificate, self.values, self.paths = certificate, values, paths
         self.bound = certificate.bound if certificate else None
         self.units, self.apart = units_of(names), apart_of(instance, names)
@@ -158,7 +159,8 @@ def figures_of_proof(report):
         yield "every plan%s costs at least (the bound)" % report.whose(), report.distance(report.bound)
     if report.cost is not None:
         gap = report.cost - report.bound
-        yield "the cheapest one%s may save (the gap)" % report.whose(), "%s (%s %%)" % (report.distance(gap), percent(gap, report.cost))
+        yield "the cheapest one%s may save (the gap)" % report.whose(), "%s (%s %%)" % (
+            report.distance(gap), percent(gap, report.cost))
     yield "leaves of the certificate's tree", "%d" % leaves_of(report.certificate.tree)
 
 

@@ -195,7 +195,8 @@ def sheet(sheets, number, route):
                    for word, kind in COLUMNS)
     return ('<section id="vehicle-%d"%s>%s<p class="whole">%s</p>'
             '<table><thead><tr>%s</tr></thead><tbody>%s</tbody></table>%s<p class="sign">%s</p></section>' % (
-                number, ' class="many"' * (len(route) > MANY), heading(sheets, number), escape(told_whole(sheets, route, sums)), head, "".join(rows),
+                number, ' class="many"' * (len(route) > MANY), heading(sheets, number),
+                escape(told_whole(sheets, route, sums)), head, "".join(rows),
                 loading(sheets, route), escape(sheets.say("sign"))))
 
 

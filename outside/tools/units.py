@@ -90,8 +90,8 @@ class Units:
 
     def cut(self, way, is_up):
         """Such a number in words, with as many digits, rounded up or down."""
-        whole = way / self.last()
-        return decimal((ceil(whole) if is_up else floor(whole)) * self.last(), self.digits() if self.speed is None else 1)
+        whole, digits = way / self.last(), self.digits() if self.speed is None else 1
+        return decimal((ceil(whole) if is_up else floor(whole)) * self.last(), digits)
 
     def last(self):
         """What the last digit of a distance counts."""
