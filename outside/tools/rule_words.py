@@ -15,8 +15,7 @@ RULES = {
                "`outside/sheets --vehicles-csv` puts drivers to vehicles afterwards"),
     "skill": ("skill, skills, requirement, requirements, equipment, qualifikation, fähigkeit, anforderung, "
               "ausstattung, compétence, competence, équipement, equipement, exigence, habilidad, competencia, "
-              "requisito, equipo, "
-              "competenza, abilità, attrezzatura, vaardigheid, vereiste, uitrusting",
+              "requisito, equipo, competenza, abilità, attrezzatura, vaardigheid, vereiste, uitrusting",
               "all vehicles are equal; customers with one requirement go into a table of their own"),
     "pickup": ("pickup, pick-up, pick up, collection, collect, return, returns, abholung, abholen, rücknahme, leergut, "
                "ramassage, collecte, enlèvement, enlevement, retour, retours, reprise, recogida, devolución, "
@@ -31,8 +30,7 @@ RULES = {
                       "ready 2, due 2",
                       "a customer has one window; the one that suits most customers may be taken, or both be tried"),
     "volume": ("volume, weight, pallets, volumen, gewicht, paletten, poids, palettes, peso, palets, pallet, m3, m³, "
-               "cbm, "
-               "kg",
+               "cbm, kg",
                "a vehicle holds one kind of load; the one that fills it first may be the demand, or of each customer "
                "the greater part of a vehicle in thousandths, with a capacity of 1000"),
 }
