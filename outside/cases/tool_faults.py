@@ -103,7 +103,7 @@ convert below.csv o.txt --vehicles 5 --capacity 5|below.csv|3|met "-0.4" in "ser
 convert t.csv o.txt --vehicles 5 --capacity 5 --speed 30|t.csv|0|met --speed and no lat and lon, wanted both or none
 convert i.txt o.vrp --detour 1.2|i.txt|0|met --detour and no lat and lon, wanted both or none
 convert t.csv o.txt --vehicles 5 --capacity 5 --column due=bis|t.csv|1|met no column "bis", wanted the one of --column
-timetable i.txt p.txt --names units.csv|units.csv|1|met "scale=x", wanted scale, clock, speed, demands, visits, detour, off as
+timetable i.txt p.txt --names units.csv|units.csv|1|met "scale=x", wanted scale, clock, speed, demands, visits, detour, off, capacity as
 convert nowhere.csv o.txt|nowhere.csv|0|No such file or directory
 convert folder o.txt --from csv|folder|0|Is a directory
 convert book.xlsx o.txt --vehicles 5 --capacity 5|book.xlsx|0|met a workbook, wanted its sheet saved as CSV: in Excel by File, Save As, CSV UTF-8
