@@ -1,8 +1,9 @@
 -- Which sets stand in a list already, and which are taken in.
-use Rattle.std.proofs.Common.{◌≡◌, ℕ, zero, suc, ◌+◌, ◌<◌, ◌≤◌, List, [], ◌∷◌, ◌++◌, length, drop, get_or, arith}
+use Rattle.std.proofs.Common.{◌≡◌, refl, ℕ, zero, suc, ◌+◌, ◌<◌, ◌≤◌, List, [], ◌∷◌, ◌++◌, length, take, drop, get_or, arith, ap, sym, ◌∙◌}
 use Rattle.std.specs.Prelude.{map, ◌≢◌}
 use Rattle.std.specs.List.{AllByRecursion}
-use Rattle.std.proofs.lemmas.List.{at_drop_all, drop_more}
+use Rattle.std.proofs.Math.Seq.{take-suc}
+use Rattle.std.proofs.lemmas.List.{at_drop_all, drop_more, get_or-map, length-map}
 use Rattle.std.proofs.lemmas.List.Sums.{sum_by-cons}
 use Rattle.solomon_reader.specs.declared.limits.TheConstants.{MOST_PRICE}
 use Rattle.solomon_reader.specs.Problem.{Problem}
@@ -10,7 +11,7 @@ use Rattle.solomon_reader.specs.SetPrices as shared
 use Rattle.solomon_reader.specs.SetPrices.{price_sum, listed_of}
 use Rattle.priced_sets.specs.declared.priced_set.ListedSet.{ListedSet}
 use Rattle.priced_sets.specs.declared.priced_set.PricedSet.{PricedSet}
-use Rattle.priced_sets.specs.Sets.{sets_of, listed_set, ArePriced, MayBeListed}
+use Rattle.priced_sets.specs.Sets.{set_of, sets_of, listed_set, ArePriced, MayBeListed, MayJoin, IsTakenIn, AreTakenIn}
 
 -- each of the known sets may be listed
 pub listed_at : (p : Problem) (sets : List ListedSet) (i : ℕ) (d : ListedSet) → i < length sets → AllByRecursion (MayBeListed p) (map listed_set sets)
@@ -62,3 +63,23 @@ priced_more p s sets priced listed some apart within = record {
   apart = (apart, priced.apart);
   within = omega (arith, within, sum_by-cons (λ (t : shared.PricedSet). t.price) s sets);
 }
+
+-- ---- sets that are taken in
+
+-- why a set isn't taken in
+pub not_priced : (p : Problem) (most : ℕ) (taken : List shared.PricedSet) (s : shared.PricedSet) → s.price < 1 → ¬ MayJoin p most taken s
+not_priced p most taken s low h = omega (arith, low, h.some)
+
+pub too_dear : (p : Problem) (most : ℕ) (taken : List shared.PricedSet) (s : shared.PricedSet) → most < price_sum taken + s.price → ¬ MayJoin p most taken s
+too_dear p most taken s above h = omega (arith, above, h.within)
+
+pub taken_more : (p : Problem) (most : ℕ) (taken wanted mid : List shared.PricedSet) (s : shared.PricedSet) (next : List shared.PricedSet)
+    → AreTakenIn p most taken wanted mid → IsTakenIn p most mid s next → AreTakenIn p most taken (wanted ++ (s ∷ [])) next
+taken_more p most taken [] mid s next e h = (next, rw e at h, refl)
+taken_more p most taken (t ∷ wanted) mid s next h k = (h.0, h.1, taken_more p most h.0 wanted mid s next h.2 k)
+
+-- the first sets of a list, and one more
+pub first_sets : (sets : List PricedSet) (i : ℕ) (s : PricedSet) → i < length sets → s ≡ get_or sets i s → take (i + 1) (sets_of sets) ≡ take i (sets_of sets) ++ set_of s ∷ []
+first_sets sets i s within is =
+    let e : i + 1 ≡ suc i = omega arith in
+    rw e (take-suc (sets_of sets) i (set_of s) (omega (arith, length-map sets set_of)) ∙ ap (λ x. take i (sets_of sets) ++ x ∷ []) (get_or-map set_of sets i s (set_of s) within ∙ ap set_of (sym is)))

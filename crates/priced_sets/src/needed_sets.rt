@@ -3,6 +3,7 @@
 ghost use Rattle.std.specs.Prelude.{◌≡◌, ◌↔◌, IfOk, IsTrue, [], map};
 ghost use Rattle.solomon_reader.specs.Problem.{customer_count};
 ghost use Rattle.solomon_reader.specs.CustomerSets.{IsCustomerSet};
+ghost use Rattle.solomon_reader.specs.CertificateText.{IsListedSet};
 ghost use Rattle.priced_sets.specs.Sets.{listed_set, MayBeListed};
 
 use crate::priced_set::ListedSet;
@@ -48,6 +49,14 @@ fn is_customer_set(members: &[u16], last: u16) -> bool
     true
 }
 
+/// Whether these are at least two of the customers 1 to the last, in increasing order, and the need is one that a list
+/// of sets may tell.
+fn is_listed_set(members: &[u16], need: u32, last: u16) -> bool
+    ensures { IsTrue result ↔ IsListedSet last (record { members = members.now; need = need }) }
+{
+    need >= 1 && need <= MOST_NEED && members.len() >= 2 && is_customer_set(members, last)
+}
+
 impl<'i> NeededSets<'i> {
     /// None yet, of an instance. `AllocError` where memory was refused.
     pub fn new(alloc: Global, instance: &'i Instance) -> Result<NeededSets<'i>, AllocError>
@@ -91,14 +100,12 @@ impl<'i> NeededSets<'i> {
     /// remembered. `AllocError` where memory was refused; then nothing is.
     pub fn is_needed(&mut self, members: &[u16], need: u32) -> Result<bool, AllocError>
         ensures instance { self.new ≡ self.old }
-        ensures needed { IfOk result (λ r. IsTrue r → MayBeListed self.old (record { members = members.now; need = need })) }
+        ensures needed { IfOk result (λ r. IsTrue r ↔ MayBeListed self.old (record { members = members.now; need = need })) }
     {
         if self.is_known(members, need) {
             return Ok(true);
         }
-        let last = self.instance.customer_count();
-        let is_set = members.len() > 1 && is_customer_set(members, last);
-        if !is_set || need < 1 || need > MOST_NEED {
+        if !is_listed_set(members, need, self.instance.customer_count()) {
             return Ok(false);
         }
         if !is_needed(self.alloc, self.instance, &self.ways, members, need)? {

@@ -1,10 +1,11 @@
 //! The sets that have a price at a leaf.
 
-ghost use Rattle.std.specs.Prelude.{◌≡◌, ◌≢◌, ◌≤◌, ◌*◌, IfOk, [], IsTrue, IsFalse};
+ghost use Rattle.std.specs.Prelude.{◌≡◌, ◌≢◌, ◌≤◌, ◌*◌, IfOk, OnOk, [], IsTrue, IsFalse};
 ghost use Rattle.std.specs.List.{AllByRecursion};
 ghost use Rattle.solomon_reader.specs.SetPrices.{price_sum, paid_for_needs};
 ghost use Rattle.solomon_reader.specs.declared.limits.TheConstants.{MOST_NEED, MOST_PRICE};
-ghost use Rattle.priced_sets.specs.Sets.{sets_of, ArePriced};
+ghost use Rattle.priced_sets.specs.Sets.{set_of, sets_of, ArePriced, IsTakenIn, AreTakenIn};
+ghost use Rattle.priced_sets.specs.declared.priced_sets.TheConstants.{MOST_TOGETHER};
 
 use crate::needed_sets::NeededSets;
 use crate::priced_set::PricedSet;
@@ -14,7 +15,7 @@ use std::marker::Model;
 
 /// All sets together are paid at most this for an entry, in grains: half of the range, so customers' prices have the
 /// other half.
-const MOST_TOGETHER: u64 = MOST_PRICE / 2;
+pub const MOST_TOGETHER: u64 = MOST_PRICE / 2;
 
 /// Sets of an instance that have prices: no two are the same, each needs as many entries as it is said to, and together
 /// they are paid no more for an entry than the greatest price. Contracts see the instance and the sets.
@@ -74,8 +75,8 @@ impl<'i> PricedSets<'i> {
     }
 
     /// Of these sets those that may have their prices at leaves of an instance: which are needed, of several with the same
-    /// members the first, as long as all together are paid at most half of the greatest price. `AllocError` where memory
-    /// was refused.
+    /// members the first, as long as all together are paid at most `MOST_TOGETHER`. None where the needed sets are those of
+    /// another instance. `AllocError` where memory was refused.
     pub fn of(
         alloc: Global,
         instance: &'i Instance,
@@ -84,6 +85,9 @@ impl<'i> PricedSets<'i> {
     ) -> Result<PricedSets<'i>, AllocError>
         ensures problem { IfOk result (λ s. s.problem ≡ instance.now) }
         ensures needed { needed.new ≡ needed.old }
+        ensures taken { needed.old ≡ instance.now
+            → IfOk result (λ s. AreTakenIn instance.now MOST_TOGETHER [] (sets_of wanted.now) s.sets) }
+        ensures foreign { needed.old ≢ instance.now → IfOk result (λ s. s.sets ≡ []) }
     {
         let mut sets = PricedSets::none(alloc, instance);
         if *needed.instance() == *instance {
@@ -112,6 +116,7 @@ impl<'i> PricedSets<'i> {
         requires { needed.old ≡ self.old.problem }
         ensures problem { self.new.problem ≡ self.old.problem }
         ensures needed { needed.new ≡ needed.old }
+        ensures taken { OnOk result (IsTakenIn self.old.problem MOST_TOGETHER self.old.sets (set_of set.now) self.new.sets) }
     {
         let members = set.members.as_slice();
         let room = MOST_TOGETHER.saturating_sub(self.sum());

@@ -10,7 +10,7 @@ invariant_of-self-in_ok-insert c =
     let sets : sets_of c.self.inside.sets.items ≡ c.args.self.now.sets = ap (λ s. s.sets) c.self.view_is in
     let problem : c.self.inside.instance.now ≡ c.args.self.now.problem = ap (λ s. s.problem) c.self.view_is in
     let listed : MayBeListed c.self.inside.instance.now (record { members = c.args.set.now.members.items; need = c.args.set.now.need }) =
-    rw (problem, ← c.requires) (rw c.as_slice-members.ensures.value at (c.in_ok-is_needed.ensures.needed c.if-branch.true)) in
+    rw (problem, ← c.requires) (rw c.as_slice-members.ensures.value at (c.in_ok-is_needed.ensures.needed.0 c.if-branch.true)) in
     let apart : AllByRecursion (λ t. t.members ≢ c.args.set.now.members.items) (sets_of c.self.inside.sets.items) =
     rw sets (rw c.as_slice-members.ensures.value at (c.has.ensures.no c.if-has.false)) in
     let sum : c.sum.result ≡ price_sum (sets_of c.self.inside.sets.items) = rw sets c.sum.ensures.sum in
