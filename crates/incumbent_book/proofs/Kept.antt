@@ -18,9 +18,9 @@ use Rattle.branching.specs.declared.arc.Arc.{Arc}
 use Rattle.branching.specs.Arcs.{pair}
 use Rattle.prices.specs.ValuedPrices.{ValuedPrices, IsValued}
 use Rattle.solomon_reader.specs.History.{Limits, IsLeaf, IsCheaper, value_of, depth_of, split_count, used_number, unused_number}
-use Rattle.incumbent_book.specs.Contents.{Contents, OwnPrices, own_prices, no_prices, IsBook, AreListed, pricing_at}
-use Rattle.incumbent_book.specs.Faults.{IsAccepted, reprice, split, Call, sets_of_call, MeetsBelow, IsLowestFault, IsRefusedFor, IsFirstFault}
-use Rattle.incumbent_book.specs.Replies.{opened, IsRoot, AreOpen, with_offer, with_incumbent, with_prices, with_split, IsListing}
+use Rattle.incumbent_book.specs.Contents.{Contents, OwnPrices, own_prices, no_prices, IsBook, IsListing, LacksRoom, AreListed, pricing_at}
+use Rattle.incumbent_book.specs.Faults.{IsAccepted, reprice, split, Call, LacksRoomFor, MeetsBelow, IsLowestFault, IsRefusedFor, IsFirstFault}
+use Rattle.incumbent_book.specs.Replies.{opened, IsRoot, AreOpen, with_offer, with_incumbent, with_prices, with_split}
 use Rattle.incumbent_book.specs.SetLists.{IsGrown, IsUnlistedFor}
 use Rattle.incumbent_book.specs.Arena.{open_leaf, leaf_at, new_leaf, prices_of, StandsAt}
 use Rattle.incumbent_book.specs.Keeping.{IsConsistent, IsLeafOf}
@@ -39,7 +39,7 @@ known_after : (p : Problem) (listed : List ListedSet) (sets : List PricedSet) (m
     → AllByRecursion (λ s. MayBeListed p (listed_of s)) sets → IsListing listed sets more → AllByRecursion (MayBeListed p) (listed ++ more)
 known_after p listed sets more before may listing =
     all_both (MayBeListed p) listed more before
-    (weaker (λ l. (¬ Among l listed) × Among l (map listed_of sets)) (MayBeListed p) (λ l k. among_all (MayBeListed p) (map listed_of sets) (all_mapped p sets may) l k.1) more listing.only)
+    (weaker (λ l. (¬ Among l listed) × Among l (map listed_of sets)) (MayBeListed p) (λ l k. among_all (MayBeListed p) (map listed_of sets) (all_mapped p sets may) l k.1) more listing.only.are)
   where
     all_mapped : (p : Problem) (sets : List PricedSet) → AllByRecursion (λ s. MayBeListed p (listed_of s)) sets → AllByRecursion (MayBeListed p) (map listed_of sets)
     all_mapped p [] h = tt
@@ -258,19 +258,27 @@ told b call TooDeep low = low
 told b call SetsFull low = absurd (low.0 tt)
 
 -- what was refused for its sets
-pub unlisted_told : (b : Contents) (call : Call) (f : BookFault) → IsAccepted b call → IsUnlistedFor b.most_sets (sets_of_call call) b.listed f → IsRefusedFor b call f
-unlisted_told b call Memory accepted u = accepted
-unlisted_told b call SetsFull accepted u = (accepted, record { unlisted = u.unlisted; full = u.full })
-unlisted_told b call ForeignInstance accepted u = absurd u
-unlisted_told b call JournalFull accepted u = absurd u
-unlisted_told b call NotALeaf accepted u = absurd u
-unlisted_told b call WrongRegion accepted u = absurd u
-unlisted_told b call NotHigher accepted u = absurd u
-unlisted_told b call Lower accepted u = absurd u
-unlisted_told b call LeavesFull accepted u = absurd u
-unlisted_told b call TooDeep accepted u = absurd u
+unlisted_told : (b : Contents) (call : Call) (sets : List PricedSet) → (LacksRoom b.most_sets b.listed sets → LacksRoomFor b call) → (f : BookFault) → IsAccepted b call
+    → IsUnlistedFor b.most_sets sets b.listed f → IsRefusedFor b call f
+unlisted_told b call sets lacks Memory accepted u = accepted
+unlisted_told b call sets lacks SetsFull accepted u = (accepted, lacks u)
+unlisted_told b call sets lacks ForeignInstance accepted u = absurd u
+unlisted_told b call sets lacks JournalFull accepted u = absurd u
+unlisted_told b call sets lacks NotALeaf accepted u = absurd u
+unlisted_told b call sets lacks WrongRegion accepted u = absurd u
+unlisted_told b call sets lacks NotHigher accepted u = absurd u
+unlisted_told b call sets lacks Lower accepted u = absurd u
+unlisted_told b call sets lacks LeavesFull accepted u = absurd u
+unlisted_told b call sets lacks TooDeep accepted u = absurd u
 
--- what is ensured where nothing is refused
+pub unlisted_reprice : (b : Contents) (m : ℕ) (f : ValuedPrices) (why : BookFault) → IsAccepted b (reprice m f) → IsUnlistedFor b.most_sets f.sets b.listed why
+    → IsRefusedFor b (reprice m f) why
+unlisted_reprice b m f why accepted u = unlisted_told b (reprice m f) f.sets (λ l. l) why accepted u
+
+pub unlisted_split : (b : Contents) (m : ℕ) (a : ℕ × ℕ) (x y : ValuedPrices) (why : BookFault) → IsAccepted b (split m a x y)
+    → IsUnlistedFor b.most_sets (x.sets ++ y.sets) b.listed why → IsRefusedFor b (split m a x y) why
+unlisted_split b m a x y why accepted u = unlisted_told b (split m a x y) (x.sets ++ y.sets) (λ l. l) why accepted u
+
 pub no_error : {T E P : Type 0} (r : Result T E) → ((e : E) → r ≡ Err e → ⊥) → OnOk r P → P
 no_error (Ok x) none holds = holds
 no_error (Err e) none holds = absurd (none e refl)

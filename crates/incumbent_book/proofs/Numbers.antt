@@ -12,12 +12,13 @@ use Rattle.solomon_reader.specs.Region.{Among}
 use Rattle.solomon_reader.specs.CustomerSets.{IsRisingFrom, IsCustomerSet}
 use Rattle.solomon_reader.specs.SetPrices.{ListedSet, PricedSet, listed_of, AreApart, priced_sets}
 use Rattle.priced_sets.specs.Sets.{set_of, sets_of}
+use Rattle.priced_sets.proofs.Admitting.{first_sets}
 use Rattle.priced_sets.specs.declared.priced_set.PricedSet.{PricedSet as Priced}
 use Rattle.branching.specs.declared.tree_node.SetPrice.{SetPrice}
 use Rattle.branching.specs.Nodes.{set_price_of}
 use Rattle.incumbent_book.specs.Contents.{AreListed}
 use Rattle.incumbent_book.specs.SetLists.{no_set, IsNumberOf, AreNumbered}
-use Rattle.incumbent_book.proofs.SetLists.{all_both, one_more}
+use Rattle.incumbent_book.proofs.SetLists.{all_both}
 use Rattle.incumbent_book.proofs.Histories.{here, elsewhere}
 
 -- the number of a place
@@ -48,7 +49,7 @@ module _ (listed : List ListedSet) (sets : List Priced) where
       ap (λ (l : ListedSet). record { members = l.members; need = l.need; price = s.price } ∷ []) number.is in
       record {
         within = rw (map-append set_price_of prices (p ∷ [])) (all_both (λ m. (1 ≤ m.0) × (m.0 ≤ length listed)) (map set_price_of prices) (map set_price_of (p ∷ [])) h.within (number.within, tt));
-        are = rw (one_more 0 sets [] i s within is, map-append set_price_of prices (p ∷ []), ← h.are, ← last) (map-append _ (map set_price_of prices) (map set_price_of (p ∷ [])));
+        are = rw (first_sets sets i s within is, map-append set_price_of prices (p ∷ []), ← h.are, ← last) (map-append _ (map set_price_of prices) (map set_price_of (p ∷ [])));
       }
 
   pub numbering_all : (prices : List SetPrice) (i : ℕ) → length sets ≤ i → Numbering listed sets prices i → AreNumbered listed (sets_of sets) (map set_price_of prices)

@@ -1,17 +1,18 @@
 -- A list of sets that grows.
-use Rattle.std.proofs.Common.{◌≡◌, ◌≢◌, refl, ℕ, true, false, Option, Some, None, drop, zero, suc, ◌+◌, ◌<◌, ◌≤◌, List, [], ◌∷◌, ◌++◌, map, length, take, get_or, arith, ap, sym, ◌∙◌, inl, inr, append_assoc, append-nil, length-append, subst}
+use Rattle.std.proofs.Common.{◌≡◌, ◌≢◌, refl, ℕ, true, false, Option, Some, None, drop, zero, suc, ◌+◌, ◌<◌, ◌≤◌, List, [], ◌∷◌, ◌++◌, map, length, take, get_or, arith, ap, sym, ◌∙◌, ◌⊎◌, inl, inr, append_assoc, append-nil, length-append, subst}
 use Rattle.std.specs.List.{AllByRecursion}
 use Rattle.std.proofs.lemmas.Bool.{cases_eq}
 use Rattle.std.specs.Option.{is_some}
-use Rattle.std.proofs.Math.Seq.{take-suc, take-append_seam}
+use Rattle.std.proofs.Math.Seq.{take-append_seam}
 use Rattle.std.proofs.lemmas.List.{get_or-map, map-append, length-map, take_all, take-append-drop}
 use Rattle.solomon_reader.specs.Region.{Among}
-use Rattle.solomon_reader.specs.AmongLaws.{weaker, among_append_left, among_append_right}
+use Rattle.solomon_reader.specs.AmongLaws.{weaker, among_all, among_append_left, among_append_right}
 use Rattle.solomon_reader.specs.SetPrices.{ListedSet, PricedSet, listed_of}
 use Rattle.priced_sets.specs.Sets.{set_of, sets_of, listed_set}
+use Rattle.priced_sets.proofs.Admitting.{first_sets}
 use Rattle.priced_sets.specs.declared.priced_set.ListedSet.{ListedSet as Listed}
 use Rattle.priced_sets.specs.declared.priced_set.PricedSet.{PricedSet as Priced}
-use Rattle.incumbent_book.specs.Contents.{AreListed}
+use Rattle.incumbent_book.specs.Contents.{AreListed, AreDifferent, AreNew, LacksRoom}
 use Rattle.incumbent_book.specs.SetLists.{no_set, IsPlaceOf, IsGrown, IsUnlistedFor, Begins}
 use Rattle.incumbent_book.specs.declared.fault.BookFault.{BookFault}
 use Rattle.incumbent_book.specs.declared.fault.BookFault.TheVariants.{Memory, ForeignInstance, JournalFull, NotALeaf, WrongRegion, NotHigher, Lower, LeavesFull, TooDeep, SetsFull}
@@ -75,16 +76,63 @@ all_right P (x ∷ xs) ys h = all_right P xs ys h.1
 pub still_listed : (listed more : List ListedSet) (sets : List PricedSet) → AreListed listed sets → AreListed (listed ++ more) sets
 still_listed listed more sets h = weaker (λ s. Among (listed_of s) listed) (λ s. Among (listed_of s) (listed ++ more)) (λ s a. among_append_left (listed_of s) listed more a) sets h
 
+among_either : (s : ListedSet) (xs ys : List ListedSet) → Among s (xs ++ ys) → Among s xs ⊎ Among s ys
+among_either s [] ys a = inr a
+among_either s (x ∷ xs) ys (inl e) = inl (inl e)
+among_either s (x ∷ xs) ys (inr a) = elim (among_either s xs ys a) [
+  | inl b ↦ inl (inr b)
+  | inr b ↦ inr b
+]
+
+different_both : (xs ys : List ListedSet) → AreDifferent xs → AreDifferent ys → ((s : ListedSet) → Among s ys → ¬ Among s xs) → AreDifferent (xs ++ ys)
+different_both [] ys h k apart = k
+different_both (x ∷ xs) ys h k apart = (
+  (λ a. elim (among_either x xs ys a) [
+    | inl b ↦ h.0 b
+    | inr b ↦ apart x b (inl refl)
+  ]),
+  different_both xs ys h.1 k (λ s a b. apart s a (inr b)),
+)
+
+-- what is new after some sets is new with them
+pub new_both : (old more : List ListedSet) (xs ys : List PricedSet) (later : List ListedSet) → AreNew old xs more → AreNew (old ++ more) ys later → AreNew old (xs ++ ys) (more ++ later)
+new_both old more xs ys later g h = record {
+  are = all_both (λ l. (¬ Among l old) × Among l (map listed_of (xs ++ ys))) more later
+      (weaker (λ l. (¬ Among l old) × Among l (map listed_of xs)) (λ l. (¬ Among l old) × Among l (map listed_of (xs ++ ys)))
+      (λ l k. (k.0, rw (map-append listed_of xs ys) (among_append_left l (map listed_of xs) (map listed_of ys) k.1))) more g.are)
+      (weaker (λ l. (¬ Among l (old ++ more)) × Among l (map listed_of ys)) (λ l. (¬ Among l old) × Among l (map listed_of (xs ++ ys)))
+      (λ l k. ((λ a. k.0 (among_append_left l old more a)), rw (map-append listed_of xs ys) (among_append_right l (map listed_of xs) (map listed_of ys) k.1))) later h.are);
+  once = different_both more later g.once h.once
+      (λ s a b. (among_all (λ l. (¬ Among l (old ++ more)) × Among l (map listed_of ys)) later h.are s a).0 (among_append_right s old more b));
+}
+
+-- those of some sets are new with others behind them
+pub new_before : (old : List ListedSet) (ys zs : List PricedSet) (more : List ListedSet) → AreNew old ys more → AreNew old (ys ++ zs) more
+new_before old ys zs more h = record {
+  are = weaker (λ l. (¬ Among l old) × Among l (map listed_of ys)) (λ l. (¬ Among l old) × Among l (map listed_of (ys ++ zs)))
+      (λ l k. (k.0, rw (map-append listed_of ys zs) (among_append_left l (map listed_of ys) (map listed_of zs) k.1))) more h.are;
+  once = h.once;
+}
+
+pub none_new : (old : List ListedSet) (sets : List PricedSet) → AreNew old sets []
+none_new old sets = record { are = tt; once = tt }
+
+pub one_new : (old : List ListedSet) (s : PricedSet) → ¬ Among (listed_of s) old → AreNew old (s ∷ []) (listed_of s ∷ [])
+one_new old s unknown = record { are = ((unknown, inl refl), tt); once = ((λ a. a), tt) }
+
+-- one more set has no room in a full list
+pub no_room_for : (most : ℕ) (listed : List ListedSet) (s : PricedSet) → most ≤ length listed → ¬ Among (listed_of s) listed → LacksRoom most listed (s ∷ [])
+no_room_for most listed s full unknown = record { more = listed_of s ∷ []; only = one_new listed s unknown; full = omega (arith, full) }
+
 module _ (most : ℕ) where
   pub grown_none : (old : List ListedSet) → length old ≤ most → IsGrown most [] old old
-  grown_none old few = record { more = []; is = sym (append-nil old); listing = record { all = tt; only = tt }; fewer = omega arith; few = few }
+  grown_none old few = record { more = []; is = sym (append-nil old); listing = record { all = tt; only = none_new old [] }; few = few }
 
   pub grown_known : (s : PricedSet) (old : List ListedSet) → length old ≤ most → Among (listed_of s) old → IsGrown most (s ∷ []) old old
   grown_known s old few known = record {
     more = [];
     is = sym (append-nil old);
-    listing = record { all = (among_append_left (listed_of s) old [] known, tt); only = tt };
-    fewer = omega arith;
+    listing = record { all = (among_append_left (listed_of s) old [] known, tt); only = none_new old (s ∷ []) };
     few = few;
   }
 
@@ -92,8 +140,7 @@ module _ (most : ℕ) where
   grown_one s old new room unknown is = record {
     more = listed_of s ∷ [];
     is = is;
-    listing = record { all = (among_append_right (listed_of s) old (listed_of s ∷ []) (inl refl), tt); only = ((unknown, inl refl), tt) };
-    fewer = omega arith;
+    listing = record { all = (among_append_right (listed_of s) old (listed_of s ∷ []) (inl refl), tt); only = one_new old s unknown };
     few = omega (arith, ap (λ (xs : List ListedSet). length xs) is, length-append old (listed_of s ∷ []));
   }
 
@@ -107,13 +154,8 @@ module _ (most : ℕ) where
         is = whole;
         listing = record {
           all = all_both (λ s. Among (listed_of s) (old ++ (g.more ++ h.more))) xs ys first second;
-          only = all_both (λ l. (¬ Among l old) × Among l (map listed_of (xs ++ ys))) g.more h.more
-              (weaker (λ l. (¬ Among l old) × Among l (map listed_of xs)) (λ l. (¬ Among l old) × Among l (map listed_of (xs ++ ys)))
-              (λ l k. (k.0, rw (map-append listed_of xs ys) (among_append_left l (map listed_of xs) (map listed_of ys) k.1))) g.more g.listing.only)
-              (weaker (λ l. (¬ Among l mid) × Among l (map listed_of ys)) (λ l. (¬ Among l old) × Among l (map listed_of (xs ++ ys)))
-              (λ l k. ((λ a. k.0 (rw g.is (among_append_left l old g.more a))), rw (map-append listed_of xs ys) (among_append_right l (map listed_of xs) (map listed_of ys) k.1))) h.more h.listing.only);
+          only = new_both old g.more xs ys h.more g.listing.only (rw g.is at h.listing.only);
         };
-        fewer = omega (arith, g.fewer, h.fewer, length-append g.more h.more, length-append xs ys);
         few = h.few;
       }
 
@@ -122,8 +164,9 @@ module _ (most : ℕ) where
       → IsUnlistedFor most (xs ++ (ys ++ zs)) old why
   unlisted_later xs ys zs old mid Memory g u = tt
   unlisted_later xs ys zs old mid SetsFull g u = record {
-    unlisted = λ all. u.unlisted (rw g.is (still_listed old g.more ys (all_left (λ s. Among (listed_of s) old) ys zs (all_right (λ s. Among (listed_of s) old) xs (ys ++ zs) all))));
-    full = omega (arith, u.full, g.fewer, ap (λ (l : List ListedSet). length l) g.is, length-append old g.more, length-append xs (ys ++ zs), length-append ys zs);
+    more = g.more ++ u.more;
+    only = new_both old g.more xs (ys ++ zs) u.more g.listing.only (new_before (old ++ g.more) ys zs u.more (rw g.is at u.only));
+    full = omega (arith, u.full, ap (λ (l : List ListedSet). length l) g.is, length-append old g.more, length-append g.more u.more);
   }
   unlisted_later xs ys zs old mid ForeignInstance g u = absurd u
   unlisted_later xs ys zs old mid JournalFull g u = absurd u
@@ -162,15 +205,10 @@ module _ (most : ℕ) (sets : List Priced) (old : List Listed) where
   pub gathering_none : length (map listed_set old) ≤ most → Gathering most sets old old 0
   gathering_none few = record { grown = grown_none most (map listed_set old) few; begins = begins_itself old }
 
-  pub one_more : (i : ℕ) (s : Priced) → i < length sets → s ≡ get_or sets i s → take (i + 1) (sets_of sets) ≡ take i (sets_of sets) ++ set_of s ∷ []
-  one_more i s within is =
-      let e : i + 1 ≡ suc i = omega arith in
-      rw e (take-suc (sets_of sets) i (set_of s) (omega (arith, length-map sets set_of)) ∙ ap (λ x. take i (sets_of sets) ++ x ∷ []) (get_or-map set_of sets i s (set_of s) within ∙ ap set_of (sym is)))
-
   pub gathering_more : (now next : List Listed) (i : ℕ) (s : Priced) → i < length sets → s ≡ get_or sets i s → Gathering most sets old now i
       → IsGrown most (set_of s ∷ []) (map listed_set now) (map listed_set next) → Begins now next → Gathering most sets old next (i + 1)
   gathering_more now next i s within is h g b = record {
-    grown = rw (one_more i s within is) (grown_both most (take i (sets_of sets)) (set_of s ∷ []) (map listed_set old) (map listed_set now) (map listed_set next) h.grown g);
+    grown = rw (first_sets sets i s within is) (grown_both most (take i (sets_of sets)) (set_of s ∷ []) (map listed_set old) (map listed_set now) (map listed_set next) h.grown g);
     begins = begins_more old now next h.begins b;
   }
 
@@ -183,6 +221,6 @@ module _ (most : ℕ) (sets : List Priced) (old : List Listed) where
   gathering_stops now i s within is h why u =
       let parts : take i (sets_of sets) ++ (set_of s ∷ [] ++ drop (i + 1) (sets_of sets)) ≡ sets_of sets =
       sym (append_assoc (take i (sets_of sets)) (set_of s ∷ []) (drop (i + 1) (sets_of sets)))
-      ∙ (ap (λ l. l ++ drop (i + 1) (sets_of sets)) (sym (one_more i s within is)) ∙ take-append-drop (i + 1) (sets_of sets)) in
+      ∙ (ap (λ l. l ++ drop (i + 1) (sets_of sets)) (sym (first_sets sets i s within is)) ∙ take-append-drop (i + 1) (sets_of sets)) in
       subst (λ (l : List PricedSet). IsUnlistedFor most l (map listed_set old) why) parts
       (unlisted_later most (take i (sets_of sets)) (set_of s ∷ []) (drop (i + 1) (sets_of sets)) (map listed_set old) (map listed_set now) why h.grown u)

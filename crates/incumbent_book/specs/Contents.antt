@@ -1,5 +1,5 @@
 -- What a book holds.
-use Rattle.std.specs.Prelude.{◌≡◌, ℕ, zero, suc, ◌+◌, ◌≤◌, List, [], length, ℤ, slice_index_or, Option, MatchOption, option_map, map, reverse}
+use Rattle.std.specs.Prelude.{◌≡◌, ℕ, zero, suc, ◌+◌, ◌<◌, ◌≤◌, List, [], ◌∷◌, ◌++◌, length, ℤ, slice_index_or, Option, MatchOption, option_map, map, reverse}
 use Rattle.solomon_reader.specs.declared.limits.TheConstants.{MOST_EVENTS, MOST_LEAVES, MOST_DEPTH, MOST_SETS}
 use Rattle.std.specs.List.{AllByRecursion}
 use Rattle.solomon_reader.specs.Region.{Among}
@@ -77,6 +77,27 @@ pub record AreLimits (limits : Limits) : Type 0 where
 -- each of the sets stands in a list
 abbrev pub AreListed : List ListedSet → List PricedSet → Type 0
 AreListed listed sets = AllByRecursion (λ s. Among (listed_of s) listed) sets
+
+-- no two of the sets are the same
+abbrev pub AreDifferent : List ListedSet → Type 0
+AreDifferent [] = Unit {0}
+AreDifferent (l ∷ more) = (¬ Among l more) × AreDifferent more
+
+-- different ones of some sets, none of which a list has
+pub record AreNew (listed : List ListedSet) (sets : List PricedSet) (more : List ListedSet) : Type 0 where
+  pub are : AllByRecursion (λ l. (¬ Among l listed) × Among l (map listed_of sets)) more
+  pub once : AreDifferent more
+
+-- some sets are listed in addition to those of a list: all of them stand there then, each new one once, and no others were added
+pub record IsListing (old : List ListedSet) (sets : List PricedSet) (more : List ListedSet) : Type 0 where
+  pub all : AreListed (old ++ more) sets
+  pub only : AreNew old sets more
+
+-- so many different ones of some sets aren't listed that there is no room for them
+pub record LacksRoom (most : ℕ) (listed : List ListedSet) (sets : List PricedSet) : Type 0 where
+  pub more : List ListedSet
+  pub only : AreNew listed sets more
+  pub full : most < length listed + length more
 
 -- how the tree of a book is told: where no set may have a price as it is without sets
 abbrev pub version_of : ℕ → List ListedSet → Version

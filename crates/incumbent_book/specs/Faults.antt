@@ -1,13 +1,12 @@
 -- What a book demands of a call, and for which fault it refuses one.
-use Rattle.std.specs.Prelude.{◌≡◌, ℕ, ◌+◌, ◌<◌, ◌≤◌, List, [], ◌++◌, length, Option, Some, None}
+use Rattle.std.specs.Prelude.{◌≡◌, ℕ, ◌+◌, ◌<◌, ◌≤◌, ◌++◌, length, Option, Some, None}
 use Rattle.solomon_reader.specs.Problem.{customer_count}
 use Rattle.solomon_reader.specs.Plan.{Arc}
 use Rattle.solomon_reader.specs.Region.{Region, IsUndecided, used_child, unused_child}
 use Rattle.schedule.specs.Solution.{Solution}
-use Rattle.solomon_reader.specs.SetPrices.{PricedSet}
 use Rattle.prices.specs.ValuedPrices.{ValuedPrices}
 use Rattle.solomon_reader.specs.History.{IsLeaf, leaf_count, region_of, depth_of, value_of}
-use Rattle.incumbent_book.specs.Contents.{Contents, AreListed}
+use Rattle.incumbent_book.specs.Contents.{Contents, LacksRoom}
 use Rattle.incumbent_book.specs.declared.fault.BookFault.{BookFault}
 use Rattle.incumbent_book.specs.declared.fault.BookFault.TheVariants.{Memory, ForeignInstance, JournalFull, NotALeaf, WrongRegion, NotHigher, Lower, LeavesFull, TooDeep, SetsFull}
 
@@ -104,21 +103,16 @@ IsAccepted b call = MeetsBelow b call 10
 abbrev pub IsLowestFault : Contents → Call → BookFault → Type 0
 IsLowestFault b call f = (¬ Meets b call f) × MeetsBelow b call (rank_of f)
 
--- the sets of the call's prices
-abbrev pub sets_of_call : Call → List PricedSet
-sets_of_call (offer plan) = []
-sets_of_call (reprice m f) = f.sets
-sets_of_call (split m a x y) = x.sets ++ y.sets
-
--- some set isn't listed, and there is no room for as many as the call has
-pub record LacksRoom (b : Contents) (sets : List PricedSet) : Type 0 where
-  pub unlisted : ¬ AreListed b.listed sets
-  pub full : b.most_sets < length b.listed + length sets
+-- the sets of the call's prices have no room; a plan has none
+abbrev pub LacksRoomFor : Contents → Call → Type 0
+LacksRoomFor b (offer plan) = ⊥
+LacksRoomFor b (reprice m f) = LacksRoom b.most_sets b.listed f.sets
+LacksRoomFor b (split m a x y) = LacksRoom b.most_sets b.listed (x.sets ++ y.sets)
 
 -- want of memory, or of room for sets, is told only where all demands are met
 abbrev pub IsRefusedFor : Contents → Call → BookFault → Type 0
 IsRefusedFor b call Memory = IsAccepted b call
-IsRefusedFor b call SetsFull = IsAccepted b call × LacksRoom b (sets_of_call call)
+IsRefusedFor b call SetsFull = IsAccepted b call × LacksRoomFor b call
 IsRefusedFor b call f = IsLowestFault b call f
 
 -- the fault that is told, if there is one

@@ -1,5 +1,5 @@
 -- What a book replies, and what it holds then.
-use Rattle.std.specs.Prelude.{◌≡◌, ℕ, [], ◌∷◌, ◌++◌, map, length, List, ◌≤◌, slice_set, true, false, Some, None, Option, MatchOption, Result, Ok, Err}
+use Rattle.std.specs.Prelude.{◌≡◌, ℕ, [], ◌∷◌, ◌++◌, length, List, ◌≤◌, slice_set, true, false, Some, None, Option, MatchOption, Result, Ok, Err}
 use Rattle.solomon_reader.specs.Plan.{Arc}
 use Rattle.solomon_reader.specs.Problem.{customer_count}
 use Rattle.schedule.specs.Solution.{Solution}
@@ -8,11 +8,9 @@ use Rattle.incumbent_book.specs.declared.fault.OpenFault.{OpenFault}
 use Rattle.incumbent_book.specs.declared.fault.OpenFault.TheVariants as fault
 use Rattle.solomon_reader.specs.Region.{root_region}
 use Rattle.solomon_reader.specs.History.{Limits, offered, repriced, was_split, IsCheaper, IsBestCost, IsBound, IsLeaf, split_count, used_number, unused_number}
-use Rattle.std.specs.List.{AllByRecursion}
-use Rattle.solomon_reader.specs.Region.{Among}
-use Rattle.solomon_reader.specs.SetPrices.{ListedSet, PricedSet, listed_of}
+use Rattle.solomon_reader.specs.SetPrices.{ListedSet}
 use Rattle.solomon_reader.specs.declared.limits.TheConstants.{MOST_SETS}
-use Rattle.incumbent_book.specs.Contents.{Contents, AreLimits, AreListed, own_prices, no_prices, pricing_at}
+use Rattle.incumbent_book.specs.Contents.{Contents, AreLimits, IsListing, own_prices, no_prices, pricing_at}
 use Rattle.incumbent_book.specs.Faults.{offer, reprice, split, IsAccepted, IsRefusedFor}
 use Rattle.incumbent_book.specs.declared.offered.Offered.{Offered}
 use Rattle.incumbent_book.specs.declared.offered.Offered.TheVariants.{Better, NotBetter}
@@ -35,11 +33,6 @@ opened root limits sets listed = record {
 
 abbrev pub IsRoot : ValuedPrices → Type 0
 IsRoot root = root.region ≡ root_region (customer_count root.problem)
-
--- these sets are listed in addition to those of a list: all of the sets stand there then, and no others were added
-pub record IsListing (old : List ListedSet) (sets : List PricedSet) (more : List ListedSet) : Type 0 where
-  pub all : AreListed (old ++ more) sets
-  pub only : AllByRecursion (λ l. (¬ Among l old) × Among l (map listed_of sets)) more
 
 -- within the greatest limits, also for sets, and those of the root have room
 pub record AreOpen (root : ValuedPrices) (limits : Limits) (sets : ℕ) : Type 0 where

@@ -3,8 +3,7 @@ use Rattle.std.specs.Prelude.{◌≡◌, ℕ, ◌+◌, ◌-◌, ◌<◌, ◌≤�
 use Rattle.std.specs.List.{AllByRecursion}
 use Rattle.solomon_reader.specs.Region.{Among}
 use Rattle.solomon_reader.specs.SetPrices.{ListedSet, PricedSet, SetPrice, priced_sets}
-use Rattle.incumbent_book.specs.Contents.{AreListed}
-use Rattle.incumbent_book.specs.Replies.{IsListing}
+use Rattle.incumbent_book.specs.Contents.{IsListing, LacksRoom}
 use Rattle.incumbent_book.specs.declared.fault.BookFault.{BookFault}
 use Rattle.incumbent_book.specs.declared.fault.BookFault.TheVariants.{Memory, SetsFull}
 
@@ -20,18 +19,12 @@ pub record IsGrown (most : ℕ) (sets : List PricedSet) (old new : List ListedSe
   pub more : List ListedSet
   pub is : new ≡ old ++ more
   pub listing : IsListing old sets more
-  pub fewer : length more ≤ length sets
   pub few : length new ≤ most
-
--- some set isn't listed, and all of them wouldn't have room
-pub record IsFull (most : ℕ) (sets : List PricedSet) (listed : List ListedSet) : Type 0 where
-  pub unlisted : ¬ AreListed listed sets
-  pub full : most < length listed + length sets
 
 -- why sets aren't listed: memory was refused, or there is no room
 abbrev pub IsUnlistedFor : ℕ → List PricedSet → List ListedSet → BookFault → Type 0
 IsUnlistedFor most sets listed Memory = Unit {0}
-IsUnlistedFor most sets listed SetsFull = IsFull most sets listed
+IsUnlistedFor most sets listed SetsFull = LacksRoom most listed sets
 IsUnlistedFor most sets listed why = ⊥
 
 -- a list that begins with another one
