@@ -80,6 +80,21 @@ pub record IsOfNow (b : Contents) (told : Gap) : Type 0 where
   pub cost : MatchOption now.cost (Unit {0}) (λ best. MatchOption told.cost ⊥ (λ c. c ≤ best))
   pub bound : now.bound ≤ told.bound
 
+-- what `Offers` says, and behind an accepted offer the share sees cost and bound of the book as it stands then
+abbrev pub OffersAndTells : Problem → Account → Solution → Contents → Result (Offered × Gap) (Solution × BookFault) → Account → Type 0
+OffersAndTells p old plan b (Ok (reply, told)) new = (counted : Account) × Offers p old plan (Ok reply) counted × Tells p counted told.cost told.bound new × IsOfNow b told
+OffersAndTells p old plan b (Err refused) new = Offers p old plan (Err refused) new
+
+-- the same of new prices for a leaf
+abbrev pub RepricesAndTells : Problem → ℕ → Account → ℕ → ValuedPrices → Contents → Result Gap (ValuedPrices × BookFault) → Account → Type 0
+RepricesAndTells p k old m f b (Ok told) new = (counted : Account) × Reprices p k old m f (Ok tt) counted × Tells p counted told.cost told.bound new × IsOfNow b told
+RepricesAndTells p k old m f b (Err refused) new = Reprices p k old m f (Err refused) new
+
+-- the same of a split
+abbrev pub SplitsAndTells : Problem → ℕ → Account → ℕ → Arc → ValuedPrices → ValuedPrices → Contents → Result ((ℕ × ℕ) × Gap) (ValuedPrices × ValuedPrices × BookFault) → Account → Type 0
+SplitsAndTells p k old m a x y b (Ok (made, told)) new = (counted : Account) × Splits p k old m a x y (Ok made) counted × Tells p counted told.cost told.bound new × IsOfNow b told
+SplitsAndTells p k old m a x y b (Err refused) new = Splits p k old m a x y (Err refused) new
+
 -- a plan that isn't better or is refused comes back
 abbrev pub GivesBack : Solution → Result (Offered × Gap) (Solution × BookFault) → Type 0
 GivesBack plan (Ok (Better before, gap)) = Unit {0}

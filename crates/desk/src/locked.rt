@@ -5,7 +5,7 @@ ghost use Rattle.solomon_reader.specs.History.{offered};
 ghost use Rattle.branching.specs.Arcs.{pair};
 ghost use Rattle.incumbent_book.specs.Contents.{event_of};
 ghost use Rattle.desk.specs.Opening.{IsCounted};
-ghost use Rattle.desk.specs.Replies.{Offers, Reprices, Splits, Tells, IsPricedFor, IsOfNow, GivesBack};
+ghost use Rattle.desk.specs.Replies.{Offers, Reprices, Splits, Tells, OffersAndTells, RepricesAndTells, SplitsAndTells, IsPricedFor, IsOfNow, GivesBack};
 
 use crate::fault::LookFault;
 use crate::naming::Naming;
@@ -145,8 +145,8 @@ impl<'i, J: Naming> Locked<'i, J> {
         mine: &mut Share<J>,
         plan: Feasible<'i>,
     ) -> Result<(Offered<'i>, Gap), (Feasible<'i>, BookFault)>
+        ensures tells { OffersAndTells J.problem mine.old plan.entry self.new result mine.new }
         ensures back { GivesBack plan.entry result }
-        ensures now { IfOk result (λ r. IsOfNow self.new r.1) }
     {
         let offered = self.offer(mine, plan)?;
         Ok((offered, self.gap(mine)))
@@ -159,8 +159,8 @@ impl<'i, J: Naming> Locked<'i, J> {
         leaf: u32,
         priced: Priced<'i>,
     ) -> Result<Gap, (Priced<'i>, BookFault)>
+        ensures tells { RepricesAndTells J.problem J.neighbours mine.old leaf priced.entry self.new result mine.new }
         ensures back { IfErr result (λ e. e.0 ≡ priced.entry) }
-        ensures now { IfOk result (IsOfNow self.new) }
     {
         self.reprice(mine, leaf, priced)?;
         Ok(self.gap(mine))
@@ -175,8 +175,9 @@ impl<'i, J: Naming> Locked<'i, J> {
         used: Priced<'i>,
         unused: Priced<'i>,
     ) -> Result<((u32, u32), Gap), (Priced<'i>, Priced<'i>, BookFault)>
+        ensures tells { SplitsAndTells J.problem J.neighbours mine.old leaf
+            (pair arc) used.entry unused.entry self.new result mine.new }
         ensures back { IfErr result (λ e. (e.0 ≡ used.entry) × (e.1 ≡ unused.entry)) }
-        ensures now { IfOk result (λ r. IsOfNow self.new r.1) }
     {
         let made = self.split(mine, leaf, arc, used, unused)?;
         Ok((made, self.gap(mine)))
