@@ -3,8 +3,8 @@
 use crate::fronts::Nearness;
 use crate::insertion::{Weights, build_whole};
 use crate::leaf_work::{
-    ChildStart, Children, Effort, Goal, PricingState, RoutePool, SplitOrDecided, counted_routes, first_leaf, goal_of,
-    Raised, child::children_by, met_plan, raise, split_or_decide, trying::likely_arcs,
+    ChildStart, Children, Effort, FirstLimits, Goal, PricingState, Raised, RoutePool, SplitOrDecided,
+    child::children_by, counted_routes, first_leaf, goal_of, met_plan, raise, split_or_decide, trying::likely_arcs,
 };
 use crate::priced_sets::PricedSet;
 use crate::pooled_routes::Pseudocosts;
@@ -184,7 +184,8 @@ impl<'i> Tree<'i> {
         let routes = plan.as_ref().map(|plan| plan.routes());
         let work = worth_of(instance) * (u64::from(turns) / PRICING_PART).max(LEAST_PRICING_TURNS);
         let labels = (work / u64::from(instance.customer_count())).min(MOST_LABELS) as usize;
-        let first = first_leaf(Global, nearness, instance, NEIGHBOURS, plan.as_ref(), None, Some(labels));
+        let limits = FirstLimits { root_labels: None, labels: Some(labels), sets: 0 };
+        let first = first_leaf(Global, nearness, instance, NEIGHBOURS, plan.as_ref(), limits);
         let Ok(leaf) = first else { panic!("labels") };
         let state = || {
             let mut state = PricingState::new(Global, nearness);

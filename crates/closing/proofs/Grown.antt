@@ -70,6 +70,7 @@ same_children f raised c problem region neighbours are = record {
     region = are.unused.region ∙ ap (λ g. unused_child g (pair c.arc)) region;
     neighbours = are.unused.neighbours ∙ neighbours;
   };
+  valued = are.valued;
 }
 
 -- a split of a leaf at raised prices is a split of the leaf

@@ -12,7 +12,7 @@ use crate::growth::Growth;
 use crate::laws::depth_holds;
 use fronts::Nearness;
 use labelling::LabelFault;
-use leaf_work::{PricingState, RoutePool, first_leaf};
+use leaf_work::{FirstLimits, PricingState, RoutePool, first_leaf};
 use schedule::Feasible;
 use solomon_reader::Instance;
 use std::alloc::Global;
@@ -63,14 +63,18 @@ pub fn close_from<'i>(
     }
     let plan = first_plan(alloc, instance, start)?;
     let nearness = Nearness::new(alloc, instance, neighbours)?;
+    let limits = FirstLimits {
+        root_labels: None,
+        labels: None,
+        sets: 0,
+    };
     let root = match first_leaf(
         alloc,
         &nearness,
         instance,
         neighbours,
         plan.as_ref(),
-        None,
-        None,
+        limits,
     ) {
         Ok(root) => root,
         Err(LabelFault::Memory) => return Err(CloseAloneFault::Memory),

@@ -1,6 +1,6 @@
 -- Customers' prices beside those of sets.
 use Rattle.std.proofs.Common.{◌≡◌, ◌+◌, ◌≤◌, ℕ, List, arith}
-use Rattle.std.specs.Prelude.{ℤ, nat_abs}
+use Rattle.std.specs.Prelude.{ℤ, pos, nat_abs}
 use Rattle.std.specs.List.{AllByRecursion}
 use Rattle.solomon_reader.specs.AmongLaws.{weaker}
 use Rattle.solomon_reader.specs.SetPrices.{PricedSet, price_sum}
@@ -11,3 +11,7 @@ use Rattle.priced_sets.specs.Sets.{IsWithin}
 pub within_room : (sets : List PricedSet) (most : ℕ) (prices : List ℤ) → price_sum sets + most ≡ MOST_PRICE → AllByRecursion (λ z. nat_abs z ≤ most) prices
     → AllByRecursion (IsWithin sets) prices
 within_room sets most prices room all = weaker (λ z. nat_abs z ≤ most) (IsWithin sets) (λ z h. omega (arith, h, room)) prices all
+
+-- prices of zero are in their range beside any sets
+pub zeros_within : (sets : List PricedSet) (prices : List ℤ) → price_sum sets ≤ MOST_PRICE → AllByRecursion (λ z. z ≡ pos 0) prices → AllByRecursion (IsWithin sets) prices
+zeros_within sets prices room all = weaker (λ z. z ≡ pos 0) (IsWithin sets) (λ z e. rw e (omega (arith, room))) prices all

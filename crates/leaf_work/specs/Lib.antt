@@ -2,3 +2,4 @@ pub mod Children
 pub mod Gathering
 pub mod DecidedPrices
 pub mod Splitting
+pub mod FirstLeaf

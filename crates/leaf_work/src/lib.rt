@@ -26,7 +26,7 @@ mod trying;
 
 pub use child::Children;
 pub use effort::{Effort, goal_of};
-pub use first::first_leaf;
+pub use first::{FirstLimits, first_leaf};
 pub use leaf::{SplitOrDecided, split_or_decide};
 pub use pool_plan::met_plan;
 pub use price_way::{

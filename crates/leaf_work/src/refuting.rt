@@ -1,76 +1,203 @@
-//! Prices to start from where no plan is known, which may show that there is none.
+//! Prices that rule out every plan, for a reason that plain arithmetic tells.
 
-ghost use Rattle.std.specs.Prelude.{◌≡◌, ◌+◌, ◌<◌, ◌≤◌, [], length, IfOk};
+ghost use Rattle.std.specs.Prelude.{◌≡◌, ◌<◌, ◌≤◌, [], pos, length, IfOk, IfSome};
 ghost use Rattle.std.specs.List.{AllByRecursion};
 ghost use Rattle.solomon_reader.specs.Problem.{customer_count};
 ghost use Rattle.solomon_reader.specs.CertificateText.{IsPrice};
+ghost use Rattle.solomon_reader.specs.declared.limits.TheConstants.{MOST_NEIGHBOURS};
+ghost use Rattle.priced_sets.specs.Sets.{IsWithin};
+ghost use Rattle.leaf_work.specs.FirstLeaf.{IsRefutedRoot};
 
+use crate::first::FirstLimits;
+use crate::pricing::price_alone;
 use crate::starting::higher_at;
+use branching::Region;
 use fronts::Nearness;
+use labelling::PricingTask;
+use priced_sets::{NeededSets, PricedSet, PricedSets};
 use prices::{Priced, high_price};
 use schedule::walk;
 use solomon_reader::{Instance, MOST_PRICE};
 use std::alloc::{AllocError, Global};
 
-/// Why an instance may have no plan.
-#[derive(Clone, Copy)]
-enum Obstacle {
-    /// The vehicles together don't carry what all customers demand.
-    Demands,
-    /// No vehicle can serve this customer alone.
-    Customer(u16),
+/// Whether the vehicles together don't carry what all customers demand.
+fn is_overloaded(instance: &Instance) -> bool {
+    u32::from(instance.fleet()) < instance.fewest_routes()
 }
 
-/// What stands against a plan: at 0 the demands, and at a customer's number that customer.
-fn obstacle_at(instance: &Instance, row: u16) -> Option<Obstacle> {
-    if row == 0 {
-        let is_small = u32::from(instance.fleet()) < instance.fewest_routes();
-        return is_small.then_some(Obstacle::Demands);
+/// A price for one customer, and 0 for the others. It is so high that no plan costs as much.
+fn prices_of_one(alloc: Global, instance: &Instance, customer: u16) -> Result<Vec<i64>, AllocError>
+    ensures count { IfOk result (λ v. length v.items ≡ customer_count instance.now) }
+    ensures in_range { IfOk result (λ v. AllByRecursion IsPrice v.items) }
+{
+    let mut prices = Vec::new(alloc);
+    for other in 1..instance.customer_count() + 1 {
+        let price = if other == customer {
+            high_price(instance)
+        } else {
+            0
+        };
+        prices.push(price)?;
     }
-    let is_out_of_reach = walk(instance, &[row]).is_none();
-    is_out_of_reach.then_some(Obstacle::Customer(row))
+    Ok(prices)
 }
 
-/// A customer's price in grains, by which an obstacle lifts the value above every plan's cost. Where the fleet
-/// is too small for the demands, each unit of demand has a price, and one unit at least is never served; where
-/// a customer can't be served, it alone has a price.
-fn price_against(instance: &Instance, obstacle: Obstacle, customer: u16) -> i64
+/// All customers, in order.
+fn all_customers(alloc: Global, instance: &Instance) -> Result<Vec<u16>, AllocError> {
+    let mut customers = Vec::new(alloc);
+    for customer in 1..instance.customer_count() + 1 {
+        customers.push(customer)?;
+    }
+    Ok(customers)
+}
+
+/// The set of all customers with a high price, if the vehicles don't carry what they demand together: each route
+/// enters it once, and it needs one entry more than there are vehicles.
+fn set_of_all<'i>(alloc: Global, instance: &'i Instance) -> Result<PricedSets<'i>, AllocError>
+    ensures problem { IfOk result (λ s. s.problem ≡ instance.now) }
+    ensures one { IfOk result (λ s. length s.sets ≤ 1) }
+{
+    let all = PricedSet {
+        members: all_customers(alloc, instance)?,
+        need: u32::from(instance.fleet()) + 1,
+        price: high_price(instance).unsigned_abs(),
+    };
+    let mut needed = NeededSets::new(alloc, instance)?;
+    PricedSets::of(alloc, instance, &mut needed, &[all])
+}
+
+/// The root with these prices, where their value is above the cost of every plan. The tables of the instance are lent.
+#[tactic(auto, using(labelling::proofs::Paying::priced_within))]
+fn refuted_at<'i>(
+    alloc: Global,
+    nearness: &Nearness<'_>,
+    neighbours: u32,
+    prices: Vec<i64>,
+    sets: PricedSets<'i>,
+    labels: Option<usize>,
+) -> Option<Priced<'i>>
+    requires few { neighbours ≤ MOST_NEIGHBOURS }
+    requires count { length prices.items ≡ customer_count sets.problem }
+    requires in_range { AllByRecursion (IsWithin sets.sets) prices.items }
+    ensures { IfSome result (IsRefutedRoot sets.entry.problem neighbours (length sets.entry.sets)) }
+{
+    let instance = sets.instance();
+    let task = PricingTask {
+        instance,
+        region: Region::root(alloc, instance.customer_count()),
+        neighbours,
+        prices,
+        sets,
+    };
+    let root = price_alone(alloc, nearness, task, labels).ok()?;
+    if root.tenths() > u128::from(instance.ceiling().get()) {
+        Some(root)
+    } else {
+        None
+    }
+}
+
+/// The root with prices by which no vehicle serves some customer, not alone and not over others.
+fn refuted_by_one<'i>(
+    alloc: Global,
+    nearness: &Nearness<'_>,
+    instance: &'i Instance,
+    neighbours: u32,
+    labels: Option<usize>,
+) -> Option<Priced<'i>>
+    requires { neighbours ≤ MOST_NEIGHBOURS }
+    ensures { IfSome result (IsRefutedRoot instance.now neighbours 0) }
+{
+    for customer in 1..instance.customer_count() + 1 {
+        if walk(instance, &[customer]).is_some() {
+            continue;
+        }
+        let prices = prices_of_one(alloc, instance, customer).ok()?;
+        let none = PricedSets::none(alloc, instance);
+        let root = refuted_at(alloc, nearness, neighbours, prices, none, labels);
+        if root.is_some() {
+            return root;
+        }
+    }
+    None
+}
+
+/// A price of zero for each customer.
+fn zero_prices(alloc: Global, instance: &Instance) -> Result<Vec<i64>, AllocError>
+    ensures count { IfOk result (λ v. length v.items ≡ customer_count instance.now) }
+    ensures zero { IfOk result (λ v. AllByRecursion (λ z. z ≡ pos 0) v.items) }
+{
+    Ok(vec![in alloc; 0; instance.customer_count() as usize]?)
+}
+
+/// The root with prices by which the vehicles don't carry all demands.
+fn refuted_by_loads<'i>(
+    alloc: Global,
+    nearness: &Nearness<'_>,
+    instance: &'i Instance,
+    neighbours: u32,
+    labels: Option<usize>,
+) -> Option<Priced<'i>>
+    requires { neighbours ≤ MOST_NEIGHBOURS }
+    ensures { IfSome result (IsRefutedRoot instance.now neighbours 1) }
+{
+    if !is_overloaded(instance) {
+        return None;
+    }
+    let sets = set_of_all(alloc, instance).ok()?;
+    let prices = zero_prices(alloc, instance).ok()?;
+    // their prices are within range
+    let _sets = sets.as_slice();
+    refuted_at(alloc, nearness, neighbours, prices, sets, labels)
+}
+
+/// The root with prices whose value is above the cost of every plan, where plain arithmetic says why there is none: no
+/// vehicle can serve some customer, or, where a set may have a price, all vehicles together don't carry what the
+/// customers demand. Nothing where memory or labels don't suffice. The tables of the instance are lent.
+pub(crate) fn refuted_root<'i>(
+    alloc: Global,
+    nearness: &Nearness<'_>,
+    instance: &'i Instance,
+    neighbours: u32,
+    limits: FirstLimits,
+) -> Option<Priced<'i>>
+    requires { neighbours ≤ MOST_NEIGHBOURS }
+    ensures { IfSome result (IsRefutedRoot instance.now neighbours limits.sets) }
+{
+    let by_one = refuted_by_one(alloc, nearness, instance, neighbours, limits.labels);
+    if by_one.is_some() || limits.sets == 0 {
+        return by_one;
+    }
+    refuted_by_loads(alloc, nearness, instance, neighbours, limits.labels)
+}
+
+/// A customer's price in grains, by which a fleet that is too small for the demands lifts the value: each unit of
+/// demand has a price, and one unit at least is never served.
+fn price_of_demand(instance: &Instance, customer: u16) -> i64
     requires { customer < length instance.now.rows }
     ensures { IsPrice result }
 {
-    let high = high_price(instance);
     let most = MOST_PRICE as i64;
-    match obstacle {
-        Obstacle::Demands => {
-            let unit = high.min(most / i64::from(instance.capacity()));
-            let price = unit.saturating_mul(i64::from(instance.demand(customer)));
-            price.clamp(0, most)
-        }
-        Obstacle::Customer(alone) if alone == customer => high,
-        Obstacle::Customer(_) => 0,
-    }
+    let unit = high_price(instance).min(most / i64::from(instance.capacity()));
+    let price = unit.saturating_mul(i64::from(instance.demand(customer)));
+    price.clamp(0, most)
 }
 
-/// The prices of all customers against an obstacle.
-fn prices_against(
-    alloc: Global,
-    instance: &Instance,
-    obstacle: Obstacle,
-) -> Result<Vec<i64>, AllocError>
+/// The prices of all customers by their demands.
+fn prices_of_demands(alloc: Global, instance: &Instance) -> Result<Vec<i64>, AllocError>
     ensures count { IfOk result (λ v. length v.items ≡ customer_count instance.now) }
     ensures in_range { IfOk result (λ v. AllByRecursion IsPrice v.items) }
 {
     let mut prices = Vec::new(alloc);
     for customer in 1..instance.customer_count() + 1 {
-        prices.push(price_against(instance, obstacle, customer))?;
+        prices.push(price_of_demand(instance, customer))?;
     }
     Ok(prices)
 }
 
-/// The root, with the prices of the highest value that the obstacles to a plan lead to: for a fleet that is
-/// too small for the demands, or a customer whom no vehicle can serve, mostly a value above every plan's cost.
-/// Else the root as it is, also where memory or labels don't suffice. The tables of the instance are lent.
-pub(crate) fn start_without_plan<'i>(
+/// The root with prices by which the vehicles don't carry all demands, where no set may have one and their value is
+/// higher; else the root as it is, also where memory or labels don't suffice. The tables of the instance are lent.
+pub(crate) fn start_by_demands<'i>(
     alloc: Global,
     nearness: &Nearness<'_>,
     root: Priced<'i>,
@@ -83,18 +210,11 @@ pub(crate) fn start_without_plan<'i>(
     ensures no_sets { root.entry.sets ≡ [] → result.sets ≡ [] }
 {
     let instance = root.instance();
-    let ceiling = i128::from(instance.ceiling().get());
-    let mut best = root;
-    for row in 0..instance.customer_count() + 1 {
-        if best.value() > ceiling {
-            return best;
-        }
-        if let Some(obstacle) = obstacle_at(instance, row) {
-            best = match prices_against(alloc, instance, obstacle) {
-                Ok(prices) => higher_at(alloc, nearness, best, prices, labels),
-                Err(_) => best,
-            };
-        }
+    if !is_overloaded(instance) {
+        return root;
     }
-    best
+    match prices_of_demands(alloc, instance) {
+        Ok(prices) => higher_at(alloc, nearness, root, prices, labels),
+        Err(_) => root,
+    }
 }

@@ -19,7 +19,7 @@ use fronts::Nearness;
 use incumbent_book::{Book, BookFault, Limits, OpenFault};
 use insertion::{Weights, build_whole};
 use labelling::{Hints, LabelFault};
-use leaf_work::first_leaf;
+use leaf_work::{FirstLimits, first_leaf};
 use prices::Priced;
 use run_settings::Settings;
 use schedule::{Feasible, cheaper};
@@ -105,7 +105,7 @@ fn first_plans<'i, R: Threads + Sync, G: Gate>(
 /// A book of the root, in which at most so many sets are listed.
 fn open_book<'i>(alloc: Global, root: Priced<'i>, sets: u32) -> Result<Book<'i>, RunFault>
     requires root { root.region ≡ root_region (customer_count root.problem) }
-    requires no_sets { root.sets ≡ [] }
+    requires room { length root.sets ≤ sets }
     requires few { sets ≤ MOST_SETS }
     ensures problem { IfOk result (λ b. b.problem ≡ root.entry.problem) }
     ensures neighbours { IfOk result (λ b. b.neighbours ≡ root.entry.neighbours) }
@@ -174,7 +174,7 @@ fn first_root<'i>(
     ensures problem { IfOk result (λ f. f.problem ≡ instance.now) }
     ensures region { IfOk result (λ f. f.region ≡ root_region (customer_count instance.now)) }
     ensures neighbours { IfOk result (λ f. f.neighbours ≡ settings.now.neighbours) }
-    ensures sets { IfOk result (λ f. f.sets ≡ []) }
+    ensures sets { IfOk result (λ f. length f.sets ≤ settings.now.sets) }
     ensures refused { IfErr result (λ e. (e ≡ Memory) ⊎ (e ≡ LabelLimit)) }
 {
     let neighbours = settings.neighbours;
@@ -183,16 +183,12 @@ fn first_root<'i>(
         let hints = Hints::near(alloc, nearness);
         Priced::root(alloc, instance, neighbours, root_labels, &hints)
     } else {
-        let labels = Some(pricing_labels(settings, instance.customer_count()));
-        first_leaf(
-            alloc,
-            nearness,
-            instance,
-            neighbours,
-            plan,
+        let limits = FirstLimits {
             root_labels,
-            labels,
-        )
+            labels: Some(pricing_labels(settings, instance.customer_count())),
+            sets: settings.sets,
+        };
+        first_leaf(alloc, nearness, instance, neighbours, plan, limits)
     };
     match root {
         Ok(root) => Ok(root),

@@ -1,7 +1,7 @@
 use Rattle.std.proofs.Common.{◌≡◌, ◌+◌, length}
 use Rattle.std.specs.List.{AllByRecursion}
 use Rattle.solomon_reader.specs.CertificateText.{IsPrice}
-use Rattle.leaf_work.proofs.refuting.prices_against.Given as goal
+use Rattle.leaf_work.proofs.refuting.prices_of_demands.Given as goal
 
 abbrev pub invariant-loop-customer : goal.invariant-loop-customer
 invariant-loop-customer l = record {
