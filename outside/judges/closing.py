@@ -4,12 +4,13 @@ from cases.random_texts import instance_words, laid_out
 from cases.shapes import SHAPES
 from judges.kind import Kind, program_by
 from judges.running import Disagreement, demand, run_check, solve
-from judges.solving import least
+from judges.solving import is_overloaded, least
 from reference import checking
 from reference.bounding import TooLong
 from reference.instances import read
 from reference.optimum import least_cost
-from reference.texts import TextFault, read_certificate, read_solution
+from reference.set_texts import is_of_sets, read_either
+from reference.texts import TextFault, read_solution
 
 MOST_LEAVES = 100_000
 # As many leaves suffice for three customers.
@@ -57,7 +58,8 @@ def judge_closed(program, folder, random, text, leaves, neighbours):
         demand(most < min(MOST_LEAVES, most_leaves(instance.count)), "LeafLimit with %d leaves" % most)
         judge_more(program, folder, text, most, neighbours)
         return "LeafLimit"
-    found = read_certificate(certificate)
+    found = read_either(certificate)
+    demand(is_of_sets(certificate) == is_overloaded(instance), "a certificate of the wrong kind")
     judge_answer(instance, out, errors, status, solution, found)
     count = leaves_of(found.tree)
     demand(count <= most, "%d leaves, and %d are allowed" % (count, most))
@@ -98,14 +100,16 @@ def judge_same(program, folder, random, text, came, count, neighbours):
 
 
 def without_sets(certificate):
-    """The certificate of version 2 that a certificate without sets' prices is beside its head."""
+    """The certificate of version 2 that a certificate without sets' prices is beside its head; one with them stays."""
+    if b"\nM 1 " in certificate:
+        return certificate
     return certificate.replace(b"VRPTW-SETS 1\n", b"VRPTW-CERT 2\n", 1).replace(b"\nM\n", b"\n")
 
 
 def judge_more(program, folder, text, most, neighbours):
     """Where the limit was met the tree has more leaves than that."""
     certificate = solve(program, folder, text, options_of(None, neighbours))[4]
-    count = leaves_of(read_certificate(certificate).tree) if certificate else most + 1
+    count = leaves_of(read_either(certificate).tree) if certificate else most + 1
     demand(count > most, "LeafLimit with %d leaves, and %d suffice" % (most, count))
 
 

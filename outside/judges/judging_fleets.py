@@ -1,5 +1,6 @@
 """Runs of `solve` where the fleet is as small as it may be, or smaller: it has to tell that there is no plan."""
 import os
+import time
 
 from cases.classes import CLASSES, class_words
 from cases.edges import edge_words
@@ -21,6 +22,10 @@ from tools.reasons import reasons
 CUSTOMERS, TURNS = 25, 1000
 # The most customers whose plans are all gone through.
 MOST_CUSTOMERS = 9
+# A run that plain arithmetic refutes takes less than a second of a processor, on a busy machine some more.
+MOST_SECONDS = 10
+# The greatest capacity and demand.
+MOST_LOAD, MOST_DEMAND = 10_000, 10_000
 # Where the fleet stands among an instance's words.
 FLEET = 4
 
@@ -105,8 +110,52 @@ def by_values(instance, found, solution, told):
     return ""
 
 
+def judge_refuted(program, folder, random):
+    """An instance of a class that plain arithmetic mostly refutes: `NO PLAN` within seconds where a reason proves it.
+    Answers which reasons there were, or the line's first word."""
+    name, count = random.choice(sorted(CLASSES)), random.choice([1, 2, 3, 8, 24, 25, 50, 100, 400])
+    words = spoilt(random, class_words(random, name, count), count)
+    text = laid_out(random, words)
+    found = [reason for reason in reasons(read(text)) if reason.proves]
+    options = random.choice([[], ["--sets", "3"], ["--close"] if count < 25 else []])
+    begun = time.monotonic()
+    out, errors, status, solution, certificate = solve(program, folder, text, options or ["--turns", "1"])
+    told = "%s, %d customers, %s, %r" % (name, count, options, [reason.told for reason in found])
+    if not found:
+        return (out or errors).split()[0]
+    demand((out, errors, status, solution) == ("NO PLAN\n", "", 0, b""), "%r: %s" % ((out, errors, status), told))
+    demand(time.monotonic() - begun < MOST_SECONDS, "late: %s" % told)
+    checked = run_check(program, folder, text, certificate, None)
+    demand(checked == (out, errors, status), "check: %r: %s" % (checked, told))
+    return ", ".join(sorted({"a customer" if reason.customer else "loads" for reason in found}))
+
+
+def spoilt(random, words, count):
+    """The words with large demands and a fleet that just doesn't carry them, or a customer who is out of reach or
+    whose demand no vehicle holds; or both, or neither."""
+    rows = len(words) - 7 * (count + 1)
+    kinds = random.choice([["loads"], ["late"], ["heavy"], ["loads", "late"], []])
+    if "loads" in kinds:
+        most = random.choice([20, 1000, MOST_DEMAND // 2])
+        demands = [random.randint(1, most) for _ in range(count)]
+        capacity = max(demands + [min(MOST_LOAD, sum(demands) // random.randint(1, 9))])
+        fleet = max(1, (sum(demands) - 1) // capacity)
+        words[FLEET], words[FLEET + 1] = str(fleet), str(capacity)
+        for at, demand_of in enumerate(demands, 1):
+            words[rows + 7 * at + 3] = str(demand_of)
+    one = rows + 7 * random.randint(1, count)
+    if "late" in kinds:
+        words[one + 5] = words[one + 4]
+        words[rows + 5] = words[one + 4]
+    if "heavy" in kinds:
+        words[one + 3] = str(min(MOST_DEMAND, int(words[FLEET + 1]) + 1))
+    return words
+
+
 KINDS = {
     "fleets": Kind("a fleet near the edge, 1 to 9 customers: NO PLAN exactly where there is none", 40,
                    program_by(judge_fleets)),
+    "refuted": Kind("what plain arithmetic refutes, up to 400 customers: NO PLAN within seconds, with its certificate",
+                    40, program_by(judge_refuted)),
     "tight": Kind("25 customers, one vehicle fewer again and again: never OPEN", 4, program_by(judge_tight)),
 }

@@ -114,12 +114,15 @@ def lines_of_live(errors):
 
 
 def judge_progress(errors, out, settings):
-    """Each hundredth of the turns is told once at most; no cost is below the last one, no bound above the last."""
+    """Each hundredth of the turns is told once at most, in order; no cost is below the last one, no bound above the
+    last."""
     lines = [TOLD.fullmatch(line) for line in errors]
     demand(all(lines), "progress: %r" % errors)
     parts = [int(line[1]) for line in lines]
     turns = settings["turns"] * (settings["searchers"] + settings["bounders"])
-    demand(len(set(parts)) == len(parts) <= turns and set(parts) <= set(range(1, 101)), "progress: %r" % errors)
+    demand(parts == sorted(set(parts)) and len(parts) <= turns, "progress: %r" % errors)
+    demand(set(parts) <= set(range(1, 101)), "progress: %r" % errors)
+    judge_order(lines, errors)
     for line in lines:
         demand((line[2] is None) == (line[4] is None) and int(line[5]) >= 1, "progress: %r" % errors)
         demand(int(line[6]) * 100 // turns == int(line[1]), "turns: %r" % line[0])
@@ -134,12 +137,26 @@ def judge_progress(errors, out, settings):
         demand(all(tenths(line[3]) <= last[-1] for line in lines), "%r, and %r" % (errors, out))
 
 
+def judge_order(lines, errors):
+    """No line goes back: costs don't rise, bounds, leaves and turns don't fall, and a plan that was told is known."""
+    for before, line in zip(lines, lines[1:]):
+        demand(all(tenths(a) <= tenths(b) if "." in a else int(a) <= int(b)
+                   for a, b in zip(before.group(3, 5, 6), line.group(3, 5, 6))), "order: %r" % errors)
+        demand(before[2] is None or line[2] is not None and tenths(line[2]) <= tenths(before[2]), "order: %r" % errors)
+
+
+def is_overloaded(instance):
+    """Whether the vehicles together don't carry what the customers demand: a set of all of them shows it."""
+    return sum(row[2] for row in instance.rows) > instance.fleet * instance.capacity
+
+
 def judge_texts(text, certificate, solution, told, settings):
     """Both texts by the reference's checker, and what stands in the certificate's head."""
     found = read_either(certificate)
-    begins = b"VRPTW-SETS 1\n" if settings["sets"] else b"VRPTW-CERT 2\n"
+    sets = max(settings["sets"], 1 if is_overloaded(read(text)) else 0)
+    begins = b"VRPTW-SETS 1\n" if sets else b"VRPTW-CERT 2\n"
     demand(certificate.startswith(begins) and found.version == 2, "the certificate's version")
-    demand(len(found.sets) <= settings["sets"], "the certificate's sets")
+    demand(len(found.sets) <= sets, "the certificate's sets")
     demand(found.neighbours == settings["neighbours"], "the certificate's neighbours")
     checked = checking.check(text, certificate, solution, least)
     demand(checked == told, "solve: %r, reference: %r" % (told, checked))

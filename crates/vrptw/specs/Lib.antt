@@ -5,3 +5,4 @@ pub mod Closing
 pub mod Starting
 pub mod GoingOn
 pub mod Plans
+pub mod Progress

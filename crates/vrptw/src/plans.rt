@@ -24,7 +24,8 @@ pub(crate) struct PlansFile<X: Sink + Drop> {
 impl<X: Sink + Drop> PlansFile<X> {
     /// A file in which no plan stands.
     pub(crate) fn new(sink: X) -> PlansFile<X>
-        ensures { (result.least ≡ None) × (result.has_failed ≡ false) }
+        ensures sink { result.sink ≡ sink }
+        ensures empty { (result.least ≡ None) × (result.has_failed ≡ false) }
     {
         PlansFile {
             sink,
@@ -103,7 +104,7 @@ impl<'a, R: Eprint, X: Sink + Drop> PlansGate<'a, R, X> {
     }
 
     /// Ends what was told.
-    pub(crate) fn end(&self) {
+    pub(crate) fn end(self) {
         self.progress.end();
     }
 }

@@ -13,8 +13,10 @@ use crate::plans::PlansGate;
 use crate::progress::{ProgressGate, Telling};
 use crate::starting::StartFault;
 use checker::check;
+use closing::MOST_CLOSED;
 use command_line::{Job, job};
 use run_settings::{Part, Settings};
+use solomon_reader::read;
 use std::alloc::Global;
 use std::io::Write;
 use std::rt::Files;
@@ -88,7 +90,16 @@ fn make_outputs<R: Files>(rt: &R, job: SolveJob<'_>) -> io::Result<Outputs<R::Fi
     })
 }
 
-/// Closes the instance of a text, or solves it, from a plan and a tree where there are some.
+/// How many customers a text's instance has, where its vehicles together don't carry what these demand. Then the set of
+/// all customers shows that there is no plan.
+fn overload(alloc: Global, text: &[u8]) -> Option<u16> {
+    let instance = read(alloc, text).ok()?;
+    let is_overloaded = u32::from(instance.fleet()) < instance.fewest_routes();
+    is_overloaded.then_some(instance.customer_count())
+}
+
+/// Closes the instance of a text, or solves it, from a plan and a tree where there are some. One whose loads alone leave
+/// no plan is solved, with a set.
 fn solve_text<R: Eprint + Threads + Wait + Sync, W: Write + Drop + Send>(
     rt: &R,
     alloc: Global,
@@ -101,26 +112,30 @@ fn solve_text<R: Eprint + Threads + Wait + Sync, W: Write + Drop + Send>(
         mut certificate,
         plans,
     } = outputs;
-    let settings = job.settings;
-    if let Some(leaves) = job.closing {
+    let (mut settings, mut closing) = (*job.settings, job.closing);
+    if let Some(customers) = overload(alloc, text) {
+        settings.sets = settings.sets.max(1);
+        closing = closing.filter(|_| customers > MOST_CLOSED);
+    }
+    if let Some(leaves) = closing {
         return close_from(
             alloc,
             text,
             given.start,
-            settings,
+            &settings,
             leaves,
             &mut solution,
             &mut certificate,
         );
     }
-    let progress = ProgressGate::new(rt, settings, job.telling);
+    let progress = ProgressGate::new(rt, &settings, job.telling);
     let gate = PlansGate::new(rt, alloc, progress, plans);
     let answer = solve_on(
         rt,
         alloc,
         text,
         given,
-        settings,
+        &settings,
         &gate,
         &mut solution,
         &mut certificate,
