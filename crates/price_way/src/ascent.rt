@@ -139,6 +139,17 @@ impl Ascent {
         merit.saturating_sub(self.centre.merit)
     }
 
+    /// How far the merit rises from the centre to where a trial leads, in grains: what its prices promise, with what
+    /// the routes that make them up lack. That is known well after few sweeps; the least reduced cost isn't, and
+    /// counts for each vehicle.
+    pub fn rise_by_routes(&self, trial: &Trial, lacking: i128) -> i128 {
+        let (prices, sets) = (trial.prices.as_slice(), trial.sets.as_slice());
+        let promised = self.merit.promised(prices, sets, trial.vehicle_price);
+        promised
+            .saturating_add(lacking)
+            .saturating_sub(self.centre.merit)
+    }
+
     /// The centre after the rise, projected onto what the routes of the pool say.
     pub fn trial(
         &self,

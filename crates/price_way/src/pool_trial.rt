@@ -75,6 +75,19 @@ impl<'r> PoolTrial<'r> {
         Ok(spaces)
     }
 
+    /// How far the routes that make up the prices of a trial are from what they cost, as often as each counts, in
+    /// grains: below 0 where the projection stopped before it came to what they say.
+    fn lacking(&self, spaces: &[HalfSpace<'_>], trial: &Trial) -> i128 {
+        let mut sum: i128 = 0;
+        for space in spaces {
+            let reduced = trial.reduced_cost(space.fours, space.cost);
+            let slack = reduced.saturating_sub(trial.vehicle_price.value());
+            let product = i128::from(space.multiplier).saturating_mul(i128::from(slack));
+            sum = sum.saturating_add(product);
+        }
+        sum.checked_div(i128::from(self.rise)).unwrap_or(0)
+    }
+
     /// The prices that a child's ascent would come to if it had only those of the pool's routes that the
     /// child doesn't forbid.
     pub fn of_child(&self, arc: Arc, child: Child) -> Result<ChildTrial, AllocError> {
@@ -82,12 +95,11 @@ impl<'r> PoolTrial<'r> {
         let mut projection = Projection { spaces, work: 0 };
         let mut trial = self.ascent.start(self.alloc, self.rise)?;
         projection.project(self.alloc, &mut trial, MOST_SWEEPS)?;
-        let spaces = projection.spaces.iter();
-        let least = spaces
-            .map(|space| trial.reduced_cost(space.fours, space.cost))
-            .min();
+        let is_any = !projection.spaces.is_empty();
+        let lacking = self.lacking(projection.spaces.as_slice(), &trial);
+        let rise = self.ascent.rise_by_routes(&trial, lacking);
         Ok(ChildTrial {
-            rise: least.map(|least| self.ascent.rise_to(&trial, least)),
+            rise: is_any.then_some(rise),
             work: projection.work,
             prices: trial,
         })
