@@ -1,5 +1,6 @@
-//! A checker of certificates and solutions, apart from the solver: it shares no code with it but the
-//! instance, the readers of the texts and the names of a plan's faults.
+//! A checker of certificates and solutions, apart from the solver: it shares no code with it but the instance, the
+//! readers of the texts and what decides whether a set needs so many entries, each of which is proved to do exactly what
+//! its definition says.
 #![tactic(auto)]
 
 mod checking;

@@ -1,5 +1,5 @@
-//! An example of use: a function that plans by the library, and has plan and certificate checked by code that the
-//! solver doesn't use.
+//! An example of use: a function that plans by the library, and has plan and certificate checked by a crate that finds
+//! costs and bounds by code of its own.
 #![tactic(auto)]
 
 ghost use Rattle.std.specs.Prelude.{IfSome};
