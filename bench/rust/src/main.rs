@@ -1,17 +1,19 @@
 //! Turns of one search worker: `turns` with an instance, a number of turns and a seed. Turns of bound workers: `bound`
-//! with an instance, a number of turns, the cost of the plan to reach, in tenths, the number of workers, and a path for
-//! the certificate, if one is wanted. Pricings of the root: `ascent` with an instance, `labels` with an instance and a
+//! with an instance, a number of turns, the cost of the plan to reach, in tenths, the numbers of workers and of sets, and
+//! a path for the certificate, if one is wanted; of both trades: `crew`. Pricings of the root: `ascent` with an instance, `labels` with an instance and a
 //! certificate. The bound of a certificate's tree: `check` with an instance and the certificate.
 #![allow(dead_code, unused)]
 
 mod arrayvec;
-mod bounding;
 mod branching;
+mod ceiling;
 mod certificate;
 mod checking;
 mod completions;
-mod crew;
+mod desk;
 mod fronts;
+mod in_turn;
+mod incumbent_book;
 mod insertion;
 mod labelling;
 mod labels;
@@ -19,28 +21,36 @@ mod leaf_arcs;
 mod leaf_work;
 mod measuring;
 mod moves;
+mod node_pool;
 mod pooled_routes;
 mod price_way;
 mod priced_sets;
 mod prices;
 mod quick_routes;
 mod rand_core;
+mod rand_xoshiro;
 mod ruin;
-mod rule;
+mod run_settings;
+mod running;
 mod schedule;
 mod search;
 mod searching;
 mod set_finding;
 mod set_needs;
-mod sharing;
 mod segments;
 mod shim;
 mod solomon_reader;
 mod tenths;
 mod tree_bound;
-mod way;
+mod worker_turns;
 
+use run_settings::Settings;
 use solomon_reader::Instance;
+
+fn settings(turns: u64, searchers: u64, bounders: u64, seed: u64, sets: u64) -> Settings {
+    let [turns, searchers, bounders, seed, sets] = [turns, searchers, bounders, seed, sets].map(|number| number as u32);
+    Settings { turns, searchers, bounders, seed, sets, ..Settings::default() }
+}
 
 fn main() {
     let words: Vec<String> = std::env::args().collect();
@@ -50,8 +60,11 @@ fn main() {
         "ascent" => measuring::tell_ascent(&instance),
         "labels" => measuring::tell_labels(&instance, &words[3]),
         "check" => checking::tell(&instance, &words[3]),
-        "crew" => crew::tell(&instance, number(3) as u32, number(4), number(5), number(6), &words[7]),
-        "bound" => bounding::tell(&instance, number(3) as u32, number(4), number(5), number(6), words.get(7)),
+        "crew" => running::tell(&instance, &settings(number(3), number(4), number(5), number(6), number(7)), None, None),
+        "bound" => {
+            let settings = settings(number(3), 0, number(5), 1, number(6));
+            running::tell(&instance, &settings, Some(number(4)), words.get(7));
+        }
         _ => searching::tell(&instance, number(3) as u32, number(4)),
     }
 }

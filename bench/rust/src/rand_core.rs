@@ -4,6 +4,13 @@ pub trait Rng {
     fn next_u32(&mut self) -> u32;
 }
 
+pub trait SeedableRng: Sized {
+    fn seed_from_u64(seed: u64) -> Self;
+}
+
+/// What a jump of 2^128 words adds up.
+const JUMP: [u64; 4] = [0x180E_C6D3_3CFD_0ABA, 0xD5A6_1266_F0C9_392C, 0xA958_2618_E03F_C9AA, 0x39AB_DC45_29B1_661C];
+
 pub struct Generator {
     state: [u64; 4],
 }
@@ -18,6 +25,23 @@ impl Generator {
             word ^ (word >> 31)
         });
         Generator { state }
+    }
+
+    pub fn jump(&mut self) {
+        let mut sum = [0; 4];
+        for bit in 0..256 {
+            if JUMP[bit / 64] >> (bit % 64) & 1 == 1 {
+                sum = std::array::from_fn(|place| sum[place] ^ self.state[place]);
+            }
+            self.next_u32();
+        }
+        self.state = sum;
+    }
+}
+
+impl SeedableRng for Generator {
+    fn seed_from_u64(seed: u64) -> Generator {
+        Generator::of_seed(seed)
     }
 }
 

@@ -9,6 +9,8 @@ pub const MOST_FLEET: u16 = 1_000;
 pub const MOST_CAPACITY: u16 = 10_000;
 pub const MOST_PRICE: u64 = 1_000_000_000_000;
 pub const MOST_NEED: u32 = 4_000_000;
+pub const MOST_NEIGHBOURS: u32 = 15;
+pub const MOST_SETS: u32 = 1_000;
 
 /// Why routes are no plan.
 #[derive(Clone, Copy, Debug, PartialEq, Eq)]
