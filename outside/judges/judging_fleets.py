@@ -117,9 +117,9 @@ def judge_refuted(program, folder, random):
     words = spoilt(random, class_words(random, name, count), count)
     text = laid_out(random, words)
     found = [reason for reason in reasons(read(text)) if reason.proves]
-    options = random.choice([[], ["--sets", "3"], ["--close"] if count < 25 else []])
+    options = random.choice([[], ["--sets", "3"], ["--close"] if count < 25 else []]) if found else ["--turns", "1"]
     begun = time.monotonic()
-    out, errors, status, solution, certificate = solve(program, folder, text, options or ["--turns", "1"])
+    out, errors, status, solution, certificate = solve(program, folder, text, options)
     told = "%s, %d customers, %s, %r" % (name, count, options, [reason.told for reason in found])
     if not found:
         return (out or errors).split()[0]
