@@ -40,12 +40,19 @@ def take_fewest(planner, fleet):
     planner.take_texts(*texts)
 
 
+def between(low, high):
+    """The numbers of vehicles from one up to another, of which it isn't known whether they do, with their verb."""
+    return "%d do%s" % (low, "es" if low == 1 else "") if high - low == 1 else "%d to %d do" % (low, high - 1)
+
+
 def fewest_told(found, folder, names):
     """What is known of how few vehicles do, in a sentence: that fewer don't, and what shows it."""
     low, high, instance = found.low, found.high, found.instance
     fewer, units, apart, whose = low - 1, units_of(names), apart_of(instance, names), ""
-    if high is None or fewer == 0:
-        return "" if high is None or high > 1 else "No plan does without a vehicle."
+    if high is None:
+        return ""
+    if low == 1:
+        return "No plan does without a vehicle." if high == 1 else "Whether %s isn't known." % between(low, high)
     if found.known.get(fewer, (None,))[0] == "NO PLAN":
         why = as_called("./vrptw check") + " %s %s shows it" % tuple(
             os.path.join(folder, "%d.%s" % (fewer, ending)) for ending in ("instance", "certificate"))
@@ -59,5 +66,4 @@ def fewest_told(found, folder, names):
     vehicles = "%d vehicle%s" % (fewer, "" if fewer == 1 else "s")
     if low == high:
         return "Fewer vehicles don't do: with %s there is no plan%s (%s)." % (vehicles, whose, why)
-    return "With %s there is no plan%s (%s), and whether %s do%s isn't known." % (
-        vehicles, whose, why, "%d" % low if high - low == 1 else "%d to %d" % (low, high - 1), "es" if low == 1 else "")
+    return "With %s there is no plan%s (%s), and whether %s isn't known." % (vehicles, whose, why, between(low, high))
