@@ -2,6 +2,7 @@
 
 use crate::fours::{Four, raise, reduced};
 use crate::half_space::HalfSpace;
+use crate::step::{Step, slope};
 
 /// Below this a product with the inverse of a weight gives the exact quotient, for weights below 65,536.
 const MOST_BY_PRODUCT: u64 = 1 << 48;
@@ -65,6 +66,32 @@ impl<'r> Binding<'r> {
         fall.min(self.multiplier)
     }
 
+    /// How far prices and a vehicle's are from the route's cost, in grains; below 0 where they are beyond it.
+    #[inline(always)]
+    fn slack(&self, prices: &[i64], vehicle_price: i64) -> i64 {
+        reduced(prices, self.stops, self.cost).saturating_sub(vehicle_price)
+    }
+
+    /// The slack at these prices times the way of the multiplier from where it stood before.
+    pub(crate) fn slope(&self, prices: &[i64], vehicle_price: i64, before: i64) -> i128 {
+        if self.multiplier == before {
+            return 0;
+        }
+        slope(self.multiplier, before, self.slack(prices, vehicle_price))
+    }
+
+    /// Moves the multiplier on by a step, from where it stood before, and prices with it, and answers by how much each
+    /// price rose.
+    pub(crate) fn go_on(&mut self, prices: &mut [i64], before: i64, step: Step) -> i64 {
+        let change = step.change(self.multiplier, before);
+        let fall = 0i64.saturating_sub(change);
+        if fall != 0 {
+            self.multiplier = self.multiplier.saturating_add(change);
+            raise(prices, self.stops, fall);
+        }
+        fall
+    }
+
     /// Projects prices, a vehicle's in this many parts, onto the half-space, as far as the multiplier allows
     /// (Hildreth 1957), and answers by how much each price rose.
     #[inline(always)]
@@ -74,7 +101,7 @@ impl<'r> Binding<'r> {
         vehicle_price: &mut i64,
         parts: i64,
     ) -> i64 {
-        let slack = reduced(prices, self.stops, self.cost).saturating_sub(*vehicle_price);
+        let slack = self.slack(prices, *vehicle_price);
         let fall = self.fall(slack);
         if fall != 0 {
             self.multiplier = self.multiplier.saturating_sub(fall);

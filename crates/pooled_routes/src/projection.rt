@@ -3,6 +3,7 @@
 //! No contract speaks of it: it is a rule of search, and any prices are sound.
 
 use crate::half_space::HalfSpace;
+use crate::noted::Noted;
 use crate::sweeps::Sweeps;
 use crate::trial::Trial;
 use std::alloc::{AllocError, Global};
@@ -12,6 +13,9 @@ const ENOUGH: u64 = 20;
 
 /// After this many sweeps all routes are looked at again.
 const SWEEPS_BETWEEN: u32 = 10;
+
+/// After each so many sweeps a projection goes on along the way that the second half of them went.
+const SWEEPS_OF_STEP: u32 = 4;
 
 /// What routes say of prices, with the multipliers that a projection comes to.
 #[derive(Drop)]
@@ -55,19 +59,35 @@ impl<'r> Projection<'r> {
 
     /// Sweeps until a sweep goes less far than enough, at most this many times, and answers how often,
     /// and whether the last one was enough.
-    fn sweep_on(&mut self, sweeps: &mut Sweeps<'r>, trial: &mut Trial, most: u32) -> (u32, bool) {
+    fn sweep_on(
+        &mut self,
+        alloc: Global,
+        sweeps: &mut Sweeps<'r>,
+        trial: &mut Trial,
+        most: u32,
+    ) -> Result<(u32, bool), AllocError> {
+        let mut noted: Option<Noted> = None;
         for made in 0..most {
+            if made % SWEEPS_OF_STEP == SWEEPS_OF_STEP / 2 {
+                noted = Some(sweeps.noted(alloc, trial)?);
+            }
+            if made % SWEEPS_OF_STEP == 0
+                && let Some(noted) = &noted
+            {
+                self.work = self.work.saturating_add(sweeps.go_far(trial, noted));
+            }
             self.work = self.work.saturating_add(sweeps.work());
             if sweeps.sweep(trial) < ENOUGH {
-                return (made + 1, true);
+                return Ok((made + 1, true));
             }
         }
-        (most, false)
+        Ok((most, false))
     }
 
     /// Activates and sweeps in turn until nothing is violated, by at most this many sweeps.
     fn satisfy(
         &mut self,
+        alloc: Global,
         sweeps: &mut Sweeps<'r>,
         trial: &mut Trial,
         most: u32,
@@ -79,7 +99,8 @@ impl<'r> Projection<'r> {
             if left == 0 || is_enough && !is_any {
                 return Ok(());
             }
-            let (made, was_enough) = self.sweep_on(sweeps, trial, left.min(SWEEPS_BETWEEN));
+            let most = left.min(SWEEPS_BETWEEN);
+            let (made, was_enough) = self.sweep_on(alloc, sweeps, trial, most)?;
             left = left.saturating_sub(made);
             is_enough = was_enough;
         }
@@ -97,7 +118,7 @@ impl<'r> Projection<'r> {
     ) -> Result<(), AllocError> {
         let mut sweeps = Sweeps::new(alloc, trial);
         self.begin(&mut sweeps, trial)?;
-        self.satisfy(&mut sweeps, trial, most)?;
+        self.satisfy(alloc, &mut sweeps, trial, most)?;
         sweeps.give_back(self.spaces.as_mut_slice());
         Ok(())
     }

@@ -2,6 +2,8 @@
 
 use crate::binding::Binding;
 use crate::half_space::HalfSpace;
+use crate::noted::Noted;
+use crate::step::Step;
 use crate::trial::Trial;
 use std::alloc::{AllocError, Global};
 
@@ -72,6 +74,50 @@ impl<'r> Sweeps<'r> {
         trial.vehicle_price = trial.vehicle_price.raised(risen);
         let farthest = trial.vehicle_price.project().max(farthest);
         trial.project_sets().max(farthest)
+    }
+
+    /// Multipliers and prices as they stand.
+    pub(crate) fn noted(&self, alloc: Global, trial: &Trial) -> Result<Noted, AllocError> {
+        let mut multipliers = Vec::with_capacity(alloc, self.bindings.len())?;
+        for binding in &self.bindings {
+            multipliers.push(binding.multiplier)?;
+        }
+        Noted::new(alloc, trial, multipliers)
+    }
+
+    /// The slope along the way of the multipliers since: the sum of the slacks, each times the way of its multiplier.
+    fn slope(&self, trial: &Trial, noted: &Noted) -> i128 {
+        let vehicle_price = trial.vehicle_price.value();
+        let prices = trial.prices.as_slice();
+        let mut sum = noted.slope(trial);
+        for (binding, before) in self.bindings.iter().zip(noted.multipliers.iter()) {
+            sum = sum.saturating_add(binding.slope(prices, vehicle_price, *before));
+        }
+        sum
+    }
+
+    /// Goes on by a step along the way of the multipliers since.
+    fn go_on(&mut self, trial: &mut Trial, noted: &Noted, step: Step) {
+        noted.go_on(trial, step);
+        let prices = trial.prices.as_mut_slice();
+        let mut risen: i64 = 0;
+        for (binding, before) in self.bindings.iter_mut().zip(noted.multipliers.iter()) {
+            risen = risen.saturating_add(binding.go_on(prices, *before, step));
+        }
+        trial.vehicle_price = trial.vehicle_price.raised(risen);
+    }
+
+    /// Goes on along the way of the multipliers since, as far as the projection gains by it, and answers how much work
+    /// that was.
+    pub(crate) fn go_far(&mut self, trial: &mut Trial, noted: &Noted) -> u64 {
+        let slope = self.slope(trial, noted);
+        match Step::exact(slope, noted.square(trial)) {
+            Some(step) => {
+                self.go_on(trial, noted, step);
+                self.work.saturating_mul(2)
+            }
+            None => self.work,
+        }
     }
 
     /// Gives the half-spaces the multipliers.

@@ -2,6 +2,8 @@
 //!
 //! No contract speaks of it: it is a rule of search, and any prices are sound.
 
+use crate::step::{Step, slope, square};
+
 /// A number that is to be at least 0, in grains, with the multiplier that holds it there.
 #[derive(Clone, Copy)]
 pub(crate) struct Part {
@@ -24,6 +26,20 @@ impl Part {
             value: self.value,
             multiplier: scaled(self.multiplier, old, new),
         }
+    }
+
+    /// The part moved on by a step, from where it stood before.
+    fn gone_on(self, before: Part, step: Step) -> Part {
+        let change = step.change(self.multiplier, before.multiplier);
+        Part {
+            value: self.value.saturating_add(change),
+            multiplier: self.multiplier.saturating_add(change),
+        }
+    }
+
+    /// The part's slack times the way of its multiplier.
+    fn slope(self, before: Part) -> i128 {
+        slope(self.multiplier, before.multiplier, self.value)
     }
 
     /// Projects the part onto the numbers from 0 on, and answers how far.
@@ -98,6 +114,33 @@ impl VehiclePrice {
         VehiclePrice {
             above: self.above.scaled(old, new),
             below: self.below.map(|part| part.scaled(old, new)),
+        }
+    }
+
+    /// Both parts beside those before; a part that is left out is none.
+    fn below_beside(self, before: VehiclePrice) -> Option<(Part, Part)> {
+        self.below.zip(before.below)
+    }
+
+    /// The slacks of the parts, each times the way of its multiplier.
+    pub(crate) fn slope(self, before: VehiclePrice) -> i128 {
+        let below = self.below_beside(before);
+        let more = below.map_or(0, |(part, old)| part.slope(old));
+        self.above.slope(before.above).saturating_add(more)
+    }
+
+    /// The square of the way of the parts.
+    pub(crate) fn square(self, before: VehiclePrice) -> i128 {
+        let more = square(self.below(), before.below());
+        square(self.above.value, before.above.value).saturating_add(more)
+    }
+
+    /// The price with each part moved on by a step, from where it stood before.
+    pub(crate) fn gone_on(self, before: VehiclePrice, step: Step) -> VehiclePrice {
+        let below = self.below_beside(before);
+        VehiclePrice {
+            above: self.above.gone_on(before.above, step),
+            below: below.map(|(part, old)| part.gone_on(old, step)),
         }
     }
 
