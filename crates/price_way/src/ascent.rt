@@ -131,14 +131,6 @@ impl Ascent {
         Trial::new(alloc, prices, sets, 0, VehiclePrice::new(false))
     }
 
-    /// How far the merit rises from the centre to the prices of a trial with this least reduced cost,
-    /// in grains.
-    pub fn rise_to(&self, trial: &Trial, least: i64) -> i128 {
-        let (prices, sets) = (trial.prices.as_slice(), trial.sets.as_slice());
-        let merit = self.merit.of(prices, sets, i128::from(least));
-        merit.saturating_sub(self.centre.merit)
-    }
-
     /// How far the merit rises from the centre to where a trial leads, in grains: what its prices promise, with what
     /// the routes that make them up lack. That is known well after few sweeps; the least reduced cost isn't, and
     /// counts for each vehicle.
