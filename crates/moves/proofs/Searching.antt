@@ -6,11 +6,15 @@ use Rattle.std.specs.List.{AllZip, range_with_len}
 use Rattle.std.proofs.lemmas.Int.{ints}
 use Rattle.std.proofs.lemmas.Bool.{cases_lt}
 use Rattle.solomon_reader.specs.Problem.{Problem}
+use Rattle.moves.specs.declared.candidate.Chain.{Chain}
+use Rattle.moves.specs.declared.candidate.Place.{Place}
 use Rattle.moves.specs.declared.candidate.Move.{Move}
 use Rattle.moves.specs.declared.candidate.Move.TheVariants.{Relocate, Exchange, OrOpt, TwoOptStar, Cross}
 use Rattle.moves.specs.declared.candidate.Kind.{Kind}
+use Rattle.moves.specs.declared.candidate.Kind.TheVariants as kind
 use Rattle.moves.specs.Values.{HasValue, IsWellFormed}
 use Rattle.moves.specs.Order.{kind_of, fields_of, AreBefore, IsBefore, IsBestBy}
+use Rattle.moves.specs.Flanks.{numbers_of}
 use Rattle.moves.specs.Search.{numbers, IsNextWithin, IsInRange, TakesIn, IsUnder, HasValueUnder, IsBestUnder, IsBestInRange, limit_behind, under}
 
 module _ {X : Type 0} (R : ℕ → X → Type 0) where
@@ -204,72 +208,59 @@ same_in_range (y ∷ xs) (n ∷ ns) x e h = let rest = same_in_range xs ns x (om
 
 -- MOVES BY THEIR NUMBERS
 
--- a first number that two lists share is left out
-without_first : (x : ℕ) (xs ys : List ℕ) → AreBefore (x ∷ xs) (x ∷ ys) → AreBefore xs ys
-without_first x xs ys h = elim h [ inl less ↦ absurd (omega arith) | inr e ↦ e.1 ]
-
--- what is known behind a first number
-pub behind_first : (x y : ℕ) (xs ys xs' ys' : List ℕ) → (AreBefore xs ys → AreBefore xs' ys') → AreBefore (x ∷ xs) (y ∷ ys) → AreBefore (x ∷ xs') (y ∷ ys')
-behind_first x y xs ys xs' ys' f h = elim h [ inl less ↦ inl less | inr e ↦ inr (e.0, f e.1) ]
-
--- a route and a place, and no length
-behind_place : (a b i j : ℕ) (xs ys xs' ys' : List ℕ) → (AreBefore xs ys → AreBefore xs' ys')
-    → AreBefore (a ∷ i ∷ 0 ∷ xs) (b ∷ j ∷ 0 ∷ ys) → AreBefore (a ∷ i ∷ xs') (b ∷ j ∷ ys')
-behind_place a b i j xs ys xs' ys' f h =
-    behind_first a b (i ∷ 0 ∷ xs) (j ∷ 0 ∷ ys) (i ∷ xs') (j ∷ ys')
-    (behind_first i j (0 ∷ xs) (0 ∷ ys) xs' ys' (λ k. f (without_first 0 xs ys k))) h
-
--- a route, a place and a length
-behind_chain : (a b i j l m : ℕ) (xs ys xs' ys' : List ℕ) → (AreBefore xs ys → AreBefore xs' ys')
-    → AreBefore (a ∷ i ∷ l ∷ xs) (b ∷ j ∷ m ∷ ys) → AreBefore (a ∷ i ∷ l ∷ xs') (b ∷ j ∷ m ∷ ys')
-behind_chain a b i j l m xs ys xs' ys' f h =
-    behind_first a b (i ∷ l ∷ xs) (j ∷ m ∷ ys) (i ∷ l ∷ xs') (j ∷ m ∷ ys')
-    (behind_first i j (l ∷ xs) (m ∷ ys) (l ∷ xs') (m ∷ ys') (behind_first l m xs ys xs' ys' f)) h
+-- a number that two lists share at a place is left out
+without : (x : ℕ) (xs ys zs ws : List ℕ) → length xs ≡ length ys → AreBefore (xs ++ x ∷ zs) (ys ++ x ∷ ws) → AreBefore (xs ++ zs) (ys ++ ws)
+without x [] [] zs ws e h = elim h [ inl less ↦ absurd (omega arith) | inr k ↦ k.1 ]
+without x [] (y ∷ ys) zs ws e h = absurd (omega arith)
+without x (z ∷ xs) [] zs ws e h = absurd (omega arith)
+without x (z ∷ xs) (y ∷ ys) zs ws e h = elim h [ inl less ↦ inl less | inr k ↦ inr (k.0, without x xs ys zs ws (omega arith) k.1) ]
 
 -- two places
-behind_places : (a i b j c k d l : ℕ) → AreBefore (a ∷ i ∷ 0 ∷ b ∷ j ∷ 0 ∷ []) (c ∷ k ∷ 0 ∷ d ∷ l ∷ 0 ∷ [])
-    → AreBefore (a ∷ i ∷ b ∷ j ∷ []) (c ∷ k ∷ d ∷ l ∷ [])
-behind_places a i b j c k d l h =
-    behind_place a c i k (b ∷ j ∷ 0 ∷ []) (d ∷ l ∷ 0 ∷ []) (b ∷ j ∷ []) (d ∷ l ∷ []) (behind_place b d j l [] [] [] [] (λ h. h)) h
+places : (a i b j c k d l : ℕ) → AreBefore (a ∷ i ∷ 0 ∷ b ∷ j ∷ 0 ∷ []) (c ∷ k ∷ 0 ∷ d ∷ l ∷ 0 ∷ []) → AreBefore (a ∷ i ∷ b ∷ j ∷ []) (c ∷ k ∷ d ∷ l ∷ [])
+places a i b j c k d l h =
+    without 0 (a ∷ i ∷ []) (c ∷ k ∷ []) (b ∷ j ∷ []) (d ∷ l ∷ []) refl (without 0 (a ∷ i ∷ 0 ∷ b ∷ j ∷ []) (c ∷ k ∷ 0 ∷ d ∷ l ∷ []) [] [] refl h)
 
 pub before_by_numbers : (m n : Move) → kind_of m ≡ kind_of n → AreBefore (numbers m) (numbers n) → IsBefore m n
-before_by_numbers (Relocate f t) (Relocate g u) e h = behind_places f.route f.position t.route t.position g.route g.position u.route u.position h
-before_by_numbers (Exchange f t) (Exchange g u) e h = behind_places f.route f.position t.route t.position g.route g.position u.route u.position h
-before_by_numbers (OrOpt c t) (OrOpt d u) e h =
-    behind_chain c.route d.route c.position d.position c.length d.length (t.route ∷ t.position ∷ 0 ∷ []) (u.route ∷ u.position ∷ 0 ∷ [])
-    (t.route ∷ t.position ∷ []) (u.route ∷ u.position ∷ [])
-    (behind_place t.route u.route t.position u.position [] [] [] [] (λ h. h)) h
-before_by_numbers (TwoOptStar f t) (TwoOptStar g u) e h = behind_places f.route f.position t.route t.position g.route g.position u.route u.position h
+before_by_numbers (Relocate f t) (Relocate g u) e h = places f.route f.position t.route t.position g.route g.position u.route u.position h
+before_by_numbers (Exchange f t) (Exchange g u) e h = places f.route f.position t.route t.position g.route g.position u.route u.position h
+before_by_numbers (OrOpt f t) (OrOpt g u) e h = without 0 (fields_of (OrOpt f t)) (fields_of (OrOpt g u)) [] [] refl h
+before_by_numbers (TwoOptStar f t) (TwoOptStar g u) e h = places f.route f.position t.route t.position g.route g.position u.route u.position h
 before_by_numbers (Cross f t) (Cross g u) e h = h
 before_by_numbers m n e h = absurd (grind arith)
 
 pub one_number : (xs ys : List ℕ) (i : ℕ) → xs ≡ ys → get_or xs i 0 ≡ get_or ys i 0
 one_number xs ys i e = ap (λ zs. get_or zs i 0) e
 
+abbrev pub place : Chain → Place
+place c = record { route = c.route; position = c.position }
+
+-- the move of a kind with the numbers of two chains
+abbrev pub the_move : Kind → Chain → Chain → Move
+the_move kind.Relocate f s = Relocate (place f) (place s)
+the_move kind.Exchange f s = Exchange (place f) (place s)
+the_move kind.OrOpt f s = OrOpt f (place s)
+the_move kind.TwoOptStar f s = TwoOptStar (place f) (place s)
+the_move kind.Cross f s = Cross f s
+
+-- the chain with the three numbers from the k-th on
+abbrev pub chain_in : List ℕ → ℕ → Chain
+chain_in xs k = record { route = get_or xs k 0; position = get_or xs (k + 1) 0; length = get_or xs (k + 2) 0 }
+
+pub by_chains : (n : Move) → (n ≡ the_move (kind_of n) (chain_in (numbers n) 0) (chain_in (numbers n) 3)) × (numbers n ≡ numbers_of (chain_in (numbers n) 0) (chain_in (numbers n) 3))
+by_chains (Relocate x y) = (refl, refl)
+by_chains (Exchange x y) = (refl, refl)
+by_chains (OrOpt x y) = (refl, refl)
+by_chains (TwoOptStar x y) = (refl, refl)
+by_chains (Cross x y) = (refl, refl)
+
+pub move_is : (n : Move) (k : Kind) (f s : Chain) → kind_of n ≡ k → numbers n ≡ numbers_of f s → n ≡ the_move k f s
+move_is n k f s e is = (by_chains n).0 ∙ (λ z. the_move (e z) (chain_in (is z) 0) (chain_in (is z) 3))
+
 pub same_move : (m n : Move) → kind_of m ≡ kind_of n → numbers m ≡ numbers n → m ≡ n
-same_move (Relocate f t) (Relocate g u) e h =
-    let n = one_number (numbers (Relocate f t)) (numbers (Relocate g u)) in
-    λ k. Relocate (record { route = n 0 h k; position = n 1 h k }) (record { route = n 3 h k; position = n 4 h k })
-same_move (Exchange f t) (Exchange g u) e h =
-    let n = one_number (numbers (Exchange f t)) (numbers (Exchange g u)) in
-    λ k. Exchange (record { route = n 0 h k; position = n 1 h k }) (record { route = n 3 h k; position = n 4 h k })
-same_move (OrOpt c t) (OrOpt d u) e h =
-    let n = one_number (numbers (OrOpt c t)) (numbers (OrOpt d u)) in
-    λ k. OrOpt (record { route = n 0 h k; position = n 1 h k; length = n 2 h k }) (record { route = n 3 h k; position = n 4 h k })
-same_move (TwoOptStar f t) (TwoOptStar g u) e h =
-    let n = one_number (numbers (TwoOptStar f t)) (numbers (TwoOptStar g u)) in
-    λ k. TwoOptStar (record { route = n 0 h k; position = n 1 h k }) (record { route = n 3 h k; position = n 4 h k })
-same_move (Cross f t) (Cross g u) e h =
-    let n = one_number (numbers (Cross f t)) (numbers (Cross g u)) in
-    λ k. Cross (record { route = n 0 h k; position = n 1 h k; length = n 2 h k }) (record { route = n 3 h k; position = n 4 h k; length = n 5 h k })
-same_move m n e h = absurd (grind arith)
+same_move m n e h = move_is m (kind_of n) (chain_in (numbers n) 0) (chain_in (numbers n) 3) e (h ∙ (by_chains n).1) ∙ sym (by_chains n).0
 
 pub six : (n : Move) → length (numbers n) ≡ 6
-six (Relocate f t) = omega arith
-six (Exchange f t) = omega arith
-six (OrOpt c t) = omega arith
-six (TwoOptStar f t) = omega arith
-six (Cross f t) = omega arith
+six n = ap length (by_chains n).1
 
 all_in_range : (routes : List (List ℕ)) (n : Move) (end : ℕ) → length routes ≤ end → IsWellFormed routes n → IsInRange [] 0 end (numbers n)
 all_in_range routes (Relocate f t) end most h = let known = h.known in (omega arith, omega arith)

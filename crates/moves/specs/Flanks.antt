@@ -81,7 +81,3 @@ pub record IsFirstChain (p : Problem) (routes : List (List ℕ)) (k : Kind) (c :
   pub small : IsSmall c.leaving
   pub known_front : AreKnownFlanks p c.front
   pub known_rear : AreKnownFlanks p c.rear
-
--- the chain of so many stops at a place
-abbrev pub chain_at : ℕ → ℕ → ℕ → Chain
-chain_at b j m = record { route = b; position = j; length = m }

@@ -2,17 +2,27 @@
 use Rattle.std.specs.Prelude.{◌≡◌, ℕ, zero, suc, ◌+◌, ◌≤◌, List, length, ℤ, ◌+ℤ◌, Option, MatchOption}
 use Rattle.solomon_reader.specs.Problem.{Problem}
 use Rattle.solomon_reader.specs.Moves.{route}
+use Rattle.segments.specs.PlanTrees.{problem_of}
+use Rattle.segments.specs.declared.plan_trees.PlanTrees.{PlanTrees}
+use Rattle.moves.specs.Trees.{visits_of, AreOfPlan}
 use Rattle.moves.specs.declared.candidate.Chain.{Chain}
 use Rattle.moves.specs.declared.candidate.Kind.{Kind}
 use Rattle.moves.specs.declared.candidate.Kind.TheVariants as kind
 use Rattle.moves.specs.declared.first_chain.FirstChain.{FirstChain}
 use Rattle.moves.specs.declared.second_route.SecondRoute.{SecondRoute}
 use Rattle.moves.specs.declared.second_route.SwapChanges.{SwapChanges}
-use Rattle.moves.specs.Flanks.{customers_of, flanks_of, ends_change, entering_change, chain_at, IsSmall, HasChange, HasNone}
+use Rattle.moves.specs.Changes.{chain_at}
+use Rattle.moves.specs.Flanks.{customers_of, flanks_of, ends_change, entering_change, IsSmall, IsFirstChain, HasChange, HasNone}
 
 -- the stops are those of the plan's route
 abbrev pub IsSecondRoute : List (List ℕ) → SecondRoute → Type 0
 IsSecondRoute routes s = customers_of s.stops.now ≡ route routes s.route
+
+-- a move of the kind takes the chain f first, and goes into route s of the plan
+pub record IsInto (t : PlanTrees) (k : Kind) (f : FirstChain) (s : SecondRoute) : Type 0 where
+  pub plan : AreOfPlan t
+  pub first : IsFirstChain (problem_of t) (visits_of t) k f
+  pub second : IsSecondRoute (visits_of t) s
 
 -- a move of the kind puts a chain elsewhere
 abbrev pub IsShiftKind : Kind → Type 0

@@ -6,8 +6,9 @@ ghost use Rattle.segments.specs.PlanTrees.{problem_of};
 ghost use Rattle.moves.specs.declared.candidate.Kind.TheVariants as kinds;
 ghost use Rattle.moves.specs.Trees.{visits_of, AreOfPlan};
 ghost use Rattle.moves.specs.Search.{IsFirstLength, IsBestInRange};
-ghost use Rattle.moves.specs.Flanks.{flanks_of, ends_change, chain_at, AreKnownFlanks, IsSmall, IsFirstChain};
-ghost use Rattle.moves.specs.SecondRoutes.{IsSecondRoute, IsShiftKind, IsChange, AreRears, AreSwapChanges, change_by, shift_change};
+ghost use Rattle.moves.specs.Changes.{chain_at};
+ghost use Rattle.moves.specs.Flanks.{flanks_of, ends_change, AreKnownFlanks, IsSmall, IsFirstChain};
+ghost use Rattle.moves.specs.SecondRoutes.{IsSecondRoute, IsInto, IsShiftKind, IsChange, AreRears, AreSwapChanges, change_by, shift_change};
 
 use crate::candidate::{Chain, Kind, Place};
 use crate::choosing::{Found, best_of_one, limit_behind};
@@ -55,9 +56,7 @@ fn change_into_place(
     second: &SecondRoute<'_>,
     position: usize,
 ) -> Option<i64>
-    requires plan { AreOfPlan trees.now }
-    requires first { IsFirstChain (problem_of trees.now) (visits_of trees.now) kind first.now }
-    requires second { IsSecondRoute (visits_of trees.now) second.now }
+    requires { IsInto trees.now kind first.now second.now }
     ensures { let r = route (visits_of trees.now) second.now.route in
         MatchOption result (length r < position) (λ v. (position ≤ length r)
         × (v ≡ shift_change (problem_of trees.now) first.now r position)) }
@@ -79,10 +78,8 @@ fn change_of_shift(
     second: &SecondRoute<'_>,
     position: u16,
 ) -> Option<i64>
-    requires plan { AreOfPlan trees.now }
     requires kind { IsShiftKind kind }
-    requires first { IsFirstChain (problem_of trees.now) (visits_of trees.now) kind first.now }
-    requires second { IsSecondRoute (visits_of trees.now) second.now }
+    requires into { IsInto trees.now kind first.now second.now }
     ensures { IsChange (problem_of trees.now) (visits_of trees.now) kind first.now.numbers
         (chain_at second.now.route position 0) result }
 {
@@ -133,10 +130,7 @@ fn change_of_exchange(
     second: &SecondRoute<'_>,
     position: u16,
 ) -> Option<i64>
-    requires plan { AreOfPlan trees.now }
-    requires first { IsFirstChain (problem_of trees.now) (visits_of trees.now) kinds.Exchange
-        first.now }
-    requires second { IsSecondRoute (visits_of trees.now) second.now }
+    requires { IsInto trees.now kinds.Exchange first.now second.now }
     ensures { IsChange (problem_of trees.now) (visits_of trees.now) kinds.Exchange
         first.now.numbers (chain_at second.now.route position 0) result }
 {
@@ -159,9 +153,7 @@ fn change_at(
     second: &SecondRoute<'_>,
     position: u16,
 ) -> Option<i64>
-    requires plan { AreOfPlan trees.now }
-    requires first { IsFirstChain (problem_of trees.now) (visits_of trees.now) kind first.now }
-    requires second { IsSecondRoute (visits_of trees.now) second.now }
+    requires { IsInto trees.now kind first.now second.now }
     ensures { IsChange (problem_of trees.now) (visits_of trees.now) kind first.now.numbers
         (chain_at second.now.route position 0) result }
 {
@@ -188,11 +180,9 @@ fn best_at_place(
     position: u16,
     limit: Option<i64>,
 ) -> Found
-    requires plan { AreOfPlan trees.now }
     requires length { IsFirstLength kind first.now.numbers.length }
     requires kind { kind ≢ kinds.Cross }
-    requires first { IsFirstChain (problem_of trees.now) (visits_of trees.now) kind first.now }
-    requires second { IsSecondRoute (visits_of trees.now) second.now }
+    requires into { IsInto trees.now kind first.now second.now }
     ensures { let f = first.now.numbers in
         IsBestInRange (problem_of trees.now) (visits_of trees.now) kind
         (f.route ∷ f.position ∷ f.length ∷ second.now.route ∷ []) position (position + 1) limit
@@ -216,11 +206,9 @@ fn best_at_places(
     second: &SecondRoute<'_>,
     limit: Option<i64>,
 ) -> Found
-    requires plan { AreOfPlan trees.now }
     requires length { IsFirstLength kind first.now.numbers.length }
     requires kind { kind ≢ kinds.Cross }
-    requires first { IsFirstChain (problem_of trees.now) (visits_of trees.now) kind first.now }
-    requires second { IsSecondRoute (visits_of trees.now) second.now }
+    requires into { IsInto trees.now kind first.now second.now }
     ensures { let f = first.now.numbers in
         IsBestInRange (problem_of trees.now) (visits_of trees.now) kind
         (f.route ∷ f.position ∷ f.length ∷ []) second.now.route (second.now.route + 1) limit result }
@@ -274,10 +262,7 @@ fn rears_at(
     second: &SecondRoute<'_>,
     position: usize,
 ) -> SwapChanges
-    requires plan { AreOfPlan trees.now }
-    requires first { IsFirstChain (problem_of trees.now) (visits_of trees.now) kinds.Cross
-        first.now }
-    requires second { IsSecondRoute (visits_of trees.now) second.now }
+    requires into { IsInto trees.now kinds.Cross first.now second.now }
     requires small { position < 2 ^ 16 }
     ensures { AreRears (problem_of trees.now) first.now
         (route (visits_of trees.now) second.now.route) position result }
@@ -299,10 +284,7 @@ fn swap_changes(
     position: u16,
     rears: &SwapChanges,
 ) -> SwapChanges
-    requires plan { AreOfPlan trees.now }
-    requires first { IsFirstChain (problem_of trees.now) (visits_of trees.now) kinds.Cross
-        first.now }
-    requires second { IsSecondRoute (visits_of trees.now) second.now }
+    requires into { IsInto trees.now kinds.Cross first.now second.now }
     requires rears { AreRears (problem_of trees.now) first.now
         (route (visits_of trees.now) second.now.route) position rears.now }
     ensures { AreSwapChanges (problem_of trees.now) (visits_of trees.now) first.now second.now.route
@@ -324,10 +306,7 @@ fn best_cross(
     second: &SecondRoute<'_>,
     limit: Option<i64>,
 ) -> Found
-    requires plan { AreOfPlan trees.now }
-    requires first { IsFirstChain (problem_of trees.now) (visits_of trees.now) kinds.Cross
-        first.now }
-    requires second { IsSecondRoute (visits_of trees.now) second.now }
+    requires { IsInto trees.now kinds.Cross first.now second.now }
     ensures { let f = first.now.numbers in
         IsBestInRange (problem_of trees.now) (visits_of trees.now) kinds.Cross
         (f.route ∷ f.position ∷ f.length ∷ []) second.now.route (second.now.route + 1) limit result }

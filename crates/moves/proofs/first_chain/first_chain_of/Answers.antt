@@ -4,7 +4,7 @@ use Rattle.solomon_reader.specs.Moves.{route}
 use Rattle.segments.specs.PlanTrees.{problem_of}
 use Rattle.moves.specs.Trees.{visits_of}
 use Rattle.moves.specs.Flanks.{flanks_of, taken_by, leaving_change}
-use Rattle.moves.proofs.RouteStops.{known_flanks, as_many}
+use Rattle.moves.proofs.JoinedStops.{known_flanks, as_many}
 use Rattle.moves.proofs.first_chain.first_chain_of.Goals as goal
 
 pub change_of_leaving-requires-clause-front : goal.change_of_leaving-requires-clause-front

@@ -4,7 +4,8 @@ use Rattle.solomon_reader.specs.Moves.{route}
 use Rattle.segments.specs.PlanTrees.{problem_of}
 use Rattle.moves.specs.declared.candidate.Kind.TheVariants as kinds
 use Rattle.moves.specs.Trees.{visits_of}
-use Rattle.moves.specs.Flanks.{chain_at, flanks_of, ends_change, HasChange, IsFirstChain}
+use Rattle.moves.specs.Changes.{chain_at}
+use Rattle.moves.specs.Flanks.{flanks_of, ends_change, HasChange, IsFirstChain}
 use Rattle.moves.specs.SecondRoutes.{IsChange}
 use Rattle.moves.proofs.FlankChanges.{ends_changed}
 use Rattle.moves.proofs.second_route.change_at.Goals as goal

@@ -1,4 +1,4 @@
-use Rattle.moves.proofs.RouteStops.{known_flanks}
+use Rattle.moves.proofs.JoinedStops.{known_flanks}
 use Rattle.moves.proofs.second_route.change_at_place.Goals as goal
 
 pub change_of_ends-requires-clause-other : goal.change_of_ends-requires-clause-other

@@ -5,7 +5,7 @@ use Rattle.solomon_reader.specs.Moves.{route}
 use Rattle.segments.specs.PlanTrees.{problem_of}
 use Rattle.moves.specs.Trees.{visits_of}
 use Rattle.moves.specs.Flanks.{flanks_of, entering_change}
-use Rattle.moves.proofs.RouteStops.{known_flanks, as_many}
+use Rattle.moves.proofs.JoinedStops.{known_flanks, as_many}
 use Rattle.moves.proofs.second_route.change_into_place.Goals as goal
 
 pub change_of_entering-requires-clause-place : goal.change_of_entering-requires-clause-place

@@ -4,9 +4,10 @@ use Rattle.solomon_reader.specs.Moves.{route}
 use Rattle.segments.specs.PlanTrees.{problem_of}
 use Rattle.moves.specs.declared.candidate.Kind.TheVariants as kinds
 use Rattle.moves.specs.Trees.{visits_of}
-use Rattle.moves.specs.Flanks.{chain_at, flanks_of, ends_change}
+use Rattle.moves.specs.Changes.{chain_at}
+use Rattle.moves.specs.Flanks.{flanks_of, ends_change}
 use Rattle.moves.specs.SecondRoutes.{IsChange, shift_change}
-use Rattle.moves.proofs.FlankChanges.{by_flanks, exchange_beside, past_beside, exchange_change, small_sum}
+use Rattle.moves.proofs.FlankChanges.{by_place, exchanged_beside, exchange_change, small_sum}
 use Rattle.moves.proofs.second_route.change_of_exchange.Goals.{else-second-first-via-then-second-first+else-to-from, else-second-first-via-else-second-first}
 use Rattle.moves.proofs.second_route.change_of_exchange.Goals as goal
 
@@ -15,7 +16,6 @@ returns-then-to-from c =
     let p = problem_of c.args.trees.now in
     let routes = visits_of c.args.trees.now in
     let first = c.args.first.now in
-    let h = c.requires.first in
     let i = first.numbers.position in
     let r = route routes first.numbers.route in
     let o = c.change_into_place.result in
@@ -25,9 +25,8 @@ returns-then-to-from c =
     let there = rw same at c.change_into_place.ensures in
     subst (λ b. IsChange p routes kinds.Exchange first.numbers (chain_at b c.args.position 0) o) (sym same)
     (subst (λ j. IsChange p routes kinds.Exchange first.numbers (chain_at first.numbers.route j 0) o) (sym beside)
-    (by_flanks p routes kinds.Exchange first.numbers (chain_at first.numbers.route (i + 1) 0) r (i + 1 + 1) (shift_change p first r (i + 1 + 1)) o
-    (subst (λ z. MatchOption o (length r < z) (λ v. (z ≤ length r) × (v ≡ shift_change p first r z))) at there)
-    (λ past. past_beside p routes first h past) (exchange_beside p routes first h)))
+    (by_place p routes kinds.Exchange first.numbers (chain_at first.numbers.route (i + 1) 0) r (i + 1 + 1) (shift_change p first r (i + 1 + 1)) o
+    (subst (λ z. MatchOption o (length r < z) (λ v. (z ≤ length r) × (v ≡ shift_change p first r z))) at there) (exchanged_beside p routes first c.requires.first)))
 
 pub returns : goal.returns
 returns c =

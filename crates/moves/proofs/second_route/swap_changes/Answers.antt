@@ -17,7 +17,7 @@ returns c =
     let rears = c.args.rears.now in
     let h = c.requires.rears in
     let at : j ≤ length (route routes b) → front.result ≡ ends_change p first.front (flanks_of (route routes b) j) = rw c.from.ensures at front.ensures.value in
-    swaps_changed p routes first c.requires.first b j front.result rears (record { one = _; two = _; three = _ }) h at
+    swaps_changed p routes first c.requires.into.first b j front.result rears (record { one = _; two = _; three = _ }) h at
     (small_sum front.result rears.one front.ensures.small h.small_one)
     (small_sum front.result rears.two front.ensures.small h.small_two)
     (small_sum front.result rears.three front.ensures.small h.small_three)
