@@ -1,7 +1,7 @@
--- The walk over nodes finds a tree exactly where they begin with one.
-use Rattle.std.proofs.Common.{◌≡◌, ℕ, zero, suc, ◌+◌, ◌≤◌, Bool, true, false, cond, not, ◌==◌, List, [], ◌∷◌}
-use Rattle.std.proofs.Common.{◌++◌, length, Option, Some, None, Result, Ok, Err, refl, sym, ap, subst, ◌∙◌, append_assoc, arith, add-one}
-use Rattle.std.specs.Prelude.{nat_le, ◌&&◌, map, ℤ, nat_abs, option_and_then, ◌↔◌, IsTrue, IfOk}
+-- Parts have a text exactly where their tests hold.
+use Rattle.std.proofs.Common.{◌≡◌, ℕ, zero, suc, ◌≤◌, Bool, true, false, not, ◌==◌, List, [], ◌∷◌}
+use Rattle.std.proofs.Common.{◌++◌, length, Some, None, Result, Ok, Err, refl, sym, ap, subst, ◌∙◌, arith, add-one}
+use Rattle.std.specs.Prelude.{nat_le, ◌&&◌, map, ℤ, nat_abs, ◌↔◌, IsTrue, IfOk}
 use Rattle.std.specs.List.{AllByRecursion, list_all}
 use Rattle.std.proofs.lemmas.List.{append-nil, length-map}
 use Rattle.std.proofs.lemmas.Bool.Decides.{nat_tests}
@@ -10,16 +10,16 @@ use Rattle.tenths.specs.declared.value.TheConstants.{MOST_TENTHS}
 use Rattle.solomon_reader.specs.declared.limits.TheConstants.{MOST_CUSTOMERS, MOST_NEIGHBOURS, MOST_PRICE, MOST_LEAVES, MOST_DEPTH, MOST_SETS}
 use Rattle.solomon_reader.specs.Plan.{Arc}
 use Rattle.solomon_reader.specs.Region.{IsArc, Among, root_region}
-use Rattle.solomon_reader.specs.Bound.{Tree, leaf, split, LeafPrices, Node, leaf_node, split_node, preorder, listed_sets}
-use Rattle.solomon_reader.specs.CertificateText.{leaf_count, IsPrice, AreSetPrices, Certificate, Content, listed, HasText}
-use Rattle.certificate.specs.declared.node.CertNode.{CertNode}
+use Rattle.solomon_reader.specs.Bound.{Tree, leaf, split, LeafPrices, Node, preorder, listed_sets}
+use Rattle.solomon_reader.specs.CertificateText.{leaf_count, depth_of, IsPrice, AreSetPrices, Certificate, Content, listed, HasText}
 use Rattle.certificate.specs.declared.sets.ListedSet as code
 use Rattle.certificate.specs.Text.{listed_set_of}
 use Rattle.solomon_reader.specs.SetPrices.{ListedSet}
-use Rattle.certificate.specs.Tree.{node_of, nodes_of}
 use Rattle.certificate.proofs.Steps.{IsTreeOn, decides_root, at_from_on, on_from_at}
+use Rattle.certificate.proofs.Grown.{grown_takes, grown_again}
+use Rattle.certificate.specs.Grown.{Grown, grown}
 use Rattle.certificate.specs.Reading.{is_arc, is_decided, is_price, is_name, are_listed, are_set_prices}
-use Rattle.certificate.specs.Shape.{Rest, is_leaf, without_leaf, is_open, behind_tree, Finds, is_all, is_head, is_listed_set, are_sets, is_one_tree}
+use Rattle.certificate.specs.Shape.{is_leaf, is_open, stands, is_whole_tree, is_head, is_listed_set, are_sets, is_one_tree}
 use Rattle.certificate.proofs.SetTests.{le_is, le_again, set_prices_are, set_prices_again, sets_are, sets_again}
 use Rattle.certificate.proofs.Found.{tests_arc, Among_is, name_is}
 use Rattle.certificate.proofs.Again.{arc_test, not_decided, are_prices, is_name_again}
@@ -67,82 +67,19 @@ open_again n path a arc h = rw (arc_test n a.0 a.1 arc.from arc.to arc.apart, no
 
 -- ---- a tree
 
-pub record IsBehind (sets n left : ℕ) (path : List Arc) (leaves : ℕ) (xs : List Node) (r : Rest) : Type 0 where
-  pub tree : Tree
-  pub begins : xs ≡ preorder tree ++ r.1
-  pub shaped : IsTreeOn sets n path left tree
-  pub counted : leaves ≡ r.0 + leaf_count tree
-
-abbrev some_of : Rest → Option Rest
-some_of r = Some r
-
-some_is : (r s : Rest) → some_of r ≡ some_of s → r ≡ s
-some_is r s e = cc
-
-chosen_leaf : (sets n left : ℕ) (path : List Arc) (leaves : ℕ) (prices : LeafPrices) (xs : List Node) (r : Rest) (b : Bool) → is_leaf sets n prices ≡ b
-    → without_leaf b leaves xs ≡ Some r → IsBehind sets n left path leaves (leaf_node prices ∷ xs) r
-chosen_leaf sets n left path leaves prices xs r false e h = absurd cc
-chosen_leaf sets n left path zero prices xs r true e h = absurd cc
-chosen_leaf sets n left path (suc leaves) prices xs r true e h =
-    let made : IsBehind sets n left path (suc leaves) (leaf_node prices ∷ xs) (leaves, xs) = record { tree = leaf prices; begins = refl; shaped = leaf_is sets n prices e; counted = omega arith } in
-    subst (λ (s : Rest). IsBehind sets n left path (suc leaves) (leaf_node prices ∷ xs) s) (some_is (leaves, xs) r h) made
-
-both_parts : (sets n left : ℕ) (path : List Arc) (leaves : ℕ) (a : Arc) (xs : List Node) (u r : Rest) → IsArc n a × ¬ Among a path
-    → IsBehind sets n left (path ++ (a ∷ [])) leaves xs u → IsBehind sets n left (path ++ (a ∷ [])) u.0 u.1 r
-    → IsBehind sets n (suc left) path leaves (split_node a ∷ xs) r
-both_parts sets n left path leaves a xs u r is p q = record {
-  tree = split a p.tree q.tree;
-  begins = ap (λ (w : List Node). split_node a ∷ w) (p.begins ∙ ap (λ (w : List Node). preorder p.tree ++ w) q.begins ∙ sym (append_assoc (preorder p.tree) (preorder q.tree) r.1));
-  shaped = (is, (left, sym (add-one left), p.shaped, q.shaped));
-  counted = omega (arith, p.counted, q.counted);
-}
-
-and_then : (o : Option Rest) (f : Rest → Option Rest) (r : Rest) → option_and_then f o ≡ Some r → (u : Rest) × (o ≡ Some u) × (f u ≡ Some r)
-and_then None f r e = absurd cc
-and_then (Some u) f r e = (u, refl, e)
-
-chosen_split : (b : Bool) (o : Option Rest) (r : Rest) → cond b o None ≡ Some r → (b ≡ true) × (o ≡ Some r)
-chosen_split true o r e = (refl, e)
-chosen_split false o r e = absurd cc
-
-pub behind_takes : (sets n left : ℕ) (path : List Arc) (leaves : ℕ) (xs : List Node) (r : Rest) → behind_tree sets n left path leaves xs ≡ Some r → IsBehind sets n left path leaves xs r
-unfolding behind_tree
-behind_takes sets n zero path leaves [] r h = absurd cc
-behind_takes sets n (suc left) path leaves [] r h = absurd cc
-behind_takes sets n zero path leaves (leaf_node prices ∷ xs) r h = chosen_leaf sets n zero path leaves prices xs r (is_leaf sets n prices) refl h
-behind_takes sets n (suc left) path leaves (leaf_node prices ∷ xs) r h = chosen_leaf sets n (suc left) path leaves prices xs r (is_leaf sets n prices) refl h
-behind_takes sets n zero path leaves (split_node a ∷ xs) r h = absurd cc
-behind_takes sets n (suc left) path leaves (split_node a ∷ xs) r h =
-    let c = chosen_split (is_open n path a) _ r h in
-    let u = and_then (behind_tree sets n left (path ++ (a ∷ [])) leaves xs) (λ u. behind_tree sets n left (path ++ (a ∷ [])) u.0 u.1) r c.1 in
-    both_parts sets n left path leaves a xs u.0 r (open_is n path a c.0) (behind_takes sets n left (path ++ (a ∷ [])) leaves xs u.0 u.1) (behind_takes sets n left (path ++ (a ∷ [])) u.0.0 u.0.1 r u.2)
-
-behind_leaf : (sets n left : ℕ) (path : List Arc) (leaves : ℕ) (prices : LeafPrices) (xs : List Node) → behind_tree sets n left path leaves (leaf_node prices ∷ xs) ≡ without_leaf (is_leaf sets n prices) leaves xs
-unfolding behind_tree
-behind_leaf sets n zero path leaves prices xs = refl
-behind_leaf sets n (suc left) path leaves prices xs = refl
-
-behind_split : (sets n left : ℕ) (path : List Arc) (leaves : ℕ) (a : Arc) (xs : List Node) (u r : Rest) → is_open n path a ≡ true
-    → behind_tree sets n left (path ++ (a ∷ [])) leaves xs ≡ Some u → behind_tree sets n left (path ++ (a ∷ [])) u.0 u.1 ≡ Some r
-    → behind_tree sets n (suc left) path leaves (split_node a ∷ xs) ≡ Some r
-unfolding behind_tree
-behind_split sets n left path leaves a xs u r e f g = rw (e, f) g
-
-pub behind_again : (sets n : ℕ) → 1 ≤ n → (tree : Tree) (left : ℕ) (path : List Arc) (leaves x : ℕ) (rest : List Node) → IsTreeOn sets n path left tree
-    → leaves ≡ x + leaf_count tree → behind_tree sets n left path leaves (preorder tree ++ rest) ≡ Some (x, rest)
-behind_again sets n some (leaf prices) left path leaves x rest is e =
-    let one : leaves ≡ suc x = omega (arith, e) in
-    behind_leaf sets n left path leaves prices rest ∙ ap (λ (b : Bool). without_leaf b leaves rest) (leaf_again sets n prices some is) ∙ ap (λ (m : ℕ). without_leaf true m rest) one
-behind_again sets n some (split a used unused) left path leaves x rest is e =
+stands_is : (sets n left : ℕ) (path : List Arc) (tree : Tree) → depth_of tree ≤ left → stands sets n path tree ≡ true → IsTreeOn sets n path left tree
+stands_is sets n left path (leaf prices) deep h = leaf_is sets n prices h
+stands_is sets n zero path (split a used unused) deep h = absurd (omega (arith, deep))
+stands_is sets n (suc left) path (split a used unused) deep h =
     let under = path ++ (a ∷ []) in
-    let less = is.1.0 in
-    let behind = preorder unused ++ rest in
-    let u = behind_again sets n some used less under leaves (x + leaf_count unused) behind is.1.2 (omega (arith, e)) in
-    let v = behind_again sets n some unused less under (x + leaf_count unused) x rest is.1.3 refl in
-    let deep : left ≡ suc less = omega (arith, is.1.1) in
-    ap (λ (w : List Node). behind_tree sets n left path leaves (split_node a ∷ w)) (append_assoc (preorder used) (preorder unused) rest)
-    ∙ ap (λ (m : ℕ). behind_tree sets n m path leaves (split_node a ∷ (preorder used ++ behind))) deep
-    ∙ behind_split sets n less path leaves a (preorder used ++ behind) (x + leaf_count unused, behind) (x, rest) (open_again n path a is.0.0 is.0.1) u v
+    let p = both (is_open n path a) (stands sets n under used && stands sets n under unused) h in
+    let q = both (stands sets n under used) (stands sets n under unused) p.1 in
+    (open_is n path a p.0, (left, sym (add-one left), stands_is sets n left under used (omega (arith, deep)) q.0, stands_is sets n left under unused (omega (arith, deep)) q.1))
+
+stands_again : (sets n : ℕ) → 1 ≤ n → (left : ℕ) (path : List Arc) (tree : Tree) → IsTreeOn sets n path left tree → stands sets n path tree ≡ true
+stands_again sets n some left path (leaf prices) is = leaf_again sets n prices some is
+stands_again sets n some left path (split a used unused) is =
+    rw (open_again n path a is.0.0 is.0.1, stands_again sets n some is.1.0 (path ++ (a ∷ [])) used is.1.2, stands_again sets n some is.1.0 (path ++ (a ∷ [])) unused is.1.3) refl
 
 -- ---- all nodes
 
@@ -151,30 +88,31 @@ pub record IsOneTree (sets n : ℕ) (nodes : List Node) : Type 0 where
   pub is : nodes ≡ preorder tree
   pub shaped : IsTreeOn sets n [] MOST_DEPTH tree
   pub few : leaf_count tree ≤ MOST_LEAVES
+  pub deep : depth_of tree ≤ MOST_DEPTH
 
 pub one_tree_is : (sets n : ℕ) (nodes : List Node) → is_one_tree sets n nodes ≡ true → IsOneTree sets n nodes
 unfolding is_one_tree
-one_tree_is sets n nodes h = of (behind_tree sets n MOST_DEPTH [] MOST_LEAVES nodes) refl h
+one_tree_is sets n nodes h = of (grown MOST_DEPTH nodes) refl h
   where
-    of : (o : Option Rest) → behind_tree sets n MOST_DEPTH [] MOST_LEAVES nodes ≡ o → is_all o ≡ true → IsOneTree sets n nodes
+    of : (o : Grown) → grown MOST_DEPTH nodes ≡ o → is_whole_tree sets n o ≡ true → IsOneTree sets n nodes
     of None e f = absurd cc
-    of (Some (leaves, x ∷ xs)) e f = absurd cc
-    of (Some (leaves, [])) e f =
-        let b = behind_takes sets n MOST_DEPTH [] MOST_LEAVES nodes (leaves, []) e in
-        record { tree = b.tree; is = b.begins ∙ append-nil (preorder b.tree); shaped = b.shaped; few = omega (arith, b.counted) }
+    of (Some (tree, x ∷ xs)) e f = absurd cc
+    of (Some (tree, [])) e f =
+        let g = grown_takes MOST_DEPTH nodes (tree, []) e in
+        let p = both (nat_le (leaf_count tree) MOST_LEAVES) (stands sets n [] tree) f in
+        record {
+          tree = tree;
+          is = g.begins ∙ append-nil (preorder tree);
+          shaped = stands_is sets n MOST_DEPTH [] tree g.depth p.1;
+          few = le_is (leaf_count tree) MOST_LEAVES p.0;
+          deep = g.depth;
+        }
 
 pub one_tree_again : (sets n : ℕ) → 1 ≤ n → (nodes : List Node) → IsOneTree sets n nodes → is_one_tree sets n nodes ≡ true
 unfolding is_one_tree
 one_tree_again sets n some nodes h =
-    let x = less MOST_LEAVES (leaf_count h.tree) h.few in
-    let again = behind_again sets n some h.tree MOST_DEPTH [] MOST_LEAVES x.0 [] h.shaped x.1 in
-    let same : nodes ≡ preorder h.tree ++ [] = h.is ∙ sym (append-nil (preorder h.tree)) in
-    rw (same, again) refl
-  where
-    less : (m k : ℕ) → k ≤ m → (x : ℕ) × (m ≡ x + k)
-    less m zero h = (m, omega arith)
-    less zero (suc k) h = absurd (omega (arith, h))
-    less (suc m) (suc k) h = let r = less m k (omega (arith, h)) in (r.0, omega (arith, r.1))
+    let all : nodes ≡ preorder h.tree ++ [] = h.is ∙ sym (append-nil (preorder h.tree)) in
+    rw (all, grown_again h.tree MOST_DEPTH [] h.deep, le_again (leaf_count h.tree) MOST_LEAVES h.few, stands_again sets n some MOST_DEPTH [] h.tree h.shaped) refl
 
 -- ---- all but the nodes
 
@@ -243,6 +181,7 @@ text_tree x h =
       is = refl;
       shaped = on_from_at c.version c.tree (root_region c.size) [] MOST_DEPTH (decides_root c.size) h.shaped.tree h.shaped.depth;
       few = h.shaped.leaves;
+      deep = h.shaped.depth;
     }))
 
 -- ---- as the code finds it
@@ -274,65 +213,3 @@ sets_tested n sets all e few =
     let count : length all ≡ length sets = ap length (sym e) ∙ length-map sets listed_set_of in
     let le : nat_le (length all) MOST_SETS ≡ true = le_again (length all) MOST_SETS (omega (arith, count, few)) in
     each_tested n sets ∙ ap (λ (w : List ListedSet). list_all (is_listed_set n) w) e ∙ sym (rw le refl)
-
--- ---- one step of the walk
-
-behind_nothing : (sets n left : ℕ) (path : List Arc) (leaves : ℕ) → behind_tree sets n left path leaves [] ≡ None
-unfolding behind_tree
-behind_nothing sets n zero path leaves = refl
-behind_nothing sets n (suc left) path leaves = refl
-
-pub finds_none : (b : Bool) (o : Option Rest) (r : Rest) → b ≡ false → Finds b o r → o ≡ None
-finds_none true o r e h = absurd cc
-finds_none false o r e h = h
-
-pub finds_some : (b : Bool) (o : Option Rest) (r : Rest) → b ≡ true → Finds b o r → o ≡ Some r
-finds_some true o r e h = h
-finds_some false o r e h = absurd cc
-
-pub empty_is : (nodes : List CertNode) → length nodes ≡ 0 → nodes ≡ []
-empty_is [] e = refl
-empty_is (x ∷ xs) e = absurd (omega (arith, e))
-
-module _ (sets n left : ℕ) (path : List Arc) (leaves : ℕ) (nodes : List CertNode) where
-  pub nothing_left : nodes ≡ [] → behind_tree sets n left path leaves (nodes_of nodes) ≡ None
-  nothing_left e = rw e (behind_nothing sets n left path leaves)
-
-  module _ (x : CertNode) (rest : List CertNode) (first : nodes ≡ x ∷ rest) where
-    from_first : behind_tree sets n left path leaves (nodes_of nodes) ≡ behind_tree sets n left path leaves (node_of x ∷ nodes_of rest)
-    from_first = ap (λ (w : List CertNode). behind_tree sets n left path leaves (nodes_of w)) first
-
-    module _ (prices : LeafPrices) (is : node_of x ≡ leaf_node prices) where
-      pub at_leaf : behind_tree sets n left path leaves (nodes_of nodes) ≡ without_leaf (is_leaf sets n prices) leaves (nodes_of rest)
-      at_leaf = from_first ∙ ap (λ (y : Node). behind_tree sets n left path leaves (y ∷ nodes_of rest)) is ∙ behind_leaf sets n left path leaves prices (nodes_of rest)
-
-      -- what the code finds of the leaf it finds of the tree
-      pub leaf_found : (b : Bool) (r : Rest) → Finds b (without_leaf (is_leaf sets n prices) leaves (nodes_of rest)) r → Finds b (behind_tree sets n left path leaves (nodes_of nodes)) r
-      leaf_found true r h = at_leaf ∙ h
-      leaf_found false r h = at_leaf ∙ h
-
-    module _ (a : Arc) (is : node_of x ≡ split_node a) where
-      at_split : (m : ℕ) → left ≡ m → behind_tree sets n left path leaves (nodes_of nodes) ≡ behind_tree sets n m path leaves (split_node a ∷ nodes_of rest)
-      at_split m e = from_first ∙ ap (λ (y : Node). behind_tree sets n left path leaves (y ∷ nodes_of rest)) is ∙ ap (λ (k : ℕ). behind_tree sets n k path leaves (split_node a ∷ nodes_of rest)) e
-
-      pub too_deep : left ≡ 0 → behind_tree sets n left path leaves (nodes_of nodes) ≡ None
-      unfolding behind_tree
-      too_deep e = at_split 0 e
-
-      module _ (less : ℕ) (some : left ≡ suc less) where
-        pub not_open : is_open n path a ≡ false → behind_tree sets n left path leaves (nodes_of nodes) ≡ None
-        unfolding behind_tree
-        not_open e = at_split (suc less) some ∙ rw e refl
-
-        pub no_first : is_open n path a ≡ true → behind_tree sets n less (path ++ (a ∷ [])) leaves (nodes_of rest) ≡ None → behind_tree sets n left path leaves (nodes_of nodes) ≡ None
-        unfolding behind_tree
-        no_first e f = at_split (suc less) some ∙ rw (e, f) refl
-
-        pub no_second : (u : Rest) → is_open n path a ≡ true → behind_tree sets n less (path ++ (a ∷ [])) leaves (nodes_of rest) ≡ Some u
-            → behind_tree sets n less (path ++ (a ∷ [])) u.0 u.1 ≡ None → behind_tree sets n left path leaves (nodes_of nodes) ≡ None
-        unfolding behind_tree
-        no_second u e f g = at_split (suc less) some ∙ rw (e, f) g
-
-        pub both_there : (u r : Rest) → is_open n path a ≡ true → behind_tree sets n less (path ++ (a ∷ [])) leaves (nodes_of rest) ≡ Some u
-            → behind_tree sets n less (path ++ (a ∷ [])) u.0 u.1 ≡ Some r → behind_tree sets n left path leaves (nodes_of nodes) ≡ Some r
-        both_there u r e f g = at_split (suc less) some ∙ behind_split sets n less path leaves a (nodes_of rest) u r e f g

@@ -3,12 +3,17 @@
 ghost use Rattle.std.specs.Prelude.{◌≡◌, IfOk, IfErr};
 ghost use Rattle.certificate.specs.declared.fault.ShapeFault.TheVariants.{NotACertificate};
 ghost use Rattle.certificate.specs.Text.{content_of};
-ghost use Rattle.solomon_reader.specs.CertificateText.{HasText};
+ghost use Rattle.certificate.specs.Grown.{tree_of};
+ghost use Rattle.solomon_reader.specs.Bound.{Tree, preorder};
+ghost use Rattle.solomon_reader.specs.Region.{root_region};
+ghost use Rattle.solomon_reader.specs.CertificateText.{HasText, IsTreeAt};
 
 use crate::fault::ShapeFault;
 use crate::parts::CertParts;
 use crate::shape::have_text;
-use std::alloc::Global;
+use crate::tree::{CertTree, grow};
+use solomon_reader::MOST_DEPTH;
+use std::alloc::{AllocError, Global};
 use std::marker::Model;
 
 /// A certificate of a lower bound: always one that has a text. Contracts see its contents.
@@ -52,6 +57,19 @@ impl Cert {
         ensures has_text { HasText self.now }
     {
         &self.parts
+    }
+
+    /// The tree of the nodes, which lends their prices. `AllocError` where memory was refused.
+    pub fn tree(&self, alloc: Global) -> Result<CertTree<'_>, AllocError>
+        ensures nodes { IfOk result (λ t. preorder (tree_of t) ≡ self.now.nodes) }
+        ensures only { IfOk result (λ t. (tree : Tree) → preorder tree ≡ self.now.nodes → tree ≡ tree_of t) }
+        ensures shaped { IfOk result (λ t. IsTreeAt self.now.version (root_region self.now.size) (tree_of t)) }
+    {
+        let mut nodes = self.parts.nodes.as_slice();
+        let Some(tree) = grow(alloc, &mut nodes, MOST_DEPTH)? else {
+            unreachable!()
+        };
+        Ok(tree)
     }
 
     /// What the certificate was made of.

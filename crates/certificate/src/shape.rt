@@ -1,11 +1,12 @@
 //! Whether parts make a certificate.
 
-ghost use Rattle.std.specs.Prelude.{◌≡◌, IfOk, IsTrue, ◌↔◌, ◌≤◌, length, map};
+ghost use Rattle.std.specs.Prelude.{◌≡◌, ◌≤◌, ◌<◌, ◌+◌, ◌↔◌, length, map, None, IsTrue, IfOk, IfSome};
 ghost use Rattle.std.specs.List.{list_all};
 ghost use Rattle.certificate.specs.Tree.{nodes_of};
 ghost use Rattle.certificate.specs.Text.{content_of};
-ghost use Rattle.solomon_reader.specs.CertificateText.{HasText};
-ghost use Rattle.certificate.specs.Shape.{is_leaf, is_open, behind_tree, Finds, is_head, is_one_tree, without_leaf, is_listed_set, are_sets};
+ghost use Rattle.solomon_reader.specs.CertificateText.{HasText, leaf_count};
+ghost use Rattle.certificate.specs.Shape.{is_leaf, is_open, stands, is_head, is_one_tree, is_listed_set, are_sets};
+ghost use Rattle.certificate.specs.Grown.{tree_of, grown};
 ghost use Rattle.certificate.specs.Text.{listed_set_of, version_of};
 ghost use Rattle.certificate.specs.Tree.{set_price_of};
 ghost use Rattle.solomon_reader.specs.Bound.{listed_sets};
@@ -16,6 +17,7 @@ use crate::parts::CertParts;
 use crate::set_lines::are_rising;
 use crate::set_prices::{are_listed, are_set_prices};
 use crate::sets::{ListedSet, SetPrice};
+use crate::tree::{CertTree, grow};
 use crate::version::Version;
 use crate::words::{are_in_range, is_in_size, is_on};
 use solomon_reader::{
@@ -23,17 +25,6 @@ use solomon_reader::{
 };
 use std::alloc::{AllocError, Global};
 use tenths::MOST_TENTHS;
-
-/// What is left of the nodes, the path to the next one, and how many leaves may still come.
-#[derive(Drop)]
-struct Remaining<'a> {
-    nodes: &'a [CertNode],
-    size: u16,
-    /// How many sets are listed.
-    sets: u16,
-    path: Vec<(u16, u16)>,
-    leaves: u32,
-}
 
 /// Whether the prices are those of a leaf.
 fn is_leaf_of(sets: u16, size: u16, prices: &[i64], set_prices: &[SetPrice]) -> bool
@@ -55,80 +46,64 @@ fn is_open_arc(size: u16, path: &[(u16, u16)], arc: (u16, u16)) -> bool
     is_in_size(size, (u64::from(arc.0), u64::from(arc.1))) && !is_on(arc, path)
 }
 
-/// Takes a leaf, if its prices are those of one and leaves may still come, and says whether.
-fn take_leaf(remaining: &mut Remaining<'_>, prices: &[i64], set_prices: &[SetPrice]) -> bool
-    ensures taken { let b = is_leaf remaining.old.sets remaining.old.size
-        (record { customers = prices.now; sets = map set_price_of set_prices.now }) in
-        Finds result (without_leaf b remaining.old.leaves (nodes_of remaining.old.nodes.now))
-        (remaining.new.leaves, nodes_of remaining.new.nodes.now) }
-    ensures path { remaining.new.path ≡ remaining.old.path }
-    ensures size { remaining.new.size ≡ remaining.old.size }
-    ensures sets { remaining.new.sets ≡ remaining.old.sets }
+/// How many leaves may still come behind a tree, if so many may come before it.
+fn leaves_behind(tree: &CertTree<'_>, leaves: u32) -> Option<u32>
+    ensures some { IfSome result (λ rest. leaves ≡ rest + leaf_count (tree_of tree.now)) }
+    ensures none { result ≡ None → leaves < leaf_count (tree_of tree.now) }
 {
-    if !is_leaf_of(remaining.sets, remaining.size, prices, set_prices) || remaining.leaves == 0 {
-        return false;
+    match tree {
+        CertTree::Leaf { .. } => leaves.checked_sub(1),
+        CertTree::Split { used, unused, .. } => {
+            let rest = leaves_behind(used, leaves)?;
+            leaves_behind(unused, rest)
+        }
     }
-    remaining.leaves -= 1;
-    true
 }
 
-/// Takes the first tree from the nodes, below the path, which may grow by `left` arcs; or finds that
-/// they don't begin with one.
-fn take_tree(remaining: &mut Remaining<'_>, left: u32) -> Result<bool, AllocError>
-    ensures exact { IfOk result (λ b. Finds b
-        (behind_tree remaining.old.sets remaining.old.size left remaining.old.path.items remaining.old.leaves
-        (nodes_of remaining.old.nodes.now))
-        (remaining.new.leaves, nodes_of remaining.new.nodes.now)) }
-    ensures path { IfOk result (λ b. IsTrue b
-        → remaining.new.path.items ≡ remaining.old.path.items) }
-    ensures size { IfOk result (λ b. remaining.new.size ≡ remaining.old.size) }
-    ensures sets { IfOk result (λ b. remaining.new.sets ≡ remaining.old.sets) }
+/// Whether a tree stands below the path: its leaves have prices for each customer, and its splits decide arcs
+/// that aren't decided.
+fn stands(
+    sets: u16,
+    size: u16,
+    tree: &CertTree<'_>,
+    path: &mut Vec<(u16, u16)>,
+) -> Result<bool, AllocError>
+    ensures exact { IfOk result (λ b. b ≡ stands sets size path.old.items (tree_of tree.now)) }
+    ensures path { IfOk result (λ _. path.new.items ≡ path.old.items) }
 {
-    let Some((node, rest)) = remaining.nodes.split_first() else {
-        return Ok(false);
-    };
-    remaining.nodes = rest;
-    match node {
-        CertNode::Leaf(prices) => Ok(take_leaf(remaining, prices.as_slice(), &[])),
-        CertNode::SetLeaf { prices, set_prices } => Ok(take_leaf(
-            remaining,
-            prices.as_slice(),
-            set_prices.as_slice(),
-        )),
-        CertNode::Split { from, to } => {
-            if left == 0 {
+    match tree {
+        CertTree::Leaf { prices, set_prices } => Ok(is_leaf_of(sets, size, prices, set_prices)),
+        CertTree::Split {
+            from,
+            to,
+            used,
+            unused,
+        } => {
+            if !is_open_arc(size, path.as_slice(), (*from, *to)) {
                 return Ok(false);
             }
-            if !is_open_arc(remaining.size, remaining.path.as_slice(), (*from, *to)) {
-                return Ok(false);
-            }
-            remaining.path.push((*from, *to))?;
-            if !take_tree(remaining, left - 1)? {
-                return Ok(false);
-            }
-            if !take_tree(remaining, left - 1)? {
-                return Ok(false);
-            }
-            remaining.path.pop();
-            Ok(true)
+            path.push((*from, *to))?;
+            let both = stands(sets, size, used, path)? && stands(sets, size, unused, path)?;
+            path.pop();
+            Ok(both)
         }
     }
 }
 
 /// Whether the nodes are those of one tree.
 #[tactic(auto, unfolding(crate::specs::Shape::is_one_tree))]
-fn is_tree(alloc: Global, sets: u16, size: u16, nodes: &[CertNode]) -> Result<bool, AllocError>
+fn is_one_tree(alloc: Global, sets: u16, size: u16, nodes: &[CertNode]) -> Result<bool, AllocError>
     ensures { IfOk result (λ b. b ≡ is_one_tree sets size (nodes_of nodes.now)) }
 {
-    let mut remaining = Remaining {
-        nodes,
-        size,
-        sets,
-        path: Vec::new(alloc),
-        leaves: MOST_LEAVES,
+    let mut rest = nodes;
+    let Some(tree) = grow(alloc, &mut rest, MOST_DEPTH)? else {
+        return Ok(false);
     };
-    let found = take_tree(&mut remaining, MOST_DEPTH)?;
-    Ok(found && remaining.nodes.is_empty())
+    if !rest.is_empty() || leaves_behind(&tree, MOST_LEAVES).is_none() {
+        return Ok(false);
+    }
+    let mut path = Vec::new(alloc);
+    stands(sets, size, &tree, &mut path)
 }
 
 /// Whether all but the nodes is a certificate's.
@@ -175,5 +150,5 @@ pub fn have_text(alloc: Global, parts: &CertParts) -> Result<bool, AllocError>
         return Ok(false);
     }
     let sets = parts.version.sets().len() as u16;
-    is_tree(alloc, sets, parts.size, parts.nodes.as_slice())
+    is_one_tree(alloc, sets, parts.size, parts.nodes.as_slice())
 }

@@ -1,10 +1,10 @@
--- The nodes of a tree, with others behind them.
-use Rattle.std.specs.Prelude.{◌≡◌, ℕ, min, List, ◌++◌, map, length, ℤ}
+-- The least value at the leaves of a tree.
+use Rattle.std.specs.Prelude.{◌≡◌, ℕ, min, List, map, length, ℤ}
 use Rattle.std.specs.List.{AllByRecursion}
 use Rattle.solomon_reader.specs.Problem.{Problem}
 use Rattle.solomon_reader.specs.Region.{Region}
-use Rattle.solomon_reader.specs.Bound.{Version, LeafPrices, Tree, Node, listed_sets, preorder, HasBound, IsValueAt}
-use Rattle.solomon_reader.specs.CertificateText.{IsTreeAt, IsPrice, AreSetPrices}
+use Rattle.solomon_reader.specs.Bound.{Version, LeafPrices, Tree, listed_sets, HasBound, IsValueAt}
+use Rattle.solomon_reader.specs.CertificateText.{IsPrice, AreSetPrices}
 use Rattle.certificate.specs.declared.sets.SetPrice.{SetPrice}
 use Rattle.certificate.specs.Tree.{set_price_of}
 
@@ -22,15 +22,8 @@ pub record IsLesserAt (version : Version) (p : Problem) (g : Region) (k : ℕ) (
   pub is_value : IsValueAt version p g k prices value
   pub lesser : b ≡ min most value
 
--- the nodes are those of a tree at the region, and some more
-pub record Begins (version : Version) (g : Region) (nodes : List Node) : Type 0 where
-  pub tree : Tree
-  pub rest : List Node
-  pub is : nodes ≡ preorder tree ++ rest
-  pub shaped : IsTreeAt version g tree
-
--- b is the lesser of a number and the bound of the tree whose nodes come first, and the others are left
-abbrev pub IsBoundOf : Version → Problem → ℕ → Region → List Node → ℕ → ℕ → List Node → Type 0
-IsBoundOf version p k g nodes most b left =
-    (tree : Tree) (rest : List Node) → nodes ≡ preorder tree ++ rest → IsTreeAt version g tree
-    → ((x : ℕ) × (HasBound version p k g tree x × (b ≡ min most x))) × (left ≡ rest)
+-- b is the lesser of a number and the bound of a tree
+pub record IsBoundOf (version : Version) (p : Problem) (k : ℕ) (g : Region) (tree : Tree) (most b : ℕ) : Type 0 where
+  pub bound : ℕ
+  pub is_bound : HasBound version p k g tree bound
+  pub lesser : b ≡ min most bound

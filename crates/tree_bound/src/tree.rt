@@ -1,59 +1,43 @@
 //! The bound of a tree.
 
-ghost use Rattle.tree_bound.specs.Settings.{neighbours_in, problem_in, version_in, BeginsIn, IsBoundIn};
-ghost use Rattle.std.specs.Prelude.{◌≡◌, ◌<◌, ◌≤◌, [], ◌∷◌, ◌++◌, length, drop, IfOk};
+ghost use Rattle.tree_bound.specs.Settings.{neighbours_in, problem_in, version_in, IsTreeIn, IsBoundIn};
+ghost use Rattle.std.specs.Prelude.{◌≡◌, ◌≤◌, [], ◌∷◌, ◌++◌, IfOk};
 ghost use Rattle.solomon_reader.specs.Problem.{customer_count};
-ghost use Rattle.solomon_reader.specs.Bound.{Tree, leaf, preorder, IsTreeBound};
-ghost use Rattle.certificate.specs.Tree.{nodes_of};
+ghost use Rattle.solomon_reader.specs.Bound.{Tree, preorder, IsTreeBound};
+ghost use Rattle.certificate.specs.Grown.{tree_of};
 ghost use Rattle.leaf_arcs.specs.Decisions.{region_of};
 ghost use Rattle.tree_bound.specs.Nodes.{IsLeafAt, IsLesserAt, prices_of};
 
 use crate::fault::BoundFault;
 use crate::leaf_sets::priced_sets;
 use crate::setting::Setting;
-use crate::value::lesser_value;
-use certificate::{Cert, CertNode, SetPrice};
+use crate::value::{Lesser, lesser_value};
+use certificate::{Cert, CertTree, SetPrice};
 use leaf_arcs::Decision;
 use solomon_reader::Instance;
 use std::alloc::{AllocFailed, Global};
 use tenths::Tenths;
 
-/// The least of a number of tenths and a tree's bound, the index after the tree's nodes, and how fine floors
-/// of the next leaf are to be.
-#[derive(Clone, Copy)]
-struct Subtree {
-    bound: u32,
-    next: usize,
-    level: usize,
-}
-
-/// The lesser of a number of tenths and the value of a leaf below the decisions of a path, with the index after
-/// the leaf's node.
+/// The lesser of a number of tenths and the value of a leaf below the decisions of a path.
 fn bound_at_leaf(
     alloc: Global,
     setting: &Setting<'_>,
     path: &[Decision],
     prices: &[i64],
     set_prices: &[SetPrice],
-    next: usize,
     most: u32,
     level: usize,
-) -> Result<Subtree, BoundFault>
+) -> Result<Lesser, BoundFault>
     requires shaped { IsLeafAt (version_in setting.now) (customer_count (problem_in setting.now))
         (prices_of prices.now set_prices.now) }
-    ensures next { IfOk result (λ t. t.next ≡ next) }
-    ensures lesser { IfOk result (λ t. IsLesserAt
+    ensures { IfOk result (λ t. IsLesserAt
         (version_in setting.now) (problem_in setting.now)
         (region_of (customer_count (problem_in setting.now)) path.now)
         (neighbours_in setting.now) (prices_of prices.now set_prices.now) most t.bound) }
 {
     let sets = priced_sets(alloc, setting.version.sets(), set_prices)?;
     let lesser = lesser_value(alloc, setting, path, prices, sets.as_slice(), most, level)?;
-    Ok(Subtree {
-        bound: lesser.bound,
-        next,
-        level: lesser.level,
-    })
+    Ok(lesser)
 }
 
 /// Adds a decision to a path.
@@ -68,64 +52,48 @@ fn decide(
     path.push(Decision { from, to, required })
 }
 
-/// The lesser of a number of tenths and the bound of the tree whose nodes begin at an index, below the
-/// decisions of a path.
+/// The lesser of a number of tenths and the bound of a tree below the decisions of a path.
 fn bound_at(
     alloc: Global,
     setting: &Setting<'_>,
-    nodes: &[CertNode],
-    at: usize,
+    tree: &CertTree<'_>,
     path: &mut Vec<Decision>,
     most: u32,
     level: usize,
-) -> Result<Subtree, BoundFault>
+) -> Result<Lesser, BoundFault>
     requires most { most ≤ setting.now.most }
-    requires within { at < length nodes.now }
-    requires begins { BeginsIn setting.now path.old.items (drop at (nodes_of nodes.now)) }
+    requires shaped { IsTreeIn setting.now path.old.items (tree_of tree.now) }
     ensures path { IfOk result (λ _. path.new.items ≡ path.old.items) }
-    ensures onward { IfOk result (λ t. at < t.next) }
     ensures less { IfOk result (λ t. t.bound ≤ most) }
-    ensures bound { IfOk result (λ t. IsBoundIn setting.now path.old.items
-        (drop at (nodes_of nodes.now)) most t.bound (drop t.next (nodes_of nodes.now))) }
+    ensures bound { IfOk result (λ t. IsBoundIn setting.now path.old.items (tree_of tree.now) most t.bound) }
 {
-    match &nodes[at] {
-        CertNode::Leaf(prices) => {
+    match tree {
+        CertTree::Leaf { prices, set_prices } => {
             let found = bound_at_leaf(
                 alloc,
                 setting,
                 path.as_slice(),
-                prices.as_slice(),
-                &[],
-                at + 1,
+                prices,
+                set_prices,
                 most,
                 level,
             )?;
             Ok(found)
         }
-        CertNode::SetLeaf { prices, set_prices } => {
-            let found = bound_at_leaf(
-                alloc,
-                setting,
-                path.as_slice(),
-                prices.as_slice(),
-                set_prices.as_slice(),
-                at + 1,
-                most,
-                level,
-            )?;
-            Ok(found)
-        }
-        CertNode::Split { from, to } => {
+        CertTree::Split {
+            from,
+            to,
+            used,
+            unused,
+        } => {
             let depth = path.len();
             decide(path, *from, *to, true)?;
-            let used = bound_at(alloc, setting, nodes, at + 1, path, most, level)?;
+            let first = bound_at(alloc, setting, used, path, most, level)?;
             path.truncate(depth);
             decide(path, *from, *to, false)?;
-            let unused = bound_at(
-                alloc, setting, nodes, used.next, path, used.bound, used.level,
-            )?;
+            let second = bound_at(alloc, setting, unused, path, first.bound, first.level)?;
             path.truncate(depth);
-            Ok(unused)
+            Ok(second)
         }
     }
 }
@@ -155,8 +123,8 @@ pub fn bound(
         → IsTreeBound cert.now.version instance.now cert.now.neighbours tree b) }
 {
     let setting = Setting::new(alloc, instance, cert, state_limit)?;
-    let nodes = cert.parts().nodes.as_slice();
+    let tree = cert.tree(alloc)?;
     let mut path = Vec::new(alloc);
-    let whole = bound_at(alloc, &setting, nodes, 0, &mut path, setting.most, 0)?;
+    let whole = bound_at(alloc, &setting, &tree, &mut path, setting.most, 0)?;
     Ok(Tenths::from(whole.bound))
 }

@@ -22,7 +22,7 @@ pub lesser_value-requires : goal.lesser_value-requires
 lesser_value-requires c = rw (c.as_slice.ensures.value, c.in_ok-sets.ensures, c.sets.ensures)
     (prices_are (version_in c.args.setting.now) (problem_in c.args.setting.now) (prices_of c.args.prices.now c.args.set_prices.now) c.args.setting.now.listed c.requires.shaped)
 
-pub returns-clause-lesser : goal.returns-clause-lesser
-returns-clause-lesser c = lesser_at (version_in c.args.setting.now) (problem_in c.args.setting.now) (region_of (customer_count (problem_in c.args.setting.now)) c.args.path.now)
+pub returns : goal.returns
+returns c = lesser_at (version_in c.args.setting.now) (problem_in c.args.setting.now) (region_of (customer_count (problem_in c.args.setting.now)) c.args.path.now)
     (neighbours_in c.args.setting.now) (prices_of c.args.prices.now c.args.set_prices.now) c.args.most c.in_ok-lesser.lesser.bound c.requires.shaped.2
     (rw (c.as_slice.ensures.value, c.in_ok-sets.ensures, c.sets.ensures) at c.in_ok-lesser.ensures)
