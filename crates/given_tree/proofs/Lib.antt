@@ -1,5 +1,4 @@
 pub mod Valuing
-pub mod Preorder
 pub mod Events
 pub mod Grown
 pub mod Sets

@@ -5,8 +5,7 @@ use Rattle.solomon_reader.specs.Problem.{customer_count}
 use Rattle.solomon_reader.specs.Plan.{Arc}
 use Rattle.solomon_reader.specs.Region.{Region, root_region, used_child, unused_child}
 use Rattle.solomon_reader.specs.History.{costs_of, last_number, value_of, IsLeaf}
-use Rattle.solomon_reader.specs.Bound.{Version, Tree, leaf, split, Node, preorder, HasBound}
-use Rattle.solomon_reader.specs.CertificateText.{IsTreeAt}
+use Rattle.solomon_reader.specs.Bound.{Version, Tree, leaf, split, HasBound}
 use Rattle.incumbent_book.specs.Contents.{Contents}
 use Rattle.incumbent_book.specs.Faults.{region_at}
 
@@ -47,11 +46,9 @@ pub record IsSplitAt (old new : Contents) (number : ℕ) (a : Arc) (i j : ℕ) :
   pub unused_region : region_at new j ≡ unused_child (region_at old number) a
   pub leaves : (m : ℕ) → IsLeaf new.past m → (m ≡ i) ⊎ ((m ≡ j) ⊎ IsStill old new number m)
 
--- the tree whose nodes come first has grown at the leaf, each leaf with the tree's bound at least, and the other nodes are left
-abbrev pub IsTreeGrown : Version → Contents → Contents → ℕ → List Node → List Node → Type 0
-IsTreeGrown version old new number nodes left =
-    (tree : Tree) (rest : List Node) → nodes ≡ preorder tree ++ rest → IsTreeAt version (region_at old number) tree
-    → ((b : ℕ) → HasBound version old.problem old.neighbours (region_at old number) tree b → IsRaisedTo old new number b) × (left ≡ rest)
+-- the tree has grown at the leaf: each leaf that stands there has the tree's bound at least
+abbrev pub IsTreeGrown : Version → Contents → Contents → ℕ → Tree → Type 0
+IsTreeGrown version old new number tree = (b : ℕ) → HasBound version old.problem old.neighbours (region_at old number) tree b → IsRaisedTo old new number b
 
 -- the regions of a tree's leaves in preorder, where the tree stands at a region
 abbrev pub leaf_regions : Region → Tree → List Region
@@ -68,10 +65,9 @@ pub record IsLeafBelow (old new : Contents) (number m : ℕ) : Type 0 where
   pub leaf : IsLeaf new.past m
   pub below : (m ≡ number) ⊎ (last_number old.past < m)
 
--- the leaves of the tree whose nodes come first were added to a list, in preorder
-pub record AreAdded (version : Version) (old new : Contents) (number : ℕ) (nodes : List Node) (before after : List ℕ) : Type 0 where
+-- the leaves of a tree were added to a list, in preorder
+pub record AreAdded (old new : Contents) (number : ℕ) (tree : Tree) (before after : List ℕ) : Type 0 where
   pub more : List ℕ
   pub is : after ≡ before ++ more
   pub leaves : AllByRecursion (IsLeafBelow old new number) more
-  pub regions : (tree : Tree) (rest : List Node) → nodes ≡ preorder tree ++ rest → IsTreeAt version (region_at old number) tree
-      → map (region_at new) more ≡ leaf_regions (region_at old number) tree
+  pub regions : map (region_at new) more ≡ leaf_regions (region_at old number) tree

@@ -49,12 +49,11 @@ pub fn replay<'i>(
     ensures leaves { IfOk result (λ v. (tree : Tree) → preorder tree ≡ cert.now.nodes → AreLeavesOf book.new v.items tree) }
     ensures unlimited { IfErr result (λ e. e ≡ LabelLimit → labels ≢ None) }
 {
-    let parts = cert.parts();
-    let tree = GivenTree {
+    let tree = cert.tree(alloc)?;
+    let given = GivenTree {
         alloc,
         nearness,
-        version: &parts.version,
-        nodes: parts.nodes.as_slice(),
+        version: &cert.parts().version,
         labels,
     };
     let Some(root) = book.leaf(0) else {
@@ -62,6 +61,6 @@ pub fn replay<'i>(
     };
     let mut handed_on = HandedOn::nothing(alloc, root.instance())?;
     let mut leaves = Vec::new(alloc);
-    grow_at(&tree, &mut handed_on, book, 0, 0, &mut leaves)?;
+    grow_at(&given, &mut handed_on, book, &tree, 0, &mut leaves)?;
     Ok(leaves)
 }
