@@ -15,7 +15,7 @@ use crate::starting::StartFault;
 use checker::check;
 use closing::MOST_CLOSED;
 use command_line::{Job, job};
-use run_settings::{Part, Settings};
+use run_settings::{MOST_LABELS, Part, Settings};
 use solomon_reader::read;
 use std::alloc::Global;
 use std::io::Write;
@@ -115,7 +115,10 @@ fn solve_text<R: Eprint + Threads + Wait + Sync, W: Write + Drop + Send>(
     let (mut settings, mut closing) = (*job.settings, job.closing);
     if let Some(customers) = overload(alloc, text) {
         settings.sets = settings.sets.max(1);
-        closing = closing.filter(|_| customers > MOST_CLOSED);
+        if closing.is_some() && customers <= MOST_CLOSED {
+            // As closing would, it takes as many labels as it needs.
+            (closing, settings.labels) = (None, MOST_LABELS);
+        }
     }
     if let Some(leaves) = closing {
         return close_from(
