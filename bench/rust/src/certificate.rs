@@ -1,6 +1,6 @@
 //! A certificate, read without a look at its faults.
 
-use crate::shim::Vec;
+use crate::shim::{AllocError, Global, Vec};
 use crate::tenths::Tenths;
 
 #[derive(Debug)]
@@ -68,6 +68,28 @@ impl Cert {
 
     pub fn parts(&self) -> &CertParts {
         &self.parts
+    }
+
+    pub fn tree(&self, _: Global) -> Result<CertTree<'_>, AllocError> {
+        Ok(tree_of(&mut self.parts.nodes.iter()))
+    }
+}
+
+/// A tree, its prices lent from the nodes that it was made of.
+pub enum CertTree<'a> {
+    Leaf { prices: &'a [i64], set_prices: &'a [SetPrice] },
+    Split { from: u16, to: u16, used: Box<CertTree<'a>>, unused: Box<CertTree<'a>> },
+}
+
+/// The tree whose nodes come next.
+fn tree_of<'a>(nodes: &mut std::slice::Iter<'a, CertNode>) -> CertTree<'a> {
+    match nodes.next().expect("a node") {
+        CertNode::Leaf(prices) => CertTree::Leaf { prices, set_prices: &[] },
+        CertNode::SetLeaf { prices, set_prices } => CertTree::Leaf { prices, set_prices },
+        CertNode::Split { from, to } => {
+            let used = Box::new(tree_of(nodes));
+            CertTree::Split { from: *from, to: *to, used, unused: Box::new(tree_of(nodes)) }
+        }
     }
 }
 
