@@ -9,6 +9,7 @@ from cases.random_texts import instance_words, laid_out, plan_of
 from judges.judging_breaks import broken_off
 from judges.kind import Kind, program_by
 from judges.running import demand, got, put, run_check, solve
+from judges.solving import is_overloaded
 from reference.instances import plan_cost, read
 from reference.texts import read_solution, tenths
 from tools.respelling import certificate, text_of
@@ -75,7 +76,9 @@ def judge_whole(program, folder, random):
     before = solve(program, folder, text, options)
     target = random.choice([path, path, "/dev/full"])
     came = solve(program, folder, text, options + ["--plans", target, "--progress"])
-    demand("--close" not in more or came == before, "%r, and with a file of plans %r" % (before, came))
+    # Where a set of all customers shows that there is no plan `--close` is passed over, so that progress is told.
+    same = came if not is_overloaded(instance) else (came[0], "", *came[2:])
+    demand("--close" not in more or same == before, "%r, and with a file of plans %r" % (before, came))
     costs = judge_met(program, folder, random, text, got(path) or b"", came[1] if target == path else "")
     if costs:
         demand("--close" not in more and read_solution(came[3])[1] <= costs[-1], "a plan of %s: %r" % (costs, came))
