@@ -50,6 +50,16 @@ fn value_in(alloc: Global, plan: &Feasible<'_>, candidate: &Move) -> Option<Opti
     Some(value(&trees, candidate))
 }
 
+/// By how much a move changes the cost of a plan, if it can be made and there is memory.
+fn change_by(alloc: Global, plan: Feasible<'_>, candidate: &Move) -> Option<Option<i64>> {
+    let cost = plan.cost().get() as i64;
+    match apply(alloc, plan, candidate) {
+        Ok(after) => Some(Some(after.cost().get() as i64 - cost)),
+        Err((_same, MoveFault::NotFeasible)) => Some(None),
+        Err((_same, MoveFault::Memory)) => None,
+    }
+}
+
 /// Tells the value of a move, and by how much it changes the cost where it is made.
 pub(crate) fn tell_move(
     alloc: Global,
@@ -59,12 +69,7 @@ pub(crate) fn tell_move(
 ) -> Option<()> {
     let candidate = move_of(kind, chain_of(alloc, from)?, chain_of(alloc, to)?)?;
     let value = value_in(alloc, &plan, &candidate)?;
-    let cost = plan.cost().get() as i64;
-    let change = match apply(alloc, plan, &candidate) {
-        Ok(after) => Some(after.cost().get() as i64 - cost),
-        Err((_same, MoveFault::NotFeasible)) => None,
-        Err((_same, MoveFault::Memory)) => return None,
-    };
+    let change = change_by(alloc, plan, &candidate)?;
     writeln!(told, "value {} change {}", OrNone(value), OrNone(change)).ok()
 }
 

@@ -11,8 +11,8 @@ use tenths::Tenths;
 
 /// A hub in memory, which counts calls and answers them as it was told.
 #[derive(Drop)]
-pub(crate) struct Fake<'i> {
-    pub(crate) leaf: Priced<'i>,
+pub(crate) struct Fake<'l, 'i> {
+    pub(crate) leaf: &'l Priced<'i>,
     pub(crate) offers: u32,
     /// How often prices were given, to a leaf or to both its children.
     pub(crate) raises: u32,
@@ -24,8 +24,8 @@ pub(crate) struct Fake<'i> {
     pub(crate) is_bare: bool,
 }
 
-impl<'i> Fake<'i> {
-    pub(crate) fn new(leaf: Priced<'i>) -> Fake<'i> {
+impl<'l, 'i> Fake<'l, 'i> {
+    pub(crate) fn new(leaf: &'l Priced<'i>) -> Fake<'l, 'i> {
         Fake {
             leaf,
             offers: 0,
@@ -37,7 +37,7 @@ impl<'i> Fake<'i> {
     }
 }
 
-impl<'i> Hub<'i> for Fake<'i> {
+impl<'i> Hub<'i> for Fake<'_, 'i> {
     fn offer(
         &mut self,
         plan: Feasible<'i>,

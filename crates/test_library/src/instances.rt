@@ -39,16 +39,24 @@ fn rows_in(alloc: Global, word: &str) -> Option<String> {
 /// The byte that a tilde stands for.
 pub(crate) const HIGH: u8 = 0x80;
 
+/// The text of an instance, by its fleet and capacity, its first rows and the others as a line shows them.
+fn text_with(alloc: Global, sizes: [&str; 2], first: &str, shown: &str) -> Option<String> {
+    let rows = bytes_meant(alloc, shown, HIGH).ok()?;
+    let rows = str::from_utf8(rows.as_slice()).ok()?;
+    instance_text(alloc, sizes[0], sizes[1], first, rows).ok()
+}
+
 /// The text of an instance, by a call's fleet and capacity and its rows, before which a `line` has the
 /// customers of such a line.
 pub(crate) fn text_by(alloc: Global, line: &str, words: &[&str]) -> Option<String> {
-    let (first, count) = match words {
-        ["line", _, _, customers, ..] => (rows_in(alloc, customers)?, 4),
-        _ => (String::new(alloc), 3),
-    };
-    let rows = bytes_meant(alloc, behind(line, count), HIGH).ok()?;
-    let rows = str::from_utf8(rows.as_slice()).ok()?;
-    instance_text(alloc, words.get(1)?, words.get(2)?, first.as_str(), rows).ok()
+    match words {
+        ["line", fleet, capacity, customers, ..] => {
+            let first = rows_in(alloc, customers)?;
+            text_with(alloc, [fleet, capacity], first.as_str(), behind(line, 4))
+        }
+        [_, fleet, capacity, ..] => text_with(alloc, [fleet, capacity], "", behind(line, 3)),
+        _ => None,
+    }
 }
 
 /// Tells whether an instance is the one of a text.
@@ -69,12 +77,22 @@ pub(crate) fn tell_walk(
     instance: &Instance,
     route: &str,
 ) -> Option<()> {
-    let route = list_of(alloc, route)?;
-    let Some(walk) = walk(instance, route.as_slice()) else {
+    let Some(walk) = walk(instance, list_of(alloc, route)?.as_slice()) else {
         return writeln!(told, "none").ok();
     };
     let (cost, load, finish) = (walk.cost.get(), walk.load, walk.finish.get());
     writeln!(told, "cost {cost} load {load} finish {finish}").ok()
+}
+
+/// Tells the routes of a whole plan, or those of a part and who is left.
+fn tell_built(told: &mut String, built: &Built<'_>) -> Option<()> {
+    match built {
+        Built::Whole(plan) => writeln!(told, "whole{}", Routes(plan.routes())).ok(),
+        Built::Part { routes, left } => {
+            let (part, left) = (Routes(routes.as_slice()), List(left.as_slice()));
+            writeln!(told, "part{part} left{left}").ok()
+        }
+    }
 }
 
 /// Tells what a build by these weights ends with.
@@ -88,11 +106,5 @@ pub(crate) fn tell_build(
     let Some(weights) = weights else {
         return writeln!(told, "weights out of range").ok();
     };
-    match build(alloc, instance, &weights).ok()? {
-        Built::Whole(plan) => writeln!(told, "whole{}", Routes(plan.routes())).ok(),
-        Built::Part { routes, left } => {
-            let (part, left) = (Routes(routes.as_slice()), List(left.as_slice()));
-            writeln!(told, "part{part} left{left}").ok()
-        }
-    }
+    tell_built(told, &build(alloc, instance, &weights).ok()?)
 }

@@ -1,10 +1,10 @@
 //! Prices at leaves: their values, steps, and the least reduced costs.
 
 use crate::words::{List, OrNone, list_of, pair_of};
-use crate::workers::{tell_bounder, tell_lender, tell_searcher};
+use crate::workers::tell_worker;
 use branching::{Arc, Region};
 use labelling::{Hints, Kept, least, least_by_hints};
-use prices::{Priced, improve};
+use prices::{PriceFault, Priced, improve};
 use schedule::walk;
 use solomon_reader::{Instance, MOST_NEIGHBOURS};
 use std::alloc::Global;
@@ -24,6 +24,17 @@ pub(crate) fn region_of(alloc: Global, size: u16, word: &str) -> Option<Region> 
     }
 }
 
+/// Tells why there is no leaf of a region and prices, and what came back.
+fn tell_refused(
+    told: &mut String,
+    region: &Region,
+    prices: &[i64],
+    fault: PriceFault,
+) -> Option<()> {
+    let (customers, prices) = (region.size(), List(prices));
+    writeln!(told, "{fault} back_customers {customers} prices{prices}").ok()
+}
+
 /// The leaf of a region, neighbours and prices, perhaps with a limit of labels; where there is none, why and what
 /// came back is told.
 fn leaf_at<'i>(
@@ -34,7 +45,8 @@ fn leaf_at<'i>(
     limit: Option<usize>,
 ) -> Option<Option<Priced<'i>>> {
     let count = instance.customer_count();
-    let (neighbours, prices) = (neighbours.parse::<u32>().ok()?, list_of(alloc, prices)?);
+    let neighbours = neighbours.parse::<u32>().ok()?;
+    let prices = list_of(alloc, prices)?;
     let region = region_of(alloc, count, region)?;
     let fit = region.size() == count && prices.len() == usize::from(count);
     if !fit || neighbours > MOST_NEIGHBOURS {
@@ -43,8 +55,7 @@ fn leaf_at<'i>(
     match Priced::of(alloc, instance, region, neighbours, prices, limit) {
         Ok(leaf) => Some(Some(leaf)),
         Err((region, prices, fault)) => {
-            let (customers, prices) = (region.size(), List(prices.as_slice()));
-            writeln!(told, "{fault} back_customers {customers} prices{prices}").ok()?;
+            tell_refused(told, &region, prices.as_slice(), fault)?;
             Some(None)
         }
     }
@@ -82,22 +93,29 @@ fn reduced_cost(instance: &Instance, prices: &[i64], stops: &[u16]) -> Option<i6
     Some(cost)
 }
 
+/// The reduced costs of routes at a leaf.
+fn reduced_costs(alloc: Global, leaf: &Priced<'_>, routes: &[Vec<u16>]) -> Option<Vec<i64>> {
+    let (instance, prices) = (leaf.instance(), leaf.prices());
+    let mut costs = Vec::new(alloc);
+    for route in routes {
+        let cost = reduced_cost(instance, prices, route.as_slice())?;
+        costs.push(cost).ok()?;
+    }
+    Some(costs)
+}
+
 /// Tells the least reduced cost at a leaf where a route is known, and the reduced costs of the further routes that
 /// were met.
 fn tell_met(alloc: Global, told: &mut String, leaf: &Priced<'_>, route: &str) -> Option<()> {
+    let known = list_of(alloc, route)?;
     let mut hints = Hints::none(alloc);
-    hints.known = list_of(alloc, route)?;
-    let (instance, prices) = (leaf.instance(), leaf.prices());
+    hints.known = known;
     let mut kept = Kept::nothing(alloc);
     let found = least_by_hints(alloc, leaf.task(), None, &hints, &mut kept);
-    write!(told, "least {} met", OrNone(found.ok()?.value)).ok()?;
-    let mut costs = Vec::new(alloc);
-    for route in &kept.met {
-        costs
-            .push(reduced_cost(instance, prices, route.as_slice())?)
-            .ok()?;
-    }
-    writeln!(told, "{}", List(costs.as_slice())).ok()
+    let value = found.ok()?.value;
+    let costs = reduced_costs(alloc, leaf, kept.met.as_slice())?;
+    let (least, costs) = (OrNone(value), List(costs.as_slice()));
+    writeln!(told, "least {least} met{costs}").ok()
 }
 
 /// Tells what steps make of the prices of a leaf: it before them and behind them, and its least reduced cost.
@@ -107,6 +125,23 @@ fn tell_steps(alloc: Global, told: &mut String, leaf: Priced<'_>, steps: &str) -
     let better = improve(alloc, leaf, steps.as_slice(), None);
     tell_value(told, &better)?;
     writeln!(told, "least {}", OrNone(better.least().value)).ok()
+}
+
+/// Tells what comes of a call for a leaf, by the words behind the leaf's own.
+fn tell_at<'i>(
+    alloc: Global,
+    told: &mut String,
+    instance: &'i Instance,
+    leaf: &Priced<'i>,
+    (call, rest): (&str, &[&str]),
+) -> Option<()> {
+    match (call, rest) {
+        ("leaf", _) => tell_value(told, leaf),
+        ("least", []) => writeln!(told, "least {}", OrNone(leaf.least().value)).ok(),
+        ("least", [limit]) => tell_least(alloc, told, leaf, limit.parse().ok()?),
+        ("met", [route]) => tell_met(alloc, told, leaf, route),
+        _ => tell_worker(alloc, told, instance, leaf, (call, rest)),
+    }
 }
 
 /// Tells what comes of a call for the leaf of its words, with words behind them.
@@ -126,32 +161,7 @@ pub(crate) fn tell_leaf(
         return Some(());
     };
     match (call, rest) {
-        ("leaf", _) => tell_value(told, &leaf),
-        ("least", []) => writeln!(told, "least {}", OrNone(leaf.least().value)).ok(),
-        ("least", [limit]) => tell_least(alloc, told, &leaf, limit.parse().ok()?),
-        ("met", [route]) => tell_met(alloc, told, &leaf, route),
         ("steps", [steps]) => tell_steps(alloc, told, leaf, steps),
-        ("bounder", [number, turns, labels, room, how]) => {
-            tell_bounder(
-                alloc,
-                told,
-                instance,
-                leaf,
-                [number, turns, labels, room, how],
-            )
-        }
-        ("lender", [crew, number, turns, tree, how]) => {
-            tell_lender(
-                alloc,
-                told,
-                instance,
-                leaf,
-                [crew, number, turns, tree, how],
-            )
-        }
-        ("searcher", [first, fault, bound]) => {
-            tell_searcher(alloc, told, instance, leaf, [first, fault, bound])
-        }
-        _ => None,
+        _ => tell_at(alloc, told, instance, &leaf, (call, rest)),
     }
 }

@@ -49,9 +49,8 @@ use crate::instances::{HIGH, tell_build, tell_instance, tell_same, tell_walk, te
 use crate::joins::{tell_joins, tell_lists};
 use crate::leaves::tell_leaf;
 use crate::outcomes::{tell_alone, tell_run};
-use crate::plans::{descend, routes_of, tell_drawn, tell_plan, tell_trees};
-use crate::words::{Routes, pair_of};
-use schedule::Feasible;
+use crate::plans::{descend, plan_of, routes_of, tell_drawn, tell_plan, tell_routes, tell_trees};
+use crate::words::pair_of;
 use solomon_reader::{Instance, read};
 use std::alloc::Global;
 use std::io;
@@ -78,20 +77,24 @@ fn tell_of_plan<R: AllocGlobal + Threads + Sync>(
     words: &[&str],
 ) -> Option<()> {
     let alloc = rt.alloc();
-    if let ["plan", routes @ ..] = words {
-        *held = routes_of(alloc, routes)?;
-        return tell_plan(told, instance, held.clone().ok()?);
-    }
-    let plan = Feasible::check(instance, held.clone().ok()?).ok()?;
     match words {
-        ["routes"] => writeln!(told, "routes{}", Routes(plan.routes())).ok(),
-        ["trees"] => tell_trees(alloc, told, &plan),
-        ["move", kind, from, to] => tell_move(alloc, told, plan, [kind, from, to]),
-        ["bests"] => tell_bests(rt, told, &plan),
-        ["shake", count, draws] => tell_drawn(alloc, told, plan, Some(count.parse().ok()?), draws),
-        ["turn", draws] => tell_drawn(alloc, told, plan, None, draws),
+        ["plan", routes @ ..] => {
+            *held = routes_of(alloc, routes)?;
+            tell_plan(told, instance, held.clone().ok()?)
+        }
+        ["routes"] => tell_routes(told, &plan_of(instance, held)?),
+        ["trees"] => tell_trees(alloc, told, &plan_of(instance, held)?),
+        ["move", kind, from, to] => {
+            tell_move(alloc, told, plan_of(instance, held)?, [kind, from, to])
+        }
+        ["bests"] => tell_bests(rt, told, &plan_of(instance, held)?),
+        ["shake", count, draws] => {
+            let count = Some(count.parse().ok()?);
+            tell_drawn(alloc, told, plan_of(instance, held)?, count, draws)
+        }
+        ["turn", draws] => tell_drawn(alloc, told, plan_of(instance, held)?, None, draws),
         ["descend"] => {
-            *held = descend(rt, told, plan)?;
+            *held = descend(rt, told, plan_of(instance, held)?)?;
             Some(())
         }
         _ => None,
@@ -177,6 +180,25 @@ fn tell_call<R: AllocGlobal + Threads + Wait + Sync>(
     }
 }
 
+/// Takes a line of a script, and makes its call, if it is one.
+fn tell_line<R: Runtime + AllocGlobal + Threads + Wait + Sync>(
+    rt: &R,
+    rows: &mut Rows,
+    state: &mut State,
+    line: &str,
+) -> io::Result<()> {
+    if !rows.take(rt, line)? {
+        return Ok(());
+    }
+    let words: Vec<&str> = line.split_whitespace().collect(rt.alloc())?;
+    let told = &mut rows.told;
+    if tell_call(rt, told, state, line, words.as_slice()).is_none() {
+        told.clear();
+        writeln!(told, "not understood")?;
+    }
+    Ok(())
+}
+
 /// Makes the calls of a script, and prints the rows that don't hold and how many do. No contract: it only prints.
 pub fn tell_rows<R: Runtime + AllocGlobal + Threads + Wait + Sync>(
     rt: &R,
@@ -189,14 +211,7 @@ pub fn tell_rows<R: Runtime + AllocGlobal + Threads + Wait + Sync>(
     };
     let mut rows = Rows::new(rt.alloc());
     for line in script.lines() {
-        if rows.take(rt, line)? {
-            let words: Vec<&str> = line.split_whitespace().collect(rt.alloc())?;
-            let told = &mut rows.told;
-            if tell_call(rt, told, &mut state, line, words.as_slice()).is_none() {
-                told.clear();
-                writeln!(told, "not understood")?;
-            }
-        }
+        tell_line(rt, &mut rows, &mut state, line)?;
     }
     rows.end(rt, "test_library")
 }

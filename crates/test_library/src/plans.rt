@@ -20,6 +20,16 @@ pub(crate) fn routes_of(alloc: Global, words: &[&str]) -> Option<Vec<Vec<u16>>> 
     Some(routes)
 }
 
+/// The plan of routes, if they are one.
+pub(crate) fn plan_of<'i>(instance: &'i Instance, routes: &Vec<Vec<u16>>) -> Option<Feasible<'i>> {
+    Feasible::check(instance, routes.clone().ok()?).ok()
+}
+
+/// Tells the routes of a plan.
+pub(crate) fn tell_routes(told: &mut String, plan: &Feasible<'_>) -> Option<()> {
+    writeln!(told, "routes{}", Routes(plan.routes())).ok()
+}
+
 /// Tells the cost of the plan of routes, or their fault.
 pub(crate) fn tell_plan(
     told: &mut String,
@@ -48,6 +58,21 @@ pub(crate) fn tell_trees(alloc: Global, told: &mut String, plan: &Feasible<'_>) 
     writeln!(told, " left {}", trees.route(0).len()).ok()
 }
 
+/// Descends in threads, and again from another plan in one thread, and tells the costs.
+fn descend_twice<'i, R: AllocGlobal + Threads + Sync>(
+    rt: &R,
+    told: &mut String,
+    searcher: &mut Searcher<'i, Xoshiro256PlusPlus>,
+    again: Feasible<'i>,
+) -> Option<()> {
+    searcher.descend_parallel(rt).ok()?;
+    let in_threads = searcher.plan().cost().get();
+    searcher.go_on_from(again);
+    searcher.descend().ok()?;
+    let cost = searcher.plan().cost().get();
+    writeln!(told, "cost {cost} in_threads {in_threads}").ok()
+}
+
 /// Descends, tells the costs, and answers the routes at the end of the descent in one thread.
 pub(crate) fn descend<R: AllocGlobal + Threads + Sync>(
     rt: &R,
@@ -56,12 +81,7 @@ pub(crate) fn descend<R: AllocGlobal + Threads + Sync>(
 ) -> Option<Vec<Vec<u16>>> {
     let again = plan.try_clone().ok()?;
     let mut searcher = Searcher::new(rt.alloc(), plan, Xoshiro256PlusPlus::seed_from_u64(1));
-    searcher.descend_parallel(rt).ok()?;
-    let in_threads = searcher.plan().cost().get();
-    searcher.go_on_from(again);
-    searcher.descend().ok()?;
-    let cost = searcher.plan().cost().get();
-    writeln!(told, "cost {cost} in_threads {in_threads}").ok()?;
+    descend_twice(rt, told, &mut searcher, again)?;
     Vec::from_clones(rt.alloc(), searcher.plan().routes()).ok()
 }
 
@@ -80,6 +100,5 @@ pub(crate) fn tell_drawn(
         Some(count) => searcher.shake(count).ok()?,
         None => searcher.turn().ok()?,
     }
-    let routes = Vec::from_clones(alloc, searcher.plan().routes()).ok()?;
-    writeln!(told, "routes{}", Routes(routes.as_slice())).ok()
+    tell_routes(told, searcher.plan())
 }

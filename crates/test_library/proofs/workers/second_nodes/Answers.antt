@@ -6,5 +6,5 @@ use Rattle.node_pool.specs.Ends.{deque_at}
 use Rattle.test_library.proofs.workers.second_nodes.Goals as goal
 
 pub new-requires : goal.new-requires
-new-requires c = let found = (All-pop (λ p. All (λ t. FitsAt (deque_at t) p) c.args.deques.now) c.args.passes.items c.pop-3.new.self.items
-    c.pop-3.result c.pop-3.ensures.items c.requires).1 in subst (λ r. IfSome r (λ p. All (λ t. FitsAt (deque_at t) p) c.args.deques.now)) c.in-Some.is found
+new-requires c = let found = (All-pop (λ p. All (λ t. FitsAt (deque_at t) p) c.args.deques.now) c.args.passes.items c.pop.new.self.items
+    c.pop.result c.pop.ensures.items c.requires).1 in subst (λ r. IfSome r (λ p. All (λ t. FitsAt (deque_at t) p) c.args.deques.now)) c.in-Some.is found

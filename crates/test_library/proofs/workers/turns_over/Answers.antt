@@ -9,15 +9,3 @@ invariant_of-worker c =
     let ceiling = c.in-Ok.ceiling in
     let taken = (All-pop (IsNewSeat ceiling) c.in-Ok.seats.items c.pop.new.self.items c.pop.result c.pop.ensures.items c.in-Ok.ensures.seats).1 in
     record { own = (subst (λ r. IfSome r (IsNewSeat ceiling)) c.in-Some.is taken).0 }
-
-pub invariant_of-worker-in-Bound : goal.invariant_of-worker-in-Bound
-invariant_of-worker-in-Bound c =
-    let ceiling = c.in-Ok.ceiling in
-    let taken = (All-pop (IsNewSeat ceiling) c.in-Ok.seats.items c.pop.new.self.items c.pop.result c.pop.ensures.items c.in-Ok.ensures.seats).1 in
-    record { own = (subst (λ r. IfSome r (IsNewSeat ceiling)) c.in-Some.is taken).0 }
-
-pub invariant_of-worker-in-Lend : goal.invariant_of-worker-in-Lend
-invariant_of-worker-in-Lend c =
-    let ceiling = c.in-Ok.ceiling in
-    let taken = (All-pop (IsNewSeat ceiling) c.in-Ok.seats.items c.pop.new.self.items c.pop.result c.pop.ensures.items c.in-Ok.ensures.seats).1 in
-    record { own = (subst (λ r. IfSome r (IsNewSeat ceiling)) c.in-Some.is taken).0 }

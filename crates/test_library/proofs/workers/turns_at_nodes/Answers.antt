@@ -1,5 +1,5 @@
 use Rattle.search_workers.proofs.Fitting.{fits_all}
-use Rattle.test_library.proofs.workers.tell_lender.Goals as goal
+use Rattle.test_library.proofs.workers.turns_at_nodes.Goals as goal
 
 -- the passes were made for these deques
 pub second_nodes-requires : goal.second_nodes-requires
