@@ -3,24 +3,25 @@
 //! second is made with what a refusal of the first gave back.
 
 use crate::given::tell_given;
-use crate::measures::searcher_of;
-use crate::starts::{Host, WRONG, made};
+use crate::measures::{PlanSearcher, searcher_of};
+use crate::starts::{Host, WRONG, made, tell_line, tell_ready};
 use branching::Region;
 use certificate::Cert;
 use checker::check;
 use insertion::{Built, Weights, build};
 use labelling::{Hints, least};
-use moves::{Move, Place, apply};
+use moves::{Move, MoveFault, Place, apply};
 use prices::{Priced, improve};
 use schedule::Feasible;
 use solomon_reader::{Instance, read};
+use std::alloc::{AllocError, Global};
 use std::fmt::{Debug, Display};
 use std::sync::Wait;
 use std::thread::Threads;
 use std::{fmt, io};
 use tenths::MemorySink;
 use test_starts::{DEPOT, IN_LINE, instance_text, plan_at};
-use vrptw::{NoGate, Settings, solve_from};
+use vrptw::{Answer, NoGate, Settings, StartFault, solve_from};
 
 /// Two customers to the right of the depot, and two above it.
 const CROSSED: &str =
@@ -53,7 +54,7 @@ const CANDIDATE: Move = Move::TwoOptStar {
 const CALLS: u32 = 2;
 
 /// A plan's cost in tenths, and its routes.
-#[derive(Drop)]
+#[derive(Clone, Copy)]
 struct Shown<'a, 'i>(&'a Feasible<'i>);
 
 impl Display for Shown<'_, '_> {
@@ -65,45 +66,84 @@ impl Display for Shown<'_, '_> {
 
 /// Builds a plan, and prints what came of it.
 fn tell_built<R: Host>(rt: &R, instance: &Instance) -> io::Result<()> {
-    match build(rt.alloc(), instance, &Weights::plain()) {
-        Ok(built) => match &built {
-            Built::Whole(plan) => println!(rt; "Whole {}", Shown(plan)),
-            Built::Part { .. } => println!(rt; "Part"),
+    match &build(rt.alloc(), instance, &Weights::plain()) {
+        Ok(Built::Whole(plan)) => println!(rt; "Whole {}", Shown(plan)),
+        Ok(Built::Part { .. }) => println!(rt; "Part"),
+        Err(fault) => tell_line(rt, fault),
+    }
+}
+
+/// What came of a move: the plan after it, or the plan that came back, and why.
+#[derive(Drop)]
+struct Moved<'i> {
+    plan: Feasible<'i>,
+    fault: Option<MoveFault>,
+}
+
+impl<'i> Moved<'i> {
+    /// The plan that came back, or else another.
+    fn back_or(self, other: Feasible<'i>) -> Feasible<'i> {
+        match self.fault {
+            Some(_) => self.plan,
+            None => other,
+        }
+    }
+}
+
+impl Display for Moved<'_> {
+    fn fmt<W: fmt::Write>(&self, f: &mut fmt::Formatter<W>) -> fmt::Result {
+        let plan = Shown(&self.plan);
+        match self.fault {
+            None => write!(f, "Ok {plan}"),
+            Some(fault) => write!(f, "{fault} back {plan}"),
+        }
+    }
+}
+
+/// Makes the move.
+fn move_in(alloc: Global, plan: Feasible<'_>) -> Moved<'_> {
+    match apply(alloc, plan, &CANDIDATE) {
+        Ok(plan) => Moved { plan, fault: None },
+        Err((plan, fault)) => Moved {
+            plan,
+            fault: Some(fault),
         },
-        Err(fault) => println!(rt; "{fault}"),
     }
 }
 
 /// Makes the move twice, once more in the plan that came back, or else in another, and prints what came of it.
+fn tell_moved<'i, R: Host>(rt: &R, plan: Feasible<'i>, other: Feasible<'i>) -> io::Result<()> {
+    let first = move_in(rt.alloc(), plan);
+    tell_line(rt, &first)?;
+    let second = move_in(rt.alloc(), first.back_or(other));
+    tell_line(rt, &second)
+}
+
+/// Makes the move twice, and prints what came of it.
 fn tell_applied<R: Host>(rt: &R, instance: &Instance) -> io::Result<()> {
-    let mut plan = made(plan_at(rt.alloc(), instance, &ROUTES))?;
-    let mut other = Some(made(plan_at(rt.alloc(), instance, &ROUTES))?);
-    println!(rt; "ready")?;
-    for _ in 0..CALLS {
-        plan = match apply(rt.alloc(), plan, &CANDIDATE) {
-            Ok(after) => {
-                println!(rt; "Ok {}", Shown(&after))?;
-                other.take().unwrap_or(after)
-            }
-            Err((same, fault)) => {
-                println!(rt; "{fault} back {}", Shown(&same))?;
-                same
-            }
-        };
+    let plan = made(plan_at(rt.alloc(), instance, &ROUTES))?;
+    let other = made(plan_at(rt.alloc(), instance, &ROUTES))?;
+    tell_ready(rt)?;
+    tell_moved(rt, plan, other)
+}
+
+/// Descends, and prints what came of it.
+fn tell_descent<R: Host>(rt: &R, searcher: &mut PlanSearcher<'_>) -> io::Result<()> {
+    let came = searcher.descend();
+    let plan = Shown(searcher.plan());
+    match came {
+        Ok(()) => println!(rt; "Ok {plan}"),
+        Err(fault) => println!(rt; "{fault} held {plan}"),
     }
-    Ok(())
 }
 
 /// Descends twice from the plan whose routes cross, and prints what came of it.
 fn tell_descents<R: Host>(rt: &R, instance: &Instance) -> io::Result<()> {
     let plan = made(plan_at(rt.alloc(), instance, &ROUTES))?;
-    println!(rt; "ready")?;
+    tell_ready(rt)?;
     let mut searcher = searcher_of(rt.alloc(), plan);
     for _ in 0..CALLS {
-        match searcher.descend() {
-            Ok(()) => println!(rt; "Ok {}", Shown(searcher.plan()))?,
-            Err(fault) => println!(rt; "{fault} held {}", Shown(searcher.plan()))?,
-        }
+        tell_descent(rt, &mut searcher)?;
     }
     Ok(())
 }
@@ -114,30 +154,47 @@ const PRICES: [i64; 2] = [0, 1_100_000];
 /// Steps of which each raises the value.
 const STEPS: [i64; 3] = [64_000, 32_000, 16_000];
 
+/// Prints a relaxed route.
+fn tell_found<R: Host>(rt: &R, found: &labelling::Least) -> io::Result<()> {
+    println!(rt; "Ok {:?} {:?}", found.value, found.route)
+}
+
 /// Finds a relaxed route of least reduced cost, and prints what came of it.
 fn tell_least<R: Host>(rt: &R, instance: &Instance) -> io::Result<()> {
     if instance.customer_count() != 2 {
         return Err(io::Error::from(WRONG));
     }
     let region = Region::root(rt.alloc(), 2);
-    match least(rt.alloc(), instance, &region, &PRICES, 0, None) {
-        Ok(found) => println!(rt; "Ok {:?} {:?}", found.value, found.route),
-        Err(fault) => println!(rt; "{fault}"),
+    match &least(rt.alloc(), instance, &region, &PRICES, 0, None) {
+        Ok(found) => tell_found(rt, found),
+        Err(fault) => tell_line(rt, fault),
     }
+}
+
+/// The root of an instance, for one neighbour.
+fn root_of<'i>(alloc: Global, instance: &'i Instance) -> io::Result<Priced<'i>> {
+    made(Priced::root(alloc, instance, 1, None, &Hints::none(alloc)).ok())
+}
+
+/// Prints prices and their value.
+fn tell_best<R: Host>(rt: &R, best: &Priced<'_>) -> io::Result<()> {
+    let (value, prices) = (best.value(), best.prices());
+    println!(rt; "best {value} {prices:?}")
+}
+
+/// Improves prices, and prints the best that were found.
+fn tell_improvement<R: Host>(rt: &R, priced: Priced<'_>) -> io::Result<()> {
+    let best = improve(rt.alloc(), priced, &STEPS, None);
+    tell_best(rt, &best)
 }
 
 /// Improves the prices of two roots, and prints the best that were found.
 fn tell_improved<R: Host>(rt: &R, instance: &Instance) -> io::Result<()> {
-    let hints = Hints::none(rt.alloc());
-    let priced = made(Priced::root(rt.alloc(), instance, 1, None, &hints).ok())?;
-    let other = made(Priced::root(rt.alloc(), instance, 1, None, &hints).ok())?;
-    println!(rt; "ready")?;
-    for priced in [priced, other] {
-        let best = improve(rt.alloc(), priced, &STEPS, None);
-        let (value, prices) = (best.value(), best.prices());
-        println!(rt; "best {value} {prices:?}")?;
-    }
-    Ok(())
+    let first = root_of(rt.alloc(), instance)?;
+    let second = root_of(rt.alloc(), instance)?;
+    tell_ready(rt)?;
+    tell_improvement(rt, first)?;
+    tell_improvement(rt, second)
 }
 
 /// A tree of three leaves, whose bound is the cost of the solution.
@@ -162,6 +219,19 @@ fn taken(sink: &MemorySink) -> &str {
     str::from_utf8(sink.as_slice()).unwrap_or("")
 }
 
+/// Prints an answer of the solver, and both texts in quotes.
+fn tell_answer<R: Host>(
+    rt: &R,
+    outcome: &Result<Answer, StartFault>,
+    plan: &str,
+    tree: &str,
+) -> io::Result<()> {
+    match outcome {
+        Ok(answer) => println!(rt; "Ok {answer:?} {plan:?} {tree:?}"),
+        Err(fault) => println!(rt; "{fault} {plan:?} {tree:?}"),
+    }
+}
+
 /// Solves an instance by few turns of one worker of each kind, from a plan if there is one, and prints the answer
 /// and both texts in quotes.
 fn tell_solved<R: Host + Threads + Wait>(
@@ -182,10 +252,17 @@ fn tell_solved<R: Host + Threads + Wait>(
         &mut first,
         &mut second,
     );
-    let (plan, tree) = (taken(&first), taken(&second));
+    tell_answer(rt, &outcome, taken(&first), taken(&second))
+}
+
+/// Writes a certificate, and prints what came of it and its text in quotes.
+fn tell_written<R: Host>(rt: &R, cert: &Cert) -> io::Result<()> {
+    let mut sink = MemorySink::new(rt.alloc());
+    let outcome = certificate::write(cert, &mut sink);
+    let text = taken(&sink);
     match outcome {
-        Ok(answer) => println!(rt; "Ok {answer:?} {plan:?} {tree:?}"),
-        Err(fault) => println!(rt; "{fault} {plan:?} {tree:?}"),
+        Ok(()) => println!(rt; "Ok {text:?}"),
+        Err(fault) => println!(rt; "{fault} {text:?}"),
     }
 }
 
@@ -203,15 +280,7 @@ fn tell_once<R: Host + Threads + Wait>(
         "build" => tell_built(rt, instance),
         "least" => tell_least(rt, instance),
         "read" => tell_outcome(rt, &certificate::read(alloc, CERTIFICATE)),
-        "write" => {
-            let mut sink = MemorySink::new(alloc);
-            let outcome = certificate::write(cert, &mut sink);
-            let text = taken(&sink);
-            match outcome {
-                Ok(()) => println!(rt; "Ok {text:?}"),
-                Err(fault) => println!(rt; "{fault} {text:?}"),
-            }
-        }
+        "write" => tell_written(rt, cert),
         "check" => tell_outcome(rt, &check(alloc, text, CERTIFICATE, solution, STATES)),
         "solve_two" | "solve_three" => tell_solved(rt, text, None),
         "solve_from" => tell_solved(rt, text, solution),
@@ -219,8 +288,39 @@ fn tell_once<R: Host + Threads + Wait>(
     }
 }
 
-/// Makes the call of a name twice, for the instance that it needs.
-fn tell<R: Host + Threads + Wait>(rt: &R, name: &str) -> io::Result<()> {
+/// Makes a call twice to which nothing is given back.
+fn tell_twice<R: Host + Threads + Wait>(
+    rt: &R,
+    name: &str,
+    text: &[u8],
+    instance: &Instance,
+) -> io::Result<()> {
+    let cert = made(certificate::read(rt.alloc(), CERTIFICATE).ok())?;
+    tell_ready(rt)?;
+    for _ in 0..CALLS {
+        tell_once(rt, name, text, instance, &cert)?;
+    }
+    Ok(())
+}
+
+/// Makes the call of a name twice, for the instance that is read from a text.
+fn tell_on<R: Host + Threads + Wait>(
+    rt: &R,
+    name: &str,
+    text: &[u8],
+    instance: &Instance,
+) -> io::Result<()> {
+    match name {
+        "apply" => tell_applied(rt, instance),
+        "descend" => tell_descents(rt, instance),
+        "improve" => tell_improved(rt, instance),
+        "offer" | "reprice" | "split" => tell_given(rt, instance, name),
+        _ => tell_twice(rt, name, text, instance),
+    }
+}
+
+/// The text of the instance that the call of a name needs.
+fn text_of(alloc: Global, name: &str) -> Result<String, AllocError> {
     let (fleet, capacity, depot, customers) = match name {
         "build" | "apply" | "descend" => (2, 4, DEPOT, CROSSED),
         "least" | "improve" => (1, 3, DEPOT, NEAR),
@@ -228,22 +328,14 @@ fn tell<R: Host + Threads + Wait>(rt: &R, name: &str) -> io::Result<()> {
         "solve_two" => (2, 1, DEPOT, IN_LINE),
         _ => (2, 2, DEPOT, IN_LINE),
     };
-    let text = instance_text(rt.alloc(), fleet, capacity, depot, customers);
-    let text = made(text.ok())?;
+    instance_text(alloc, fleet, capacity, depot, customers)
+}
+
+/// Makes the call of a name twice, for the instance that it needs.
+fn tell<R: Host + Threads + Wait>(rt: &R, name: &str) -> io::Result<()> {
+    let text = made(text_of(rt.alloc(), name).ok())?;
     let instance = made(read(rt.alloc(), text.as_bytes()).ok())?;
-    match name {
-        "apply" => return tell_applied(rt, &instance),
-        "descend" => return tell_descents(rt, &instance),
-        "improve" => return tell_improved(rt, &instance),
-        "offer" | "reprice" | "split" => return tell_given(rt, &instance, name),
-        _ => {}
-    }
-    let cert = made(certificate::read(rt.alloc(), CERTIFICATE).ok())?;
-    println!(rt; "ready")?;
-    for _ in 0..CALLS {
-        tell_once(rt, name, text.as_bytes(), &instance, &cert)?;
-    }
-    Ok(())
+    tell_on(rt, name, text.as_bytes(), &instance)
 }
 
 pub(crate) fn tell_calls<R: Host + Threads + Wait>(rt: &R, names: &[&str]) -> io::Result<()> {

@@ -44,11 +44,16 @@ fn tell_all<R: Host + Threads + Wait>(rt: &R, words: &[&str]) -> io::Result<()> 
     Ok(())
 }
 
-fn main(rt: HostRuntime) -> io::Result<()> {
-    let words: Vec<String> = env::args(&rt)?.skip(1).collect(rt.alloc())?;
+/// Prints what the program's words ask for.
+fn tell_words<R: Host + Threads + Wait>(rt: &R, words: &[String]) -> io::Result<()> {
     let words: Vec<&str> = words.iter().map(|word| word.as_str()).collect(rt.alloc())?;
     if words.is_empty() {
         return Err(io::Error::from(WRONG));
     }
-    tell_all(&rt, words.as_slice())
+    tell_all(rt, words.as_slice())
+}
+
+fn main(rt: HostRuntime) -> io::Result<()> {
+    let words: Vec<String> = env::args(&rt)?.skip(1).collect(rt.alloc())?;
+    tell_words(&rt, words.as_slice())
 }

@@ -1,9 +1,9 @@
 //! Descents from the plan that insertion builds, in one thread and in several, turns, and closings: what they
 //! come to, and how long descents and turns take.
 
-use crate::starts::{Host, WRONG, made};
+use crate::starts::{Host, WRONG, made, tell_line};
 use branching::TreeNode;
-use closing::close_alone;
+use closing::{Found, close_alone};
 use insertion::{Built, Weights, build};
 use rand_core::SeedableRng;
 use rand_xoshiro::Xoshiro256PlusPlus;
@@ -40,6 +40,23 @@ fn tell_cost<R: Host>(
     println!(rt; "{name} {cost}")
 }
 
+/// Descends from a plan, in one thread or in several: the microseconds that it takes.
+fn timed_descent<'i, R: Host + Threads>(
+    rt: &R,
+    searcher: &mut PlanSearcher<'i>,
+    plan: &Feasible<'i>,
+    name: &str,
+) -> io::Result<u128> {
+    searcher.go_on_from(made(plan.try_clone().ok())?);
+    let begin = Instant::now(rt)?;
+    let descended = match name {
+        "parallel" => searcher.descend_parallel(rt),
+        _ => searcher.descend(),
+    };
+    made(descended.ok())?;
+    Ok(begin.elapsed(rt)?.as_micros())
+}
+
 /// Descends some times from a plan, in one thread or in several, and prints what that comes to.
 fn tell_descent<'i, R: Host + Threads>(
     rt: &R,
@@ -50,14 +67,7 @@ fn tell_descent<'i, R: Host + Threads>(
 ) -> io::Result<()> {
     let mut least = u128::MAX;
     for _ in 0..RUNS {
-        searcher.go_on_from(made(plan.try_clone().ok())?);
-        let begin = Instant::now(rt)?;
-        let descended = match name {
-            "parallel" => searcher.descend_parallel(rt),
-            _ => searcher.descend(),
-        };
-        made(descended.ok())?;
-        least = least.min(begin.elapsed(rt)?.as_micros());
+        least = least.min(timed_descent(rt, searcher, plan, name)?);
     }
     tell_cost(rt, name, searcher, least, times)
 }
@@ -77,42 +87,91 @@ fn tell_turned<R: Host>(
     tell_cost(rt, "turns", searcher, microseconds, times)
 }
 
-/// Prints what descents from the plan that insertion builds, in one thread and in several, and then turns come
-/// to, and the routes then.
+/// Prints each route of a plan.
+fn tell_routes<R: Host>(rt: &R, routes: &[Vec<u16>]) -> io::Result<()> {
+    for route in routes {
+        println!(rt; "route {route:?}")?;
+    }
+    Ok(())
+}
+
+/// Prints what descents from a plan, in one thread and in several, and then turns come to, and the routes then.
+fn tell_searched<'i, R: Host + Threads>(
+    rt: &R,
+    searcher: &mut PlanSearcher<'i>,
+    plan: &Feasible<'i>,
+    turns: u32,
+    times: bool,
+) -> io::Result<()> {
+    tell_descent(rt, searcher, plan, "descent", times)?;
+    tell_descent(rt, searcher, plan, "parallel", times)?;
+    tell_turned(rt, searcher, turns, times)?;
+    tell_routes(rt, searcher.plan().routes())
+}
+
+/// Prints what a search from a plan comes to.
+fn tell_search<R: Host + Threads>(
+    rt: &R,
+    plan: &Feasible<'_>,
+    turns: u32,
+    times: bool,
+) -> io::Result<()> {
+    let held = made(plan.try_clone().ok())?;
+    let mut searcher = searcher_of(rt.alloc(), held);
+    tell_searched(rt, &mut searcher, plan, turns, times)
+}
+
+/// Prints what a search from the plan that insertion builds comes to.
 fn tell_turns<R: Host + Threads>(
     rt: &R,
     instance: &Instance,
     turns: u32,
     times: bool,
 ) -> io::Result<()> {
-    let plan = match build(rt.alloc(), instance, &Weights::plain()) {
-        Ok(Built::Whole(plan)) => plan,
-        _ => return println!(rt; "no plan"),
-    };
-    let mut searcher = searcher_of(rt.alloc(), made(plan.try_clone().ok())?);
-    tell_descent(rt, &mut searcher, &plan, "descent", times)?;
-    tell_descent(rt, &mut searcher, &plan, "parallel", times)?;
-    tell_turned(rt, &mut searcher, turns, times)?;
-    for route in searcher.plan().routes() {
-        println!(rt; "route {route:?}")?;
+    match &build(rt.alloc(), instance, &Weights::plain()) {
+        Ok(Built::Whole(plan)) => tell_search(rt, plan, turns, times),
+        _ => println!(rt; "no plan"),
     }
-    Ok(())
 }
 
-/// Closes an instance, and prints the bound in tenths and the leaves of the tree.
+/// How many leaves a tree has.
+fn leaf_count(nodes: &[TreeNode]) -> usize {
+    let leaves = nodes.iter();
+    leaves
+        .filter(|node| matches!(node, TreeNode::Leaf(_)))
+        .count()
+}
+
+/// Prints the bound of a closed instance in tenths and the leaves of its tree.
+fn tell_closed<R: Host>(rt: &R, closed: &Found<'_>) -> io::Result<()> {
+    let (bound, leaves) = (closed.bound.get(), leaf_count(closed.nodes.as_slice()));
+    println!(rt; "bound {bound} leaves {leaves}")
+}
+
+/// Closes an instance, and prints what that comes to.
 fn tell_closing<R: Host>(rt: &R, instance: &Instance, neighbours: u32) -> io::Result<()> {
     if neighbours > MOST_NEIGHBOURS {
         return Err(io::Error::from(WRONG));
     }
-    match close_alone(rt.alloc(), instance, neighbours, MOST_LEAVES) {
-        Ok(closed) => {
-            let (bound, nodes) = (closed.bound.get(), closed.nodes.iter());
-            let leaves = nodes
-                .filter(|node| matches!(node, TreeNode::Leaf(_)))
-                .count();
-            println!(rt; "bound {bound} leaves {leaves}")
-        }
-        Err(fault) => println!(rt; "{fault}"),
+    match &close_alone(rt.alloc(), instance, neighbours, MOST_LEAVES) {
+        Ok(closed) => tell_closed(rt, closed),
+        Err(fault) => tell_line(rt, fault),
+    }
+}
+
+/// Prints a measure of an instance, with the number behind it.
+fn tell_number<R: Host + Threads>(
+    rt: &R,
+    mode: &str,
+    instance: &Instance,
+    number: &str,
+) -> io::Result<()> {
+    let number = made(number.parse::<u32>().ok())?;
+    match mode {
+        "turns" => tell_turns(rt, instance, number, false),
+        "times" => tell_turns(rt, instance, number, true),
+        "closing" => tell_closing(rt, instance, number),
+        _ => Err(io::Error::from(WRONG)),
     }
 }
 
@@ -125,11 +184,5 @@ pub(crate) fn tell_measure<R: Host + Threads>(
 ) -> io::Result<()> {
     let text = fs::read(rt, path)?;
     let instance = made(read(rt.alloc(), text.as_slice()).ok())?;
-    let number = made(number.parse::<u32>().ok())?;
-    match mode {
-        "turns" => tell_turns(rt, &instance, number, false),
-        "times" => tell_turns(rt, &instance, number, true),
-        "closing" => tell_closing(rt, &instance, number),
-        _ => Err(io::Error::from(WRONG)),
-    }
+    tell_number(rt, mode, &instance, number)
 }

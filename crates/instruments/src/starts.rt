@@ -1,5 +1,6 @@
 //! What all modes need.
 
+use std::fmt::Display;
 use std::io;
 use std::rt::Runtime;
 
@@ -17,4 +18,14 @@ pub(crate) fn made<T>(found: Option<T>) -> io::Result<T> {
         Some(value) => Ok(value),
         None => Err(io::Error::from(WRONG)),
     }
+}
+
+/// Prints a line.
+pub(crate) fn tell_line<R: Host, T: Display>(rt: &R, line: &T) -> io::Result<()> {
+    println!(rt; "{line}")
+}
+
+/// Prints that all stands which a call needs.
+pub(crate) fn tell_ready<R: Host>(rt: &R) -> io::Result<()> {
+    println!(rt; "ready")
 }
