@@ -46,8 +46,9 @@ class Counted:
             (load * 10 ** digits).denominator == 1 for load in [self.whole, *self.loads])), None)
 
     def refuses(self, fleet):
-        """Whether so many vehicles hold all demands, and don't once these are rounded."""
-        return sum(self.loads) <= fleet * self.whole and sum(self.counts) > fleet * self.capacity
+        """Whether so many vehicles hold all demands, and don't once these are rounded. Where none is rounded, each fits
+        where it did."""
+        return self.lost > 0 and sum(self.loads) <= fleet * self.whole and sum(self.counts) > fleet * self.capacity
 
     def words(self):
         """The demands in words, for a table of names."""
