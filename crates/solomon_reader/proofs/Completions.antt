@@ -9,7 +9,10 @@ use Rattle.solomon_reader.specs.Problem.{Problem, IsCustomer, demand, due}
 use Rattle.solomon_reader.specs.Distance.{distance}
 use Rattle.solomon_reader.specs.Plan.{Arc, Walks, load_of, arcs_from}
 use Rattle.solomon_reader.specs.Region.{IsAllowed}
-use Rattle.solomon_reader.specs.Relaxed.{IsRelaxed, paid_from, reduced_cost_by}
+use Rattle.solomon_reader.specs.Relaxed.{IsRelaxed, paid_from}
+use Rattle.solomon_reader.specs.SubsetRows.{PricedRow, charged_at, bits_after, charged_from, debt}
+use Rattle.solomon_reader.specs.PricedLeaf.{charged_cost_by}
+use Rattle.solomon_reader.specs.RowLaws.{charged_is, no_debt, debt_through, debt_step}
 use Rattle.solomon_reader.specs.Remembering.{near, IsFree, Forgets, remember}
 use Rattle.solomon_reader.specs.States.{Pricing, State, start, arc_value, begins, step, CanStep, Completes, value_with, StartsWith, Reaches, IsAtMost, IsAsGood, IsSameState}
 use Rattle.solomon_reader.proofs.Places.{forgets_of, free_of, near_is, is_near}
@@ -82,13 +85,22 @@ module _ (q : Pricing) where
       }
 
   value_from : (r : List ℕ) (a : State)
-      → value_with q a r ≡ a.cost +ℤ (pos (1000 * sum_by (arc_cost q.problem) (arcs_from a.last r)) -ℤ paid_from q.paid a.last r)
+      → value_with q a r
+      ≡ (a.cost +ℤ (pos (1000 * sum_by (arc_cost q.problem) (arcs_from a.last r)) -ℤ paid_from q.paid a.last r)) +ℤ pos (charged_from q.problem q.neighbours q.rows a.bits r)
   value_from [] a = omega (arith, ints, sum_by-cons (arc_cost q.problem) (a.last, 0) [])
   value_from (j ∷ r) a =
-      omega (arith, ints, value_from r (step q a j), sum_by-cons (arc_cost q.problem) (a.last, j) (arcs_from j r))
+      let rest : value_with q a (j ∷ r) ≡
+      (((a.cost +ℤ arc_value q.problem q.paid a.last j) +ℤ pos (charged_at q.rows a.bits j)) +ℤ (pos (1000 * sum_by (arc_cost q.problem) (arcs_from j r)) -ℤ paid_from q.paid j r))
+      +ℤ pos (charged_from q.problem q.neighbours q.rows (bits_after q.problem q.neighbours q.rows a.bits j) r) = value_from r (step q a j) in
+      let charge : charged_from q.problem q.neighbours q.rows a.bits (j ∷ r)
+      ≡ charged_at q.rows a.bits j + charged_from q.problem q.neighbours q.rows (bits_after q.problem q.neighbours q.rows a.bits j) r = refl in
+      omega (arith, ints, rest, charge, sum_by-cons (arc_cost q.problem) (a.last, j) (arcs_from j r))
 
-  pub value_is : (r : List ℕ) → value_with q (start q) r ≡ reduced_cost_by q.problem q.paid r
-  value_is r = omega (arith, ints, value_from r (start q))
+  pub value_is : (r : List ℕ) → value_with q (start q) r ≡ charged_cost_by q.problem q.neighbours q.paid q.rows r
+  value_is r =
+      let whole : value_with q (start q) r ≡
+      (pos 0 +ℤ (pos (1000 * sum_by (arc_cost q.problem) (arcs_from 0 r)) -ℤ paid_from q.paid 0 r)) +ℤ pos (charged_from q.problem q.neighbours q.rows (λ _. false) r) = value_from r (start q) in
+      omega (arith, ints, whole, charged_is q.problem q.neighbours q.rows r)
 
   pub reaches_none : Reaches q [] (start q)
   reaches_none = record { completes = λ s h. h; value = λ s. refl }
@@ -124,30 +136,47 @@ remember_less f m n j u less h = elim (or_cases _ _ h) [
   | inr t ↦ (let both = and_parts _ _ t in or_right _ _ (and_from _ _ (less u both.0) both.1))
 ]
 
-pub good_itself : (a : State) → IsAsGood a a
-good_itself a = record { last = refl; time = omega arith; load = omega arith; cost = omega (arith, ints); memory = λ u h. h }
+pub good_itself : (rows : List PricedRow) (a : State) → IsAsGood rows a a
+good_itself rows a = record {
+  last = refl;
+  time = omega arith;
+  load = omega arith;
+  cost = omega (arith, ints, no_debt rows a.bits a.bits (λ i h. h));
+  memory = λ u h. h;
+}
 
-pub good_same : (a b : State) → IsSameState a b → IsAsGood a b
-good_same a b h = record { last = h.last; time = omega (arith, h.time); load = omega (arith, h.load); cost = rw h.cost (omega (arith, ints)); memory = λ u t. sym (h.memory u) ∙ t }
+pub good_same : (rows : List PricedRow) (a b : State) → IsSameState a b → IsAsGood rows a b
+good_same rows a b h = record {
+  last = h.last;
+  time = omega (arith, h.time);
+  load = omega (arith, h.load);
+  cost = omega (arith, ints, h.cost, no_debt rows a.bits b.bits (λ i t. sym (h.bits i) ∙ t));
+  memory = λ u t. sym (h.memory u) ∙ t;
+}
 
-pub good_back : (a b : State) → IsSameState a b → IsAsGood b a
-good_back a b h = record { last = sym h.last; time = omega (arith, h.time); load = omega (arith, h.load); cost = rw h.cost (omega (arith, ints)); memory = λ u t. h.memory u ∙ t }
+pub good_back : (rows : List PricedRow) (a b : State) → IsSameState a b → IsAsGood rows b a
+good_back rows a b h = record {
+  last = sym h.last;
+  time = omega (arith, h.time);
+  load = omega (arith, h.load);
+  cost = omega (arith, ints, h.cost, no_debt rows b.bits a.bits (λ i t. h.bits i ∙ t));
+  memory = λ u t. h.memory u ∙ t;
+}
 
-pub good_through : (a b c : State) → IsAsGood a b → IsAsGood b c → IsAsGood a c
-good_through a b c h e = record {
+pub good_through : (rows : List PricedRow) (a b c : State) → IsAsGood rows a b → IsAsGood rows b c → IsAsGood rows a c
+good_through rows a b c h e = record {
   last = h.last ∙ e.last;
   time = omega (arith, h.time, e.time);
   load = omega (arith, h.load, e.load);
-  cost =
-      omega (arith, ints, h.cost, e.cost);
+  cost = omega (arith, ints, h.cost, e.cost, debt_through rows a.bits b.bits c.bits);
   memory = λ u t. e.memory u (h.memory u t);
 }
 
 module _ (q : Pricing) where
-  begins_sooner : (a b : State) (j : ℕ) → IsAsGood a b → begins q.problem a j ≤ begins q.problem b j
+  begins_sooner : (a b : State) (j : ℕ) → IsAsGood q.rows a b → begins q.problem a j ≤ begins q.problem b j
   begins_sooner a b j good = omega (arith, good.time, ap (λ (i : ℕ). distance q.problem i j) good.last)
 
-  can_step_too : (a b : State) (j : ℕ) → IsAsGood a b → CanStep q b j → CanStep q a j
+  can_step_too : (a b : State) (j : ℕ) → IsAsGood q.rows a b → CanStep q b j → CanStep q a j
   can_step_too a b j good can = record {
     customer = can.customer;
     allowed = rw good.last can.allowed;
@@ -156,29 +185,35 @@ module _ (q : Pricing) where
     fresh = false_from_ne_true _ (λ t. both_ways _ can.fresh (good.memory j t));
   }
 
-  step_as_good : (a b : State) (j : ℕ) → IsAsGood a b → IsAsGood (step q a j) (step q b j)
+  step_as_good : (a b : State) (j : ℕ) → IsAsGood q.rows a b → IsAsGood q.rows (step q a j) (step q b j)
   step_as_good a b j good = record {
     last = refl;
     time = omega (arith, begins_sooner a b j good);
     load = omega (arith, good.load);
-    cost = omega (arith, ints, good.cost, ap (λ (i : ℕ). arc_value q.problem q.paid i j) good.last);
+    cost = omega (
+      arith,
+      ints,
+      good.cost,
+      ap (λ (i : ℕ). arc_value q.problem q.paid i j) good.last,
+      debt_step q.problem q.neighbours q.rows a.bits b.bits j,
+    );
     memory = λ u t. remember_less (near q.problem q.neighbours) a.memory b.memory j u good.memory t;
   }
 
-  pub completes_too : (s : List ℕ) (a b : State) → IsAsGood a b → Completes q b s → Completes q a s
+  pub completes_too : (s : List ℕ) (a b : State) → IsAsGood q.rows a b → Completes q b s → Completes q a s
   completes_too [] a b good h = record { allowed = rw good.last h.allowed; closing = omega (arith, good.time, h.closing, ap (λ (i : ℕ). distance q.problem i 0) good.last) }
   completes_too (j ∷ s) a b good h =
       (can_step_too a b j good h.0, completes_too s (step q a j) (step q b j) (step_as_good a b j good) h.1)
 
-  pub value_no_greater : (s : List ℕ) (a b : State) → IsAsGood a b → value_with q a s ≤ℤ value_with q b s
+  pub value_no_greater : (s : List ℕ) (a b : State) → IsAsGood q.rows a b → value_with q a s ≤ℤ value_with q b s
   value_no_greater [] a b good = omega (arith, ints, good.cost, ap (λ (i : ℕ). distance q.problem i 0) good.last)
   value_no_greater (j ∷ s) a b good = value_no_greater s (step q a j) (step q b j) (step_as_good a b j good)
 
   pub reaches_same : (route : List ℕ) (a b : State) → IsSameState a b → Reaches q route b → Reaches q route a
   reaches_same route a b same reaches = record {
-    completes = λ s h. reaches.completes s (completes_too s b a (good_back a b same) h);
+    completes = λ s h. reaches.completes s (completes_too s b a (good_back q.rows a b same) h);
     value = λ s. reaches.value s ∙ equal s;
   }
     where
       equal : (s : List ℕ) → value_with q b s ≡ value_with q a s
-      equal s = omega (arith, ints, value_no_greater s a b (good_same a b same), value_no_greater s b a (good_back a b same))
+      equal s = omega (arith, ints, value_no_greater s a b (good_same q.rows a b same), value_no_greater s b a (good_back q.rows a b same))

@@ -8,15 +8,16 @@ use Rattle.solomon_reader.specs.Problem.{Problem, customers, customer_count}
 use Rattle.solomon_reader.specs.Plan.{IsPlan, plan_cost}
 use Rattle.solomon_reader.specs.Region.{Region, Obeys, used_child, unused_child, root_region}
 use Rattle.solomon_reader.specs.Relaxed.{IsRelaxed, IsLeastOrZero, reduced_cost, int_sum_by, int_sum, price_of}
-use Rattle.solomon_reader.specs.Bound.{Version, version_1, version_2, with_sets, listed_sets, routes_counted, LeafPrices, IsValueAt, Tree, leaf, split, HasBound}
+use Rattle.solomon_reader.specs.Bound.{Version, version_1, version_2, with_sets, with_rows, listed_sets, routes_counted, LeafPrices, leaf_at, IsValueAt, Tree, leaf, split, HasBound}
 use Rattle.solomon_reader.specs.SetPrices.{AreTrueNeeds, priced_sets}
+use Rattle.solomon_reader.specs.PricedLeaf.{without_rows}
 use Rattle.solomon_reader.specs.Duality.{WeakDuality, CeilingHolds, TreeBoundHolds, NoPlanAbove}
 use Rattle.solomon_reader.specs.SumLaws.{up, down, int_sum-least, int_sum-permutation, prices_sum, times_down, times_up}
 use Rattle.solomon_reader.specs.RegionLaws.{obeys_root, obeys_child}
 use Rattle.solomon_reader.specs.RelaxedLaws.{is_relaxed, reduced_sum}
 use Rattle.solomon_reader.specs.CeilingLaws.{plan_cost-le}
 use Rattle.solomon_reader.specs.LoadLaws.{counted-le}
-use Rattle.solomon_reader.specs.SetDualityLaws.{set_weak_duality, true_priced}
+use Rattle.solomon_reader.specs.SetDualityLaws.{leaf_weak_duality, true_priced}
 
 -- no reduced cost of a relaxed route is below the least
 least_holds : (p : Problem) (g : Region) (k : ℕ) (prices : List ℤ) (m : ℤ) → IsLeastOrZero p g k prices m
@@ -44,7 +45,9 @@ value_holds : (version : Version) (p : Problem) (k : ℕ) (g : Region) (prices :
 value_holds version_1 p k g prices v routes size needs value plan obeys = weak_duality version_1 p g k prices.customers v routes size value plan obeys
 value_holds version_2 p k g prices v routes size needs value plan obeys = weak_duality version_2 p g k prices.customers v routes size value plan obeys
 value_holds (with_sets sets) p k g prices v routes size needs value plan obeys =
-    set_weak_duality (with_sets sets) p g k prices.customers (priced_sets sets prices.sets) v routes size (true_priced p sets prices.sets needs) value plan obeys
+    leaf_weak_duality (with_sets sets) p g k (without_rows prices.customers (priced_sets sets prices.sets)) v routes size (true_priced p sets prices.sets needs) value plan obeys
+value_holds (with_rows sets rows) p k g prices v routes size needs value plan obeys =
+    leaf_weak_duality (with_rows sets rows) p g k (leaf_at sets rows prices) v routes size (true_priced p sets prices.sets needs) value plan obeys
 
 -- a plan that obeys a region costs at least the bound of a tree that stands there
 pub region_bound_holds : (version : Version) (p : Problem) (k : ℕ) (g : Region) (tree : Tree) (b : ℕ) (routes : List (List ℕ)) → g.size ≡ customer_count p

@@ -8,7 +8,7 @@ use Rattle.std.proofs.lemmas.List.Sums.{sum_by-append}
 use Rattle.std.proofs.lemmas.List.Sorted.{sum_by-IsPermutation}
 use Rattle.solomon_reader.specs.Problem.{Problem, customers, demand}
 use Rattle.solomon_reader.specs.Plan.{IsPlan, IsFitting}
-use Rattle.solomon_reader.specs.Bound.{Version, version_1, version_2, with_sets, routes_counted, fewest_routes}
+use Rattle.solomon_reader.specs.Bound.{Version, version_1, version_2, with_sets, with_rows, routes_counted, fewest_routes}
 
 loads_le : (p : Problem) (routes : List (List ℕ)) → AllByRecursion (IsFitting p) routes → sum_by (demand p) (flat_map (λ r. r) routes) ≤ length routes * p.capacity
 loads_le p [] fits = omega arith
@@ -30,3 +30,4 @@ pub counted-le : (version : Version) (p : Problem) (routes : List (List ℕ)) �
 counted-le version_1 p routes plan = omega arith
 counted-le version_2 p routes plan = fewest-le p routes plan
 counted-le (with_sets sets) p routes plan = fewest-le p routes plan
+counted-le (with_rows sets rows) p routes plan = fewest-le p routes plan

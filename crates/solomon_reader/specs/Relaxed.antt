@@ -62,8 +62,3 @@ pub record IsLeast (p : Problem) (g : Region) (k : ℕ) (prices : List ℤ) (m :
 -- m is the least reduced cost, or 0 where no route is relaxed
 abbrev pub IsLeastOrZero : Problem → Region → ℕ → List ℤ → ℤ → Type 0
 IsLeastOrZero p g k prices m = IsLeast p g k prices m ⊎ (((r : List ℕ) → ¬ IsRelaxed p g k r) × (m ≡ pos 0))
-
--- m is the least reduced cost of a relaxed route, where steps are paid
-pub record IsLeastBy (p : Problem) (g : Region) (k : ℕ) (paid : ℕ → ℕ → ℤ) (m : ℤ) : Type 0 where
-  pub reached : (r : List ℕ) × IsRelaxed p g k r × (reduced_cost_by p paid r ≡ m)
-  pub least : (r : List ℕ) → IsRelaxed p g k r → m ≤ℤ reduced_cost_by p paid r

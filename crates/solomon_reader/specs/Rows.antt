@@ -7,10 +7,12 @@ use Rattle.solomon_reader.specs.Distance.{distance}
 use Rattle.solomon_reader.specs.Plan.{route_cost, plan_cost, Finishes}
 use Rattle.solomon_reader.specs.Relaxed.{reduced_cost, IsRelaxed}
 use Rattle.solomon_reader.specs.Region.{root_region, used_child, unused_child}
-use Rattle.solomon_reader.specs.Bound.{ceiling_of, version_1, version_2, with_sets, of_customers, Tree, leaf, split, IsRoundedUp, IsLeafValue, IsLeafValueWith, IsTreeBound}
+use Rattle.solomon_reader.specs.Bound.{ceiling_of, version_1, version_2, with_sets, with_rows, of_customers, Tree, leaf, split, IsRoundedUp, IsLeafValue, IsLeafValueAt, IsTreeBound}
 use Rattle.solomon_reader.specs.Moves.{after_relocate, after_exchange, after_or_opt, after_two_opt_star, after_cross}
 use Rattle.solomon_reader.specs.CustomerSets.{entries, need_by_load, way_over, CanServe, IsTooMuchInTime, IsNeeded}
 use Rattle.solomon_reader.specs.SetPrices.{PricedSet}
+use Rattle.solomon_reader.specs.SubsetRows.{SubsetRow, charges}
+use Rattle.solomon_reader.specs.PricedLeaf.{without_rows}
 use Rattle.solomon_reader.specs.SolutionText.{solution_text}
 use Rattle.solomon_reader.specs.CertificateText.{certificate_text}
 
@@ -105,16 +107,50 @@ pub record WorkedSets : Type 0 where
   pub in_time : CanServe by_detour 0 0 (2 ∷ [])
   pub too_much : IsTooMuchInTime busy (1 ∷ 2 ∷ 3 ∷ [])
   pub two_needed : IsNeeded busy (1 ∷ 2 ∷ 3 ∷ []) 2
-  pub priced : IsLeafValueWith version_2 narrow (root_region 2) 8 (pos 0 ∷ pos 100000 ∷ []) (pair_priced ∷ []) 300
+  pub priced : IsLeafValueAt version_2 narrow (root_region 2) 8 (without_rows (pos 0 ∷ pos 100000 ∷ []) (pair_priced ∷ [])) 300
   pub text : certificate_text (record {
     version = with_sets (record { members = 1 ∷ 2 ∷ []; need = 2 } ∷ []);
     name = codes "T";
     size = 2;
     neighbours = 8;
     bound = 300;
-    tree = leaf (record { customers = pos 0 ∷ pos 100000 ∷ []; sets = (1, 100000) ∷ [] });
+    tree = leaf (record { customers = pos 0 ∷ pos 100000 ∷ []; sets = (1, 100000) ∷ []; rows = [] });
   })
       ≡ codes "VRPTW-SETS 1\nINSTANCE T\nCUSTOMERS 2\nNEIGHBOURS 8\nBOUND 30.0\nS 2 1 2\nTREE\nP 0 100000\nM 1 100000\nEND\n"
+
+-- three customers at one place, of whom a vehicle holds two, and a fourth elsewhere
+abbrev pub crowd : Problem
+crowd = problem 3 2 (depot_row ∷ open_row 3 4 ∷ open_row 3 4 ∷ open_row 3 4 ∷ open_row 6 8 ∷ [])
+
+-- the three alone
+abbrev pub trio : Problem
+trio = problem 2 2 (depot_row ∷ open_row 3 4 ∷ open_row 3 4 ∷ open_row 3 4 ∷ [])
+
+abbrev pub the_three : SubsetRow
+the_three = record { first = 1; second = 2; third = 3 }
+
+-- What a row of three customers charges, and a leaf at which it has a price: two routes' worth, where without it a route and a half.
+pub record WorkedSubsetRows : Type 0 where
+  pub first_visit : charges crowd 8 the_three (1 ∷ []) ≡ 0
+  pub two_visits : charges crowd 8 the_three (1 ∷ 2 ∷ []) ≡ 1
+  pub three_visits : charges crowd 8 the_three (1 ∷ 2 ∷ 3 ∷ []) ≡ 1
+  pub four_visits : charges crowd 8 the_three (1 ∷ 2 ∷ 1 ∷ 2 ∷ []) ≡ 2
+  pub kept_on_the_way : charges crowd 1 the_three (1 ∷ 4 ∷ 2 ∷ []) ≡ 1
+  pub lost_on_the_way : charges crowd 0 the_three (1 ∷ 4 ∷ 2 ∷ []) ≡ 0
+  pub kept_among_them : charges crowd 0 the_three (1 ∷ 2 ∷ []) ≡ 1
+  pub without : IsLeafValueAt version_2 trio (root_region 3) 8 (record { customers = pos 50000 ∷ pos 50000 ∷ pos 50000 ∷ []; sets = []; rows = [] }) 150
+  pub priced :
+      IsLeafValueAt version_2 trio (root_region 3) 8
+      (record { customers = pos 100000 ∷ pos 100000 ∷ pos 100000 ∷ []; sets = []; rows = record { row = the_three; price = 100000 } ∷ [] }) 200
+  pub text : certificate_text (record {
+    version = with_rows [] (the_three ∷ []);
+    name = codes "T";
+    size = 3;
+    neighbours = 8;
+    bound = 200;
+    tree = leaf (record { customers = pos 100000 ∷ pos 100000 ∷ pos 100000 ∷ []; sets = []; rows = (1, 100000) ∷ [] });
+  })
+      ≡ codes "VRPTW-ROWS 1\nINSTANCE T\nCUSTOMERS 3\nNEIGHBOURS 8\nBOUND 20.0\nR 1 2 3\nTREE\nP 100000 100000 100000\nM\nQ 1 100000\nEND\n"
 
 -- Each kind of move on small routes.
 pub record WorkedMoves : Type 0 where

@@ -1,4 +1,4 @@
--- Weak duality with sets of customers, and what steps are paid for entering them.
+-- Weak duality with sets of customers and with rows, and what steps are paid for entering sets.
 use Rattle.std.proofs.Common.{◌≡◌, refl, ℕ, zero, suc, ◌+◌, ◌*◌, ◌≤◌, Bool, true, false, cond, List, [], ◌∷◌, length, slice_index_or, arith, ◌∙◌, inl, inr}
 use Rattle.std.specs.Prelude.{◌-◌, ℤ, pos, ◌+ℤ◌, ◌-ℤ◌, ◌≤ℤ◌}
 use Rattle.std.specs.List.{sum_by, flat_map, AllByRecursion}
@@ -9,13 +9,16 @@ use Rattle.solomon_reader.specs.Problem.{Problem, customers, customer_count}
 use Rattle.solomon_reader.specs.Plan.{Arc, arcs_from, IsPlan, plan_cost}
 use Rattle.solomon_reader.specs.Region.{Region}
 use Rattle.solomon_reader.specs.Relaxed.{IsRelaxed, reduced_cost, int_sum_by, int_sum, price_of, paid_from}
-use Rattle.solomon_reader.specs.Bound.{Version, routes_counted, IsLeafValue, IsLeafValueWith}
+use Rattle.solomon_reader.specs.Bound.{Version, routes_counted, IsLeafValue, IsLeafValueAt}
 use Rattle.solomon_reader.specs.SumLaws.{up, down, int_sum-least, int_sum-permutation, prices_sum, times_down, times_up}
 use Rattle.solomon_reader.specs.RelaxedLaws.{is_relaxed, reduced_sum}
 use Rattle.solomon_reader.specs.LoadLaws.{counted-le}
 use Rattle.solomon_reader.specs.CustomerSets.{entries, enters, plan_entries, IsCustomerSet}
-use Rattle.solomon_reader.specs.SetPrices.{ListedSet, PricedSet, SetPrice, IsTrueNeed, AreTrueNeeds, paid_for_entries, paid_for_needs, reduced_cost_with, IsLeastOrZeroWith, priced_sets, paid_over, by_sets}
-use Rattle.solomon_reader.specs.SetDuality.{SetWeakDuality, SameWithoutSets, PaidBySets}
+use Rattle.solomon_reader.specs.SetPrices.{ListedSet, PricedSet, SetPrice, IsTrueNeed, AreTrueNeeds, paid_for_entries, paid_for_needs, priced_sets, paid_over, by_sets}
+use Rattle.solomon_reader.specs.SubsetRows.{paid_for_charges}
+use Rattle.solomon_reader.specs.PricedLeaf.{PricedLeaf, without_rows, reduced_cost_at, IsLeastOrZeroAt}
+use Rattle.solomon_reader.specs.RowLaws.{charges_paid}
+use Rattle.solomon_reader.specs.SetDuality.{LeafWeakDuality, SameWithout, PaidBySets}
 use Rattle.solomon_reader.specs.SetLaws.{needs_hold, depot_outside, entries_from, entries_more, entries_end, entries_is}
 
 abbrev AreTrue : Problem → List PricedSet → Type 0
@@ -51,26 +54,28 @@ needs_paid p (s ∷ sets) routes true_needs plan =
     )
 
 -- the reduced costs of routes together
-reduced_sum_with : (p : Problem) (prices : List ℤ) (sets : List PricedSet) (routes : List (List ℕ))
-    → int_sum_by (reduced_cost_with p prices sets) routes ≡ int_sum_by (reduced_cost p prices) routes -ℤ pos (sum_by (paid_for_entries sets) routes)
-reduced_sum_with p prices sets [] = omega (arith, ints)
-reduced_sum_with p prices sets (r ∷ routes) = omega (arith, ints, reduced_sum_with p prices sets routes, sum_by-cons (paid_for_entries sets) r routes)
+reduced_sum_at : (p : Problem) (k : ℕ) (leaf : PricedLeaf) (routes : List (List ℕ))
+    → int_sum_by (reduced_cost_at p k leaf) routes
+    ≡ (int_sum_by (reduced_cost p leaf.customers) routes -ℤ pos (sum_by (paid_for_entries leaf.sets) routes)) +ℤ pos (sum_by (paid_for_charges p k leaf.rows) routes)
+reduced_sum_at p k leaf [] = omega (arith, ints)
+reduced_sum_at p k leaf (r ∷ routes) =
+    omega (arith, ints, reduced_sum_at p k leaf routes, sum_by-cons (paid_for_entries leaf.sets) r routes, sum_by-cons (paid_for_charges p k leaf.rows) r routes)
 
 -- no reduced cost of a relaxed route is below the least
-least_holds : (p : Problem) (g : Region) (k : ℕ) (prices : List ℤ) (sets : List PricedSet) (m : ℤ) → IsLeastOrZeroWith p g k prices sets m
-    → (r : List ℕ) → IsRelaxed p g k r → m ≤ℤ reduced_cost_with p prices sets r
-least_holds p g k prices sets m (inl is) r h = is.least r h
-least_holds p g k prices sets m (inr none) r h = absurd (none.0 r h)
+least_holds : (p : Problem) (g : Region) (k : ℕ) (leaf : PricedLeaf) (m : ℤ) → IsLeastOrZeroAt p g k leaf m
+    → (r : List ℕ) → IsRelaxed p g k r → m ≤ℤ reduced_cost_at p k leaf r
+least_holds p g k leaf m (inl is) r h = is.least r h
+least_holds p g k leaf m (inr none) r h = absurd (none.0 r h)
 
-pub set_weak_duality : SetWeakDuality
-set_weak_duality version p g k prices sets v routes size true_needs value plan obeys =
+pub leaf_weak_duality : LeafWeakDuality
+leaf_weak_duality version p g k leaf v routes size true_needs value plan obeys =
     let m = value.least in
-    let above : pos (length routes * up m) ≤ℤ (int_sum_by (reduced_cost_with p prices sets) routes +ℤ pos (length routes * down m)) =
-    int_sum-least (reduced_cost_with p prices sets) m routes (λ r h. least_holds p g k prices sets m value.is_least r (is_relaxed p g k routes size plan obeys r h)) in
+    let above : pos (length routes * up m) ≤ℤ (int_sum_by (reduced_cost_at p k leaf) routes +ℤ pos (length routes * down m)) =
+    int_sum-least (reduced_cost_at p k leaf) m routes (λ r h. least_holds p g k leaf m value.is_least r (is_relaxed p g k routes size plan obeys r h)) in
     let few : length routes * down m ≤ p.fleet * down m = mul-le (length routes) (down m) p.fleet (down m) plan.fleet (omega arith) in
     let many : routes_counted version p * up m ≤ length routes * up m = mul-le (routes_counted version p) (up m) (length routes) (up m) (counted-le version p routes plan) (omega arith) in
-    let same : int_sum_by (price_of prices) (flat_map (λ r. r) routes) ≡ int_sum prices =
-    int_sum-permutation (price_of prices) (customers p) (flat_map (λ r. r) routes) plan.each_once ∙ prices_sum prices (customer_count p) value.priced in
+    let same : int_sum_by (price_of leaf.customers) (flat_map (λ r. r) routes) ≡ int_sum leaf.customers =
+    int_sum-permutation (price_of leaf.customers) (customers p) (flat_map (λ r. r) routes) plan.each_once ∙ prices_sum leaf.customers (customer_count p) value.priced in
     value.rounded.least (plan_cost p routes) (omega (
       arith,
       ints,
@@ -78,9 +83,10 @@ set_weak_duality version p g k prices sets v routes size true_needs value plan o
       few,
       many,
       same,
-      reduced_sum p prices routes,
-      reduced_sum_with p prices sets routes,
-      needs_paid p sets routes true_needs plan,
+      reduced_sum p leaf.customers routes,
+      reduced_sum_at p k leaf routes,
+      needs_paid p leaf.sets routes true_needs plan,
+      charges_paid p k leaf.rows routes plan,
       times_down p.fleet m,
       times_up (routes_counted version p) m,
     ))
@@ -96,17 +102,18 @@ pub true_priced : (p : Problem) (sets : List ListedSet) (prices : List SetPrice)
 true_priced p sets [] true_needs = tt
 true_priced p sets (m ∷ prices) true_needs = (true_at p sets (m.0 - 1) true_needs, true_priced p sets prices true_needs)
 
-same_reduced : (p : Problem) (prices : List ℤ) (r : List ℕ) → reduced_cost_with p prices [] r ≡ reduced_cost p prices r
-same_reduced p prices r = omega (arith, ints)
+same_reduced : (p : Problem) (k : ℕ) (prices : List ℤ) (r : List ℕ) → reduced_cost_at p k (without_rows prices []) r ≡ reduced_cost p prices r
+same_reduced p k prices r = omega (arith, ints)
 
-with_none : (version : Version) (p : Problem) (g : Region) (k : ℕ) (prices : List ℤ) (v : ℕ) → IsLeafValueWith version p g k prices [] v → IsLeafValue version p g k prices v
+with_none : (version : Version) (p : Problem) (g : Region) (k : ℕ) (prices : List ℤ) (v : ℕ)
+    → IsLeafValueAt version p g k (without_rows prices []) v → IsLeafValue version p g k prices v
 with_none version p g k prices v value = record {
   priced = value.priced;
   least = value.least;
   is_least = elim value.is_least [
     | inl is ↦ inl (record {
-      reached = (is.reached.0, is.reached.1, (omega (arith, ints, same_reduced p prices is.reached.0, is.reached.2)));
-      least = λ r h. omega (arith, ints, same_reduced p prices r, is.least r h);
+      reached = (is.reached.0, is.reached.1, (omega (arith, ints, same_reduced p k prices is.reached.0, is.reached.2)));
+      least = λ r h. omega (arith, ints, same_reduced p k prices r, is.least r h);
     })
     | inr none ↦ inr none
   ];
@@ -116,14 +123,15 @@ with_none version p g k prices v value = record {
   };
 }
 
-without : (version : Version) (p : Problem) (g : Region) (k : ℕ) (prices : List ℤ) (v : ℕ) → IsLeafValue version p g k prices v → IsLeafValueWith version p g k prices [] v
+without : (version : Version) (p : Problem) (g : Region) (k : ℕ) (prices : List ℤ) (v : ℕ)
+    → IsLeafValue version p g k prices v → IsLeafValueAt version p g k (without_rows prices []) v
 without version p g k prices v value = record {
   priced = value.priced;
   least = value.least;
   is_least = elim value.is_least [
     | inl is ↦ inl (record {
-      reached = (is.reached.0, is.reached.1, (omega (arith, ints, same_reduced p prices is.reached.0, is.reached.2)));
-      least = λ r h. omega (arith, ints, same_reduced p prices r, is.least r h);
+      reached = (is.reached.0, is.reached.1, (omega (arith, ints, same_reduced p k prices is.reached.0, is.reached.2)));
+      least = λ r h. omega (arith, ints, same_reduced p k prices r, is.least r h);
     })
     | inr none ↦ inr none
   ];
@@ -133,8 +141,8 @@ without version p g k prices v value = record {
   };
 }
 
-pub same_without_sets : SameWithoutSets
-same_without_sets version p g k prices v = (with_none version p g k prices v, without version p g k prices v)
+pub same_without : SameWithout
+same_without version p g k prices v = (with_none version p g k prices v, without version p g k prices v)
 
 -- ---- what steps are paid
 
@@ -192,4 +200,4 @@ entered_all (s ∷ sets) r =
     omega (arith, first, entered_first s sets 0 r, sum_by-cons (λ (t : PricedSet). t.price * entries t.members r) s sets, entered_all sets r)
 
 pub paid_by_sets : PaidBySets
-paid_by_sets p n prices sets r are = omega (arith, ints, steps_paid n prices sets 0 r are, entered_all sets r)
+paid_by_sets p k n leaf r are = omega (arith, ints, steps_paid n leaf.customers leaf.sets 0 r are, entered_all leaf.sets r)

@@ -1,10 +1,9 @@
 -- Sets of customers that have prices, and what a route is paid for entering them.
-use Rattle.std.specs.Prelude.{◌≡◌, ◌≢◌, ℕ, ◌-◌, ◌*◌, cond, List, [], ◌∷◌, map, slice_index_or, ℤ, pos, ◌+ℤ◌, ◌-ℤ◌, ◌≤ℤ◌, ◌⊎◌}
+use Rattle.std.specs.Prelude.{◌≢◌, ℕ, ◌-◌, ◌*◌, cond, List, [], ◌∷◌, map, slice_index_or, ℤ, pos, ◌+ℤ◌}
 use Rattle.std.specs.List.{sum_by, AllByRecursion}
 use Rattle.solomon_reader.specs.Problem.{Problem, customer_count}
 use Rattle.solomon_reader.specs.Plan.{Arc}
-use Rattle.solomon_reader.specs.Region.{Region}
-use Rattle.solomon_reader.specs.Relaxed.{IsRelaxed, reduced_cost, price_of}
+use Rattle.solomon_reader.specs.Relaxed.{price_of}
 use Rattle.solomon_reader.specs.CustomerSets.{enters, entries, IsCustomerSet, IsNeeded}
 
 -- a set of customers, and how many entries it is said to need
@@ -55,19 +54,6 @@ price_sum sets = sum_by (λ s. s.price) sets
 -- what all needed entries are paid, in grains
 abbrev pub paid_for_needs : List PricedSet → ℕ
 paid_for_needs sets = sum_by (λ s. s.price * s.need) sets
-
--- in grains: the cost less the prices of the stops and of the sets, each as often as the route enters it
-abbrev pub reduced_cost_with : Problem → List ℤ → List PricedSet → List ℕ → ℤ
-reduced_cost_with p prices sets r = reduced_cost p prices r -ℤ pos (paid_for_entries sets r)
-
--- m is the least reduced cost of a relaxed route
-pub record IsLeastWith (p : Problem) (g : Region) (k : ℕ) (prices : List ℤ) (sets : List PricedSet) (m : ℤ) : Type 0 where
-  pub reached : (r : List ℕ) × IsRelaxed p g k r × (reduced_cost_with p prices sets r ≡ m)
-  pub least : (r : List ℕ) → IsRelaxed p g k r → m ≤ℤ reduced_cost_with p prices sets r
-
--- m is the least reduced cost, or 0 where no route is relaxed
-abbrev pub IsLeastOrZeroWith : Problem → Region → ℕ → List ℤ → List PricedSet → ℤ → Type 0
-IsLeastOrZeroWith p g k prices sets m = IsLeastWith p g k prices sets m ⊎ (((r : List ℕ) → ¬ IsRelaxed p g k r) × (m ≡ pos 0))
 
 -- what a step over the arc is paid for the sets that it enters, in grains
 abbrev pub paid_over : List PricedSet → Arc → ℕ

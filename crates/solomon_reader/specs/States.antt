@@ -6,16 +6,19 @@ use Rattle.solomon_reader.specs.Distance.{distance}
 use Rattle.solomon_reader.specs.Region.{Region, IsAllowed}
 use Rattle.solomon_reader.specs.Relaxed.{by_customer}
 use Rattle.solomon_reader.specs.Remembering.{near, remember}
+use Rattle.solomon_reader.specs.SubsetRows.{PricedRow, charged_at, bits_after, debt}
 
--- what steps are paid at a region of an instance, with the number of neighbours that are remembered
+-- what steps are paid and rows charge at a region of an instance, with the number of neighbours that are remembered
 pub record Pricing : Type 0 where
   pub problem : Problem
   pub region : Region
   pub neighbours : ℕ
   pub paid : ℕ → ℕ → ℤ
+  pub rows : List PricedRow
 
+-- where no row charges
 abbrev pub pricing_by : Problem → Region → ℕ → (ℕ → ℕ → ℤ) → Pricing
-pricing_by p g k paid = record { problem = p; region = g; neighbours = k; paid = paid }
+pricing_by p g k paid = record { problem = p; region = g; neighbours = k; paid = paid; rows = [] }
 
 -- each step is paid the price of the customer that it leads to
 abbrev pub pricing : Problem → Region → ℕ → List ℤ → Pricing
@@ -27,9 +30,11 @@ pub record State : Type 0 where
   pub load : ℕ
   pub cost : ℤ
   pub memory : ℕ → Bool
+  -- the bit of the row at each place
+  pub bits : ℕ → Bool
 
 abbrev pub start : Pricing → State
-start q = record { last = 0; time = ready q.problem 0; load = 0; cost = pos 0; memory = λ _. false }
+start q = record { last = 0; time = ready q.problem 0; load = 0; cost = pos 0; memory = λ _. false; bits = λ _. false }
 
 -- when service begins at j
 abbrev pub begins : Problem → State → ℕ → ℕ
@@ -53,8 +58,9 @@ step q a j = record {
   last = j;
   time = begins q.problem a j + service q.problem j;
   load = a.load + demand q.problem j;
-  cost = a.cost +ℤ arc_value q.problem q.paid a.last j;
+  cost = (a.cost +ℤ arc_value q.problem q.paid a.last j) +ℤ pos (charged_at q.rows a.bits j);
   memory = remember (near q.problem q.neighbours) a.memory j;
+  bits = bits_after q.problem q.neighbours q.rows a.bits j;
 }
 
 pub record CanStep (q : Pricing) (a : State) (j : ℕ) : Type 0 where
@@ -88,12 +94,12 @@ pub record Reaches (q : Pricing) (route : List ℕ) (a : State) : Type 0 where
   pub completes : (s : List ℕ) → Completes q a s → Completes q (start q) (route ++ s)
   pub value : (s : List ℕ) → value_with q (start q) (route ++ s) ≡ value_with q a s
 
--- all that may come after b may come after a, at no greater cost
-pub record IsAsGood (a b : State) : Type 0 where
+-- all that may come after b may come after a, at no greater cost: a is cheaper by the prices of the rows that may charge it alone
+pub record IsAsGood (rows : List PricedRow) (a b : State) : Type 0 where
   pub last : a.last ≡ b.last
   pub time : a.time ≤ b.time
   pub load : a.load ≤ b.load
-  pub cost : a.cost ≤ℤ b.cost
+  pub cost : (a.cost +ℤ pos (debt rows a.bits b.bits)) ≤ℤ b.cost
   pub memory : (u : ℕ) → IsTrue (a.memory u) → IsTrue (b.memory u)
 
 -- the two agree in all
@@ -103,6 +109,7 @@ pub record IsSameState (a b : State) : Type 0 where
   pub load : a.load ≡ b.load
   pub cost : a.cost ≡ b.cost
   pub memory : (u : ℕ) → a.memory u ≡ b.memory u
+  pub bits : (i : ℕ) → a.bits i ≡ b.bits i
 
 -- the best is at most z
 abbrev pub IsAtMost : Option ℤ → ℤ → Type 0

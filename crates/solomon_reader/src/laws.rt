@@ -2,8 +2,8 @@
 
 ghost use Rattle.solomon_reader.specs.Duality.{CeilingHolds, NoPlanAbove, TreeBoundHolds, WeakDuality};
 ghost use Rattle.solomon_reader.specs.Laws.{FirstFaultStays, OneBound, OneLeast, PaidByCustomer};
-ghost use Rattle.solomon_reader.specs.SetDuality.{NeedsHold, PaidBySets, SameWithoutSets, SetWeakDuality};
-ghost use Rattle.solomon_reader.specs.Rows.{WorkedBounds, WorkedMoves, WorkedRows, WorkedSets};
+ghost use Rattle.solomon_reader.specs.SetDuality.{ChargesAreHalf, LeafWeakDuality, NeedsHold, PaidBySets, PlanIsChargedOnce, SameWithout};
+ghost use Rattle.solomon_reader.specs.Rows.{WorkedBounds, WorkedMoves, WorkedRows, WorkedSets, WorkedSubsetRows};
 
 /// What the definitions give on small instances: distances, costs, walks, and both texts.
 pub fn worked_rows()
@@ -18,6 +18,11 @@ pub fn worked_bounds()
 /// What sets of customers need, and the value of a leaf at which one has a price.
 pub fn worked_sets()
     ensures { WorkedSets }
+{}
+
+/// What rows of three customers charge, and the value of a leaf at which one has a price.
+pub fn worked_subset_rows()
+    ensures { WorkedSubsetRows }
 {}
 
 /// The routes that each kind of move leaves.
@@ -65,11 +70,18 @@ pub fn needs_hold()
     ensures { NeedsHold }
 {}
 
+/// A route is charged by a row of three customers at most for half of its visits to them, so that a plan is charged
+/// at most once (Jepsen, Petersen, Spoorendonk and Pisinger 2008), wherever rows are remembered.
+pub fn rows_charge()
+    ensures half { ChargesAreHalf }
+    ensures once { PlanIsChargedOnce }
+{}
+
 /// A plan that obeys the region of a leaf costs at least its value with sets that need what they are said
-/// to; without sets that is its value. Where steps are paid for entering sets, the reduced cost of a list
-/// is its cost less the prices of its stops and entries.
-pub fn set_bounds_hold()
-    ensures leaf { SetWeakDuality }
-    ensures without { SameWithoutSets }
+/// to and with any rows; without sets and rows that is its value. Where steps are paid for entering sets, the
+/// reduced cost of a list is its cost less the prices of its stops and entries, and what rows charge.
+pub fn leaf_bounds_hold()
+    ensures leaf { LeafWeakDuality }
+    ensures without { SameWithout }
     ensures steps { PaidBySets }
 {}

@@ -42,5 +42,11 @@ pub const MOST_DEPTH: u32 = 600;
 /// The most sets of customers that a certificate lists.
 pub const MOST_SETS: u32 = 1_000;
 
+/// The most rows of three customers that a certificate lists.
+pub const MOST_ROWS: u32 = 1_000;
+
+/// The most rows that have a price at a leaf.
+pub const MOST_ROW_PRICES: usize = 256;
+
 /// The most entries that a listed set needs: what all customers with the greatest demand need where a vehicle holds 1.
 pub const MOST_NEED: u32 = 4_000_000;

@@ -15,8 +15,8 @@ use Rattle.solomon_reader.specs.Relaxed.{IsRelaxed}
 use Rattle.solomon_reader.specs.ArcOrder.{none_in_empty}
 use Rattle.solomon_reader.specs.CountLaws.{mark-same, count-cons, count_positive}
 use Rattle.solomon_reader.specs.CustomerSets.{CanServe, IsTooMuchInTime}
-use Rattle.solomon_reader.specs.SetPrices.{reduced_cost_with, IsLeastWith}
-use Rattle.solomon_reader.specs.Bound.{version_2, IsLeafValueWith}
+use Rattle.solomon_reader.specs.PricedLeaf.{PricedLeaf, without_rows, reduced_cost_at, IsLeastAt}
+use Rattle.solomon_reader.specs.Bound.{version_2, IsLeafValueAt}
 use Rattle.solomon_reader.specs.Rows.{narrow, by_detour, busy, pair_priced}
 use Rattle.solomon_reader.proofs.Narrow.{fitting_single, two_alone, no_repeat}
 use Rattle.solomon_reader.proofs.laws.worked_sets.Goals as goal
@@ -60,15 +60,18 @@ relaxed = record {
   forgets = no_repeat 8 2;
 }
 
-lowest : (r : List ℕ) → IsRelaxed narrow (root_region 2) 8 r → pos 0 ≤ℤ reduced_cost_with narrow (pos 0 ∷ pos 100000 ∷ []) (pair_priced ∷ []) r
+abbrev priced : PricedLeaf
+priced = without_rows (pos 0 ∷ pos 100000 ∷ []) (pair_priced ∷ [])
+
+lowest : (r : List ℕ) → IsRelaxed narrow (root_region 2) 8 r → pos 0 ≤ℤ reduced_cost_at narrow 8 priced r
 unfolding distance distance_of root_of root_below
 lowest r h = elim (fitting_single r h.fitting) [ inl e ↦ rw e (omega (arith, ints)) | inr e ↦ rw e (omega (arith, ints)) ]
 
-least : IsLeastWith narrow (root_region 2) 8 (pos 0 ∷ pos 100000 ∷ []) (pair_priced ∷ []) (pos 0)
+least : IsLeastAt narrow (root_region 2) 8 priced (pos 0)
 unfolding distance distance_of root_of root_below
 least = record { reached = (2 ∷ [], relaxed, omega (arith, ints)); least = lowest }
 
-value : IsLeafValueWith version_2 narrow (root_region 2) 8 (pos 0 ∷ pos 100000 ∷ []) (pair_priced ∷ []) 300
+value : IsLeafValueAt version_2 narrow (root_region 2) 8 priced 300
 value = record { priced = refl; least = pos 0; is_least = inl least; rounded = record { covers = omega (arith, ints); least = λ w h. omega (arith, ints) } }
 
 in_time : CanServe by_detour 0 0 (2 ∷ [])
