@@ -1,0 +1,89 @@
+//! Bits of rows, each at the row's place among those that have a price at a leaf.
+
+ghost use Rattle.std.specs.Prelude.{◌≡◌, ℕ, ◌<◌, ◌==◌, ◌&&◌, ◌||◌, false, not, IsTrue};
+ghost use Rattle.row_charges.specs.Bits.{bit_of, differ};
+
+/// The bits of up to 256 rows.
+#[derive(Clone, Copy, Debug)]
+pub struct RowBits {
+    /// Those of the places from 0 on.
+    low: u128,
+    /// Those of the places from 128 on.
+    high: u128,
+}
+
+/// How many places a word has.
+const WORD: usize = 128;
+
+impl RowBits {
+    /// No bit is set.
+    pub fn none() -> RowBits
+        ensures { (i : ℕ) → bit_of result i ≡ false }
+    {
+        RowBits { low: 0, high: 0 }
+    }
+
+    /// Whether no bit is set.
+    pub fn is_none(self) -> bool
+        ensures { IsTrue result → (i : ℕ) → bit_of self i ≡ false }
+    {
+        self.low | self.high == 0
+    }
+
+    /// Whether the bit at a place is set.
+    pub fn has(self, place: usize) -> bool
+        requires { place < 256 }
+        ensures { result ≡ bit_of self place }
+    {
+        if place < WORD {
+            (self.low >> place) & 1 == 1
+        } else {
+            (self.high >> (place - WORD)) & 1 == 1
+        }
+    }
+
+    /// The bits with one more.
+    pub(crate) fn with(self, place: usize) -> RowBits
+        requires { place < 256 }
+        ensures { (i : ℕ) → bit_of result i ≡ ((i == place) || bit_of self i) }
+    {
+        if place < WORD {
+            RowBits {
+                low: self.low | (1 << place),
+                high: self.high,
+            }
+        } else {
+            RowBits {
+                low: self.low,
+                high: self.high | (1 << (place - WORD)),
+            }
+        }
+    }
+
+    /// The bits that are set in both.
+    pub(crate) fn and(self, other: RowBits) -> RowBits
+        ensures { (i : ℕ) → bit_of result i ≡ (bit_of self i && bit_of other i) }
+    {
+        RowBits {
+            low: self.low & other.low,
+            high: self.high & other.high,
+        }
+    }
+
+    /// The bits that are set in one of both alone.
+    pub(crate) fn changed_by(self, other: RowBits) -> RowBits
+        ensures { (i : ℕ) → bit_of result i ≡ differ (bit_of self i) (bit_of other i) }
+    {
+        RowBits {
+            low: self.low ^ other.low,
+            high: self.high ^ other.high,
+        }
+    }
+
+    /// The bits that aren't set in another one.
+    pub(crate) fn without(self, other: RowBits) -> RowBits
+        ensures { (i : ℕ) → bit_of result i ≡ (bit_of self i && not (bit_of other i)) }
+    {
+        self.changed_by(self.and(other))
+    }
+}
