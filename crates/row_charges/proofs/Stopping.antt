@@ -1,10 +1,22 @@
 -- What a stop does, by its bits, is what the definitions say of the rows.
-use Rattle.std.proofs.Common.{◌≡◌, ◌≢◌, refl, ℕ, zero, suc, ◌+◌, ◌≤◌, Bool, true, false, not, cond, ◌&&◌, ◌||◌, List, [], ◌∷◌, ◌++◌, length, arith, ap, sym, ◌∙◌}
+use Rattle.std.proofs.Common.{◌≡◌, ◌≢◌, refl, ℕ, zero, suc, ◌+◌, ◌≤◌, Bool, true, false, not, cond, ◌&&◌, ◌||◌, List, [], ◌∷◌, ◌++◌, length, arith, ap, sym, ◌∙◌, take, get_or, ◌<◌, nat_lt, ltb, length-append, inl, inr}
+use Rattle.std.specs.Prelude.{◌==◌}
+use Rattle.std.proofs.lemmas.Bool.{cases_lt, cases_eq, eq-eqb, ne_eqb, lt-ltb, ltb-true, le-ltb, false_from_ne_true}
+use Rattle.std.proofs.lemmas.List.{take_more, length-take, map-append, length-map, get_or_default, get_or_append_left, get_or_push}
 use Rattle.std.proofs.lemmas.List.Sums.{sum_by-cons}
 use Rattle.solomon_reader.specs.Problem.{Problem}
-use Rattle.solomon_reader.specs.SubsetRows.{SubsetRow, PricedRow, in_row, keeps_row, bit_after, charged_at, bits_after, debt, row_price_sum}
-use Rattle.row_charges.specs.Bits.{differ}
-use Rattle.row_charges.specs.Rows.{price_at, marked}
+use Rattle.solomon_reader.specs.SubsetRows.{SubsetRow, PricedRow, in_row, keeps_row, charged_at, bits_after, debt, row_price_sum}
+use Rattle.row_charges.specs.declared.bits.RowBits.{RowBits}
+use Rattle.row_charges.specs.Bits.{bit_of, differ}
+use Rattle.row_charges.specs.declared.priced_row.PricedRow.{PricedRow as Written}
+use Rattle.row_charges.specs.Rows.{price_at, marked, row_of, rows_of, IsStopOf, AreStops}
+use Rattle.row_charges.specs.declared.stop.RowStop.{RowStop}
+use Rattle.solomon_reader.specs.Memories.{place_of}
+use Rattle.solomon_reader.specs.Remembering.{near}
+use Rattle.solomon_reader.proofs.Places.{near_at, not_near, is_near}
+
+abbrev pub blank : Written
+blank = record { first = 0; second = 0; third = 0; price = 0 }
 
 -- prices at places that are marked alike are the same
 pub price_same : (rows : List PricedRow) (f g : ℕ → Bool) → ((i : ℕ) → f i ≡ g i) → price_at rows f ≡ price_at rows g
@@ -65,3 +77,119 @@ price_low (s ∷ rows) f = omega (arith, one (f 0), price_low rows (λ i. f (suc
     one : (b : Bool) → cond b s.price 0 ≤ s.price
     one true = omega arith
     one false = omega arith
+
+-- where no bit is set nothing is to be paid
+pub price_none : (rows : List PricedRow) (f : ℕ → Bool) → ((i : ℕ) → f i ≡ false) → price_at rows f ≡ 0
+price_none [] f none = refl
+price_none (s ∷ rows) f none = rw (none 0, price_none rows (λ i. f (suc i)) (λ i. none (suc i))) refl
+
+-- a place below 16 is that of what the list holds
+pub near_of : (p : Problem) (k v u place : ℕ) → k ≤ 15 → place ≡ place_of p k v u → nat_lt place 16 ≡ near p k v u
+near_of p k v u place few same = elim (cases_lt place 16) [
+  | inl low ↦ rw (lt-ltb place 16 low, near_at p v k u (omega (arith, same, low))) refl
+  | inr high ↦ rw (le-ltb place 16 high, not_near p v k (omega (arith, few)) u (omega (arith, same, high))) refl
+]
+
+-- what stands behind the rows of the instance is in no list
+pub beyond : (p : Problem) (k v u : ℕ) → v < length p.rows → length p.rows ≤ u → false ≡ near p k v u
+beyond p k v u here far = sym (false_from_ne_true _ (λ h. elim (is_near p k v u h) [
+  | inl same ↦ omega (arith, same, here, far)
+  | inr known ↦ omega (arith, known.0.1, far, known.0.0)
+]))
+
+more_one : (b here before : Bool) → ((b && here) || before) ≡ cond here (b || before) before
+more_one true true before = refl
+more_one true false before = refl
+more_one false true before = refl
+more_one false false before = refl
+
+or_none : (b : Bool) → (b || false) ≡ b
+or_none true = refl
+or_none false = refl
+
+-- where the bits of the first rows are right, those with that of one more row are
+pub marked_more : (f : SubsetRow → Bool) (rows : List PricedRow) (s : PricedRow) (before after : RowBits) (b : Bool) → ((i : ℕ) → bit_of before i ≡ marked f rows i)
+    → ((i : ℕ) → bit_of after i ≡ ((b && (i == length rows)) || bit_of before i)) → b ≡ f s.row → (i : ℕ) → bit_of after i ≡ marked f (rows ++ (s ∷ [])) i
+marked_more f rows s before after b old new same i = new i ∙ more_one b (i == length rows) (bit_of before i) ∙ elim (cases_eq i (length rows)) [
+  | inl e ↦ rw (eq-eqb i (length rows) e, old i) (rw e (rw (marked_behind f rows) (or_none b ∙ same ∙ sym (marked_last f rows s))))
+  | inr apart ↦ rw (ne_eqb i (length rows) apart, old i) (sym (marked_others f rows s i apart))
+]
+
+-- the first rows and one more, as they stand in a list
+pub rows_more : (rows : List Written) (i : ℕ) → i < length rows → rows_of (take (i + 1) rows) ≡ rows_of (take i rows) ++ (row_of (get_or rows i blank) ∷ [])
+rows_more rows i within = rw (take_more rows i blank within) (map-append row_of (take i rows) (get_or rows i blank ∷ []))
+
+pub rows_before : (rows : List Written) (i : ℕ) → i ≤ length rows → length (rows_of (take i rows)) ≡ i
+rows_before rows i within = omega (arith, length-map (take i rows) row_of, length-take i rows)
+
+-- the first rows together cost no more than all
+pub sum_low : (rows : List Written) (i : ℕ) → row_price_sum (rows_of (take i rows)) ≤ row_price_sum (rows_of rows)
+sum_low [] zero = omega arith
+sum_low [] (suc i) = omega arith
+sum_low (s ∷ rows) zero = omega arith
+sum_low (s ∷ rows) (suc i) =
+    omega (arith, sum_low rows i, sum_by-cons (λ (t : PricedRow). t.price) (row_of s) (rows_of (take i rows)), sum_by-cons (λ (t : PricedRow). t.price) (row_of s) (rows_of rows))
+
+-- what the first rows cost and one more, where its bit is set or not
+pub price_more : (rows : List Written) (f : ℕ → Bool) (i : ℕ) → i < length rows
+    → price_at (rows_of (take (i + 1) rows)) f ≡ price_at (rows_of (take i rows)) f + cond (f i) (get_or rows i blank).price 0
+price_more rows f i within = rw (rows_more rows i within)
+    (rw (price_push (rows_of (take i rows)) (row_of (get_or rows i blank)) f) (rw (rows_before rows i (omega (arith, within))) refl))
+
+pub price_small : (rows : List Written) (f : ℕ → Bool) (i : ℕ) → price_at (rows_of (take i rows)) f ≤ row_price_sum (rows_of rows)
+price_small rows f i = omega (arith, price_low (rows_of (take i rows)) f, sum_low rows i)
+
+pub price_set : (rows : List Written) (f : ℕ → Bool) (i : ℕ) → i < length rows → f i ≡ true
+    → price_at (rows_of (take (i + 1) rows)) f ≡ price_at (rows_of (take i rows)) f + (get_or rows i blank).price
+price_set rows f i within set = rw (price_more rows f i within, set) refl
+
+pub price_unset : (rows : List Written) (f : ℕ → Bool) (i : ℕ) → i < length rows → f i ≡ false → price_at (rows_of (take (i + 1) rows)) f ≡ price_at (rows_of (take i rows)) f
+price_unset rows f i within unset = rw (price_more rows f i within, unset) (omega arith)
+
+-- a stop by the first rows, and by one more
+pub stop_more : (p : Problem) (k j : ℕ) (rows : List Written) (i : ℕ) (stop : RowStop) (here kept : RowBits) (b d : Bool) → i < length rows
+    → IsStopOf p k (rows_of (take i rows)) j stop
+    → ((m : ℕ) → bit_of here m ≡ ((b && (m == i)) || bit_of stop.here m)) → ((m : ℕ) → bit_of kept m ≡ ((d && (m == i)) || bit_of stop.kept m))
+    → b ≡ in_row (row_of (get_or rows i blank)).row j → d ≡ (in_row (row_of (get_or rows i blank)).row j || keeps_row p k (row_of (get_or rows i blank)).row j)
+    → IsStopOf p k (rows_of (take (i + 1) rows)) j (record { here = here; kept = kept })
+stop_more p k j rows i stop here kept b d within old new_here new_kept same_here same_kept =
+    let count = rows_before rows i (omega (arith, within)) in
+    rw (rows_more rows i within) (record {
+      here = marked_more (λ s. in_row s j) (rows_of (take i rows)) (row_of (get_or rows i blank)) stop.here here b old.here (λ m. rw count (new_here m)) same_here;
+      kept = marked_more (λ s. in_row s j || keeps_row p k s j) (rows_of (take i rows)) (row_of (get_or rows i blank)) stop.kept kept d old.kept (λ m. rw count (new_kept m)) same_kept;
+    })
+
+-- the bits behind a stop
+pub stop_after : (p : Problem) (k j : ℕ) (rows : List PricedRow) (stop : RowStop) (bits changed after : RowBits) → IsStopOf p k rows j stop
+    → ((i : ℕ) → bit_of changed i ≡ differ (bit_of bits i) (bit_of stop.here i)) → ((i : ℕ) → bit_of after i ≡ (bit_of changed i && bit_of stop.kept i))
+    → (i : ℕ) → bit_of after i ≡ bits_after p k rows (bit_of bits) j i
+stop_after p k j rows stop bits changed after is first second i = rw (second i, first i, is.here i, is.kept i) (after_marked p k rows (bit_of bits) j i)
+
+-- what a stop costs
+pub stop_charge : (p : Problem) (k j : ℕ) (rows : List PricedRow) (stop : RowStop) (bits met : RowBits) → IsStopOf p k rows j stop
+    → ((i : ℕ) → bit_of met i ≡ (bit_of bits i && bit_of stop.here i)) → price_at rows (bit_of met) ≡ charged_at rows (bit_of bits) j
+stop_charge p k j rows stop bits met is both =
+    price_same rows (bit_of met) (λ i. bit_of bits i && marked (λ s. in_row s j) rows i) (λ i. rw (both i, is.here i) refl) ∙ charged_marked rows (bit_of bits) j
+
+-- what a list has at a place within, whatever stands for what it lacks
+pub found_at : {X : Type 0} (xs : List X) (i : ℕ) (x d : X) → ltb i (length xs) ≡ true → x ≡ get_or xs i x → (i < length xs) × (x ≡ get_or xs i d)
+found_at xs i x d within is = let low : i < length xs = ltb-true i (length xs) within in (low, is ∙ get_or_default xs i x d low)
+
+-- the stops at the first rows of the instance
+pub record AreStopsBelow (p : Problem) (k : ℕ) (rows : List PricedRow) (v : ℕ) (stops : List RowStop) : Type 0 where
+  pub count : length stops ≡ v
+  pub each : (j : ℕ) (d : RowStop) → j < length stops → IsStopOf p k rows j (get_or stops j d)
+
+pub stops_more : (p : Problem) (k v : ℕ) (rows : List PricedRow) (stops : List RowStop) (stop : RowStop) → AreStopsBelow p k rows v stops → IsStopOf p k rows v stop
+    → AreStopsBelow p k rows (v + 1) (stops ++ (stop ∷ []))
+stops_more p k v rows stops stop are one = record {
+  count = omega (arith, are.count, length-append stops (stop ∷ []));
+  each = λ j d within. elim (cases_lt j (length stops)) [
+    | inl old ↦ rw (get_or_append_left stops (stop ∷ []) d j old) (are.each j d old)
+    | inr new ↦ (let last : j ≡ length stops = omega (arith, within, new, length-append stops (stop ∷ [])) in
+        rw (last, get_or_push stops stop d (length stops) refl) (rw are.count one))
+  ];
+}
+
+pub stops_whole : (p : Problem) (k v : ℕ) (rows : List PricedRow) (stops : List RowStop) → AreStopsBelow p k rows v stops → length p.rows ≤ v → AreStops p k rows stops
+stops_whole p k v rows stops are all = record { whole = λ some. omega (arith, are.count, all); each = are.each }

@@ -43,7 +43,7 @@ impl RowBits {
     }
 
     /// The bits with one more.
-    pub(crate) fn with(self, place: usize) -> RowBits
+    fn with(self, place: usize) -> RowBits
         requires { place < 256 }
         ensures { (i : ℕ) → bit_of result i ≡ ((i == place) || bit_of self i) }
     {
@@ -58,6 +58,17 @@ impl RowBits {
                 high: self.high | (1 << (place - WORD)),
             }
         }
+    }
+
+    /// The bits with one more, if it is to be set.
+    pub(crate) fn with_if(self, place: usize, is_set: bool) -> RowBits
+        requires { place < 256 }
+        ensures { (i : ℕ) → bit_of result i ≡ ((is_set && (i == place)) || bit_of self i) }
+    {
+        if is_set {
+            return self.with(place);
+        }
+        self
     }
 
     /// The bits that are set in both.

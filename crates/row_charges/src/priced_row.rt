@@ -4,7 +4,6 @@ ghost use Rattle.std.specs.Prelude.{◌≡◌};
 ghost use Rattle.solomon_reader.specs.SubsetRows.{in_row};
 ghost use Rattle.row_charges.specs.Rows.{row_of};
 
-
 /// Three customers, and what a route pays at each charge.
 #[derive(Clone, Copy, Debug)]
 pub struct PricedRow {

@@ -35,13 +35,7 @@ fn is_near(instance: &Instance, neighbours: u32, v: u16, places: &[u8], u: u16) 
 }
 
 /// Whether a row of three customers is remembered at a row of the instance.
-fn is_kept(
-    instance: &Instance,
-    neighbours: u32,
-    v: u16,
-    places: &[u8],
-    row: &PricedRow,
-) -> bool
+fn is_kept(instance: &Instance, neighbours: u32, v: u16, places: &[u8], row: &PricedRow) -> bool
     requires few { neighbours ≤ MOST_NEIGHBOURS }
     requires v { v < length instance.now.rows }
     requires places { HasPlaces instance.now neighbours v (length instance.now.rows) places.now }
@@ -73,12 +67,11 @@ pub(crate) fn stop_at(
     for place in 0..rows.len() {
         let row = &rows[place];
         let is_here = row.has(v);
-        if is_here {
-            stop.here = stop.here.with(place);
-        }
-        if is_here || is_kept(instance, neighbours, v, places, row) {
-            stop.kept = stop.kept.with(place);
-        }
+        let is_kept = is_here || is_kept(instance, neighbours, v, places, row);
+        stop = RowStop {
+            here: stop.here.with_if(place, is_here),
+            kept: stop.kept.with_if(place, is_kept),
+        };
     }
     stop
 }

@@ -10,7 +10,7 @@ use Rattle.solomon_reader.specs.Distance.{distance}
 use Rattle.solomon_reader.specs.Plan.{Arc, Walks, load_of, arcs_from}
 use Rattle.solomon_reader.specs.Region.{IsAllowed}
 use Rattle.solomon_reader.specs.Relaxed.{IsRelaxed, paid_from}
-use Rattle.solomon_reader.specs.SubsetRows.{PricedRow, charged_at, bits_after, charged_from, debt}
+use Rattle.solomon_reader.specs.SubsetRows.{PricedRow, charged_at, bits_after, charged_from}
 use Rattle.solomon_reader.specs.PricedLeaf.{charged_cost_by}
 use Rattle.solomon_reader.specs.RowLaws.{charged_is, no_debt, debt_through, debt_step}
 use Rattle.solomon_reader.specs.Remembering.{near, IsFree, Forgets, remember}

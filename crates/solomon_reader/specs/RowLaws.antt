@@ -1,7 +1,7 @@
 -- Rows of three customers charge a plan at most once; and what is as good as a state for what follows, where bits differ.
-use Rattle.std.proofs.Common.{◌≡◌, refl, ℕ, zero, suc, ◌+◌, ◌*◌, ◌≤◌, Bool, true, false, not, cond, ◌&&◌, ◌||◌, List, [], ◌∷◌, arith, inl, inr}
+use Rattle.std.proofs.Common.{◌≡◌, refl, ℕ, suc, ◌+◌, ◌*◌, ◌≤◌, Bool, true, false, not, cond, ◌&&◌, ◌||◌, List, [], ◌∷◌, arith}
 use Rattle.std.specs.Prelude.{◌==◌}
-use Rattle.std.specs.List.{sum_by, count_by, flat_map}
+use Rattle.std.specs.List.{sum_by, flat_map}
 use Rattle.std.proofs.lemmas.List.Sums.{sum_by-cons, sum_by-append}
 use Rattle.std.proofs.lemmas.Nat.{mul-le}
 use Rattle.solomon_reader.specs.Problem.{Problem}
@@ -115,7 +115,7 @@ charged_more p k s rows [] bits = omega arith
 charged_more p k s rows (j ∷ r) bits =
     let rest = charged_more p k s rows r (bits_after p k (s ∷ rows) bits j) in
     let all : s.price * (cond (bits 0 && in_row s.row j) 1 0 + charges_from p k s.row (bit_after p k s.row (bits 0) j) r)
-        ≡ s.price * cond (bits 0 && in_row s.row j) 1 0 + s.price * charges_from p k s.row (bit_after p k s.row (bits 0) j) r = omega arith in
+    ≡ s.price * cond (bits 0 && in_row s.row j) 1 0 + s.price * charges_from p k s.row (bit_after p k s.row (bits 0) j) r = omega arith in
     omega (arith, rest, all, priced_mark s.price (bits 0 && in_row s.row j))
 
 charged_none : (p : Problem) (k : ℕ) (bits : ℕ → Bool) (r : List ℕ) → charged_from p k [] bits r ≡ 0
