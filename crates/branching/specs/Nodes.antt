@@ -1,5 +1,5 @@
 -- Nodes of a tree as definitions see them, and the tree that a list of them is.
-use Rattle.std.specs.Prelude.{◌≡◌, ℕ, ◌≤◌, List, map}
+use Rattle.std.specs.Prelude.{◌≡◌, ℕ, ◌≤◌, List, [], map}
 use Rattle.solomon_reader.specs.Problem.{Problem, customer_count}
 use Rattle.solomon_reader.specs.Region.{root_region}
 use Rattle.solomon_reader.specs.Bound.{Version, Node, leaf_node, split_node, Tree, preorder, IsTreeBound}
@@ -17,7 +17,7 @@ abbrev pub set_price_of : SetPrice → shared.SetPrice
 set_price_of m = (m.set, m.price)
 
 abbrev pub prices_of : LeafPrices → bound.LeafPrices
-prices_of prices = record { customers = prices.customers.items; sets = map set_price_of prices.sets.items }
+prices_of prices = record { customers = prices.customers.items; sets = map set_price_of prices.sets.items; rows = [] }
 
 abbrev pub node_of : TreeNode → Node
 node_of (tree_node.Leaf prices) = leaf_node (prices_of prices)

@@ -12,8 +12,9 @@ use Rattle.solomon_reader.specs.Region.{Region}
 use Rattle.solomon_reader.specs.States.{Pricing, State, arc_value, begins, most_grains, IsPriced}
 use Rattle.fronts.specs.declared.front.Front.{Front}
 
+-- where no row charges
 abbrev pub state_of : Front → (ℕ → Bool) → State
-state_of f memory = record { last = f.last; time = f.time; load = f.load; cost = f.cost; memory = memory }
+state_of f memory = record { last = f.last; time = f.time; load = f.load; cost = f.cost; memory = memory; bits = λ _. false }
 
 -- the state of a front that remembers nothing
 abbrev pub bare_state : Front → State
