@@ -23,9 +23,9 @@ use Rattle.solomon_reader.specs.Plan.{Arc}
 use Rattle.solomon_reader.specs.CertificateText.{IsTreeAt, IsPrice, depth_of}
 use Rattle.solomon_reader.specs.AmongLaws.{weaker}
 use Rattle.solomon_reader.specs.SetPrices.{PricedSet}
-use Rattle.solomon_reader.specs.SetDualityLaws.{same_without_sets}
+use Rattle.solomon_reader.specs.SetDualityLaws.{same_without}
 use Rattle.priced_sets.specs.Sets.{IsWithin}
-use Rattle.solomon_reader.specs.LeafLaws.{priced_alone}
+use Rattle.solomon_reader.specs.LeafLaws.{priced_alone, no_row_priced}
 use Rattle.solomon_reader.specs.ArcOrder.{holds_new, holds_old}
 use Rattle.closing.specs.Depths.{DepthHolds}
 use Rattle.closing.specs.Growing.{Grows, IsSameTask, IsSameTree, Splits}
@@ -37,7 +37,7 @@ in_range sets prices all = weaker (IsWithin sets) IsPrice (λ z h. omega (arith,
 
 -- the node of a leaf where no set has a price
 pub bare_node : (prices customers : List ℤ) (sets : List SetPrice) → customers ≡ prices → sets ≡ []
-    → leaf_node (record { customers = customers; sets = map set_price_of sets }) ≡ leaf_node (of_customers prices)
+    → leaf_node (record { customers = customers; sets = map set_price_of sets; rows = [] }) ≡ leaf_node (of_customers prices)
 bare_node prices customers sets same none = rw (same, none) refl
 
 -- a leaf that was listed has grown
@@ -49,8 +49,8 @@ leaf_grows f old new node is none own task item e low least leaves = record {
   tree = leaf (of_customers f.prices);
   nodes = ap (λ ns. map node_of ns) e ∙ map-append node_of old.nodes.items (node ∷ []) ∙ ap (λ i. map node_of old.nodes.items ++ (i ∷ [])) item;
   value = min (ceiling_of old.instance.now + 1) f.value;
-  bound = (f.value, (same_without_sets version_2 old.instance.now f.region f.neighbours f.prices f.value).0 (rw (sym own, sym none) is.valued), refl);
-  shaped = (is.valued.priced ∙ sym is.size, in_range f.sets f.prices is.priced, priced_alone 0 f.prices (in_range f.sets f.prices is.priced));
+  bound = (f.value, (same_without version_2 old.instance.now f.region f.neighbours f.prices f.value).0 (rw (sym own, sym none) is.valued), refl);
+  shaped = (is.valued.priced ∙ sym is.size, in_range f.sets f.prices is.priced, priced_alone 0 f.prices (in_range f.sets f.prices is.priced), no_row_priced 0);
   least = omega (arith, least, low);
   leaves = omega (arith, leaves);
 }

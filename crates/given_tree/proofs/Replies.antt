@@ -70,10 +70,10 @@ module _ (old new : Contents) (number worker : ℕ) (f : ValuedPrices) (done : U
   prices_raised leaf = raised_by_prices old new number worker f.value leaf prices_keep past_is
 
 -- the value of a leaf of a tree is at most that of its prices in a book
-pub priced_low : (version : Version) (p : Problem) (g : Region) (k : ℕ) (prices : LeafPrices) (f : ValuedPrices) (v : ℕ) → AreSetPrices (length (listed_sets version)) prices
+pub priced_low : (version : Version) (p : Problem) (g : Region) (k : ℕ) (prices : LeafPrices) (f : ValuedPrices) (v : ℕ) → AreSetPrices (length (listed_sets version)) prices → prices.rows ≡ []
     → IsPricedBy p g k prices.customers (priced_sets (listed_sets version) prices.sets) f → IsValueAt version p g k prices v → v ≤ f.value
-priced_low version p g k prices f v are priced is =
-    text_low version p g k prices v f.value are is (rw (priced.problem, priced.region, priced.neighbours, priced.prices, priced.sets) at priced.valued.valued)
+priced_low version p g k prices f v are bare priced is =
+    text_low version p g k prices v f.value are bare is (rw (priced.problem, priced.region, priced.neighbours, priced.prices, priced.sets) at priced.valued.valued)
 
 -- ---- prices at a leaf
 
@@ -105,9 +105,9 @@ children_at b number a f x y g h shown undecided g_is h_is used unused =
       unused = record { region = unused.region ∙ (h_is ∙ ap (λ (r : Region). unused_child r a) region); neighbours = unused.neighbours ∙ neighbours };
     }
 
-pub raised_low : {E : Type 0} (version : Version) (old new : Contents) (number : ℕ) (prices : LeafPrices) (f : ValuedPrices) (r : Result (Unit {0}) E) → AreSetPrices (length (listed_sets version)) prices
+pub raised_low : {E : Type 0} (version : Version) (old new : Contents) (number : ℕ) (prices : LeafPrices) (f : ValuedPrices) (r : Result (Unit {0}) E) → AreSetPrices (length (listed_sets version)) prices → prices.rows ≡ []
     → IsPricedBy old.problem (region_at old number) old.neighbours prices.customers (priced_sets (listed_sets version) prices.sets) f → OnOk r (IsRaisedTo old new number f.value)
     → OnOk r ((v : ℕ) → IsValueAt version old.problem (region_at old number) old.neighbours prices v → IsRaisedTo old new number v)
-raised_low version old new number prices f (Err e) are priced raised = tt
-raised_low version old new number prices f (Ok done) are priced raised =
-    λ v is. lower old new number f.value v (priced_low version old.problem (region_at old number) old.neighbours prices f v are priced is) raised
+raised_low version old new number prices f (Err e) are bare priced raised = tt
+raised_low version old new number prices f (Ok done) are bare priced raised =
+    λ v is. lower old new number f.value v (priced_low version old.problem (region_at old number) old.neighbours prices f v are bare priced is) raised

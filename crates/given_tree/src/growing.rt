@@ -36,8 +36,12 @@ pub(crate) fn grow_at<'i>(
     ensures unlimited { IfErr result (λ e. e ≡ LabelLimit → given.now.labels ≢ None) }
 {
     match tree {
-        CertTree::Leaf { prices, set_prices } => {
-            grow_leaf(given, handed_on, book, number, prices, set_prices)?;
+        CertTree::Leaf {
+            prices,
+            set_prices,
+            row_prices,
+        } => {
+            grow_leaf(given, handed_on, book, number, prices, set_prices, row_prices)?;
             leaves.push(number)?;
             Ok(())
         }

@@ -1,6 +1,6 @@
 //! A leaf of a book takes the prices of a leaf of the tree.
 
-ghost use Rattle.std.specs.Prelude.{◌≡◌, ◌≢◌, ℕ, None, IfOk, IfErr, OnOk, map};
+ghost use Rattle.std.specs.Prelude.{◌≡◌, ◌≢◌, ℕ, None, IfOk, IfErr, OnOk, map, []};
 ghost use Rattle.solomon_reader.specs.Problem.{customer_count};
 ghost use Rattle.solomon_reader.specs.History.{IsLeaf};
 ghost use Rattle.solomon_reader.specs.Bound.{listed_sets, IsValueAt};
@@ -18,7 +18,7 @@ use crate::given::GivenTree;
 use crate::handed_on::HandedOn;
 use crate::leaf_sets::sets_at;
 use crate::pricing::price;
-use certificate::SetPrice;
+use certificate::{RowPrice, SetPrice};
 use incumbent_book::Book;
 use prices::Priced;
 
@@ -33,7 +33,7 @@ fn price_leaf<'i>(
 ) -> Result<Priced<'i>, ReplayFault>
     requires leaf { IsLeaf book.now.past number }
     requires shaped { IsLeafAt (version_of tree.now.version.now) (customer_count book.now.problem)
-        (prices_of prices.now set_prices.now) }
+        (prices_of prices.now set_prices.now []) }
     ensures priced { IfOk result (IsPricedBy book.now.problem (region_at book.now number) book.now.neighbours prices.now
         (priced_sets (listed_sets (version_of tree.now.version.now)) (map set_price_of set_prices.now))) }
     ensures unlimited { IfErr result (λ e. e ≡ LabelLimit → tree.now.labels ≢ None) }
@@ -68,7 +68,8 @@ fn raise<'i>(book: &mut Book<'i>, number: u32, priced: Priced<'i>) -> Result<(),
     }
 }
 
-/// Gives a leaf the prices of a leaf of the tree where their value is higher.
+/// Gives a leaf the prices of a leaf of the tree where their value is higher. `Unfit` where rows have prices there: a
+/// book's leaves have none.
 pub(crate) fn grow_leaf<'i>(
     tree: &GivenTree<'_>,
     handed_on: &mut HandedOn<'_>,
@@ -76,18 +77,22 @@ pub(crate) fn grow_leaf<'i>(
     number: u32,
     prices: &[i64],
     set_prices: &[SetPrice],
+    row_prices: &[RowPrice],
 ) -> Result<(), ReplayFault>
     requires leaf { IsLeaf book.old.past number }
     requires shaped { IsLeafAt (version_of tree.now.version.now) (customer_count book.old.problem)
-        (prices_of prices.now set_prices.now) }
+        (prices_of prices.now set_prices.now row_prices.now) }
     ensures keeps { Keeps book.old book.new }
     ensures grown { OnOk result (IsGrownAt book.old book.new number) }
     ensures still { OnOk result (IsLeaf book.new.past number) }
     ensures raised { OnOk result ((v : ℕ) → IsValueAt (version_of tree.now.version.now) book.old.problem
-        (region_at book.old number) book.old.neighbours (prices_of prices.now set_prices.now) v
+        (region_at book.old number) book.old.neighbours (prices_of prices.now set_prices.now row_prices.now) v
         → IsRaisedTo book.old book.new number v) }
     ensures unlimited { IfErr result (λ e. e ≡ LabelLimit → tree.now.labels ≢ None) }
 {
+    if !row_prices.is_empty() {
+        return Err(ReplayFault::Unfit);
+    }
     let priced = price_leaf(tree, handed_on, book, number, prices, set_prices)?;
     raise(book, number, priced)
 }

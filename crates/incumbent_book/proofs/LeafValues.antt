@@ -9,10 +9,11 @@ use Rattle.std.proofs.lemmas.List.Sorted.{sum_by-IsPermutation, All-permutation}
 use Rattle.std.proofs.lemmas.List.Elements.{All-from_recursion, recursion_from_All}
 use Rattle.solomon_reader.specs.Problem.{Problem}
 use Rattle.solomon_reader.specs.Region.{Region}
-use Rattle.solomon_reader.specs.Bound.{version_2, with_sets, listed_sets, LeafPrices, IsLeafValueWith, IsValueAt}
-use Rattle.solomon_reader.specs.CertificateText.{AreSetPrices, IsPrice, set_prices_sum}
-use Rattle.solomon_reader.specs.SetPrices.{ListedSet, PricedSet, SetPrice, IsTrueNeed, paid_for_entries, paid_for_needs, price_sum, priced_sets, reduced_cost_with}
-use Rattle.solomon_reader.specs.SetDualityLaws.{same_without_sets}
+use Rattle.solomon_reader.specs.Bound.{version_2, with_sets, listed_sets, listed_rows, LeafPrices, IsLeafValueAt, IsValueAt}
+use Rattle.solomon_reader.specs.CertificateText.{AreSetPrices, AreRowPrices, IsPrice, set_prices_sum, row_prices_sum}
+use Rattle.solomon_reader.specs.SetPrices.{ListedSet, PricedSet, SetPrice, IsTrueNeed, paid_for_entries, paid_for_needs, price_sum, priced_sets}
+use Rattle.solomon_reader.specs.PricedLeaf.{without_rows, reduced_cost_at}
+use Rattle.solomon_reader.specs.SetDualityLaws.{same_without}
 use Rattle.solomon_reader.specs.AmongLaws.{weaker}
 use Rattle.solomon_reader.specs.declared.limits.TheConstants.{MOST_PRICE}
 use Rattle.priced_sets.specs.Sets.{ArePriced, IsWithin}
@@ -22,18 +23,18 @@ use Rattle.incumbent_book.specs.Trees.{AreNamed}
 
 -- ---- the same value with the sets in another order
 
-module _ (p : Problem) (prices : List ℤ) (sets others : List PricedSet) (same : IsPermutation sets others) where
+module _ (p : Problem) (k : ℕ) (prices : List ℤ) (sets others : List PricedSet) (same : IsPermutation sets others) where
   same_entries : (r : List ℕ) → paid_for_entries others r ≡ paid_for_entries sets r
   same_entries r = sum_by-IsPermutation _ sets others same
 
   same_needs : paid_for_needs others ≡ paid_for_needs sets
   same_needs = sum_by-IsPermutation _ sets others same
 
-  same_cost : (r : List ℕ) → reduced_cost_with p prices others r ≡ reduced_cost_with p prices sets r
+  same_cost : (r : List ℕ) → reduced_cost_at p k (without_rows prices others) r ≡ reduced_cost_at p k (without_rows prices sets) r
   same_cost r = omega (arith, ints, same_entries r)
 
-  pub same_value : (listed : List ListedSet) (g : Region) (k v : ℕ) → IsLeafValueWith version_2 p g k prices sets v → IsLeafValueWith (with_sets listed) p g k prices others v
-  same_value listed g k v value = record {
+  pub same_value : (listed : List ListedSet) (g : Region) (v : ℕ) → IsLeafValueAt version_2 p g k (without_rows prices sets) v → IsLeafValueAt (with_sets listed) p g k (without_rows prices others) v
+  same_value listed g v value = record {
     priced = value.priced;
     least = value.least;
     is_least = elim value.is_least [
@@ -52,12 +53,12 @@ none_listed (s ∷ sets) h = absurd h.0
 
 -- the value by the version in which a book's tree is told
 pub named_value : (most : ℕ) (listed : List ListedSet) (own : OwnPrices) (prices : LeafPrices) (p : Problem) (g : Region) (k v : ℕ) → length listed ≤ most
-    → AreNamed listed own prices → AreListed listed own.sets → IsLeafValueWith version_2 p g k own.customers own.sets v → IsValueAt (version_of most listed) p g k prices v
+    → AreNamed listed own prices → AreListed listed own.sets → IsLeafValueAt version_2 p g k (without_rows own.customers own.sets) v → IsValueAt (version_of most listed) p g k prices v
 named_value zero [] own prices p g k v few named known value =
-    rw named.customers ((same_without_sets version_2 p g k own.customers v).0 (subst (λ (sets : List PricedSet). IsLeafValueWith version_2 p g k own.customers sets v) (none_listed own.sets known) value))
+    rw named.customers ((same_without version_2 p g k own.customers v).0 (subst (λ (sets : List PricedSet). IsLeafValueAt version_2 p g k (without_rows own.customers sets) v) (none_listed own.sets known) value))
 named_value zero (s ∷ listed) own prices p g k v few named known value = absurd (omega arith)
 named_value (suc n) listed own prices p g k v few named known value =
-    rw named.customers (same_value p own.customers own.sets (priced_sets listed prices.sets) named.sets listed g k v value)
+    rw named.customers (same_value p k own.customers own.sets (priced_sets listed prices.sets) named.sets listed g v value)
 
 -- ---- the shape of a leaf
 
@@ -82,7 +83,7 @@ named_prices p listed own prices named are within = record {
   numbers = named.numbers;
   some = some_is listed prices.sets (recursion_from_All (λ (s : PricedSet). 1 ≤ s.price) (priced_sets listed prices.sets)
       (All-permutation (λ (s : PricedSet). 1 ≤ s.price) own.sets (priced_sets listed prices.sets) named.sets (All-from_recursion (λ (s : PricedSet). 1 ≤ s.price) own.sets are.some)));
-  within = rw named.customers (weaker (IsWithin own.sets) (λ z. set_prices_sum prices.sets + nat_abs z ≤ MOST_PRICE)
+  within = rw named.customers (weaker (IsWithin own.sets) (λ z. (set_prices_sum prices.sets + row_prices_sum prices.rows) + nat_abs z ≤ MOST_PRICE)
       (λ z h. omega (arith, h, sum_is listed prices.sets, sum_by-IsPermutation (λ (s : PricedSet). s.price) own.sets (priced_sets listed prices.sets) named.sets)) own.customers within);
 }
 

@@ -4,15 +4,16 @@ use Rattle.std.specs.Prelude.{min, slice_index_or}
 use Rattle.std.proofs.lemmas.Bool.{cases_eq, cases_lt}
 use Rattle.solomon_reader.specs.Problem.{customer_count}
 use Rattle.solomon_reader.specs.Region.{used_child, unused_child, root_region, Obeys}
-use Rattle.solomon_reader.specs.Bound.{version_2, ceiling_of, Tree, leaf, split, HasBound}
+use Rattle.solomon_reader.specs.Bound.{version_2, listed_rows, ceiling_of, Tree, leaf, split, HasBound}
 use Rattle.solomon_reader.specs.CertificateText.{IsTreeAt}
 use Rattle.branching.specs.Arcs.{pair}
-use Rattle.prices.specs.ValuedPrices.{ValuedPrices}
+use Rattle.prices.specs.ValuedPrices.{ValuedPrices, leaf_of}
 use Rattle.solomon_reader.specs.History.{Event, offered, repriced, was_split, split_count, used_number, unused_number, last_number, split_of, IsLeaf, region_of, depth_of, value_of, IsBound}
 use Rattle.solomon_reader.specs.History.{IsLegal}
 use Rattle.solomon_reader.specs.Plan.{IsPlan, plan_cost, Arc as Pair}
+use Rattle.solomon_reader.specs.LeafLaws.{no_row_priced}
 use Rattle.solomon_reader.specs.RegionLaws.{obeys_root, obeys_child}
-use Rattle.solomon_reader.specs.SetDualityLaws.{set_weak_duality}
+use Rattle.solomon_reader.specs.SetDualityLaws.{leaf_weak_duality}
 use Rattle.incumbent_book.specs.Contents.{Contents, OwnPrices, own_prices, no_prices, IsBook, pricing_at}
 use Rattle.incumbent_book.specs.Arena.{open_leaf, leaf_at, IsLeastOf}
 use Rattle.incumbent_book.specs.Keeping.{IsConsistent}
@@ -164,6 +165,7 @@ module _ (b : Contents) (book : IsBook b) where
     rw g.1.customers (f.valued.priced ∙ sym f.size),
     rw g.1.customers (within_price (own m).sets (own m).customers f.priced),
     rw (listed_count b.most_sets b.listed book.few.0) (named_prices b.problem b.listed (own m) ps g.1 f.sets_are f.priced),
+    rw g.1.rows (no_row_priced (length (listed_rows (version_of_book b)))),
   )
   shaped_at m (split a x y) g =
       let f = split_facts n b.root b.past m g.0 a book.legal g.1 in
@@ -330,4 +332,4 @@ bound_holds b bound routes book is plan =
     let l = obeys_leaf (customer_count b.problem) b.root b.past routes book.legal in
     let f = book.leaves l.0 l.1 in
     let g = pricing_at b l.0 in
-    omega (arith, is.leaves l.0 l.1, set_weak_duality version_2 b.problem g.region g.neighbours g.prices g.sets g.value routes f.size (true_needs b.problem g.sets f.sets_are) f.valued plan l.2)
+    omega (arith, is.leaves l.0 l.1, leaf_weak_duality version_2 b.problem g.region g.neighbours (leaf_of g) g.value routes f.size (true_needs b.problem g.sets f.sets_are) f.valued plan l.2)

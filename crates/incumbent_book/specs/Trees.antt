@@ -1,5 +1,5 @@
 -- The tree that a history and the prices of the leaves make, and its list of nodes.
-use Rattle.std.specs.Prelude.{◌≡◌, ℕ, ◌≤◌, List, map, length, Some, slice_index_or}
+use Rattle.std.specs.Prelude.{◌≡◌, ℕ, ◌≤◌, List, [], map, length, Some, slice_index_or}
 use Rattle.std.specs.List.Sorted.{IsPermutation}
 use Rattle.solomon_reader.specs.Problem.{customer_count}
 use Rattle.solomon_reader.specs.Region.{root_region}
@@ -11,11 +11,12 @@ use Rattle.solomon_reader.specs.CertificateText as certificate
 use Rattle.solomon_reader.specs.History.{Event, split_of, used_number, unused_number, IsLeaf, IsBound, leaf_count}
 use Rattle.incumbent_book.specs.Contents.{Contents, OwnPrices, no_prices, version_of}
 
--- the prices of a leaf, where a list names its sets in the list's order
+-- the prices of a leaf, where a list names its sets in the list's order; no row has one
 pub record AreNamed (listed : List ListedSet) (own : OwnPrices) (prices : LeafPrices) : Type 0 where
   pub customers : prices.customers ≡ own.customers
   pub numbers : IsCustomerSet (length listed) (map (λ m. m.0) prices.sets)
   pub sets : IsPermutation own.sets (priced_sets listed prices.sets)
+  pub rows : prices.rows ≡ []
 
 -- the tree stands at a number: a leaf with its prices, or a split with the trees at both children
 abbrev pub GrowsAt : List Event → List ListedSet → List OwnPrices → ℕ → Tree → Type 0

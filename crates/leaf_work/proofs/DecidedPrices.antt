@@ -13,7 +13,7 @@ use Rattle.solomon_reader.specs.Bound.{Version, routes_counted, IsLeafValue, cei
 use Rattle.solomon_reader.specs.SumLaws.{up, down, int_sum-permutation, prices_sum, times_down, times_up}
 use Rattle.solomon_reader.specs.RelaxedLaws.{is_relaxed, reduced_sum}
 use Rattle.solomon_reader.specs.DualityLaws.{ceiling_holds}
-use Rattle.solomon_reader.specs.SetDualityLaws.{same_without_sets}
+use Rattle.solomon_reader.specs.SetDualityLaws.{same_without}
 use Rattle.branching.specs.Choosing.{IsDecided}
 use Rattle.solomon_reader.specs.PlanDefects.{stops}
 use Rattle.solomon_reader.specs.AmongLaws.{weaker}
@@ -296,7 +296,7 @@ module _ (p : Problem) (g : Region) (size : g.size ≡ customer_count p) where
 
 module _ (p : Problem) (g : Region) (prices : List ℤ) (f : ValuedPrices) (is : IsValued f) (problem : f.problem ≡ p) (region : f.region ≡ g) (priced : f.prices ≡ prices) (none : f.sets ≡ []) where
   valued : IsLeafValue version_2 p g f.neighbours prices f.value
-  valued = (same_without_sets version_2 p g f.neighbours prices f.value).0 (rw (problem, region, priced, none) at is.valued)
+  valued = (same_without version_2 p g f.neighbours prices f.value).0 (rw (problem, region, priced, none) at is.valued)
 
   pub decided_value : (plan : Option Solution) → AreDecidedPrices p g prices plan → MatchOption plan (ceiling_of p + 1 ≤ f.value) (λ s. f.value ≡ s.cost)
   decided_value None s = s.0 version_2 f.neighbours f.value valued

@@ -13,13 +13,14 @@ use Rattle.solomon_reader.specs.Plan.{IsFitting, Walks, arcs_from, load_of, rout
 use Rattle.solomon_reader.specs.Region.{Region, IsAllowed}
 use Rattle.solomon_reader.specs.Relaxed.{IsRelaxed, price_of, int_sum_by}
 use Rattle.solomon_reader.specs.CustomerSets.{IsCustomerSet, entries, enters, holds}
-use Rattle.solomon_reader.specs.SetPrices.{PricedSet, IsLeastWith, IsLeastOrZeroWith, reduced_cost_with, paid_for_entries, price_sum, listed_of}
+use Rattle.solomon_reader.specs.SetPrices.{PricedSet, paid_for_entries, price_sum, listed_of}
+use Rattle.solomon_reader.specs.PricedLeaf.{without_rows, IsLeastAt, IsLeastOrZeroAt, reduced_cost_at}
 use Rattle.solomon_reader.specs.SetLaws.{depot_outside, entries_from, entries_more, entries_end, entries_is}
 use Rattle.solomon_reader.specs.SumLaws.{up, down}
 use Rattle.solomon_reader.specs.CertificateText.{IsPrice}
 use Rattle.solomon_reader.specs.AmongLaws.{weaker}
 use Rattle.labelling.specs.declared.least_cost.Least.{Least}
-use Rattle.labelling.specs.Answer.{HasLeastValueWith, HasItsRouteWith}
+use Rattle.labelling.specs.Answer.{HasLeastValueAt, HasItsRouteAt}
 use Rattle.priced_sets.specs.Sets.{ArePriced, MayBeListed}
 use Rattle.prices.specs.ValuedPrices.{or_zero, IsValued}
 use Rattle.prices.specs.Narrowing.{IsNarrower, StaysLeast}
@@ -114,13 +115,13 @@ module _ (prices : List ℤ) (priced : AllByRecursion IsPrice prices) where
       abs_within ((pos (1000 * cost) -ℤ sum) -ℤ pos paid) 20000000000000000 (omega (arith, ints)) (omega (arith, ints))
 
   module _ (p : Problem) (sets : List PricedSet) (are : ArePriced p sets) (limits : IsWithinLimits p) where
-    reduced_small : (r : List ℕ) → IsFitting p r → nat_abs (reduced_cost_with p prices sets r) ≤ 20000000000000000
+    reduced_small : (r : List ℕ) → IsFitting p r → nat_abs (reduced_cost_at p k (without_rows prices sets) r) ≤ 20000000000000000
     reduced_small r fitting =
         near_zero (route_cost p r) (length r) (paid_for_entries sets r) (int_sum_by (price_of prices) r) (prices_low r) (prices_high r) (short p limits r fitting) (cheap p limits r fitting)
         (paid_within (customer_count p) sets r (sets_known p sets are.listed) are.within)
 
     least_small : (g : Region) (k : ℕ) (least : Option ℤ)
-        → MatchOption least ((r : List ℕ) → ¬ IsRelaxed p g k r) (λ m. IsLeastWith p g k prices sets m) → nat_abs (or_zero least) ≤ 20000000000000000
+        → MatchOption least ((r : List ℕ) → ¬ IsRelaxed p g k r) (λ m. IsLeastAt p g k (without_rows prices sets) m) → nat_abs (or_zero least) ≤ 20000000000000000
     least_small g k None is = omega arith
     least_small g k (Some m) is =
         let P : ℤ → Type 0 = λ z. nat_abs z ≤ 20000000000000000 in
@@ -135,7 +136,7 @@ down-le (pos n) = omega arith
 down-le (negsuc n) = omega arith
 
 module _ (prices : List ℤ) (priced : AllByRecursion IsPrice prices) (p : Problem) (sets : List PricedSet) (are : ArePriced p sets) (limits : IsWithinLimits p) (g : Region) (k : ℕ)
-    (least : Option ℤ) (is : MatchOption least ((r : List ℕ) → ¬ IsRelaxed p g k r) (λ m. IsLeastWith p g k prices sets m)) where
+    (least : Option ℤ) (is : MatchOption least ((r : List ℕ) → ¬ IsRelaxed p g k r) (λ m. IsLeastAt p g k (without_rows prices sets) m)) where
   pub least_above : up (or_zero least) ≤ 20000000000000000
   least_above = omega (arith, up-le (or_zero least), least_small prices priced p sets are limits g k least is)
 
@@ -143,7 +144,7 @@ module _ (prices : List ℤ) (priced : AllByRecursion IsPrice prices) (p : Probl
   least_below = omega (arith, down-le (or_zero least), least_small prices priced p sets are limits g k least is)
 
 pub least_or_zero : (p : Problem) (g : Region) (k : ℕ) (prices : List ℤ) (sets : List PricedSet) (least : Option ℤ)
-    → MatchOption least ((r : List ℕ) → ¬ IsRelaxed p g k r) (λ m. IsLeastWith p g k prices sets m) → IsLeastOrZeroWith p g k prices sets (or_zero least)
+    → MatchOption least ((r : List ℕ) → ¬ IsRelaxed p g k r) (λ m. IsLeastAt p g k (without_rows prices sets) m) → IsLeastOrZeroAt p g k (without_rows prices sets) (or_zero least)
 least_or_zero p g k prices sets None is = inr (is, refl)
 least_or_zero p g k prices sets (Some m) is = inl is
 
@@ -166,9 +167,9 @@ module _ (p : Problem) (g h : Region) (k : ℕ) (prices : List ℤ) (sets : List
   stays r is allowed = record { fitting = is.fitting; allowed = allowed; forgets = is.forgets }
 
   pub least_stays : (value : Option ℤ) (route : List ℕ) → MatchOption value (Unit {0}) (λ m. AllByRecursion (IsAllowed g) (arcs route))
-      → MatchOption value ((r : List ℕ) → ¬ IsRelaxed p h k r) (λ m. IsLeastWith p h k prices sets m)
-      → MatchOption value (route ≡ []) (λ m. IsRelaxed p h k route × (reduced_cost_with p prices sets route ≡ m))
-      → MatchOption value ((r : List ℕ) → ¬ IsRelaxed p g k r) (λ m. IsLeastWith p g k prices sets m)
+      → MatchOption value ((r : List ℕ) → ¬ IsRelaxed p h k r) (λ m. IsLeastAt p h k (without_rows prices sets) m)
+      → MatchOption value (route ≡ []) (λ m. IsRelaxed p h k route × (reduced_cost_at p k (without_rows prices sets) route ≡ m))
+      → MatchOption value ((r : List ℕ) → ¬ IsRelaxed p g k r) (λ m. IsLeastAt p g k (without_rows prices sets) m)
   least_stays None route allowed none has = λ r is. none r (wider r is)
   least_stays (Some m) route allowed is has = record {
     reached = (route, stays route has.0 allowed, has.1);
@@ -176,29 +177,29 @@ module _ (p : Problem) (g h : Region) (k : ℕ) (prices : List ℤ) (sets : List
   }
 
   pub route_stays : (value : Option ℤ) (route : List ℕ) → MatchOption value (Unit {0}) (λ m. AllByRecursion (IsAllowed g) (arcs route))
-      → MatchOption value (route ≡ []) (λ m. IsRelaxed p h k route × (reduced_cost_with p prices sets route ≡ m))
-      → MatchOption value (route ≡ []) (λ m. IsRelaxed p g k route × (reduced_cost_with p prices sets route ≡ m))
+      → MatchOption value (route ≡ []) (λ m. IsRelaxed p h k route × (reduced_cost_at p k (without_rows prices sets) route ≡ m))
+      → MatchOption value (route ≡ []) (λ m. IsRelaxed p g k route × (reduced_cost_at p k (without_rows prices sets) route ≡ m))
   route_stays None route allowed has = has
   route_stays (Some m) route allowed has = (stays route has.0 allowed, has.1)
 
   same_least : (value : Option ℤ) (m : ℤ)
-      → MatchOption value ((r : List ℕ) → ¬ IsRelaxed p h k r) (λ l. IsLeastWith p h k prices sets l)
-      → MatchOption value ((r : List ℕ) → ¬ IsRelaxed p g k r) (λ l. IsLeastWith p g k prices sets l)
-      → IsLeastOrZeroWith p h k prices sets m → IsLeastOrZeroWith p g k prices sets m
+      → MatchOption value ((r : List ℕ) → ¬ IsRelaxed p h k r) (λ l. IsLeastAt p h k (without_rows prices sets) l)
+      → MatchOption value ((r : List ℕ) → ¬ IsRelaxed p g k r) (λ l. IsLeastAt p g k (without_rows prices sets) l)
+      → IsLeastOrZeroAt p h k (without_rows prices sets) m → IsLeastOrZeroAt p g k (without_rows prices sets) m
   same_least None m none still (inl is) = absurd (none is.reached.0 is.reached.1)
   same_least None m none still (inr nought) = inr (still, nought.1)
   same_least (Some l) m is still (inl other) =
       let below : l ≤ℤ m = subst (λ (z : ℤ). l ≤ℤ z) other.reached.2 (is.least other.reached.0 other.reached.1) in
       let above : m ≤ℤ l = subst (λ (z : ℤ). m ≤ℤ z) is.reached.2 (other.least is.reached.0 is.reached.1) in
-      inl (subst (λ (z : ℤ). IsLeastWith p g k prices sets z) (equal_leasts l m below above) still)
+      inl (subst (λ (z : ℤ). IsLeastAt p g k (without_rows prices sets) z) (equal_leasts l m below above) still)
   same_least (Some l) m is still (inr nought) = absurd (nought.0 is.reached.0 is.reached.1)
 
 -- so prices at the wider region are prices with the same value at the narrower one
 pub narrowed_pricing : (p : Problem) (g h : Region) (k : ℕ) (prices : List ℤ) (sets : List PricedSet) (v : ℕ) (least found : Least) → IsNarrower g h → StaysLeast g least
     → found.value ≡ least.value → found.route.items ≡ least.route.items
     → IsValued (record { problem = p; region = h; neighbours = k; prices = prices; sets = sets; value = v })
-    → HasLeastValueWith p h k prices sets least → HasItsRouteWith p h k prices sets least
-    → IsValued (record { problem = p; region = g; neighbours = k; prices = prices; sets = sets; value = v }) × HasLeastValueWith p g k prices sets found × HasItsRouteWith p g k prices sets found
+    → HasLeastValueAt p h k (without_rows prices sets) least → HasItsRouteAt p h k (without_rows prices sets) least
+    → IsValued (record { problem = p; region = g; neighbours = k; prices = prices; sets = sets; value = v }) × HasLeastValueAt p g k (without_rows prices sets) found × HasItsRouteAt p g k (without_rows prices sets) found
 narrowed_pricing p g h k prices sets v least found narrower allowed same_value same_route is is_least has_route =
     let still = least_stays p g h k prices sets narrower least.value least.route.items allowed is_least has_route in
     let routed = route_stays p g h k prices sets narrower least.value least.route.items allowed has_route in
@@ -219,5 +220,5 @@ narrowed_pricing p g h k prices sets v least found narrower allowed same_value s
 
 -- a copy of a least reduced cost is one, too
 pub copied_least : (p : Problem) (g : Region) (k : ℕ) (prices : List ℤ) (sets : List PricedSet) (least found : Least) → found.value ≡ least.value → found.route.items ≡ least.route.items
-    → HasLeastValueWith p g k prices sets least → HasItsRouteWith p g k prices sets least → HasLeastValueWith p g k prices sets found × HasItsRouteWith p g k prices sets found
+    → HasLeastValueAt p g k (without_rows prices sets) least → HasItsRouteAt p g k (without_rows prices sets) least → HasLeastValueAt p g k (without_rows prices sets) found × HasItsRouteAt p g k (without_rows prices sets) found
 copied_least p g k prices sets least found same_value same_route is_least has_route = (rw (same_value) is_least, rw (same_value, same_route) has_route)

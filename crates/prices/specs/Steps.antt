@@ -5,9 +5,10 @@ use Rattle.std.specs.List.{AllByRecursion}
 use Rattle.solomon_reader.specs.Problem.{customers}
 use Rattle.solomon_reader.specs.Plan.{count_of}
 use Rattle.solomon_reader.specs.Relaxed.{IsRelaxed, price_of}
-use Rattle.solomon_reader.specs.SetPrices.{IsLeastWith, reduced_cost_with}
+use Rattle.solomon_reader.specs.PricedLeaf.{IsLeastAt}
+use Rattle.solomon_reader.specs.PricedLeaf as leaf
 use Rattle.solomon_reader.specs.declared.limits.TheConstants.{MOST_PRICE}
-use Rattle.prices.specs.ValuedPrices.{ValuedPrices, IsValued}
+use Rattle.prices.specs.ValuedPrices.{ValuedPrices, IsValued, leaf_of}
 
 -- the number of the range of prices that is nearest to z
 abbrev pub cut : ℤ → ℤ
@@ -19,12 +20,12 @@ price_after s count price = cut (price +ℤ (s *ℤ (pos 1 -ℤ pos count)))
 
 -- the reduced cost of a route at prices
 abbrev pub reduced_cost_at : ValuedPrices → List ℕ → ℤ
-reduced_cost_at f r = reduced_cost_with f.problem f.prices f.sets r
+reduced_cost_at f r = leaf.reduced_cost_at f.problem f.neighbours (leaf_of f) r
 
 -- The route that a step goes by: one of the least reduced cost where that is below 0, else the empty one.
 abbrev pub IsGuide : ValuedPrices → List ℕ → Type 0
 IsGuide f r =
-    (IsRelaxed f.problem f.region f.neighbours r × IsLeastWith f.problem f.region f.neighbours f.prices f.sets (reduced_cost_at f r)
+    (IsRelaxed f.problem f.region f.neighbours r × IsLeastAt f.problem f.region f.neighbours (leaf_of f) (reduced_cost_at f r)
     × ((reduced_cost_at f r +ℤ pos 1) ≤ℤ pos 0))
     ⊎ ((r ≡ []) × ((q : List ℕ) → IsRelaxed f.problem f.region f.neighbours q → pos 0 ≤ℤ reduced_cost_at f q))
 

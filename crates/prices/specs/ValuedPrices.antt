@@ -3,8 +3,9 @@ use Rattle.std.specs.Prelude.{◌≡◌, ℕ, ◌*◌, ◌<◌, ◌≤◌, List,
 use Rattle.std.specs.List.{AllByRecursion}
 use Rattle.solomon_reader.specs.Problem.{Problem, customer_count}
 use Rattle.solomon_reader.specs.Region.{Region}
-use Rattle.solomon_reader.specs.Bound.{version_2, IsLeafValueWith}
+use Rattle.solomon_reader.specs.Bound.{version_2, IsLeafValueAt}
 use Rattle.solomon_reader.specs.SetPrices.{PricedSet}
+use Rattle.solomon_reader.specs.PricedLeaf.{PricedLeaf, without_rows}
 use Rattle.priced_sets.specs.Sets.{ArePriced, IsWithin}
 use Rattle.solomon_reader.specs.declared.limits.TheConstants.{MOST_NEIGHBOURS, MOST_PRICE, MOST_NEED}
 
@@ -16,6 +17,10 @@ pub record ValuedPrices : Type 0 where
   pub prices : List ℤ
   pub sets : List PricedSet
   pub value : ℕ
+
+-- what has a price there
+abbrev pub leaf_of : ValuedPrices → PricedLeaf
+leaf_of f = without_rows f.prices f.sets
 
 -- no value reaches this
 abbrev pub MOST_VALUE : ℕ
@@ -31,7 +36,7 @@ pub record IsValued (f : ValuedPrices) : Type 0 where
   pub few : f.neighbours ≤ MOST_NEIGHBOURS
   pub sets_are : ArePriced f.problem f.sets
   pub priced : AllByRecursion (IsWithin f.sets) f.prices
-  pub valued : IsLeafValueWith version_2 f.problem f.region f.neighbours f.prices f.sets f.value
+  pub valued : IsLeafValueAt version_2 f.problem f.region f.neighbours (leaf_of f) f.value
   pub bound : f.value < MOST_VALUE
 
 -- all needed entries together are paid no more than this, in grains

@@ -8,11 +8,11 @@ ghost use Rattle.solomon_reader.specs.CertificateText.{IsPrice};
 ghost use Rattle.solomon_reader.specs.declared.limits.TheConstants.{MOST_NEIGHBOURS};
 ghost use Rattle.labelling.specs.declared.fault.LabelFault.TheVariants as label;
 ghost use Rattle.priced_sets.specs.Sets.{sets_of, ArePriced, IsWithin};
-ghost use Rattle.prices.specs.ValuedPrices.{IsValued, IsPricedBy};
+ghost use Rattle.prices.specs.ValuedPrices.{IsValued, IsPricedBy, leaf_of};
 ghost use Rattle.prices.specs.Tasks.{valued_at};
 ghost use Rattle.prices.specs.Steps.{IsGuide};
 ghost use Rattle.prices.specs.Narrowing.{IsNarrower, IsSameAt};
-ghost use Rattle.labelling.specs.Answer.{HasLeastValueWith, HasItsRouteWith};
+ghost use Rattle.labelling.specs.Answer.{HasLeastValueAt, HasItsRouteAt};
 ghost use Rattle.prices.specs.declared.fault.PriceFault.TheVariants.{LabelLimit, PriceRange};
 
 use crate::fault::PriceFault;
@@ -39,9 +39,9 @@ pub struct Priced<'i> {
 impl<'i> Model for Priced<'i> {
     ghost use Rattle.std.specs.Coded.{codes};
     ghost use Rattle.solomon_reader.specs.Region.{region_code};
-    ghost use Rattle.prices.specs.ValuedPrices.{ValuedPrices, IsValued};
+    ghost use Rattle.prices.specs.ValuedPrices.{ValuedPrices, IsValued, leaf_of};
     ghost use Rattle.prices.specs.Tasks.{valued_at};
-    ghost use Rattle.labelling.specs.Answer.{HasLeastValueWith, HasItsRouteWith};
+    ghost use Rattle.labelling.specs.Answer.{HasLeastValueAt, HasItsRouteAt};
 
     ghost Value = { ValuedPrices };
 
@@ -50,8 +50,8 @@ impl<'i> Model for Priced<'i> {
     ghost view = { λ f. valued_at f.task f.value };
 
     ghost invariant = { λ f. IsValued (valued_at f.task f.value)
-        × HasLeastValueWith f.task.instance.now f.task.region f.task.neighbours f.task.prices.items f.task.sets.sets f.least
-        × HasItsRouteWith f.task.instance.now f.task.region f.task.neighbours f.task.prices.items f.task.sets.sets f.least };
+        × HasLeastValueAt f.task.instance.now f.task.region f.task.neighbours (leaf_of (valued_at f.task f.value)) f.least
+        × HasItsRouteAt f.task.instance.now f.task.region f.task.neighbours (leaf_of (valued_at f.task f.value)) f.least };
 }
 
 /// The value of the prices in tenths, and the least reduced cost that gives it.
@@ -65,9 +65,9 @@ fn evaluate(
     ensures value { let t = task.now in
         IfOk result (λ v. IsValued (valued_at t v.0)) }
     ensures least { let t = task.now in
-        IfOk result (λ v. HasLeastValueWith t.instance.now t.region t.neighbours t.prices.items t.sets.sets v.1) }
+        IfOk result (λ v. HasLeastValueAt t.instance.now t.region t.neighbours (leaf_of (valued_at t v.0)) v.1) }
     ensures route { let t = task.now in
-        IfOk result (λ v. HasItsRouteWith t.instance.now t.region t.neighbours t.prices.items t.sets.sets v.1) }
+        IfOk result (λ v. HasItsRouteAt t.instance.now t.region t.neighbours (leaf_of (valued_at t v.0)) v.1) }
     ensures unlimited { IfErr result (λ e. e ≡ label.LabelLimit → limit ≢ None) }
 {
     let instance = task.instance;
@@ -275,8 +275,8 @@ impl<'i> Priced<'i> {
     /// The least reduced cost over the relaxed routes of the region at these prices, in grains, with
     /// a route that has it.
     pub fn least(&self) -> &Least
-        ensures value { HasLeastValueWith self.now.problem self.now.region self.now.neighbours self.now.prices self.now.sets result.now }
-        ensures route { HasItsRouteWith self.now.problem self.now.region self.now.neighbours self.now.prices self.now.sets result.now }
+        ensures value { HasLeastValueAt self.now.problem self.now.region self.now.neighbours (leaf_of self.now) result.now }
+        ensures route { HasItsRouteAt self.now.problem self.now.region self.now.neighbours (leaf_of self.now) result.now }
     {
         &self.least
     }

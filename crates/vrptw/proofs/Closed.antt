@@ -5,8 +5,9 @@ use Rattle.solomon_reader.specs.Problem.{Problem, customer_count}
 use Rattle.solomon_reader.specs.Region.{Region, used_child, unused_child, root_region}
 use Rattle.solomon_reader.specs.CustomerSets.{IsCustomerSet}
 use Rattle.solomon_reader.specs.SetPrices.{SetPrice, priced_sets}
-use Rattle.solomon_reader.specs.SetDualityLaws.{same_without_sets}
-use Rattle.solomon_reader.specs.Bound.{version_2, with_sets, Tree, leaf, split, HasBound, IsLeafValue, IsLeafValueWith}
+use Rattle.solomon_reader.specs.SetDualityLaws.{same_without}
+use Rattle.solomon_reader.specs.Bound.{version_2, with_sets, Tree, leaf, split, HasBound, IsLeafValue, IsLeafValueAt}
+use Rattle.solomon_reader.specs.PricedLeaf.{without_rows}
 use Rattle.solomon_reader.specs.CertificateText.{IsTreeAt}
 use Rattle.branching.specs.Nodes.{IsListedTree}
 use Rattle.branching.specs.declared.tree_node.TreeNode.{TreeNode}
@@ -23,14 +24,14 @@ no_prices [] is = refl
 no_prices (m ∷ ms) is = absurd (omega (arith, is.rising.0, is.known.0))
 
 value_alone : (p : Problem) (g : Region) (k : ℕ) (prices : List ℤ) (ms : List SetPrice) (v : ℕ) → ms ≡ [] → IsLeafValue version_2 p g k prices v
-    → IsLeafValueWith (with_sets []) p g k prices (priced_sets [] ms) v
-value_alone p g k prices ms v none is = rw none ((same_without_sets (with_sets []) p g k prices v).1
+    → IsLeafValueAt (with_sets []) p g k (without_rows prices (priced_sets [] ms)) v
+value_alone p g k prices ms v none is = rw none ((same_without (with_sets []) p g k prices v).1
     (record { priced = is.priced; least = is.least; is_least = is.is_least; rounded = is.rounded }))
 
 -- the bound stays where sets may have prices, but none has one
 bound_alone : (p : Problem) (k : ℕ) (g : Region) (tree : Tree) (b : ℕ) → IsTreeAt version_2 g tree → HasBound version_2 p k g tree b → HasBound (with_sets []) p k g tree b
 bound_alone p k g (leaf prices) b shaped has =
-    (has.0, value_alone p g k prices.customers prices.sets has.0 (no_prices prices.sets shaped.2.numbers) has.1, has.2)
+    (has.0, value_alone p g k prices.customers prices.sets has.0 (no_prices prices.sets shaped.2.0.numbers) has.1, has.2)
 bound_alone p k g (split a used unused) b shaped has = (
   has.0,
   (

@@ -7,7 +7,7 @@ use Rattle.solomon_reader.specs.declared.row.Row.{Row}
 use Rattle.solomon_reader.specs.declared.limits.TheConstants.{MOST_CUSTOMERS, MOST_NEIGHBOURS}
 use Rattle.solomon_reader.specs.Problem.{Problem, customer_count}
 use Rattle.solomon_reader.specs.Layout.{IsWithinLimits, AreRows}
-use Rattle.solomon_reader.specs.Bound.{Version, listed_sets, Tree, preorder, ceiling_of, leaf, split, IsTreeBound}
+use Rattle.solomon_reader.specs.Bound.{Version, listed_sets, listed_rows, Tree, preorder, ceiling_of, leaf, split, IsTreeBound}
 use Rattle.solomon_reader.specs.CustomerSets.{IsNeeded}
 use Rattle.solomon_reader.specs.SetPrices.{ListedSet, AreTrueNeeds}
 use Rattle.solomon_reader.specs.CertificateText.{Certificate, IsCertificate, IsListedSet, Content, leaf_count, certificate_text}
@@ -38,6 +38,11 @@ version_listed P (suc n) sets all = all
 version_few : (n : ℕ) (sets : List ListedSet) → length (listed_sets (version_of n sets)) ≤ length sets
 version_few zero sets = omega arith
 version_few (suc n) sets = omega arith
+
+-- it lists no rows
+no_rows : (n : ℕ) (sets : List ListedSet) → listed_rows (version_of n sets) ≡ []
+no_rows zero sets = refl
+no_rows (suc n) sets = refl
 
 is_version : (n : ℕ) (sets : List ListedSet) → length sets ≤ n → IsVersionFor n (version_of n sets)
 is_version zero sets few = refl
@@ -88,6 +93,9 @@ module _ (p : Problem) (settings : Settings) (sets : List ListedSet) (bound : �
     bound = within;
     listed = version_listed (IsListedSet (customer_count p)) settings.sets sets (may_be_listed p sets has.listed);
     sets = omega (arith, version_few settings.sets sets, has.few.0, has.few.1);
+    rows_listed = rw (no_rows settings.sets sets) tt;
+    in_order = rw (no_rows settings.sets sets) tt;
+    rows = rw (no_rows settings.sets sets) (omega arith);
     tree = has.tree.shaped;
     leaves = omega (arith, has.tree.counted, has.tree.few);
     depth = has.tree.depth;

@@ -30,7 +30,7 @@ pub record IsPlanText (p : Problem) (cost : ℕ) (text : List ℕ) : Type 0 wher
   pub exact : plan_cost p routes ≡ cost
   pub spelled : text ≡ solution_text routes cost
 
--- of which version a certificate is where so many sets may have prices: of the second where none may, else of that with a list of sets
+-- of which version a certificate is where so many sets may have prices: of the second where none may, else of that with a list of sets; the solver lists no rows
 abbrev pub IsVersionFor : ℕ → Version → Type 0
 IsVersionFor zero version = version ≡ version_2
 IsVersionFor (suc n) version = (sets : List ListedSet) × (version ≡ with_sets sets) × (length sets ≤ suc n)

@@ -50,6 +50,7 @@ fn certificate_node(alloc: Global, node: TreeNode) -> Result<CertNode, AllocErro
         TreeNode::Leaf(prices) => CertNode::SetLeaf {
             set_prices: certificate_prices(alloc, prices.sets.as_slice())?,
             prices: prices.customers,
+            row_prices: Vec::new(alloc),
         },
     })
 }

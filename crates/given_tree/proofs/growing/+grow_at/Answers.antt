@@ -7,7 +7,7 @@ use Rattle.given_tree.proofs.growing.+grow_at.Goals as goal
 
 pub grow_leaf-requires-clause-shaped : goal.grow_leaf-requires-clause-shaped
 grow_leaf-requires-clause-shaped t c =
-    leaf_at (version_of c.args.given.now.version.now) c.args.book.now c.args.number (prices_of c.in-Leaf.prices.now c.in-Leaf.set_prices.now) (rw c.in-Leaf.is at c.requires.shaped)
+    leaf_at (version_of c.args.given.now.version.now) c.args.book.now c.args.number (prices_of c.in-Leaf.prices.now c.in-Leaf.set_prices.now c.in-Leaf.row_prices.now) (rw c.in-Leaf.is at c.requires.shaped)
 
 pub returns-in_ok-grow_at-in-Split-2-clause-leaves : goal.returns-in_ok-grow_at-in-Split-2-clause-leaves
 returns-in_ok-grow_at-in-Split-2-clause-leaves t c = rw c.in-Split.is
