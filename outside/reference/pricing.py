@@ -3,6 +3,7 @@ that can't lead to the least reduced cost stay where they are."""
 from heapq import heappop, heappush
 
 from reference.bounding import Region, leaf_grains, neighbour_lists, paid_by_steps
+from reference.rows import is_remembered, rows_in
 
 # How many labels a leaf may have, unless more are allowed.
 MOST_LABELS = 200_000
@@ -23,7 +24,8 @@ class Pricing:
 
     def __init__(self, instance, neighbours, version, most_labels=MOST_LABELS):
         self.instance, self.version, self.most_labels = instance, version, most_labels
-        self.bits = [sum(1 << u for u in near) for near in neighbour_lists(instance, neighbours)]
+        self.lists = neighbour_lists(instance, neighbours)
+        self.bits = [sum(1 << u for u in near) for near in self.lists]
         self.slot = min((instance.service(i) + instance.arc[i][j] for i in range(1, instance.count + 1)
                          for j in range(1, instance.count + 1) if i != j), default=instance.due(0) + 1)
 
@@ -68,14 +70,14 @@ class Pricing:
         linked, the last one first, where routes are to be kept. The label that may lead to the least cost is taken
         first, so that the search is over where none may lead below the route found, or below the limit."""
         arc, ways, count = self.instance.arc, self.ways(region, prices, priced), 0
-        floors, routes = self.floors(region, ways), []
+        floors, routes, rows = self.floors(region, ways), [], Rows(self.instance.count, rows_in(priced), self.lists)
         held, found = [[] for _ in arc], limit
-        waiting = [(ALWAYS, 0, self.instance.ready(0), 0, 0, 0, ())]
+        waiting = [(ALWAYS, 0, self.instance.ready(0), 0, 0, 0, 0, ())]
         while waiting:
-            least, load, begin, cost, memory, at, stops = heappop(waiting)
+            least, load, begin, cost, memory, bits, at, stops = heappop(waiting)
             if least >= found:
                 break
-            if at and (load, begin, cost, memory) not in held[at]:
+            if at and (load, begin, cost, memory, bits) not in held[at]:
                 continue
             leave = begin + self.instance.service(at)
             if at and region.allows(at, 0) and leave + arc[at][0] <= self.instance.due(0):
@@ -87,9 +89,10 @@ class Pricing:
                 more = load + self.instance.demand(j)
                 if memory >> j & 1 or more > self.instance.capacity or start > self.instance.due(j):
                     continue
-                least = cost + spent + self.floor(floors, at, j, start)
-                label = (more, start, cost + spent, memory & self.bits[j] | 1 << j)
-                if least < found and self.keep(held[j], label):
+                now = cost + spent + rows.price(bits & rows.here[j])
+                least = now + self.floor(floors, at, j, start)
+                label = (more, start, now, memory & self.bits[j] | 1 << j, (bits ^ rows.here[j]) & rows.kept[j])
+                if least < found and self.keep(held[j], label, rows):
                     heappush(waiting, (least, *label, j, (j, stops) if keeps_routes else stops))
                     count += 1
                     if count > self.most_labels:
@@ -146,16 +149,40 @@ class Pricing:
         return [[(j, arc[i][j], 1000 * arc[i][j] - paid[i][j]) for j in range(1, count + 1)
                  if leave[i] + arc[i][j] <= self.instance.due(j) and region.allows(i, j)] for i in range(count + 1)]
 
-    def keep(self, held, label):
-        """Whether no label of the customer is as good as this one; those that are no better than it go."""
-        load, time, cost, memory = label
+    def keep(self, held, label, rows):
+        """Whether no label of the customer is as good as this one; those that are no better than it go. One is as good
+        as another only if it costs less by the prices of the rows that have a bit in it alone."""
+        load, time, cost, memory, bits = label
         for other in held:
-            if other[0] <= load and other[1] <= time and other[2] <= cost and other[3] & ~memory == 0:
+            if (other[0] <= load and other[1] <= time and other[2] <= cost and other[3] & ~memory == 0
+                    and other[2] + rows.price(other[4] & ~bits) <= cost):
                 return False
-        held[:] = [other for other in held if not (load <= other[0] and time <= other[1] and cost <= other[2]
-                                                   and memory & ~other[3] == 0)]
+        held[:] = [other for other in held if not (
+            load <= other[0] and time <= other[1] and cost <= other[2] and memory & ~other[3] == 0
+            and cost + rows.price(bits & ~other[4]) <= other[2])]
         held.append(label)
         return True
+
+
+class Rows:
+    """Rows that have a price, as bits by their places: those that each customer is one of, and those that are kept
+    there."""
+
+    def __init__(self, count, rows, lists):
+        self.prices = [one.price for one in rows]
+        self.here, self.kept = [0] * (count + 1), [0] * (count + 1)
+        for place, one in enumerate(rows):
+            for v in range(1, count + 1):
+                self.here[v] |= (v in one.customers) << place
+                self.kept[v] |= (v in one.customers or is_remembered(one, v, lists)) << place
+
+    def price(self, bits):
+        """What the rows whose bit is set cost together."""
+        found = 0
+        while bits:
+            found += self.prices[(bits & -bits).bit_length() - 1]
+            bits &= bits - 1
+        return found
 
 
 def leaves(count, tree):

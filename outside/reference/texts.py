@@ -67,8 +67,8 @@ def read_solution(text):
 
 
 class Certificate:
-    # Those of versions 1 and 2 have no sets.
-    sets = ()
+    # Those of versions 1 and 2 have neither sets nor rows.
+    sets = rows = ()
 
     def __init__(self, version, name, count, neighbours, bound, tree):
         self.version, self.name, self.count = version, name, count

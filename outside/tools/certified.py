@@ -93,7 +93,8 @@ def rechecked(instance, path, jobs, telling, most_labels=MOST_LABELS):
         raise
     demand_head(instance, text, path)
     end_by_signals()
-    valuers = Valuers(Valuer(Pricing(instance, text.neighbours, text.version, most_labels), text.sets), jobs, count)
+    valuers = Valuers(Valuer(Pricing(instance, text.neighbours, text.version, most_labels), text.sets, text.rows or ()),
+                      jobs, count)
     values = all_values(valuers, value_of, TreeText(path, held).tasks(), count, telling)
     demand_bound(instance, text.bound, values, path)
     return text.bound, values

@@ -3,7 +3,7 @@ import os
 import tempfile
 
 from reference.pricing import Pricing
-from reference.set_texts import FIRST, MOST_SETS, spaced
+from reference.set_texts import FIRST, FIRST_WITH_ROWS, MOST_ROWS, MOST_SETS, spaced
 from reference.texts import MOST_LEAVES, shown, tenths
 from tools.joining import Joining
 from tools.judged import program_of, ran
@@ -11,7 +11,7 @@ from tools.pruning import Tree, pruned
 from tools.stopping import end_by_signals
 from tools.telling import Telling
 from tools.tool import Refused, reason_of, printed_file, told_path
-from tools.tree_texts import TreeText, set_line
+from tools.tree_texts import TreeText, row_line, set_line
 from tools.valuing import Valuer, Valuers
 
 
@@ -44,7 +44,7 @@ class Joined:
         self.program = program_of(given)
         self.texts = texts_of(instance, [given.tree] + given.parts)
         self.joining, self.held = Joining(self.texts, self.valuers, self.takes_changes), None
-        self.sets, self.merged = self.joining.sets.listed, 0
+        self.sets, self.rows, self.merged = self.joining.sets.listed, self.joining.rows.listed, 0
         self.telling = Telling("outside/join: ", is_elsewhere=False)
 
     def path(self, name):
@@ -55,7 +55,7 @@ class Joined:
         if self.held is None:
             tree = self.texts[0]
             pricing = Pricing(self.instance, tree.neighbours, tree.version, self.given.labels)
-            self.held = Valuers(Valuer(pricing, self.sets), self.given.jobs)
+            self.held = Valuers(Valuer(pricing, self.sets, self.rows), self.given.jobs)
         return self.held
 
     def end(self, is_whole):
@@ -93,36 +93,40 @@ class Joined:
             raise TooMany("%s: met %d leaves of all parts together, wanted at most %d" % (
                 told_path(self.given.tree), leaves, MOST_LEAVES))
         if len(self.sets) > MOST_SETS:
-            self.leave_out()
+            self.sets = self.used_of(self.sets, b"M", "sets", MOST_SETS, set_line)
+        if len(self.rows) > MOST_ROWS:
+            self.rows = self.used_of(self.rows, b"Q", "rows", MOST_ROWS, row_line)
         return leaves
 
-    def leave_out(self):
-        """Leaves out the sets that have no price at any leaf."""
+    def used_of(self, listed, letter, what, most, line_of):
+        """Of listed sets or rows those that have a price at some leaf; the lines with this letter name them by their
+        numbers among these then."""
         used = set()
         with open(self.path("nodes"), "rb") as file:
             for line in file:
-                if line.startswith(b"M"):
+                if line.startswith(letter):
                     used.update(map(int, line.split(b" ")[1::2]))
-        if len(used) > MOST_SETS:
-            raise Refused("%s: met %d sets that have prices in all parts together, wanted at most %d" % (
-                told_path(self.given.tree), len(used), MOST_SETS))
-        self.sets = [self.sets[number - 1] for number in sorted(used)]
+        if len(used) > most:
+            raise Refused("%s: met %d %s that have prices in all parts together, wanted at most %d" % (
+                told_path(self.given.tree), len(used), what, most))
         numbers = {before: number for number, before in enumerate(sorted(used), 1)}
         with open(self.path("nodes"), "rb") as file, open(self.path("fewer"), "wb") as other:
             for line in file:
-                if line.startswith(b"M"):
+                if line.startswith(letter):
                     words = [int(word) for word in line.split(b" ")[1:]]
-                    line = set_line((numbers[place], price) for place, price in zip(words[::2], words[1::2])) + b"\n"
+                    line = line_of((numbers[place], price) for place, price in zip(words[::2], words[1::2])) + b"\n"
                 other.write(line)
         os.replace(self.path("fewer"), self.path("nodes"))
+        return [listed[number - 1] for number in sorted(used)]
 
     def write(self, bound):
         """Writes the text with a bound."""
         tree = self.texts[0]
-        first = FIRST if self.joining.has_sets else tree.kind
+        first = FIRST_WITH_ROWS if self.joining.has_rows else FIRST if self.joining.has_sets else tree.kind
         lines = [first.decode(), "INSTANCE " + tree.name.decode(), "CUSTOMERS %d" % tree.count,
                  "NEIGHBOURS %d" % tree.neighbours, "BOUND " + shown(bound)]
-        lines += [spaced("S", one.need, *one.customers) for one in self.sets] + ["TREE"]
+        lines += [spaced("S", one.need, *one.customers) for one in self.sets]
+        lines += [spaced("R", *row) for row in self.rows] + ["TREE"]
         with open(self.path("certificate"), "wb") as file, open(self.path("nodes"), "rb") as nodes:
             file.write("".join(line + "\n" for line in lines).encode())
             while True:

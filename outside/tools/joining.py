@@ -1,7 +1,7 @@
 """The tree of a certificate, and parts that grew from it, as one tree: all texts are gone through side by side, node by
 node, and what stands at a leaf of the tree is written before the next one is read."""
-from reference.set_texts import FIRST
-from tools.tree_texts import Leaf, set_line
+from reference.set_texts import FIRST, FIRST_WITH_ROWS
+from tools.tree_texts import Leaf, row_line, set_line
 from tools.valuing import value_of
 
 # How many leaves are valued at once, and how many bytes wait for that, before they are written.
@@ -9,33 +9,37 @@ MOST_ASKED, MOST_HELD = 2000, 16_000_000
 NEVER = -1
 
 
-class Sets:
-    """The sets of all texts in one list, the tree's first. In it each text's sets have other numbers."""
+class Lists:
+    """The sets, or the rows, of all texts in one list, in which each text's have other numbers."""
 
-    def __init__(self, texts):
-        self.listed, places = [], {}
-        self.numbers, self.is_same = {}, {}
-        for text in texts:
-            numbers = [0]
-            for one in text.sets:
-                if one not in places:
-                    self.listed.append(one)
-                    places[one] = len(self.listed)
-                numbers.append(places[one])
+    def __init__(self, listed, by_text):
+        self.listed, self.numbers, self.is_same = listed, {}, {}
+        places = {one: place for place, one in enumerate(listed, 1)}
+        for text, ones in by_text:
+            numbers = [0] + [places[one] for one in ones]
             self.numbers[text], self.is_same[text] = numbers, numbers == list(range(len(numbers)))
 
-    def priced(self, text, leaf):
-        """The prices of sets at a leaf of a text, by the joined list."""
+    def priced(self, text, pairs):
+        """The numbers and prices of a text's leaf, by the joined list."""
         if self.is_same[text]:
-            return leaf.sets
+            return pairs
         numbers, prices = self.numbers[text], {}
-        for place, price in leaf.sets:
+        for place, price in pairs:
             # A text may list a set twice.
             prices[numbers[place]] = prices.get(numbers[place], 0) + price
         return tuple(sorted(prices.items()))
 
-    def line(self, text, leaf):
-        return leaf.set_line if self.is_same[text] else set_line(self.priced(text, leaf))
+
+def lists_of_sets(texts):
+    """The sets of all texts, the tree's first."""
+    listed = list(dict.fromkeys(one for text in texts for one in text.sets))
+    return Lists(listed, [(text, text.sets) for text in texts])
+
+
+def lists_of_rows(texts):
+    """The rows of all texts, in increasing order."""
+    listed = sorted({row for text in texts for row in text.rows or ()})
+    return Lists(listed, [(text, text.rows or ()) for text in texts])
 
 
 class Grown:
@@ -58,8 +62,10 @@ class Joining:
 
     def __init__(self, texts, valuers, takes_changes=False):
         self.tree, self.parts, self.takes_changes = texts[0], texts[1:], takes_changes
-        self.texts, self.sets, self.valuers = texts, Sets(texts), valuers
-        self.has_sets = any(text.kind == FIRST for text in texts)
+        self.texts, self.valuers = texts, valuers
+        self.sets, self.rows = lists_of_sets(texts), lists_of_rows(texts)
+        self.has_rows = any(text.kind == FIRST_WITH_ROWS for text in texts)
+        self.has_sets = self.has_rows or any(text.kind == FIRST for text in texts)
         # Texts whose whole tree is the joined one so far, and what is counted.
         self.alike, self.leaves, self.valued, self.unvalued = list(texts), 0, 0, 0
 
@@ -68,9 +74,18 @@ class Joining:
         if not isinstance(node, Leaf):
             return b"S %d %d\n" % node
         self.leaves += 1
+        lines = node.line + b"\n"
         if self.has_sets:
-            return b"%s\n%s\n" % (node.line, self.sets.line(text, node))
-        return node.line + b"\n"
+            lines += (node.set_line if self.sets.is_same[text] else set_line(self.priced_sets(text, node))) + b"\n"
+        if self.has_rows:
+            lines += (node.row_line if self.rows.is_same[text] else row_line(self.priced_rows(text, node))) + b"\n"
+        return lines
+
+    def priced_sets(self, text, leaf):
+        return self.sets.priced(text, leaf.sets)
+
+    def priced_rows(self, text, leaf):
+        return self.rows.priced(text, leaf.rows)
 
     def pieces(self):
         """What is written, in order: bytes, or what several texts have in the place of a leaf, one of which is to be
@@ -119,7 +134,8 @@ class Joining:
 
     def are_same(self, leaf, part, node):
         """Whether a part has the tree's prices at a leaf."""
-        return node.line == leaf.line and self.sets.priced(part, node) == self.sets.priced(self.tree, leaf)
+        return (node.line == leaf.line and self.priced_sets(part, node) == self.priced_sets(self.tree, leaf)
+                and self.priced_rows(part, node) == self.priced_rows(self.tree, leaf))
 
     def grown(self, text, path, node):
         """What a text has in the place of a leaf. How many leaves it has counts only once it is taken."""
@@ -127,7 +143,8 @@ class Joining:
         for (arcs, is_used), one in [(path, node), *(() if isinstance(node, Leaf) else text.below())]:
             found.lines.append(self.node_lines(text, one))
             if isinstance(one, Leaf):
-                found.tasks.append((arcs, is_used, one.line, self.sets.priced(text, one)))
+                found.tasks.append((arcs, is_used, one.line, self.priced_sets(text, one),
+                                    self.priced_rows(text, one)))
         self.leaves = leaves
         return found
 

@@ -1,6 +1,6 @@
 """Pairs of leaves that can be one: at the split above them one set of prices has a value that reaches a cost."""
-from reference.bounding import PricedSet
-from tools.tree_texts import set_line
+from reference.set_texts import MOST_ROW_PRICES
+from tools.tree_texts import row_line, set_line
 from tools.valuing import Valuers, prices_of, region
 
 # What stands below a leaf.
@@ -8,16 +8,16 @@ NONE = (-1, -1)
 
 
 class Tree:
-    """The nodes of a tree in preorder, held whole: arcs, or the lines of leaves, as pairs of those of customers and of
-    sets; the second one is empty in a text without sets."""
+    """The nodes of a tree in preorder, held whole: arcs, or the lines of leaves, those of customers, of sets and of rows;
+    the last two are empty in a text without them."""
 
     def __init__(self, file):
         self.nodes, self.above, self.below = [], [], []
         # Splits that lack a child.
         waiting = []
         for line in file:
-            if line.startswith(b"M"):
-                self.nodes[-1] = (self.nodes[-1][0], line[:-1])
+            if line.startswith((b"M", b"Q")):
+                self.nodes[-1] = (*self.nodes[-1], line[:-1])
                 continue
             at = len(self.nodes)
             if waiting:
@@ -30,7 +30,7 @@ class Tree:
                 self.nodes.append(tuple(map(int, line.split(b" ")[1:])))
                 waiting.append(at)
             else:
-                self.nodes.append((line[:-1], b""))
+                self.nodes.append((line[:-1],))
 
     def is_leaf(self, at):
         return self.below[at] == NONE
@@ -75,19 +75,26 @@ class Tree:
                 file.write(b"".join(line + b"\n" for line in node if line))
 
 
-def set_prices(line):
-    """The prices of sets by their numbers."""
-    words = [int(word) for word in line.split(b" ")[1:]]
+def pairs_of(lines, place):
+    """The prices of sets, or of rows, by their numbers; none where a text has no such lines."""
+    words = [int(word) for word in lines[place].split(b" ")[1:]] if len(lines) > place else []
     return dict(zip(words[::2], words[1::2]))
 
 
+def mean_of(here, there):
+    """The mean of two prices of each set or row, as far as it is a whole grain."""
+    means = ((number, (here.get(number, 0) + there.get(number, 0)) // 2) for number in sorted({*here, *there}))
+    return [(number, price) for number, price in means if price]
+
+
 def mean(first, other):
-    """The mean of the lines of two leaves, cut to whole grains."""
+    """The mean of the lines of two leaves, cut to whole grains; of their rows those with the greatest prices, as many as
+    a leaf may have."""
     prices = [(one + more) // 2 for one, more in zip(prices_of(first[0]), prices_of(other[0]))]
-    here, there = set_prices(first[1]), set_prices(other[1])
-    sets = {number: (here.get(number, 0) + there.get(number, 0)) // 2 for number in sorted({*here, *there})}
-    line = b"P" + b"".join(b" %d" % price for price in prices)
-    return line, set_line((number, price) for number, price in sets.items() if price) if first[1] else b""
+    rows = sorted(mean_of(pairs_of(first, 2), pairs_of(other, 2)), key=lambda pair: -pair[1])[:MOST_ROW_PRICES]
+    lines = (b"P" + b"".join(b" %d" % price for price in prices),
+             set_line(mean_of(pairs_of(first, 1), pairs_of(other, 1))), row_line(sorted(rows)))
+    return lines[:len(first)]
 
 
 def closing(task):
@@ -95,11 +102,11 @@ def closing(task):
     other's or their mean."""
     arcs, is_used, leaves, cost = task
     pricing, here = Valuers.here.pricing, region(Valuers.here.pricing.instance.count, arcs, is_used)
-    for line, sets in dict.fromkeys([*leaves, mean(*leaves)]):
-        priced = Valuers.here.priced(set_prices(sets).items())
-        found = pricing.value(here, prices_of(line), priced, cost)
+    for lines in dict.fromkeys([*leaves, mean(*leaves)]):
+        priced = Valuers.here.priced(pairs_of(lines, 1).items(), pairs_of(lines, 2).items())
+        found = pricing.value(here, prices_of(lines[0]), priced, cost)
         if found is not None and found >= cost:
-            return line, sets
+            return lines
     return None
 
 

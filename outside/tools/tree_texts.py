@@ -3,15 +3,16 @@ import io
 import re
 import sys
 
-from reference.set_texts import FIRST, NodesWithSets, read_sets
+from reference.set_texts import FIRST, FIRST_WITH_ROWS, MOST_ROW_PRICES, NodesWithSets, read_lists
 from reference.texts import MOST_LEAVES, MOST_PRICE, Lines, Nodes, TextFault, read_end, read_head
 from tools.plans import EMPTY, WITH_SETS, told_place
 from tools.tool import INPUT, STREAM, Refused, reason_of, quoted, told_path
 
 PRICE = rb" (?:0|-?(?:[1-9][0-9]{0,11}|1000000000000))"
-SET_PRICES = re.compile(rb"M(?: [1-9][0-9]{0,3} [1-9][0-9]{0,12})*\Z")
-# What a line of a leaf without prices of sets is, in a text with sets.
-NO_SETS = b"M"
+PAIRS = rb"(?: [1-9][0-9]{0,3} [1-9][0-9]{0,12})*\Z"
+SET_PRICES, ROW_PRICES = re.compile(b"M" + PAIRS), re.compile(b"Q" + PAIRS)
+# What a line of a leaf without prices of sets, or of rows, is in a text that has such lines.
+NO_SETS, NO_ROWS = b"M", b"Q"
 
 
 class StreamedLines(Lines):
@@ -39,17 +40,22 @@ class StreamedLines(Lines):
 
 
 class Leaf:
-    """A leaf: the line of its prices, that of the prices of sets where the text is one with sets, and these prices with
-    the numbers of their sets."""
-    __slots__ = ("line", "set_line", "sets")
+    """A leaf: the line of its prices, those of the prices of sets and rows where the text has them, and these prices with
+    the numbers of their sets and rows."""
+    __slots__ = ("line", "set_line", "sets", "row_line", "rows")
 
     def __init__(self, line, set_line=NO_SETS, sets=()):
-        self.line, self.set_line, self.sets = line, set_line, sets
+        self.line, self.set_line, self.sets, self.row_line, self.rows = line, set_line, sets, NO_ROWS, ()
 
 
 def set_line(priced):
     """The line of the prices of sets, by the numbers of the sets and the prices."""
     return b"".join([NO_SETS] + [b" %d %d" % pair for pair in priced])
+
+
+def row_line(priced):
+    """The line of the prices of rows, by the numbers of the rows and the prices."""
+    return b"".join([NO_ROWS] + [b" %d %d" % pair for pair in priced])
 
 
 class TreeText:
@@ -58,7 +64,7 @@ class TreeText:
     handed in."""
 
     def __init__(self, path, held=None):
-        self.path, self.kind, self.sets = told_path(path), b"", ()
+        self.path, self.kind, self.sets, self.rows = told_path(path), b"", (), None
         self.lines = StreamedLines(opened(path) if held is None else io.BytesIO(held))
         # The arcs on the path to the next node, each with whether the child is the one where it is used.
         self.arcs, self.is_used = [], []
@@ -83,20 +89,20 @@ class TreeText:
             self.refuse("%s with a carriage return behind it (%s)" % (met, name), "lines that end in a line feed alone")
         if name == "Truncated":
             met = "%s without a line feed behind it" % met if line else "the end"
-        self.refuse("%s (%s)" % (met, name), told_place(WITH_SETS if self.kind == FIRST else "a certificate"))
+        self.refuse("%s (%s)" % (met, name), told_place(WITH_SETS if self.kind in (FIRST, FIRST_WITH_ROWS) else "a certificate"))
 
     def refuse(self, met, wanted, line=None):
         raise Refused("%s: line %d: met %s, wanted %s" % (self.path, line or self.lines.number, met, wanted))
 
     def read_head(self):
         self.kind = self.lines.next()
-        if self.kind not in (b"VRPTW-CERT 1", b"VRPTW-CERT 2", FIRST):
+        if self.kind not in (b"VRPTW-CERT 1", b"VRPTW-CERT 2", FIRST, FIRST_WITH_ROWS):
             self.lines.bad()
         self.version = 1 if self.kind == b"VRPTW-CERT 1" else 2
         self.name, self.count, self.neighbours, self.bound = read_head(self.lines)
-        if self.kind == FIRST:
-            self.sets = read_sets(self.lines, self.count)
-            self.nodes = NodesWithSets(self.lines, self.count, self.sets)
+        if self.kind in (FIRST, FIRST_WITH_ROWS):
+            self.sets, self.rows = read_lists(self.lines, self.count, self.kind == FIRST_WITH_ROWS)
+            self.nodes = NodesWithSets(self.lines, self.count, self.sets, self.rows)
         else:
             if self.lines.next() != b"TREE":
                 self.lines.bad()
@@ -137,25 +143,38 @@ class TreeText:
             self.nodes.prices(line.split(b" ")[1:])
         self.nodes.leaves += 1
         leaf = Leaf(line)
-        if self.kind == FIRST:
-            leaf.sets = self.set_prices(line)
+        if self.kind in (FIRST, FIRST_WITH_ROWS):
+            most = max(abs(int(word)) for word in line.split(b" ")[1:])
+            leaf.sets = self.set_prices(most)
             leaf.set_line = self.lines.line
+            if self.rows is not None:
+                leaf.rows = self.row_prices(most + sum(price for _, price in leaf.sets))
+                leaf.row_line = self.lines.line
         self.leave()
         return leaf
 
-    def set_prices(self, prices):
-        """The prices of sets, from the line below those of the customers."""
+    def set_prices(self, most):
+        """The prices of sets, from the line below those of the customers, of which this is the greatest."""
+        return self.pairs(NO_SETS, SET_PRICES, len(self.sets), most, self.nodes.priced)
+
+    def row_prices(self, most):
+        """The prices of rows, from the line below those of sets; this is the greatest of the customers' prices with those
+        of all sets."""
+        return self.pairs(NO_ROWS, ROW_PRICES, len(self.rows), most, self.nodes.charging)
+
+    def pairs(self, none, form, listed, most, by_words):
+        """The numbers and prices of the next line; one that isn't as the solver writes it is looked at word by word."""
         line = self.lines.next()
-        if line == NO_SETS:
+        if line == none:
             return ()
-        numbers = list(map(int, line.split(b" ")[1:])) if SET_PRICES.match(line) else []
-        most = max(abs(int(word)) for word in prices.split(b" ")[1:])
+        numbers = list(map(int, line.split(b" ")[1:])) if form.match(line) else []
         places, grains = numbers[::2], numbers[1::2]
-        is_right = (numbers and places[-1] <= len(self.sets) and sum(grains) + most <= MOST_PRICE
-                    and all(first < then for first, then in zip(places, places[1:])))
+        is_right = (numbers and places[-1] <= listed and sum(grains) + most <= MOST_PRICE
+                    and all(first < then for first, then in zip(places, places[1:]))
+                    and (none == NO_SETS or len(places) <= MOST_ROW_PRICES))
         if not is_right:
             self.lines.is_again = True
-            self.nodes.priced(most)
+            by_words(most)
         return tuple(zip(places, grains))
 
     def rest(self):
@@ -169,7 +188,7 @@ class TreeText:
             arcs, is_used = tuple(self.arcs), tuple(self.is_used)
             node = self.node()
             if isinstance(node, Leaf):
-                yield arcs, is_used, node.line, node.sets
+                yield arcs, is_used, node.line, node.sets, node.rows
 
     def below(self):
         """The nodes below the split that was read last, each with its path: the arcs, and whether each is used."""

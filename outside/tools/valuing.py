@@ -1,10 +1,11 @@
 """The values of leaves, by some processes at once: a leaf is told by its arcs, whether each is used, the line of its
-prices, and the prices of sets with the sets' numbers."""
+prices, and the prices of sets and of rows with their numbers."""
 import os
 from collections import deque
 from multiprocessing import Pool
 
 from reference.bounding import PricedSet, Region
+from reference.rows import PricedRow
 from vrptw import end_with_parent
 
 # How many leaves wait for each process at once, so that memory doesn't grow with the tree.
@@ -12,20 +13,22 @@ AHEAD = 4
 
 
 class Valuer:
-    """Finds values in a process; the sets are those of the leaves' list."""
+    """Finds values in a process; the sets and rows are those of the leaves' lists."""
 
-    def __init__(self, pricing, sets):
+    def __init__(self, pricing, sets, rows=()):
         self.pricing = pricing
         self.sets = [(frozenset(one.customers), one.need) for one in sets]
+        self.rows = [frozenset(row) for row in rows]
 
-    def priced(self, sets):
-        return tuple(PricedSet(number, *self.sets[number - 1], price) for number, price in sets)
+    def priced(self, sets, rows=()):
+        return (tuple(PricedSet(number, *self.sets[number - 1], price) for number, price in sets)
+                + tuple(PricedRow(number, self.rows[number - 1], price) for number, price in rows))
 
     def value(self, task, most=None):
         """The value of a leaf, or this many tenths where it isn't less; None where it has too many labels."""
-        arcs, is_used, line, sets = task
+        arcs, is_used, line, sets, rows = task
         return self.pricing.value(region(self.pricing.instance.count, arcs, is_used), prices_of(line),
-                                  self.priced(sets), most)
+                                  self.priced(sets, rows), most)
 
 
 def region(count, arcs, is_used):
