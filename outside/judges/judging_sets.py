@@ -13,6 +13,7 @@ from judges.kind import Kind, number_by, program_by, tools_by
 from judges.running import demand, put, run_check
 from reference import bounding, checking
 from reference.instances import plan_cost, read, walk, walk_times
+from reference.bounding import PricedSet
 from reference.needs import entries, need
 from reference.optimum import least_cost
 from reference.pricing import Pricing, leaves
@@ -24,7 +25,7 @@ from tools.tree_texts import TreeText
 # How many sets, certificates and texts with some bytes changed a run has.
 SETS, CERTIFICATES, CHANGED = 4, 8, 40
 NEVER = float("inf")
-FAULT = re.compile(r"(Truncated|Extra|(BadLine|NeedRange|BadSet|PriceRange|BadArc|ArcDecided) line (\d+))\Z")
+FAULT = re.compile(r"(Truncated|Extra|(BadLine|NeedRange|BadSet|BadRow|PriceRange|BadArc|ArcDecided) line (\d+))\Z")
 
 
 def said_by_recheck(folder, instance, certificate, solution=b""):
@@ -80,9 +81,9 @@ def demand_checked(program, folder, instance, certificate, said, solution=b""):
            "check: %r, %r, and %r is right" % (out, errors, wanted))
 
 
-def judge_set_row(program, folder, seed):
-    """A row that was worked out by hand."""
-    kind, *texts, said = SET_ROWS[seed]
+def judge_set_row(program, folder, seed, rows=SET_ROWS):
+    """A line of a table that was worked out by hand."""
+    kind, *texts, said = rows[seed]
     texts = [text.encode() for text in texts]
     if kind == "read":
         demand_read(texts[0], said)
@@ -164,13 +165,13 @@ def judge_needs(folder, random):
     return ", ".join(sorted(came))
 
 
-def judge_set_bounds(folder, random):
+def judge_set_bounds(folder, random, make=set_certificate):
     """The bounds of some texts: at most the least cost of all plans; each leaf's value by labels is that by all
     relaxed routes. One of them goes through recheck."""
     instance = drawn(random, 1, 6)
     cost, came = least_cost(instance), set()
     for _ in range(CERTIFICATES):
-        found = set_certificate(random, instance)
+        found = make(random, instance)
         pricing, most = Pricing(instance, found.neighbours, 2), instance.ceiling() + 1
         values = []
         for region, prices, priced in leaves(instance.count, found.tree):
@@ -196,7 +197,7 @@ def value_by_routes(instance, region, prices, priced, neighbours):
     for price in prices:
         grains += price
     for one in priced:
-        grains += one.need * one.price
+        grains += one.need * one.price if isinstance(one, PricedSet) else -one.price
     return max(0, (grains + 999) // 1000)
 
 
@@ -220,51 +221,52 @@ def demand_rechecked(folder, instance, text):
     return wanted
 
 
-def judge_set_text(folder, random):
+def judge_set_text(folder, random, make=set_certificate, spoil=spoilt_line, forge=forged):
     """A text: read and written again; with bytes changed the same, or a fault in a line that is there; with a line
     spoilt the fault of that; with a forged number what is right of it."""
     instance = drawn(random, 1, 5)
     for _ in range(CERTIFICATES):
-        found = set_certificate(random, instance)
+        found = make(random, instance)
         found.bound = checking.tree_bound(instance, found, bounding.least_by_routes)
         if found.bound > 0:
             break
     text, again = written(found), read_either(written(found))
-    demand((again.sets, again.tree, again.bound) == (found.sets, found.tree, found.bound), "read: %r" % text)
+    demand((again.sets, again.rows, again.tree, again.bound) == (found.sets, found.rows, found.tree, found.bound),
+           "read: %r" % text)
     demand_read(text, "")
     for _ in range(CHANGED):
         other = random.choice([changed_bytes, changed_bytes, changed_number])(random, text)
         said = said_of(read_either, other)
         fault = FAULT.match(said)
         demand(not said or fault and int(fault[3] or 0) <= other.count(b"\n"), "%r of %r" % (said, other))
-        demand(said or not other.startswith(b"VRPTW-SETS") or written(read_either(other)) == other, "%r" % other)
-    other, said = spoilt_line(random, found, text)
+        demand(said or not other.startswith((b"VRPTW-SETS", b"VRPTW-ROWS")) or written(read_either(other)) == other, "%r" % other)
+    other, said = spoil(random, found, text)
     demand_read(other, said)
-    kind, other = forged(random, found, text)
+    kind, other = forge(random, found, text)
     came = demand_rechecked(folder, instance, other)
     return "%s: %s" % (kind, "NeedTooGreat" if "NeedTooGreat" in came else came.split(" ")[0])
 
 
-def changed(random, found, text):
+def changed(random, found, text, spoil=spoilt_line, forge=forged):
     """A certificate's text whole, or with something wrong or forged."""
     way = random.randrange(5)
     if way == 0:
         return text
     if way == 1:
-        return spoilt_line(random, found, text)[0]
+        return spoil(random, found, text)[0]
     if way == 2:
-        return forged(random, found, text)[1]
+        return forge(random, found, text)[1]
     for _ in range(random.choice([1, 1, 3])):
         text = random.choice([changed_bytes, changed_number])(random, text)
     return text
 
 
-def judge_set_check(program, folder, random):
+def judge_set_check(program, folder, random, make=set_certificate, spoil=spoilt_line, forge=forged):
     """A certificate with sets and often a plan, whole or with something wrong, through check, beside the reference."""
     instance = drawn(random, 1, 5)
-    found = set_certificate(random, instance)
+    found = make(random, instance)
     found.bound = max(0, checking.tree_bound(instance, found, bounding.least_by_routes) + random.choice([0, 0, 0, 1, -1]))
-    certificate, solution = changed(random, found, written(found)), None
+    certificate, solution = changed(random, found, written(found), spoil, forge), None
     if random.randrange(2):
         routes = plan_of(random, instance)
         cost = plan_cost(instance, [[i for i in route if i <= instance.count] for route in routes])

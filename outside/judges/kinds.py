@@ -12,7 +12,7 @@ from reference.texts import TextFault
 MODULES = """
 judging judging_refusals devices calling refusing solving closing judging_starts judging_met judging_fleets judging_trees
 judging_bytes
-judging_sets judging_made_sets
+judging_sets judging_made_sets judging_rows
 judging_layouts judging_tables judging_times judging_visits judging_roundings judging_nights judging_readings
 judging_doubts judging_objects judging_carried judging_names judging_plans judging_printouts judging_departures
 judging_moved judging_globe judging_claims judging_printed judging_unused judging_loads
