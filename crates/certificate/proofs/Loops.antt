@@ -1,6 +1,6 @@
--- Reading the numbers of a line one after the other, or the lines of sets, as the loops do. A fault of the lines that isn't their end stays, however the text goes on.
+-- Reading the numbers of a line one after the other, or the lines of lists, as the loops do. A fault of the lines that isn't their end stays, however the text goes on.
 use Rattle.std.proofs.Common.{◌≡◌, ℕ, List, [], ◌∷◌, ◌++◌, Result, Ok, Err, refl, sym, ap, ◌∙◌, append_assoc, zero, suc, inl, inr, Bool, true, false, cond, Option, Some, None, ◌⊎◌}
-use Rattle.std.specs.Prelude.{ℤ, codes}
+use Rattle.std.specs.Prelude.{ℤ, codes, nat_le, length}
 use Rattle.std.specs.Option.{option_map}
 use Rattle.std.proofs.lemmas.List.{append-nil}
 use Rattle.std.specs.Str.{bytes_eq}
@@ -9,13 +9,16 @@ use Rattle.tenths.specs.Reading.{◌>>=◌, value_or, check}
 use Rattle.tenths.specs.Parts.{parts}
 use Rattle.tenths.specs.Lines.{Left, is_end}
 use Rattle.tenths.proofs.Cuts.{parts-some, grow, parts-grow, Stays, then, grown, kept_test, kept, FaultStays, fault_bound, end_stays}
-use Rattle.solomon_reader.specs.declared.limits.TheConstants.{MOST_CUSTOMERS, MOST_NEIGHBOURS, MOST_LEAVES, MOST_DEPTH, MOST_SETS}
+use Rattle.solomon_reader.specs.declared.limits.TheConstants.{MOST_CUSTOMERS, MOST_NEIGHBOURS, MOST_LEAVES, MOST_DEPTH, MOST_SETS, MOST_ROWS, MOST_ROW_PRICES}
 use Rattle.solomon_reader.specs.Plan.{Arc}
-use Rattle.solomon_reader.specs.Bound.{Version, version_1, version_2, with_sets, Node, leaf_node, split_node}
-use Rattle.solomon_reader.specs.SetPrices.{ListedSet, SetPrice}
+use Rattle.solomon_reader.specs.Bound.{Version, version_1, version_2, with_sets, with_rows, Node, leaf_node, split_node}
+use Rattle.solomon_reader.specs.SetPrices.{SetPrice}
+use Rattle.solomon_reader.specs.CertificateText.{set_prices_sum}
 use Rattle.certificate.specs.declared.fault.CertFault.{CertFault}
-use Rattle.certificate.specs.declared.fault.CertFault.TheVariants.{BadLine, Truncated, Extra, TooDeep, TooManySets}
-use Rattle.certificate.specs.Reading.{signed_at, small, members_at, pairs_at, set_prices_in, leaf_at, set_in, sets_at, listed_at, set_count, next_at, node_in, node_at, Below, one_leaf, below, tree_at, fixed_at, second, field_at, is_name, name_at, within_from, within_at, bound_at}
+use Rattle.certificate.specs.declared.fault.CertFault.TheVariants.{BadLine, Truncated, Extra, TooDeep, PriceRange, BadSet, TooManySets, BadRow, TooManyRows}
+use Rattle.certificate.specs.declared.version.PricedLines.{PricedLines}
+use Rattle.certificate.specs.declared.version.PricedLines.TheVariants.{Customers, Sets, Rows}
+use Rattle.certificate.specs.Reading.{Here, line_from, begins, signed_at, small, members_at, pairs_at, are_prices, placed_in, set_prices_at, row_prices_at, leaf_at, items_at, set_in, row_in, sets_listed_at, rows_listed_at, listed_at, priced_lines, next_at, node_in, node_at, Below, one_leaf, below, tree_at, fixed_at, second, field_at, is_name, name_at, within_from, within_at, bound_at}
 use Rattle.certificate.specs.Reading.{sizes_at, version_in, version_at, title_at, head_at, nodes_at, with_tree, reading}
 use Rattle.certificate.specs.Laws.{FirstFaultStays}
 use Rattle.certificate.proofs.Steps.{children_at}
@@ -100,46 +103,49 @@ pub pairs_end : (k : ℕ) (front : List SetPrice) (total : Result (List SetPrice
 unfolding pairs_at
 pairs_end k front total so_far = sym so_far ∙ ap (λ (x : List SetPrice). Ok x) (append-nil front)
 
--- ---- the lines of sets
+-- ---- the lines of lists
 
--- the sets before, and those that are read
-abbrev pub with_listed : List ListedSet → Result (List ListedSet × Left) CertFault → Result (List ListedSet × Left) CertFault
-with_listed front read = read >>= λ x. Ok (front ++ x.0, x.1)
+-- what stands before, and what is read
+abbrev pub with_items : {A : Type 0} → List A → Result (List A × Here) CertFault → Result (List A × Here) CertFault
+with_items front read = read >>= λ x. Ok (front ++ x.0, x.1)
 
-pub with_none : (read : Result (List ListedSet × Left) CertFault) → with_listed [] read ≡ read
+pub with_none : {A : Type 0} (read : Result (List A × Here) CertFault) → with_items [] read ≡ read
 with_none (Ok x) = refl
 with_none (Err f) = refl
 
-module _ (n : ℕ) (front : List ListedSet) (st : Left) (total : Result (List ListedSet × Left) CertFault) where
-  pub sets_cut : (left : ℕ) → next_at st ≡ Err Truncated → with_listed front (sets_at n left st) ≡ total → total ≡ Err Truncated
-  unfolding sets_at
-  sets_cut zero h so_far = sym so_far ∙ rw h refl
-  sets_cut (suc left) h so_far = sym so_far ∙ rw h refl
+module _ {A : Type 0} (text : List ℕ) (item_in : Option A → ℕ → List (List ℕ) → Result A CertFault) (full : ℕ → CertFault) (seen : A → Option A) where
+  abbrev items : ℕ → Option A → Here → Result (List A × Here) CertFault
+  items left before at = items_at text item_in full seen left before at
 
-  module _ (l : List ℕ × Left) (line : next_at st ≡ Ok l) where
-    pub sets_end : (left : ℕ) → bytes_eq l.0 (codes "TREE") ≡ true → with_listed front (sets_at n left st) ≡ total → total ≡ Ok (front, l.1)
-    unfolding sets_at
-    sets_end zero h so_far = sym so_far ∙ rw (line, h) (ap (λ (x : List ListedSet). Ok (x, l.1)) (append-nil front))
-    sets_end (suc left) h so_far = sym so_far ∙ rw (line, h) (ap (λ (x : List ListedSet). Ok (x, l.1)) (append-nil front))
+  module _ (front : List A) (before : Option A) (at : Here) (total : Result (List A × Here) CertFault) where
+    pub items_end : (left : ℕ) → begins text (parts 32 at.1.0) ≡ false → with_items front (items left before at) ≡ total → total ≡ Ok (front, at)
+    unfolding items_at
+    items_end zero h so_far = sym so_far ∙ rw h (ap (λ (x : List A). Ok (x, at)) (append-nil front))
+    items_end (suc left) h so_far = sym so_far ∙ rw h (ap (λ (x : List A). Ok (x, at)) (append-nil front))
 
-    pub sets_fail : (left : ℕ) (e : CertFault) → bytes_eq l.0 (codes "TREE") ≡ false → set_in n st.0 (parts 32 l.0) ≡ Err e → with_listed front (sets_at n left st) ≡ total → total ≡ Err e
-    unfolding sets_at
-    sets_fail zero e h bad so_far = sym so_far ∙ rw (line, h, bad) refl
-    sets_fail (suc left) e h bad so_far = sym so_far ∙ rw (line, h, bad) refl
+    module _ (first : begins text (parts 32 at.1.0) ≡ true) where
+      pub items_fail : (left : ℕ) (e : CertFault) → item_in before at.0 (parts 32 at.1.0) ≡ Err e → with_items front (items left before at) ≡ total → total ≡ Err e
+      unfolding items_at
+      items_fail zero e bad so_far = sym so_far ∙ rw (first, bad) refl
+      items_fail (suc left) e bad so_far = sym so_far ∙ rw (first, bad) refl
 
-    pub sets_full : (left : ℕ) (s : ListedSet) → left ≡ 0 → bytes_eq l.0 (codes "TREE") ≡ false → set_in n st.0 (parts 32 l.0) ≡ Ok s → with_listed front (sets_at n left st) ≡ total
-        → total ≡ Err (TooManySets st.0)
-    unfolding sets_at
-    sets_full left s full h good so_far = sym so_far ∙ rw (full, line, h, good) refl
+      pub items_full : (left : ℕ) (s : A) → left ≡ 0 → item_in before at.0 (parts 32 at.1.0) ≡ Ok s → with_items front (items left before at) ≡ total → total ≡ Err (full at.0)
+      unfolding items_at
+      items_full left s none good so_far = sym so_far ∙ rw (none, first, good) refl
 
-    pub sets_more : (left less : ℕ) (s : ListedSet) → left ≡ suc less → bytes_eq l.0 (codes "TREE") ≡ false → set_in n st.0 (parts 32 l.0) ≡ Ok s → with_listed front (sets_at n left st) ≡ total
-        → with_listed (front ++ (s ∷ [])) (sets_at n less l.1) ≡ total
-    unfolding sets_at
-    sets_more left less s some h good so_far = sym (regroup (sets_at n less l.1)) ∙ (let t = rw (some, line, h, good) at so_far in t)
-      where
-        regroup : (read : Result (List ListedSet × Left) CertFault) → with_listed front (read >>= λ more. Ok (s ∷ more.0, more.1)) ≡ with_listed (front ++ (s ∷ [])) read
-        regroup (Ok x) = ap (λ (y : List ListedSet). Ok (y, x.1)) (simp append_assoc)
-        regroup (Err f) = refl
+      pub items_cut : (left less : ℕ) (s : A) (e : CertFault) → left ≡ suc less → item_in before at.0 (parts 32 at.1.0) ≡ Ok s → line_from at.1.1 ≡ Err e
+          → with_items front (items left before at) ≡ total → total ≡ Err e
+      unfolding items_at
+      items_cut left less s e some good cut so_far = sym so_far ∙ rw (some, first, good, cut) refl
+
+      pub items_more : (left less : ℕ) (s : A) (next : Here) → left ≡ suc less → item_in before at.0 (parts 32 at.1.0) ≡ Ok s → line_from at.1.1 ≡ Ok next
+          → with_items front (items left before at) ≡ total → with_items (front ++ (s ∷ [])) (items less (seen s) next) ≡ total
+      unfolding items_at
+      items_more left less s next some good line so_far = sym (regroup (items less (seen s) next)) ∙ (let t = rw (some, first, good, line) at so_far in t)
+        where
+          regroup : (read : Result (List A × Here) CertFault) → with_items front (read >>= λ more. Ok (s ∷ more.0, more.1)) ≡ with_items (front ++ (s ∷ [])) read
+          regroup (Ok x) = ap (λ (y : List A). Ok (y, x.1)) (simp append_assoc)
+          regroup (Err f) = refl
 
 -- ---- A fault of the lines that isn't their end stays, however the text goes on.
 
@@ -160,6 +166,11 @@ module _ (x : List ℕ) (rest : List (List ℕ)) where
   -- a step that looks at what was read as well
   on : {A C : Type 0} (after : C → C) (f : A → Left → Result C CertFault) → ((a : A) → LineStays after (f a)) → Stays Truncated (pair_longer {A = A}) after (λ p. f p.0 p.1)
   on after f h p = h p.0 p.1
+
+  -- what goes on the same way behind a step, and no further line
+  kept_then : {A C : Type 0} (f g : A → Result (C × Left) CertFault) → ((a : A) → g a ≡ grown pair_longer (f a)) → (r : Result A CertFault) → (r >>= g) ≡ grown pair_longer (r >>= f)
+  kept_then f g h (Ok a) = h a
+  kept_then f g h (Err e) = refl
 
   next_stays : LineStays pair_longer next_at
   next_stays (k, []) = inl refl
@@ -219,32 +230,55 @@ module _ (x : List ℕ) (rest : List (List ℕ)) where
       (λ title. then Truncated pair_longer pair_longer _ _ _ (sizes_stays title.1)
       (λ sizes. then Truncated pair_longer pair_longer _ _ _ (bound_stays sizes.1) (λ bound. inr refl)))
 
-  -- ---- the lines of sets
+  -- ---- the lines of lists
 
-  -- where the line doesn't begin the tree, it is a set's
-  set_stays : (n k : ℕ) (l : List ℕ × Left) (next : ListedSet → Left → Result (List ListedSet × Left) CertFault) → ((s : ListedSet) → LineStays pair_longer (next s)) → (t : Bool)
-      → (cond t (Ok ([], l.1)) (set_in n k (parts 32 l.0) >>= λ s. next s l.1) ≡ Err Truncated)
-      ⊎ (cond t (Ok ([], longer l.1)) (set_in n k (parts 32 l.0) >>= λ s. next s (longer l.1)) ≡ grown pair_longer (cond t (Ok ([], l.1)) (set_in n k (parts 32 l.0) >>= λ s. next s l.1)))
-  set_stays n k l next h true = inr refl
-  set_stays n k l next h false = of (set_in n k (parts 32 l.0))
-    where
-      of : (r : Result ListedSet CertFault) → ((r >>= λ s. next s l.1) ≡ Err Truncated) ⊎ ((r >>= λ s. next s (longer l.1)) ≡ grown pair_longer (r >>= λ s. next s l.1))
-      of (Ok s) = h s l.1
-      of (Err e) = inr refl
+  abbrev here_longer : Here → Here
+  here_longer h = (h.0, pair_longer h.1)
 
-  sets_stay : (n left : ℕ) → LineStays pair_longer (sets_at n left)
-  unfolding sets_at
-  sets_stay n zero st = then Truncated pair_longer pair_longer _ _ _ (next_stays st)
-      (λ l. set_stays n st.0 l (λ s rest. Err (TooManySets st.0)) (λ s rest. inr refl) (bytes_eq l.0 (codes "TREE")))
-  sets_stay n (suc left) st = then Truncated pair_longer pair_longer _ _ _ (next_stays st)
-      (λ l. set_stays n st.0 l (λ s rest. sets_at n left rest >>= λ more. Ok (s ∷ more.0, more.1))
-      (λ s rest. then Truncated pair_longer pair_longer (λ more. Ok (s ∷ more.0, more.1)) _ _ (sets_stay n left rest) (λ more. inr refl)) (bytes_eq l.0 (codes "TREE")))
+  line_stays : LineStays here_longer line_from
+  unfolding line_from
+  line_stays st = then Truncated pair_longer here_longer (λ l. Ok (st.0, l)) _ _ (next_stays st) (λ l. inr refl)
+
+  abbrev items_longer : {A : Type 0} → List A × Here → List A × Here
+  items_longer p = (p.0, here_longer p.1)
+
+  -- where the line doesn't begin otherwise, it tells a thing of the list
+  item_stays : {A : Type 0} (at : Here) (r : Result A CertFault) (next : A → Left → Result (List A × Here) CertFault) → ((s : A) → LineStays items_longer (next s)) → (t : Bool)
+      → (cond t (r >>= λ s. next s at.1.1) (Ok ([], at)) ≡ Err Truncated)
+      ⊎ (cond t (r >>= λ s. next s (longer at.1.1)) (Ok ([], here_longer at)) ≡ grown items_longer (cond t (r >>= λ s. next s at.1.1) (Ok ([], at))))
+  item_stays at r next h false = inr refl
+  item_stays at (Ok s) next h true = h s at.1.1
+  item_stays at (Err e) next h true = inr refl
+
+  items_stay : {A : Type 0} (text : List ℕ) (item_in : Option A → ℕ → List (List ℕ) → Result A CertFault) (full : ℕ → CertFault) (seen : A → Option A) (left : ℕ) (before : Option A)
+      → Stays Truncated here_longer (items_longer {A = A}) (items_at text item_in full seen left before)
+  unfolding items_at
+  items_stay text item_in full seen zero before at =
+      item_stays at (item_in before at.0 (parts 32 at.1.0)) (λ s rest. Err (full at.0)) (λ s rest. inr refl) (begins text (parts 32 at.1.0))
+  items_stay text item_in full seen (suc left) before at =
+      item_stays at (item_in before at.0 (parts 32 at.1.0)) (λ s rest. line_from rest >>= λ next. items_at text item_in full seen left (seen s) next >>= λ more. Ok (s ∷ more.0, more.1))
+      (λ s rest. then Truncated here_longer items_longer _ _ _ (line_stays rest)
+      (λ next. then Truncated items_longer items_longer (λ more. Ok (s ∷ more.0, more.1)) _ _ (items_stay text item_in full seen left (seen s) next) (λ more. inr refl))) (begins text (parts 32 at.1.0))
+
+  sets_listed_stay : (n : ℕ) → LineStays pair_longer (sets_listed_at n)
+  unfolding sets_listed_at
+  sets_listed_stay n st = then Truncated here_longer pair_longer _ _ _ (line_stays st)
+      (λ first. then Truncated items_longer pair_longer _ _ _ (items_stay (codes "S") (λ before k ws. set_in n k ws) (λ k. TooManySets k) (λ s. None) MOST_SETS None first)
+      (λ sets. inr (kept_test Truncated pair_longer (bytes_eq sets.1.1.0 (codes "TREE")) (BadLine sets.1.0) (with_sets sets.0, sets.1.1.1))))
+
+  rows_listed_stay : (n : ℕ) → LineStays pair_longer (rows_listed_at n)
+  unfolding rows_listed_at
+  rows_listed_stay n st = then Truncated here_longer pair_longer _ _ _ (line_stays st)
+      (λ first. then Truncated items_longer pair_longer _ _ _ (items_stay (codes "S") (λ before k ws. set_in n k ws) (λ k. TooManySets k) (λ s. None) MOST_SETS None first)
+      (λ sets. then Truncated items_longer pair_longer _ _ _ (items_stay (codes "R") (λ before k ws. row_in n before k ws) (λ k. TooManyRows k) (λ s. Some s) MOST_ROWS None sets.1)
+      (λ rows. inr (kept_test Truncated pair_longer (bytes_eq rows.1.1.0 (codes "TREE")) (BadLine rows.1.0) (with_rows sets.0 rows.0, rows.1.1.1)))))
 
   listed_stays : (n : ℕ) (version : Version) → LineStays pair_longer (listed_at n version)
   unfolding listed_at
   listed_stays n version_1 st = then Truncated longer pair_longer (λ a. Ok (version_1, a)) _ _ (fixed_stays (codes "TREE") st) (λ a. inr refl)
   listed_stays n version_2 st = then Truncated longer pair_longer (λ a. Ok (version_2, a)) _ _ (fixed_stays (codes "TREE") st) (λ a. inr refl)
-  listed_stays n (with_sets sets) st = then Truncated pair_longer pair_longer (λ a. Ok (with_sets a.0, a.1)) _ _ (sets_stay n MOST_SETS st) (λ a. inr refl)
+  listed_stays n (with_sets sets) st = sets_listed_stay n st
+  listed_stays n (with_rows sets rows) st = rows_listed_stay n st
 
   -- ---- the nodes
 
@@ -252,42 +286,55 @@ module _ (x : List ℕ) (rest : List (List ℕ)) where
   node_stays n path st = then Truncated pair_longer pair_longer (λ l. node_in n st.0 path (parts 32 l.0) >>= λ node. Ok (node, l.1)) (next_at st) (next_at (longer st)) (next_stays st)
       (λ l. inr (kept Truncated pair_longer (λ node. (node, l.1)) (node_in n st.0 path (parts 32 l.0))))
 
-  leaf_stays : (sets : Option ℕ) (zs : List ℤ) → LineStays pair_longer (leaf_at sets zs)
+  set_prices_stay : (sets : ℕ) (zs : List ℤ) → LineStays pair_longer (set_prices_at sets zs)
+  unfolding set_prices_at
+  set_prices_stay sets zs st = then Truncated here_longer pair_longer _ _ _ (line_stays st)
+      (λ l. inr (kept_then (λ ms. check (are_prices 0 zs ms) (PriceRange l.0) (ms, l.1.1)) (λ ms. check (are_prices 0 zs ms) (PriceRange l.0) (ms, longer l.1.1))
+      (λ ms. kept_test Truncated pair_longer (are_prices 0 zs ms) (PriceRange l.0) (ms, l.1.1)) (placed_in (codes "M") (BadSet l.0) sets l.0 (parts 32 l.1.0))))
+
+  row_prices_stay : (rows : ℕ) (zs : List ℤ) (ms : List SetPrice) → LineStays pair_longer (row_prices_at rows zs ms)
+  unfolding row_prices_at
+  row_prices_stay rows zs ms st = then Truncated here_longer pair_longer _ _ _ (line_stays st)
+      (λ l. inr (kept_then _ _ (λ qs. kept_then (λ few. check (are_prices (set_prices_sum ms) zs few) (PriceRange l.0) (few, l.1.1)) (λ few. check (are_prices (set_prices_sum ms) zs few) (PriceRange l.0) (few, longer l.1.1))
+      (λ few. kept_test Truncated pair_longer (are_prices (set_prices_sum ms) zs few) (PriceRange l.0) (few, l.1.1)) (check (nat_le (length qs) MOST_ROW_PRICES) (TooManyRows l.0) qs))
+      (placed_in (codes "Q") (BadRow l.0) rows l.0 (parts 32 l.1.0))))
+
+  leaf_stays : (priced : PricedLines) (zs : List ℤ) → LineStays pair_longer (leaf_at priced zs)
   unfolding leaf_at
-  leaf_stays None zs st = inr refl
-  leaf_stays (Some sets) zs st = then Truncated pair_longer pair_longer
-      (λ l. set_prices_in sets zs st.0 (parts 32 l.0) >>= λ ms. Ok (leaf_node (record { customers = zs; sets = ms }), l.1)) (next_at st) (next_at (longer st)) (next_stays st)
-      (λ l. inr (kept Truncated pair_longer (λ ms. (leaf_node (record { customers = zs; sets = ms }), l.1)) (set_prices_in sets zs st.0 (parts 32 l.0))))
+  leaf_stays Customers zs st = inr refl
+  leaf_stays (Sets sets) zs st = then Truncated pair_longer pair_longer (λ m. Ok (leaf_node (record { customers = zs; sets = m.0; rows = [] }), m.1)) _ _ (set_prices_stay sets zs st) (λ m. inr refl)
+  leaf_stays (Rows sets rows) zs st = then Truncated pair_longer pair_longer _ _ _ (set_prices_stay sets zs st)
+      (λ m. then Truncated pair_longer pair_longer (λ q. Ok (leaf_node (record { customers = zs; sets = m.0; rows = q.0 }), q.1)) _ _ (row_prices_stay rows zs m.0 m.1) (λ q. inr refl))
 
-  one_leaf_stays : (sets : Option ℕ) (k : ℕ) (zs : List ℤ) (leaves : ℕ) → LineStays below_longer (one_leaf sets k zs leaves)
-  one_leaf_stays sets k zs zero st = inr refl
-  one_leaf_stays sets k zs (suc leaves) st = then Truncated pair_longer below_longer (λ x. Ok (x.0 ∷ [], (leaves, x.1))) _ _ (leaf_stays sets zs st) (λ x. inr refl)
+  one_leaf_stays : (priced : PricedLines) (k : ℕ) (zs : List ℤ) (leaves : ℕ) → LineStays below_longer (one_leaf priced k zs leaves)
+  one_leaf_stays priced k zs zero st = inr refl
+  one_leaf_stays priced k zs (suc leaves) st = then Truncated pair_longer below_longer (λ x. Ok (x.0 ∷ [], (leaves, x.1))) _ _ (leaf_stays priced zs st) (λ x. inr refl)
 
-  below_stays : (sets : Option ℕ) (k leaves : ℕ) (children : Arc → Left → Result Below CertFault) → ((a : Arc) → LineStays below_longer (children a)) → (node : Node)
-      → LineStays below_longer (below sets k leaves children node)
-  below_stays sets k leaves children h (leaf_node prices) st = one_leaf_stays sets k prices.customers leaves st
-  below_stays sets k leaves children h (split_node a) st = h a st
+  below_stays : (priced : PricedLines) (k leaves : ℕ) (children : Arc → Left → Result Below CertFault) → ((a : Arc) → LineStays below_longer (children a)) → (node : Node)
+      → LineStays below_longer (below priced k leaves children node)
+  below_stays priced k leaves children h (leaf_node prices) st = one_leaf_stays priced k prices.customers leaves st
+  below_stays priced k leaves children h (split_node a) st = h a st
 
-  tree_stays : (sets : Option ℕ) (n left : ℕ) (path : List Arc) (leaves : ℕ) → LineStays below_longer (tree_at sets n left path leaves)
+  tree_stays : (priced : PricedLines) (n left : ℕ) (path : List Arc) (leaves : ℕ) → LineStays below_longer (tree_at priced n left path leaves)
   unfolding tree_at
-  tree_stays sets n zero path leaves st = then Truncated pair_longer below_longer _ _ _ (node_stays n path st)
-      (λ p. below_stays sets st.0 leaves (λ a rest. Err (TooDeep st.0)) (λ a u. inr refl) p.0 p.1)
-  tree_stays sets n (suc left) path leaves st = then Truncated pair_longer below_longer _ _ _ (node_stays n path st)
-      (λ p. below_stays sets st.0 leaves (children_at sets n left path leaves)
-      (λ a u. then Truncated below_longer below_longer _ _ _ (tree_stays sets n left (path ++ (a ∷ [])) leaves u)
-      (λ used. then Truncated below_longer below_longer _ _ _ (tree_stays sets n left (path ++ (a ∷ [])) used.1.0 used.1.1) (λ unused. inr refl))) p.0 p.1)
+  tree_stays priced n zero path leaves st = then Truncated pair_longer below_longer _ _ _ (node_stays n path st)
+      (λ p. below_stays priced st.0 leaves (λ a rest. Err (TooDeep st.0)) (λ a u. inr refl) p.0 p.1)
+  tree_stays priced n (suc left) path leaves st = then Truncated pair_longer below_longer _ _ _ (node_stays n path st)
+      (λ p. below_stays priced st.0 leaves (children_at priced n left path leaves)
+      (λ a u. then Truncated below_longer below_longer _ _ _ (tree_stays priced n left (path ++ (a ∷ [])) leaves u)
+      (λ used. then Truncated below_longer below_longer _ _ _ (tree_stays priced n left (path ++ (a ∷ [])) used.1.0 used.1.1) (λ unused. inr refl))) p.0 p.1)
 
-  nodes_stay : (sets : Option ℕ) (n : ℕ) → LineStays pair_longer (nodes_at sets n)
+  nodes_stay : (priced : PricedLines) (n : ℕ) → LineStays pair_longer (nodes_at priced n)
   unfolding nodes_at
-  nodes_stay sets n st = then Truncated below_longer pair_longer _ _ _ (tree_stays sets n MOST_DEPTH [] MOST_LEAVES st)
+  nodes_stay priced n st = then Truncated below_longer pair_longer _ _ _ (tree_stays priced n MOST_DEPTH [] MOST_LEAVES st)
       (λ t. then Truncated longer pair_longer _ _ _ (fixed_stays (codes "END") t.1.1) (λ b. inr refl))
 
   reading_grown : (st : Left)
-      → FaultStays Truncated (head_at st >>= λ h. listed_at h.0.size h.0.version h.1 >>= λ v. nodes_at (set_count v.0) h.0.size v.1 >>= λ t. check (is_end t.1.1) Extra (with_tree v.0 h.0 t.0))
-      (head_at (longer st) >>= λ h. listed_at h.0.size h.0.version h.1 >>= λ v. nodes_at (set_count v.0) h.0.size v.1 >>= λ t. check (is_end t.1.1) Extra (with_tree v.0 h.0 t.0))
+      → FaultStays Truncated (head_at st >>= λ h. listed_at h.0.size h.0.version h.1 >>= λ v. nodes_at (priced_lines v.0) h.0.size v.1 >>= λ t. check (is_end t.1.1) Extra (with_tree v.0 h.0 t.0))
+      (head_at (longer st) >>= λ h. listed_at h.0.size h.0.version h.1 >>= λ v. nodes_at (priced_lines v.0) h.0.size v.1 >>= λ t. check (is_end t.1.1) Extra (with_tree v.0 h.0 t.0))
   reading_grown st = fault_bound Truncated pair_longer _ _ _ (head_stays st)
       (λ h. fault_bound Truncated pair_longer _ _ _ (listed_stays h.0.size h.0.version h.1)
-      (λ v. fault_bound Truncated pair_longer _ _ _ (nodes_stay (set_count v.0) h.0.size v.1)
+      (λ v. fault_bound Truncated pair_longer _ _ _ (nodes_stay (priced_lines v.0) h.0.size v.1)
       (λ t. end_stays Truncated Extra (with_tree v.0 h.0 t.0) (with_tree v.0 h.0 t.0) x rest t.1.1)))
 
 pub reading_stays : FirstFaultStays

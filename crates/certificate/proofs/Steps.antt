@@ -6,43 +6,44 @@ use Rattle.std.specs.FinSet.{insert}
 use Rattle.std.specs.List.{AllByRecursion}
 use Rattle.tenths.specs.Lines.{Left}
 use Rattle.solomon_reader.specs.Plan.{Arc}
-use Rattle.solomon_reader.specs.Bound.{Version, listed_sets, LeafPrices, of_customers, Node, leaf_node, split_node, Tree, leaf, split, preorder}
+use Rattle.solomon_reader.specs.Bound.{Version, listed_sets, listed_rows, LeafPrices, of_customers, Node, leaf_node, split_node, Tree, leaf, split, preorder}
 use Rattle.tenths.specs.Reading.{◌>>=◌}
 use Rattle.solomon_reader.specs.Region.{Region, Holds, Among, IsArc, IsUndecided, used_child, unused_child, root_region}
 use Rattle.solomon_reader.specs.ArcOrder.{inserted, none_in_empty, holds_old, holds_new}
-use Rattle.solomon_reader.specs.CertificateText.{depth_of, IsPrice, AreSetPrices, IsTreeAt, leaf_count}
+use Rattle.solomon_reader.specs.CertificateText.{depth_of, IsPrice, AreSetPrices, AreRowPrices, IsTreeAt, leaf_count}
 use Rattle.tenths.proofs.Steps.{bind_ok, ok_is}
 use Rattle.certificate.specs.declared.fault.CertFault.{CertFault}
 use Rattle.certificate.specs.declared.fault.CertFault.TheVariants.{TooDeep, TooManyLeaves}
 use Rattle.certificate.specs.declared.node.CertNode.{CertNode}
 use Rattle.certificate.specs.Tree.{node_of, nodes_of}
-use Rattle.certificate.specs.Reading.{Below, both, leaf_at, one_leaf, node_at, tree_at, with_nodes, below}
+use Rattle.certificate.specs.declared.version.PricedLines.{PricedLines}
+use Rattle.certificate.specs.Reading.{Below, both, set_count, row_count, leaf_at, one_leaf, node_at, tree_at, with_nodes, below}
 
 -- both children of a split, as tree_at reads them
-abbrev pub children_at : Option ℕ → ℕ → ℕ → List Arc → ℕ → Arc → Left → Result Below CertFault
-children_at sets n left path leaves a rest = tree_at sets n left (path ++ (a ∷ [])) leaves rest >>= λ used. tree_at sets n left (path ++ (a ∷ [])) used.1.0 used.1.1 >>= λ unused. Ok (both a used.0 unused)
+abbrev pub children_at : PricedLines → ℕ → ℕ → List Arc → ℕ → Arc → Left → Result Below CertFault
+children_at priced n left path leaves a rest = tree_at priced n left (path ++ (a ∷ [])) leaves rest >>= λ used. tree_at priced n left (path ++ (a ∷ [])) used.1.0 used.1.1 >>= λ unused. Ok (both a used.0 unused)
 
-pub tree_at-leaf : (sets : Option ℕ) (n left : ℕ) (path : List Arc) (leaves : ℕ) (st rest : Left) (zs : List ℤ) → node_at n path st ≡ Ok (leaf_node (of_customers zs), rest)
-    → tree_at sets n left path leaves st ≡ one_leaf sets st.0 zs leaves rest
+pub tree_at-leaf : (priced : PricedLines) (n left : ℕ) (path : List Arc) (leaves : ℕ) (st rest : Left) (zs : List ℤ) → node_at n path st ≡ Ok (leaf_node (of_customers zs), rest)
+    → tree_at priced n left path leaves st ≡ one_leaf priced st.0 zs leaves rest
 unfolding tree_at
-tree_at-leaf sets n zero path leaves st rest zs h = rw h refl
-tree_at-leaf sets n (suc left) path leaves st rest zs h = rw h refl
+tree_at-leaf priced n zero path leaves st rest zs h = rw h refl
+tree_at-leaf priced n (suc left) path leaves st rest zs h = rw h refl
 
-pub tree_at-deep : (sets : Option ℕ) (n : ℕ) (path : List Arc) (leaves : ℕ) (st rest : Left) (a : Arc) → node_at n path st ≡ Ok (split_node a, rest)
-    → tree_at sets n 0 path leaves st ≡ Err (TooDeep st.0)
+pub tree_at-deep : (priced : PricedLines) (n : ℕ) (path : List Arc) (leaves : ℕ) (st rest : Left) (a : Arc) → node_at n path st ≡ Ok (split_node a, rest)
+    → tree_at priced n 0 path leaves st ≡ Err (TooDeep st.0)
 unfolding tree_at
-tree_at-deep sets n path leaves st rest a h = rw h refl
+tree_at-deep priced n path leaves st rest a h = rw h refl
 
-pub tree_at-split : (sets : Option ℕ) (n left : ℕ) (path : List Arc) (leaves : ℕ) (st rest : Left) (a : Arc) → node_at n path st ≡ Ok (split_node a, rest)
-    → tree_at sets n (suc left) path leaves st ≡ children_at sets n left path leaves a rest
+pub tree_at-split : (priced : PricedLines) (n left : ℕ) (path : List Arc) (leaves : ℕ) (st rest : Left) (a : Arc) → node_at n path st ≡ Ok (split_node a, rest)
+    → tree_at priced n (suc left) path leaves st ≡ children_at priced n left path leaves a rest
 unfolding tree_at
-tree_at-split sets n left path leaves st rest a h = rw h refl
+tree_at-split priced n left path leaves st rest a h = rw h refl
 
-pub tree_at-fails : (sets : Option ℕ) (n left : ℕ) (path : List Arc) (leaves : ℕ) (st : Left) (e : CertFault) → node_at n path st ≡ Err e
-    → tree_at sets n left path leaves st ≡ Err e
+pub tree_at-fails : (priced : PricedLines) (n left : ℕ) (path : List Arc) (leaves : ℕ) (st : Left) (e : CertFault) → node_at n path st ≡ Err e
+    → tree_at priced n left path leaves st ≡ Err e
 unfolding tree_at
-tree_at-fails sets n zero path leaves st e h = rw h refl
-tree_at-fails sets n (suc left) path leaves st e h = rw h refl
+tree_at-fails priced n zero path leaves st e h = rw h refl
+tree_at-fails priced n (suc left) path leaves st e h = rw h refl
 
 -- ---- with the nodes before
 
@@ -58,54 +59,54 @@ pub with_err : (front : List Node) (read : Result Below CertFault) (e : CertFaul
 with_err front (Err f) e h = cc
 with_err front (Ok x) e h = absurd cc
 
-module _ (sets : Option ℕ) (n : ℕ) (path : List Arc) (leaves : ℕ) (st : Left) (front : List Node) where
-  pub node_fails : (left : ℕ) (e : CertFault) → node_at n path st ≡ Err e → with_nodes front (tree_at sets n left path leaves st) ≡ Err e
-  node_fails left e h = rw (tree_at-fails sets n left path leaves st e h) refl
+module _ (priced : PricedLines) (n : ℕ) (path : List Arc) (leaves : ℕ) (st : Left) (front : List Node) where
+  pub node_fails : (left : ℕ) (e : CertFault) → node_at n path st ≡ Err e → with_nodes front (tree_at priced n left path leaves st) ≡ Err e
+  node_fails left e h = rw (tree_at-fails priced n left path leaves st e h) refl
 
   pub too_many : (left k : ℕ) (zs : List ℤ) (rest : Left) → k ≡ st.0 → leaves ≡ 0 → node_at n path st ≡ Ok (leaf_node (of_customers zs), rest)
-      → with_nodes front (tree_at sets n left path leaves st) ≡ Err (TooManyLeaves k)
-  too_many left k zs rest same full h = rw (tree_at-leaf sets n left path leaves st rest zs h, full, same) refl
+      → with_nodes front (tree_at priced n left path leaves st) ≡ Err (TooManyLeaves k)
+  too_many left k zs rest same full h = rw (tree_at-leaf priced n left path leaves st rest zs h, full, same) refl
 
   pub one_more : (left : ℕ) (zs : List ℤ) (rest end : Left) (x : Node) → leaves ≡ suc (leaves - 1) → node_at n path st ≡ Ok (leaf_node (of_customers zs), rest)
-      → leaf_at sets zs rest ≡ Ok (x, end) → with_nodes front (tree_at sets n left path leaves st) ≡ Ok (front ++ (x ∷ []), (leaves - 1, end))
+      → leaf_at priced zs rest ≡ Ok (x, end) → with_nodes front (tree_at priced n left path leaves st) ≡ Ok (front ++ (x ∷ []), (leaves - 1, end))
   one_more left zs rest end x some h taken =
-      let leaf : one_leaf sets st.0 zs (suc (leaves - 1)) rest ≡ Ok (x ∷ [], (leaves - 1, end)) = rw taken refl in
+      let leaf : one_leaf priced st.0 zs (suc (leaves - 1)) rest ≡ Ok (x ∷ [], (leaves - 1, end)) = rw taken refl in
       ap (λ (r : Result Below CertFault). with_nodes front r)
-      (tree_at-leaf sets n left path leaves st rest zs h ∙ (ap (λ (m : ℕ). one_leaf sets st.0 zs m rest) some ∙ leaf))
+      (tree_at-leaf priced n left path leaves st rest zs h ∙ (ap (λ (m : ℕ). one_leaf priced st.0 zs m rest) some ∙ leaf))
 
-  -- the line of a leaf's sets fails
+  -- the line of a leaf's priced fails
   pub leaf_fails : (left : ℕ) (zs : List ℤ) (rest : Left) (e : CertFault) → leaves ≡ suc (leaves - 1) → node_at n path st ≡ Ok (leaf_node (of_customers zs), rest)
-      → leaf_at sets zs rest ≡ Err e → with_nodes front (tree_at sets n left path leaves st) ≡ Err e
+      → leaf_at priced zs rest ≡ Err e → with_nodes front (tree_at priced n left path leaves st) ≡ Err e
   leaf_fails left zs rest e some h fails =
-      let leaf : one_leaf sets st.0 zs (suc (leaves - 1)) rest ≡ Err e = rw fails refl in
+      let leaf : one_leaf priced st.0 zs (suc (leaves - 1)) rest ≡ Err e = rw fails refl in
       ap (λ (r : Result Below CertFault). with_nodes front r)
-      (tree_at-leaf sets n left path leaves st rest zs h ∙ (ap (λ (m : ℕ). one_leaf sets st.0 zs m rest) some ∙ leaf))
+      (tree_at-leaf priced n left path leaves st rest zs h ∙ (ap (λ (m : ℕ). one_leaf priced st.0 zs m rest) some ∙ leaf))
 
   pub too_deep : (left k : ℕ) (a : Arc) (rest : Left) → k ≡ st.0 → left ≡ 0 → node_at n path st ≡ Ok (split_node a, rest)
-      → with_nodes front (tree_at sets n left path leaves st) ≡ Err (TooDeep k)
-  too_deep left k a rest same deep h = rw (deep, tree_at-deep sets n path leaves st rest a h, same) refl
+      → with_nodes front (tree_at priced n left path leaves st) ≡ Err (TooDeep k)
+  too_deep left k a rest same deep h = rw (deep, tree_at-deep priced n path leaves st rest a h, same) refl
 
   module _ (left less : ℕ) (a : Arc) (rest : Left) (some : left ≡ suc less) (h : node_at n path st ≡ Ok (split_node a, rest)) where
-    at_split : tree_at sets n left path leaves st ≡ children_at sets n less path leaves a rest
-    at_split = ap (λ (m : ℕ). tree_at sets n m path leaves st) some ∙ tree_at-split sets n less path leaves st rest a h
+    at_split : tree_at priced n left path leaves st ≡ children_at priced n less path leaves a rest
+    at_split = ap (λ (m : ℕ). tree_at priced n m path leaves st) some ∙ tree_at-split priced n less path leaves st rest a h
 
-    pub first_fails : (e : CertFault) → with_nodes (front ++ (split_node a ∷ [])) (tree_at sets n less (path ++ (a ∷ [])) leaves rest) ≡ Err e
-        → with_nodes front (tree_at sets n left path leaves st) ≡ Err e
-    first_fails e f = let g = with_err (front ++ (split_node a ∷ [])) (tree_at sets n less (path ++ (a ∷ [])) leaves rest) e f in
+    pub first_fails : (e : CertFault) → with_nodes (front ++ (split_node a ∷ [])) (tree_at priced n less (path ++ (a ∷ [])) leaves rest) ≡ Err e
+        → with_nodes front (tree_at priced n left path leaves st) ≡ Err e
+    first_fails e f = let g = with_err (front ++ (split_node a ∷ [])) (tree_at priced n less (path ++ (a ∷ [])) leaves rest) e f in
         ap (λ (r : Result Below CertFault). with_nodes front r) at_split ∙ rw g refl
 
-    module _ (ns : List Node) (lv : ℕ) (mid : Left) (first : with_nodes (front ++ (split_node a ∷ [])) (tree_at sets n less (path ++ (a ∷ [])) leaves rest) ≡ Ok (ns, (lv, mid))) where
-      pub second_fails : (e : CertFault) → with_nodes ns (tree_at sets n less (path ++ (a ∷ [])) lv mid) ≡ Err e → with_nodes front (tree_at sets n left path leaves st) ≡ Err e
+    module _ (ns : List Node) (lv : ℕ) (mid : Left) (first : with_nodes (front ++ (split_node a ∷ [])) (tree_at priced n less (path ++ (a ∷ [])) leaves rest) ≡ Ok (ns, (lv, mid))) where
+      pub second_fails : (e : CertFault) → with_nodes ns (tree_at priced n less (path ++ (a ∷ [])) lv mid) ≡ Err e → with_nodes front (tree_at priced n left path leaves st) ≡ Err e
       second_fails e f =
-          let u = with_ok (front ++ (split_node a ∷ [])) (tree_at sets n less (path ++ (a ∷ [])) leaves rest) ns (lv, mid) first in
-          let g = with_err ns (tree_at sets n less (path ++ (a ∷ [])) lv mid) e f in
+          let u = with_ok (front ++ (split_node a ∷ [])) (tree_at priced n less (path ++ (a ∷ [])) leaves rest) ns (lv, mid) first in
+          let g = with_err ns (tree_at priced n less (path ++ (a ∷ [])) lv mid) e f in
           ap (λ (r : Result Below CertFault). with_nodes front r) at_split ∙ rw (u.1, g) refl
 
-      pub both_read : (ms : List Node) (end : ℕ × Left) → with_nodes ns (tree_at sets n less (path ++ (a ∷ [])) lv mid) ≡ Ok (ms, end)
-          → with_nodes front (tree_at sets n left path leaves st) ≡ Ok (ms, end)
+      pub both_read : (ms : List Node) (end : ℕ × Left) → with_nodes ns (tree_at priced n less (path ++ (a ∷ [])) lv mid) ≡ Ok (ms, end)
+          → with_nodes front (tree_at priced n left path leaves st) ≡ Ok (ms, end)
       both_read ms end f =
-          let u = with_ok (front ++ (split_node a ∷ [])) (tree_at sets n less (path ++ (a ∷ [])) leaves rest) ns (lv, mid) first in
-          let v = with_ok ns (tree_at sets n less (path ++ (a ∷ [])) lv mid) ms end f in
+          let u = with_ok (front ++ (split_node a ∷ [])) (tree_at priced n less (path ++ (a ∷ [])) leaves rest) ns (lv, mid) first in
+          let v = with_ok ns (tree_at priced n less (path ++ (a ∷ [])) lv mid) ms end f in
           let grouped : front ++ (split_node a ∷ (u.0 ++ v.0)) ≡ ((front ++ (split_node a ∷ [])) ++ u.0) ++ v.0 = simp append_assoc in
           let all : front ++ (split_node a ∷ (u.0 ++ v.0)) ≡ ms = grouped ∙ ap (λ (x : List Node). x ++ v.0) u.2 ∙ v.2 in
           ap (λ (r : Result Below CertFault). with_nodes front r) at_split ∙ rw (u.1, v.1) (ap (λ (x : List Node). Ok (x, end)) all)
@@ -116,16 +117,16 @@ nodes_of-push (n ∷ ns) x = ap (λ (y : List Node). node_of n ∷ y) (nodes_of-
 
 -- ---- Trees below a path of decided arcs are trees at the region of these arcs.
 
--- what a node says below a path, where so many sets are listed
-abbrev pub IsNodeOn : ℕ → ℕ → List Arc → Node → Type 0
-IsNodeOn listed n path (leaf_node prices) = (length prices.customers ≡ n) × AllByRecursion IsPrice prices.customers × AreSetPrices listed prices
-IsNodeOn listed n path (split_node a) = IsArc n a × ¬ Among a path
+-- what a node says below a path, where so many sets and rows are listed
+abbrev pub IsNodeOn : ℕ → ℕ → ℕ → List Arc → Node → Type 0
+IsNodeOn sets rows n path (leaf_node prices) = (length prices.customers ≡ n) × AllByRecursion IsPrice prices.customers × AreSetPrices sets prices × AreRowPrices rows prices.rows
+IsNodeOn sets rows n path (split_node a) = IsArc n a × ¬ Among a path
 
 -- the tree stands below a path of decided arcs, of which so many may still come
-abbrev pub IsTreeOn : ℕ → ℕ → List Arc → ℕ → Tree → Type 0
-IsTreeOn listed n path left (leaf prices) = IsNodeOn listed n path (leaf_node prices)
-IsTreeOn listed n path left (split a used unused) = IsNodeOn listed n path (split_node a)
-    × ((rest : ℕ) × (left ≡ rest + 1) × IsTreeOn listed n (path ++ (a ∷ [])) rest used × IsTreeOn listed n (path ++ (a ∷ [])) rest unused)
+abbrev pub IsTreeOn : ℕ → ℕ → ℕ → List Arc → ℕ → Tree → Type 0
+IsTreeOn sets rows n path left (leaf prices) = IsNodeOn sets rows n path (leaf_node prices)
+IsTreeOn sets rows n path left (split a used unused) = IsNodeOn sets rows n path (split_node a)
+    × ((rest : ℕ) × (left ≡ rest + 1) × IsTreeOn sets rows n (path ++ (a ∷ [])) rest used × IsTreeOn sets rows n (path ++ (a ∷ [])) rest unused)
 
 -- the region decides the arcs of the path, and no others
 pub record Decides (g : Region) (path : List Arc) : Type 0 where
@@ -203,7 +204,7 @@ module _ (g : Region) (path : List Arc) (a : Arc) (d : Decides g path) where
   ]
 
 -- a tree at the region that isn't too deep stands below the path
-pub on_from_at : (version : Version) (tree : Tree) (g : Region) (path : List Arc) (left : ℕ) → Decides g path → IsTreeAt version g tree → depth_of tree ≤ left → IsTreeOn (length (listed_sets version)) g.size path left tree
+pub on_from_at : (version : Version) (tree : Tree) (g : Region) (path : List Arc) (left : ℕ) → Decides g path → IsTreeAt version g tree → depth_of tree ≤ left → IsTreeOn (length (listed_sets version)) (length (listed_rows version)) g.size path left tree
 on_from_at version (leaf prices) g path left d h deep = h
 on_from_at version (split a used unused) g path zero d h deep = absurd (omega (arith, deep))
 on_from_at version (split a used unused) g path (suc left) d h deep = (
@@ -217,7 +218,7 @@ on_from_at version (split a used unused) g path (suc left) d h deep = (
 )
 
 -- and back
-pub at_from_on : (version : Version) (tree : Tree) (g : Region) (path : List Arc) (left : ℕ) → Decides g path → IsTreeOn (length (listed_sets version)) g.size path left tree → IsTreeAt version g tree × (depth_of tree ≤ left)
+pub at_from_on : (version : Version) (tree : Tree) (g : Region) (path : List Arc) (left : ℕ) → Decides g path → IsTreeOn (length (listed_sets version)) (length (listed_rows version)) g.size path left tree → IsTreeAt version g tree × (depth_of tree ≤ left)
 at_from_on version (leaf prices) g path left d h = (h, omega arith)
 at_from_on version (split a used unused) g path left d h =
     let rest = h.1.0 in
@@ -229,16 +230,11 @@ at_from_on version (split a used unused) g path left d h =
 
 -- ---- What is read as nodes is a tree in preorder, of so many leaves and no deeper than the path may grow; and each such tree is read.
 
--- how many sets are listed, none where the text isn't one with sets
-abbrev pub listed_of : Option ℕ → ℕ
-listed_of None = 0
-listed_of (Some listed) = listed
-
 -- a node's lines stand at the front: `Takes st x rest` is to say that the lines from st are x's lines and the lines from rest
-module _ (sets : Option ℕ) (n : ℕ) (Takes : Left → Node → Left → Type 0)
-    (leaf_takes : (path : List Arc) (st mid rest : Left) (zs : List ℤ) (x : Node) → node_at n path st ≡ Ok (leaf_node (of_customers zs), mid) → leaf_at sets zs mid ≡ Ok (x, rest)
-    → (prices : LeafPrices) × (x ≡ leaf_node prices) × Takes st x rest × IsNodeOn (listed_of sets) n path x)
-    (split_takes : (path : List Arc) (st rest : Left) (a : Arc) → node_at n path st ≡ Ok (split_node a, rest) → Takes st (split_node a) rest × IsNodeOn (listed_of sets) n path (split_node a))
+module _ (priced : PricedLines) (n : ℕ) (Takes : Left → Node → Left → Type 0)
+    (leaf_takes : (path : List Arc) (st mid rest : Left) (zs : List ℤ) (x : Node) → node_at n path st ≡ Ok (leaf_node (of_customers zs), mid) → leaf_at priced zs mid ≡ Ok (x, rest)
+    → (prices : LeafPrices) × (x ≡ leaf_node prices) × Takes st x rest × IsNodeOn (set_count priced) (row_count priced) n path x)
+    (split_takes : (path : List Arc) (st rest : Left) (a : Arc) → node_at n path st ≡ Ok (split_node a, rest) → Takes st (split_node a) rest × IsNodeOn (set_count priced) (row_count priced) n path (split_node a))
     (of_line : (path : List Arc) (st rest : Left) (prices : LeafPrices) → node_at n path st ≡ Ok (leaf_node prices, rest) → prices ≡ of_customers prices.customers) where
   -- the nodes' lines one after another
   abbrev pub TakesAll : Left → List Node → Left → Type 0
@@ -252,23 +248,23 @@ module _ (sets : Option ℕ) (n : ℕ) (Takes : Left → Node → Left → Type 
   pub record IsRead (path : List Arc) (left leaves : ℕ) (st : Left) (b : Below) : Type 0 where
     pub tree : Tree
     pub preorder : b.0 ≡ preorder tree
-    pub shaped : IsTreeOn (listed_of sets) n path left tree
+    pub shaped : IsTreeOn (set_count priced) (row_count priced) n path left tree
     pub counted : b.1.0 + leaf_count tree ≡ leaves
     pub spelled : TakesAll st b.0 b.1.1
 
   leaf_read : (path : List Arc) (left leaves k : ℕ) (st mid : Left) (zs : List ℤ) (b : Below) → node_at n path st ≡ Ok (leaf_node (of_customers zs), mid)
-      → one_leaf sets k zs leaves mid ≡ Ok b → IsRead path left leaves st b
+      → one_leaf priced k zs leaves mid ≡ Ok b → IsRead path left leaves st b
   leaf_read path left zero k st mid zs b h e = absurd cc
   leaf_read path left (suc leaves) k st mid zs b h e =
-      let x = bind_ok (leaf_at sets zs mid) (λ x. Ok (x.0 ∷ [], (leaves, x.1))) b e in
+      let x = bind_ok (leaf_at priced zs mid) (λ x. Ok (x.0 ∷ [], (leaves, x.1))) b e in
       let t = leaf_takes path st mid x.0.1 zs x.0.0 h x.1 in
       let same : (x.0.0 ∷ [], (leaves, x.0.1)) ≡ b = ok_is (x.0.0 ∷ [], (leaves, x.0.1)) b x.2 in
-      let shaped : IsNodeOn (listed_of sets) n path (leaf_node t.0) = subst (λ (y : Node). IsNodeOn (listed_of sets) n path y) t.1 t.3 in
+      let shaped : IsNodeOn (set_count priced) (row_count priced) n path (leaf_node t.0) = subst (λ (y : Node). IsNodeOn (set_count priced) (row_count priced) n path y) t.1 t.3 in
       let made : IsRead path left (suc leaves) st (x.0.0 ∷ [], (leaves, x.0.1)) =
       record { tree = leaf t.0; preorder = ap (λ (y : Node). y ∷ []) t.1; shaped = shaped; counted = omega arith; spelled = (x.0.1, t.2, refl) } in
       subst (λ (z : Below). IsRead path left (suc leaves) st z) same made
 
-  split_read : (path : List Arc) (left leaves : ℕ) (st rest : Left) (a : Arc) (u v : Below) → Takes st (split_node a) rest × IsNodeOn (listed_of sets) n path (split_node a)
+  split_read : (path : List Arc) (left leaves : ℕ) (st rest : Left) (a : Arc) (u v : Below) → Takes st (split_node a) rest × IsNodeOn (set_count priced) (row_count priced) n path (split_node a)
       → IsRead (path ++ (a ∷ [])) left leaves rest u → IsRead (path ++ (a ∷ [])) left u.1.0 u.1.1 v → IsRead path (suc left) leaves st (both a u.0 v)
   split_read path left leaves st rest a u v t p q = record {
     tree = split a p.tree q.tree;
@@ -282,28 +278,28 @@ module _ (sets : Option ℕ) (n : ℕ) (Takes : Left → Node → Left → Type 
   plain : (path : List Arc) (st rest : Left) (prices : LeafPrices) → node_at n path st ≡ Ok (leaf_node prices, rest) → node_at n path st ≡ Ok (leaf_node (of_customers prices.customers), rest)
   plain path st rest prices h = h ∙ ap (λ (l : LeafPrices). Ok (leaf_node l, rest)) (of_line path st rest prices h)
 
-  pub tree_takes : (left : ℕ) (path : List Arc) (leaves : ℕ) (st : Left) (b : Below) → tree_at sets n left path leaves st ≡ Ok b → IsRead path left leaves st b
+  pub tree_takes : (left : ℕ) (path : List Arc) (leaves : ℕ) (st : Left) (b : Below) → tree_at priced n left path leaves st ≡ Ok b → IsRead path left leaves st b
   unfolding tree_at
   tree_takes zero path leaves st b h =
-      let x = bind_ok (node_at n path st) (λ x. below sets st.0 leaves (λ a rest. Err (TooDeep st.0)) x.0 x.1) b h in
+      let x = bind_ok (node_at n path st) (λ x. below priced st.0 leaves (λ a rest. Err (TooDeep st.0)) x.0 x.1) b h in
       of x.0.0 x.0.1 x.1 x.2
     where
-      of : (node : Node) (rest : Left) → node_at n path st ≡ Ok (node, rest) → below sets st.0 leaves (λ a rest. Err (TooDeep st.0)) node rest ≡ Ok b → IsRead path zero leaves st b
+      of : (node : Node) (rest : Left) → node_at n path st ≡ Ok (node, rest) → below priced st.0 leaves (λ a rest. Err (TooDeep st.0)) node rest ≡ Ok b → IsRead path zero leaves st b
       of (leaf_node prices) rest t e = leaf_read path zero leaves st.0 st rest prices.customers b (plain path st rest prices t) e
       of (split_node a) rest t e = absurd cc
   tree_takes (suc left) path leaves st b h =
-      let x = bind_ok (node_at n path st) (λ x. below sets st.0 leaves (λ a rest. children_at sets n left path leaves a rest) x.0 x.1) b h in
+      let x = bind_ok (node_at n path st) (λ x. below priced st.0 leaves (λ a rest. children_at priced n left path leaves a rest) x.0 x.1) b h in
       of x.0.0 x.0.1 x.1 x.2
       (λ a rest u e. tree_takes left (path ++ (a ∷ [])) leaves rest u e) (λ a lv mid v e. tree_takes left (path ++ (a ∷ [])) lv mid v e)
     where
-      of : (node : Node) (rest : Left) → node_at n path st ≡ Ok (node, rest) → below sets st.0 leaves (λ a rest. children_at sets n left path leaves a rest) node rest ≡ Ok b
-          → ((a : Arc) (rest : Left) (u : Below) → tree_at sets n left (path ++ (a ∷ [])) leaves rest ≡ Ok u → IsRead (path ++ (a ∷ [])) left leaves rest u)
-          → ((a : Arc) (lv : ℕ) (mid : Left) (v : Below) → tree_at sets n left (path ++ (a ∷ [])) lv mid ≡ Ok v → IsRead (path ++ (a ∷ [])) left lv mid v)
+      of : (node : Node) (rest : Left) → node_at n path st ≡ Ok (node, rest) → below priced st.0 leaves (λ a rest. children_at priced n left path leaves a rest) node rest ≡ Ok b
+          → ((a : Arc) (rest : Left) (u : Below) → tree_at priced n left (path ++ (a ∷ [])) leaves rest ≡ Ok u → IsRead (path ++ (a ∷ [])) left leaves rest u)
+          → ((a : Arc) (lv : ℕ) (mid : Left) (v : Below) → tree_at priced n left (path ++ (a ∷ [])) lv mid ≡ Ok v → IsRead (path ++ (a ∷ [])) left lv mid v)
           → IsRead path (suc left) leaves st b
       of (leaf_node prices) rest t e first second = leaf_read path (suc left) leaves st.0 st rest prices.customers b (plain path st rest prices t) e
       of (split_node a) rest t e first second =
-          let u = bind_ok (tree_at sets n left (path ++ (a ∷ [])) leaves rest) (λ used. tree_at sets n left (path ++ (a ∷ [])) used.1.0 used.1.1 >>= λ unused. Ok (both a used.0 unused)) b e in
-          let v = bind_ok (tree_at sets n left (path ++ (a ∷ [])) u.0.1.0 u.0.1.1) (λ unused. Ok (both a u.0.0 unused)) b u.2 in
+          let u = bind_ok (tree_at priced n left (path ++ (a ∷ [])) leaves rest) (λ used. tree_at priced n left (path ++ (a ∷ [])) used.1.0 used.1.1 >>= λ unused. Ok (both a used.0 unused)) b e in
+          let v = bind_ok (tree_at priced n left (path ++ (a ∷ [])) u.0.1.0 u.0.1.1) (λ unused. Ok (both a u.0.0 unused)) b u.2 in
           let same : both a u.0.0 v.0 ≡ b = ok_is (both a u.0.0 v.0) b v.2 in
           subst (λ (z : Below). IsRead path (suc left) leaves st z) same
           (split_read path left leaves st rest a u.0 v.0 (split_takes path st rest a t) (first a rest u.0 u.1) (second a u.0.1.0 u.0.1.1 v.0 v.1))

@@ -1,13 +1,13 @@
 -- The tree whose nodes come first in a list.
-use Rattle.std.specs.Prelude.{◌≡◌, ℕ, zero, suc, List, [], ◌∷◌, Option, Some, None, option_and_then, map}
+use Rattle.std.specs.Prelude.{◌≡◌, ℕ, zero, suc, List, [], ◌∷◌, Option, Some, None, option_and_then}
 use Rattle.solomon_reader.specs.Plan.{Arc}
 use Rattle.solomon_reader.specs.Bound.{Tree, leaf, split, Node, leaf_node, split_node}
 use Rattle.certificate.specs.declared.tree.CertTree.{CertTree, Leaf, Split'}
-use Rattle.certificate.specs.Tree.{set_price_of}
+use Rattle.certificate.specs.Tree.{leaf_prices_of}
 
 -- what contracts see of a tree
 abbrev pub tree_of : CertTree → Tree
-tree_of (Leaf prices set_prices) = leaf (record { customers = prices.now; sets = map set_price_of set_prices.now })
+tree_of (Leaf prices set_prices row_prices) = leaf (leaf_prices_of prices.now set_prices.now row_prices.now)
 tree_of (Split' from to p used q unused) = split (from, to) (tree_of used) (tree_of unused)
 
 abbrev pub Grown : Type 0

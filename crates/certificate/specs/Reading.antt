@@ -1,5 +1,5 @@
 -- Reading a certificate line by line, with the first fault that is met.
-use Rattle.std.specs.Prelude.{ℕ, zero, suc, ◌+◌, min, Bool, true, false, List, [], ◌∷◌, ◌++◌, length, map, Option, Some, None, codes, Result, Ok, Err, nat_le, nat_lt, ◌==◌, ◌&&◌, if◌then◌else◌, ℤ, nat_abs}
+use Rattle.std.specs.Prelude.{ℕ, zero, suc, ◌+◌, ◌-◌, ◌^◌, min, Bool, true, false, List, [], ◌∷◌, ◌++◌, length, map, Option, Some, None, codes, Result, Ok, Err, nat_le, nat_lt, ◌==◌, ◌&&◌, if◌then◌else◌, ℤ, nat_abs}
 use Rattle.std.specs.List.{list_all, list_any}
 use Rattle.std.specs.Option.{option_map}
 use Rattle.std.specs.Str.{bytes_eq}
@@ -8,13 +8,16 @@ use Rattle.tenths.specs.Parts.{parts}
 use Rattle.tenths.specs.Lines.{Left, line_at, is_end}
 use Rattle.tenths.specs.Numbers.{number_of, signed_of, tenths_of, capped, clamped}
 use Rattle.certificate.specs.declared.fault.CertFault.{CertFault}
-use Rattle.certificate.specs.declared.fault.CertFault.TheVariants.{Memory, BadLine, Truncated, Extra, BadArc, ArcDecided, PriceRange, TooDeep, TooManyLeaves, NeedRange, BadSet, TooManySets}
-use Rattle.solomon_reader.specs.declared.limits.TheConstants.{MOST_NAME, MOST_CUSTOMERS, MOST_NEIGHBOURS, MOST_PRICE, MOST_LEAVES, MOST_DEPTH, MOST_SETS, MOST_NEED}
+use Rattle.certificate.specs.declared.fault.CertFault.TheVariants.{Memory, BadLine, Truncated, Extra, BadArc, ArcDecided, PriceRange, TooDeep, TooManyLeaves, NeedRange, BadSet, TooManySets, BadRow, TooManyRows}
+use Rattle.solomon_reader.specs.declared.limits.TheConstants.{MOST_NAME, MOST_CUSTOMERS, MOST_NEIGHBOURS, MOST_PRICE, MOST_LEAVES, MOST_DEPTH, MOST_SETS, MOST_NEED, MOST_ROWS, MOST_ROW_PRICES}
 use Rattle.solomon_reader.specs.Words.{is_letter}
 use Rattle.solomon_reader.specs.Plan.{Arc}
 use Rattle.solomon_reader.specs.SetPrices.{ListedSet, SetPrice}
-use Rattle.solomon_reader.specs.Bound.{Version, version_1, version_2, with_sets, of_customers, Node, leaf_node, split_node}
-use Rattle.solomon_reader.specs.CertificateText.{Content, version_text, set_prices_sum}
+use Rattle.solomon_reader.specs.SubsetRows.{SubsetRow, RowPrice}
+use Rattle.solomon_reader.specs.Bound.{Version, version_1, version_2, with_sets, with_rows, of_customers, Node, leaf_node, split_node}
+use Rattle.solomon_reader.specs.CertificateText.{Content, version_text, is_before, set_prices_sum}
+use Rattle.certificate.specs.declared.version.PricedLines.{PricedLines}
+use Rattle.certificate.specs.declared.version.PricedLines.TheVariants.{Customers, Sets, Rows}
 
 -- What a function returned, seen by view, is what reading gives, unless memory ran out.
 abbrev pub Gives : {X Y : Type 0} → (X → Y) → Result X CertFault → Result Y CertFault → Type 0
@@ -24,9 +27,25 @@ Gives view result read = GivesUnless Memory view result read
 abbrev pub next_at : Left → Result (List ℕ × Left) CertFault
 next_at left = value_or Truncated (line_at left)
 
--- ---- numbers of customers and of sets
+-- ---- a line
 
--- cut, above each customer and each set
+-- a line: its number, its bytes, and what is left behind it
+abbrev pub Here : Type 0
+Here = ℕ × (List ℕ × Left)
+
+unfoldable pub line_from : Left → Result Here CertFault
+line_from st = do
+  l ← next_at st
+  Ok (st.0, l)
+
+-- the first word of a line is this one
+abbrev pub begins : List ℕ → List (List ℕ) → Bool
+begins text [] = false
+begins text (w ∷ ws) = bytes_eq w text
+
+-- ---- numbers of customers, of sets and of rows
+
+-- cut, above each customer, each set and each row
 abbrev pub small : ℕ → ℕ
 small m = min (capped m) 65535
 
@@ -63,17 +82,25 @@ prices_at n k ws = do
   some ← check (length zs == n) (BadLine k) zs
   check (list_all is_price some) (PriceRange k) some
 
--- how many sets are listed, where the text is one with sets
-abbrev pub set_count : Version → Option ℕ
-set_count version_1 = None
-set_count version_2 = None
-set_count (with_sets sets) = Some (length sets)
+-- whose prices the lines of a leaf tell
+abbrev pub priced_lines : Version → PricedLines
+priced_lines version_1 = Customers
+priced_lines version_2 = Customers
+priced_lines (with_sets sets) = Sets (length sets)
+priced_lines (with_rows sets rows) = Rows (length sets) (length rows)
 
-abbrev pub is_some : {X : Type 0} → Option X → Bool
-is_some None = false
-is_some (Some x) = true
+-- out of how many sets, and out of how many rows
+abbrev pub set_count : PricedLines → ℕ
+set_count Customers = 0
+set_count (Sets sets) = sets
+set_count (Rows sets rows) = sets
 
--- the words of a line that are left are canonical numbers in pairs: sets with their prices
+abbrev pub row_count : PricedLines → ℕ
+row_count Customers = 0
+row_count (Sets sets) = 0
+row_count (Rows sets rows) = rows
+
+-- the words of a line that are left are canonical numbers in pairs: places of sets or of rows, with their prices
 unfoldable pub pairs_at : ℕ → List (List ℕ) → Result (List SetPrice) CertFault
 pairs_at k [] = Ok []
 pairs_at k (v ∷ []) = Err (BadLine k)
@@ -83,29 +110,54 @@ pairs_at k (v ∷ w ∷ ws) = do
   pairs ← pairs_at k ws
   Ok ((i, m) ∷ pairs)
 
--- sets of this many, in increasing order
+-- places in a list of this length, in increasing order
 abbrev pub are_listed : ℕ → List SetPrice → Bool
-are_listed sets ms = is_rising 0 sets (map (λ m. m.0) ms)
+are_listed most ms = is_rising 0 most (map (λ m. m.0) ms)
 
--- each is a grain or more, and together they are within the range of a price beside each customer's
-abbrev pub are_set_prices : List ℤ → List SetPrice → Bool
-are_set_prices zs ms = list_all (λ m. nat_le 1 m.1 && nat_le m.1 MOST_PRICE) ms && list_all (λ z. nat_le (set_prices_sum ms + nat_abs z) MOST_PRICE) zs
+-- each price is a grain or more
+abbrev pub are_small : List SetPrice → Bool
+are_small ms = list_all (λ m. nat_le 1 m.1 && nat_le m.1 MOST_PRICE) ms
 
--- the prices of sets: first the words, then which sets, then their range
-unfoldable pub set_prices_in : ℕ → List ℤ → ℕ → List (List ℕ) → Result (List SetPrice) CertFault
-set_prices_in sets zs k [] = Err (BadLine k)
-set_prices_in sets zs k (w ∷ ws) = do
-  pairs ← (if bytes_eq w (codes "M") then pairs_at k ws else Err (BadLine k))
-  some ← check (are_listed sets pairs) (BadSet k) pairs
-  check (are_set_prices zs some) (PriceRange k) some
+-- and together, beside so much, they are within the range of a price beside each customer's
+abbrev pub are_prices : ℕ → List ℤ → List SetPrice → Bool
+are_prices beside zs ms = are_small ms && list_all (λ z. nat_le ((beside + set_prices_sum ms) + nat_abs z) MOST_PRICE) zs
 
--- behind the line of the customers' prices: a line of sets' prices, where the text is one with sets
-unfoldable pub leaf_at : Option ℕ → List ℤ → Left → Result (Node × Left) CertFault
-leaf_at None zs st = Ok (leaf_node (of_customers zs), st)
-leaf_at (Some sets) zs st = do
-  l ← next_at st
-  ms ← set_prices_in sets zs st.0 (parts 32 l.0)
-  Ok (leaf_node (record { customers = zs; sets = ms }), l.1)
+-- a sum of prices is cut here
+abbrev pub greatest : ℕ
+greatest = 2 ^ 64 - 1
+
+-- the prices behind the first word: first the words, then which places
+unfoldable pub placed_in : List ℕ → CertFault → ℕ → ℕ → List (List ℕ) → Result (List SetPrice) CertFault
+placed_in text unknown most k [] = Err (BadLine k)
+placed_in text unknown most k (w ∷ ws) = do
+  pairs ← (if bytes_eq w text then pairs_at k ws else Err (BadLine k))
+  check (are_listed most pairs) unknown pairs
+
+-- the prices of sets on the next line: first the words, then which sets, then their range
+unfoldable pub set_prices_at : ℕ → List ℤ → Left → Result (List SetPrice × Left) CertFault
+set_prices_at sets zs st = do
+  l ← line_from st
+  ms ← placed_in (codes "M") (BadSet l.0) sets l.0 (parts 32 l.1.0)
+  check (are_prices 0 zs ms) (PriceRange l.0) (ms, l.1.1)
+
+-- the prices of rows on the next line: first the words, then which rows, then how many, then their range
+unfoldable pub row_prices_at : ℕ → List ℤ → List SetPrice → Left → Result (List RowPrice × Left) CertFault
+row_prices_at rows zs ms st = do
+  l ← line_from st
+  qs ← placed_in (codes "Q") (BadRow l.0) rows l.0 (parts 32 l.1.0)
+  few ← check (nat_le (length qs) MOST_ROW_PRICES) (TooManyRows l.0) qs
+  check (are_prices (set_prices_sum ms) zs few) (PriceRange l.0) (few, l.1.1)
+
+-- behind the line of the customers' prices: lines of sets' and of rows' prices, where the text has them
+unfoldable pub leaf_at : PricedLines → List ℤ → Left → Result (Node × Left) CertFault
+leaf_at Customers zs st = Ok (leaf_node (of_customers zs), st)
+leaf_at (Sets sets) zs st = do
+  m ← set_prices_at sets zs st
+  Ok (leaf_node (record { customers = zs; sets = m.0; rows = [] }), m.1)
+leaf_at (Rows sets rows) zs st = do
+  m ← set_prices_at sets zs st
+  q ← row_prices_at rows zs m.0 m.1
+  Ok (leaf_node (record { customers = zs; sets = m.0; rows = q.0 }), q.1)
 
 -- ---- a split
 
@@ -156,22 +208,22 @@ node_at n path left = next_at left >>= λ l. node_in n left.0 path (parts 32 l.0
 abbrev pub Below : Type 0
 Below = List Node × (ℕ × Left)
 
-abbrev pub one_leaf : Option ℕ → ℕ → List ℤ → ℕ → Left → Result Below CertFault
-one_leaf sets k zs zero rest = Err (TooManyLeaves k)
-one_leaf sets k zs (suc leaves) rest = leaf_at sets zs rest >>= λ x. Ok (x.0 ∷ [], (leaves, x.1))
+abbrev pub one_leaf : PricedLines → ℕ → List ℤ → ℕ → Left → Result Below CertFault
+one_leaf priced k zs zero rest = Err (TooManyLeaves k)
+one_leaf priced k zs (suc leaves) rest = leaf_at priced zs rest >>= λ x. Ok (x.0 ∷ [], (leaves, x.1))
 
 -- behind the node's line: a leaf, or both children
-abbrev pub below : Option ℕ → ℕ → ℕ → (Arc → Left → Result Below CertFault) → Node → Left → Result Below CertFault
-below sets k leaves children (leaf_node prices) rest = one_leaf sets k prices.customers leaves rest
-below sets k leaves children (split_node a) rest = children a rest
+abbrev pub below : PricedLines → ℕ → ℕ → (Arc → Left → Result Below CertFault) → Node → Left → Result Below CertFault
+below priced k leaves children (leaf_node prices) rest = one_leaf priced k prices.customers leaves rest
+below priced k leaves children (split_node a) rest = children a rest
 
 abbrev pub both : Arc → List Node → Below → Below
 both a used unused = (split_node a ∷ (used ++ unused.0), unused.1)
 
-unfoldable pub tree_at : Option ℕ → ℕ → ℕ → List Arc → ℕ → Left → Result Below CertFault
-tree_at sets n zero path leaves st = node_at n path st >>= λ x. below sets st.0 leaves (λ a rest. Err (TooDeep st.0)) x.0 x.1
-tree_at sets n (suc left) path leaves st = node_at n path st >>= λ x. below sets st.0 leaves
-    (λ a rest. tree_at sets n left (path ++ (a ∷ [])) leaves rest >>= λ used. tree_at sets n left (path ++ (a ∷ [])) used.1.0 used.1.1 >>= λ unused. Ok (both a used.0 unused)) x.0 x.1
+unfoldable pub tree_at : PricedLines → ℕ → ℕ → List Arc → ℕ → Left → Result Below CertFault
+tree_at priced n zero path leaves st = node_at n path st >>= λ x. below priced st.0 leaves (λ a rest. Err (TooDeep st.0)) x.0 x.1
+tree_at priced n (suc left) path leaves st = node_at n path st >>= λ x. below priced st.0 leaves
+    (λ a rest. tree_at priced n left (path ++ (a ∷ [])) leaves rest >>= λ used. tree_at priced n left (path ++ (a ∷ [])) used.1.0 used.1.1 >>= λ unused. Ok (both a used.0 unused)) x.0 x.1
 
 -- ---- the whole
 
@@ -218,7 +270,7 @@ bound_at st = do
   t ← value_or (BadLine st.0) (tenths_of w.0)
   Ok (t, w.1)
 
--- the first five lines; sets aren't listed yet
+-- the first five lines; nothing is listed yet
 pub record Head : Type 0 where
   pub version : Version
   pub name : List ℕ
@@ -234,7 +286,8 @@ sizes_at st = do
 
 abbrev pub version_in : ℕ → List ℕ → Result Version CertFault
 version_in k l = if bytes_eq l (version_text version_1) then Ok version_1 else if bytes_eq l (version_text version_2) then Ok version_2
-    else if bytes_eq l (version_text (with_sets [])) then Ok (with_sets []) else Err (BadLine k)
+    else if bytes_eq l (version_text (with_sets [])) then Ok (with_sets [])
+    else if bytes_eq l (version_text (with_rows [] [])) then Ok (with_rows [] []) else Err (BadLine k)
 
 unfoldable pub version_at : Left → Result (Version × Left) CertFault
 version_at st = do
@@ -256,7 +309,16 @@ head_at st = do
   bound ← bound_at sizes.1
   Ok (record { version = title.0.0; name = title.0.1; size = sizes.0.0; neighbours = sizes.0.1; bound = bound.0 }, bound.1)
 
--- ---- the sets
+-- ---- the lists
+
+-- Things of a list, a line each, from this line up to one that begins otherwise; so many may still come. What is read may depend on what was seen of the one before.
+unfoldable pub items_at : {A : Type 0} → List ℕ → (Option A → ℕ → List (List ℕ) → Result A CertFault) → (ℕ → CertFault) → (A → Option A) → ℕ → Option A → Here
+    → Result (List A × Here) CertFault
+items_at text item_in full seen zero before at = if begins text (parts 32 at.1.0)
+    then (item_in before at.0 (parts 32 at.1.0) >>= λ s. Err (full at.0)) else Ok ([], at)
+items_at text item_in full seen (suc left) before at = if begins text (parts 32 at.1.0)
+    then (item_in before at.0 (parts 32 at.1.0) >>= λ s. line_from at.1.1 >>= λ next. items_at text item_in full seen left (seen s) next >>= λ more. Ok (s ∷ more.0, more.1))
+    else Ok ([], at)
 
 -- the need and the members: first the words, then the need's range, then the members
 unfoldable pub set_in : ℕ → ℕ → List (List ℕ) → Result ListedSet CertFault
@@ -269,25 +331,64 @@ set_in n k (w ∷ v ∷ ws) = do
   held ← check (nat_le 1 need && nat_le need MOST_NEED) (NeedRange k) need
   check (is_rising 0 n some) (BadSet k) (record { members = some; need = held })
 
--- the sets up to the line that begins the tree, of which so many may still come
-unfoldable pub sets_at : ℕ → ℕ → Left → Result (List ListedSet × Left) CertFault
-sets_at n zero st = do
-  l ← next_at st
-  if bytes_eq l.0 (codes "TREE") then Ok ([], l.1) else (set_in n st.0 (parts 32 l.0) >>= λ s. Err (TooManySets st.0))
-sets_at n (suc left) st = do
-  l ← next_at st
-  if bytes_eq l.0 (codes "TREE") then Ok ([], l.1) else (set_in n st.0 (parts 32 l.0) >>= λ s. sets_at n left l.1 >>= λ more. Ok (s ∷ more.0, more.1))
+-- the sets from this line on
+abbrev pub sets_at : ℕ → Here → Result (List ListedSet × Here) CertFault
+sets_at n at = items_at (codes "S") (λ before k ws. set_in n k ws) (λ k. TooManySets k) (λ s. None) MOST_SETS None at
+
+-- three of the customers 1 to n, in increasing order
+abbrev pub is_listed_row : ℕ → SubsetRow → Bool
+is_listed_row n s = nat_le 1 s.first && (nat_lt s.first s.second && (nat_lt s.second s.third && nat_le s.third n))
+
+-- the row stands behind the one before, where there is one
+abbrev pub is_behind : Option SubsetRow → SubsetRow → Bool
+is_behind None s = true
+is_behind (Some before) s = is_before before s
+
+abbrev pub three_of : List ℕ → Option SubsetRow
+three_of [] = None
+three_of (a ∷ []) = None
+three_of (a ∷ b ∷ []) = None
+three_of (a ∷ b ∷ c ∷ []) = Some (record { first = a; second = b; third = c })
+three_of (a ∷ b ∷ c ∷ d ∷ s) = None
+
+-- the three customers: first the words, then which customers, behind the row before
+unfoldable pub row_in : ℕ → Option SubsetRow → ℕ → List (List ℕ) → Result SubsetRow CertFault
+row_in n before k [] = Err (BadLine k)
+row_in n before k (w ∷ ws) = do
+  members ← members_at k ws
+  row ← value_or (BadLine k) (if bytes_eq w (codes "R") then three_of members else None)
+  check (is_listed_row n row && is_behind before row) (BadRow k) row
+
+-- the rows from this line on
+abbrev pub rows_at : ℕ → Here → Result (List SubsetRow × Here) CertFault
+rows_at n at = items_at (codes "R") (λ before k ws. row_in n before k ws) (λ k. TooManyRows k) (λ s. Some s) MOST_ROWS None at
+
+-- sets, and the line that begins the tree
+unfoldable pub sets_listed_at : ℕ → Left → Result (Version × Left) CertFault
+sets_listed_at n st = do
+  first ← line_from st
+  sets ← sets_at n first
+  check (bytes_eq sets.1.1.0 (codes "TREE")) (BadLine sets.1.0) (with_sets sets.0, sets.1.1.1)
+
+-- sets, rows, and the line that begins the tree
+unfoldable pub rows_listed_at : ℕ → Left → Result (Version × Left) CertFault
+rows_listed_at n st = do
+  first ← line_from st
+  sets ← sets_at n first
+  rows ← rows_at n sets.1
+  check (bytes_eq rows.1.1.0 (codes "TREE")) (BadLine rows.1.0) (with_rows sets.0 rows.0, rows.1.1.1)
 
 -- what stands between the first five lines and the nodes
 unfoldable pub listed_at : ℕ → Version → Left → Result (Version × Left) CertFault
 listed_at n version_1 st = fixed_at (codes "TREE") st >>= λ a. Ok (version_1, a)
 listed_at n version_2 st = fixed_at (codes "TREE") st >>= λ a. Ok (version_2, a)
-listed_at n (with_sets sets) st = sets_at n MOST_SETS st >>= λ a. Ok (with_sets a.0, a.1)
+listed_at n (with_sets sets) st = sets_listed_at n st
+listed_at n (with_rows sets rows) st = rows_listed_at n st
 
 -- the nodes, and the line behind them
-unfoldable pub nodes_at : Option ℕ → ℕ → Left → Result (List Node × Left) CertFault
-nodes_at sets n st = do
-  t ← tree_at sets n MOST_DEPTH [] MOST_LEAVES st
+unfoldable pub nodes_at : PricedLines → ℕ → Left → Result (List Node × Left) CertFault
+nodes_at priced n st = do
+  t ← tree_at priced n MOST_DEPTH [] MOST_LEAVES st
   b ← fixed_at (codes "END") t.1.1
   Ok (t.0, b)
 
@@ -299,7 +400,7 @@ unfoldable pub reading : List ℕ → Result Content CertFault
 reading text = do
   h ← head_at (1, parts 10 text)
   v ← listed_at h.0.size h.0.version h.1
-  t ← nodes_at (set_count v.0) h.0.size v.1
+  t ← nodes_at (priced_lines v.0) h.0.size v.1
   check (is_end t.1.1) Extra (with_tree v.0 h.0 t.0)
 
 -- the nodes before a tree, and those of the tree

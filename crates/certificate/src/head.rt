@@ -13,7 +13,7 @@ use solomon_reader::{MOST_CUSTOMERS, MOST_NAME, MOST_NEIGHBOURS};
 use std::alloc::Global;
 use tenths::{Lines, Parts, Tenths, number, read_tenths};
 
-/// What the first five lines say; sets aren't listed yet.
+/// What the first five lines say; nothing is listed yet.
 #[derive(Drop)]
 pub struct Head {
     pub version: Version,
@@ -129,6 +129,12 @@ fn version(alloc: Global, lines: &mut Lines<'_>) -> Result<Version, CertFault>
     }
     if line == b"VRPTW-SETS 1".as_slice() {
         return Ok(Version::WithSets(Vec::new(alloc)));
+    }
+    if line == b"VRPTW-ROWS 1".as_slice() {
+        return Ok(Version::WithRows {
+            sets: Vec::new(alloc),
+            rows: Vec::new(alloc),
+        });
     }
     Err(CertFault::BadLine { line: number })
 }

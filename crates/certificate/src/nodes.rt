@@ -5,8 +5,9 @@ ghost use Rattle.certificate.specs.Reading.{Gives, tree_at, with_nodes};
 ghost use Rattle.certificate.specs.Tree.{nodes_of};
 
 use crate::fault::CertFault;
+use crate::leaf::leaf;
 use crate::node::CertNode;
-use crate::set_prices::leaf;
+use crate::version::PricedLines;
 use crate::words::{NodeLine, node};
 use std::alloc::Global;
 use tenths::Lines;
@@ -16,8 +17,8 @@ use tenths::Lines;
 pub struct Nodes<'a> {
     pub lines: Lines<'a>,
     pub size: u16,
-    /// How many sets are listed, where the text is one with sets.
-    pub sets: Option<u16>,
+    /// Whose prices the lines of a leaf tell.
+    pub priced: PricedLines,
     pub path: Vec<(u16, u16)>,
     pub leaves: u32,
     pub nodes: Vec<CertNode>,
@@ -30,10 +31,10 @@ pub fn tree(alloc: Global, state: &mut Nodes<'_>, left: u32) -> Result<(), CertF
       (state.new.leaves, state.new.lines),
     )) result
         (with_nodes (nodes_of state.old.nodes.items)
-        (tree_at state.old.sets state.old.size left state.old.path.items state.old.leaves state.old.lines)) }
+        (tree_at state.old.priced state.old.size left state.old.path.items state.old.leaves state.old.lines)) }
     ensures path { OnOk result (state.new.path.items ≡ state.old.path.items) }
     ensures size { OnOk result (state.new.size ≡ state.old.size) }
-    ensures sets { OnOk result (state.new.sets ≡ state.old.sets) }
+    ensures priced { OnOk result (state.new.priced ≡ state.old.priced) }
 {
     let line = state.lines.number();
     match node(alloc, state.size, &state.path, &mut state.lines)? {
@@ -41,7 +42,7 @@ pub fn tree(alloc: Global, state: &mut Nodes<'_>, left: u32) -> Result<(), CertF
             if state.leaves == 0 {
                 return Err(CertFault::TooManyLeaves { line });
             }
-            let leaf = leaf(alloc, state.sets, prices, &mut state.lines)?;
+            let leaf = leaf(alloc, state.priced, prices, &mut state.lines)?;
             state.nodes.push(leaf)?;
             state.leaves -= 1;
             Ok(())

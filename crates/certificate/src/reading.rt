@@ -9,10 +9,11 @@ ghost use Rattle.certificate.specs.Text.{content_of};
 use crate::cert::Cert;
 use crate::fault::CertFault;
 use crate::head::{fixed, head_lines};
+use crate::lists::listed;
 use crate::node::CertNode;
 use crate::nodes::{Nodes, tree};
 use crate::parts::CertParts;
-use crate::set_lines::listed;
+use crate::version::PricedLines;
 use solomon_reader::{MOST_DEPTH, MOST_LEAVES};
 use std::alloc::Global;
 use tenths::Lines;
@@ -21,16 +22,16 @@ use tenths::Lines;
 #[tactic(auto, unfolding(crate::specs::Reading::nodes_at))]
 fn nodes<'a>(
     alloc: Global,
-    sets: Option<u16>,
+    priced: PricedLines,
     size: u16,
     lines: Lines<'a>,
 ) -> Result<(Vec<CertNode>, Lines<'a>), CertFault>
-    ensures { Gives (λ x. (nodes_of x.0.items, x.1)) result (nodes_at sets size lines.entry) }
+    ensures { Gives (λ x. (nodes_of x.0.items, x.1)) result (nodes_at priced size lines.entry) }
 {
     let mut state = Nodes {
         lines,
         size,
-        sets,
+        priced,
         path: Vec::new(alloc),
         leaves: MOST_LEAVES,
         nodes: Vec::new(alloc),
@@ -53,7 +54,7 @@ fn parts_of(alloc: Global, text: &[u8]) -> Result<CertParts, CertFault>
     let mut lines = Lines::new(text);
     let head = head_lines(alloc, &mut lines)?;
     let version = listed(alloc, head.size, head.version, &mut lines)?;
-    let (nodes, lines) = nodes(alloc, version.set_count(), head.size, lines)?;
+    let (nodes, lines) = nodes(alloc, version.priced_lines(), head.size, lines)?;
     if !lines.is_done() {
         return Err(CertFault::Extra);
     }
@@ -71,8 +72,10 @@ fn parts_of(alloc: Global, text: &[u8]) -> Result<CertParts, CertFault>
 /// where a line isn't what stands there, `Truncated` where no line feed is left for it, `Extra`
 /// where bytes follow the last line. Of a node's line it is the first of `BadLine`, `PriceRange` and
 /// `TooManyLeaves`, or of `BadLine`, `BadArc`, `ArcDecided` and `TooDeep`; of a set's line the first of
-/// `BadLine`, `NeedRange`, `BadSet` and `TooManySets`; of a line of sets' prices the first of `BadLine`,
-/// `BadSet` and `PriceRange`. `Memory` where a growth was refused.
+/// `BadLine`, `NeedRange`, `BadSet` and `TooManySets`; of a row's line the first of `BadLine`, `BadRow`
+/// and `TooManyRows`; of a line of sets' prices the first of `BadLine`, `BadSet` and `PriceRange`; of
+/// one of rows' prices the first of `BadLine`, `BadRow`, `TooManyRows` and `PriceRange`. `Memory` where
+/// a growth was refused.
 pub fn read(alloc: Global, text: &[u8]) -> Result<Cert, CertFault>
     // The text is that of what is read.
     ensures found { IfOk result (λ c. IsCertificateText text.now c) }

@@ -1,18 +1,16 @@
 //! The lines of sets.
 
-ghost use Rattle.std.specs.Prelude.{◌≡◌, ◌≤◌, length, map, IfOk};
+ghost use Rattle.std.specs.Prelude.{◌≡◌, map};
 ghost use Rattle.std.specs.Option.{option_map};
-ghost use Rattle.certificate.specs.Reading.{Gives, small, members_at, is_rising, set_in, sets_at, listed_at};
-ghost use Rattle.certificate.specs.Text.{listed_set_of, version_of};
-ghost use Rattle.solomon_reader.specs.Bound.{listed_sets};
-ghost use Rattle.solomon_reader.specs.declared.limits.TheConstants.{MOST_SETS};
+ghost use Rattle.certificate.specs.Reading.{Gives, small, members_at, is_rising, set_in, sets_at};
+ghost use Rattle.certificate.specs.Lines.{here};
+ghost use Rattle.certificate.specs.Text.{listed_set_of};
 ghost use Rattle.tenths.specs.Numbers.{number_of};
 ghost use Rattle.tenths.specs.Parts.{parts};
 
 use crate::fault::CertFault;
-use crate::head::fixed;
+use crate::line::{Line, next_line};
 use crate::sets::ListedSet;
-use crate::version::Version;
 use solomon_reader::{MOST_NEED, MOST_SETS};
 use std::alloc::Global;
 use tenths::{Lines, Parts, number};
@@ -28,7 +26,7 @@ pub fn small_number(word: &[u8]) -> Option<u16>
 }
 
 /// The canonical numbers that the rest of a line has.
-fn members(alloc: Global, line: u64, words: &mut Parts<'_>) -> Result<Vec<u16>, CertFault>
+pub fn members(alloc: Global, line: u64, words: &mut Parts<'_>) -> Result<Vec<u16>, CertFault>
     ensures { Gives (λ v. v.items) result (members_at line words.old) }
 {
     let mut list = Vec::new(alloc);
@@ -83,48 +81,25 @@ fn set(alloc: Global, size: u16, line: u64, text: &[u8]) -> Result<ListedSet, Ce
     })
 }
 
-/// The sets up to the line that begins the tree.
-fn sets(alloc: Global, size: u16, lines: &mut Lines<'_>) -> Result<Vec<ListedSet>, CertFault>
-    ensures exact { Gives (λ v. (map listed_set_of v.items, lines.new)) result (sets_at size MOST_SETS lines.old) }
-    ensures few { IfOk result (λ v. length v.items ≤ MOST_SETS) }
-{
-    let mut sets = Vec::new(alloc);
-    loop {
-        let line = lines.number();
-        let Some(text) = lines.next() else {
-            return Err(CertFault::Truncated);
-        };
-        if text == b"TREE".as_slice() {
-            return Ok(sets);
-        }
-        let set = set(alloc, size, line, text)?;
-        if sets.len() >= MOST_SETS as usize {
-            return Err(CertFault::TooManySets { line });
-        }
-        sets.push(set)?;
-    }
-}
-
-/// The version with its sets, from the lines up to the one that begins the tree.
-#[tactic(auto, unfolding(crate::specs::Reading::listed_at))]
-pub fn listed(
+/// The sets from a line on, up to a line that begins otherwise, and that line.
+pub fn sets<'a>(
     alloc: Global,
     size: u16,
-    version: Version,
-    lines: &mut Lines<'_>,
-) -> Result<Version, CertFault>
-    ensures exact { Gives (λ v. (version_of v, lines.new)) result (listed_at size (version_of version) lines.old) }
-    ensures few { IfOk result (λ v. length (listed_sets (version_of v)) ≤ MOST_SETS) }
+    first: Line<'a>,
+    lines: &mut Lines<'a>,
+) -> Result<(Vec<ListedSet>, Line<'a>), CertFault>
+    ensures { Gives (λ x. (map listed_set_of x.0.items, here x.1 lines.new)) result
+        (sets_at size (here first.entry lines.old)) }
 {
-    match version {
-        Version::One => {
-            fixed(lines, b"TREE")?;
-            Ok(Version::One)
+    let mut sets = Vec::new(alloc);
+    let mut line = first;
+    while line.begins(b"S") {
+        let set = set(alloc, size, line.number, line.text)?;
+        if sets.len() >= MOST_SETS as usize {
+            return Err(CertFault::TooManySets { line: line.number });
         }
-        Version::Two => {
-            fixed(lines, b"TREE")?;
-            Ok(Version::Two)
-        }
-        Version::WithSets(_) => Ok(Version::WithSets(sets(alloc, size, lines)?)),
+        sets.push(set)?;
+        line = next_line(lines)?;
     }
+    Ok((sets, line))
 }

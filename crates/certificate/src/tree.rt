@@ -5,6 +5,7 @@ ghost use Rattle.certificate.specs.Grown.{Grows, grown};
 ghost use Rattle.certificate.specs.Tree.{nodes_of};
 
 use crate::node::CertNode;
+use crate::rows::RowPrice;
 use crate::sets::SetPrice;
 use std::alloc::{AllocError, Global};
 
@@ -17,6 +18,8 @@ pub enum CertTree<'a> {
         prices: &'a [i64],
         /// Those of sets, in increasing order of the sets.
         set_prices: &'a [SetPrice],
+        /// Those of rows, in increasing order of the rows.
+        row_prices: &'a [RowPrice],
     },
     /// A split by an arc.
     Split {
@@ -49,10 +52,16 @@ pub fn grow<'a>(
         CertNode::Leaf(prices) => Ok(Some(CertTree::Leaf {
             prices: prices.as_slice(),
             set_prices: &[],
+            row_prices: &[],
         })),
-        CertNode::SetLeaf { prices, set_prices } => Ok(Some(CertTree::Leaf {
+        CertNode::SetLeaf {
+            prices,
+            set_prices,
+            row_prices,
+        } => Ok(Some(CertTree::Leaf {
             prices: prices.as_slice(),
             set_prices: set_prices.as_slice(),
+            row_prices: row_prices.as_slice(),
         })),
         CertNode::Split { from, to } => {
             if left == 0 {

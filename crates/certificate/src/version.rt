@@ -1,11 +1,11 @@
 //! The versions of certificates.
 
-ghost use Rattle.std.specs.Prelude.{◌≡◌, ◌≤◌, length, map};
-ghost use Rattle.certificate.specs.Reading.{is_some, set_count};
-ghost use Rattle.certificate.specs.Text.{version_of, listed_set_of};
-ghost use Rattle.solomon_reader.specs.Bound.{listed_sets};
-ghost use Rattle.solomon_reader.specs.declared.limits.TheConstants.{MOST_SETS};
+ghost use Rattle.std.specs.Prelude.{◌≡◌, map};
+ghost use Rattle.certificate.specs.Reading.{priced_lines};
+ghost use Rattle.certificate.specs.Text.{version_of, listed_set_of, row_of};
+ghost use Rattle.solomon_reader.specs.Bound.{listed_sets, listed_rows};
 
+use crate::rows::SubsetRow;
 use crate::sets::ListedSet;
 
 /// The rule by which a certificate's leaves are valued.
@@ -18,6 +18,25 @@ pub enum Version {
     /// As the second, and routes are also paid at each entry of a set of this list that has a price. Its
     /// text is of another format, `VRPTW-SETS 1`.
     WithSets(Vec<ListedSet>),
+    /// As with sets, and routes also pay at each charge by a row of the second list that has a price. Its
+    /// text is of a third format, `VRPTW-ROWS 1`.
+    WithRows {
+        /// The sets, in the order in which prices name them.
+        sets: Vec<ListedSet>,
+        /// The rows, in increasing order.
+        rows: Vec<SubsetRow>,
+    },
+}
+
+/// Whose prices the lines of a leaf tell.
+#[derive(Clone, Copy)]
+pub enum PricedLines {
+    /// Those of customers alone.
+    Customers,
+    /// Those of sets, too, out of so many.
+    Sets(usize),
+    /// Those of sets and rows, too, out of so many sets and so many rows.
+    Rows(usize, usize),
 }
 
 impl Version {
@@ -27,28 +46,28 @@ impl Version {
     {
         match self {
             Version::One | Version::Two => &[],
-            Version::WithSets(sets) => sets.as_slice(),
+            Version::WithSets(sets) | Version::WithRows { sets, .. } => sets.as_slice(),
         }
     }
 
-    /// How many sets are listed, where the text is one with sets.
-    pub(crate) fn set_count(&self) -> Option<u16>
-        requires { length (listed_sets (version_of self.now)) ≤ MOST_SETS }
-        ensures { result ≡ set_count (version_of self.now) }
+    /// The rows of three customers that it lists, in order; none but by the last.
+    pub fn rows(&self) -> &[SubsetRow]
+        ensures { map row_of result.now ≡ listed_rows (version_of self.now) }
     {
         match self {
-            Version::One | Version::Two => None,
-            Version::WithSets(sets) => Some(sets.len() as u16),
+            Version::One | Version::Two | Version::WithSets(_) => &[],
+            Version::WithRows { rows, .. } => rows.as_slice(),
         }
     }
 
-    /// Whether the text is one with sets.
-    pub(crate) fn has_sets(&self) -> bool
-        ensures { result ≡ is_some (set_count (version_of self.now)) }
+    /// Whose prices the lines of a leaf tell.
+    pub(crate) fn priced_lines(&self) -> PricedLines
+        ensures { result ≡ priced_lines (version_of self.now) }
     {
         match self {
-            Version::One | Version::Two => false,
-            Version::WithSets(_) => true,
+            Version::One | Version::Two => PricedLines::Customers,
+            Version::WithSets(sets) => PricedLines::Sets(sets.len()),
+            Version::WithRows { sets, rows } => PricedLines::Rows(sets.len(), rows.len()),
         }
     }
 }

@@ -5,17 +5,19 @@ ghost use Rattle.std.specs.List.{flat_map};
 ghost use Rattle.tenths.specs.Sink.{Writes};
 ghost use Rattle.tenths.specs.Text.{tenths_text, spaced, line};
 ghost use Rattle.certificate.specs.Tree.{node_of};
-ghost use Rattle.certificate.specs.Text.{version_of, content_of, listed_set_of, set_text, set_prices_text, node_texts, name_lines, head_lines, content_text};
-ghost use Rattle.certificate.specs.Tree.{set_price_of};
-ghost use Rattle.solomon_reader.specs.Bound.{leaf_node, listed_sets};
+ghost use Rattle.certificate.specs.Text.{version_of, content_of, listed_set_of, row_of, set_text, row_text, placed_text, priced_texts, node_texts, name_lines, head_lines, content_text};
+ghost use Rattle.certificate.specs.Tree.{set_price_of, row_price_of, leaf_prices_of};
+ghost use Rattle.solomon_reader.specs.Bound.{leaf_node};
 ghost use Rattle.solomon_reader.specs.CertificateText.{Certificate, HasText, first_line, listed, certificate_text};
 
 use crate::cert::Cert;
 use crate::fault::WriteFault;
 use crate::node::CertNode;
 use crate::parts::CertParts;
+use crate::placed::PlacedPrice;
+use crate::rows::{RowPrice, SubsetRow};
 use crate::sets::{ListedSet, SetPrice};
-use crate::version::Version;
+use crate::version::{PricedLines, Version};
 use itoa::Buffer;
 use tenths::{Device, Sink, write_number_line, write_pieces, write_tenths_line, write_text};
 
@@ -29,6 +31,7 @@ fn write_names<W: Sink>(parts: &CertParts, sink: &mut W) -> Result<(), Device>
         Version::One => b"VRPTW-CERT 1\n".as_slice(),
         Version::Two => b"VRPTW-CERT 2\n".as_slice(),
         Version::WithSets(_) => b"VRPTW-SETS 1\n".as_slice(),
+        Version::WithRows { .. } => b"VRPTW-ROWS 1\n".as_slice(),
     };
     let mut size = Buffer::new();
     let mut neighbours = Buffer::new();
@@ -57,7 +60,7 @@ fn write_set<W: Sink>(set: &ListedSet, sink: &mut W) -> Result<(), Device>
 }
 
 /// A line for each set.
-fn write_set_lines<W: Sink>(sets: &[ListedSet], sink: &mut W) -> Result<(), Device>
+fn write_sets<W: Sink>(sets: &[ListedSet], sink: &mut W) -> Result<(), Device>
     ensures { Writes (W.held sink.old) (W.held sink.new) result
         (flat_map (λ s. line (set_text (listed_set_of s))) sets.now) }
 {
@@ -67,15 +70,22 @@ fn write_set_lines<W: Sink>(sets: &[ListedSet], sink: &mut W) -> Result<(), Devi
     Ok(())
 }
 
-/// The lines of the sets that a version lists.
-fn write_sets<W: Sink>(version: &Version, sink: &mut W) -> Result<(), Device>
-    ensures { Writes (W.held sink.old) (W.held sink.new) result
-        (flat_map (λ s. line (set_text s)) (listed_sets (version_of version.now))) }
+/// The line of a row.
+fn write_row<W: Sink>(row: &SubsetRow, sink: &mut W) -> Result<(), Device>
+    ensures { Writes (W.held sink.old) (W.held sink.new) result (line (row_text (row_of row.now))) }
 {
-    match version {
-        Version::One | Version::Two => Ok(()),
-        Version::WithSets(sets) => write_set_lines(sets.as_slice(), sink),
+    write_number_line(&[b"R"], &[row.first, row.second, row.third], sink)
+}
+
+/// A line for each row.
+fn write_rows<W: Sink>(rows: &[SubsetRow], sink: &mut W) -> Result<(), Device>
+    ensures { Writes (W.held sink.old) (W.held sink.new) result
+        (flat_map (λ s. line (row_text (row_of s))) rows.now) }
+{
+    for row in rows {
+        write_row(row, sink)?;
     }
+    Ok(())
 }
 
 /// The lines before the nodes.
@@ -85,90 +95,115 @@ fn write_head<W: Sink>(parts: &CertParts, sink: &mut W) -> Result<(), Device>
 {
     write_names(parts, sink)?;
     write_tenths_line(b"BOUND ", parts.bound, sink)?;
-    write_sets(&parts.version, sink)?;
+    write_sets(parts.version.sets(), sink)?;
+    write_rows(parts.version.rows(), sink)?;
     write_text(b"TREE\n", sink)
 }
 
-/// A set with its price, as a line of prices has it.
-fn write_set_price<W: Sink>(priced: &SetPrice, sink: &mut W) -> Result<(), Device>
+/// A price with its place, as a line of prices has it.
+fn write_price<P: PlacedPrice, W: Sink>(priced: &P, sink: &mut W) -> Result<(), Device>
     ensures { Writes (W.held sink.old) (W.held sink.new) result
-        (spaced (decimal priced.now.set) ++ spaced (decimal priced.now.price)) }
+        (spaced (decimal (P.pair priced.now).0) ++ spaced (decimal (P.pair priced.now).1)) }
 {
-    let mut set = Buffer::new();
+    let mut place = Buffer::new();
     let mut price = Buffer::new();
     write_pieces(
         &[
             b" ",
-            set.format(priced.set).as_bytes(),
+            place.format(priced.place()).as_bytes(),
             b" ",
-            price.format(priced.price).as_bytes(),
+            price.format(priced.price()).as_bytes(),
         ],
         sink,
     )
 }
 
-/// Sets with their prices, one after another.
-fn write_each_price<W: Sink>(set_prices: &[SetPrice], sink: &mut W) -> Result<(), Device>
+/// Prices with their places, one after another.
+fn write_each_price<P: PlacedPrice, W: Sink>(placed: &[P], sink: &mut W) -> Result<(), Device>
     ensures { Writes (W.held sink.old) (W.held sink.new) result
-        (flat_map (λ m. spaced (decimal m.set) ++ spaced (decimal m.price)) set_prices.now) }
+        (flat_map (λ m. spaced (decimal (P.pair m).0) ++ spaced (decimal (P.pair m).1)) placed.now) }
 {
-    for priced in set_prices {
-        write_set_price(priced, sink)?;
+    for priced in placed {
+        write_price(priced, sink)?;
     }
     Ok(())
 }
 
-/// The line of the prices of sets.
-fn write_set_prices<W: Sink>(set_prices: &[SetPrice], sink: &mut W) -> Result<(), Device>
+/// The line of prices with their places, behind a word.
+fn write_placed<P: PlacedPrice, W: Sink>(
+    text: &[u8],
+    placed: &[P],
+    sink: &mut W,
+) -> Result<(), Device>
     ensures { Writes (W.held sink.old) (W.held sink.new) result
-        (line (set_prices_text (map set_price_of set_prices.now))) }
+        (line (placed_text text.now (map P.pair placed.now))) }
 {
-    write_text(b"M", sink)?;
-    write_each_price(set_prices, sink)?;
+    write_text(text, sink)?;
+    write_each_price(placed, sink)?;
     write_text(b"\n", sink)
+}
+
+/// The lines of a leaf behind that of its customers' prices.
+fn write_priced<W: Sink>(
+    lines: PricedLines,
+    set_prices: &[SetPrice],
+    row_prices: &[RowPrice],
+    sink: &mut W,
+) -> Result<(), Device>
+    ensures { Writes (W.held sink.old) (W.held sink.new) result
+        (flat_map line (priced_texts lines (map set_price_of set_prices.now) (map row_price_of row_prices.now))) }
+{
+    match lines {
+        PricedLines::Customers => Ok(()),
+        PricedLines::Sets(_) => write_placed(b"M", set_prices, sink),
+        PricedLines::Rows(_, _) => {
+            write_placed(b"M", set_prices, sink)?;
+            write_placed(b"Q", row_prices, sink)
+        }
+    }
 }
 
 /// The lines of a leaf.
 fn write_leaf<W: Sink>(
-    has_sets: bool,
+    lines: PricedLines,
     prices: &[i64],
     set_prices: &[SetPrice],
+    row_prices: &[RowPrice],
     sink: &mut W,
 ) -> Result<(), Device>
     ensures { Writes (W.held sink.old) (W.held sink.new) result
-        (flat_map line (node_texts has_sets (leaf_node (record {
-          customers = prices.now;
-          sets = map set_price_of set_prices.now;
-        })))) }
+        (flat_map line (node_texts lines (leaf_node (leaf_prices_of prices.now set_prices.now row_prices.now)))) }
 {
     write_number_line(&[b"P"], prices, sink)?;
-    if has_sets {
-        write_set_prices(set_prices, sink)?;
-    }
-    Ok(())
+    write_priced(lines, set_prices, row_prices, sink)
 }
 
 /// The lines of a node.
-fn write_node<W: Sink>(has_sets: bool, node: &CertNode, sink: &mut W) -> Result<(), Device>
+fn write_node<W: Sink>(lines: PricedLines, node: &CertNode, sink: &mut W) -> Result<(), Device>
     ensures { Writes (W.held sink.old) (W.held sink.new) result
-        (flat_map line (node_texts has_sets (node_of node.now))) }
+        (flat_map line (node_texts lines (node_of node.now))) }
 {
     match node {
         CertNode::Split { from, to } => write_number_line(&[b"S"], &[*from, *to], sink),
-        CertNode::Leaf(prices) => write_leaf(has_sets, prices.as_slice(), &[], sink),
-        CertNode::SetLeaf { prices, set_prices } => {
-            write_leaf(has_sets, prices.as_slice(), set_prices.as_slice(), sink)
+        CertNode::Leaf(prices) => write_leaf(lines, prices.as_slice(), &[], &[], sink),
+        CertNode::SetLeaf {
+            prices,
+            set_prices,
+            row_prices,
+        } => {
+            let (set_prices, row_prices) = (set_prices.as_slice(), row_prices.as_slice());
+            write_leaf(lines, prices.as_slice(), set_prices, row_prices, sink)
         }
     }
 }
 
 /// The lines of each node.
-fn write_nodes<W: Sink>(has_sets: bool, nodes: &[CertNode], sink: &mut W) -> Result<(), Device>
+fn write_nodes<W: Sink>(lines: PricedLines, nodes: &[CertNode], sink: &mut W) -> Result<(), Device>
     ensures { Writes (W.held sink.old) (W.held sink.new) result
-        (flat_map (λ x. flat_map line (node_texts has_sets (node_of x))) nodes.now) }
+        (flat_map (λ x. flat_map line (node_texts lines (node_of x))) nodes.now) }
 {
     for node in nodes {
-        write_node(has_sets, node, sink)?;
+        write_node(lines, node, sink)?;
     }
     Ok(())
 }
@@ -183,7 +218,7 @@ pub fn write<W: Sink>(cert: &Cert, sink: &mut W) -> Result<(), WriteFault>
 {
     let parts = cert.parts();
     write_head(parts, sink)?;
-    write_nodes(parts.version.has_sets(), parts.nodes.as_slice(), sink)?;
+    write_nodes(parts.version.priced_lines(), parts.nodes.as_slice(), sink)?;
     write_text(b"END\n", sink)?;
     Ok(())
 }

@@ -1,69 +1,74 @@
 use Rattle.std.proofs.lemmas.Result.{err_from_is_err_and}
 use Rattle.std.proofs.lemmas.List.{map-append, length_push}
-use Rattle.std.proofs.Common.{◌≡◌, ◌-◌, suc, true, false, Ok, Err, refl, sym, ap, ◌∙◌, map, length, arith, [], ◌∷◌, ◌++◌}
+use Rattle.std.proofs.Common.{◌≡◌, ℕ, ◌-◌, suc, true, false, List, Option, Some, None, Result, Ok, Err, sym, ap, ◌∙◌, map, length, arith, [], ◌∷◌, ◌++◌}
 use Rattle.std.specs.Prelude.{codes}
-use Rattle.std.specs.Str.{bytes_eq}
+use Rattle.tenths.specs.Parts.{parts}
 use Rattle.solomon_reader.specs.declared.limits.TheConstants.{MOST_SETS}
-use Rattle.certificate.proofs.Loops.{with_none, sets_cut, sets_end, sets_fail, sets_full, sets_more}
-use Rattle.certificate.specs.Reading.{next_at, sets_at}
+use Rattle.solomon_reader.specs.SetPrices.{ListedSet}
+use Rattle.certificate.specs.declared.fault.CertFault.{CertFault}
+use Rattle.certificate.specs.declared.fault.CertFault.TheVariants.{TooManySets}
+use Rattle.certificate.specs.Lines.{here}
+use Rattle.certificate.specs.Reading.{begins, set_in, sets_at}
 use Rattle.certificate.specs.Text.{listed_set_of}
-use Rattle.certificate.specs.declared.fault.CertFault.TheVariants.{Truncated}
+use Rattle.certificate.proofs.Loops.{items_end, items_fail, items_full, items_cut, items_more}
 use Rattle.certificate.proofs.set_lines.sets.Goals as goal
 
-pub loop-text-init : goal.loop-text-init
-loop-text-init c = rw c.new-sets.ensures.items (omega arith, with_none (sets_at c.args.size MOST_SETS c.args.lines.now))
+abbrev item : ℕ → Option ListedSet → ℕ → List (List ℕ) → Result ListedSet CertFault
+item n = λ before k ws. set_in n k ws
 
-pub returns-in_default-clause-exact : goal.returns-in_default-clause-exact
-returns-in_default-clause-exact c =
-    let l = c.loop-text in
-    let cut : next_at l.lines ≡ Err Truncated = rw c.in_default.ensures refl in
-    λ ne. sets_cut c.args.size (map listed_set_of l.sets.items) l.lines (sets_at c.args.size MOST_SETS c.args.lines.now) (MOST_SETS - length l.sets.items) cut l.invariant.1
+abbrev full : ℕ → CertFault
+full k = TooManySets k
 
-pub returns-then-eq-clause-exact : goal.returns-then-eq-clause-exact
-returns-then-eq-clause-exact c =
-    let l = c.loop-text in
-    let line : next_at l.lines ≡ Ok (c.in-Some.text.now, c.next.new.self) = rw c.in-Some.ensures refl in
-    let e : bytes_eq c.in-Some.text.now (codes "TREE") ≡ true = rw (← c.as_slice.ensures) (sym c.eq.ensures ∙ c.if-eq.true) in
-    sets_end c.args.size (map listed_set_of l.sets.items) l.lines (sets_at c.args.size MOST_SETS c.args.lines.now) (c.in-Some.text.now, c.next.new.self) line (MOST_SETS - length l.sets.items) e l.invariant.1
+abbrev seen : ListedSet → Option ListedSet
+seen = λ s. None
 
-pub returns-then-eq-clause-few : goal.returns-then-eq-clause-few
-returns-then-eq-clause-few c = c.loop-text.invariant.0
-
-pub returns-in_err-set-clause-exact : goal.returns-in_err-set-clause-exact
-returns-in_err-set-clause-exact c =
+pub returns-in_err-set : goal.returns-in_err-set
+returns-in_err-set c =
     let p = err_from_is_err_and c.from_residual.result c.from_residual.ensures.1 in
-    let l = c.loop-text in
-    let line : next_at l.lines ≡ Ok (c.in-Some.text.now, c.next.new.self) = rw c.in-Some.ensures refl in
-    let e : bytes_eq c.in-Some.text.now (codes "TREE") ≡ false = rw (← c.as_slice.ensures) (sym c.eq.ensures ∙ c.if-eq.false) in
-    let f = rw c.number-line.ensures at c.in_err-set.ensures in
-    rw (p.1, p.2) (λ ne. sets_fail c.args.size (map listed_set_of l.sets.items) l.lines (sets_at c.args.size MOST_SETS c.args.lines.now) (c.in-Some.text.now, c.next.new.self) line
-    (MOST_SETS - length l.sets.items) c.in_err-set.field-0.0 e (f ne) l.invariant.1)
+    let l = c.loop-alloc in
+    let n = c.args.size in
+    let first : begins (codes "S") (parts 32 l.line.text.now) ≡ true = sym c.begins.ensures ∙ c.loop-alloc-test.true in
+    rw (p.1, p.2) (λ ne. items_fail (codes "S") (item n) full seen (map listed_set_of l.sets.items) None (here l.line l.lines) (sets_at n (here c.args.first c.args.lines.now)) first
+    (MOST_SETS - length l.sets.items) c.in_err-set.field-0.0 (c.in_err-set.ensures ne) l.invariant.1)
 
-pub returns-then-len-clause-exact : goal.returns-then-len-clause-exact
-returns-then-len-clause-exact c =
-    let l = c.loop-text in
-    let line : next_at l.lines ≡ Ok (c.in-Some.text.now, c.next.new.self) = rw c.in-Some.ensures refl in
-    let e : bytes_eq c.in-Some.text.now (codes "TREE") ≡ false = rw (← c.as_slice.ensures) (sym c.eq.ensures ∙ c.if-eq.false) in
-    let f = rw c.number-line.ensures at c.in_ok-set.ensures in
-    let full : MOST_SETS - length l.sets.items ≡ 0 = omega (arith, c.if-len.true, c.len.ensures) in
-    λ ne. rw c.number-line.ensures (sets_full c.args.size (map listed_set_of l.sets.items) l.lines (sets_at c.args.size MOST_SETS c.args.lines.now) (c.in-Some.text.now, c.next.new.self) line
-    (MOST_SETS - length l.sets.items) (listed_set_of c.in_ok-set.set) full e f l.invariant.1)
+pub returns-then-len : goal.returns-then-len
+returns-then-len c =
+    let l = c.loop-alloc in
+    let n = c.args.size in
+    let first : begins (codes "S") (parts 32 l.line.text.now) ≡ true = sym c.begins.ensures ∙ c.loop-alloc-test.true in
+    let none : MOST_SETS - length l.sets.items ≡ 0 = omega (arith, c.if-len.true, c.len.ensures) in
+    λ ne. items_full (codes "S") (item n) full seen (map listed_set_of l.sets.items) None (here l.line l.lines) (sets_at n (here c.args.first c.args.lines.now)) first
+    (MOST_SETS - length l.sets.items) (listed_set_of c.in_ok-set.set) none c.in_ok-set.ensures l.invariant.1
 
-pub loop-text-smaller : goal.loop-text-smaller
-loop-text-smaller c =
-    let more = ap (λ v. length v) c.in_ok-push.ensures.items ∙ length_push c.loop-text.sets.items c.in_ok-set.set in
-    omega (arith, c.if-len.false, c.len.ensures, more)
+pub returns-in_err-line : goal.returns-in_err-line
+returns-in_err-line c =
+    let p = err_from_is_err_and c.from_residual-in_err-line.result c.from_residual-in_err-line.ensures.1 in
+    let l = c.loop-alloc in
+    let n = c.args.size in
+    let first : begins (codes "S") (parts 32 l.line.text.now) ≡ true = sym c.begins.ensures ∙ c.loop-alloc-test.true in
+    let less = MOST_SETS - length l.sets.items - 1 in
+    let some : MOST_SETS - length l.sets.items ≡ suc less = omega (arith, c.if-len.false, c.len.ensures) in
+    rw (p.1, p.2) (λ ne. items_cut (codes "S") (item n) full seen (map listed_set_of l.sets.items) None (here l.line l.lines) (sets_at n (here c.args.first c.args.lines.now)) first
+    (MOST_SETS - length l.sets.items) less (listed_set_of c.in_ok-set.set) c.in_err-line.field-0.0 some c.in_ok-set.ensures (c.in_err-line.ensures ne) l.invariant.1)
 
-pub loop-text-preserved : goal.loop-text-preserved
-loop-text-preserved c =
-    let l = c.loop-text in
-    let line : next_at l.lines ≡ Ok (c.in-Some.text.now, c.next.new.self) = rw c.in-Some.ensures refl in
-    let e : bytes_eq c.in-Some.text.now (codes "TREE") ≡ false = rw (← c.as_slice.ensures) (sym c.eq.ensures ∙ c.if-eq.false) in
-    let f = rw c.number-line.ensures at c.in_ok-set.ensures in
+pub loop-alloc-preserved : goal.loop-alloc-preserved
+loop-alloc-preserved c =
+    let l = c.loop-alloc in
+    let n = c.args.size in
+    let first : begins (codes "S") (parts 32 l.line.text.now) ≡ true = sym c.begins.ensures ∙ c.loop-alloc-test.true in
     let more = length_push l.sets.items c.in_ok-set.set in
     let some : MOST_SETS - length l.sets.items ≡ suc (MOST_SETS - length (l.sets.items ++ (c.in_ok-set.set ∷ []))) = omega (arith, c.if-len.false, c.len.ensures, more) in
     rw (c.in_ok-push.ensures.items, map-append) (
       omega (arith, c.if-len.false, c.len.ensures, more),
-      sets_more c.args.size (map listed_set_of l.sets.items) l.lines (sets_at c.args.size MOST_SETS c.args.lines.now) (c.in-Some.text.now, c.next.new.self) line
-          (MOST_SETS - length l.sets.items) (MOST_SETS - length (l.sets.items ++ (c.in_ok-set.set ∷ []))) (listed_set_of c.in_ok-set.set) some e f l.invariant.1,
+      items_more (codes "S") (item n) full seen (map listed_set_of l.sets.items) None (here l.line l.lines) (sets_at n (here c.args.first c.args.lines.now)) first
+          (MOST_SETS - length l.sets.items) (MOST_SETS - length (l.sets.items ++ (c.in_ok-set.set ∷ []))) (listed_set_of c.in_ok-set.set) (here c.in_ok-line.line c.next_line.new.lines) some
+          c.in_ok-set.ensures c.in_ok-line.ensures l.invariant.1,
     )
+
+pub returns : goal.returns
+returns c =
+    let l = c.loop-alloc in
+    let n = c.args.size in
+    let first : begins (codes "S") (parts 32 l.line.text.now) ≡ false = sym c.begins.ensures ∙ c.loop-alloc-test.false in
+    items_end (codes "S") (item n) full seen (map listed_set_of l.sets.items) None (here l.line l.lines) (sets_at n (here c.args.first c.args.lines.now))
+    (MOST_SETS - length l.sets.items) first l.invariant.1
