@@ -8,7 +8,9 @@ use Rattle.solomon_reader.specs.Distance.{distance}
 use Rattle.solomon_reader.specs.Region.{IsAllowed, root_region}
 use Rattle.solomon_reader.specs.States.{Pricing, pricing_by, arc_value, most_grains}
 use Rattle.solomon_reader.specs.CustomerSets.{IsCustomerSet}
-use Rattle.solomon_reader.specs.SetPrices.{PricedSet, price_sum}
+use Rattle.solomon_reader.specs.SetPrices.{price_sum}
+use Rattle.solomon_reader.specs.SubsetRows.{row_price_sum}
+use Rattle.solomon_reader.specs.PricedLeaf.{PricedLeaf}
 use Rattle.leaf_arcs.specs.declared.arcs.AllowedArc.{AllowedArc}
 use Rattle.leaf_arcs.specs.declared.arcs.ArcRow.{ArcRow}
 use Rattle.solomon_reader.specs.Memories.{place_of}
@@ -72,9 +74,9 @@ pub record AreFreeArcs (p : Problem) (k : ℕ) (all : List (Vec AllowedArc Globa
   pub count : length all ≡ length p.rows
   pub each : (v : ℕ) (d : Vec AllowedArc Global) → v < length p.rows → AreAllowedArcs (free_pricing p k) v (slice_index_or all v d).items
 
--- there is a price for each customer, which is within its range together with those of sets, and each has a demand
-pub record IsPricing (p : Problem) (prices : List ℤ) (sets : List PricedSet) : Type 0 where
-  pub count : length prices ≡ customer_count p
-  pub within : AllByRecursion (λ z. price_sum sets + nat_abs z ≤ MOST_PRICE) prices
-  pub sets_are : AllByRecursion (λ s. IsCustomerSet (customer_count p) s.members) sets
+-- there is a price for each customer, which is within its range together with those of sets and rows, and each has a demand
+pub record IsPricing (p : Problem) (leaf : PricedLeaf) : Type 0 where
+  pub count : length leaf.customers ≡ customer_count p
+  pub within : AllByRecursion (λ z. (price_sum leaf.sets + row_price_sum leaf.rows) + nat_abs z ≤ MOST_PRICE) leaf.customers
+  pub sets_are : AllByRecursion (λ s. IsCustomerSet (customer_count p) s.members) leaf.sets
   pub carried : (i : ℕ) → IsCustomer p i → 1 ≤ demand p i

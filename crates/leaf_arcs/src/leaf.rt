@@ -1,5 +1,8 @@
 //! Leaves.
 
+ghost use Rattle.std.specs.Prelude.{◌≡◌};
+ghost use Rattle.solomon_reader.specs.PricedLeaf.{PricedLeaf};
+ghost use Rattle.row_charges.specs.Rows.{rows_of};
 ghost use Rattle.leaf_arcs.specs.Arcs.{IsPricing};
 ghost use Rattle.leaf_arcs.specs.Props.{props};
 ghost use Rattle.leaf_arcs.specs.Sets.{sets_of};
@@ -7,6 +10,7 @@ ghost use Rattle.leaf_arcs.specs.Sets.{sets_of};
 use crate::decision::Decision;
 use crate::network::Network;
 use crate::priced_set::PricedSet;
+use row_charges::RowTable;
 
 /// A leaf of a tree for an instance.
 #[derive(Clone, Copy)]
@@ -19,5 +23,9 @@ pub struct Leaf<'a, 'i> {
     pub prices: &'a [i64],
     /// The sets that have a price.
     pub sets: &'a [PricedSet<'a>],
-    ghost pricing: { IsPricing network.now.neighbours.instance.now prices.now (sets_of sets.now) } by { Prim.hlevel props },
+    /// The rows that have a price.
+    pub rows: &'a RowTable<'i>,
+    ghost pricing: { IsPricing network.now.neighbours.instance.now (record { customers = prices.now; sets = sets_of sets.now; rows = rows_of rows.now.rows.items }) } by { Prim.hlevel props },
+    ghost same: { rows.now.instance.now ≡ network.now.neighbours.instance.now },
+    ghost listed: { rows.now.neighbours ≡ network.now.neighbours.k },
 }

@@ -2,14 +2,17 @@
 
 ghost use Rattle.std.specs.Prelude.{◌≡◌, ◌↔◌, ℕ, ◌<◌, ◌≤◌, length, true, IfOk, IsTrue, Vec};
 ghost use Rattle.std.specs.declared.alloc.Global.{Global};
-ghost use Rattle.solomon_reader.specs.declared.limits.TheConstants.{MOST_NEIGHBOURS};
+ghost use Rattle.solomon_reader.specs.declared.limits.TheConstants.{MOST_NEIGHBOURS, MOST_PRICE, MOST_ROW_PRICES};
 ghost use Rattle.solomon_reader.specs.Remembering.{near, remember};
 ghost use Rattle.leaf_arcs.specs.declared.neighbours.Neighbour.{Neighbour};
 ghost use Rattle.solomon_reader.specs.Memories.{place_of, recalls, has_bit, HasPlaces};
+ghost use Rattle.solomon_reader.specs.SubsetRows.{row_price_sum};
+ghost use Rattle.row_charges.specs.Rows.{rows_of};
 ghost use Rattle.leaf_arcs.specs.Memories.{AreBitRows, AreNeighbourLists, IsNeighbourList};
 
 use crate::bits::{NO_BIT, bits};
 use crate::memory::{contains, insert};
+use row_charges::{PricedRow, RowTable};
 use solomon_reader::Instance;
 use std::alloc::{AllocError, Global};
 
@@ -80,6 +83,25 @@ impl<'i> Neighbours<'i> {
             bits: bit_rows,
             lists,
         })
+    }
+
+    /// The table of rows that have a price, by the places in these lists.
+    pub fn row_table(
+        &self,
+        alloc: Global,
+        rows: Vec<PricedRow>,
+    ) -> Result<RowTable<'i>, AllocError>
+        requires few { length rows.items ≤ MOST_ROW_PRICES }
+        requires low { row_price_sum (rows_of rows.items) ≤ MOST_PRICE }
+        ensures instance { IfOk result (λ t. t.instance.now ≡ self.now.instance.now) }
+        ensures neighbours { IfOk result (λ t. t.neighbours ≡ self.now.k) }
+        ensures rows { IfOk result (λ t. t.rows.items ≡ rows.items) }
+    {
+        let k = u32::from(self.k);
+        if rows.is_empty() {
+            return Ok(RowTable::none(alloc, self.instance, k));
+        }
+        RowTable::new(alloc, self.instance, k, self.bits.as_slice(), rows)
     }
 
     /// The bit of u in memories of v.
