@@ -6,10 +6,10 @@ use Rattle.std.proofs.lemmas.Bool.{cases_lt, cases_Bool, both_ways}
 use Rattle.solomon_reader.specs.Problem.{IsCustomer, demand, due}
 use Rattle.solomon_reader.specs.Distance.{distance}
 use Rattle.solomon_reader.specs.Region.{IsAllowed}
-use Rattle.solomon_reader.specs.Relaxed.{IsRelaxed, reduced_cost_by}
+use Rattle.solomon_reader.specs.Relaxed.{IsRelaxed}
 use Rattle.solomon_reader.specs.States.{Pricing, State, start, step, begins, CanStep, CanEnd, Completes, value_with, IsAtMost}
 use Rattle.solomon_reader.proofs.Completions.{completes_relaxed, relaxed_completes, value_is}
-use Rattle.tree_bound.specs.Cover.{IsLeastBelow, or_zero, IsLeastByOrZero}
+use Rattle.tree_bound.specs.Cover.{route_cost, IsLeastBelow, or_zero, IsLeastByOrZero}
 
 -- exactly one of the two is known
 abbrev pub Decides : Type 0 → Type 0
@@ -131,7 +131,7 @@ module _ (q : Pricing) where
         (all.0, record { low = λ r relaxed. rw (← value_is q r) (all.1.low r tt (completes_relaxed q r relaxed)); found = found all.0 all.1.found })
       where
         found : (b : Option ℤ) → (b ≡ None) ⊎ ((s : List ℕ) × (Completes q (start q) s × (b ≡ Some (value_with q (start q) s))))
-            → (b ≡ None) ⊎ ((r : List ℕ) × (IsRelaxed q.problem q.region q.neighbours r × (b ≡ Some (reduced_cost_by q.problem q.paid r))))
+            → (b ≡ None) ⊎ ((r : List ℕ) × (IsRelaxed q.problem q.region q.neighbours r × (b ≡ Some (route_cost q r))))
         found b (inl routeless) = inl routeless
         found b (inr one) = inr (one.0, (relaxed_completes q one.0 one.1.0, one.1.1 ∙ ap (λ (z : ℤ). Some z) (value_is q one.0)))
 
@@ -143,5 +143,5 @@ module _ (q : Pricing) where
     | inr one ↦ inl (record { reached = (one.0, one.1.0, value one.0 one.1.1); least = below.low })
   ]
     where
-      value : (r : List ℕ) → Some z ≡ Some (reduced_cost_by q.problem q.paid r) → reduced_cost_by q.problem q.paid r ≡ z
+      value : (r : List ℕ) → Some z ≡ Some (route_cost q r) → route_cost q r ≡ z
       value r e = cc

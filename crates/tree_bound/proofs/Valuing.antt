@@ -4,13 +4,15 @@ use Rattle.std.specs.Prelude.{ℤ, pos, negsuc, ◌+ℤ◌, ◌-ℤ◌, ◌≤�
 use Rattle.std.proofs.Math.Nat.{mul-le-mul_left}
 use Rattle.std.proofs.lemmas.Int.{ints}
 use Rattle.solomon_reader.specs.Problem.{Problem, customer_count}
-use Rattle.solomon_reader.specs.Relaxed.{IsRelaxed, reduced_cost_by}
-use Rattle.solomon_reader.specs.SetPrices.{PricedSet, IsLeastOrZeroWith, paid_for_needs, reduced_cost_with}
+use Rattle.solomon_reader.specs.Relaxed.{IsRelaxed}
+use Rattle.solomon_reader.specs.SetPrices.{paid_for_needs}
+use Rattle.solomon_reader.specs.SubsetRows.{row_price_sum}
+use Rattle.solomon_reader.specs.PricedLeaf.{PricedLeaf, IsLeastOrZeroAt, reduced_cost_at}
 use Rattle.solomon_reader.specs.States.{Pricing, IsAtMost}
 use Rattle.solomon_reader.specs.Bound.{Version, grains_of, routes_counted, IsRoundedUp}
 use Rattle.solomon_reader.specs.SumLaws.{up, down}
 use Rattle.solomon_reader.proofs.Grains.{grains_are}
-use Rattle.tree_bound.specs.Cover.{IsRouteCost, IsLeastBelow, IsLeastByOrZero, or_zero}
+use Rattle.tree_bound.specs.Cover.{route_cost, IsRouteCost, IsLeastBelow, IsLeastByOrZero, or_zero}
 use Rattle.tree_bound.specs.Grains.{IsWorth, IsLowered, IsLesserValue, grains_by, leaf_sum}
 use Rattle.tree_bound.proofs.Existing.{exact}
 
@@ -35,20 +37,20 @@ sides : (z : ℤ) → pos (up z) -ℤ pos (down z) ≡ z
 sides (pos n) = omega (arith, ints)
 sides (negsuc n) = omega (arith, ints)
 
--- where relaxed routes are paid the prices of their stops and entries, the least reduced cost is that at the prices
-least_priced : (q : Pricing) (prices : List ℤ) (sets : List PricedSet) (m : ℤ)
-    → ((r : List ℕ) → reduced_cost_by q.problem q.paid r ≡ reduced_cost_with q.problem prices sets r) → IsLeastByOrZero q m
-    → IsLeastOrZeroWith q.problem q.region q.neighbours prices sets m
-least_priced q prices sets m same (inl is) = inl (record {
+-- where relaxed routes are paid the prices of their stops and entries, and rows charge them, the least reduced cost is that at the prices
+least_priced : (q : Pricing) (leaf : PricedLeaf) (m : ℤ)
+    → ((r : List ℕ) → route_cost q r ≡ reduced_cost_at q.problem q.neighbours leaf r) → IsLeastByOrZero q m
+    → IsLeastOrZeroAt q.problem q.region q.neighbours leaf m
+least_priced q leaf m same (inl is) = inl (record {
   reached = (is.reached.0, is.reached.1, sym (same is.reached.0) ∙ is.reached.2);
   least = λ r h. omega (arith, ints, is.least r h, same r);
 })
-least_priced q prices sets m same (inr none) = inr none
+least_priced q leaf m same (inr none) = inr none
 
 -- the grains of a leaf by its sum
-grains_same : (version : Version) (p : Problem) (prices : List ℤ) (sets : List PricedSet) (least : ℤ)
-    → grains_of version p prices least +ℤ pos (paid_for_needs sets) ≡ grains_by version p (leaf_sum prices sets) least
-grains_same version p prices sets least = omega (arith, ints)
+grains_same : (version : Version) (p : Problem) (leaf : PricedLeaf) (least : ℤ)
+    → (grains_of version p leaf.customers least +ℤ pos (paid_for_needs leaf.sets)) -ℤ pos (row_price_sum leaf.rows) ≡ grains_by version p (leaf_sum leaf) least
+grains_same version p leaf least = omega (arith, ints)
 
 module _ (version : Version) (q : Pricing) (sum : ℤ) where
   -- a greater least reduced cost is worth no less
@@ -91,7 +93,7 @@ module _ (version : Version) (q : Pricing) (sum : ℤ) where
     at_cost : (z : ℤ) → IsRouteCost q z → or_zero b ≤ℤ z
     at_cost z h = by b (least.low h.0 h.1.0)
       where
-        by : (c : Option ℤ) → IsAtMost c (reduced_cost_by q.problem q.paid h.0) → or_zero c ≤ℤ z
+        by : (c : Option ℤ) → IsAtMost c (route_cost q h.0) → or_zero c ≤ℤ z
         by None low = absurd low
         by (Some m) low = omega (arith, ints, low, h.1.1)
 
@@ -115,7 +117,7 @@ module _ (version : Version) (q : Pricing) (sum : ℤ) where
 
     -- where it is as low as a limit, the leaf is worth the number or more
     limit_high : (t : ℤ) (known : Option ℤ) (kept v : ℕ)
-        → ((r : List ℕ) → IsRelaxed q.problem q.region q.neighbours r → t ≤ℤ reduced_cost_by q.problem q.paid r) → IfSome known (IsRouteCost q)
+        → ((r : List ℕ) → IsRelaxed q.problem q.region q.neighbours r → t ≤ℤ route_cost q r) → IfSome known (IsRouteCost q)
         → IsWorth version q.problem sum t kept
         → (known ≡ None → IsWorth version q.problem sum (pos 0) kept) → IsRoundedUp (grains_by version q.problem sum (or_zero b)) v → kept ≤ v
     limit_high t known kept v low route worth routeless is = elim is_cost [
@@ -142,16 +144,16 @@ module _ (version : Version) (q : Pricing) (sum : ℤ) where
         at_most : (c : Option ℤ) (y z : ℤ) → c ≡ Some y → IsAtMost c z → y ≤ℤ z
         at_most c y z e low = rw e at low
 
-        at_route : (r : List ℕ) → IsRelaxed q.problem q.region q.neighbours r → found ≡ Some (reduced_cost_by q.problem q.paid r) → min kept w ≡ min kept v
+        at_route : (r : List ℕ) → IsRelaxed q.problem q.region q.neighbours r → found ≡ Some (route_cost q r) → min kept w ≡ min kept v
         at_route r relaxed e = elim is_cost [
-          | inl none ↦ absurd (never_some (reduced_cost_by q.problem q.paid r) none (r, (relaxed, refl)))
+          | inl none ↦ absurd (never_some (route_cost q r) none (r, (relaxed, refl)))
           | inr h ↦ equal (omega (
             arith,
             ints,
             ap or_zero e,
-            at_cost (reduced_cost_by q.problem q.paid r) (r, (relaxed, refl)),
+            at_cost (route_cost q r) (r, (relaxed, refl)),
             at_most found
-                (reduced_cost_by q.problem q.paid r) _ e (below.low h.0 h.1.0),
+                (route_cost q r) _ e (below.low h.0 h.1.0),
             h.1.1,
           ))
         ]
@@ -167,26 +169,26 @@ module _ (version : Version) (q : Pricing) (sum : ℤ) where
             let there = rw same at at in
             omega (arith, high, worth.high, same_value t worth.value w worth.rounded there)
 
-    module _ (prices : List ℤ) (sets : List PricedSet) (most kept : ℕ) (known : Option ℤ) (count : length prices ≡ customer_count q.problem) (sum_is : sum ≡ leaf_sum prices sets)
-        (same : (r : List ℕ) → reduced_cost_by q.problem q.paid r ≡ reduced_cost_with q.problem prices sets r) (route : IfSome known (IsRouteCost q))
+    module _ (leaf : PricedLeaf) (most kept : ℕ) (known : Option ℤ) (count : length leaf.customers ≡ customer_count q.problem) (sum_is : sum ≡ leaf_sum leaf)
+        (same : (r : List ℕ) → route_cost q r ≡ reduced_cost_at q.problem q.neighbours leaf r) (route : IfSome known (IsRouteCost q))
         (low : (kept ≡ most) ⊎ IsLowered version q.problem sum known most kept) where
       pub is_lesser : (x : ℕ) → ((v : ℕ) → IsRoundedUp (grains_by version q.problem sum (or_zero b)) v → x ≡ min kept v)
-          → IsLesserValue version q.problem q.region q.neighbours prices sets most x
+          → IsLesserValue version q.problem q.region q.neighbours leaf most x
       is_lesser x is = (let v = rounded (grains_by version q.problem sum (or_zero b)) in record {
         value = v.0;
         is_value = record {
           priced = count;
           least = or_zero b;
-          is_least = least_priced q prices sets (or_zero b) same (exact q None b least (λ e. refl));
-          rounded = subst (λ (z : ℤ). IsRoundedUp z v.0) (ap (λ (t : ℤ). grains_by version q.problem t (or_zero b)) sum_is ∙ sym (grains_same version q.problem prices sets (or_zero b))) v.1;
+          is_least = least_priced q leaf (or_zero b) same (exact q None b least (λ e. refl));
+          rounded = subst (λ (z : ℤ). IsRoundedUp z v.0) (ap (λ (t : ℤ). grains_by version q.problem t (or_zero b)) sum_is ∙ sym (grains_same version q.problem leaf (or_zero b))) v.1;
         };
         lesser = is v.0 v.1 ∙ lowered_same known most kept v.0 route low v.1;
       })
 
       pub lesser_found : (limit found : Option ℤ) (w : ℕ) → IsLeastBelow q limit found → IfSome limit (λ t. IsWorth version q.problem sum t kept)
           → IfSome limit (λ t. known ≡ None → IsWorth version q.problem sum (pos 0) kept)
-          → IsRoundedUp (grains_by version q.problem sum (or_zero found)) w → IsLesserValue version q.problem q.region q.neighbours prices sets most (min kept w)
+          → IsRoundedUp (grains_by version q.problem sum (or_zero found)) w → IsLesserValue version q.problem q.region q.neighbours leaf most (min kept w)
       lesser_found limit found w below worth routeless at = is_lesser (min kept w) (λ v is. found_same limit found known kept v w below route worth routeless is at)
 
-      pub lesser_none : kept ≡ 0 → IsLesserValue version q.problem q.region q.neighbours prices sets most 0
+      pub lesser_none : kept ≡ 0 → IsLesserValue version q.problem q.region q.neighbours leaf most 0
       lesser_none none = is_lesser 0 (λ v is. omega (arith, none))

@@ -16,7 +16,10 @@ use Rattle.leaf_arcs.specs.Arcs.{arc_in, IsPricing, AreAllowedArcs, IsInTime}
 use Rattle.solomon_reader.specs.Covering.{IsDear}
 use Rattle.solomon_reader.specs.declared.row.Row.{Row}
 use Rattle.solomon_reader.specs.Layout.{IsWithinLimits, AreRows}
-use Rattle.solomon_reader.specs.SetPrices.{PricedSet}
+use Rattle.solomon_reader.specs.SubsetRows.{PricedRow}
+use Rattle.solomon_reader.specs.PricedLeaf.{PricedLeaf}
+use Rattle.solomon_reader.specs.RowLaws.{no_debt}
+use Rattle.row_charges.specs.Bits.{bit_of}
 use Rattle.solomon_reader.proofs.BoundedRows.{customer_row}
 use Rattle.leaf_arcs.proofs.Deciding.{leads_index}
 use Rattle.leaf_arcs.proofs.Remembered.{has_nothing}
@@ -28,21 +31,21 @@ use Rattle.tree_bound.specs.Cover.{IsFound, IsRouteCost, IsLeastBelow}
 use Rattle.tree_bound.specs.Grains.{ArePrices}
 use Rattle.tree_bound.proofs.Covering.{covers_moved, covers_itself, covers_worked, covers_passed, covers_dear, least_at_end}
 
-pub dominating_good : (q : Pricing) (d r : ℕ) → d ≤ r → (a b : Label) → Dominates a b → IsAsGood (state_of q d a) (state_of q r b)
+pub dominating_good : (q : Pricing) (d r : ℕ) → d ≤ r → (a b : Label) → Dominates q.rows a b → IsAsGood q.rows (state_of q d a) (state_of q r b)
 dominating_good q d r low a b h = record { last = h.customer; time = h.time; load = low; cost = h.cost; memory = λ u t. h.memory (place_of q.problem q.neighbours b.customer u) (rw h.customer at t) }
 
 -- what stands at a load waits there
-pub dominated_met : (q : Pricing) (bs : List (List Label)) (low load : ℕ) (x : Label) → low ≤ load → IsDominated (labels_at bs load) x → IsMet q bs low (state_of q load x)
+pub dominated_met : (q : Pricing) (bs : List (List Label)) (low load : ℕ) (x : Label) → low ≤ load → IsDominated q.rows (labels_at bs load) x → IsMet q bs low (state_of q load x)
 dominated_met q bs low load x late h = (
   state_of q load (label_in (labels_at bs load) h.index),
   (record { load = load; late = late; index = h.index; within = h.within; active = h.active; is = refl }, dominating_good q load load (omega arith) _ x h.good),
 )
 
 pub moved_none : (q : Pricing) (bs : List (List Label)) (low : ℕ) → IsMoved q bs bs low
-moved_none q bs low a h = (a, (h, good_itself a))
+moved_none q bs low a h = (a, (h, good_itself q.rows a))
 
 pub met_through : (q : Pricing) (bs cs : List (List Label)) (low : ℕ) (a : State) → IsMoved q bs cs low → IsMet q bs low a → IsMet q cs low a
-met_through q bs cs low a moved (t, h) = let on = moved t h.0 in (on.0, (on.1.0, good_through _ _ _ on.1.1 h.1))
+met_through q bs cs low a moved (t, h) = let on = moved t h.0 in (on.0, (on.1.0, good_through q.rows _ _ _ on.1.1 h.1))
 
 pub moved_through : (q : Pricing) (bs cs ds : List (List Label)) (low : ℕ) → IsMoved q bs cs low → IsMoved q cs ds low → IsMoved q bs ds low
 moved_through q bs cs ds low h e a w = met_through q cs ds low a e (h a w)
@@ -67,7 +70,7 @@ module _ (q : Pricing) (b : Option ℤ) where
   }
 
   -- y was kept at its load
-  module _ (bs cs : List (List Label)) (d : ℕ) (x : Label) (load j : ℕ) (y : Label) (later : d + 1 ≤ load) (added : IsAdded bs cs load y) where
+  module _ (bs cs : List (List Label)) (d : ℕ) (x : Label) (load j : ℕ) (y : Label) (later : d + 1 ≤ load) (added : IsAdded q.rows bs cs load y) where
     moved_added : IsMoved q bs cs (d + 1)
     moved_added a w = elim (cases_eq w.load load) [
       | inl same ↦ (let dominated = added.here.old w.index (rw same at w.within) (rw same at w.active) in
@@ -85,7 +88,7 @@ module _ (q : Pricing) (b : Option ℤ) where
             active = rw (added.others w.load apart) w.active;
             is = rw (added.others w.load apart) w.is;
           },
-          good_itself a,
+          good_itself q.rows a,
         ),
       )
     ]
@@ -107,7 +110,7 @@ module _ (q : Pricing) (b : Option ℤ) where
     step_yes table pair customer allowed can extension = record {
       moved = moved_added;
       table = table_added table (label_extended d x load j y pair customer allowed can extension);
-      met = λ _. inl (let met = dominated_met q cs (d + 1) load y later added.here.new in (met.0, (met.1.0, good_through _ _ _ met.1.1 (good_same _ _ extension.same))));
+      met = λ _. inl (let met = dominated_met q cs (d + 1) load y later added.here.new in (met.0, (met.1.0, good_through q.rows _ _ _ met.1.1 (good_same q.rows _ _ extension.same))));
     }
 
   pub steps_none : (bs : List (List Label)) (d : ℕ) (x : Label) (hs : List AllowedArc) → IsTable q bs (d + 1) → TakesSteps q b bs bs d x hs 0
@@ -126,14 +129,19 @@ module _ (q : Pricing) (b : Option ℤ) where
 
 -- ---- The labels of a load, after one was kept.
 
-pub dominates_itself : (x : Label) → Dominates x x
-dominates_itself x = record { customer = refl; memory = λ i t. t; time = omega arith; cost = omega (arith, ints) }
+pub dominates_itself : (rows : List PricedRow) (x : Label) → Dominates rows x x
+dominates_itself rows x = record {
+  customer = refl;
+  memory = λ i t. t;
+  time = omega arith;
+  cost = omega (arith, ints, no_debt rows (bit_of x.bits) (bit_of x.bits) (λ i t. t));
+}
 
-pub thinned_none : (xs : List Label) (x : Label) → IsThinned xs xs x
-thinned_none xs x = record { same = refl; each = λ m w. inl refl }
+pub thinned_none : (rows : List PricedRow) (xs : List Label) (x : Label) → IsThinned rows xs xs x
+thinned_none rows xs x = record { same = refl; each = λ m w. inl refl }
 
-pub thinned_through : (xs ys zs : List Label) (x : Label) → IsThinned xs ys x → IsThinned ys zs x → IsThinned xs zs x
-thinned_through xs ys zs x h e = record {
+pub thinned_through : (rows : List PricedRow) (xs ys zs : List Label) (x : Label) → IsThinned rows xs ys x → IsThinned rows ys zs x → IsThinned rows xs zs x
+thinned_through rows xs ys zs x h e = record {
   same = e.same ∙ h.same;
   each = λ m w. elim (h.each m w) [
     | inl same ↦ elim (e.each m (omega (arith, w, h.same))) [
@@ -177,20 +185,20 @@ put_within xs index x within hole = record {
   ];
 }
 
-pub kept_of : (xs zs ys : List Label) (x : Label) → x.active ≡ true → IsThinned xs zs x → IsPut zs ys x → IsEntered xs ys x
-kept_of xs zs ys x active thinned put = record { new = new; old = old; others = others }
+pub kept_of : (rows : List PricedRow) (xs zs ys : List Label) (x : Label) → x.active ≡ true → IsThinned rows xs zs x → IsPut zs ys x → IsEntered rows xs ys x
+kept_of rows xs zs ys x active thinned put = record { new = new; old = old; others = others }
   where
-    at_place : (y : Label) → Dominates x y → IsDominated ys y
+    at_place : (y : Label) → Dominates rows x y → IsDominated rows ys y
     at_place y good = record { index = put.index; within = put.within; active = rw put.here active; good = rw put.here good }
 
-    new : IsDominated ys x
-    new = at_place x (dominates_itself x)
+    new : IsDominated rows ys x
+    new = at_place x (dominates_itself rows x)
 
-    old : (m : ℕ) → m < length xs → (label_in xs m).active ≡ true → IsDominated ys (label_in xs m)
+    old : (m : ℕ) → m < length xs → (label_in xs m).active ≡ true → IsDominated rows ys (label_in xs m)
     old m w stands = elim (thinned.each m w) [
       | inl same ↦ (let on = put.still m (omega (arith, w, thinned.same)) (rw same stands) in
           let e = on.1 ∙ same in
-          record { index = m; within = on.0; active = rw e stands; good = rw e (dominates_itself (label_in xs m)) })
+          record { index = m; within = on.0; active = rw e stands; good = rw e (dominates_itself rows (label_in xs m)) })
       | inr past ↦ at_place (label_in xs m) past.0
     ]
 
@@ -203,8 +211,8 @@ kept_of xs zs ys x active thinned put = record { new = new; old = old; others = 
       ])
     ]
 
-pub first_kept : (x : Label) → x.active ≡ true → IsEntered [] (x ∷ []) x
-first_kept x active = kept_of [] [] (x ∷ []) x active (thinned_none [] x) (put_behind [] x)
+pub first_kept : (rows : List PricedRow) (x : Label) → x.active ≡ true → IsEntered rows [] (x ∷ []) x
+first_kept rows x active = kept_of rows [] [] (x ∷ []) x active (thinned_none rows [] x) (put_behind [] x)
 
 -- ---- Loads are worked, the lowest first.
 
@@ -225,7 +233,7 @@ module _ (q : Pricing) where
 
   -- what is settled stays so, as the others are worked
   pub settled_moved : (b c : Option ℤ) (Before After : State → Type 0) → ((y : ℤ) → IsAtMost b y → IsAtMost c y)
-      → ((a : State) → Before a → (t : State) × (After t × IsAsGood t a))
+      → ((a : State) → Before a → (t : State) × (After t × IsAsGood q.rows t a))
       → (d r : ℕ) → d ≤ r → (ds : List Label) → AreSettled q b Before d ds → AreSettled q c After r ds
   settled_moved b c Before After lower moved d r more ds settled m w active =
       let s = settled m w active in
@@ -266,19 +274,19 @@ module _ (q : Pricing) (limit : Option ℤ) where
   module _ (bs : List (List Label)) (ds : List Label) (d : ℕ) (xs : List Label) (i : ℕ) (b : Option ℤ) (so_far : IsWorked q limit bs ds d xs i b) where
     -- what remains is the label at i, or remains behind it
     remains_behind : (cs : List (List Label)) → ((a : State) → Waits q bs (d + 1) a → IsMet q cs (d + 1) a) → (a : State) → Remains q bs d xs i a
-        → (a ≡ state_of q d (label_in xs i)) ⊎ ((t : State) × (Remains q cs d xs (i + 1) t × IsAsGood t a))
+        → (a ≡ state_of q d (label_in xs i)) ⊎ ((t : State) × (Remains q cs d xs (i + 1) t × IsAsGood q.rows t a))
     remains_behind cs moved a (inl h) = let t = moved a h in inr (t.0, (inl t.1.0, t.1.1))
     remains_behind cs moved a (inr s) = elim (cases_eq s.index i) [
       | inl same ↦ inl (sym (rw same at s.is))
-      | inr apart ↦ inr (a, (inr (record { index = s.index; late = omega (arith, s.late, apart); within = s.within; active = s.active; is = s.is }), good_itself a))
+      | inr apart ↦ inr (a, (inr (record { index = s.index; late = omega (arith, s.late, apart); within = s.within; active = s.active; is = s.is }), good_itself q.rows a))
     ]
 
     -- the label at i doesn't stand
     worked_skip : (label_in xs i).active ≡ false → IsWorked q limit bs ds d xs (i + 1) b
     worked_skip dead = record {
       table = so_far.table;
-      covers = covers_moved q b b (Remains q bs d xs i) (Remains q bs d xs (i + 1)) (λ y h. h) (λ a h. (a, (on a h, good_itself a))) _ 1 so_far.covers;
-      settled = settled_moved q b b (Remains q bs d xs i) (Remains q bs d xs (i + 1)) (λ y h. h) (λ a h. (a, (on a h, good_itself a))) d d (omega arith) ds so_far.settled;
+      covers = covers_moved q b b (Remains q bs d xs i) (Remains q bs d xs (i + 1)) (λ y h. h) (λ a h. (a, (on a h, good_itself q.rows a))) _ 1 so_far.covers;
+      settled = settled_moved q b b (Remains q bs d xs i) (Remains q bs d xs (i + 1)) (λ y h. h) (λ a h. (a, (on a h, good_itself q.rows a))) d d (omega arith) ds so_far.settled;
       found = so_far.found;
     }
       where
@@ -298,7 +306,7 @@ module _ (q : Pricing) (limit : Option ℤ) where
     ]
 
     -- a settled label dominates the one at i
-    worked_dominated : IsDominated ds (label_in xs i) → IsWorked q limit bs ds d xs (i + 1) b
+    worked_dominated : IsDominated q.rows ds (label_in xs i) → IsWorked q limit bs ds d xs (i + 1) b
     worked_dominated dominated = record {
       table = so_far.table;
       covers = covers_passed q b (Remains q bs d xs i) (Remains q bs d xs (i + 1)) x y good settled.covers only _ 1 so_far.covers;
@@ -319,7 +327,7 @@ module _ (q : Pricing) (limit : Option ℤ) where
         y : State
         y = state_of q settled.load (label_in ds dominated.index)
 
-        good : IsAsGood y x
+        good : IsAsGood q.rows y x
         good = dominating_good q settled.load d settled.low _ _ dominated.good
 
     -- all that may come after the label at i is dear
@@ -341,7 +349,7 @@ module _ (q : Pricing) (limit : Option ℤ) where
     worked_passed (inr (inr dear)) = worked_dear dear
 
     pub worked_more : (cs : List (List Label)) (es : List Label) (c : Option ℤ) → IsLabel q d (label_in xs i) → IsDone q bs cs d (label_in xs i) b c
-        → IsEntered ds es (label_in xs i) → IsWorked q limit cs es d xs (i + 1) c
+        → IsEntered q.rows ds es (label_in xs i) → IsWorked q limit cs es d xs (i + 1) c
     worked_more cs es c pair done kept = record {
       table = done.table;
       covers = covers_worked q b c (Remains q bs d xs i) (Remains q cs d xs (i + 1)) x done.closes.lower done.closes.counted spread (remains_behind cs done.moved) _ 1 so_far.covers;
@@ -352,7 +360,7 @@ module _ (q : Pricing) (limit : Option ℤ) where
         x : State
         x = state_of q d (label_in xs i)
 
-        spread : (j : ℕ) → CanStep q x j → ((t : State) × (Remains q cs d xs (i + 1) t × IsAsGood t (step q x j))) ⊎ IsDear q c (step q x j)
+        spread : (j : ℕ) → CanStep q x j → ((t : State) × (Remains q cs d xs (i + 1) t × IsAsGood q.rows t (step q x j))) ⊎ IsDear q c (step q x j)
         spread j can = elim (done.met j can) [
           | inl t ↦ inl (t.0, (inl t.1.0, t.1.1))
           | inr dear ↦ inr dear
@@ -389,8 +397,8 @@ module _ (q : Pricing) (limit : Option ℤ) where
         count = length-set bs d ys ∙ swept.table.count;
         each = λ n m late w active. (let e = other n late in rw e (swept.table.each n m (omega (arith, late)) (rw e at w) (rw e at active)));
       };
-      covers = covers_moved q b b (Waits q bs d) (Remains q (set bs d ys) d (labels_at bs d) 0) (λ y h. h) (λ a h. (a, (on a h, good_itself a))) _ 1 swept.covers;
-      settled = settled_moved q b b (Waits q bs d) (Remains q (set bs d ys) d (labels_at bs d) 0) (λ y h. h) (λ a h. (a, (on a h, good_itself a))) d d (omega arith) ds swept.settled;
+      covers = covers_moved q b b (Waits q bs d) (Remains q (set bs d ys) d (labels_at bs d) 0) (λ y h. h) (λ a h. (a, (on a h, good_itself q.rows a))) _ 1 swept.covers;
+      settled = settled_moved q b b (Waits q bs d) (Remains q (set bs d ys) d (labels_at bs d) 0) (λ y h. h) (λ a h. (a, (on a h, good_itself q.rows a))) d d (omega arith) ds swept.settled;
       found = swept.found;
     }
       where
@@ -408,8 +416,8 @@ module _ (q : Pricing) (limit : Option ℤ) where
       → IsWorked q limit bs ds d xs i b → IsSwept q limit bs ds (d + 1) b
   swept_more bs ds d xs i b all h = record {
     table = h.table;
-    covers = covers_moved q b b (Remains q bs d xs i) (Waits q bs (d + 1)) (λ y h. h) (λ a h. (a, (on a h, good_itself a))) _ 1 h.covers;
-    settled = settled_moved q b b (Remains q bs d xs i) (Waits q bs (d + 1)) (λ y h. h) (λ a h. (a, (on a h, good_itself a))) d (d + 1) (omega arith) ds h.settled;
+    covers = covers_moved q b b (Remains q bs d xs i) (Waits q bs (d + 1)) (λ y h. h) (λ a h. (a, (on a h, good_itself q.rows a))) _ 1 h.covers;
+    settled = settled_moved q b b (Remains q bs d xs i) (Waits q bs (d + 1)) (λ y h. h) (λ a h. (a, (on a h, good_itself q.rows a))) d (d + 1) (omega arith) ds h.settled;
     found = h.found;
   }
     where
@@ -432,9 +440,9 @@ module _ (q : Pricing) (limit : Option ℤ) where
         state = state_of q 0 x;
         waits = inr (record { index = 0; late = omega arith; within = omega arith; active = active; is = refl });
         rest = s;
-        completes = completes_too q s (state_of q 0 x) (start q) (good_same _ _ same) h;
+        completes = completes_too q s (state_of q 0 x) (start q) (good_same q.rows _ _ same) h;
         short = omega arith;
-        low = value_no_greater q s (state_of q 0 x) (start q) (good_same _ _ same);
+        low = value_no_greater q s (state_of q 0 x) (start q) (good_same q.rows _ _ same);
       });
       settled = λ m w active. absurd (omega (arith, w));
       found = inl refl;
@@ -443,14 +451,22 @@ module _ (q : Pricing) (limit : Option ℤ) where
     pub swept_begun : (bs cs : List (List Label)) (c : Option ℤ) → bs ≡ replicate (q.problem.capacity + 1) [] → x.active ≡ true → IsLabel q 0 x → IsDone q bs cs 0 x limit c
         → IsSwept q limit cs [] 1 c
     swept_begun bs cs c begun_is active label done = forget (swept_more cs (x ∷ []) 0 (x ∷ []) 1 c (omega arith)
-        (worked_more (replicate (q.problem.capacity + 1) []) [] 0 (x ∷ []) 0 limit (begun active) cs (x ∷ []) c label (rw begun_is at done) (first_kept x active)))
+        (worked_more (replicate (q.problem.capacity + 1) []) [] 0 (x ∷ []) 0 limit (begun active) cs (x ∷ []) c label (rw begun_is at done) (first_kept q.rows x active)))
       where
         forget : IsSwept q limit cs (x ∷ []) 1 c → IsSwept q limit cs [] 1 c
         forget h = record { table = h.table; covers = h.covers; settled = λ m w stands. absurd (omega (arith, w)); found = h.found }
 
 -- the depot with an empty memory is the beginning
-pub start_same : (q : Pricing) (x : Label) → x.customer ≡ 0 → x.time ≡ ready q.problem 0 → x.cost ≡ pos 0 → x.memory ≡ 0 → IsSameState (state_of q 0 x) (start q)
-start_same q x last time cost memory = record { last = last; time = time; load = refl; cost = cost; memory = λ u. rw memory (has_nothing (place_of q.problem q.neighbours x.customer u)) }
+pub start_same : (q : Pricing) (x : Label) → x.customer ≡ 0 → x.time ≡ ready q.problem 0 → x.cost ≡ pos 0 → x.memory ≡ 0 → ((i : ℕ) → bit_of x.bits i ≡ false)
+    → IsSameState (state_of q 0 x) (start q)
+start_same q x last time cost memory bits = record {
+  last = last;
+  time = time;
+  load = refl;
+  cost = cost;
+  memory = λ u. rw memory (has_nothing (place_of q.problem q.neighbours x.customer u));
+  bits = bits;
+}
 
 -- no service at the depot
 pub depot_service : (p : Problem) → IsWithinLimits p → service p 0 ≡ 0
@@ -460,5 +476,5 @@ depot_service p limits = by p.rows limits.rows
     by [] h = absurd h
     by (depot ∷ rs) h = omega (arith, h.0.2)
 
-pub is_pricing : (p : Problem) (prices : List ℤ) (sets : List PricedSet) → IsWithinLimits p → ArePrices p prices sets → IsPricing p prices sets
-is_pricing p prices sets limits are = record { count = are.count; within = are.within; sets_are = are.sets_are; carried = λ i h. (customer_row p i limits h).1 }
+pub is_pricing : (p : Problem) (leaf : PricedLeaf) → IsWithinLimits p → ArePrices p leaf → IsPricing p leaf
+is_pricing p leaf limits are = record { count = are.count; within = are.within; sets_are = are.sets_are; carried = λ i h. (customer_row p i limits h).1 }

@@ -78,7 +78,7 @@ pub record IsSwept (q : Pricing) (limit : Option ℤ) (bs : List (List Label)) (
 
 -- nothing has to be done about x: it doesn't stand, or a settled label dominates it, or all that may come after it is dear
 abbrev pub IsPassed : Pricing → Option ℤ → List Label → ℕ → Label → Type 0
-IsPassed q b ds d x = (x.active ≡ false) ⊎ (IsDominated ds x ⊎ IsDear q b (state_of q d x))
+IsPassed q b ds d x = (x.active ≡ false) ⊎ (IsDominated q.rows ds x ⊎ IsDear q b (state_of q d x))
 
 -- x was worked
 pub record IsDone (q : Pricing) (bs cs : List (List Label)) (d : ℕ) (x : Label) (b c : Option ℤ) : Type 0 where

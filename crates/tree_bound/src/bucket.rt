@@ -1,10 +1,12 @@
 //! The labels of one load.
 
 ghost use Rattle.std.specs.Prelude.{◌≡◌, ◌<◌, ◌≤◌, length, [], true, IfOk, IsTrue, IsFalse};
+ghost use Rattle.row_charges.specs.Rows.{rows_of};
 ghost use Rattle.tree_bound.specs.Labels.{IsDominated, IsThinned, IsPut, IsEntered};
 
 use crate::label::Label;
 use leaf_arcs::is_subset;
+use row_charges::RowTable;
 use std::alloc::{AllocError, Global};
 use std::marker::Model;
 
@@ -12,25 +14,25 @@ use std::marker::Model;
 const NONE: usize = usize::MAX;
 
 /// Whether the label at an index stands and dominates another one.
-fn dominates_at(labels: &[Label], index: usize, label: &Label) -> bool
-    ensures { IsTrue result → IsDominated labels.now label.now }
+fn dominates_at(rows: &RowTable<'_>, labels: &[Label], index: usize, label: &Label) -> bool
+    ensures { IsTrue result → IsDominated (rows_of rows.now.rows.items) labels.now label.now }
 {
     if index >= labels.len() {
         return false;
     }
-    let found = labels[index];
-    found.active && found.dominates(label)
+    let found = &labels[index];
+    found.active && found.dominates(rows, label)
 }
 
 /// Drops the label at an index if it stands and is dominated, and says whether.
-fn drop_at(labels: &mut [Label], index: usize, label: &Label) -> bool
-    ensures { IsThinned labels.old labels.new label.now }
+fn drop_at(rows: &RowTable<'_>, labels: &mut [Label], index: usize, label: &Label) -> bool
+    ensures { IsThinned (rows_of rows.now.rows.items) labels.old labels.new label.now }
 {
     if index >= labels.len() {
         return false;
     }
     let found = labels[index];
-    if !found.active || !label.dominates(&found) {
+    if !found.active || !label.dominates(rows, &found) {
         return false;
     }
     labels[index].active = false;
@@ -65,28 +67,40 @@ fn cheaper_count(entries: &[Entry], cost: i64) -> usize
     entries.partition_point(|entry| entry.cost < cost)
 }
 
-/// The index of the label that dominates another one with the same last customer, if one does.
-fn dominating_in(entries: &[Entry], label: &Label) -> usize {
+/// Whether one of the entries with the same last customer is that of a label that dominates another one. No label
+/// is looked at that costs more.
+fn dominates_in(
+    rows: &RowTable<'_>,
+    labels: &[Label],
+    entries: &[Entry],
+    label: &Label,
+) -> bool
+    ensures { IsTrue result → IsDominated (rows_of rows.now.rows.items) labels.now label.now }
+{
     for entry in entries {
         if entry.cost > label.cost {
             break;
         }
-        if entry.time <= label.time && is_subset(entry.memory, label.memory) {
-            return entry.index;
+        if entry.time <= label.time
+            && is_subset(entry.memory, label.memory)
+            && dominates_at(rows, labels, entry.index, label)
+        {
+            return true;
         }
     }
-    NONE
+    false
 }
 
 /// Drops the labels that another one with the same last customer dominates, and says how many. A free
 /// index is where the last of them stood.
 fn drop_from(
+    rows: &RowTable<'_>,
     labels: &mut [Label],
     entries: &mut Vec<Entry>,
     free: &mut usize,
     label: &Label,
 ) -> usize
-    ensures { IsThinned labels.old labels.new label.now }
+    ensures { IsThinned (rows_of rows.now.rows.items) labels.old labels.new label.now }
 {
     let mut dropped: usize = 0;
     let mut at = cheaper_count(entries.as_slice(), label.cost);
@@ -95,11 +109,14 @@ fn drop_from(
             break;
         }
         let entry = entries[at];
-        if entry.time < label.time || !is_subset(label.memory, entry.memory) {
+        if entry.time < label.time
+            || !is_subset(label.memory, entry.memory)
+            || !drop_at(rows, labels, entry.index, label)
+        {
             at += 1;
-        } else if drop_at(labels, entries.remove(at).index, label) {
+        } else {
+            *free = entries.remove(at).index;
             dropped = dropped.saturating_add(1);
-            *free = entry.index;
         }
     }
     dropped
@@ -159,25 +176,26 @@ impl Bucket {
     }
 
     /// Whether a label that stands dominates another one, as far as the group of its customer tells.
-    pub(crate) fn dominates(&self, label: &Label) -> bool
-        ensures { IsTrue result → IsDominated self.now label.now }
+    pub(crate) fn dominates(&self, rows: &RowTable<'_>, label: &Label) -> bool
+        ensures { IsTrue result → IsDominated (rows_of rows.now.rows.items) self.now label.now }
     {
         let place = place_of(self.groups.as_slice(), label.customer);
         if place >= self.groups.len() {
             return false;
         }
-        let index = dominating_in(self.groups[place].entries.as_slice(), label);
-        dominates_at(self.labels.as_slice(), index, label)
+        let entries = self.groups[place].entries.as_slice();
+        dominates_in(rows, self.labels.as_slice(), entries, label)
     }
 
     /// Drops the labels that another one dominates, as far as the group at a place tells, and says how many.
-    fn drop_dominated(&mut self, place: usize, label: &Label) -> usize
-        ensures { IsThinned self.old self.new label.now }
+    fn drop_dominated(&mut self, rows: &RowTable<'_>, place: usize, label: &Label) -> usize
+        ensures { IsThinned (rows_of rows.now.rows.items) self.old self.new label.now }
     {
         if place >= self.groups.len() {
             return 0;
         }
         drop_from(
+            rows,
             self.labels.as_mut_slice(),
             &mut self.groups[place].entries,
             &mut self.free,
@@ -230,12 +248,17 @@ impl Bucket {
     }
 
     /// Puts a label in, drops those that it dominates, and says how many.
-    pub(crate) fn keep(&mut self, alloc: Global, label: &Label) -> Result<usize, AllocError>
+    pub(crate) fn keep(
+        &mut self,
+        alloc: Global,
+        rows: &RowTable<'_>,
+        label: &Label,
+    ) -> Result<usize, AllocError>
         requires active { label.now.active ≡ true }
-        ensures { IfOk result (λ _. IsEntered self.old self.new label.now) }
+        ensures { IfOk result (λ _. IsEntered (rows_of rows.now.rows.items) self.old self.new label.now) }
     {
         let place = place_of(self.groups.as_slice(), label.customer);
-        let dropped = self.drop_dominated(place, label);
+        let dropped = self.drop_dominated(rows, place, label);
         let index = self.put_label(label)?;
         self.enter(alloc, place, label, index)?;
         Ok(dropped)

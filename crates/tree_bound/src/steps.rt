@@ -54,14 +54,16 @@ pub(crate) fn extend(leaf: &Leaf<'_, '_>, load: usize, label: &Label, arc: &Allo
     ensures { let q = pricing_of leaf.now in
         IsExtension q load label.now (load + arc.now.demand) arc.now.to result }
 {
-    let network = leaf.network;
+    let (network, rows) = (leaf.network, leaf.rows);
+    let charge = rows.charge(label.bits, arc.to);
     Label {
         customer: arc.to,
         memory: network
             .neighbours
             .remember(label.customer, label.memory, arc.to),
         time: begins(leaf, load, label, arc) + arc.service,
-        cost: label.cost + arc.value,
+        cost: label.cost + arc.value + charge as i64,
+        bits: rows.after(label.bits, arc.to),
         active: true,
     }
 }
@@ -118,7 +120,7 @@ pub(crate) fn is_dear(task: &Task<'_, '_>, load: usize, label: &Label, best: Opt
     }
 }
 
-/// Whether all that may come after the step over an arc is dear, whatever is remembered.
+/// Whether all that may come after the step over an arc is dear, whatever is remembered and charged.
 fn is_dear_step(
     task: &Task<'_, '_>,
     load: usize,
@@ -172,7 +174,7 @@ fn take_step(
     if is_dear(task, load, &longer, best) {
         return Ok(());
     }
-    keep(table, load, &longer)?;
+    keep(table, leaf.rows, load, &longer)?;
     Ok(())
 }
 

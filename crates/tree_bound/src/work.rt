@@ -14,6 +14,7 @@ use crate::label::Label;
 use crate::steps::{close_route, is_dear, take_steps};
 use crate::table::{Table, empty_table, settle};
 use leaf_arcs::{Leaf, Task};
+use row_charges::RowBits;
 use std::alloc::Global;
 use std::mem;
 
@@ -63,7 +64,7 @@ fn is_open(
     ensures passed { let q = pricing_of task.now.leaf in
         IsFalse result → IsPassed q best settled.now load label.now }
 {
-    label.active && !settled.dominates(label) && !is_dear(task, load, label, best)
+    label.active && !settled.dominates(task.leaf.rows, label) && !is_dear(task, load, label, best)
 }
 
 /// Works the labels of a load.
@@ -83,7 +84,7 @@ fn work_labels(
     for label in labels {
         if is_open(task, settled, load, label, best) {
             best = work_label(task, table, load, label, best)?;
-            settle(table, settled, label)?;
+            settle(table, task.leaf.rows, settled, label)?;
         } else {
             table.standing = table.standing.saturating_sub(usize::from(label.active));
         }
@@ -160,6 +161,7 @@ pub(crate) fn beginning(leaf: &Leaf<'_, '_>) -> Label
         memory: 0,
         time: instance.ready(0),
         cost: 0,
+        bits: RowBits::none(),
         active: true,
     }
 }

@@ -11,4 +11,4 @@ returns c = step_yes _ _ _ _ c.args.load c.args.label.now (c.args.load + c.args.
 
 pub returns-then-is_dear : goal.returns-then-is_dear
 returns-then-is_dear c = step_dear _ _ _ c.args.load c.args.label.now c.args.arc.now.to c.requires.table
-    (dear_good _ _ _ _ (good_same _ _ c.extend-longer.ensures.same) (rw c.from.ensures at (c.is_dear.ensures c.if-is_dear.true)))
+    (dear_good _ _ _ _ (good_same _ _ _ c.extend-longer.ensures.same) (rw c.from.ensures at (c.is_dear.ensures c.if-is_dear.true)))

@@ -8,8 +8,8 @@ use Rattle.tree_bound.proofs.work.beginning.Goals as goal
 
 pub returns : goal.returns
 returns c =
-    let x : Label = record { customer = 0; memory = 0; time = c.ready.result; cost = pos 0; active = true } in
-    let same = start_same (pricing_of c.args.leaf.now) x refl c.ready.ensures.value refl refl in
+    let x : Label = record { customer = 0; memory = 0; time = c.ready.result; cost = pos 0; bits = c.none.result; active = true } in
+    let same = start_same (pricing_of c.args.leaf.now) x refl c.ready.ensures.value refl refl c.none.ensures in
     record {
       same = same;
       label = start_label _ x same (record {
