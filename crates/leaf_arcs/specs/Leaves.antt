@@ -1,10 +1,9 @@
 -- What a leaf is to price.
-use Rattle.std.specs.Prelude.{◌≡◌, List, ℤ}
+use Rattle.std.specs.Prelude.{List}
 use Rattle.solomon_reader.specs.Problem.{Problem, customer_count}
 use Rattle.solomon_reader.specs.Region.{Region}
 use Rattle.solomon_reader.specs.SetPrices.{PricedSet, by_sets}
 use Rattle.solomon_reader.specs.SubsetRows.{PricedRow}
-use Rattle.solomon_reader.specs.PricedLeaf.{PricedLeaf}
 use Rattle.solomon_reader.specs.States.{Pricing}
 use Rattle.row_charges.specs.Rows.{rows_of}
 use Rattle.leaf_arcs.specs.declared.leaf.Leaf.{Leaf}

@@ -1,11 +1,9 @@
 //! Leaves.
 
 ghost use Rattle.std.specs.Prelude.{◌≡◌};
-ghost use Rattle.solomon_reader.specs.PricedLeaf.{PricedLeaf};
-ghost use Rattle.row_charges.specs.Rows.{rows_of};
 ghost use Rattle.leaf_arcs.specs.Arcs.{IsPricing};
 ghost use Rattle.leaf_arcs.specs.Props.{props};
-ghost use Rattle.leaf_arcs.specs.Sets.{sets_of};
+ghost use Rattle.leaf_arcs.specs.Sets.{leaf_of};
 
 use crate::decision::Decision;
 use crate::network::Network;
@@ -25,7 +23,7 @@ pub struct Leaf<'a, 'i> {
     pub sets: &'a [PricedSet<'a>],
     /// The rows that have a price.
     pub rows: &'a RowTable<'i>,
-    ghost pricing: { IsPricing network.now.neighbours.instance.now (record { customers = prices.now; sets = sets_of sets.now; rows = rows_of rows.now.rows.items }) } by { Prim.hlevel props },
+    ghost pricing: { IsPricing network.now.neighbours.instance.now (leaf_of prices.now sets.now rows.now) } by { Prim.hlevel props },
     ghost same: { rows.now.instance.now ≡ network.now.neighbours.instance.now },
     ghost listed: { rows.now.neighbours ≡ network.now.neighbours.k },
 }

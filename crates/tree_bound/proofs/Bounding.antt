@@ -37,7 +37,7 @@ module _ (version : Version) (p : Problem) (k : ℕ) (ds : List Decision) where
   region es = region_of (customer_count p) es
 
   pub leaf_at : (prices : LeafPrices) → IsTreeAt version (region ds) (leaf prices) → IsLeafAt version (customer_count p) prices
-  leaf_at prices h = (h.0 ∙ region_size (customer_count p) ds, h.1, h.2)
+  leaf_at prices h = (h.0 ∙ region_size (customer_count p) ds, h.1, h.2, h.3)
 
   pub leaf_bound_at : (prices : LeafPrices) (most b : ℕ) → most ≤ ceiling_of p + 1 → IsLesserAt version p (region ds) k prices most b → IsBoundOf version p k (region ds) (leaf prices) most b
   leaf_bound_at prices most b low h = record { bound = min (ceiling_of p + 1) h.value; is_bound = (h.value, h.is_value, refl); lesser = omega (arith, low, h.lesser) }

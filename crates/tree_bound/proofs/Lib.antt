@@ -1,5 +1,6 @@
 pub mod Working
 pub mod Sets
+pub mod Rows
 pub mod Valuing
 pub mod AtLeaf
 pub mod Bounding

@@ -52,12 +52,12 @@ needs_end sets i all = at_drop_all (λ (xs : List PricedSet). definition.paid_fo
 -- ---- the sets that have a price
 
 -- each number is one of the list's
-pub number_known : (n low : ℕ) (prices : List SetPrice) (i : ℕ) (d : SetPrice) → i < length prices → IsRisingFrom low (map (λ m. m.0) (map set_price_of prices))
-    → AllByRecursion (λ m. m ≤ n) (map (λ m. m.0) (map set_price_of prices)) → (low < (get_or prices i d).set) × ((get_or prices i d).set ≤ n)
-number_known n low [] i d within rising known = absurd (omega arith)
-number_known n low (m ∷ prices) zero d within rising known = (rising.0, known.0)
-number_known n low (m ∷ prices) (suc i) d within rising known =
-    let on = number_known n m.set prices i d (omega arith) rising.1 known.1 in (omega (arith, on.0, rising.0), on.1)
+pub number_known : {X : Type 0} (f : X → definition.SetPrice) (n low : ℕ) (prices : List X) (i : ℕ) (d : X) → i < length prices → IsRisingFrom low (map (λ m. m.0) (map f prices))
+    → AllByRecursion (λ m. m ≤ n) (map (λ m. m.0) (map f prices)) → (low < (f (get_or prices i d)).0) × ((f (get_or prices i d)).0 ≤ n)
+number_known f n low [] i d within rising known = absurd (omega arith)
+number_known f n low (m ∷ prices) zero d within rising known = (rising.0, known.0)
+number_known f n low (m ∷ prices) (suc i) d within rising known =
+    let on = number_known f n (f m).0 prices i d (omega arith) rising.1 known.1 in (omega (arith, on.0, rising.0), on.1)
 
 module _ (listed : List ListedSet) (prices : List SetPrice) where
   abbrev all_of : List SetPrice → List definition.PricedSet

@@ -2,7 +2,7 @@
 use Rattle.std.specs.Prelude.{◌≡◌, ℕ, ◌+◌, ◌*◌, ◌≤◌, min, List, length, nat_abs, ℤ, pos, ◌+ℤ◌, ◌-ℤ◌, ◌*ℤ◌, Option, None}
 use Rattle.std.specs.Int.{int_min, int_max}
 use Rattle.std.specs.List.{AllByRecursion}
-use Rattle.solomon_reader.specs.declared.limits.TheConstants.{MOST_CUSTOMERS, MOST_NEED, MOST_PRICE, MOST_ROW_PRICES}
+use Rattle.solomon_reader.specs.declared.limits.TheConstants.{MOST_CUSTOMERS, MOST_NEED, MOST_PRICE}
 use Rattle.solomon_reader.specs.Problem.{Problem, customer_count}
 use Rattle.solomon_reader.specs.Region.{Region}
 use Rattle.solomon_reader.specs.Relaxed.{int_sum}
@@ -14,13 +14,12 @@ use Rattle.solomon_reader.specs.Bound.{Version, routes_counted, IsRoundedUp, IsL
 use Rattle.tree_bound.specs.declared.difference.Difference.{Difference}
 use Rattle.tree_bound.specs.Cover.{or_zero}
 
--- a price for each customer, within the range together with those of sets and rows, sets that need what a listed one may, and a few rows
+-- a price for each customer, within the range together with those of sets and rows, and sets that need what a listed one may
 pub record ArePrices (p : Problem) (leaf : PricedLeaf) : Type 0 where
   pub count : length leaf.customers ≡ customer_count p
   pub within : AllByRecursion (λ z. (price_sum leaf.sets + row_price_sum leaf.rows) + nat_abs z ≤ MOST_PRICE) leaf.customers
   pub sets_are : AllByRecursion (λ s. IsCustomerSet (customer_count p) s.members) leaf.sets
   pub needs : AllByRecursion (λ s. s.need ≤ MOST_NEED) leaf.sets
-  pub few : length leaf.rows ≤ MOST_ROW_PRICES
 
 -- the prices, and what all needed entries are paid, less a charge by each row
 abbrev pub leaf_sum : PricedLeaf → ℤ

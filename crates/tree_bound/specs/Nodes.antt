@@ -1,20 +1,15 @@
 -- The least value at the leaves of a tree.
-use Rattle.std.specs.Prelude.{◌≡◌, ℕ, min, List, map, length, ℤ}
+use Rattle.std.specs.Prelude.{◌≡◌, ℕ, min, length}
 use Rattle.std.specs.List.{AllByRecursion}
 use Rattle.solomon_reader.specs.Problem.{Problem}
 use Rattle.solomon_reader.specs.Region.{Region}
-use Rattle.solomon_reader.specs.Bound.{Version, LeafPrices, Tree, listed_sets, HasBound, IsValueAt}
-use Rattle.solomon_reader.specs.CertificateText.{IsPrice, AreSetPrices}
-use Rattle.certificate.specs.declared.sets.SetPrice.{SetPrice}
-use Rattle.certificate.specs.Tree.{set_price_of}
-
--- what contracts see of the prices at a leaf
-abbrev pub prices_of : List ℤ → List SetPrice → LeafPrices
-prices_of prices set_prices = record { customers = prices; sets = map set_price_of set_prices }
+use Rattle.solomon_reader.specs.Bound.{Version, LeafPrices, Tree, listed_sets, listed_rows, HasBound, IsValueAt}
+use Rattle.solomon_reader.specs.CertificateText.{IsPrice, AreSetPrices, AreRowPrices}
 
 -- what a tree says of the prices of a leaf, for so many customers
 abbrev pub IsLeafAt : Version → ℕ → LeafPrices → Type 0
 IsLeafAt version n prices = (length prices.customers ≡ n) × AllByRecursion IsPrice prices.customers × AreSetPrices (length (listed_sets version)) prices
+    × AreRowPrices (length (listed_rows version)) prices.rows
 
 -- b is the lesser of a number and the value of a leaf
 pub record IsLesserAt (version : Version) (p : Problem) (g : Region) (k : ℕ) (prices : LeafPrices) (most b : ℕ) : Type 0 where

@@ -7,6 +7,7 @@ mod difference;
 mod dive;
 mod fault;
 mod label;
+mod leaf_rows;
 mod leaf_sets;
 mod setting;
 mod steps;

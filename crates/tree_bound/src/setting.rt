@@ -37,7 +37,9 @@ fn routes_counted(instance: &Instance, version: &Version) -> u32
 {
     match version {
         Version::One => 0,
-        Version::Two | Version::WithSets(_) => instance.fewest_routes(),
+        Version::Two | Version::WithSets(_) | Version::WithRows { .. } => {
+            instance.fewest_routes()
+        }
     }
 }
 

@@ -6,13 +6,15 @@ ghost use Rattle.solomon_reader.specs.Problem.{customer_count};
 ghost use Rattle.solomon_reader.specs.Bound.{Tree, preorder, IsTreeBound};
 ghost use Rattle.certificate.specs.Grown.{tree_of};
 ghost use Rattle.leaf_arcs.specs.Decisions.{region_of};
-ghost use Rattle.tree_bound.specs.Nodes.{IsLeafAt, IsLesserAt, prices_of};
+ghost use Rattle.certificate.specs.Tree.{leaf_prices_of};
+ghost use Rattle.tree_bound.specs.Nodes.{IsLeafAt, IsLesserAt};
 
 use crate::fault::BoundFault;
+use crate::leaf_rows::row_table;
 use crate::leaf_sets::priced_sets;
 use crate::setting::Setting;
 use crate::value::{Lesser, lesser_value};
-use certificate::{Cert, CertTree, SetPrice};
+use certificate::{Cert, CertTree, RowPrice, SetPrice};
 use leaf_arcs::Decision;
 use solomon_reader::Instance;
 use std::alloc::{AllocFailed, Global};
@@ -25,18 +27,31 @@ fn bound_at_leaf(
     path: &[Decision],
     prices: &[i64],
     set_prices: &[SetPrice],
+    row_prices: &[RowPrice],
     most: u32,
     level: usize,
 ) -> Result<Lesser, BoundFault>
     requires shaped { IsLeafAt (version_in setting.now) (customer_count (problem_in setting.now))
-        (prices_of prices.now set_prices.now) }
+        (leaf_prices_of prices.now set_prices.now row_prices.now) }
     ensures { IfOk result (λ t. IsLesserAt
         (version_in setting.now) (problem_in setting.now)
         (region_of (customer_count (problem_in setting.now)) path.now)
-        (neighbours_in setting.now) (prices_of prices.now set_prices.now) most t.bound) }
+        (neighbours_in setting.now) (leaf_prices_of prices.now set_prices.now row_prices.now)
+        most t.bound) }
 {
+    setting.network.neighbours.instance.law_of_limits();
     let sets = priced_sets(alloc, setting.version.sets(), set_prices)?;
-    let lesser = lesser_value(alloc, setting, path, prices, sets.as_slice(), most, level)?;
+    let rows = row_table(alloc, setting, row_prices)?;
+    let lesser = lesser_value(
+        alloc,
+        setting,
+        path,
+        prices,
+        sets.as_slice(),
+        &rows,
+        most,
+        level,
+    )?;
     Ok(lesser)
 }
 
@@ -68,13 +83,18 @@ fn bound_at(
     ensures bound { IfOk result (λ t. IsBoundIn setting.now path.old.items (tree_of tree.now) most t.bound) }
 {
     match tree {
-        CertTree::Leaf { prices, set_prices } => {
+        CertTree::Leaf {
+            prices,
+            set_prices,
+            row_prices,
+        } => {
             let found = bound_at_leaf(
                 alloc,
                 setting,
                 path.as_slice(),
                 prices,
                 set_prices,
+                row_prices,
                 most,
                 level,
             )?;
@@ -104,9 +124,11 @@ fn bound_at(
 ///
 /// The value of a leaf follows from its prices and the least reduced cost of a relaxed route that the
 /// decisions on its path allow, as the certificate's version says. Where sets have a price at the leaf, a route is
-/// paid it at each entry, and the value has it for all needed entries. Whether it is less than the least so
+/// paid it at each entry, and the value has it for all needed entries. Where rows of three customers have one, a route
+/// pays it at each charge, and the value is less by one charge of each. Whether it is less than the least so
 /// far is found by keeping, for each last customer, load and memory, the pairs of time and cost that no
-/// other dominates, and from which a route may still come that lowers it.
+/// other dominates, and from which a route may still come that lowers it. With rows a pair also has their bits, and
+/// dominates another one only where it is cheaper by the prices of the rows that may charge it alone.
 ///
 /// `state_limit` counts the kept pairs that stand at once for one leaf. A pair stands from when it is
 /// kept until it is found to be dominated, or passed over as dear when its turn comes; one that was worked

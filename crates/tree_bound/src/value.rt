@@ -7,11 +7,13 @@ ghost use Rattle.solomon_reader.specs.Problem.{customer_count};
 ghost use Rattle.solomon_reader.specs.Relaxed.{int_sum};
 ghost use Rattle.solomon_reader.specs.Bound.{IsRoundedUp};
 ghost use Rattle.solomon_reader.specs.SetPrices.{paid_for_needs, price_sum};
+ghost use Rattle.solomon_reader.specs.SubsetRows.{row_price_sum};
 ghost use Rattle.solomon_reader.specs.CertificateText.{IsPrice};
 ghost use Rattle.solomon_reader.specs.declared.limits.TheConstants.{MOST_CUSTOMERS, MOST_NEED, MOST_PRICE};
 ghost use Rattle.tree_bound.specs.Cover.{or_zero};
 ghost use Rattle.leaf_arcs.specs.Decisions.{region_of};
-ghost use Rattle.leaf_arcs.specs.Sets.{sets_of};
+ghost use Rattle.leaf_arcs.specs.Sets.{sets_of, leaf_of};
+ghost use Rattle.row_charges.specs.Rows.{rows_of};
 ghost use Rattle.solomon_reader.specs.SumLaws.{up, down};
 ghost use Rattle.tree_bound.specs.Grains.{ArePrices, IsSmall, IsWorth, IsLowered, IsLesserValue, grains_by, leaf_sum, sum_in};
 
@@ -21,6 +23,7 @@ use crate::fault::BoundFault;
 use crate::setting::Setting;
 use crate::work::least;
 use leaf_arcs::{Decision, Leaf, PricedSet, Task};
+use row_charges::{PricedRow, RowTable};
 use solomon_reader::Instance;
 use std::alloc::Global;
 
@@ -58,17 +61,35 @@ fn needs_of(sets: &[PricedSet<'_>]) -> u64
     grains
 }
 
-/// The sum of the prices, and of what all needed entries of sets are paid.
-fn leaf_sum(instance: &Instance, prices: &[i64], sets: &[PricedSet<'_>]) -> Difference
-    requires { ArePrices instance.now prices.now (sets_of sets.now) }
-    ensures value { sum_in result ≡ leaf_sum prices.now (sets_of sets.now) }
+/// What a charge by each row costs together.
+fn charges_of(rows: &[PricedRow]) -> u64
+    requires { row_price_sum (rows_of rows.now) ≤ MOST_PRICE }
+    ensures value { result ≡ row_price_sum (rows_of rows.now) }
+    ensures bound { result ≤ MOST_PRICE }
+{
+    let mut grains: u64 = 0;
+    for row in rows {
+        grains += row.price;
+    }
+    grains
+}
+
+/// The sum of the prices, and of what all needed entries of sets are paid, less a charge by each row.
+fn leaf_sum(
+    instance: &Instance,
+    prices: &[i64],
+    sets: &[PricedSet<'_>],
+    rows: &RowTable<'_>,
+) -> Difference
+    requires { ArePrices instance.now (leaf_of prices.now sets.now rows.now) }
+    ensures value { sum_in result ≡ leaf_sum (leaf_of prices.now sets.now rows.now) }
     ensures small { IsSmall result }
 {
     instance.law_of_limits();
     let sum = sum_of(prices);
     Difference {
         above: sum.above + needs_of(sets),
-        below: sum.below,
+        below: sum.below + charges_of(rows.rows.as_slice()),
     }
 }
 
@@ -173,31 +194,35 @@ pub(crate) struct Lesser {
     pub(crate) level: usize,
 }
 
-/// The lesser of a number of tenths and the value of the leaf with these decisions on its path, these prices
-/// and these sets. Where the value isn't less, it isn't found.
-pub(crate) fn lesser_value(
+/// The lesser of a number of tenths and the value of the leaf with these decisions on its path, these prices,
+/// these sets and these rows. Where the value isn't less, it isn't found.
+pub(crate) fn lesser_value<'i>(
     alloc: Global,
-    setting: &Setting<'_>,
+    setting: &Setting<'i>,
     path: &[Decision],
     prices: &[i64],
     sets: &[PricedSet<'_>],
+    rows: &RowTable<'i>,
     most: u32,
     level: usize,
 ) -> Result<Lesser, BoundFault>
-    requires { ArePrices (problem_in setting.now) prices.now (sets_of sets.now) }
+    requires same { rows.now.instance.now ≡ problem_in setting.now }
+    requires listed { rows.now.neighbours ≡ neighbours_in setting.now }
+    requires prices { ArePrices (problem_in setting.now) (leaf_of prices.now sets.now rows.now) }
     ensures { IfOk result (λ b. IsLesserValue
         (version_in setting.now) (problem_in setting.now)
         (region_of (customer_count (problem_in setting.now)) path.now)
-        (neighbours_in setting.now) prices.now (sets_of sets.now) most b.bound) }
+        (neighbours_in setting.now) (leaf_of prices.now sets.now rows.now) most b.bound) }
 {
     let network = &setting.network;
     network.neighbours.instance.law_of_limits();
-    let sum = leaf_sum(network.neighbours.instance, prices, sets);
+    let sum = leaf_sum(network.neighbours.instance, prices, sets, rows);
     let leaf = Leaf {
         network,
         path,
         prices,
         sets,
+        rows,
     };
     let mut task = Task::new(alloc, leaf)?;
     let known = dive(&task);

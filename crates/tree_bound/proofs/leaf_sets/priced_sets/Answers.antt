@@ -1,4 +1,5 @@
 use Rattle.std.proofs.Common.{refl, length, arith}
+use Rattle.certificate.specs.Tree.{set_price_of}
 use Rattle.tree_bound.proofs.Sets.{no_price, number_known, priced_more, priced_all}
 use Rattle.tree_bound.proofs.leaf_sets.priced_sets.Goals as goal
 
@@ -7,16 +8,16 @@ loop-price-init c = rw c.new-sets.ensures.items (record { are = refl })
 
 pub overflow_sub-listed : goal.overflow_sub-listed
 overflow_sub-listed c =
-    (number_known (length c.args.listed.now) 0 c.args.prices.now c.loop-price.price-index no_price c.loop-price-test.true c.requires.numbers.rising c.requires.numbers.known).0
+    (number_known set_price_of (length c.args.listed.now) 0 c.args.prices.now c.loop-price.price-index no_price c.loop-price-test.true c.requires.numbers.rising c.requires.numbers.known).0
 
 pub bounds-listed-price : goal.bounds-listed-price
 bounds-listed-price c =
-    let known = number_known (length c.args.listed.now) 0 c.args.prices.now c.loop-price.price-index no_price c.loop-price-test.true c.requires.numbers.rising c.requires.numbers.known in
+    let known = number_known set_price_of (length c.args.listed.now) 0 c.args.prices.now c.loop-price.price-index no_price c.loop-price-test.true c.requires.numbers.rising c.requires.numbers.known in
     omega (arith, known.0, known.1)
 
 pub loop-price-preserved : goal.loop-price-preserved
 loop-price-preserved c =
-    let known = number_known (length c.args.listed.now) 0 c.args.prices.now c.loop-price.price-index no_price c.loop-price-test.true c.requires.numbers.rising c.requires.numbers.known in
+    let known = number_known set_price_of (length c.args.listed.now) 0 c.args.prices.now c.loop-price.price-index no_price c.loop-price-test.true c.requires.numbers.rising c.requires.numbers.known in
     rw c.in_ok-push.ensures.items (priced_more c.args.listed.now c.args.prices.now c.loop-price.sets.items c.loop-price.price-index _ c.index-listed-price.result c.loop-price-test.true
     c.loop-price.invariant (omega (arith, known.0, known.1)) c.index-listed-price.is (rw c.as_slice.ensures.value refl))
 

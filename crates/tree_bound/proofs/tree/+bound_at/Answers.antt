@@ -4,20 +4,20 @@ use Rattle.certificate.specs.declared.tree.CertTree.{CertTree}
 use Rattle.leaf_arcs.specs.declared.decision.Decision.{Decision}
 use Rattle.certificate.specs.Grown.{tree_of}
 use Rattle.tree_bound.proofs.Bounding.{restored, leaf_at, leaf_bound_at, used_at, unused_at, split_at}
-use Rattle.tree_bound.specs.Nodes.{prices_of}
+use Rattle.certificate.specs.Tree.{leaf_prices_of}
 use Rattle.tree_bound.specs.Settings.{neighbours_in, problem_in, version_in}
 use Rattle.tree_bound.proofs.tree.+bound_at.Goals as goal
 
 pub bound_at_leaf-requires : goal.bound_at_leaf-requires
 bound_at_leaf-requires t c = record {
   shaped = leaf_at (version_in c.args.setting.now) (problem_in c.args.setting.now) (neighbours_in c.args.setting.now) c.args.path.now.items
-      (prices_of c.in-Leaf.prices.now c.in-Leaf.set_prices.now) (rw c.in-Leaf.is at c.requires.shaped);
+      (leaf_prices_of c.in-Leaf.prices.now c.in-Leaf.set_prices.now c.in-Leaf.row_prices.now) (rw c.in-Leaf.is at c.requires.shaped);
 }
 
 pub returns-in_ok-found-in-Leaf-clause-bound : goal.returns-in_ok-found-in-Leaf-clause-bound
 returns-in_ok-found-in-Leaf-clause-bound t c = rw c.in-Leaf.is
     (leaf_bound_at (version_in c.args.setting.now) (problem_in c.args.setting.now) (neighbours_in c.args.setting.now) c.args.path.now.items
-    (prices_of c.in-Leaf.prices.now c.in-Leaf.set_prices.now) c.args.most c.in_ok-found-in-Leaf.found.bound (omega (arith, c.requires.most, c.args.setting.now.most_is))
+    (leaf_prices_of c.in-Leaf.prices.now c.in-Leaf.set_prices.now c.in-Leaf.row_prices.now) c.args.most c.in_ok-found-in-Leaf.found.bound (omega (arith, c.requires.most, c.args.setting.now.most_is))
     (rw c.as_slice.ensures.value at c.in_ok-found-in-Leaf.ensures))
 
 pub bound_at-requires : goal.bound_at-requires

@@ -1,0 +1,26 @@
+use Rattle.std.proofs.Common.{refl, length, arith}
+use Rattle.certificate.specs.Tree.{row_price_of}
+use Rattle.tree_bound.proofs.Sets.{number_known}
+use Rattle.tree_bound.proofs.Rows.{no_price, charging_more, charging_all}
+use Rattle.tree_bound.proofs.leaf_rows.priced_rows.Goals as goal
+
+pub loop-price-init : goal.loop-price-init
+loop-price-init c = rw c.new-rows.ensures.items (record { are = refl })
+
+pub overflow_sub-listed : goal.overflow_sub-listed
+overflow_sub-listed c =
+    (number_known row_price_of (length c.args.listed.now) 0 c.args.prices.now c.loop-price.price-index no_price c.loop-price-test.true c.requires.numbers.rising c.requires.numbers.known).0
+
+pub bounds-listed-price : goal.bounds-listed-price
+bounds-listed-price c =
+    let known = number_known row_price_of (length c.args.listed.now) 0 c.args.prices.now c.loop-price.price-index no_price c.loop-price-test.true c.requires.numbers.rising c.requires.numbers.known in
+    omega (arith, known.0, known.1)
+
+pub loop-price-preserved : goal.loop-price-preserved
+loop-price-preserved c =
+    let known = number_known row_price_of (length c.args.listed.now) 0 c.args.prices.now c.loop-price.price-index no_price c.loop-price-test.true c.requires.numbers.rising c.requires.numbers.known in
+    rw c.in_ok-push.ensures.items (charging_more c.args.listed.now c.args.prices.now c.loop-price.rows.items c.loop-price.price-index _ c.index-listed-price.result c.loop-price-test.true
+    c.loop-price.invariant (omega (arith, known.0, known.1)) c.index-listed-price.is (rw c.as_slice.ensures.value refl))
+
+pub returns : goal.returns
+returns c = charging_all c.args.listed.now c.args.prices.now c.loop-price.rows.items c.loop-price.price-index c.loop-price-test.false c.loop-price.invariant
