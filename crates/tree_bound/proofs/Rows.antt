@@ -15,6 +15,9 @@ use Rattle.row_charges.specs.Rows.{row_of as priced_of, rows_of}
 abbrev pub no_row : PricedRow
 no_row = record { first = 0; second = 0; third = 0; price = 0 }
 
+abbrev pub no_listed : SubsetRow
+no_listed = record { first = 0; second = 0; third = 0 }
+
 abbrev pub no_price : RowPrice
 no_price = record { row = 0; price = 0 }
 
@@ -39,12 +42,12 @@ module _ (listed : List SubsetRow) (prices : List RowPrice) where
   pub record Charging (rows : List PricedRow) (i : ℕ) : Type 0 where
     pub are : rows_of rows ++ all_of (drop i prices) ≡ all_of prices
 
-  pub charging_more : (rows : List PricedRow) (i : ℕ) (s : PricedRow) (x : SubsetRow) → i < length prices → Charging rows i → (get_or prices i no_price).row - 1 < length listed
-      → x ≡ get_or listed ((get_or prices i no_price).row - 1) x → priced_of s ≡ record { row = row_of x; price = (get_or prices i no_price).price }
+  pub charging_more : (rows : List PricedRow) (i : ℕ) (s : PricedRow) → i < length prices → Charging rows i → (get_or prices i no_price).row - 1 < length listed
+      → priced_of s ≡ record { row = row_of (get_or listed ((get_or prices i no_price).row - 1) no_listed); price = (get_or prices i no_price).price }
       → Charging (rows ++ (s ∷ [])) (i + 1)
-  charging_more rows i s x within h known is same =
-      let found : get_or (map row_of listed) ((get_or prices i no_price).row - 1) (record { first = 0; second = 0; third = 0 }) ≡ row_of x =
-      get_or-map row_of listed ((get_or prices i no_price).row - 1) x (record { first = 0; second = 0; third = 0 }) known ∙ ap row_of (sym is) in
+  charging_more rows i s within h known same =
+      let found : get_or (map row_of listed) ((get_or prices i no_price).row - 1) (record { first = 0; second = 0; third = 0 }) ≡ row_of (get_or listed ((get_or prices i no_price).row - 1) no_listed) =
+      get_or-map row_of listed ((get_or prices i no_price).row - 1) no_listed (record { first = 0; second = 0; third = 0 }) known in
       let here : all_of (drop i prices) ≡ priced_of s ∷ all_of (drop (i + 1) prices) = at_drop_more all_of prices i no_price within ∙ rw (found, same) refl in
       record { are = rw (map-append priced_of rows (s ∷ [])) (append_assoc (rows_of rows) (priced_of s ∷ []) (all_of (drop (i + 1) prices)) ∙ (ap (λ xs. rows_of rows ++ xs) (sym here) ∙ h.are)) }
 

@@ -19,8 +19,8 @@ bounds-listed-price c =
 pub loop-price-preserved : goal.loop-price-preserved
 loop-price-preserved c =
     let known = number_known row_price_of (length c.args.listed.now) 0 c.args.prices.now c.loop-price.price-index no_price c.loop-price-test.true c.requires.numbers.rising c.requires.numbers.known in
-    rw c.in_ok-push.ensures.items (charging_more c.args.listed.now c.args.prices.now c.loop-price.rows.items c.loop-price.price-index _ c.index-listed-price.result c.loop-price-test.true
-    c.loop-price.invariant (omega (arith, known.0, known.1)) c.index-listed-price.is (rw c.as_slice.ensures.value refl))
+    rw c.in_ok-push.ensures.items (charging_more c.args.listed.now c.args.prices.now c.loop-price.rows.items c.loop-price.price-index _ c.loop-price-test.true c.loop-price.invariant
+    (omega (arith, known.0, known.1)) refl)
 
 pub returns : goal.returns
 returns c = charging_all c.args.listed.now c.args.prices.now c.loop-price.rows.items c.loop-price.price-index c.loop-price-test.false c.loop-price.invariant
