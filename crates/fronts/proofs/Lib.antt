@@ -3,3 +3,4 @@ pub mod Narrowing
 pub mod Listed
 pub mod Recalling
 pub mod Stepping
+pub mod Charging

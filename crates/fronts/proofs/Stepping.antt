@@ -1,6 +1,6 @@
 -- The steps from a row, in the order of when it has to be left for them, and those of them that a region allows, with their reduced costs.
 use Rattle.std.proofs.Common.{◌≡◌, refl, ℕ, suc, ◌+◌, ◌*◌, ◌-◌, ◌<◌, ◌≤◌, cond, List, [], ◌∷◌, ◌++◌, length, arith, sym, inl, inr, ◌⊎◌, ◌↔◌, length-append, get_or}
-use Rattle.std.specs.Prelude.{◌==◌, ℤ, pos, negsuc, ◌+ℤ◌, ◌-ℤ◌, nat_abs, IsTrue, Vec}
+use Rattle.std.specs.Prelude.{◌==◌, ℤ, pos, negsuc, ◌+ℤ◌, ◌-ℤ◌, ◌≤ℤ◌, nat_abs, IsTrue, Vec}
 use Rattle.std.specs.List.{All, AllByRecursion}
 use Rattle.std.specs.List.Sorted.{IsPermutation, IsNonDecreasingBy}
 use Rattle.std.proofs.lemmas.List.Elements.{All-push, All-weaker}
@@ -17,14 +17,16 @@ use Rattle.solomon_reader.specs.Distance.{distance}
 use Rattle.solomon_reader.specs.Problem.{Problem, IsCustomer, due}
 use Rattle.solomon_reader.specs.Region.{Region}
 use Rattle.solomon_reader.specs.Relaxed.{price_of}
-use Rattle.solomon_reader.specs.SetPrices.{by_sets, paid_over, price_sum}
+use Rattle.solomon_reader.specs.SetPrices.{PricedSet, by_sets, paid_over, price_sum}
+use Rattle.solomon_reader.specs.SubsetRows.{PricedRow, row_price_sum}
 use Rattle.solomon_reader.specs.EntryPrices.{ArePaid}
 use Rattle.solomon_reader.specs.EntryLaws.{paid_low, price_within}
 use Rattle.priced_sets.specs.Sets.{sets_of, IsWithin}
+use Rattle.row_charges.specs.Rows.{rows_of}
 use Rattle.solomon_reader.specs.States.{Pricing, State, CanStep, IsPriced}
 use Rattle.fronts.specs.declared.step.Step.{Step}
 use Rattle.fronts.specs.declared.payment.Payment.{Payment}
-use Rattle.fronts.specs.Fronts.{IsTask, IsPaid}
+use Rattle.fronts.specs.Fronts.{IsTask, IsPaid, IsWithinAll}
 use Rattle.fronts.specs.Payments.{paid_by, pricing_for}
 use Rattle.fronts.specs.Steps.{blank, step_at, steps_to, IsReachable, IsFreeStep, AreStepsFrom, IsAmong, IsStepFrom, IsOpenList}
 use Rattle.fronts.specs.Tables.{Rows}
@@ -79,9 +81,28 @@ pub paid_is : (x : Payment) (v n j : ℕ) (entries : List ℕ) → ArePaid (sets
 unfolding by_sets
 paid_is x v n j entries paid within = rw (paid.each j within) refl
 
+-- a price that is in its range together with sets and rows is so together with sets alone
+pub within_sets : (sets : List PricedSet) (rows : List PricedRow) (prices : List ℤ) → AllByRecursion (IsWithinAll sets rows) prices → AllByRecursion (IsWithin sets) prices
+within_sets sets rows [] within = tt
+within_sets sets rows (z ∷ prices) within = (omega (arith, within.0), within_sets sets rows prices within.1)
+
+-- a price with what is paid and charged beside it
+in_room : (z : ℤ) (paid sum rows : ℕ) → (sum + rows) + nat_abs z ≤ MOST_PRICE → pos rows ≤ℤ ((z +ℤ pos paid) +ℤ pos MOST_PRICE)
+in_room (pos n) paid sum rows within = omega (arith, ints, within)
+in_room (negsuc n) paid sum rows within = omega (arith, ints, within)
+
+-- with what rows may charge it is small, too
+pub paid_room : (x : Payment) (i j : ℕ) → AllByRecursion (IsWithinAll (sets_of x.sets.now) (rows_of x.rows.now)) x.prices.now → 1 ≤ j → j ≤ length x.prices.now
+    → pos (row_price_sum (rows_of x.rows.now)) ≤ℤ (paid_by x i j +ℤ pos MOST_PRICE)
+unfolding by_sets
+paid_room x i j priced some within =
+    in_room (price_of x.prices.now j) (paid_over (sets_of x.sets.now) (i, j)) (price_sum (sets_of x.sets.now)) (row_price_sum (rows_of x.rows.now))
+    (price_within (price_sum (sets_of x.sets.now) + row_price_sum (rows_of x.rows.now)) MOST_PRICE x.prices.now (j - 1) (omega (arith, some, within)) priced)
+
 pub paid_of : (p : Problem) (g : Region) (k : ℕ) (x : Payment) → IsTask p g x → IsPaid (pricing_for p g k x)
 paid_of p g k x task = record {
-  priced = λ i j c. paid_small x i j task.within c.0 (omega (arith, task.count, c.1));
+  priced = λ i j c. paid_small x i j (within_sets (sets_of x.sets.now) (rows_of x.rows.now) x.prices.now task.within) c.0 (omega (arith, task.count, c.1));
+  charged = λ i j c. paid_room x i j task.within c.0 (omega (arith, task.count, c.1));
   carried = task.carried;
 }
 

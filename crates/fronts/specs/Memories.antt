@@ -1,5 +1,5 @@
 -- Neighbour lists, and what a visit leaves of a memory.
-use Rattle.std.specs.Prelude.{◌≡◌, ℕ, ◌<◌, List, length, slice_index_or, Vec, Option, MatchOption, ◌≤◌, IsTrue}
+use Rattle.std.specs.Prelude.{◌≡◌, ℕ, ◌<◌, Bool, List, length, slice_index_or, Vec, Option, MatchOption, ◌≤◌, IsTrue}
 use Rattle.std.specs.declared.alloc.Global.{Global}
 use Rattle.solomon_reader.specs.Problem.{Problem}
 use Rattle.solomon_reader.specs.Relaxed.{rank}
@@ -31,6 +31,6 @@ IsWholeList p k v list = IsNeighbourList p k v (length p.rows) list
 abbrev pub Keeps : Problem → ℕ → ℕ → ℕ → ℕ → ℕ → Type 0
 Keeps p k v memory j after = (u : ℕ) → recalls p k j after u ≡ remember (near p k) (recalls p k v memory) j u
 
--- the state of a front with this memory, which is read by the neighbour list of its last stop
-abbrev pub state_with : Pricing → Front → ℕ → State
-state_with q f memory = state_of f (recalls q.problem q.neighbours f.last memory)
+-- the state of a front with this memory, which is read by the neighbour list of its last stop, and with these bits of rows
+abbrev pub state_with : Pricing → Front → ℕ → (ℕ → Bool) → State
+state_with q f memory bits = state_of f (recalls q.problem q.neighbours f.last memory) bits
