@@ -1,6 +1,6 @@
 -- Which states carry what may come after others.
 use Rattle.std.proofs.Common.{◌≡◌, refl, ℕ, ◌+◌, ◌≤◌, true, List, [], ◌∷◌, arith}
-use Rattle.std.specs.Prelude.{◌≤ℤ◌}
+use Rattle.std.specs.Prelude.{pos, ◌+ℤ◌, ◌≤ℤ◌}
 use Rattle.std.proofs.lemmas.Int.{ints}
 use Rattle.std.proofs.lemmas.List.Sums.{sum_by-cons}
 use Rattle.solomon_reader.specs.Problem.{demand}
@@ -18,21 +18,21 @@ pub remembers_last : (q : Pricing) (l : Label) → has_bit l.memory.bits 0 ≡ t
 remembers_last q l h = rw (place_first q.problem l.front.last q.neighbours) h
 
 module _ (q : Pricing) where
-  pub carries_good : (a b : State) → IsAsGood a b → Carries q a b
+  pub carries_good : (a b : State) → IsAsGood q.rows a b → Carries q a b
   carries_good a b good = record { on = λ s h. (completes_too q s a b good h, value_no_greater q s a b good) }
 
   pub carries_itself : (a : State) → Carries q a a
-  carries_itself a = carries_good a a (good_itself a)
+  carries_itself a = carries_good a a (good_itself q.rows a)
 
   pub carries_same : (a b : State) → IsSameState a b → Carries q a b
-  carries_same a b same = carries_good a b (good_same a b same)
+  carries_same a b same = carries_good a b (good_same q.rows a b same)
 
   pub carries_through : (a b c : State) → Carries q a b → Carries q b c → Carries q a c
   carries_through a b c h e = record { on = λ s completes. (let second = e.on s completes in let first = h.on s second.0 in (first.0, omega (arith, ints, first.1, second.1))) }
 
   -- the same with another load
   abbrev loaded : State → ℕ → State
-  loaded b n = record { last = b.last; time = b.time; load = n; cost = b.cost; memory = b.memory }
+  loaded b n = record { last = b.last; time = b.time; load = n; cost = b.cost; memory = b.memory; bits = b.bits }
 
   completes_loaded : (s : List ℕ) (b : State) (n : ℕ) → n + load_of q.problem s ≤ q.problem.capacity → Completes q b s → Completes q (loaded b n) s
   completes_loaded [] b n fits h = record { allowed = h.allowed; closing = h.closing }
@@ -46,14 +46,14 @@ module _ (q : Pricing) where
   value_loaded (j ∷ s) b n = value_loaded s (step q b j) (n + demand q.problem j)
 
   -- a may be heavier than b, where none of what may come after b breaks its load
-  pub carries_light : (a b : State) → IsNoWorse a b → ((s : List ℕ) → Completes q b s → a.load + load_of q.problem s ≤ q.problem.capacity) → Carries q a b
+  pub carries_light : (a b : State) → IsNoWorse q.rows a b → ((s : List ℕ) → Completes q b s → a.load + load_of q.problem s ≤ q.problem.capacity) → Carries q a b
   carries_light a b ahead fits = record { on = on }
     where
-      good : IsAsGood a (loaded b a.load)
+      good : IsAsGood q.rows a (loaded b a.load)
       good = record { last = ahead.last; time = ahead.time; load = omega arith; cost = ahead.cost; memory = ahead.memory }
 
       on : (s : List ℕ) → Completes q b s → Completes q a s × (value_with q a s ≤ℤ value_with q b s)
       on s h = (completes_too q s a (loaded b a.load) good (completes_loaded s b a.load (fits s h) h), omega (arith, ints, value_no_greater q s a (loaded b a.load) good, value_loaded s b a.load))
 
-  pub carries_no_worse : (a b : State) → IsNoWorse a b → a.load ≤ b.load → Carries q a b
+  pub carries_no_worse : (a b : State) → IsNoWorse q.rows a b → a.load ≤ b.load → Carries q a b
   carries_no_worse a b ahead load = carries_good a b (record { last = ahead.last; time = ahead.time; load = load; cost = ahead.cost; memory = ahead.memory })

@@ -11,7 +11,9 @@ use Rattle.solomon_reader.specs.Plan.{load_of}
 use Rattle.solomon_reader.specs.Remembering.{near, remember}
 use Rattle.solomon_reader.specs.Memories.{has_bit, place_of, recalls}
 use Rattle.solomon_reader.specs.States.{Pricing, State, step, arc_value, CanStep, Completes, value_with}
+use Rattle.solomon_reader.specs.RowLaws.{debt_step}
 use Rattle.solomon_reader.proofs.Places.{place_first, near_at, not_near}
+use Rattle.row_charges.specs.Bits.{bit_of}
 use Rattle.fronts.specs.Memories.{Keeps}
 use Rattle.fronts.specs.declared.memory.Memory.{Memory}
 use Rattle.labels.specs.declared.label.Label.{Label}
@@ -62,11 +64,17 @@ module _ (q : Pricing) (few : q.neighbours < 16) (xs : List Label) (l : Label) (
     far : distance q.problem e.front.last j ≡ distance q.problem l.front.last j
     far = ap (λ (i : ℕ). distance q.problem i j) sparing.ahead.last
 
-    ahead : IsNoWorse (step q (state_at q e) j) (step q (state_at q l) j)
+    ahead : IsNoWorse q.rows (step q (state_at q e) j) (step q (state_at q l) j)
     ahead = record {
       last = refl;
       time = omega (arith, sparing.ahead.time, far);
-      cost = omega (arith, ints, sparing.ahead.cost, ap (λ (i : ℕ). arc_value q.problem q.paid i j) sparing.ahead.last);
+      cost = omega (
+        arith,
+        ints,
+        sparing.ahead.cost,
+        ap (λ (i : ℕ). arc_value q.problem q.paid i j) sparing.ahead.last,
+        debt_step q.problem q.neighbours q.rows (bit_of e.bits) (bit_of l.bits) j,
+      );
       memory = λ u h. elim (or_cases _ _ h) [
         | inl same ↦ or_left _ _ same
         | inr both ↦ (let parts = and_parts _ _ both in or_right (eqb u j) _ (and_from _ _ (kept_too u parts.1 parts.0) parts.1))
@@ -99,7 +107,7 @@ sparing_later q xs ys l m grown h =
       index = h.index;
       within = omega (arith, h.within, grown.longer);
       extended = later.extended ∙ h.extended;
-      ahead = record { last = rw later.same.front h.ahead.last; time = rw later.same.front h.ahead.time; cost = rw later.same.front h.ahead.cost };
+      ahead = record { last = rw later.same.front h.ahead.last; time = rw later.same.front h.ahead.time; cost = rw (later.same.front, later.same.bits) h.ahead.cost };
       room = λ s completes. rw later.same.front (h.room s completes);
       remembers = later.same.memory ∙ h.remembers;
     }

@@ -4,20 +4,21 @@ use Rattle.solomon_reader.specs.Problem.{Problem}
 use Rattle.solomon_reader.specs.States.{Pricing, State, start, step, CanStep, CanEnd, IsSameState, Reaches, IsAtMost}
 use Rattle.labels.specs.declared.best.Best.{Best}
 use Rattle.labels.specs.declared.label.Label.{Label}
+use Rattle.row_charges.specs.Bits.{bit_of}
 use Rattle.solomon_reader.specs.Covering.{IsDear}
 use Rattle.labels.specs.Cover.{CoversAll, CoversFewer, Carries, CarriesBy}
 use Rattle.fronts.specs.Fronts.{end_cost, IsBounded}
 use Rattle.fronts.specs.Memories.{state_with}
 
 abbrev pub blank : Label
-blank = record { front = record { last = 0; time = 0; load = 0; cost = pos 0 }; memory = record { bits = 0 }; parent = 0; stops = 0; active = false; extended = false }
+blank = record { front = record { last = 0; time = 0; load = 0; cost = pos 0 }; memory = record { bits = 0 }; bits = record { low = 0; high = 0 }; parent = 0; stops = 0; active = false; extended = false }
 
 abbrev pub label_in : List Label → ℕ → Label
 label_in xs m = slice_index_or xs m blank
 
 -- the memory is read by the neighbour list of the last stop
 abbrev pub state_at : Pricing → Label → State
-state_at q l = state_with q l.front l.memory.bits
+state_at q l = state_with q l.front l.memory.bits (bit_of l.bits)
 
 -- the last n stops up to a label, by its parents
 abbrev pub trace : List Label → ℕ → Label → List ℕ
@@ -86,6 +87,7 @@ IsAdded q xs ys x = ((ys ≡ xs) × IsDominated q xs (state_at q x)) ⊎ ((zs : 
 pub record IsSameStop (a b : Label) : Type 0 where
   pub front : b.front ≡ a.front
   pub memory : b.memory ≡ a.memory
+  pub bits : b.bits ≡ a.bits
   pub parent : b.parent ≡ a.parent
   pub stops : b.stops ≡ a.stops
 

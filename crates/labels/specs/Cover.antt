@@ -1,18 +1,19 @@
 -- What active labels stand for, and which states may be left out.
-use Rattle.std.specs.Prelude.{◌≡◌, ℕ, ◌≤◌, IsTrue, List, ◌∷◌, ℤ, ◌≤ℤ◌, Option}
+use Rattle.std.specs.Prelude.{◌≡◌, ℕ, ◌≤◌, IsTrue, List, ◌∷◌, ℤ, pos, ◌+ℤ◌, ◌≤ℤ◌, Option}
 use Rattle.solomon_reader.specs.States.{Pricing, State, step, CanStep, Completes, value_with}
 use Rattle.solomon_reader.specs.Covering.{CoversAfter, IsDear}
+use Rattle.solomon_reader.specs.SubsetRows.{PricedRow, debt}
 use Rattle.fronts.specs.declared.front.Front.{Front}
 
 -- all that may come after an active state is covered
 abbrev pub CoversAll : Pricing → Option ℤ → (State → Type 0) → (State → Type 0) → Type 0
 CoversAll q b Pending Active = (a : State) → Active a → CoversAfter q b Pending a 1
 
--- a is no worse than b, but maybe heavier
-pub record IsNoWorse (a b : State) : Type 0 where
+-- a is no worse than b, but maybe heavier: it is cheaper by the prices of the rows that may charge it alone
+pub record IsNoWorse (rows : List PricedRow) (a b : State) : Type 0 where
   pub last : a.last ≡ b.last
   pub time : a.time ≤ b.time
-  pub cost : a.cost ≤ℤ b.cost
+  pub cost : (a.cost +ℤ pos (debt rows a.bits b.bits)) ≤ℤ b.cost
   pub memory : (u : ℕ) → IsTrue (a.memory u) → IsTrue (b.memory u)
 
 -- all that may come after b may come after a, at no greater cost

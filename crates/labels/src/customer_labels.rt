@@ -9,7 +9,7 @@ ghost use Rattle.labels.specs.Domination.{IsDominatedIn, IsPrunedIn};
 use crate::label::Label;
 use crate::sparing::{keep, memory_of};
 use completions::Completions;
-use fronts::Memory;
+use fronts::{Memory, Task};
 use std::alloc::{AllocError, Global};
 
 /// This many labels of a group, which stand side by side, are one unit of work.
@@ -42,8 +42,8 @@ impl Entry {
         }
     }
 
-    /// Whether it may dominate another one that remembers no less. All three are compared without a
-    /// branch: mostly one of them fails, and which one cannot be foreseen.
+    /// Whether it may dominate another one that remembers no less, what rows charge left aside. All three are
+    /// compared without a branch: mostly one of them fails, and which one cannot be foreseen.
     fn may_dominate(&self, other: &Entry) -> bool {
         (self.time <= other.time) & (self.cost <= other.cost) & (self.load <= other.most)
     }
@@ -99,7 +99,13 @@ impl MemoryGroup {
 
     /// The index of a label that dominates a newer one, as far as the group tells, and how many of its labels
     /// were looked at.
-    fn find_dominating(&self, newer: &Entry) -> (Option<usize>, usize) {
+    fn find_dominating(
+        &self,
+        task: &Task<'_>,
+        labels: &[Label],
+        label: &Label,
+        newer: &Entry,
+    ) -> (Option<usize>, usize) {
         if !self.may_dominate(newer) {
             return (None, 0);
         }
@@ -107,7 +113,7 @@ impl MemoryGroup {
             if entry.time > newer.time {
                 return (None, place);
             }
-            if entry.may_dominate(newer) {
+            if entry.may_dominate(newer) && is_as_cheap(task, labels, entry.index, label) {
                 return (Some(entry.index), place);
             }
         }
@@ -116,13 +122,23 @@ impl MemoryGroup {
 
     /// The index of a label whose steps were taken and that is no later, dearer or heavier than another one has to
     /// be.
-    fn find_extended(&self, labels: &[Label], other: &Entry) -> Option<usize> {
+    fn find_extended(
+        &self,
+        task: &Task<'_>,
+        labels: &[Label],
+        label: &Label,
+        other: &Entry,
+    ) -> Option<usize> {
         for entry in &self.entries {
             if entry.time > other.time {
                 return None;
             }
-            if entry.may_dominate(other) && is_extended(labels, entry.index) {
-                return Some(entry.index);
+            let index = entry.index;
+            if entry.may_dominate(other)
+                && is_extended(labels, index)
+                && is_as_cheap(task, labels, index, label)
+            {
+                return Some(index);
             }
         }
         None
@@ -154,7 +170,9 @@ impl MemoryGroup {
         if !later.iter().any(|entry| newer.may_dominate(entry)) {
             return 0;
         }
-        drop_each(completions, labels, later, label, newer);
+        if drop_each(completions, labels, later, label, newer) == 0 {
+            return 0;
+        }
         let before = self.entries.len();
         self.entries.retain(|entry| is_active(labels, entry.index));
         before - self.entries.len()
@@ -194,43 +212,54 @@ fn is_extended(labels: &[Label], index: usize) -> bool {
     index < labels.len() && labels[index].extended
 }
 
+/// Whether the label at an index is no dearer than another one, whatever rows charge it alone.
+fn is_as_cheap(task: &Task<'_>, labels: &[Label], index: usize, label: &Label) -> bool {
+    !task.has_rows() || index < labels.len() && labels[index].is_as_cheap(task, label)
+}
+
 /// Whether the label at an index is active.
 fn is_active(labels: &[Label], index: usize) -> bool {
     index < labels.len() && labels[index].active
 }
 
-/// Drops the label of an entry, if a newer one dominates it.
+/// Drops the label of an entry, if a newer one dominates it, and says whether it does.
 fn drop_if_dominated(
     completions: &Completions<'_, '_>,
     labels: &mut [Label],
     entry: &Entry,
     label: &Label,
     newer: &Entry,
-)
+) -> bool
     ensures { IsPrunedIn completions.now labels.old labels.new label.now }
 {
     let index = entry.index;
     if !newer.may_dominate(entry) || index >= labels.len() {
-        return;
+        return false;
     }
-    if label.dominates(completions, &labels[index]) {
-        labels[index].active = false;
+    if !label.dominates(completions, &labels[index]) {
+        return false;
     }
+    labels[index].active = false;
+    true
 }
 
-/// Drops those labels of some entries that a newer one dominates.
+/// Drops those labels of some entries that a newer one dominates, and says how many.
 fn drop_each(
     completions: &Completions<'_, '_>,
     labels: &mut [Label],
     entries: &[Entry],
     label: &Label,
     newer: &Entry,
-)
+) -> usize
     ensures { IsPrunedIn completions.now labels.old labels.new label.now }
 {
+    let mut dropped: usize = 0;
     for entry in entries {
-        drop_if_dominated(completions, labels, entry, label, newer);
+        if drop_if_dominated(completions, labels, entry, label, newer) {
+            dropped = dropped.saturating_add(1);
+        }
     }
+    dropped
 }
 
 /// The labels of one customer: first those with the memory by which one dominated another last.
@@ -280,7 +309,8 @@ impl CustomerLabels {
         ensures { IsTrue result → IsDominatedIn completions.now labels.now label.now }
     {
         for place in 0..self.groups.len() {
-            let (found, labels_met) = self.groups[place].find_dominating(newer);
+            let group = &self.groups[place];
+            let (found, labels_met) = group.find_dominating(completions.task, labels, label, newer);
             let work = 1 + labels_met as u64 / LABELS_OF_UNIT;
             self.work = self.work.saturating_add(work);
             if let Some(index) = found
@@ -311,7 +341,7 @@ impl CustomerLabels {
             if !group.may_spare(&entry, memories.as_slice()) {
                 continue;
             }
-            if let Some(index) = group.find_extended(labels, &entry)
+            if let Some(index) = group.find_extended(completions.task, labels, label, &entry)
                 && let Some(memory) = memory_of(completions, labels, label, most, index)
             {
                 keep(completions, labels, &mut memories, label, memory)?;

@@ -2,15 +2,16 @@
 
 ghost use Rattle.std.specs.Prelude.{◌≡◌, ◌+◌, ◌≤◌, ◌↔◌, IsTrue};
 ghost use Rattle.solomon_reader.specs.States.{CanStep};
-ghost use Rattle.fronts.specs.Fronts.{IsAfter, IsBounded};
-ghost use Rattle.fronts.specs.Payments.{paid_by};
+ghost use Rattle.row_charges.specs.Bits.{bit_of};
+ghost use Rattle.fronts.specs.Fronts.{IsChargedAfter, IsBounded};
 ghost use Rattle.fronts.specs.Tasks.{pricing_of};
 ghost use Rattle.labels.specs.Arena.{state_at, IsExtension};
 ghost use Rattle.labels.specs.Cover.{IsNoWorse, Carries};
-ghost use Rattle.labels.specs.Sparing.{IsAsEarlyAndCheap, HasRoomIn};
+ghost use Rattle.labels.specs.Sparing.{IsAsEarlyAndCheap, IsCheapFor, HasRoomIn};
 
 use completions::Completions;
 use fronts::{Front, Memory, Task};
+use row_charges::RowBits;
 
 /// The first stops of a relaxed route. It stands in a list that only grows.
 #[derive(Clone, Copy)]
@@ -19,6 +20,8 @@ pub struct Label {
     pub front: Front,
     /// The customers that it may not visit next.
     pub memory: Memory,
+    /// The bits of the rows that have a price.
+    pub bits: RowBits,
     /// The index of the label before the last stop.
     pub parent: usize,
     /// The number of stops.
@@ -42,7 +45,7 @@ impl Label {
         requires bounded { IsBounded task.now.instance.now self.now.front }
         requires light { self.now.stops ≤ self.now.front.load }
         requires can { CanStep (pricing_of task.now) (state_at (pricing_of task.now) self.now) j }
-        requires after { IsAfter task.now.instance.now (paid_by task.now.payment) self.now.front j front }
+        requires after { IsChargedAfter (pricing_of task.now) self.now.front (bit_of self.now.bits) j front }
         requires after_bounded { IsBounded task.now.instance.now front }
         requires carried { self.now.front.load + 1 ≤ front.load }
         ensures { IsExtension (pricing_of task.now) self.now index j result }
@@ -50,6 +53,7 @@ impl Label {
         Label {
             front,
             memory: task.remember(self.front.last, self.memory, j),
+            bits: task.bits_after(self.bits, j),
             parent: index,
             stops: self.stops + 1,
             active: true,
@@ -60,18 +64,29 @@ impl Label {
     /// Whether this one is no worse than another, the loads left aside.
     fn is_no_worse(&self, task: &Task<'_>, other: &Label) -> bool
         ensures { let q = pricing_of task.now in
-            IsTrue result → IsNoWorse (state_at q self.now) (state_at q other.now) }
+            IsTrue result → IsNoWorse q.rows (state_at q self.now) (state_at q other.now) }
     {
-        self.is_as_early_and_cheap(other) && self.memory.is_subset(other.memory)
+        self.is_as_early_and_cheap(task, other) && self.memory.is_subset(other.memory)
     }
 
-    /// Whether this one stands where another does, and is no later and no dearer.
-    pub(crate) fn is_as_early_and_cheap(&self, other: &Label) -> bool
-        ensures { IsTrue result → IsAsEarlyAndCheap self.now other.now }
+    /// Whether this one is no dearer than another one, whatever rows charge this one alone.
+    pub(crate) fn is_as_cheap(&self, task: &Task<'_>, other: &Label) -> bool
+        ensures { IsTrue result → IsCheapFor (pricing_of task.now).rows self.now other.now }
+    {
+        if self.front.cost > other.front.cost {
+            return false;
+        }
+        let debt = task.debt(self.bits, other.bits);
+        i128::from(self.front.cost) + i128::from(debt) <= i128::from(other.front.cost)
+    }
+
+    /// Whether this one stands where another does, and is no later and no dearer, whatever rows charge it alone.
+    pub(crate) fn is_as_early_and_cheap(&self, task: &Task<'_>, other: &Label) -> bool
+        ensures { IsTrue result → IsAsEarlyAndCheap (pricing_of task.now).rows self.now other.now }
     {
         self.front.last == other.front.last
             && self.front.time <= other.front.time
-            && self.front.cost <= other.front.cost
+            && self.is_as_cheap(task, other)
     }
 
     /// The greatest load with which another label that stands where this one does has room for all that this one

@@ -13,23 +13,24 @@ use std::alloc::AllocError;
 const MOST_MEMORIES: usize = 4;
 
 /// What the label at an index remembers, if its steps were taken, it is no later and no dearer than another one of
-/// its customer, and no heavier than a load with which there is room for all that the other one may still load.
-/// The bounds are named by the contract alone.
+/// its customer, whatever rows charge it alone, and no heavier than a load with which there is room for all that the
+/// other one may still load.
 pub(crate) fn memory_of(
-    _completions: &Completions<'_, '_>,
+    completions: &Completions<'_, '_>,
     labels: &[Label],
     label: &Label,
     most: u32,
     index: usize,
 ) -> Option<Memory>
-    requires { HasRoomIn _completions.now label.now most }
-    ensures { IfSome result (IsSparingIn _completions.now labels.now label.now) }
+    requires { HasRoomIn completions.now label.now most }
+    ensures { IfSome result (IsSparingIn completions.now labels.now label.now) }
 {
     if index >= labels.len() {
         return None;
     }
     let other = labels[index];
-    if !other.extended || !other.is_as_early_and_cheap(label) || other.front.load > most {
+    let task = completions.task;
+    if !other.extended || !other.is_as_early_and_cheap(task, label) || other.front.load > most {
         return None;
     }
     Some(other.memory)

@@ -9,6 +9,7 @@ returns c = record {
     load = c.requires.after.load;
     cost = c.requires.after.cost;
     memory = rw c.requires.after.last c.remember.ensures;
+    bits = c.bits_after.ensures;
   };
   bounded = c.requires.after_bounded;
   light = omega (arith, c.requires.light, c.requires.carried);
