@@ -20,6 +20,7 @@ fn a_short_step_leads_into_a_later_slot(rt: HostRuntime) -> Result<(), Fail> {
     let payment = Payment {
         prices: prices.as_slice(),
         sets: &[],
+        rows: &[],
     };
     let task = Task::new(alloc, &nearness, &region, payment)?;
     let completions = Completions::new(&task, 0)?;
