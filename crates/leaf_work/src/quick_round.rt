@@ -29,7 +29,7 @@ const LEAST_FALL: i64 = 1_000;
 /// The pricing that ends a round may take this many times the labels of another one.
 const LABELS_OF_ROUND: usize = 4;
 
-/// The routes that a quick search of this width finds, which leaves rows out, or of that which is the next one's.
+/// The routes that a quick search of this width finds, or of that which is the next one's; it leaves rows out.
 fn routes_at(
     state: &mut PricingState<'_>,
     priced: &PricingTask<'_>,
