@@ -1,6 +1,6 @@
 -- The text of a certificate is read as that certificate; so two certificates with one text are one.
-use Rattle.std.proofs.Common.{◌≡◌, refl, ℕ, zero, suc, List, [], ◌∷◌, ◌++◌, map, ap, sym, subst, ◌∙◌, append_assoc, ◌≢◌, ◌+◌, ◌-◌, ◌≤◌, ◌<◌, ◌^◌, Bool, true, false, length, Option, Some, None, Ok, arith, lit<, inl, inr}
-use Rattle.std.specs.Prelude.{codes, decimal, nat_le, ◌||◌, ◌==◌, ℤ, pos, negsuc, nat_abs}
+use Rattle.std.proofs.Common.{◌≡◌, refl, ℕ, zero, suc, List, [], ◌∷◌, ◌++◌, map, ap, sym, subst, ◌∙◌, append_assoc, ◌≢◌, ◌+◌, ◌-◌, ◌≤◌, ◌<◌, ◌^◌, Bool, true, false, length, Option, Some, None, Result, Ok, arith, lit<, inl, inr}
+use Rattle.std.specs.Prelude.{codes, decimal, nat_le, ◌&&◌, ◌||◌, ◌==◌, ℤ, pos, negsuc, nat_abs}
 use Rattle.std.specs.Fmt.{signed_decimal}
 use Rattle.std.specs.List.{flat_map, AllByRecursion, list_all}
 use Rattle.std.proofs.lemmas.List.{append-nil}
@@ -9,27 +9,34 @@ use Rattle.std.specs.Option.{option_map}
 use Rattle.std.proofs.lemmas.Bool.Decides.{nat_tests}
 use Rattle.tenths.specs.Text.{tenths_text, spaced}
 use Rattle.solomon_reader.specs.SetPrices.{ListedSet, SetPrice}
-use Rattle.solomon_reader.specs.Bound.{Tree, leaf, split, split_node, preorder, Version, version_1, version_2, with_sets, listed_sets, LeafPrices, of_customers, Node, leaf_node}
-use Rattle.solomon_reader.specs.CertificateText.{Certificate, certificate_text, Content, listed, version_text, leaf_count, IsPrice, IsListedSet, AreSetPrices, IsCertificate}
+use Rattle.solomon_reader.specs.SubsetRows.{SubsetRow}
+use Rattle.solomon_reader.specs.Bound.{Tree, leaf, split, split_node, preorder, Version, version_1, version_2, with_sets, with_rows, listed_sets, listed_rows, LeafPrices, of_customers, Node, leaf_node}
+use Rattle.solomon_reader.specs.CertificateText.{Certificate, certificate_text, Content, listed, version_text, leaf_count, IsPrice, IsListedSet, IsListedRow, AreInOrder, AreSetPrices, AreRowPrices, set_prices_sum, IsCertificate}
 use Rattle.tenths.specs.Parts.{parts}
 use Rattle.tenths.specs.Lines.{Left}
 use Rattle.tenths.specs.Numbers.{number_of, signed_of, capped, clamped}
 use Rattle.tenths.proofs.Cuts.{Lacks, AllLack, Lacks-append, Lacks-spaced, parts-spaced, parts-lines, same_word}
 use Rattle.tenths.proofs.Digits.{signed_again, clamped_same, number_again, both, tenths_again, tenths_lack, decimal_lacks}
-use Rattle.solomon_reader.specs.declared.limits.TheConstants.{MOST_NAME, MOST_CUSTOMERS, MOST_NEIGHBOURS, MOST_PRICE, MOST_LEAVES, MOST_DEPTH, MOST_SETS, MOST_NEED}
+use Rattle.solomon_reader.specs.declared.limits.TheConstants.{MOST_NAME, MOST_CUSTOMERS, MOST_NEIGHBOURS, MOST_PRICE, MOST_LEAVES, MOST_DEPTH, MOST_SETS, MOST_NEED, MOST_ROWS, MOST_ROW_PRICES}
 use Rattle.solomon_reader.specs.Layout.{IsName}
 use Rattle.solomon_reader.specs.Plan.{Arc}
 use Rattle.solomon_reader.specs.Region.{IsArc, Among, root_region}
 use Rattle.tenths.specs.Reading.{value_or}
 use Rattle.solomon_reader.specs.Words.{is_letter}
 use Rattle.tenths.proofs.Steps.{ok_is}
-use Rattle.certificate.specs.Text.{set_text, set_prices_text, node_texts, text_lines}
-use Rattle.certificate.specs.declared.fault.CertFault.TheVariants.{BadLine}
-use Rattle.certificate.specs.Reading.{next_at, small, members_at, signed_at, is_price, prices_at, set_count, is_some, pairs_at, set_prices_in, leaf_at, pair_at, is_arc, arc_eq, is_decided, arc_at, node_in, node_at, one_leaf, tree_at, fixed_at, second, field_at}
-use Rattle.certificate.specs.Reading.{is_name, name_at, within_from, within_at, bound_at, Head, sizes_at, version_in, version_at, title_at, head_at, set_in, sets_at, listed_at, nodes_at, reading}
+use Rattle.certificate.specs.Text.{set_text, row_text, placed_text, set_prices_text, row_prices_text, node_texts, text_lines}
+use Rattle.certificate.specs.declared.fault.CertFault.{CertFault}
+use Rattle.certificate.specs.declared.fault.CertFault.TheVariants.{BadLine, BadSet, TooManySets, BadRow, TooManyRows}
+use Rattle.certificate.specs.declared.version.PricedLines.{PricedLines}
+use Rattle.certificate.specs.declared.version.PricedLines.TheVariants.{Customers, Sets, Rows}
+use Rattle.certificate.specs.Reading.{Here, next_at, line_from, begins, small, members_at, signed_at, is_price, prices_at, priced_lines, set_count, row_count, are_listed, are_prices, pairs_at, placed_in, set_prices_at, row_prices_at, leaf_at, pair_at, is_arc, arc_eq, is_decided, arc_at, node_in, node_at, one_leaf, tree_at, fixed_at, second, field_at}
+use Rattle.certificate.specs.Reading.{is_name, name_at, within_from, within_at, bound_at, Head, sizes_at, version_in, version_at, title_at, head_at, items_at, set_in, is_listed_row, is_behind, row_in, sets_at, rows_at, sets_listed_at, rows_listed_at, listed_at, nodes_at, reading}
 use Rattle.certificate.specs.Laws.{TextsDiffer}
-use Rattle.certificate.proofs.SetTests.{le_again, customers_again, none_above, sum_within, set_prices_again, no_prices}
-use Rattle.certificate.proofs.Steps.{IsNodeOn, IsTreeOn, listed_of, decides_root, on_from_at, children_at, tree_at-leaf, tree_at-split, one_tree}
+use Rattle.certificate.specs.Shape.{are_row_prices}
+use Rattle.certificate.proofs.Items.{AllBehind}
+use Rattle.certificate.proofs.RowTests.{IsRowBehind, row_behind_again, behind_again}
+use Rattle.certificate.proofs.SetTests.{le_again, customers_again, set_prices_small, row_prices_small, tests_again, no_prices, no_row_prices}
+use Rattle.certificate.proofs.Steps.{IsNodeOn, IsTreeOn, decides_root, on_from_at, children_at, tree_at-leaf, tree_at-split, one_tree}
 use Rattle.certificate.proofs.Texts.{lines_of, text_is}
 
 -- ---- numbers
@@ -42,9 +49,9 @@ unfolding signed_at
 numbers_again k [] a = refl
 numbers_again k (z ∷ zs) a = rw (price_again k z a.0, numbers_again k zs a.1) refl
 
-pub are_prices : (zs : List ℤ) → AllByRecursion IsPrice zs → list_all is_price zs ≡ true
-are_prices [] a = refl
-are_prices (z ∷ zs) a = rw (test (nat_abs z) a.0, are_prices zs a.1) refl
+pub prices_in_range : (zs : List ℤ) → AllByRecursion IsPrice zs → list_all is_price zs ≡ true
+prices_in_range [] a = refl
+prices_in_range (z ∷ zs) a = rw (test (nat_abs z) a.0, prices_in_range zs a.1) refl
   where
     test : (m : ℕ) → m ≤ MOST_PRICE → nat_le m MOST_PRICE ≡ true
     test m h = grind (arith, nat_tests)
@@ -54,7 +61,7 @@ same_number n = grind (arith, nat_tests)
 
 prices_again : (n k : ℕ) (zs : List ℤ) → length zs ≡ n → AllByRecursion IsPrice zs → prices_at n k (map signed_decimal zs) ≡ Ok zs
 unfolding prices_at
-prices_again n k zs e a = rw (numbers_again k zs a, e, same_number n, are_prices zs a) refl
+prices_again n k zs e a = rw (numbers_again k zs a, e, same_number n, prices_in_range zs a) refl
 
 -- ---- arcs
 
@@ -127,10 +134,6 @@ prices_text zs = codes "P" ++ flat_map spaced (map signed_decimal zs)
 abbrev arc_text : Arc → List ℕ
 arc_text a = codes "S" ++ flat_map spaced (decimal a.0 ∷ decimal a.1 ∷ [])
 
-split_text : (b : Bool) (a : Arc) → node_texts b (split_node a) ≡ arc_text a ∷ []
-split_text true a = refl
-split_text false a = refl
-
 prices_in_again : (n k : ℕ) (path : List Arc) (zs : List ℤ) → length zs ≡ n → AllByRecursion IsPrice zs → node_in n k path (parts 32 (prices_text zs)) ≡ Ok (leaf_node (of_customers zs))
 unfolding node_in
 prices_in_again n k path zs e a =
@@ -162,9 +165,9 @@ prices_line_again : (n k : ℕ) (path : List Arc) (zs : List ℤ) (ps : List (Li
     → node_at n path (k, prices_text zs ∷ ps) ≡ Ok (leaf_node (of_customers zs), (k + 1, ps))
 prices_line_again n k path zs ps h e a = rw (next_again k (prices_text zs) ps h, prices_in_again n k path zs e a) refl
 
--- ---- the prices of sets
+-- ---- the prices of sets and of rows
 
--- the words of a line of sets' prices
+-- the words of a line of prices
 abbrev words_of : List SetPrice → List (List ℕ)
 words_of [] = []
 words_of (m ∷ ms) = decimal m.0 ∷ decimal m.1 ∷ words_of ms
@@ -194,84 +197,126 @@ lower : (most : ℕ) (s : List ℕ) → most ≤ 65535 → AllByRecursion (λ i.
 lower most [] le a = tt
 lower most (i ∷ s) le a = (omega (arith, a.0), lower most s le a.1)
 
-set_prices_in_again : (sets k : ℕ) (prices : LeafPrices) → sets ≤ 65535 → 1 ≤ length prices.customers → AreSetPrices sets prices
-    → set_prices_in sets prices.customers k (parts 32 (set_prices_text prices.sets)) ≡ Ok prices.sets
-unfolding set_prices_in
-set_prices_in_again sets k prices few some is =
-    let ms = prices.sets in
-    let cut : parts 32 (set_prices_text ms) ≡ codes "M" ∷ words_of ms =
-    ap (λ (w : List ℕ). parts 32 (codes "M" ++ w)) (words_spaced ms) ∙ parts-spaced (codes "M") (words_of ms) (refl, tt) (words_lack 32 ms (lit< tt)) in
-    let pairs = pairs_again k ms (lower sets (map (λ m. m.0) ms) few is.numbers.known) (none_above MOST_PRICE ms (sum_within prices some is.within)) in
-    let tests = set_prices_again sets prices some is in
-    rw (cut, pairs, tests.0, tests.1) refl
+-- a line, and what is left behind it
+line_again : (k : ℕ) (l : List ℕ) (ps : List (List ℕ)) → IsMore ps → line_from (k, l ∷ ps) ≡ Ok (k, (l, (k + 1, ps)))
+unfolding line_from
+line_again k l ps h = rw (next_again k l ps h) refl
 
--- what is read of a leaf: the line of its customers' prices, and that of its sets'
-abbrev IsLeafRead : Option ℕ → ℕ → List Arc → ℕ → LeafPrices → List (List ℕ) → Type 0
-IsLeafRead sets n path k prices ps = (mid : Left) × (j : ℕ) × (node_at n path (k, node_texts (is_some sets) (leaf_node prices) ++ ps) ≡ Ok (leaf_node (of_customers prices.customers), mid))
-    × (leaf_at sets prices.customers mid ≡ Ok (leaf_node prices, (j, ps)))
+placed_again : (text : List ℕ) (unknown : CertFault) (most k : ℕ) (ms : List SetPrice) → Lacks 32 text → most ≤ 65535 → AllByRecursion (λ i. i ≤ most) (map (λ m. m.0) ms)
+    → AllByRecursion (λ m. m.1 ≤ MOST_PRICE) ms → are_listed most ms ≡ true → placed_in text unknown most k (parts 32 (placed_text text ms)) ≡ Ok ms
+unfolding placed_in
+placed_again text unknown most k ms lacks few known small is =
+    let cut : parts 32 (placed_text text ms) ≡ text ∷ words_of ms =
+    ap (λ (w : List ℕ). parts 32 (text ++ w)) (words_spaced ms) ∙ parts-spaced text (words_of ms) lacks (words_lack 32 ms (lit< tt)) in
+    rw (cut, same_word text, pairs_again k ms (lower most (map (λ m. m.0) ms) few known) small, is) refl
 
-leaf_again : (sets : Option ℕ) (n k : ℕ) (path : List Arc) (prices : LeafPrices) (ps : List (List ℕ)) → listed_of sets ≤ 65535 → 1 ≤ n → IsMore ps
-    → IsNodeOn (listed_of sets) n path (leaf_node prices) → IsLeafRead sets n path k prices ps
+set_prices_again : (sets rows k : ℕ) (prices : LeafPrices) (ps : List (List ℕ)) → sets ≤ 65535 → 1 ≤ length prices.customers → IsMore ps → AreSetPrices sets prices × AreRowPrices rows prices.rows
+    → set_prices_at sets prices.customers (k, set_prices_text prices.sets ∷ ps) ≡ Ok (prices.sets, (k + 1, ps))
+unfolding set_prices_at
+set_prices_again sets rows k prices ps few some h is =
+    let t = tests_again sets rows prices some is in
+    let placed = placed_again (codes "M") (BadSet k) sets k prices.sets (refl, tt) few is.0.numbers.known (set_prices_small sets prices some is.0) t.sets_listed in
+    rw (line_again k (set_prices_text prices.sets) ps h, placed, t.sets_priced) refl
+
+row_prices_again : (sets rows k : ℕ) (prices : LeafPrices) (ps : List (List ℕ)) → rows ≤ 65535 → 1 ≤ length prices.customers → IsMore ps → AreSetPrices sets prices × AreRowPrices rows prices.rows
+    → row_prices_at rows prices.customers prices.sets (k, row_prices_text prices.rows ∷ ps) ≡ Ok (prices.rows, (k + 1, ps))
+unfolding row_prices_at
+row_prices_again sets rows k prices ps few some h is =
+    let s = set_prices_sum prices.sets in
+    let t = tests_again sets rows prices some is in
+    let a = both (are_listed rows prices.rows) (nat_le (length prices.rows) MOST_ROW_PRICES && are_prices s prices.customers prices.rows) t.rows_tested in
+    let b = both (nat_le (length prices.rows) MOST_ROW_PRICES) (are_prices s prices.customers prices.rows) a.1 in
+    let placed = placed_again (codes "Q") (BadRow k) rows k prices.rows (refl, tt) few is.1.numbers.known (row_prices_small sets prices some is.0) a.0 in
+    rw (line_again k (row_prices_text prices.rows) ps h, placed, b.0, b.1) refl
+
+-- there are few sets and few rows
+abbrev AreFew : PricedLines → Type 0
+AreFew priced = (set_count priced ≤ 65535) × (row_count priced ≤ 65535)
+
+abbrev IsNodeIn : PricedLines → ℕ → List Arc → Node → Type 0
+IsNodeIn priced n path x = IsNodeOn (set_count priced) (row_count priced) n path x
+
+-- what is read of a leaf: the line of its customers' prices, and those of its sets' and rows'
+abbrev IsLeafRead : PricedLines → ℕ → List Arc → ℕ → LeafPrices → List (List ℕ) → Type 0
+IsLeafRead priced n path k prices ps = (mid : Left) × (j : ℕ) × (node_at n path (k, node_texts priced (leaf_node prices) ++ ps) ≡ Ok (leaf_node (of_customers prices.customers), mid))
+    × (leaf_at priced prices.customers mid ≡ Ok (leaf_node prices, (j, ps)))
+
+with_prices : (l : LeafPrices) (ms qs : List SetPrice) → l.sets ≡ ms → l.rows ≡ qs → record { customers = l.customers; sets = ms; rows = qs } ≡ l
+with_prices l ms qs e f = λ i. record { customers = l.customers; sets = sym e i; rows = sym f i }
+
+leaf_again : (priced : PricedLines) (n k : ℕ) (path : List Arc) (prices : LeafPrices) (ps : List (List ℕ)) → AreFew priced → 1 ≤ n → IsMore ps
+    → IsNodeIn priced n path (leaf_node prices) → IsLeafRead priced n path k prices ps
 unfolding leaf_at
-leaf_again None n k path prices ps few some h is =
-    let none : of_customers prices.customers ≡ prices = λ i. record { customers = prices.customers; sets = sym (no_prices prices is.2) i } in
+leaf_again Customers n k path prices ps few some h is =
+    let none : of_customers prices.customers ≡ prices = with_prices prices [] [] (no_prices prices is.2) (no_row_prices prices is.3) in
     ((k + 1, ps), k + 1, prices_line_again n k path prices.customers ps h is.0 is.1, ap (λ (l : LeafPrices). Ok (leaf_node l, (k + 1, ps))) none)
-leaf_again (Some listed) n k path prices ps few some h is =
-    let line = set_prices_text prices.sets in (
+leaf_again (Sets sets) n k path prices ps few some h is =
+    let line = set_prices_text prices.sets in
+    let none : record { customers = prices.customers; sets = prices.sets; rows = [] } ≡ prices = with_prices prices prices.sets [] refl (no_row_prices prices is.3) in (
       (k + 1, line ∷ ps),
       k + 1 + 1,
       prices_line_again n k path prices.customers (line ∷ ps) (line, ps, refl) is.0 is.1,
-      rw (next_again (k + 1) line ps h, set_prices_in_again listed (k + 1) prices few (omega (arith, is.0, some)) is.2) refl,
+      rw (set_prices_again sets 0 (k + 1) prices ps few.0 (omega (arith, is.0, some)) h (is.2, is.3)) (ap (λ (l : LeafPrices). Ok (leaf_node l, (k + 1 + 1, ps))) none),
+    )
+leaf_again (Rows sets rows) n k path prices ps few some h is =
+    let line = set_prices_text prices.sets in
+    let second = row_prices_text prices.rows in
+    let all : 1 ≤ length prices.customers = omega (arith, is.0, some) in (
+      (k + 1, line ∷ second ∷ ps),
+      k + 1 + 1 + 1,
+      prices_line_again n k path prices.customers (line ∷ second ∷ ps) (line, second ∷ ps, refl) is.0 is.1,
+      rw (
+        set_prices_again sets rows (k + 1) prices (second ∷ ps) few.0 all (second, ps, refl) (is.2, is.3),
+        row_prices_again sets rows (k + 1 + 1) prices ps few.1 all h (is.2, is.3),
+      ) refl,
     )
 
 -- ---- a tree
 
 -- what is read of the nodes: they, and the lines behind
-abbrev IsReadAs : Option ℕ → ℕ → ℕ → List Arc → ℕ → ℕ → List Node → List (List ℕ) → ℕ → Type 0
-IsReadAs sets n left path leaves k nodes ps x = (j : ℕ) × (tree_at sets n left path leaves (k, lines_of (is_some sets) nodes ++ ps) ≡ Ok (nodes, (x, (j, ps))))
+abbrev IsReadAs : PricedLines → ℕ → ℕ → List Arc → ℕ → ℕ → List Node → List (List ℕ) → ℕ → Type 0
+IsReadAs priced n left path leaves k nodes ps x = (j : ℕ) × (tree_at priced n left path leaves (k, lines_of priced nodes ++ ps) ≡ Ok (nodes, (x, (j, ps))))
 
-one_leaf_again : (sets : Option ℕ) (n left : ℕ) (path : List Arc) (leaves k : ℕ) (prices : LeafPrices) (ps : List (List ℕ)) (x : ℕ) → leaves ≡ suc x
-    → IsLeafRead sets n path k prices ps → IsReadAs sets n left path leaves k (leaf_node prices ∷ []) ps x
-one_leaf_again sets n left path leaves k prices ps x e h =
-    let lines = node_texts (is_some sets) (leaf_node prices) ++ ps in
-    let leaf : one_leaf sets k prices.customers (suc x) h.0 ≡ Ok (leaf_node prices ∷ [], (x, (h.1, ps))) = rw h.3 refl in (
+one_leaf_again : (priced : PricedLines) (n left : ℕ) (path : List Arc) (leaves k : ℕ) (prices : LeafPrices) (ps : List (List ℕ)) (x : ℕ) → leaves ≡ suc x
+    → IsLeafRead priced n path k prices ps → IsReadAs priced n left path leaves k (leaf_node prices ∷ []) ps x
+one_leaf_again priced n left path leaves k prices ps x e h =
+    let lines = node_texts priced (leaf_node prices) ++ ps in
+    let leaf : one_leaf priced k prices.customers (suc x) h.0 ≡ Ok (leaf_node prices ∷ [], (x, (h.1, ps))) = rw h.3 refl in (
       h.1,
-      ap (λ (w : List (List ℕ)). tree_at sets n left path leaves (k, w ++ ps)) (append-nil (node_texts (is_some sets) (leaf_node prices)))
-          ∙ tree_at-leaf sets n left path leaves (k, lines) h.0 prices.customers h.2 ∙ ap (λ (m : ℕ). one_leaf sets k prices.customers m h.0) e ∙ leaf,
+      ap (λ (w : List (List ℕ)). tree_at priced n left path leaves (k, w ++ ps)) (append-nil (node_texts priced (leaf_node prices)))
+          ∙ tree_at-leaf priced n left path leaves (k, lines) h.0 prices.customers h.2 ∙ ap (λ (m : ℕ). one_leaf priced k prices.customers m h.0) e ∙ leaf,
     )
 
-children_again : (sets : Option ℕ) (n left : ℕ) (path : List Arc) (leaves : ℕ) (a : Arc) (rest mid end : Left) (us vs : List Node) (x y : ℕ)
-    → tree_at sets n left (path ++ (a ∷ [])) leaves rest ≡ Ok (us, (x, mid)) → tree_at sets n left (path ++ (a ∷ [])) x mid ≡ Ok (vs, (y, end))
-    → children_at sets n left path leaves a rest ≡ Ok (split_node a ∷ (us ++ vs), (y, end))
-children_again sets n left path leaves a rest mid end us vs x y e f = rw (e, f) refl
+children_again : (priced : PricedLines) (n left : ℕ) (path : List Arc) (leaves : ℕ) (a : Arc) (rest mid end : Left) (us vs : List Node) (x y : ℕ)
+    → tree_at priced n left (path ++ (a ∷ [])) leaves rest ≡ Ok (us, (x, mid)) → tree_at priced n left (path ++ (a ∷ [])) x mid ≡ Ok (vs, (y, end))
+    → children_at priced n left path leaves a rest ≡ Ok (split_node a ∷ (us ++ vs), (y, end))
+children_again priced n left path leaves a rest mid end us vs x y e f = rw (e, f) refl
 
 -- the lines of a split: its own, and those of both trees
-split_lines : (b : Bool) (a : Arc) (us vs : List Node) (ps : List (List ℕ)) → lines_of b (split_node a ∷ (us ++ vs)) ++ ps ≡ arc_text a ∷ (lines_of b us ++ (lines_of b vs ++ ps))
+split_lines : (b : PricedLines) (a : Arc) (us vs : List Node) (ps : List (List ℕ)) → lines_of b (split_node a ∷ (us ++ vs)) ++ ps ≡ arc_text a ∷ (lines_of b us ++ (lines_of b vs ++ ps))
 split_lines b a us vs ps =
-    ap (λ (w : List (List ℕ)). (w ++ lines_of b (us ++ vs)) ++ ps) (split_text b a)
-    ∙ ap (λ (w : List (List ℕ)). arc_text a ∷ (w ++ ps)) (flat_map-append (node_texts b) us vs)
+    ap (λ (w : List (List ℕ)). arc_text a ∷ (w ++ ps)) (flat_map-append (node_texts b) us vs)
     ∙ ap (λ (w : List (List ℕ)). arc_text a ∷ w) (append_assoc (lines_of b us) (lines_of b vs) ps)
 
-pub tree_again : (sets : Option ℕ) (n : ℕ) → listed_of sets ≤ 65535 → 1 ≤ n → n < 1000000 → (tree : Tree) (left : ℕ) (path : List Arc) (leaves k : ℕ) (ps : List (List ℕ)) (x : ℕ) → IsMore ps
-    → IsTreeOn (listed_of sets) n path left tree → leaves ≡ x + leaf_count tree
-    → IsReadAs sets n left path leaves k (preorder tree) ps x
-tree_again sets n few some lt (leaf prices) left path leaves k ps x h is e =
-    one_leaf_again sets n left path leaves k prices ps x (omega (arith, e)) (leaf_again sets n k path prices ps few some h is)
-tree_again sets n few some lt (split a used unused) left path leaves k ps x h is e =
-    let b = is_some sets in
+pub tree_again : (priced : PricedLines) (n : ℕ) → AreFew priced → 1 ≤ n → n < 1000000 → (tree : Tree) (left : ℕ) (path : List Arc) (leaves k : ℕ) (ps : List (List ℕ)) (x : ℕ) → IsMore ps
+    → IsTreeOn (set_count priced) (row_count priced) n path left tree → leaves ≡ x + leaf_count tree
+    → IsReadAs priced n left path leaves k (preorder tree) ps x
+tree_again priced n few some lt (leaf prices) left path leaves k ps x h is e =
+    one_leaf_again priced n left path leaves k prices ps x (omega (arith, e)) (leaf_again priced n k path prices ps few some h is)
+tree_again priced n few some lt (split a used unused) left path leaves k ps x h is e =
     let under = path ++ (a ∷ []) in
     let less = is.1.0 in
-    let behind = lines_of b (preorder unused) ++ ps in
-    let u = tree_again sets n few some lt used less under leaves (k + 1) behind (x + leaf_count unused) (more (lines_of b (preorder unused)) ps h) is.1.2 (omega (arith, e)) in
-    let v = tree_again sets n few some lt unused less under (x + leaf_count unused) u.0 ps x h is.1.3 refl in
-    let rest : List (List ℕ) = lines_of b (preorder used) ++ behind in
-    let line = arc_line_again n k path a rest lt (more (lines_of b (preorder used)) behind (more (lines_of b (preorder unused)) ps h)) is.0 in
-    let same = split_lines b a (preorder used) (preorder unused) ps in
+    let behind = lines_of priced (preorder unused) ++ ps in
+    let u = tree_again priced n few some lt used less under leaves (k + 1) behind (x + leaf_count unused) (more (lines_of priced (preorder unused)) ps h) is.1.2 (omega (arith, e)) in
+    let v = tree_again priced n few some lt unused less under (x + leaf_count unused) u.0 ps x h is.1.3 refl in
+    let rest : List (List ℕ) = lines_of priced (preorder used) ++ behind in
+    let line = arc_line_again n k path a rest lt (more (lines_of priced (preorder used)) behind (more (lines_of priced (preorder unused)) ps h)) is.0 in
+    let same = split_lines priced a (preorder used) (preorder unused) ps in
     let deep : left ≡ suc less = omega (arith, is.1.1) in (
       v.0,
-      ap (λ (w : List (List ℕ)). tree_at sets n left path leaves (k, w)) same ∙ ap (λ (m : ℕ). tree_at sets n m path leaves (k, arc_text a ∷ rest)) deep
-          ∙ tree_at-split sets n less path leaves (k, arc_text a ∷ rest) (k + 1, rest) a line
-          ∙ children_again sets n less path leaves a (k + 1, rest) (u.0, behind) (v.0, ps) (preorder used) (preorder unused) (x + leaf_count unused) x u.1 v.1,
+      ap (λ (w : List (List ℕ)). tree_at priced n left path leaves (k, w)) same ∙ ap (λ (m : ℕ). tree_at priced n m path leaves (k, arc_text a ∷ rest)) deep
+          ∙ tree_at-split priced n less path leaves (k, arc_text a ∷ rest) (k + 1, rest) a line
+          ∙ children_again priced n less path leaves a (k + 1, rest) (u.0, behind) (v.0, ps) (preorder used) (preorder unused) (x + leaf_count unused) x u.1 v.1,
     )
 
 -- ---- the lines before the tree
@@ -337,16 +382,18 @@ bound_again k t ps h lt =
     let lacks : Lacks 32 (codes "BOUND") = (refl, (refl, (refl, (refl, (refl, tt))))) in
     rw (field_again k (codes "BOUND") (tenths_text t) ps h lacks (tenths_lack 32 t (lit< tt)), tenths_again t lt) refl
 
--- what the first line tells of a version: its sets aren't listed yet
+-- what the first line tells of a version: nothing is listed yet
 abbrev unlisted : Version → Version
 unlisted version_1 = version_1
 unlisted version_2 = version_2
 unlisted (with_sets sets) = with_sets []
+unlisted (with_rows sets rows) = with_rows [] []
 
 version_in_again : (k : ℕ) (v : Version) → version_in k (version_text v) ≡ Ok (unlisted v)
 version_in_again k version_1 = refl
 version_in_again k version_2 = refl
 version_in_again k (with_sets sets) = refl
+version_in_again k (with_rows sets rows) = refl
 
 version_again : (k : ℕ) (v : Version) (ps : List (List ℕ)) → IsMore ps → version_at (k, version_text v ∷ ps) ≡ Ok (unlisted v, (k + 1, ps))
 unfolding version_at
@@ -416,41 +463,145 @@ set_in_again n k s few is =
       customers_again n s.members is.customers,
     ) refl
 
--- what is read of the lines of sets, and of the one that begins the tree
-abbrev AreRead : ℕ → ℕ → ℕ → List ListedSet → List (List ℕ) → Type 0
-AreRead n left k sets ps = (j : ℕ) × (sets_at n left (k, map set_text sets ++ (codes "TREE" ∷ ps)) ≡ Ok (sets, (j, ps)))
+-- the first of these lines, and what is left behind it
+abbrev here_of : ℕ → List (List ℕ) → Here
+here_of k [] = (k, ([], (k + 1, [])))
+here_of k (l ∷ ps) = (k, (l, (k + 1, ps)))
 
-sets_end : (n left k : ℕ) (ps : List (List ℕ)) → IsMore ps → AreRead n left k [] ps
-unfolding sets_at
-sets_end n zero k ps h = (k + 1, rw (next_again k (codes "TREE") ps h) refl)
-sets_end n (suc left) k ps h = (k + 1, rw (next_again k (codes "TREE") ps h) refl)
+from_again : (k : ℕ) (xs : List (List ℕ)) (l : List ℕ) (ps : List (List ℕ)) → IsMore ps → line_from (k, xs ++ (l ∷ ps)) ≡ Ok (here_of k (xs ++ (l ∷ ps)))
+from_again k [] l ps h = line_again k l ps h
+from_again k (x ∷ xs) l ps h = line_again k x (xs ++ (l ∷ ps)) (more xs (l ∷ ps) (l, ps, refl))
 
-sets_more : (n left k : ℕ) (s : ListedSet) (sets : List ListedSet) (ps : List (List ℕ)) → n ≤ 65535 → IsListedSet n s → AreRead n left (k + 1) sets ps → AreRead n (suc left) k (s ∷ sets) ps
-unfolding sets_at
-sets_more n left k s sets ps few is h =
-    let rest = map set_text sets ++ (codes "TREE" ∷ ps) in
-    (h.0, rw (next_again k (set_text s) rest (more (map set_text sets) (codes "TREE" ∷ ps) (codes "TREE", ps, refl)), set_in_again n k s few is, h.1) refl)
+module _ {A : Type 0} (text : List ℕ) (item_in : Option A → ℕ → List (List ℕ) → Result A CertFault) (full : ℕ → CertFault) (seen : A → Option A)
+    (item_text : A → List ℕ) (Is : Option A → A → Type 0)
+    (item_again : (before : Option A) (k : ℕ) (s : A) → Is before s → (begins text (parts 32 (item_text s)) ≡ true) × (item_in before k (parts 32 (item_text s)) ≡ Ok s)) where
+  -- what is read of these lines of a list, behind which another line stands
+  abbrev AreRead : ℕ → ℕ → Option A → List A → List ℕ → List (List ℕ) → Type 0
+  AreRead left k before xs l ps = (j : ℕ) × (items_at text item_in full seen left before (here_of k (map item_text xs ++ (l ∷ ps))) ≡ Ok (xs, (j, (l, (j + 1, ps)))))
 
-sets_read : (n : ℕ) (sets : List ListedSet) (left k : ℕ) (ps : List (List ℕ)) → n ≤ 65535 → IsMore ps → AllByRecursion (IsListedSet n) sets → length sets ≤ left → AreRead n left k sets ps
-sets_read n [] left k ps few h is le = sets_end n left k ps h
-sets_read n (s ∷ sets) zero k ps few h is le = absurd (omega (arith, le))
-sets_read n (s ∷ sets) (suc left) k ps few h is le = sets_more n left k s sets ps few is.0 (sets_read n sets left (k + 1) ps few h is.1 (omega (arith, le)))
+  items_end : (left k : ℕ) (before : Option A) (l : List ℕ) (ps : List (List ℕ)) → begins text (parts 32 l) ≡ false → AreRead left k before [] l ps
+  unfolding items_at
+  items_end zero k before l ps e = (k, rw e refl)
+  items_end (suc left) k before l ps e = (k, rw e refl)
 
-listed_again : (n : ℕ) (v : Version) (k : ℕ) (ps : List (List ℕ)) → n ≤ 65535 → IsMore ps → AllByRecursion (IsListedSet n) (listed_sets v) → length (listed_sets v) ≤ MOST_SETS
-    → (j : ℕ) × (listed_at n (unlisted v) (k, map set_text (listed_sets v) ++ (codes "TREE" ∷ ps)) ≡ Ok (v, (j, ps)))
+  items_more : (left k : ℕ) (before : Option A) (s : A) (xs : List A) (l : List ℕ) (ps : List (List ℕ)) → IsMore ps → Is before s → AreRead left (k + 1) (seen s) xs l ps
+      → AreRead (suc left) k before (s ∷ xs) l ps
+  unfolding items_at
+  items_more left k before s xs l ps h is rest =
+      let t = item_again before k s is in
+      (rest.0, rw (t.0, t.1, from_again (k + 1) (map item_text xs) l ps h, rest.1) refl)
+
+  items_read : (xs : List A) (left k : ℕ) (before : Option A) (l : List ℕ) (ps : List (List ℕ)) → IsMore ps → begins text (parts 32 l) ≡ false → AllBehind Is seen before xs → length xs ≤ left
+      → AreRead left k before xs l ps
+  items_read [] left k before l ps h e is le = items_end left k before l ps e
+  items_read (s ∷ xs) zero k before l ps h e is le = absurd (omega (arith, le))
+  items_read (s ∷ xs) (suc left) k before l ps h e is le = items_more left k before s xs l ps h is.0 (items_read xs left (k + 1) (seen s) l ps h e is.1 (omega (arith, le)))
+
+set_line_again : (n k : ℕ) (s : ListedSet) → n ≤ 65535 → IsListedSet n s → (begins (codes "S") (parts 32 (set_text s)) ≡ true) × (set_in n k (parts 32 (set_text s)) ≡ Ok s)
+set_line_again n k s few is =
+    let cut : parts 32 (set_text s) ≡ codes "S" ∷ decimal s.need ∷ map decimal s.members =
+    parts-spaced (codes "S") (decimal s.need ∷ map decimal s.members) (refl, tt) (decimal_lacks 32 s.need (lit< tt), numbers_lack 32 s.members (lit< tt)) in
+    (rw cut refl, set_in_again n k s few is)
+
+row_cut : (s : SubsetRow) → parts 32 (row_text s) ≡ codes "R" ∷ decimal s.first ∷ decimal s.second ∷ decimal s.third ∷ []
+row_cut s = parts-spaced (codes "R") (decimal s.first ∷ decimal s.second ∷ decimal s.third ∷ []) (refl, tt) (numbers_lack 32 (s.first ∷ s.second ∷ s.third ∷ []) (lit< tt))
+
+row_line_again : (n k : ℕ) (before : Option SubsetRow) (s : SubsetRow) → n ≤ 65535 → IsRowBehind n before s
+    → (begins (codes "R") (parts 32 (row_text s)) ≡ true) × (row_in n before k (parts 32 (row_text s)) ≡ Ok s)
+unfolding row_in
+row_line_again n k before s few is =
+    let members = members_again k (s.first ∷ s.second ∷ s.third ∷ []) (within is.0) in
+    (rw (row_cut s) refl, rw (row_cut s, members, row_behind_again n before s is) refl)
+  where
+    within : IsListedRow n s → AllByRecursion (λ i. i ≤ 65535) (s.first ∷ s.second ∷ s.third ∷ [])
+    within r = (omega (arith, r.rising, r.known, few), (omega (arith, r.rising, r.known, few), (omega (arith, r.known, few), tt)))
+
+all_behind : (n : ℕ) (sets : List ListedSet) → AllByRecursion (IsListedSet n) sets → AllBehind (λ before s. IsListedSet n s) (λ s. None) None sets
+all_behind n [] h = tt
+all_behind n (s ∷ sets) h = (h.0, all_behind n sets h.1)
+
+-- what is read of the sets, behind which a line stands that isn't a set's
+sets_read : (n : ℕ) (sets : List ListedSet) (k : ℕ) (l : List ℕ) (ps : List (List ℕ)) → n ≤ 65535 → IsMore ps → begins (codes "S") (parts 32 l) ≡ false → AllByRecursion (IsListedSet n) sets
+    → length sets ≤ MOST_SETS → (j : ℕ) × (sets_at n (here_of k (map set_text sets ++ (l ∷ ps))) ≡ Ok (sets, (j, (l, (j + 1, ps)))))
+sets_read n sets k l ps few h e is le =
+    items_read (codes "S") (λ before k ws. set_in n k ws) (λ k. TooManySets k) (λ s. None) set_text (λ before s. IsListedSet n s) (λ before k s is. set_line_again n k s few is)
+    sets MOST_SETS k None l ps h e (all_behind n sets is) le
+
+rows_read : (n : ℕ) (rows : List SubsetRow) (k : ℕ) (l : List ℕ) (ps : List (List ℕ)) → n ≤ 65535 → IsMore ps → begins (codes "R") (parts 32 l) ≡ false → AllByRecursion (IsListedRow n) rows
+    → AreInOrder rows → length rows ≤ MOST_ROWS → (j : ℕ) × (rows_at n (here_of k (map row_text rows ++ (l ∷ ps))) ≡ Ok (rows, (j, (l, (j + 1, ps)))))
+rows_read n rows k l ps few h e is order le =
+    items_read (codes "R") (λ before k ws. row_in n before k ws) (λ k. TooManyRows k) (λ s. Some s) row_text (IsRowBehind n) (λ before k s is. row_line_again n k before s few is)
+    rows MOST_ROWS k None l ps h e (behind_again n rows is order) le
+
+tree_no_set : begins (codes "S") (parts 32 (codes "TREE")) ≡ false
+unfolding parts
+tree_no_set = refl
+
+tree_no_row : begins (codes "R") (parts 32 (codes "TREE")) ≡ false
+unfolding parts
+tree_no_row = refl
+
+-- behind the sets a row's line stands, or the one that begins the tree
+pub record IsFirstLine (rows : List SubsetRow) (ps : List (List ℕ)) : Type 0 where
+  pub line : List ℕ
+  pub others : List (List ℕ)
+  pub are : map row_text rows ++ (codes "TREE" ∷ ps) ≡ line ∷ others
+  pub some : IsMore others
+  pub no_set : begins (codes "S") (parts 32 line) ≡ false
+
+first_line_of : (rows : List SubsetRow) (ps : List (List ℕ)) → IsMore ps → IsFirstLine rows ps
+first_line_of [] ps h = record { line = codes "TREE"; others = ps; are = refl; some = h; no_set = tree_no_set }
+first_line_of (s ∷ rows) ps h =
+    record { line = row_text s; others = map row_text rows ++ (codes "TREE" ∷ ps); are = refl; some = more (map row_text rows) (codes "TREE" ∷ ps) (codes "TREE", ps, refl); no_set = rw (row_cut s) refl }
+
+-- what a certificate lists
+pub record AreLists (n : ℕ) (v : Version) : Type 0 where
+  pub listed : AllByRecursion (IsListedSet n) (listed_sets v)
+  pub sets : length (listed_sets v) ≤ MOST_SETS
+  pub rows_listed : AllByRecursion (IsListedRow n) (listed_rows v)
+  pub in_order : AreInOrder (listed_rows v)
+  pub rows : length (listed_rows v) ≤ MOST_ROWS
+
+-- the lines of lists, and the one that begins the tree
+abbrev list_lines : Version → List (List ℕ) → List (List ℕ)
+list_lines v ps = map set_text (listed_sets v) ++ (map row_text (listed_rows v) ++ (codes "TREE" ∷ ps))
+
+sets_listed_again : (n : ℕ) (sets : List ListedSet) (k : ℕ) (ps : List (List ℕ)) → n ≤ 65535 → IsMore ps → AreLists n (with_sets sets)
+    → (j : ℕ) × (sets_listed_at n (k, list_lines (with_sets sets) ps) ≡ Ok (with_sets sets, (j, ps)))
+unfolding sets_listed_at
+sets_listed_again n sets k ps few h is =
+    let s = sets_read n sets k (codes "TREE") ps few h tree_no_set is.listed is.sets in
+    (s.0 + 1, rw (from_again k (map set_text sets) (codes "TREE") ps h, s.1) refl)
+
+rows_listed_again : (n : ℕ) (sets : List ListedSet) (rows : List SubsetRow) (k : ℕ) (ps : List (List ℕ)) → n ≤ 65535 → IsMore ps → AreLists n (with_rows sets rows)
+    → (j : ℕ) × (rows_listed_at n (k, list_lines (with_rows sets rows) ps) ≡ Ok (with_rows sets rows, (j, ps)))
+unfolding rows_listed_at
+rows_listed_again n sets rows k ps few h is =
+    let f = first_line_of rows ps h in
+    let s = sets_read n sets k f.line f.others few f.some f.no_set is.listed is.sets in
+    let r = rows_read n rows s.0 (codes "TREE") ps few h tree_no_row is.rows_listed is.in_order is.rows in
+    let behind : rows_at n (s.0, (f.line, (s.0 + 1, f.others))) ≡ Ok (rows, (r.0, (codes "TREE", (r.0 + 1, ps)))) =
+    ap (λ (w : List (List ℕ)). rows_at n (here_of s.0 w)) (sym f.are) ∙ r.1 in
+    (
+      r.0 + 1,
+      ap (λ (w : List (List ℕ)). rows_listed_at n (k, map set_text sets ++ w)) f.are ∙ rw (from_again k (map set_text sets) f.line f.others f.some, s.1, behind) refl,
+    )
+
+listed_again : (n : ℕ) (v : Version) (k : ℕ) (ps : List (List ℕ)) → n ≤ 65535 → IsMore ps → AreLists n v → (j : ℕ) × (listed_at n (unlisted v) (k, list_lines v ps) ≡ Ok (v, (j, ps)))
 unfolding listed_at
-listed_again n version_1 k ps few h is le = (k + 1, rw (fixed_again k (codes "TREE") ps h) refl)
-listed_again n version_2 k ps few h is le = (k + 1, rw (fixed_again k (codes "TREE") ps h) refl)
-listed_again n (with_sets sets) k ps few h is le = let r = sets_read n sets MOST_SETS k ps few h is le in (r.0, rw r.1 refl)
+listed_again n version_1 k ps few h is = (k + 1, rw (fixed_again k (codes "TREE") ps h) refl)
+listed_again n version_2 k ps few h is = (k + 1, rw (fixed_again k (codes "TREE") ps h) refl)
+listed_again n (with_sets sets) k ps few h is = sets_listed_again n sets k ps few h is
+listed_again n (with_rows sets rows) k ps few h is = rows_listed_again n sets rows k ps few h is
 
-nodes_again : (sets : Option ℕ) (n : ℕ) → listed_of sets ≤ 65535 → 1 ≤ n → n < 1000000 → (tree : Tree) (k : ℕ) → IsTreeOn (listed_of sets) n [] MOST_DEPTH tree → leaf_count tree ≤ MOST_LEAVES
-    → (j : ℕ) × (nodes_at sets n (k, lines_of (is_some sets) (preorder tree) ++ (codes "END" ∷ [] ∷ [])) ≡ Ok (preorder tree, (j, [] ∷ [])))
+nodes_again : (priced : PricedLines) (n : ℕ) → AreFew priced → 1 ≤ n → n < 1000000 → (tree : Tree) (k : ℕ) → IsTreeOn (set_count priced) (row_count priced) n [] MOST_DEPTH tree → leaf_count tree ≤ MOST_LEAVES
+    → (j : ℕ) × (nodes_at priced n (k, lines_of priced (preorder tree) ++ (codes "END" ∷ [] ∷ [])) ≡ Ok (preorder tree, (j, [] ∷ [])))
 unfolding nodes_at
-nodes_again sets n few some lt tree k is leaves =
+nodes_again priced n few some lt tree k is leaves =
     let end = codes "END" ∷ [] ∷ [] in
     let x = MOST_LEAVES - leaf_count tree in
     let all : MOST_LEAVES ≡ x + leaf_count tree = omega (arith, leaves) in
-    let t = tree_again sets n few some lt tree MOST_DEPTH [] MOST_LEAVES k end x (codes "END", [] ∷ [], refl) is all in
+    let t = tree_again priced n few some lt tree MOST_DEPTH [] MOST_LEAVES k end x (codes "END", [] ∷ [], refl) is all in
     (t.0 + 1, rw (t.1, fixed_again t.0 (codes "END") ([] ∷ []) ([], [], refl)) refl)
 
 -- ---- no line has a line feed
@@ -465,18 +616,18 @@ prices_lack_feed zs = (refl, Lacks-spaced 10 (map signed_decimal zs) refl (price
 arc_lacks_feed : (a : Arc) → Lacks 10 (arc_text a)
 arc_lacks_feed a = (refl, Lacks-spaced 10 (decimal a.0 ∷ decimal a.1 ∷ []) refl (arc_lacks 10 a (lit< tt)))
 
-set_prices_lack : (ms : List SetPrice) → Lacks 10 (set_prices_text ms)
-set_prices_lack ms =
+placed_lack : (text : List ℕ) (ms : List SetPrice) → Lacks 10 text → Lacks 10 (placed_text text ms)
+placed_lack text ms lacks =
     let words : Lacks 10 (flat_map spaced (words_of ms)) = Lacks-spaced 10 (words_of ms) refl (words_lack 10 ms (lit< tt)) in
-    (refl, subst (λ (w : List ℕ). Lacks 10 w) (sym (words_spaced ms)) words)
+    Lacks-append 10 text (flat_map (λ m. spaced (decimal m.0) ++ spaced (decimal m.1)) ms) lacks (subst (λ (w : List ℕ). Lacks 10 w) (sym (words_spaced ms)) words)
 
-node_lacks : (b : Bool) (x : Node) → AllLack 10 (node_texts b x)
-node_lacks true (leaf_node l) = (prices_lack_feed l.customers, (set_prices_lack l.sets, tt))
-node_lacks false (leaf_node l) = (prices_lack_feed l.customers, tt)
-node_lacks true (split_node a) = (arc_lacks_feed a, tt)
-node_lacks false (split_node a) = (arc_lacks_feed a, tt)
+node_lacks : (b : PricedLines) (x : Node) → AllLack 10 (node_texts b x)
+node_lacks Customers (leaf_node l) = (prices_lack_feed l.customers, tt)
+node_lacks (Sets sets) (leaf_node l) = (prices_lack_feed l.customers, (placed_lack (codes "M") l.sets (refl, tt), tt))
+node_lacks (Rows sets rows) (leaf_node l) = (prices_lack_feed l.customers, (placed_lack (codes "M") l.sets (refl, tt), (placed_lack (codes "Q") l.rows (refl, tt), tt)))
+node_lacks b (split_node a) = (arc_lacks_feed a, tt)
 
-nodes_lack : (b : Bool) (xs : List Node) → AllLack 10 (lines_of b xs)
+nodes_lack : (b : PricedLines) (xs : List Node) → AllLack 10 (lines_of b xs)
 nodes_lack b [] = tt
 nodes_lack b (x ∷ xs) = all_lack 10 (node_texts b x) (lines_of b xs) (node_lacks b x) (nodes_lack b xs)
 
@@ -485,6 +636,11 @@ sets_lack [] = tt
 sets_lack (s ∷ sets) =
     ((refl, Lacks-spaced 10 (decimal s.need ∷ map decimal s.members) refl (decimal_lacks 10 s.need (lit< tt), numbers_lack 10 s.members (lit< tt))), sets_lack sets)
 
+rows_lack : (rows : List SubsetRow) → AllLack 10 (map row_text rows)
+rows_lack [] = tt
+rows_lack (s ∷ rows) =
+    ((refl, Lacks-spaced 10 (map decimal (s.first ∷ s.second ∷ s.third ∷ [])) refl (numbers_lack 10 (s.first ∷ s.second ∷ s.third ∷ []) (lit< tt))), rows_lack rows)
+
 -- a field's line lacks a line feed where its word does
 field_lacks : (text w : List ℕ) → Lacks 10 text → Lacks 10 w → Lacks 10 (text ++ spaced w)
 field_lacks text w p q = Lacks-append 10 text (spaced w) p (refl, q)
@@ -492,18 +648,22 @@ field_lacks text w p q = Lacks-append 10 text (spaced w) p (refl, q)
 version_lacks : (v : Version) → Lacks 10 (version_text v)
 version_lacks version_1 = (refl, (refl, (refl, (refl, (refl, (refl, (refl, (refl, (refl, (refl, (refl, (refl, tt))))))))))))
 version_lacks version_2 = (refl, (refl, (refl, (refl, (refl, (refl, (refl, (refl, (refl, (refl, (refl, (refl, tt))))))))))))
+version_lacks (with_rows sets rows) = (refl, (refl, (refl, (refl, (refl, (refl, (refl, (refl, (refl, (refl, (refl, (refl, tt))))))))))))
 version_lacks (with_sets sets) = (refl, (refl, (refl, (refl, (refl, (refl, (refl, (refl, (refl, (refl, (refl, (refl, tt))))))))))))
 
 -- the lines behind that of the bound
 abbrev behind_bound : Certificate → List (List ℕ) → List (List ℕ)
-behind_bound c ps = map set_text (listed_sets c.version) ++ (codes "TREE" ∷ (lines_of (is_some (set_count c.version)) (preorder c.tree) ++ (codes "END" ∷ ps)))
+behind_bound c ps = list_lines c.version (lines_of (priced_lines c.version) (preorder c.tree) ++ (codes "END" ∷ ps))
 
-behind_lacks : (c : Certificate) → AllLack 10 ((map set_text (listed_sets c.version) ++ (codes "TREE" ∷ [])) ++ (lines_of (is_some (set_count c.version)) (preorder c.tree) ++ (codes "END" ∷ [])))
+behind_lacks : (c : Certificate) → AllLack 10 (list_lines c.version [] ++ (lines_of (priced_lines c.version) (preorder c.tree) ++ (codes "END" ∷ [])))
 behind_lacks c =
-    let nodes = lines_of (is_some (set_count c.version)) (preorder c.tree) in
-    all_lack 10 (map set_text (listed_sets c.version) ++ (codes "TREE" ∷ [])) (nodes ++ (codes "END" ∷ []))
-    (all_lack 10 (map set_text (listed_sets c.version)) (codes "TREE" ∷ []) (sets_lack (listed_sets c.version)) ((refl, (refl, (refl, (refl, tt)))), tt))
-    (all_lack 10 nodes (codes "END" ∷ []) (nodes_lack (is_some (set_count c.version)) (preorder c.tree)) ((refl, (refl, (refl, tt))), tt))
+    let sets = map set_text (listed_sets c.version) in
+    let rows = map row_text (listed_rows c.version) in
+    let nodes = lines_of (priced_lines c.version) (preorder c.tree) in
+    all_lack 10 (sets ++ (rows ++ (codes "TREE" ∷ []))) (nodes ++ (codes "END" ∷ []))
+    (all_lack 10 sets (rows ++ (codes "TREE" ∷ [])) (sets_lack (listed_sets c.version))
+    (all_lack 10 rows (codes "TREE" ∷ []) (rows_lack (listed_rows c.version)) ((refl, (refl, (refl, (refl, tt)))), tt)))
+    (all_lack 10 nodes (codes "END" ∷ []) (nodes_lack (priced_lines c.version) (preorder c.tree)) ((refl, (refl, (refl, tt))), tt))
 
 text_lacks : (c : Certificate) → IsCertificate c → AllLack 10 (text_lines (listed c))
 text_lacks c is = (
@@ -523,33 +683,48 @@ text_lacks c is = (
   ),
 )
 
-grouped : (sets nodes : List (List ℕ)) (tree end : List ℕ) → ((sets ++ (tree ∷ [])) ++ (nodes ++ (end ∷ []))) ++ ([] ∷ []) ≡ sets ++ (tree ∷ (nodes ++ (end ∷ [] ∷ [])))
-grouped sets nodes tree end = simp append_assoc
+grouped : (sets rows nodes : List (List ℕ)) (tree end : List ℕ)
+    → ((sets ++ (rows ++ (tree ∷ []))) ++ (nodes ++ (end ∷ []))) ++ ([] ∷ []) ≡ sets ++ (rows ++ (tree ∷ (nodes ++ (end ∷ [] ∷ []))))
+grouped sets rows nodes tree end = simp append_assoc
 
 lines_again : (c : Certificate) → IsCertificate c → parts 10 (certificate_text c) ≡ lines_before c (behind_bound c ([] ∷ []))
 lines_again c is =
     ap (λ (x : List ℕ). parts 10 x) (sym (text_is c)) ∙ parts-lines (text_lines (listed c)) (text_lacks c is)
-    ∙ ap (λ (x : List (List ℕ)). lines_before c x) (grouped (map set_text (listed_sets c.version)) (lines_of (is_some (set_count c.version)) (preorder c.tree)) (codes "TREE") (codes "END"))
+    ∙ ap (λ (x : List (List ℕ)). lines_before c x)
+    (grouped (map set_text (listed_sets c.version)) (map row_text (listed_rows c.version)) (lines_of (priced_lines c.version) (preorder c.tree)) (codes "TREE") (codes "END"))
 
--- how many sets are listed
-count_is : (v : Version) → listed_of (set_count v) ≡ length (listed_sets v)
+-- how many sets and rows are listed
+pub count_is : (v : Version) → set_count (priced_lines v) ≡ length (listed_sets v)
 count_is version_1 = refl
 count_is version_2 = refl
 count_is (with_sets sets) = refl
+count_is (with_rows sets rows) = refl
+
+pub row_count_is : (v : Version) → row_count (priced_lines v) ≡ length (listed_rows v)
+row_count_is version_1 = refl
+row_count_is version_2 = refl
+row_count_is (with_sets sets) = refl
+row_count_is (with_rows sets rows) = refl
 
 pub reading_again : (c : Certificate) → IsCertificate c → reading (certificate_text c) ≡ Ok (listed c)
 unfolding reading
 reading_again c is =
-    let sets = set_count c.version in
-    let nodes = lines_of (is_some sets) (preorder c.tree) ++ (codes "END" ∷ [] ∷ []) in
+    let priced = priced_lines c.version in
+    let nodes = lines_of priced (preorder c.tree) ++ (codes "END" ∷ [] ∷ []) in
     let tree = on_from_at c.version c.tree (root_region c.size) [] MOST_DEPTH (decides_root c.size) is.tree is.depth in
-    let counted : IsTreeOn (listed_of sets) c.size [] MOST_DEPTH c.tree = subst (λ (m : ℕ). IsTreeOn m c.size [] MOST_DEPTH c.tree) (sym (count_is c.version)) tree in
-    let few : listed_of sets ≤ 65535 = omega (arith, is.sets, count_is c.version) in
+    let counted : IsTreeOn (set_count priced) (length (listed_rows c.version)) c.size [] MOST_DEPTH c.tree =
+    subst (λ (m : ℕ). IsTreeOn m (length (listed_rows c.version)) c.size [] MOST_DEPTH c.tree) (sym (count_is c.version)) tree in
+    let both_counted : IsTreeOn (set_count priced) (row_count priced) c.size [] MOST_DEPTH c.tree =
+    subst (λ (m : ℕ). IsTreeOn (set_count priced) m c.size [] MOST_DEPTH c.tree) (sym (row_count_is c.version)) counted in
+    let few : AreFew priced = (omega (arith, is.sets, count_is c.version), omega (arith, is.rows, row_count_is c.version)) in
     let lt : c.size < 1000000 = omega (arith, is.size.1) in
     let small : c.size ≤ 65535 = omega (arith, is.size.1) in
-    let l = listed_again c.size c.version 6 nodes small (more (lines_of (is_some sets) (preorder c.tree)) (codes "END" ∷ [] ∷ []) (codes "END", [] ∷ [], refl)) is.listed is.sets in
-    let t = nodes_again sets c.size few is.size.0 lt c.tree l.0 counted is.leaves in
-    let behind = more (map set_text (listed_sets c.version)) (codes "TREE" ∷ nodes) (codes "TREE", nodes, refl) in
+    let some : IsMore nodes = more (lines_of priced (preorder c.tree)) (codes "END" ∷ [] ∷ []) (codes "END", [] ∷ [], refl) in
+    let lists : AreLists c.size c.version = record { listed = is.listed; sets = is.sets; rows_listed = is.rows_listed; in_order = is.in_order; rows = is.rows } in
+    let l = listed_again c.size c.version 6 nodes small some lists in
+    let t = nodes_again priced c.size few is.size.0 lt c.tree l.0 both_counted is.leaves in
+    let rows = map row_text (listed_rows c.version) in
+    let behind = more (map set_text (listed_sets c.version)) (rows ++ (codes "TREE" ∷ nodes)) (more rows (codes "TREE" ∷ nodes) (codes "TREE", nodes, refl)) in
     rw (lines_again c is, head_again c (behind_bound c ([] ∷ [])) behind is, l.1, t.1) refl
 
 -- ---- Two certificates with one text are one.

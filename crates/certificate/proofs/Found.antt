@@ -15,23 +15,27 @@ use Rattle.tenths.specs.Lines.{Left, is_end}
 use Rattle.tenths.specs.Numbers.{number_of, signed_of, capped, clamped, tenths_of}
 use Rattle.tenths.proofs.Cuts.{joined, joined-parts, only_end, joined-spaced, joined-lines}
 use Rattle.tenths.proofs.Digits.{signed_takes, clamped_told, number_takes, both, tenths_takes}
-use Rattle.solomon_reader.specs.declared.limits.TheConstants.{MOST_PRICE, MOST_NAME, MOST_CUSTOMERS, MOST_NEIGHBOURS, MOST_LEAVES, MOST_DEPTH, MOST_SETS}
+use Rattle.solomon_reader.specs.declared.limits.TheConstants.{MOST_PRICE, MOST_NAME, MOST_CUSTOMERS, MOST_NEIGHBOURS, MOST_LEAVES, MOST_DEPTH}
 use Rattle.solomon_reader.specs.Plan.{Arc}
 use Rattle.solomon_reader.specs.Region.{IsArc, Among, root_region}
 use Rattle.solomon_reader.specs.CertificateText.{IsPrice, version_text, leaf_count, Certificate, Content, listed, HasText, IsCertificateText}
-use Rattle.solomon_reader.specs.Bound.{LeafPrices, of_customers, Node, leaf_node, split_node, Version, version_1, version_2, with_sets, listed_sets, Tree, preorder}
+use Rattle.solomon_reader.specs.Bound.{LeafPrices, of_customers, Node, leaf_node, split_node, Version, version_1, version_2, with_sets, with_rows, listed_sets, listed_rows, Tree, preorder}
 use Rattle.tenths.specs.Reading.{◌>>=◌, check, value_or}
 use Rattle.tenths.proofs.Steps.{bind_ok, test_ok, ok_is}
 use Rattle.solomon_reader.specs.Layout.{IsName}
 use Rattle.solomon_reader.specs.Words.{is_letter}
 use Rattle.certificate.specs.declared.fault.CertFault.TheVariants.{BadLine, BadArc, ArcDecided, PriceRange, Extra}
-use Rattle.certificate.specs.Text.{set_prices_text, node_texts, set_text, text_lines, content_text}
+use Rattle.certificate.specs.Text.{set_prices_text, node_texts, set_text, row_text, text_lines, content_text}
 use Rattle.certificate.specs.Reading.{next_at, signed_at, is_price, prices_at, pair_at, is_arc, arc_eq, is_decided, undecided, arc_at, node_in, node_at, fixed_at, second, field_at, is_name}
 use Rattle.certificate.specs.Reading.{name_at, within_from, within_at, bound_at, Head, sizes_at, version_in, version_at, title_at, head_at, tree_at, nodes_at, with_tree, reading}
-use Rattle.certificate.specs.Reading.{listed_at, set_prices_in, leaf_at, set_count, is_some}
-use Rattle.certificate.proofs.Steps.{IsNodeOn, IsTreeOn, decides_root, at_from_on, listed_of, TakesAll, tree_takes}
-use Rattle.certificate.proofs.SetTests.{without_prices}
-use Rattle.certificate.proofs.FoundSets.{capped_told, next_takes, fixed_takes, set_prices_take, IsListedRead, listed_take}
+use Rattle.certificate.specs.Reading.{listed_at, set_prices_at, row_prices_at, leaf_at, priced_lines, set_count, row_count}
+use Rattle.certificate.specs.declared.version.PricedLines.{PricedLines}
+use Rattle.certificate.specs.declared.version.PricedLines.TheVariants.{Customers, Sets, Rows}
+use Rattle.certificate.proofs.Steps.{IsNodeOn, IsTreeOn, decides_root, at_from_on, TakesAll, tree_takes}
+use Rattle.certificate.proofs.SetTests.{without_prices, without_rows, tests_are}
+use Rattle.certificate.proofs.Items.{next_takes}
+use Rattle.certificate.proofs.FoundSets.{capped_told, fixed_takes, set_prices_take, row_prices_take}
+use Rattle.certificate.proofs.FoundRows.{IsListedRead, listed_take}
 use Rattle.certificate.proofs.Texts.{text_is}
 use Rattle.solomon_reader.proofs.Scan.{letter_bounds}
 
@@ -199,36 +203,51 @@ line_takes n lt path st rest x h =
 -- ---- a node
 
 -- the node's lines, and what is left behind them
-abbrev pub TakesNode : Option ℕ → Left → Node → Left → Type 0
-TakesNode sets st x rest = st.1 ≡ node_texts (is_some sets) x ++ rest.1
+abbrev pub TakesNode : PricedLines → Left → Node → Left → Type 0
+TakesNode priced st x rest = st.1 ≡ node_texts priced x ++ rest.1
 
-abbrev IsLeafTaken : Option ℕ → ℕ → List Arc → Left → Node → Left → Type 0
-IsLeafTaken sets n path st x rest = (prices : LeafPrices) × (x ≡ leaf_node prices) × TakesNode sets st x rest × IsNodeOn (listed_of sets) n path x
+abbrev IsNodeIn : PricedLines → ℕ → List Arc → Node → Type 0
+IsNodeIn priced n path x = IsNodeOn (set_count priced) (row_count priced) n path x
 
-leaf_takes : (sets : Option ℕ) (n : ℕ) → n < 1000000 → listed_of sets ≤ MOST_SETS → (path : List Arc) (st mid rest : Left) (zs : List ℤ) (x : Node)
-    → node_at n path st ≡ Ok (leaf_node (of_customers zs), mid) → leaf_at sets zs mid ≡ Ok (x, rest) → IsLeafTaken sets n path st x rest
+abbrev IsLeafTaken : PricedLines → ℕ → List Arc → Left → Node → Left → Type 0
+IsLeafTaken priced n path st x rest = (prices : LeafPrices) × (x ≡ leaf_node prices) × TakesNode priced st x rest × IsNodeIn priced n path x
+
+-- there are few sets and few rows
+abbrev pub AreFew : PricedLines → Type 0
+AreFew priced = (set_count priced < 65535) × (row_count priced < 65535)
+
+leaf_takes : (priced : PricedLines) (n : ℕ) → n < 1000000 → AreFew priced → (path : List Arc) (st mid rest : Left) (zs : List ℤ) (x : Node)
+    → node_at n path st ≡ Ok (leaf_node (of_customers zs), mid) → leaf_at priced zs mid ≡ Ok (x, rest) → IsLeafTaken priced n path st x rest
 unfolding leaf_at
-leaf_takes None n lt few path st mid rest zs x h f =
+leaf_takes Customers n lt few path st mid rest zs x h f =
     let t = line_takes n lt path st mid (leaf_node (of_customers zs)) h in
     let e : (leaf_node (of_customers zs), mid) ≡ (x, rest) = ok_is (leaf_node (of_customers zs), mid) (x, rest) f in
-    subst (λ (y : Node × Left). IsLeafTaken None n path st y.0 y.1) e (of_customers zs, refl, t.0, (t.1.0, t.1.1, without_prices 0 zs t.1.1))
-leaf_takes (Some sets) n lt few path st mid rest zs x h f =
-    let below : sets < 65535 = omega (arith, few) in
+    subst (λ (y : Node × Left). IsLeafTaken Customers n path st y.0 y.1) e (of_customers zs, refl, t.0, (let w = without_prices zs t.1.1 in (t.1.0, t.1.1, w.0, w.1)))
+leaf_takes (Sets sets) n lt few path st mid rest zs x h f =
     let t = line_takes n lt path st mid (leaf_node (of_customers zs)) h in
-    let l = bind_ok (next_at mid) (λ l. set_prices_in sets zs mid.0 (parts 32 l.0) >>= λ ms. Ok (leaf_node (record { customers = zs; sets = ms }), l.1)) (x, rest) f in
-    let m = bind_ok (set_prices_in sets zs mid.0 (parts 32 l.0.0)) (λ ms. Ok (leaf_node (record { customers = zs; sets = ms }), l.0.1)) (x, rest) l.2 in
-    let prices : LeafPrices = record { customers = zs; sets = m.0 } in
-    let e : (leaf_node prices, l.0.1) ≡ (x, rest) = ok_is (leaf_node prices, l.0.1) (x, rest) m.2 in
-    let s = set_prices_take sets mid.0 zs (parts 32 l.0.0) m.0 below m.1 in
-    let text : l.0.0 ≡ set_prices_text m.0 = sym (joined-parts 32 l.0.0) ∙ s.0 in
-    let second : mid.1 ≡ set_prices_text m.0 ∷ l.0.1.1 = next_takes mid.0 mid.1 l.0 l.1 ∙ ap (λ (v : List ℕ). v ∷ l.0.1.1) text in
-    let lines : st.1 ≡ node_texts true (leaf_node prices) ++ l.0.1.1 = t.0 ∙ ap (λ (v : List (List ℕ)). first_text (leaf_node (of_customers zs)) ∷ v) second in
-    subst (λ (y : Node × Left). IsLeafTaken (Some sets) n path st y.0 y.1) e (prices, refl, lines, (t.1.0, t.1.1, s.1))
+    let m = bind_ok (set_prices_at sets zs mid) (λ m. Ok (leaf_node (record { customers = zs; sets = m.0; rows = [] }), m.1)) (x, rest) f in
+    let prices : LeafPrices = record { customers = zs; sets = m.0.0; rows = [] } in
+    let e : (leaf_node prices, m.0.1) ≡ (x, rest) = ok_is (leaf_node prices, m.0.1) (x, rest) m.2 in
+    let s = set_prices_take sets zs mid m.0 few.0 m.1 in
+    let is = tests_are sets 0 prices (without_rows sets zs m.0.0 s.1 s.2) in
+    let lines : st.1 ≡ node_texts (Sets sets) (leaf_node prices) ++ m.0.1.1 = t.0 ∙ ap (λ (v : List (List ℕ)). first_text (leaf_node (of_customers zs)) ∷ v) s.0 in
+    subst (λ (y : Node × Left). IsLeafTaken (Sets sets) n path st y.0 y.1) e (prices, refl, lines, (t.1.0, t.1.1, is.0, is.1))
+leaf_takes (Rows sets rows) n lt few path st mid rest zs x h f =
+    let t = line_takes n lt path st mid (leaf_node (of_customers zs)) h in
+    let m = bind_ok (set_prices_at sets zs mid) (λ m. row_prices_at rows zs m.0 m.1 >>= λ q. Ok (leaf_node (record { customers = zs; sets = m.0; rows = q.0 }), q.1)) (x, rest) f in
+    let q = bind_ok (row_prices_at rows zs m.0.0 m.0.1) (λ q. Ok (leaf_node (record { customers = zs; sets = m.0.0; rows = q.0 }), q.1)) (x, rest) m.2 in
+    let prices : LeafPrices = record { customers = zs; sets = m.0.0; rows = q.0.0 } in
+    let e : (leaf_node prices, q.0.1) ≡ (x, rest) = ok_is (leaf_node prices, q.0.1) (x, rest) q.2 in
+    let s = set_prices_take sets zs mid m.0 few.0 m.1 in
+    let r = row_prices_take rows zs m.0.0 m.0.1 q.0 few.1 q.1 in
+    let is = tests_are sets rows prices (record { sets_listed = s.1; sets_priced = s.2; rows_tested = r.1 }) in
+    let lines : st.1 ≡ node_texts (Rows sets rows) (leaf_node prices) ++ q.0.1.1 = t.0 ∙ ap (λ (v : List (List ℕ)). first_text (leaf_node (of_customers zs)) ∷ v)
+    (s.0 ∙ ap (λ (v : List (List ℕ)). set_prices_text m.0.0 ∷ v) r.0) in
+    subst (λ (y : Node × Left). IsLeafTaken (Rows sets rows) n path st y.0 y.1) e (prices, refl, lines, (t.1.0, t.1.1, is.0, is.1))
 
-split_takes : (sets : Option ℕ) (n : ℕ) → n < 1000000 → (path : List Arc) (st rest : Left) (a : Arc) → node_at n path st ≡ Ok (split_node a, rest)
-    → TakesNode sets st (split_node a) rest × IsNodeOn (listed_of sets) n path (split_node a)
-split_takes None n lt path st rest a h = line_takes n lt path st rest (split_node a) h
-split_takes (Some sets) n lt path st rest a h = line_takes n lt path st rest (split_node a) h
+split_takes : (priced : PricedLines) (n : ℕ) → n < 1000000 → (path : List Arc) (st rest : Left) (a : Arc) → node_at n path st ≡ Ok (split_node a, rest)
+    → TakesNode priced st (split_node a) rest × IsNodeIn priced n path (split_node a)
+split_takes priced n lt path st rest a h = line_takes n lt path st rest (split_node a) h
 
 of_line : (n : ℕ) → n < 1000000 → (path : List Arc) (st rest : Left) (prices : LeafPrices) → node_at n path st ≡ Ok (leaf_node prices, rest) → prices ≡ of_customers prices.customers
 of_line n lt path st rest prices h = (line_takes n lt path st rest (leaf_node prices) h).1.2
@@ -296,28 +315,28 @@ bound_takes st f h =
 
 -- ---- the tree
 
-module _ (sets : Option ℕ) (n : ℕ) (lt : n < 1000000) (few : listed_of sets ≤ MOST_SETS) where
+module _ (priced : PricedLines) (n : ℕ) (lt : n < 1000000) (few : AreFew priced) where
   all_taken : (st : Left) (xs : List Node) (rest : Left)
-      → TakesAll sets n (TakesNode sets) (leaf_takes sets n lt few) (split_takes sets n lt) (of_line n lt) st xs rest → st.1 ≡ flat_map (node_texts (is_some sets)) xs ++ rest.1
+      → TakesAll priced n (TakesNode priced) (leaf_takes priced n lt few) (split_takes priced n lt) (of_line n lt) st xs rest → st.1 ≡ flat_map (node_texts priced) xs ++ rest.1
   all_taken st [] rest h = ap (λ (x : Left). x.1) h
-  all_taken st (x ∷ xs) rest h = h.1 ∙ ap (λ (y : List (List ℕ)). node_texts (is_some sets) x ++ y) (all_taken h.0 xs rest h.2)
-      ∙ sym (append_assoc (node_texts (is_some sets) x) (flat_map (node_texts (is_some sets)) xs) rest.1)
+  all_taken st (x ∷ xs) rest h = h.1 ∙ ap (λ (y : List (List ℕ)). node_texts priced x ++ y) (all_taken h.0 xs rest h.2)
+      ∙ sym (append_assoc (node_texts priced x) (flat_map (node_texts priced) xs) rest.1)
 
   pub record IsTreeRead (st : Left) (nodes : List Node) (rest : Left) : Type 0 where
-    pub lines : st.1 ≡ flat_map (node_texts (is_some sets)) nodes ++ (codes "END" ∷ rest.1)
+    pub lines : st.1 ≡ flat_map (node_texts priced) nodes ++ (codes "END" ∷ rest.1)
     pub tree : Tree
     pub preorder : nodes ≡ preorder tree
-    pub shaped : IsTreeOn (listed_of sets) n [] MOST_DEPTH tree
+    pub shaped : IsTreeOn (set_count priced) (row_count priced) n [] MOST_DEPTH tree
     pub leaves : leaf_count tree ≤ MOST_LEAVES
 
-  pub nodes_take : (st : Left) (f : List Node × Left) → nodes_at sets n st ≡ Ok f → IsTreeRead st f.0 f.1
+  pub nodes_take : (st : Left) (f : List Node × Left) → nodes_at priced n st ≡ Ok f → IsTreeRead st f.0 f.1
   unfolding nodes_at
   nodes_take st f h =
-      let t = bind_ok (tree_at sets n MOST_DEPTH [] MOST_LEAVES st) (λ t. fixed_at (codes "END") t.1.1 >>= λ b. Ok (t.0, b)) f h in
+      let t = bind_ok (tree_at priced n MOST_DEPTH [] MOST_LEAVES st) (λ t. fixed_at (codes "END") t.1.1 >>= λ b. Ok (t.0, b)) f h in
       let b = bind_ok (fixed_at (codes "END") t.0.1.1) (λ b. Ok (t.0.0, b)) f t.2 in
-      let r = tree_takes sets n (TakesNode sets) (leaf_takes sets n lt few) (split_takes sets n lt) (of_line n lt) MOST_DEPTH [] MOST_LEAVES st t.0 t.1 in
-      let lines : st.1 ≡ flat_map (node_texts (is_some sets)) t.0.0 ++ (codes "END" ∷ b.0.1) =
-      all_taken st t.0.0 t.0.1.1 r.spelled ∙ ap (λ (x : List (List ℕ)). flat_map (node_texts (is_some sets)) t.0.0 ++ x) (fixed_takes (codes "END") t.0.1.1 b.0 b.1) in
+      let r = tree_takes priced n (TakesNode priced) (leaf_takes priced n lt few) (split_takes priced n lt) (of_line n lt) MOST_DEPTH [] MOST_LEAVES st t.0 t.1 in
+      let lines : st.1 ≡ flat_map (node_texts priced) t.0.0 ++ (codes "END" ∷ b.0.1) =
+      all_taken st t.0.0 t.0.1.1 r.spelled ∙ ap (λ (x : List (List ℕ)). flat_map (node_texts priced) t.0.0 ++ x) (fixed_takes (codes "END") t.0.1.1 b.0 b.1) in
       subst (λ (x : List Node × Left). IsTreeRead st x.0 x.1) (ok_is (t.0.0, b.0) f b.2)
       (record { lines = lines; tree = r.tree; preorder = r.preorder; shaped = r.shaped; leaves = omega (arith, r.counted) })
 
@@ -347,17 +366,22 @@ pub record IsHeadRead (st : Left) (h : Head) (rest : Left) : Type 0 where
 version_is : (k : ℕ) (v : Version) (l : List ℕ) → version_in k l ≡ Ok v → l ≡ version_text v
 version_is k v l h = first (bytes_eq l (version_text version_1)) refl h
   where
-    third : (t : Bool) → bytes_eq l (version_text (with_sets [])) ≡ t → cond t (Ok (with_sets [])) (Err (BadLine k)) ≡ Ok v → l ≡ version_text v
-    third false e f = absurd cc
+    fourth : (t : Bool) → bytes_eq l (version_text (with_rows [] [])) ≡ t → cond t (Ok (with_rows [] [])) (Err (BadLine k)) ≡ Ok v → l ≡ version_text v
+    fourth false e f = absurd cc
+    fourth true e f = (bytes_eq-Decides l (version_text (with_rows [] []))).0 e ∙ ap version_text (ok_is (with_rows [] []) v f)
+
+    third : (t : Bool) → bytes_eq l (version_text (with_sets [])) ≡ t
+        → cond t (Ok (with_sets [])) (cond (bytes_eq l (version_text (with_rows [] []))) (Ok (with_rows [] [])) (Err (BadLine k))) ≡ Ok v → l ≡ version_text v
+    third false e f = fourth (bytes_eq l (version_text (with_rows [] []))) refl f
     third true e f = (bytes_eq-Decides l (version_text (with_sets []))).0 e ∙ ap version_text (ok_is (with_sets []) v f)
 
     second_of : (t : Bool) → bytes_eq l (version_text version_2) ≡ t
-        → cond t (Ok version_2) (cond (bytes_eq l (version_text (with_sets []))) (Ok (with_sets [])) (Err (BadLine k))) ≡ Ok v → l ≡ version_text v
+        → cond t (Ok version_2) (cond (bytes_eq l (version_text (with_sets []))) (Ok (with_sets [])) (cond (bytes_eq l (version_text (with_rows [] []))) (Ok (with_rows [] [])) (Err (BadLine k)))) ≡ Ok v → l ≡ version_text v
     second_of false e f = third (bytes_eq l (version_text (with_sets []))) refl f
     second_of true e f = (bytes_eq-Decides l (version_text version_2)).0 e ∙ ap version_text (ok_is version_2 v f)
 
     first : (t : Bool) → bytes_eq l (version_text version_1) ≡ t
-        → cond t (Ok version_1) (cond (bytes_eq l (version_text version_2)) (Ok version_2) (cond (bytes_eq l (version_text (with_sets []))) (Ok (with_sets [])) (Err (BadLine k)))) ≡ Ok v
+        → cond t (Ok version_1) (cond (bytes_eq l (version_text version_2)) (Ok version_2) (cond (bytes_eq l (version_text (with_sets []))) (Ok (with_sets [])) (cond (bytes_eq l (version_text (with_rows [] []))) (Ok (with_rows [] [])) (Err (BadLine k))))) ≡ Ok v
         → l ≡ version_text v
     first false e f = second_of (bytes_eq l (version_text version_2)) refl f
     first true e f = (bytes_eq-Decides l (version_text version_1)).0 e ∙ ap version_text (ok_is version_1 v f)
@@ -419,16 +443,24 @@ built v h tree = record { version = v; name = h.name; size = h.size; neighbours 
 same_content : (v : Version) (h : Head) (nodes : List Node) (tree : Tree) → nodes ≡ preorder tree → with_tree v h nodes ≡ listed (built v h tree)
 same_content v h nodes tree f = ap (with_tree v h) f
 
-count_is : (v : Version) → listed_of (set_count v) ≡ length (listed_sets v)
+-- how many sets and rows are listed
+count_is : (v : Version) → set_count (priced_lines v) ≡ length (listed_sets v)
 count_is version_1 = refl
 count_is version_2 = refl
 count_is (with_sets sets) = refl
+count_is (with_rows sets rows) = refl
 
-grouped : (a b : List (List ℕ)) → a ++ (codes "TREE" ∷ (b ++ (codes "END" ∷ ([] ∷ [])))) ≡ ((a ++ (codes "TREE" ∷ [])) ++ (b ++ (codes "END" ∷ []))) ++ ([] ∷ [])
-grouped a b = simp append_assoc
+row_count_is : (v : Version) → row_count (priced_lines v) ≡ length (listed_rows v)
+row_count_is version_1 = refl
+row_count_is version_2 = refl
+row_count_is (with_sets sets) = refl
+row_count_is (with_rows sets rows) = refl
+
+grouped : (a b d : List (List ℕ)) → a ++ (b ++ (codes "TREE" ∷ (d ++ (codes "END" ∷ ([] ∷ []))))) ≡ ((a ++ (b ++ (codes "TREE" ∷ []))) ++ (d ++ (codes "END" ∷ []))) ++ ([] ∷ [])
+grouped a b d = simp append_assoc
 
 module _ (text : List ℕ) (h : Head) (v : Version) (nodes : List Node) (st mid rest : Left) (a : IsHeadRead (1, parts 10 text) h st) (l : IsListedRead h.size h.version st v mid)
-    (lt : h.size < 1000000) (few : listed_of (set_count v) ≤ MOST_SETS) (t : IsTreeRead (set_count v) h.size lt few mid nodes rest) (e : rest.1 ≡ [] ∷ []) where
+    (lt : h.size < 1000000) (few : AreFew (priced_lines v)) (t : IsTreeRead (priced_lines v) h.size lt few mid nodes rest) (e : rest.1 ≡ [] ∷ []) where
   abbrev shown : List (List ℕ) → List (List ℕ)
   shown x = version_text v ∷ (codes "INSTANCE" ++ spaced h.name) ∷ (codes "CUSTOMERS" ++ spaced (decimal h.size))
       ∷ (codes "NEIGHBOURS" ++ spaced (decimal h.neighbours)) ∷ (codes "BOUND" ++ spaced (tenths_text h.bound)) ∷ x
@@ -436,10 +468,11 @@ module _ (text : List ℕ) (h : Head) (v : Version) (nodes : List Node) (st mid 
   all_lines : parts 10 text ≡ text_lines (with_tree v h nodes) ++ ([] ∷ [])
   all_lines =
       let sets = map set_text (listed_sets v) in
-      let spelled = flat_map (node_texts (is_some (set_count v))) nodes in
-      let tail : st.1 ≡ ((sets ++ (codes "TREE" ∷ [])) ++ (spelled ++ (codes "END" ∷ []))) ++ ([] ∷ []) =
-      l.lines ∙ ap (λ (x : List (List ℕ)). sets ++ (codes "TREE" ∷ x)) t.lines
-      ∙ ap (λ (x : List (List ℕ)). sets ++ (codes "TREE" ∷ (spelled ++ (codes "END" ∷ x)))) e ∙ grouped sets spelled in
+      let rows = map row_text (listed_rows v) in
+      let spelled = flat_map (node_texts (priced_lines v)) nodes in
+      let tail : st.1 ≡ ((sets ++ (rows ++ (codes "TREE" ∷ []))) ++ (spelled ++ (codes "END" ∷ []))) ++ ([] ∷ []) =
+      l.lines ∙ ap (λ (x : List (List ℕ)). sets ++ (rows ++ (codes "TREE" ∷ x))) t.lines
+      ∙ ap (λ (x : List (List ℕ)). sets ++ (rows ++ (codes "TREE" ∷ (spelled ++ (codes "END" ∷ x))))) e ∙ grouped sets rows spelled in
       a.lines ∙ ap (λ (x : List ℕ). x ∷ (codes "INSTANCE" ++ spaced h.name) ∷ (codes "CUSTOMERS" ++ spaced (decimal h.size))
       ∷ (codes "NEIGHBOURS" ++ spaced (decimal h.neighbours)) ∷ (codes "BOUND" ++ spaced (tenths_text h.bound)) ∷ st.1) l.first ∙ ap shown tail
 
@@ -448,7 +481,10 @@ module _ (text : List ℕ) (h : Head) (v : Version) (nodes : List Node) (st mid 
       let x = with_tree v h nodes in
       let spelled : text ≡ content_text x = sym (joined-parts 10 text) ∙ ap (λ (y : List (List ℕ)). joined 10 y) all_lines ∙ joined-lines (text_lines x) in
       let same = same_content v h nodes t.tree t.preorder in
-      let shaped : IsTreeOn (length (listed_sets v)) h.size [] MOST_DEPTH t.tree = subst (λ (m : ℕ). IsTreeOn m h.size [] MOST_DEPTH t.tree) (count_is v) t.shaped in
+      let sets : IsTreeOn (length (listed_sets v)) (row_count (priced_lines v)) h.size [] MOST_DEPTH t.tree =
+      subst (λ (m : ℕ). IsTreeOn m (row_count (priced_lines v)) h.size [] MOST_DEPTH t.tree) (count_is v) t.shaped in
+      let shaped : IsTreeOn (length (listed_sets v)) (length (listed_rows v)) h.size [] MOST_DEPTH t.tree =
+      subst (λ (m : ℕ). IsTreeOn (length (listed_sets v)) m h.size [] MOST_DEPTH t.tree) (row_count_is v) sets in
       let at = at_from_on v t.tree (root_region h.size) [] MOST_DEPTH (decides_root h.size) shaped in
       record {
         certificate = built v h t.tree;
@@ -459,6 +495,9 @@ module _ (text : List ℕ) (h : Head) (v : Version) (nodes : List Node) (st mid 
           bound = omega (arith, a.bound);
           listed = l.listed;
           sets = l.few;
+          rows_listed = l.rows_listed;
+          in_order = l.in_order;
+          rows = l.few_rows;
           tree = at.0;
           leaves = t.leaves;
           depth = at.1;
@@ -471,16 +510,16 @@ pub reading_takes : (text : List ℕ) (x : Content) → reading text ≡ Ok x �
 unfolding reading
 reading_takes text x h =
     let a = bind_ok (head_at (1, parts 10 text))
-    (λ h. listed_at h.0.size h.0.version h.1 >>= λ v. nodes_at (set_count v.0) h.0.size v.1 >>= λ t. check (is_end t.1.1) Extra (with_tree v.0 h.0 t.0)) x h in
-    let v = bind_ok (listed_at a.0.0.size a.0.0.version a.0.1) (λ v. nodes_at (set_count v.0) a.0.0.size v.1 >>= λ t. check (is_end t.1.1) Extra (with_tree v.0 a.0.0 t.0)) x a.2 in
-    let t = bind_ok (nodes_at (set_count v.0.0) a.0.0.size v.0.1) (λ t. check (is_end t.1.1) Extra (with_tree v.0.0 a.0.0 t.0)) x v.2 in
+    (λ h. listed_at h.0.size h.0.version h.1 >>= λ v. nodes_at (priced_lines v.0) h.0.size v.1 >>= λ t. check (is_end t.1.1) Extra (with_tree v.0 h.0 t.0)) x h in
+    let v = bind_ok (listed_at a.0.0.size a.0.0.version a.0.1) (λ v. nodes_at (priced_lines v.0) a.0.0.size v.1 >>= λ t. check (is_end t.1.1) Extra (with_tree v.0 a.0.0 t.0)) x a.2 in
+    let t = bind_ok (nodes_at (priced_lines v.0.0) a.0.0.size v.0.1) (λ t. check (is_end t.1.1) Extra (with_tree v.0.0 a.0.0 t.0)) x v.2 in
     let e = test_ok (is_end t.0.1.1) Extra (with_tree v.0.0 a.0.0 t.0.0) x t.2 in
     let p = head_takes (1, parts 10 text) a.0 a.1 in
     let size : a.0.0.size ≤ MOST_CUSTOMERS = p.size.1 in
     let l = listed_take a.0.0.size a.0.0.version a.0.1 v.0 (omega (arith, size)) v.1 in
     let lt : a.0.0.size < 1000000 = omega (arith, size) in
-    let few : listed_of (set_count v.0.0) ≤ MOST_SETS = subst (λ (m : ℕ). m ≤ MOST_SETS) (sym (count_is v.0.0)) l.few in
-    let q = nodes_take (set_count v.0.0) a.0.0.size lt few v.0.1 t.0 t.1 in
+    let few : AreFew (priced_lines v.0.0) = (omega (arith, l.few, count_is v.0.0), omega (arith, l.few_rows, row_count_is v.0.0)) in
+    let q = nodes_take (priced_lines v.0.0) a.0.0.size lt few v.0.1 t.0 t.1 in
     subst (λ (x : Content). IsCertificateText text x) e.1 (put_together text a.0.0 v.0.0 t.0.0 a.0.1 v.0.1 t.0.1 p l lt few q (only_end t.0.1.1 e.0))
 
 -- what has this text is a certificate

@@ -1,4 +1,4 @@
--- What is read of sets and of their prices stands in its lines with this very text.
+-- What is read of sets, and of prices of sets and of rows, stands in its lines with this very text.
 use Rattle.std.proofs.Common.{◌≡◌, ℕ, ◌+◌, ◌≤◌, ◌<◌, Bool, true, false, cond, List, [], ◌∷◌, ◌++◌, length, zero, suc, map, Option, Some, None, Result, Ok, Err, refl, sym, ap, subst, ◌∙◌, arith, append_assoc}
 use Rattle.std.specs.Prelude.{nat_le, ◌&&◌, codes, decimal, ℤ, nat_abs}
 use Rattle.std.specs.Option.{option_map}
@@ -14,22 +14,19 @@ use Rattle.tenths.specs.Reading.{◌>>=◌, check, value_or}
 use Rattle.tenths.proofs.Cuts.{joined, joined-parts, joined-spaced}
 use Rattle.tenths.proofs.Digits.{number_takes, both}
 use Rattle.tenths.proofs.Steps.{bind_ok, test_ok, ok_is}
-use Rattle.solomon_reader.specs.declared.limits.TheConstants.{MOST_PRICE, MOST_SETS, MOST_NEED}
+use Rattle.solomon_reader.specs.declared.limits.TheConstants.{MOST_PRICE, MOST_SETS, MOST_NEED, MOST_ROW_PRICES}
 use Rattle.solomon_reader.specs.SetPrices.{ListedSet, SetPrice}
-use Rattle.solomon_reader.specs.Bound.{Version, version_1, version_2, with_sets, listed_sets}
-use Rattle.solomon_reader.specs.CertificateText.{IsListedSet, set_prices_sum, AreSetPrices, version_text}
+use Rattle.solomon_reader.specs.SubsetRows.{RowPrice}
+use Rattle.solomon_reader.specs.CertificateText.{IsListedSet, set_prices_sum}
 use Rattle.certificate.specs.declared.fault.CertFault.{CertFault}
-use Rattle.certificate.specs.declared.fault.CertFault.TheVariants.{BadLine, PriceRange, NeedRange, BadSet, TooManySets}
-use Rattle.certificate.specs.Text.{set_prices_text, set_text}
-use Rattle.certificate.specs.Reading.{next_at, fixed_at, small, members_at, is_rising, set_in, sets_at, listed_at, pairs_at, are_listed, are_set_prices, set_prices_in}
-use Rattle.certificate.proofs.SetTests.{le_is, customers_are, set_prices_are}
+use Rattle.certificate.specs.declared.fault.CertFault.TheVariants.{BadLine, PriceRange, NeedRange, BadSet, TooManySets, BadRow, TooManyRows}
+use Rattle.certificate.specs.Text.{placed_text, set_text}
+use Rattle.certificate.specs.Shape.{are_row_prices}
+use Rattle.certificate.specs.Reading.{Here, next_at, line_from, fixed_at, small, members_at, is_rising, set_in, sets_at, pairs_at, are_listed, are_small, are_prices, placed_in, set_prices_at, row_prices_at}
+use Rattle.certificate.proofs.SetTests.{le_is, customers_are}
+use Rattle.certificate.proofs.Items.{next_takes, lines_of, from_takes, AllBehind, items_take}
 
 -- ---- lines
-
-pub next_takes : (k : ℕ) (ps : List (List ℕ)) (l : List ℕ × Left) → next_at (k, ps) ≡ Ok l → ps ≡ l.0 ∷ l.1.1
-next_takes k [] l h = absurd cc
-next_takes k (p ∷ []) l h = absurd cc
-next_takes k (p ∷ m ∷ ps) l h = ap (λ (x : List ℕ × Left). x.0 ∷ x.1.1) (ok_is (p, (k + 1, m ∷ ps)) l h)
 
 pub fixed_takes : (text : List ℕ) (st rest : Left) → fixed_at text st ≡ Ok rest → st.1 ≡ text ∷ rest.1
 unfolding fixed_at
@@ -48,14 +45,14 @@ capped_told (Some x) k m h lt =
     let same : x ≡ m = omega (arith, e) in
     ap (λ (y : ℕ). Some y) same
 
-small_told : (o : Option ℕ) (k n m : ℕ) → value_or (BadLine k) (option_map small o) ≡ Ok m → m ≤ n → n < 65535 → o ≡ Some m
+pub small_told : (o : Option ℕ) (k n m : ℕ) → value_or (BadLine k) (option_map small o) ≡ Ok m → m ≤ n → n < 65535 → o ≡ Some m
 small_told None k n m h le lt = absurd cc
 small_told (Some x) k n m h le lt =
     let e : small x ≡ m = ok_is (small x) m h in
     let same : x ≡ m = omega (arith, e) in
     ap (λ (y : ℕ). Some y) same
 
-members_take : (k most : ℕ) (ws : List (List ℕ)) (s : List ℕ) → most < 65535 → members_at k ws ≡ Ok s → AllByRecursion (λ i. i ≤ most) s → ws ≡ map decimal s
+pub members_take : (k most : ℕ) (ws : List (List ℕ)) (s : List ℕ) → most < 65535 → members_at k ws ≡ Ok s → AllByRecursion (λ i. i ≤ most) s → ws ≡ map decimal s
 unfolding members_at
 members_take k most [] s lt h p = ap (λ (x : List ℕ). map decimal x) (ok_is [] s h)
 members_take k most (w ∷ ws) s lt h p =
@@ -69,20 +66,17 @@ members_take k most (w ∷ ws) s lt h p =
     let words : (w ∷ ws) ≡ (decimal a.0 ∷ map decimal b.0) = ap (λ (x : List ℕ). x ∷ ws) t ∙ ap (λ (x : List (List ℕ)). decimal a.0 ∷ x) u in
     words ∙ ap (λ (x : List ℕ). map decimal x) e
 
--- ---- the line of sets' prices
+-- ---- lines of prices
 
 -- the words of numbers in pairs, as a line has them
 abbrev priced_words : List SetPrice → List ℕ
 priced_words ms = flat_map (λ m. spaced (decimal m.0) ++ spaced (decimal m.1)) ms
 
-abbrev are_priced : List SetPrice → Bool
-are_priced ms = list_all (λ m. nat_le 1 m.1 && nat_le m.1 MOST_PRICE) ms
-
 paired : (v w rest : List ℕ) → v ++ (w ++ rest) ≡ (v ++ w) ++ rest
 paired v w rest = sym (append_assoc v w rest)
 
 pairs_take : (k most : ℕ) (ws : List (List ℕ)) (ms : List SetPrice) → most < 65535 → pairs_at k ws ≡ Ok ms → AllByRecursion (λ i. i ≤ most) (map (λ m. m.0) ms)
-    → are_priced ms ≡ true → flat_map spaced ws ≡ priced_words ms
+    → are_small ms ≡ true → flat_map spaced ws ≡ priced_words ms
 unfolding pairs_at
 pairs_take k most [] ms lt h r p = ap priced_words (ok_is [] ms h)
 pairs_take k most (v ∷ []) ms lt h r p = absurd cc
@@ -94,8 +88,8 @@ pairs_take k most (v ∷ w ∷ ws) ms lt h r p =
     let whole : List SetPrice = (a.0, b.0) ∷ c.0 in
     let back : ms ≡ whole = sym {a = whole} e in
     let known : AllByRecursion (λ i. i ≤ most) (a.0 ∷ map (λ m. m.0) c.0) = subst (λ (x : List SetPrice). AllByRecursion (λ i. i ≤ most) (map (λ m. m.0) x)) back r in
-    let prices : are_priced ((a.0, b.0) ∷ c.0) ≡ true = subst (λ (x : List SetPrice). are_priced x ≡ true) back p in
-    let u = both (nat_le 1 b.0 && nat_le b.0 MOST_PRICE) (are_priced c.0) prices in
+    let prices : are_small ((a.0, b.0) ∷ c.0) ≡ true = subst (λ (x : List SetPrice). are_small x ≡ true) back p in
+    let u = both (nat_le 1 b.0 && nat_le b.0 MOST_PRICE) (are_small c.0) prices in
     let grains : b.0 ≤ MOST_PRICE = le_is b.0 MOST_PRICE (both (nat_le 1 b.0) (nat_le b.0 MOST_PRICE) u.0).1 in
     let le : a.0 ≤ most = known.0 in
     let i : v ≡ decimal a.0 = number_takes v a.0 (small_told (number_of v) k most a.0 a.1 le lt) (omega (arith, le, lt)) in
@@ -107,31 +101,61 @@ pairs_take k most (v ∷ w ∷ ws) ms lt h r p =
     ∙ paired (spaced (decimal a.0)) (spaced (decimal b.0)) (priced_words c.0) in
     words ∙ ap priced_words e
 
-pub set_prices_take : (sets k : ℕ) (zs : List ℤ) (ws : List (List ℕ)) (ms : List SetPrice) → sets < 65535 → set_prices_in sets zs k ws ≡ Ok ms
-    → (joined 32 ws ≡ set_prices_text ms) × AreSetPrices sets (record { customers = zs; sets = ms })
-unfolding set_prices_in
-set_prices_take sets k zs [] ms lt h = absurd cc
-set_prices_take sets k zs (w ∷ ws) ms lt h = of (bytes_eq w (codes "M")) refl h
+placed_take : (text : List ℕ) (unknown : CertFault) (most k : ℕ) (ws : List (List ℕ)) (ms : List SetPrice) → most < 65535 → placed_in text unknown most k ws ≡ Ok ms → are_small ms ≡ true
+    → (joined 32 ws ≡ placed_text text ms) × (are_listed most ms ≡ true)
+unfolding placed_in
+placed_take text unknown most k [] ms lt h small = absurd cc
+placed_take text unknown most k (w ∷ ws) ms lt h small = of (bytes_eq w text) refl h
   where
-    of : (t : Bool) → bytes_eq w (codes "M") ≡ t
-        → (cond t (pairs_at k ws) (Err (BadLine k)) >>= λ pairs. check (are_listed sets pairs) (BadSet k) pairs >>= λ some. check (are_set_prices zs some) (PriceRange k) some) ≡ Ok ms
-        → (joined 32 (w ∷ ws) ≡ set_prices_text ms) × AreSetPrices sets (record { customers = zs; sets = ms })
+    of : (t : Bool) → bytes_eq w text ≡ t → (cond t (pairs_at k ws) (Err (BadLine k)) >>= λ pairs. check (are_listed most pairs) unknown pairs) ≡ Ok ms
+        → (joined 32 (w ∷ ws) ≡ placed_text text ms) × (are_listed most ms ≡ true)
     of false e f = absurd cc
     of true e f =
-        let a = bind_ok (pairs_at k ws) (λ pairs. check (are_listed sets pairs) (BadSet k) pairs >>= λ some. check (are_set_prices zs some) (PriceRange k) some) ms f in
-        let b = bind_ok (check (are_listed sets a.0) (BadSet k) a.0) (λ some. check (are_set_prices zs some) (PriceRange k) some) ms a.2 in
-        let c = test_ok (are_listed sets a.0) (BadSet k) a.0 b.0 b.1 in
-        let d = test_ok (are_set_prices zs b.0) (PriceRange k) b.0 ms b.2 in
-        let same : a.0 ≡ ms = c.1 ∙ d.1 in
-        let pairs : pairs_at k ws ≡ Ok ms = a.1 ∙ ap (λ (x : List SetPrice). Ok x) same in
-        let rising : are_listed sets ms ≡ true = subst (λ (x : List SetPrice). are_listed sets x ≡ true) same c.0 in
-        let within : are_set_prices zs ms ≡ true = subst (λ (x : List SetPrice). are_set_prices zs x ≡ true) d.1 d.0 in
-        let is = set_prices_are sets (record { customers = zs; sets = ms }) rising within in
-        let priced = both (are_priced ms) (list_all (λ z. nat_le (set_prices_sum ms + nat_abs z) MOST_PRICE) zs) within in
-        let words = pairs_take k sets ws ms lt pairs is.numbers.known priced.0 in
-        let text : joined 32 (w ∷ ws) ≡ set_prices_text ms = joined-spaced w ws
-        ∙ ap (λ (v : List ℕ). v ++ flat_map spaced ws) ((bytes_eq-Decides w (codes "M")).0 e) ∙ ap (λ (v : List ℕ). codes "M" ++ v) words in
-        (text, is)
+        let a = bind_ok (pairs_at k ws) (λ pairs. check (are_listed most pairs) unknown pairs) ms f in
+        let b = test_ok (are_listed most a.0) unknown a.0 ms a.2 in
+        let pairs : pairs_at k ws ≡ Ok ms = a.1 ∙ ap (λ (x : List SetPrice). Ok x) b.1 in
+        let rising : are_listed most ms ≡ true = subst (λ (x : List SetPrice). are_listed most x ≡ true) b.1 b.0 in
+        let words = pairs_take k most ws ms lt pairs (customers_are most (map (λ m. m.0) ms) rising).known small in
+        let line : joined 32 (w ∷ ws) ≡ placed_text text ms = joined-spaced w ws
+        ∙ ap (λ (v : List ℕ). v ++ flat_map spaced ws) ((bytes_eq-Decides w text).0 e) ∙ ap (λ (v : List ℕ). text ++ v) words in
+        (line, rising)
+
+-- the line of prices behind this word, and what is left behind it
+abbrev IsPlacedRead : List ℕ → Left → List SetPrice × Left → Type 0
+IsPlacedRead text st f = st.1 ≡ placed_text text f.0 ∷ f.1.1
+
+line_read : (text : List ℕ) (st : Left) (h : Here) (ms : List SetPrice) → line_from st ≡ Ok h → joined 32 (parts 32 h.1.0) ≡ placed_text text ms → st.1 ≡ placed_text text ms ∷ h.1.1.1
+line_read text st h ms g e = from_takes st h g ∙ ap (λ (x : List ℕ). x ∷ h.1.1.1) (sym (joined-parts 32 h.1.0) ∙ e)
+
+pub set_prices_take : (sets : ℕ) (zs : List ℤ) (st : Left) (f : List SetPrice × Left) → sets < 65535 → set_prices_at sets zs st ≡ Ok f
+    → IsPlacedRead (codes "M") st f × (are_listed sets f.0 ≡ true) × (are_prices 0 zs f.0 ≡ true)
+unfolding set_prices_at
+set_prices_take sets zs st f lt h =
+    let l = bind_ok (line_from st) (λ l. placed_in (codes "M") (BadSet l.0) sets l.0 (parts 32 l.1.0) >>= λ ms. check (are_prices 0 zs ms) (PriceRange l.0) (ms, l.1.1)) f h in
+    let m = bind_ok (placed_in (codes "M") (BadSet l.0.0) sets l.0.0 (parts 32 l.0.1.0)) (λ ms. check (are_prices 0 zs ms) (PriceRange l.0.0) (ms, l.0.1.1)) f l.2 in
+    let t = test_ok (are_prices 0 zs m.0) (PriceRange l.0.0) (m.0, l.0.1.1) f m.2 in
+    let small = both (are_small m.0) (list_all (λ z. nat_le ((0 + set_prices_sum m.0) + nat_abs z) MOST_PRICE) zs) t.0 in
+    let p = placed_take (codes "M") (BadSet l.0.0) sets l.0.0 (parts 32 l.0.1.0) m.0 lt m.1 small.0 in
+    subst (λ (x : List SetPrice × Left). IsPlacedRead (codes "M") st x × (are_listed sets x.0 ≡ true) × (are_prices 0 zs x.0 ≡ true)) t.1 (line_read (codes "M") st l.0 m.0 l.1 p.0, p.1, t.0)
+
+pub row_prices_take : (rows : ℕ) (zs : List ℤ) (ms : List SetPrice) (st : Left) (f : List RowPrice × Left) → rows < 65535 → row_prices_at rows zs ms st ≡ Ok f
+    → IsPlacedRead (codes "Q") st f × (are_row_prices rows (set_prices_sum ms) zs f.0 ≡ true)
+unfolding row_prices_at
+row_prices_take rows zs ms st f lt h =
+    let s = set_prices_sum ms in
+    let l = bind_ok (line_from st) (λ l. placed_in (codes "Q") (BadRow l.0) rows l.0 (parts 32 l.1.0) >>= λ qs. check (nat_le (length qs) MOST_ROW_PRICES) (TooManyRows l.0) qs
+    >>= λ few. check (are_prices s zs few) (PriceRange l.0) (few, l.1.1)) f h in
+    let q = bind_ok (placed_in (codes "Q") (BadRow l.0.0) rows l.0.0 (parts 32 l.0.1.0)) (λ qs. check (nat_le (length qs) MOST_ROW_PRICES) (TooManyRows l.0.0) qs
+    >>= λ few. check (are_prices s zs few) (PriceRange l.0.0) (few, l.0.1.1)) f l.2 in
+    let b = bind_ok (check (nat_le (length q.0) MOST_ROW_PRICES) (TooManyRows l.0.0) q.0) (λ few. check (are_prices s zs few) (PriceRange l.0.0) (few, l.0.1.1)) f q.2 in
+    let few = test_ok (nat_le (length q.0) MOST_ROW_PRICES) (TooManyRows l.0.0) q.0 b.0 b.1 in
+    let t = test_ok (are_prices s zs b.0) (PriceRange l.0.0) (b.0, l.0.1.1) f b.2 in
+    let priced : are_prices s zs q.0 ≡ true = subst (λ (x : List RowPrice). are_prices s zs x ≡ true) (sym few.1) t.0 in
+    let small = both (are_small q.0) (list_all (λ z. nat_le ((s + set_prices_sum q.0) + nat_abs z) MOST_PRICE) zs) priced in
+    let p = placed_take (codes "Q") (BadRow l.0.0) rows l.0.0 (parts 32 l.0.1.0) q.0 lt q.1 small.0 in
+    let same : (q.0, l.0.1.1) ≡ f = ap (λ (x : List RowPrice). (x, l.0.1.1)) few.1 ∙ t.1 in
+    let tested : are_row_prices rows s zs q.0 ≡ true = rw (p.1, few.0, priced) refl in
+    subst (λ (x : List RowPrice × Left). IsPlacedRead (codes "Q") st x × (are_row_prices rows s zs x.0 ≡ true)) same (line_read (codes "Q") st l.0 q.0 l.1 p.0, tested)
 
 -- ---- the lines of sets
 
@@ -173,67 +197,16 @@ set_in_takes n k (w ∷ v ∷ ws) s lt h =
         let is : IsListedSet n (record { members = members; need = need }) = record { need = (le_is 1 need held.0, le); some = le_is 2 (length members) first.1; customers = customers } in
         subst (λ (x : ListedSet). (joined 32 (w ∷ v ∷ ws) ≡ set_text x) × IsListedSet n x) same (text, is)
 
-pub record AreSetsRead (n most : ℕ) (st : Left) (sets : List ListedSet) (rest : Left) : Type 0 where
-  pub lines : st.1 ≡ map set_text sets ++ (codes "TREE" ∷ rest.1)
+pub record AreSetsRead (n : ℕ) (at : Here) (sets : List ListedSet) (rest : Here) : Type 0 where
+  pub lines : lines_of at ≡ map set_text sets ++ lines_of rest
   pub listed : AllByRecursion (IsListedSet n) sets
-  pub few : length sets ≤ most
+  pub few : length sets ≤ MOST_SETS
 
-ended : (n left : ℕ) (st : Left) (l : List ℕ × Left) (f : List ListedSet × Left) → bytes_eq l.0 (codes "TREE") ≡ true → next_at st ≡ Ok l → ([], l.1) ≡ f → AreSetsRead n left st f.0 f.1
-ended n left st l f e g m =
-    let lines : st.1 ≡ codes "TREE" ∷ l.1.1 = next_takes st.0 st.1 l g ∙ ap (λ (x : List ℕ). x ∷ l.1.1) ((bytes_eq-Decides l.0 (codes "TREE")).0 e) in
-    subst (λ (x : List ListedSet × Left). AreSetsRead n left st x.0 x.1) m (record { lines = lines; listed = tt; few = omega arith })
+all_listed : (n : ℕ) (before : Option ListedSet) (sets : List ListedSet) → AllBehind (λ before s. IsListedSet n s) (λ s. None) before sets → AllByRecursion (IsListedSet n) sets
+all_listed n before [] h = tt
+all_listed n before (s ∷ sets) h = (h.0, all_listed n None sets h.1)
 
-one_set : (n left : ℕ) (st : Left) (l : List ℕ × Left) (s : ListedSet) (r f : List ListedSet × Left) → n < 65535 → next_at st ≡ Ok l → set_in n st.0 (parts 32 l.0) ≡ Ok s
-    → (s ∷ r.0, r.1) ≡ f → AreSetsRead n left l.1 r.0 r.1 → AreSetsRead n (suc left) st f.0 f.1
-one_set n left st l s r f lt g m same more =
-    let t = set_in_takes n st.0 (parts 32 l.0) s lt m in
-    let text : l.0 ≡ set_text s = sym (joined-parts 32 l.0) ∙ t.0 in
-    let lines : st.1 ≡ set_text s ∷ (map set_text r.0 ++ (codes "TREE" ∷ r.1.1)) = next_takes st.0 st.1 l g ∙ ap (λ (x : List ℕ). x ∷ l.1.1) text
-    ∙ ap (λ (x : List (List ℕ)). set_text s ∷ x) more.lines in
-    subst (λ (x : List ListedSet × Left). AreSetsRead n (suc left) st x.0 x.1) same (record { lines = lines; listed = (t.1, more.listed); few = omega (arith, more.few) })
-
-sets_take : (n left : ℕ) (st : Left) (f : List ListedSet × Left) → n < 65535 → sets_at n left st ≡ Ok f → AreSetsRead n left st f.0 f.1
-unfolding sets_at
-sets_take n zero st f lt h =
-    let l = bind_ok (next_at st) (λ l. cond (bytes_eq l.0 (codes "TREE")) (Ok ([], l.1)) (set_in n st.0 (parts 32 l.0) >>= λ s. Err (TooManySets st.0))) f h in
-    of l.0 (bytes_eq l.0.0 (codes "TREE")) refl l.1 l.2
-  where
-    of : (l : List ℕ × Left) (t : Bool) → bytes_eq l.0 (codes "TREE") ≡ t → next_at st ≡ Ok l
-        → cond t (Ok ([], l.1)) (set_in n st.0 (parts 32 l.0) >>= λ s. Err (TooManySets st.0)) ≡ Ok f → AreSetsRead n zero st f.0 f.1
-    of l true e g m = ended n zero st l f e g (ok_is ([], l.1) f m)
-    of l false e g m = let s = bind_ok (set_in n st.0 (parts 32 l.0)) (λ s. Err (TooManySets st.0)) f m in absurd (cc s.2)
-sets_take n (suc left) st f lt h =
-    let l = bind_ok (next_at st) (λ l. cond (bytes_eq l.0 (codes "TREE")) (Ok ([], l.1)) (set_in n st.0 (parts 32 l.0) >>= λ s. sets_at n left l.1 >>= λ more. Ok (s ∷ more.0, more.1))) f h in
-    of l.0 (bytes_eq l.0.0 (codes "TREE")) refl l.1 l.2 (λ rest g m. sets_take n left rest g lt m)
-  where
-    of : (l : List ℕ × Left) (t : Bool) → bytes_eq l.0 (codes "TREE") ≡ t → next_at st ≡ Ok l
-        → cond t (Ok ([], l.1)) (set_in n st.0 (parts 32 l.0) >>= λ s. sets_at n left l.1 >>= λ more. Ok (s ∷ more.0, more.1)) ≡ Ok f
-        → ((rest : Left) (g : List ListedSet × Left) → sets_at n left rest ≡ Ok g → AreSetsRead n left rest g.0 g.1) → AreSetsRead n (suc left) st f.0 f.1
-    of l true e g m more = ended n (suc left) st l f e g (ok_is ([], l.1) f m)
-    of l false e g m more =
-        let s = bind_ok (set_in n st.0 (parts 32 l.0)) (λ s. sets_at n left l.1 >>= λ more. Ok (s ∷ more.0, more.1)) f m in
-        let r = bind_ok (sets_at n left l.1) (λ more. Ok (s.0 ∷ more.0, more.1)) f s.2 in
-        one_set n left st l s.0 r.0 f lt g s.1 (ok_is (s.0 ∷ r.0.0, r.0.1) f r.2) (more l.1 r.0 r.1)
-
--- what stands between the first five lines and the nodes
-pub record IsListedRead (n : ℕ) (version : Version) (st : Left) (v : Version) (rest : Left) : Type 0 where
-  pub lines : st.1 ≡ map set_text (listed_sets v) ++ (codes "TREE" ∷ rest.1)
-  pub first : version_text version ≡ version_text v
-  pub listed : AllByRecursion (IsListedSet n) (listed_sets v)
-  pub few : length (listed_sets v) ≤ MOST_SETS
-
-pub listed_take : (n : ℕ) (version : Version) (st : Left) (f : Version × Left) → n < 65535 → listed_at n version st ≡ Ok f → IsListedRead n version st f.0 f.1
-unfolding listed_at
-listed_take n version_1 st f lt h =
-    let a = bind_ok (fixed_at (codes "TREE") st) (λ a. Ok (version_1, a)) f h in
-    subst (λ (x : Version × Left). IsListedRead n version_1 st x.0 x.1) (ok_is (version_1, a.0) f a.2)
-    (record { lines = fixed_takes (codes "TREE") st a.0 a.1; first = refl; listed = tt; few = omega arith })
-listed_take n version_2 st f lt h =
-    let a = bind_ok (fixed_at (codes "TREE") st) (λ a. Ok (version_2, a)) f h in
-    subst (λ (x : Version × Left). IsListedRead n version_2 st x.0 x.1) (ok_is (version_2, a.0) f a.2)
-    (record { lines = fixed_takes (codes "TREE") st a.0 a.1; first = refl; listed = tt; few = omega arith })
-listed_take n (with_sets sets) st f lt h =
-    let a = bind_ok (sets_at n MOST_SETS st) (λ a. Ok (with_sets a.0, a.1)) f h in
-    let t = sets_take n MOST_SETS st a.0 lt a.1 in
-    subst (λ (x : Version × Left). IsListedRead n (with_sets sets) st x.0 x.1) (ok_is (with_sets a.0.0, a.0.1) f a.2)
-    (record { lines = t.lines; first = refl; listed = t.listed; few = t.few })
+pub sets_take : (n : ℕ) (at : Here) (f : List ListedSet × Here) → n < 65535 → sets_at n at ≡ Ok f → AreSetsRead n at f.0 f.1
+sets_take n at f lt h =
+    let t = items_take (codes "S") (λ before k ws. set_in n k ws) (λ k. TooManySets k) (λ s. None) set_text (λ before s. IsListedSet n s) (λ before k ws s e. set_in_takes n k ws s lt e) MOST_SETS None at f h in
+    record { lines = t.lines; listed = all_listed n None f.0 t.shaped; few = t.few }

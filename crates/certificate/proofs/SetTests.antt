@@ -1,17 +1,17 @@
--- The tests of sets and of their prices tell what they are to tell.
+-- The tests of sets, and of prices of sets and of rows, tell what they are to tell.
 use Rattle.std.proofs.Common.{◌≡◌, refl, ℕ, ◌+◌, ◌<◌, ◌≤◌, true, List, [], ◌∷◌, length, map, arith}
 use Rattle.std.specs.Prelude.{nat_lt, nat_le, ◌&&◌, ℤ, nat_abs}
 use Rattle.std.specs.List.{AllByRecursion, list_all}
 use Rattle.std.proofs.lemmas.List.Sums.{sum_by-cons}
 use Rattle.std.proofs.lemmas.Bool.Decides.{nat_tests}
 use Rattle.tenths.proofs.Digits.{both}
-use Rattle.solomon_reader.specs.declared.limits.TheConstants.{MOST_PRICE, MOST_NEED, MOST_SETS}
+use Rattle.solomon_reader.specs.declared.limits.TheConstants.{MOST_PRICE, MOST_NEED, MOST_SETS, MOST_ROW_PRICES}
 use Rattle.solomon_reader.specs.CustomerSets.{IsRisingFrom, IsCustomerSet}
 use Rattle.solomon_reader.specs.SetPrices.{ListedSet, SetPrice}
-use Rattle.solomon_reader.specs.Bound.{LeafPrices}
-use Rattle.solomon_reader.specs.CertificateText.{IsListedSet, set_prices_sum, AreSetPrices}
-use Rattle.certificate.specs.Reading.{is_rising, are_listed, are_set_prices}
-use Rattle.certificate.specs.Shape.{is_listed_set, are_sets}
+use Rattle.solomon_reader.specs.Bound.{LeafPrices, of_customers}
+use Rattle.solomon_reader.specs.CertificateText.{IsListedSet, set_prices_sum, row_prices_sum, AreSetPrices, AreRowPrices}
+use Rattle.certificate.specs.Reading.{is_rising, are_listed, are_small, are_prices}
+use Rattle.certificate.specs.Shape.{is_listed_set, are_sets, are_row_prices}
 
 pub le_is : (i j : ℕ) → nat_le i j ≡ true → i ≤ j
 le_is i j h = grind (arith, nat_tests)
@@ -19,10 +19,10 @@ le_is i j h = grind (arith, nat_tests)
 pub le_again : (i j : ℕ) → i ≤ j → nat_le i j ≡ true
 le_again i j h = grind (arith, nat_tests)
 
-lt_is : (i j : ℕ) → nat_lt i j ≡ true → i < j
+pub lt_is : (i j : ℕ) → nat_lt i j ≡ true → i < j
 lt_is i j h = grind (arith, nat_tests)
 
-lt_again : (i j : ℕ) → i < j → nat_lt i j ≡ true
+pub lt_again : (i j : ℕ) → i < j → nat_lt i j ≡ true
 lt_again i j h = grind (arith, nat_tests)
 
 -- ---- numbers that rise
@@ -71,14 +71,14 @@ sets_are n sets h = let p = both (nat_le (length sets) MOST_SETS) (list_all (is_
 pub sets_again : (n : ℕ) (sets : List ListedSet) → length sets ≤ MOST_SETS → AllByRecursion (IsListedSet n) sets → are_sets n sets ≡ true
 sets_again n sets few h = rw (le_again (length sets) MOST_SETS few, listed_again n sets h) refl
 
--- ---- prices of sets
+-- ---- prices of sets and of rows
 
-prices_some : (ms : List SetPrice) → list_all (λ m. nat_le 1 m.1 && nat_le m.1 MOST_PRICE) ms ≡ true → AllByRecursion (λ m. 1 ≤ m.1) ms
-prices_some [] h = tt
-prices_some (m ∷ ms) h =
-    let p = both (nat_le 1 m.1 && nat_le m.1 MOST_PRICE) (list_all (λ m. nat_le 1 m.1 && nat_le m.1 MOST_PRICE) ms) h in
+smalls_some : (ms : List SetPrice) → are_small ms ≡ true → AllByRecursion (λ m. 1 ≤ m.1) ms
+smalls_some [] h = tt
+smalls_some (m ∷ ms) h =
+    let p = both (nat_le 1 m.1 && nat_le m.1 MOST_PRICE) (are_small ms) h in
     let q = both (nat_le 1 m.1) (nat_le m.1 MOST_PRICE) p.0 in
-    (le_is 1 m.1 q.0, prices_some ms p.1)
+    (le_is 1 m.1 q.0, smalls_some ms p.1)
 
 prices_within : (sum : ℕ) (zs : List ℤ) → list_all (λ z. nat_le (sum + nat_abs z) MOST_PRICE) zs ≡ true → AllByRecursion (λ z. sum + nat_abs z ≤ MOST_PRICE) zs
 prices_within sum [] h = tt
@@ -90,6 +90,11 @@ within_again : (sum : ℕ) (zs : List ℤ) → AllByRecursion (λ z. sum + nat_a
 within_again sum [] h = refl
 within_again sum (z ∷ zs) h = rw (le_again (sum + nat_abs z) MOST_PRICE h.0, within_again sum zs h.1) refl
 
+-- a smaller sum is within the range, too
+less_within : (less sum : ℕ) (zs : List ℤ) → less ≤ sum → AllByRecursion (λ z. sum + nat_abs z ≤ MOST_PRICE) zs → AllByRecursion (λ z. less + nat_abs z ≤ MOST_PRICE) zs
+less_within less sum [] le h = tt
+less_within less sum (z ∷ zs) le h = (omega (arith, h.0, le), less_within less sum zs le h.1)
+
 -- each price is within what all are
 pub none_above : (most : ℕ) (ms : List SetPrice) → set_prices_sum ms ≤ most → AllByRecursion (λ m. m.1 ≤ most) ms
 none_above most [] h = tt
@@ -97,44 +102,104 @@ none_above most (m ∷ ms) h =
     let sum : set_prices_sum (m ∷ ms) ≡ m.1 + set_prices_sum ms = sum_by-cons (λ m. m.1) m ms in
     (omega (arith, h, sum), none_above most ms (omega (arith, h, sum)))
 
-some_again : (ms : List SetPrice) → AllByRecursion (λ m. 1 ≤ m.1) ms → AllByRecursion (λ m. m.1 ≤ MOST_PRICE) ms → list_all (λ m. nat_le 1 m.1 && nat_le m.1 MOST_PRICE) ms ≡ true
-some_again [] p q = refl
-some_again (m ∷ ms) p q = rw (le_again 1 m.1 p.0, le_again m.1 MOST_PRICE q.0, some_again ms p.1 q.1) refl
+smalls_again : (ms : List SetPrice) → AllByRecursion (λ m. 1 ≤ m.1) ms → AllByRecursion (λ m. m.1 ≤ MOST_PRICE) ms → are_small ms ≡ true
+smalls_again [] p q = refl
+smalls_again (m ∷ ms) p q = rw (le_again 1 m.1 p.0, le_again m.1 MOST_PRICE q.0, smalls_again ms p.1 q.1) refl
 
--- beside a customer's price that of each set is in range
-pub sum_within : (prices : LeafPrices) → 1 ≤ length prices.customers → AllByRecursion (λ z. set_prices_sum prices.sets + nat_abs z ≤ MOST_PRICE) prices.customers
-    → set_prices_sum prices.sets ≤ MOST_PRICE
-sum_within prices some h = of prices.customers some h
+-- beside a customer's price a sum is in range
+sum_within : (sum : ℕ) (zs : List ℤ) → 1 ≤ length zs → AllByRecursion (λ z. sum + nat_abs z ≤ MOST_PRICE) zs → sum ≤ MOST_PRICE
+sum_within sum [] e a = absurd (omega (arith, e))
+sum_within sum (z ∷ zs) e a = omega (arith, a.0)
+
+-- what sets and rows cost together at a leaf
+abbrev leaf_sum : LeafPrices → ℕ
+leaf_sum l = set_prices_sum l.sets + row_prices_sum l.rows
+
+-- each price of sets and of rows is in range
+pub set_prices_small : (sets : ℕ) (l : LeafPrices) → 1 ≤ length l.customers → AreSetPrices sets l → AllByRecursion (λ m. m.1 ≤ MOST_PRICE) l.sets
+set_prices_small sets l some h =
+    let sum : leaf_sum l ≤ MOST_PRICE = sum_within (leaf_sum l) l.customers some h.within in
+    none_above MOST_PRICE l.sets (part (set_prices_sum l.sets) (row_prices_sum l.rows) sum)
   where
-    of : (zs : List ℤ) → 1 ≤ length zs → AllByRecursion (λ z. set_prices_sum prices.sets + nat_abs z ≤ MOST_PRICE) zs → set_prices_sum prices.sets ≤ MOST_PRICE
-    of [] e a = absurd (omega (arith, e))
-    of (z ∷ zs) e a = omega (arith, a.0)
+    part : (s r : ℕ) → s + r ≤ MOST_PRICE → s ≤ MOST_PRICE
+    part s r h = omega (arith, h)
 
-pub set_prices_are : (sets : ℕ) (prices : LeafPrices) → are_listed sets prices.sets ≡ true → are_set_prices prices.customers prices.sets ≡ true → AreSetPrices sets prices
-set_prices_are sets prices p q =
-    let r = both (list_all (λ m. nat_le 1 m.1 && nat_le m.1 MOST_PRICE) prices.sets) (list_all (λ z. nat_le (set_prices_sum prices.sets + nat_abs z) MOST_PRICE) prices.customers) q in
-    record { numbers = customers_are sets (map (λ m. m.0) prices.sets) p; some = prices_some prices.sets r.0; within = prices_within (set_prices_sum prices.sets) prices.customers r.1 }
+pub row_prices_small : (sets : ℕ) (l : LeafPrices) → 1 ≤ length l.customers → AreSetPrices sets l → AllByRecursion (λ q. q.1 ≤ MOST_PRICE) l.rows
+row_prices_small sets l some h =
+    let sum : leaf_sum l ≤ MOST_PRICE = sum_within (leaf_sum l) l.customers some h.within in
+    none_above MOST_PRICE l.rows (part (set_prices_sum l.sets) (row_prices_sum l.rows) sum)
+  where
+    part : (s r : ℕ) → s + r ≤ MOST_PRICE → r ≤ MOST_PRICE
+    part s r h = omega (arith, h)
 
-pub set_prices_again : (sets : ℕ) (prices : LeafPrices) → 1 ≤ length prices.customers → AreSetPrices sets prices
-    → (are_listed sets prices.sets ≡ true) × (are_set_prices prices.customers prices.sets ≡ true)
-set_prices_again sets prices some h =
-    let above = none_above MOST_PRICE prices.sets (sum_within prices some h.within) in (
-      customers_again sets (map (λ m. m.0) prices.sets) h.numbers,
-      rw (some_again prices.sets h.some above, within_again (set_prices_sum prices.sets) prices.customers h.within) refl,
+-- the tests of all prices of sets and of rows at a leaf
+pub record AreTested (sets rows : ℕ) (l : LeafPrices) : Type 0 where
+  pub sets_listed : are_listed sets l.sets ≡ true
+  pub sets_priced : are_prices 0 l.customers l.sets ≡ true
+  pub rows_tested : are_row_prices rows (set_prices_sum l.sets) l.customers l.rows ≡ true
+
+pub tests_are : (sets rows : ℕ) (l : LeafPrices) → AreTested sets rows l → AreSetPrices sets l × AreRowPrices rows l.rows
+tests_are sets rows l t =
+    let zs = l.customers in
+    let s = set_prices_sum l.sets in
+    let a = both (are_small l.sets) (list_all (λ z. nat_le ((0 + s) + nat_abs z) MOST_PRICE) zs) t.sets_priced in
+    let b = both (are_listed rows l.rows) (nat_le (length l.rows) MOST_ROW_PRICES && are_prices s zs l.rows) t.rows_tested in
+    let c = both (nat_le (length l.rows) MOST_ROW_PRICES) (are_prices s zs l.rows) b.1 in
+    let d = both (are_small l.rows) (list_all (λ z. nat_le ((s + set_prices_sum l.rows) + nat_abs z) MOST_PRICE) zs) c.1 in (
+      record { numbers = customers_are sets (map (λ m. m.0) l.sets) t.sets_listed; some = smalls_some l.sets a.0; within = prices_within (leaf_sum l) zs d.1 },
+      record { numbers = customers_are rows (map (λ q. q.0) l.rows) b.0; some = smalls_some l.rows d.0; few = le_is (length l.rows) MOST_ROW_PRICES c.0 },
     )
 
--- where no set is listed none has a price
-pub no_prices : (prices : LeafPrices) → AreSetPrices 0 prices → prices.sets ≡ []
-no_prices prices h = none prices.sets h.numbers
+pub tests_again : (sets rows : ℕ) (l : LeafPrices) → 1 ≤ length l.customers → AreSetPrices sets l × AreRowPrices rows l.rows → AreTested sets rows l
+tests_again sets rows l some h =
+    let zs = l.customers in
+    let s = set_prices_sum l.sets in
+    let r = row_prices_sum l.rows in
+    let alone : list_all (λ z. nat_le ((0 + s) + nat_abs z) MOST_PRICE) zs ≡ true = within_again (0 + s) zs (less_within (0 + s) (s + r) zs (part s r) h.0.within) in
+    let together : list_all (λ z. nat_le ((s + r) + nat_abs z) MOST_PRICE) zs ≡ true = within_again (s + r) zs h.0.within in
+    record {
+      sets_listed = customers_again sets (map (λ m. m.0) l.sets) h.0.numbers;
+      sets_priced = rw (smalls_again l.sets h.0.some (set_prices_small sets l some h.0), alone) refl;
+      rows_tested = rw (
+        customers_again rows (map (λ q. q.0) l.rows) h.1.numbers,
+        le_again (length l.rows) MOST_ROW_PRICES h.1.few,
+        smalls_again l.rows h.1.some (row_prices_small sets l some h.0),
+        together,
+      ) refl;
+    }
   where
-    none : (ms : List SetPrice) → IsCustomerSet 0 (map (λ m. m.0) ms) → ms ≡ []
-    none [] c = refl
-    none (m ∷ ms) c = absurd (omega (arith, c.rising.0, c.known.0))
+    part : (s r : ℕ) → 0 + s ≤ s + r
+    part s r = omega arith
 
--- a leaf where no set has a price
-pub without_prices : (sets : ℕ) (zs : List ℤ) → AllByRecursion (λ z. nat_abs z ≤ MOST_PRICE) zs → AreSetPrices sets (record { customers = zs; sets = [] })
-without_prices sets zs h = record { numbers = record { rising = tt; known = tt }; some = tt; within = within zs h }
+-- where no row has a price the tests of sets are enough
+pub without_rows : (sets : ℕ) (zs : List ℤ) (ms : List SetPrice) → are_listed sets ms ≡ true → are_prices 0 zs ms ≡ true → AreTested sets 0 (record { customers = zs; sets = ms; rows = [] })
+without_rows sets zs ms p q =
+    let s = set_prices_sum ms in
+    let a = both (are_small ms) (list_all (λ z. nat_le ((0 + s) + nat_abs z) MOST_PRICE) zs) q in
+    let within = less_within (s + 0) (0 + s) zs (swap s) (prices_within (0 + s) zs a.1) in
+    record { sets_listed = p; sets_priced = q; rows_tested = within_again (s + 0) zs within }
   where
-    within : (zs : List ℤ) → AllByRecursion (λ z. nat_abs z ≤ MOST_PRICE) zs → AllByRecursion (λ z. 0 + nat_abs z ≤ MOST_PRICE) zs
+    swap : (s : ℕ) → s + 0 ≤ 0 + s
+    swap s = omega arith
+
+-- where none is listed none has a price
+none_priced : (ms : List SetPrice) → IsCustomerSet 0 (map (λ m. m.0) ms) → ms ≡ []
+none_priced [] c = refl
+none_priced (m ∷ ms) c = absurd (omega (arith, c.rising.0, c.known.0))
+
+pub no_prices : (l : LeafPrices) → AreSetPrices 0 l → l.sets ≡ []
+no_prices l h = none_priced l.sets h.numbers
+
+pub no_row_prices : (l : LeafPrices) → AreRowPrices 0 l.rows → l.rows ≡ []
+no_row_prices l h = none_priced l.rows h.numbers
+
+-- a leaf where none has a price
+pub without_prices : (zs : List ℤ) → AllByRecursion (λ z. nat_abs z ≤ MOST_PRICE) zs → AreSetPrices 0 (of_customers zs) × AreRowPrices 0 []
+without_prices zs h = (
+  record { numbers = record { rising = tt; known = tt }; some = tt; within = within zs h },
+  record { numbers = record { rising = tt; known = tt }; some = tt; few = omega arith },
+)
+  where
+    within : (zs : List ℤ) → AllByRecursion (λ z. nat_abs z ≤ MOST_PRICE) zs → AllByRecursion (λ z. (0 + 0) + nat_abs z ≤ MOST_PRICE) zs
     within [] a = tt
     within (z ∷ zs) a = (omega (arith, a.0), within zs a.1)
