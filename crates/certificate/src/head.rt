@@ -3,7 +3,7 @@
 ghost use Rattle.std.specs.Prelude.{◌≡◌, ◌≤◌, IfOk};
 ghost use Rattle.std.specs.List.{list_all};
 ghost use Rattle.tenths.specs.Parts.{parts};
-ghost use Rattle.certificate.specs.Reading.{Gives, fixed_at, version_at, second, field_at, is_name, name_at, within_at, bound_at, head_at};
+ghost use Rattle.certificate.specs.Reading.{Gives, fixed_at, version_at, second, field_at, is_name, name_at, within_at, bound_at, sizes_at, head_at};
 ghost use Rattle.solomon_reader.specs.Words.{is_letter};
 ghost use Rattle.certificate.specs.Text.{version_of};
 
@@ -139,8 +139,18 @@ fn version(alloc: Global, lines: &mut Lines<'_>) -> Result<Version, CertFault>
     Err(CertFault::BadLine { line: number })
 }
 
+/// The numbers of customers and of neighbours.
+#[tactic(auto, unfolding(crate::specs::Reading::sizes_at))]
+fn sizes(lines: &mut Lines<'_>) -> Result<(u16, u32), CertFault>
+    ensures { Gives (λ x. (x, lines.new)) result (sizes_at lines.old) }
+{
+    let size = within(lines, b"CUSTOMERS", 1, u64::from(MOST_CUSTOMERS))? as u16;
+    let neighbours = within(lines, b"NEIGHBOURS", 0, u64::from(MOST_NEIGHBOURS))? as u32;
+    Ok((size, neighbours))
+}
+
 /// The first five lines.
-#[tactic(auto, unfolding(crate::specs::Reading::head_at, crate::specs::Reading::title_at, crate::specs::Reading::sizes_at))]
+#[tactic(auto, unfolding(crate::specs::Reading::head_at, crate::specs::Reading::title_at))]
 pub fn head_lines(alloc: Global, lines: &mut Lines<'_>) -> Result<Head, CertFault>
     ensures { Gives (λ h. (
       record {
@@ -156,8 +166,7 @@ pub fn head_lines(alloc: Global, lines: &mut Lines<'_>) -> Result<Head, CertFaul
 {
     let version = version(alloc, lines)?;
     let name = name(alloc, lines)?;
-    let size = within(lines, b"CUSTOMERS", 1, u64::from(MOST_CUSTOMERS))? as u16;
-    let neighbours = within(lines, b"NEIGHBOURS", 0, u64::from(MOST_NEIGHBOURS))? as u32;
+    let (size, neighbours) = sizes(lines)?;
     let bound = bound(lines)?;
     Ok(Head {
         version,

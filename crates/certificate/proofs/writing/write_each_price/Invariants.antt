@@ -5,4 +5,4 @@ use Rattle.tenths.specs.Text.{spaced}
 use Rattle.certificate.proofs.writing.write_each_price.Given as goal
 
 abbrev pub invariant-loop-priced : goal.invariant-loop-priced
-invariant-loop-priced g l = Takes (g.W.Sink.held l.fn.sink) (g.W.Sink.held l.sink) (flat_map (λ m. spaced (decimal m.set) ++ spaced (decimal m.price)) (take l.priced-index l.set_prices))
+invariant-loop-priced g l = Takes (g.W.Sink.held l.fn.sink) (g.W.Sink.held l.sink) (flat_map (λ m. spaced (decimal (g.P.PlacedPrice.pair m).0) ++ spaced (decimal (g.P.PlacedPrice.pair m).1)) (take l.priced-index l.placed))

@@ -5,7 +5,7 @@ use Rattle.tenths.specs.Text.{line}
 use Rattle.solomon_reader.specs.CertificateText.{Content, first_line}
 use Rattle.certificate.specs.Text.{version_of, content_of, name_lines}
 use Rattle.certificate.proofs.writing.write_names.Goals as goal
-use Rattle.certificate.proofs.writing.write_names.Goals.{in-One, in-Two, in-WithSets}
+use Rattle.certificate.proofs.writing.write_names.Goals.{in-One, in-Two, in-WithSets, in-WithRows}
 
 -- the pieces that are written, one after another
 pieces : List ℕ → List ℕ → List ℕ → List ℕ
@@ -35,6 +35,7 @@ returns g c =
       | in-One w ↦ search rules
       | in-Two w ↦ search rules
       | in-WithSets w ↦ search rules
+      | in-WithRows w ↦ search rules
     ] in
     subst (λ (w : List ℕ). Writes (g.W.Sink.held c.args.sink.now) (g.W.Sink.held c.write_pieces.new.sink) c.write_pieces.result w)
     (ap (λ (w : List ℕ). w ++ pieces c.as_slice.result.now c.as_bytes.result.now c.as_bytes-2.result.now) first

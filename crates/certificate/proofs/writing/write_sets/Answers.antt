@@ -1,7 +1,7 @@
 use Rattle.tenths.specs.Text.{line}
 use Rattle.tenths.proofs.Writes.{writes_err, loop_fails}
 use Rattle.certificate.specs.Text.{listed_set_of, set_text}
-use Rattle.certificate.proofs.writing.write_set_lines.Goals as goal
+use Rattle.certificate.proofs.writing.write_sets.Goals as goal
 
 pub returns-in_err-write_set : goal.returns-in_err-write_set
 returns-in_err-write_set g c =
