@@ -1,6 +1,6 @@
 //! What a labeller works on.
 
-ghost use Rattle.std.specs.Prelude.{◌≡◌, ℕ, ◌+◌, ◌<◌, ◌≤◌, Bool, length, IfOk, IfSome, IsTrue, IsFalse};
+ghost use Rattle.std.specs.Prelude.{◌≡◌, ℕ, ◌+◌, ◌<◌, ◌≤◌, Bool, [], length, IfOk, IfSome, IsTrue, IsFalse};
 ghost use Rattle.solomon_reader.specs.declared.limits.TheConstants.{MOST_PRICE, MOST_ROW_PRICES};
 ghost use Rattle.solomon_reader.specs.States.{CanStep};
 ghost use Rattle.solomon_reader.specs.SubsetRows.{row_price_sum, bits_after, debt};
@@ -200,6 +200,9 @@ impl<'i> Task<'i> {
         ensures bounded { IsBounded self.now.instance.now result }
     {
         let after = self.after(front, step);
+        if !self.has_rows() {
+            return after;
+        }
         let charge = self.charges.charge(bits, step.customer);
         Front {
             cost: after.cost + charge as i64,
@@ -216,8 +219,10 @@ impl<'i> Task<'i> {
         self.charges.after(bits, j)
     }
 
-    /// Whether rows may charge a route. No contract: it decides only how fast a search is.
-    pub fn has_rows(&self) -> bool {
+    /// Whether rows may charge a route.
+    pub fn has_rows(&self) -> bool
+        ensures { IsFalse result → rows_of self.now.payment.rows.now ≡ [] }
+    {
         !self.charges.rows.is_empty()
     }
 
