@@ -97,27 +97,29 @@ impl MemoryGroup {
             && !memories.iter().any(|memory| memory.is_subset_beside(self.memory, other.memory))
     }
 
-    /// The index of a label that dominates a newer one, as far as the group tells, and how many of its labels
-    /// were looked at.
-    fn find_dominating(
+    /// Whether one of its labels dominates a newer one, and how many of them were looked at. Where rows charge, one
+    /// that is no later, dearer or heavier may owe too much, and another one not.
+    fn dominates(
         &self,
-        task: &Task<'_>,
+        completions: &Completions<'_, '_>,
         labels: &[Label],
         label: &Label,
         newer: &Entry,
-    ) -> (Option<usize>, usize) {
+    ) -> (bool, usize)
+        ensures { IsTrue result.0 → IsDominatedIn completions.now labels.now label.now }
+    {
         if !self.may_dominate(newer) {
-            return (None, 0);
+            return (false, 0);
         }
         for (place, entry) in self.entries.iter().enumerate() {
             if entry.time > newer.time {
-                return (None, place);
+                return (false, place);
             }
-            if entry.may_dominate(newer) && is_as_cheap(task, labels, entry.index, label) {
-                return (Some(entry.index), place);
+            if entry.may_dominate(newer) && dominates_at(completions, labels, entry.index, label) {
+                return (true, place);
             }
         }
-        (None, self.entries.len())
+        (false, self.entries.len())
     }
 
     /// The index of a label whose steps were taken and that is no later, dearer or heavier than another one has to
@@ -203,7 +205,7 @@ fn dominates_at(
     if index >= labels.len() {
         return false;
     }
-    let label = labels[index];
+    let label = &labels[index];
     label.active && label.dominates(completions, newer)
 }
 
@@ -214,7 +216,7 @@ fn is_extended(labels: &[Label], index: usize) -> bool {
 
 /// Whether the label at an index is no dearer than another one, whatever rows charge it alone.
 fn is_as_cheap(task: &Task<'_>, labels: &[Label], index: usize, label: &Label) -> bool {
-    !task.has_rows() || index < labels.len() && labels[index].is_as_cheap(task, label)
+    index < labels.len() && labels[index].is_as_cheap(task, label)
 }
 
 /// Whether the label at an index is active.
@@ -309,13 +311,11 @@ impl CustomerLabels {
         ensures { IsTrue result → IsDominatedIn completions.now labels.now label.now }
     {
         for place in 0..self.groups.len() {
-            let group = &self.groups[place];
-            let (found, labels_met) = group.find_dominating(completions.task, labels, label, newer);
+            let (found, labels_met) =
+                self.groups[place].dominates(completions, labels, label, newer);
             let work = 1 + labels_met as u64 / LABELS_OF_UNIT;
             self.work = self.work.saturating_add(work);
-            if let Some(index) = found
-                && dominates_at(completions, labels, index, label)
-            {
+            if found {
                 self.groups.as_mut_slice().swap(0, place);
                 return true;
             }

@@ -69,15 +69,23 @@ impl Label {
         self.is_as_early_and_cheap(task, other) && self.memory.is_subset(other.memory)
     }
 
+    /// Whether this one is no dearer than another one together with what the rows cost that may charge it alone.
+    #[inline(never)]
+    fn is_as_cheap_in_debt(&self, task: &Task<'_>, other: &Label) -> bool
+        ensures { IsTrue result → IsCheapFor (pricing_of task.now).rows self.now other.now }
+    {
+        let debt = task.debt(self.bits, other.bits);
+        i128::from(self.front.cost) + i128::from(debt) <= i128::from(other.front.cost)
+    }
+
     /// Whether this one is no dearer than another one, whatever rows charge this one alone.
     pub(crate) fn is_as_cheap(&self, task: &Task<'_>, other: &Label) -> bool
         ensures { IsTrue result → IsCheapFor (pricing_of task.now).rows self.now other.now }
     {
-        if self.front.cost > other.front.cost {
-            return false;
+        if task.has_rows() {
+            return self.is_as_cheap_in_debt(task, other);
         }
-        let debt = task.debt(self.bits, other.bits);
-        i128::from(self.front.cost) + i128::from(debt) <= i128::from(other.front.cost)
+        self.front.cost <= other.front.cost
     }
 
     /// Whether this one stands where another does, and is no later and no dearer, whatever rows charge it alone.
