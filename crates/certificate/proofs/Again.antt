@@ -30,9 +30,8 @@ use Rattle.certificate.specs.declared.fault.CertFault.TheVariants.{BadLine, BadS
 use Rattle.certificate.specs.declared.version.PricedLines.{PricedLines}
 use Rattle.certificate.specs.declared.version.PricedLines.TheVariants.{Customers, Sets, Rows}
 use Rattle.certificate.specs.Reading.{Here, next_at, line_from, begins, small, members_at, signed_at, is_price, prices_at, priced_lines, set_count, row_count, are_listed, are_prices, pairs_at, placed_in, set_prices_at, row_prices_at, leaf_at, pair_at, is_arc, arc_eq, is_decided, arc_at, node_in, node_at, one_leaf, tree_at, fixed_at, second, field_at}
-use Rattle.certificate.specs.Reading.{is_name, name_at, within_from, within_at, bound_at, Head, sizes_at, version_in, version_at, title_at, head_at, items_at, set_in, is_listed_row, is_behind, row_in, sets_at, rows_at, sets_listed_at, rows_listed_at, listed_at, nodes_at, reading}
+use Rattle.certificate.specs.Reading.{is_name, name_at, within_from, within_at, bound_at, Head, sizes_at, version_in, version_at, title_at, head_at, items_at, set_in, row_in, sets_at, rows_at, sets_listed_at, rows_listed_at, listed_at, nodes_at, reading}
 use Rattle.certificate.specs.Laws.{TextsDiffer}
-use Rattle.certificate.specs.Shape.{are_row_prices}
 use Rattle.certificate.proofs.Items.{AllBehind}
 use Rattle.certificate.proofs.RowTests.{IsRowBehind, row_behind_again, behind_again}
 use Rattle.certificate.proofs.SetTests.{le_again, customers_again, set_prices_small, row_prices_small, tests_again, no_prices, no_row_prices}
@@ -581,8 +580,7 @@ rows_listed_again n sets rows k ps few h is =
     let s = sets_read n sets k f.line f.others few f.some f.no_set is.listed is.sets in
     let r = rows_read n rows s.0 (codes "TREE") ps few h tree_no_row is.rows_listed is.in_order is.rows in
     let behind : rows_at n (s.0, (f.line, (s.0 + 1, f.others))) ≡ Ok (rows, (r.0, (codes "TREE", (r.0 + 1, ps)))) =
-    ap (λ (w : List (List ℕ)). rows_at n (here_of s.0 w)) (sym f.are) ∙ r.1 in
-    (
+    ap (λ (w : List (List ℕ)). rows_at n (here_of s.0 w)) (sym f.are) ∙ r.1 in (
       r.0 + 1,
       ap (λ (w : List (List ℕ)). rows_listed_at n (k, map set_text sets ++ w)) f.are ∙ rw (from_again k (map set_text sets) f.line f.others f.some, s.1, behind) refl,
     )

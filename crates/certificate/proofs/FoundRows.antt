@@ -1,5 +1,5 @@
 -- What is read of rows, and of all lists of a version, stands in its lines with this very text.
-use Rattle.std.proofs.Common.{◌≡◌, ℕ, ◌≤◌, ◌<◌, Bool, true, false, cond, List, [], ◌∷◌, ◌++◌, length, map, Option, Some, None, Ok, Err, refl, sym, ap, subst, ◌∙◌, arith, append_assoc}
+use Rattle.std.proofs.Common.{◌≡◌, ℕ, ◌≤◌, ◌<◌, Bool, true, false, cond, List, [], ◌∷◌, ◌++◌, length, map, Option, Some, None, Ok, refl, sym, ap, subst, ◌∙◌, arith}
 use Rattle.std.specs.Prelude.{◌&&◌, codes, decimal}
 use Rattle.std.specs.List.{flat_map, AllByRecursion}
 use Rattle.std.specs.Str.{bytes_eq}
@@ -18,7 +18,7 @@ use Rattle.certificate.specs.declared.fault.CertFault.TheVariants.{BadLine, BadR
 use Rattle.certificate.specs.Text.{set_text, row_text}
 use Rattle.certificate.specs.Reading.{Here, line_from, fixed_at, members_at, is_listed_row, is_behind, three_of, row_in, sets_at, rows_at, sets_listed_at, rows_listed_at, listed_at}
 use Rattle.certificate.proofs.Items.{lines_of, from_takes, items_take}
-use Rattle.certificate.proofs.RowTests.{IsRowBehind, AreRowsBehind, row_behind_is, behind_are}
+use Rattle.certificate.proofs.RowTests.{IsRowBehind, row_behind_is, behind_are}
 use Rattle.certificate.proofs.FoundSets.{fixed_takes, members_take, sets_take}
 
 -- ---- the lines of rows

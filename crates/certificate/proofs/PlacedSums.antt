@@ -1,5 +1,5 @@
 -- Prices with their places, as the code has them and as contracts see them.
-use Rattle.std.proofs.Common.{◌≡◌, refl, ℕ, zero, suc, length, drop, get_or, ◌⊎◌, inl, inr, ◌+◌, ◌-◌, ◌^◌, ◌<◌, Bool, true, false, List, [], ◌∷◌, map, ap, sym, ◌∙◌, arith}
+use Rattle.std.proofs.Common.{◌≡◌, refl, ℕ, zero, suc, length, drop, get_or, ◌⊎◌, inl, inr, ◌+◌, ◌<◌, Bool, true, false, List, [], ◌∷◌, map, ap, sym, ◌∙◌, arith}
 use Rattle.std.specs.Prelude.{nat_le, ◌&&◌, min, ℤ, nat_abs}
 use Rattle.std.specs.List.{list_all, sum_by}
 use Rattle.std.proofs.lemmas.List.Sums.{sum_by-cons}

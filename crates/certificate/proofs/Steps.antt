@@ -1,6 +1,6 @@
 -- One node of a tree after the other: what is read as nodes is a tree in preorder, of so many leaves and no deeper than the path may grow.
 -- Trees below a path of decided arcs are trees at the region of these arcs.
-use Rattle.std.proofs.Common.{◌≡◌, ℕ, zero, suc, ◌-◌, List, [], ◌∷◌, ◌++◌, Option, Some, None, Result, Ok, Err, refl, ap, ◌∙◌, append_assoc, ◌+◌, ◌≤◌, length, arith, sym, subst, ◌⊎◌, inl, inr, add-one}
+use Rattle.std.proofs.Common.{◌≡◌, ℕ, zero, suc, ◌-◌, List, [], ◌∷◌, ◌++◌, Result, Ok, Err, refl, ap, ◌∙◌, append_assoc, ◌+◌, ◌≤◌, length, arith, sym, subst, ◌⊎◌, inl, inr, add-one}
 use Rattle.std.specs.Prelude.{ℤ}
 use Rattle.std.specs.FinSet.{insert}
 use Rattle.std.specs.List.{AllByRecursion}

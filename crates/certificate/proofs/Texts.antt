@@ -16,7 +16,7 @@ use Rattle.certificate.specs.declared.node.CertNode.{CertNode}
 use Rattle.certificate.specs.declared.parts.CertParts.{CertParts}
 use Rattle.certificate.specs.Tree.{node_of, nodes_of}
 use Rattle.certificate.specs.declared.version.PricedLines.{PricedLines}
-use Rattle.certificate.specs.declared.version.PricedLines.TheVariants.{Customers, Sets, Rows}
+use Rattle.certificate.specs.declared.version.PricedLines.TheVariants.{Customers}
 use Rattle.certificate.specs.Reading.{priced_lines}
 use Rattle.certificate.specs.Text.{content_of, version_of, set_text, row_text, set_prices_text, row_prices_text, priced_texts, node_texts, name_lines, head_lines, content_text}
 

@@ -1,4 +1,4 @@
-use Rattle.std.proofs.Common.{◌≡◌, ◌≤◌, ◌-◌, length, map, Option, None, Some, codes}
+use Rattle.std.proofs.Common.{◌≡◌, ◌≤◌, ◌-◌, length, map, Some, codes}
 use Rattle.std.specs.Option.{option_map}
 use Rattle.solomon_reader.specs.declared.limits.TheConstants.{MOST_ROWS}
 use Rattle.certificate.specs.declared.fault.CertFault.TheVariants.{TooManyRows}

@@ -1,6 +1,6 @@
 use Rattle.std.proofs.lemmas.Result.{err_from_is_err_and}
 use Rattle.std.proofs.lemmas.List.{map-append, length_push}
-use Rattle.std.proofs.Common.{◌≡◌, ℕ, ◌-◌, suc, true, false, List, Option, Some, None, Result, Ok, Err, sym, ap, ◌∙◌, map, length, arith, [], ◌∷◌, ◌++◌}
+use Rattle.std.proofs.Common.{◌≡◌, ℕ, ◌-◌, suc, true, false, List, Option, None, Result, sym, ◌∙◌, map, length, arith, [], ◌∷◌, ◌++◌}
 use Rattle.std.specs.Prelude.{codes}
 use Rattle.tenths.specs.Parts.{parts}
 use Rattle.solomon_reader.specs.declared.limits.TheConstants.{MOST_SETS}

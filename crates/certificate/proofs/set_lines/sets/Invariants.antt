@@ -1,6 +1,5 @@
-use Rattle.std.proofs.Common.{◌≡◌, ◌≤◌, ◌-◌, length, map, Option, None, codes}
+use Rattle.std.proofs.Common.{◌≡◌, ◌≤◌, ◌-◌, length, map, None, codes}
 use Rattle.solomon_reader.specs.declared.limits.TheConstants.{MOST_SETS}
-use Rattle.solomon_reader.specs.SetPrices.{ListedSet}
 use Rattle.certificate.specs.declared.fault.CertFault.TheVariants.{TooManySets}
 use Rattle.certificate.specs.Lines.{here}
 use Rattle.certificate.specs.Reading.{items_at, set_in, sets_at}

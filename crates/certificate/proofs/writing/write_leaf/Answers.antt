@@ -1,9 +1,5 @@
-use Rattle.std.proofs.Common.{◌≡◌, ℕ, List, ◌++◌, sym, subst}
-use Rattle.std.specs.List.{flat_map}
-use Rattle.tenths.specs.Sink.{Fails, Writes}
-use Rattle.tenths.specs.Text.{line}
 use Rattle.tenths.proofs.Writes.{writes_err, writes_then, fails_first}
-use Rattle.solomon_reader.specs.Bound.{LeafPrices, leaf_node}
+use Rattle.solomon_reader.specs.Bound.{LeafPrices}
 use Rattle.solomon_reader.specs.CertificateText.{leaf_line}
 use Rattle.certificate.specs.Tree.{leaf_prices_of}
 use Rattle.certificate.proofs.Texts.{priced_text, leaf_with}
