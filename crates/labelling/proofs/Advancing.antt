@@ -9,11 +9,13 @@ use Rattle.std.proofs.lemmas.List.{reverse-append, length-reverse, take_all, dro
 use Rattle.std.proofs.lemmas.Nat.Bits.{bit_at-zero}
 use Rattle.solomon_reader.specs.Problem.{Problem, IsCustomer, due}
 use Rattle.solomon_reader.specs.Region.{IsAllowed}
-use Rattle.solomon_reader.specs.Relaxed.{IsRelaxed, IsLeastBy, reduced_cost_by}
+use Rattle.solomon_reader.specs.Relaxed.{IsRelaxed}
+use Rattle.solomon_reader.specs.PricedLeaf.{IsLeastBy, charged_cost_by}
+use Rattle.row_charges.specs.Bits.{bit_of}
 use Rattle.solomon_reader.specs.States.{Pricing, start, arc_value, Completes, value_with, IsAtMost, State, step, CanStep, CanEnd}
 use Rattle.solomon_reader.proofs.Completions.{relaxed_completes, value_is, reaches_none, reaches_more, at_most_more, reaches_same}
 use Rattle.completions.specs.Completions.{IsFrom, IsVisitBound}
-use Rattle.fronts.specs.Fronts.{end_cost, IsBounded, IsStart, IsAfter}
+use Rattle.fronts.specs.Fronts.{end_cost, IsBounded, IsStart, IsChargedAfter}
 use Rattle.solomon_reader.specs.Distance.{distance}
 use Rattle.labels.specs.declared.best.Best.{Best}
 use Rattle.labels.specs.declared.label.Label.{Label}
@@ -35,18 +37,18 @@ module _ (q : Pricing) where
   abbrev pub IsReached : Option ℤ → List ℕ → Type 0
   IsReached value route = MatchOption value (route ≡ []) (λ z. Completes q (start q) route × (value_with q (start q) route ≡ z))
 
-  value_by : (o : Option ℤ) (route : List ℕ) → IsReached o route → ((r : List ℕ) → IsRelaxed q.problem q.region q.neighbours r → IsAtMost o (reduced_cost_by q.problem q.paid r))
-      → MatchOption o ((r : List ℕ) → ¬ IsRelaxed q.problem q.region q.neighbours r) (λ z. IsLeastBy q.problem q.region q.neighbours q.paid z)
+  value_by : (o : Option ℤ) (route : List ℕ) → IsReached o route → ((r : List ℕ) → IsRelaxed q.problem q.region q.neighbours r → IsAtMost o (charged_cost_by q.problem q.neighbours q.paid q.rows r))
+      → MatchOption o ((r : List ℕ) → ¬ IsRelaxed q.problem q.region q.neighbours r) (λ z. IsLeastBy q.problem q.region q.neighbours q.paid q.rows z)
   value_by None route found each = λ r relaxed. each r relaxed
   value_by (Some z) route found each =
       record { reached = (route, relaxed_completes q route found.0, sym (value_is q route) ∙ found.1); least = each }
 
   route_by : (o : Option ℤ) (route : List ℕ) → IsReached o route
-      → MatchOption o (route ≡ []) (λ z. IsRelaxed q.problem q.region q.neighbours route × (reduced_cost_by q.problem q.paid route ≡ z))
+      → MatchOption o (route ≡ []) (λ z. IsRelaxed q.problem q.region q.neighbours route × (charged_cost_by q.problem q.neighbours q.paid q.rows route ≡ z))
   route_by None route found = found
   route_by (Some z) route found = (relaxed_completes q route found.0, sym (value_is q route) ∙ found.1)
 
-  pub is_least : (l : Least) → IsReached l.value l.route.items → ((r : List ℕ) → IsRelaxed q.problem q.region q.neighbours r → IsAtMost l.value (reduced_cost_by q.problem q.paid r)) → IsLeastOf q l
+  pub is_least : (l : Least) → IsReached l.value l.route.items → ((r : List ℕ) → IsRelaxed q.problem q.region q.neighbours r → IsAtMost l.value (charged_cost_by q.problem q.neighbours q.paid q.rows r)) → IsLeastOf q l
   is_least l found each = record { value = value_by l.value l.route.items found each; route = route_by l.value l.route.items found }
 
 -- ---- The list of labels grows, labels are dropped and extended, and what was said of it stays.
@@ -55,9 +57,10 @@ module _ (q : Pricing) where
 pub label_read : (xs : List Label) (m : ℕ) (r : Label) → m < length xs → r ≡ get_or xs m r → r ≡ label_in xs m
 label_read xs m r within is = get_or_read xs m r within is blank
 
-pub first_is : (p : Problem) (xs : List Label) (l : Label) → xs ≡ l ∷ [] → IsStart p l.front → IsBounded p l.front → l.memory.bits ≡ 0 → l.parent ≡ 0
+pub first_is : (p : Problem) (xs : List Label) (l : Label) → xs ≡ l ∷ [] → IsStart p l.front → IsBounded p l.front → l.memory.bits ≡ 0
+    → ((i : ℕ) → bit_of l.bits i ≡ false) → l.parent ≡ 0
     → l.stops ≡ 0 → IsPending l → IsFirst p xs
-first_is p xs l one start bounded memory parent stops pending = record {
+first_is p xs l one start bounded memory bits parent stops pending = record {
   label = l;
   one = one;
   start = λ q same. record {
@@ -67,6 +70,7 @@ first_is p xs l one start bounded memory parent stops pending = record {
     cost = start.cost;
     memory =
         λ u. rw (memory, bit_at-zero (place_of q.problem q.neighbours l.front.last u)) refl;
+    bits = bits;
   };
   bounded = bounded;
   parent = parent;
@@ -75,13 +79,13 @@ first_is p xs l one start bounded memory parent stops pending = record {
 }
 
 same_itself : (a : Label) → IsSameStop a a
-same_itself a = record { front = refl; memory = refl; parent = refl; stops = refl }
+same_itself a = record { front = refl; memory = refl; bits = refl; parent = refl; stops = refl }
 
 same_through : (a b c : Label) → IsSameStop a b → IsSameStop b c → IsSameStop a c
-same_through a b c h e = record { front = e.front ∙ h.front; memory = e.memory ∙ h.memory; parent = e.parent ∙ h.parent; stops = e.stops ∙ h.stops }
+same_through a b c h e = record { front = e.front ∙ h.front; memory = e.memory ∙ h.memory; bits = e.bits ∙ h.bits; parent = e.parent ∙ h.parent; stops = e.stops ∙ h.stops }
 
 same_state : (q : Pricing) (a b : Label) → IsSameStop a b → state_at q b ≡ state_at q a
-same_state q a b h = rw (h.front, h.memory) refl
+same_state q a b h = rw (h.front, h.memory, h.bits) refl
 
 later_itself : (a : Label) → IsLater a a
 later_itself a = record { same = same_itself a; active = λ h. h; extended = refl }
@@ -90,7 +94,7 @@ later_through : (a b c : Label) → IsLater a b → IsLater b c → IsLater a c
 later_through a b c h e = record { same = same_through a b c h.same e.same; active = λ t. h.active (e.active t); extended = e.extended ∙ h.extended }
 
 later_inactive : (a : Label) → IsLater a (inactive a)
-later_inactive a = record { same = record { front = refl; memory = refl; parent = refl; stops = refl }; active = λ h. cc; extended = refl }
+later_inactive a = record { same = record { front = refl; memory = refl; bits = refl; parent = refl; stops = refl }; active = λ h. cc; extended = refl }
 
 -- the list has the same stops, and maybe more labels
 record IsLonger (xs ys : List Label) : Type 0 where
@@ -227,7 +231,7 @@ module _ (q : Pricing) where
     step_dear b dear = record { moved = moved_none q xs; labelled = arena; met = λ can. inr (inl (dear can)) }
 
     -- nothing after the front of the step costs less than the best
-    pub step_passed : (b : Option ℤ) (f : Front) → IsAfter q.problem q.paid l.front j f → IsPassed q b f → TakesStep q b xs xs l j
+    pub step_passed : (b : Option ℤ) (f : Front) → IsChargedAfter q l.front (bit_of l.bits) j f → IsPassed q b f → TakesStep q b xs xs l j
     step_passed b f after passed = record { moved = moved_none q xs; labelled = arena; met = λ can. inr (inl (counted can)) }
       where
         remembers : (i : ℕ) → i ≡ j → IsTrue ((step q (state_at q l) j).memory i)
@@ -243,6 +247,7 @@ module _ (q : Pricing) where
         let before : IsSameStop l (label_in ys index) = record {
           front = (longer.same index within).front ∙ sym here.front;
           memory = (longer.same index within).memory ∙ sym here.memory;
+          bits = (longer.same index within).bits ∙ sym here.bits;
           parent = (longer.same index within).parent ∙ sym here.parent;
           stops = (longer.same index within).stops ∙ sym here.stops;
         } in
@@ -420,7 +425,7 @@ module _ (q : Pricing) (xs ys : List Label) (index : ℕ) (b after : Best) (l : 
 
   zs_same : (m : ℕ) → IsSameStop (label_in ys m) (label_in zs m)
   zs_same m = elim (cases_eq m index) [
-    | inl same ↦ rw (same, zs_at) (record { front = refl; memory = refl; parent = refl; stops = refl })
+    | inl same ↦ rw (same, zs_at) (record { front = refl; memory = refl; bits = refl; parent = refl; stops = refl })
     | inr apart ↦ rw (zs_other m apart) (same_itself _)
   ]
 
@@ -581,7 +586,7 @@ module _ (q : Pricing) where
       reached : IsReached q l.value l.route.items
       reached = rw answer.amount (reached_by f.value searched.attained answer.stops)
 
-      each : (r : List ℕ) → IsRelaxed q.problem q.region q.neighbours r → IsAtMost l.value (reduced_cost_by q.problem q.paid r)
+      each : (r : List ℕ) → IsRelaxed q.problem q.region q.neighbours r → IsAtMost l.value (charged_cost_by q.problem q.neighbours q.paid q.rows r)
       each r relaxed = rw answer.amount (least_at_end q f.value (HasPending q xs) (HasActive q xs) searched.covers (λ a s. swept.each s.index s.within s.within s.unextended) searched.first r relaxed)
 
       pub is_least_at_end : IsLeastOf q l

@@ -2,7 +2,8 @@
 use Rattle.std.proofs.Common.{◌≡◌, ℕ, zero, suc, ◌+◌, ◌≤◌, List, [], ◌∷◌, length, arith, ◌⊎◌, inl, inr, Option}
 use Rattle.std.specs.Prelude.{ℤ, ◌≤ℤ◌}
 use Rattle.std.proofs.lemmas.Int.{ints}
-use Rattle.solomon_reader.specs.Relaxed.{IsRelaxed, reduced_cost_by}
+use Rattle.solomon_reader.specs.Relaxed.{IsRelaxed}
+use Rattle.solomon_reader.specs.PricedLeaf.{charged_cost_by}
 use Rattle.solomon_reader.specs.States.{Pricing, State, start, step, CanStep, CanEnd, Completes, value_with, IsAtMost}
 use Rattle.solomon_reader.specs.Covering.{IsCovered, IsDear}
 use Rattle.labels.specs.Cover.{CoversAll, CoversFewer, Carries, CarriesBy}
@@ -103,7 +104,7 @@ module _ (q : Pricing) where
   -- nothing is pending any more, and something as good as the start active
   pub least_at_end : (b : Option ℤ) (Pending Active : State → Type 0) → CoversAll q b Pending Active → ((a : State) → ¬ Pending a)
       → (t : State) × (Active t × Carries q t (start q))
-      → (r : List ℕ) → IsRelaxed q.problem q.region q.neighbours r → IsAtMost b (reduced_cost_by q.problem q.paid r)
+      → (r : List ℕ) → IsRelaxed q.problem q.region q.neighbours r → IsAtMost b (charged_cost_by q.problem q.neighbours q.paid q.rows r)
   least_at_end b Pending Active covers nothing first r relaxed =
       let from_start = completes_relaxed q r relaxed in
       let on = first.1.1.on r from_start in

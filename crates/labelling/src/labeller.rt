@@ -14,6 +14,7 @@ use crate::route_ends::RouteEnd;
 use completions::{Bound, Completions};
 use fronts::{Front, LIST_SIZE, Memory};
 use labels::{Best, Entry, Label, Lookup};
+use row_charges::RowBits;
 use solomon_reader::Instance;
 use std::alloc::{AllocError, Global};
 
@@ -50,6 +51,7 @@ fn first_labels(alloc: Global, instance: &Instance) -> Result<Vec<Label>, AllocE
     labels.push(Label {
         front: Front::start(instance),
         memory: Memory::empty(),
+        bits: RowBits::none(),
         parent: 0,
         stops: 0,
         active: true,

@@ -6,8 +6,8 @@ ghost use Rattle.std.specs.List.{AllByRecursion};
 ghost use Rattle.solomon_reader.specs.Problem.{customer_count};
 ghost use Rattle.solomon_reader.specs.CertificateText.{IsPrice};
 ghost use Rattle.solomon_reader.specs.declared.limits.TheConstants.{MOST_NEIGHBOURS};
-ghost use Rattle.labelling.specs.Answer.{HasLeastValue, HasItsRoute, HasLeastValueWith, HasItsRouteWith, IsLeastOf};
-ghost use Rattle.labelling.specs.Pricings.{pricing_at};
+ghost use Rattle.labelling.specs.Answer.{HasLeastValue, HasItsRoute, HasLeastValueAt, HasItsRouteAt, IsLeastOf};
+ghost use Rattle.labelling.specs.Pricings.{leaf_of, pricing_at};
 ghost use Rattle.priced_sets.specs.Sets.{ArePriced};
 ghost use Rattle.fronts.specs.Tasks.{pricing_of};
 ghost use Rattle.labelling.specs.declared.fault.LabelFault.TheVariants.{LabelLimit};
@@ -101,6 +101,7 @@ fn least_near(
     let payment = Payment {
         prices: task.prices.as_slice(),
         sets: task.sets.as_slice(),
+        rows: task.rows.as_slice(),
     };
     let task = Task::new(alloc, nearness, &task.region, payment)?;
     least_of_task(&task, limit, known, kept)
@@ -137,6 +138,7 @@ pub fn least(
         neighbours,
         prices: prices.to_vec(alloc)?,
         sets: PricedSets::none(alloc, instance),
+        rows: Vec::new(alloc),
     };
     let (hints, mut kept) = (Hints::none(alloc), Kept::nothing(alloc));
     least_by_hints(alloc, &task, limit, &hints, &mut kept)
@@ -153,9 +155,9 @@ pub fn least_by_hints(
     kept: &mut Kept,
 ) -> Result<Least, LabelFault>
     ensures value { let t = task.now in
-        IfOk result (HasLeastValueWith t.instance.now t.region t.neighbours t.prices.items t.sets.sets) }
+        IfOk result (HasLeastValueAt t.instance.now t.region t.neighbours (leaf_of t)) }
     ensures route { let t = task.now in
-        IfOk result (HasItsRouteWith t.instance.now t.region t.neighbours t.prices.items t.sets.sets) }
+        IfOk result (HasItsRouteAt t.instance.now t.region t.neighbours (leaf_of t)) }
     ensures unlimited { IfErr result (λ e. e ≡ LabelLimit → limit ≢ None) }
 {
     let (instance, known) = (task.instance, hints.known.as_slice());

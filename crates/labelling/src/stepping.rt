@@ -40,7 +40,7 @@ impl<'t, 'i> Labeller<'t, 'i> {
     {
         let task = self.completions.task;
         self.taken = self.taken.saturating_add(1);
-        let front = task.after(&label.front, step);
+        let front = task.charged_after(&label.front, label.bits, step);
         let bound = self.completions.at(front.last, front.time);
         if self.is_passed(&front, &bound, best) {
             return Ok(());
