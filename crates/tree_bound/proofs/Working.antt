@@ -211,6 +211,18 @@ kept_of rows xs zs ys x active thinned put = record { new = new; old = old; othe
       ])
     ]
 
+-- a label that is dominated isn't put in
+pub added_none : (rows : List PricedRow) (bs : List (List Label)) (load : ℕ) (x : Label) → IsDominated rows (labels_at bs load) x → IsAdded rows bs bs load x
+added_none rows bs load x dominated = record {
+  same = refl;
+  others = λ d apart. refl;
+  here = record {
+    new = dominated;
+    old = λ m w active. record { index = m; within = w; active = active; good = dominates_itself rows (label_in (labels_at bs load) m) };
+    others = λ m w active. inr (w, refl);
+  };
+}
+
 pub first_kept : (rows : List PricedRow) (x : Label) → x.active ≡ true → IsEntered rows [] (x ∷ []) x
 first_kept rows x active = kept_of rows [] [] (x ∷ []) x active (thinned_none rows [] x) (put_behind [] x)
 

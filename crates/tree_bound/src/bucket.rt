@@ -109,14 +109,14 @@ fn drop_from(
             break;
         }
         let entry = entries[at];
-        if entry.time < label.time
-            || !is_subset(label.memory, entry.memory)
-            || !drop_at(rows, labels, entry.index, label)
-        {
+        if entry.time < label.time || !is_subset(label.memory, entry.memory) {
             at += 1;
-        } else {
-            *free = entries.remove(at).index;
+        } else if drop_at(rows, labels, entry.index, label) {
+            entries.remove(at);
             dropped = dropped.saturating_add(1);
+            *free = entry.index;
+        } else {
+            at += 1;
         }
     }
     dropped

@@ -33,6 +33,9 @@ impl Label {
         ensures { IsTrue result → (self.now.cost +ℤ pos (debt (rows_of rows.now.rows.items)
             (bit_of self.now.bits) (bit_of other.now.bits))) ≤ℤ other.now.cost }
     {
+        if rows.rows.is_empty() {
+            return self.cost <= other.cost;
+        }
         let debt = rows.debt(self.bits, other.bits);
         match self.cost.checked_add(debt as i64) {
             Some(cost) => cost <= other.cost,

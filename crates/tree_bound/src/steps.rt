@@ -1,13 +1,15 @@
 //! The steps from a label.
 
-ghost use Rattle.std.specs.Prelude.{◌≡◌, ◌↔◌, ◌+◌, ◌*◌, ◌<◌, ◌≤◌, length, true, IfOk, IfSome, IsTrue, ℤ, ◌+ℤ◌, ◌≤ℤ◌};
-ghost use Rattle.solomon_reader.specs.declared.limits.TheConstants.{MOST_TIME};
+ghost use Rattle.std.specs.Prelude.{◌≡◌, ◌↔◌, ℕ, ◌+◌, ◌*◌, ◌<◌, ◌≤◌, length, true, IfOk, IfSome, IsTrue, ℤ, ◌+ℤ◌, ◌≤ℤ◌};
+ghost use Rattle.solomon_reader.specs.declared.limits.TheConstants.{MOST_TIME, MOST_PRICE};
 ghost use Rattle.solomon_reader.specs.Problem.{demand};
 ghost use Rattle.solomon_reader.specs.Region.{IsAllowed};
+ghost use Rattle.solomon_reader.specs.SubsetRows.{charged_at, bits_after};
 ghost use Rattle.solomon_reader.specs.States.{begins, step, IsAtMost};
 ghost use Rattle.leaf_arcs.specs.Arcs.{IsAllowedArc, AreAllowedArcs, IsArcRow};
 ghost use Rattle.leaf_arcs.specs.Floors.{IsFloor};
-ghost use Rattle.leaf_arcs.specs.Leaves.{problem_of, region_in, pricing_of};
+ghost use Rattle.leaf_arcs.specs.Leaves.{problem_of, region_in, rows_in, pricing_of};
+ghost use Rattle.row_charges.specs.Bits.{bit_of};
 ghost use Rattle.solomon_reader.specs.Covering.{IsDear};
 ghost use Rattle.tree_bound.specs.Cover.{Adds};
 ghost use Rattle.tree_bound.specs.Labels.{state_of, IsBounded, IsLabel, IsTable};
@@ -17,6 +19,7 @@ use crate::fault::BoundFault;
 use crate::label::Label;
 use crate::table::{Table, keep};
 use leaf_arcs::{AllowedArc, ArcRow, Floor, Leaf, Task, contains};
+use row_charges::RowBits;
 
 /// When service at a further customer begins, in tenths.
 fn begins(leaf: &Leaf<'_, '_>, load: usize, label: &Label, arc: &AllowedArc) -> u64
@@ -46,6 +49,22 @@ pub(crate) fn can_extend(leaf: &Leaf<'_, '_>, load: usize, label: &Label, arc: &
     !contains(label.memory, arc.bit)
 }
 
+/// What a stop at a row of the instance costs, in grains, and the bits behind it. Where no row has a price, nothing
+/// is looked up.
+fn charged(leaf: &Leaf<'_, '_>, bits: RowBits, j: u16) -> (u64, RowBits)
+    requires { j < length (problem_of leaf.now).rows }
+    ensures is { result.0 ≡ charged_at (rows_in leaf.now) (bit_of bits) j }
+    ensures low { result.0 ≤ MOST_PRICE }
+    ensures bits { let q = pricing_of leaf.now in
+        (i : ℕ) → bit_of result.1 i ≡ bits_after q.problem q.neighbours q.rows (bit_of bits) j i }
+{
+    let rows = leaf.rows;
+    if rows.rows.is_empty() {
+        return (0, RowBits::none());
+    }
+    (rows.charge(bits, j), rows.after(bits, j))
+}
+
 /// The label with one more stop.
 pub(crate) fn extend(leaf: &Leaf<'_, '_>, load: usize, label: &Label, arc: &AllowedArc) -> Label
     requires bounded { IsBounded (problem_of leaf.now) load label.now }
@@ -54,8 +73,8 @@ pub(crate) fn extend(leaf: &Leaf<'_, '_>, load: usize, label: &Label, arc: &Allo
     ensures { let q = pricing_of leaf.now in
         IsExtension q load label.now (load + arc.now.demand) arc.now.to result }
 {
-    let (network, rows) = (leaf.network, leaf.rows);
-    let charge = rows.charge(label.bits, arc.to);
+    let network = leaf.network;
+    let (charge, bits) = charged(leaf, label.bits, arc.to);
     Label {
         customer: arc.to,
         memory: network
@@ -63,7 +82,7 @@ pub(crate) fn extend(leaf: &Leaf<'_, '_>, load: usize, label: &Label, arc: &Allo
             .remember(label.customer, label.memory, arc.to),
         time: begins(leaf, load, label, arc) + arc.service,
         cost: label.cost + arc.value + charge as i64,
-        bits: rows.after(label.bits, arc.to),
+        bits,
         active: true,
     }
 }

@@ -9,17 +9,17 @@ pub returns : goal.returns
 returns c =
     let arc = c.requires.arc in
     let x = c.requires.bounded in
-    let cost : to_z w64 (of_z w64 (to_z w64 (of_z w64 (to_z w64 (of_z w64 c.args.label.now.cost) +ℤ to_z w64 (of_z w64 c.args.arc.now.value))) +ℤ to_z w64 c.charge-charge.result))
-    ≡ (c.args.label.now.cost +ℤ c.args.arc.now.value) +ℤ pos c.charge-charge.result =
-    omega (arith, ints, x.low, x.high, x.load, x.held, arc.low, arc.high, c.charge-charge.ensures.low) in
+    let cost : to_z w64 (of_z w64 (to_z w64 (of_z w64 (to_z w64 (of_z w64 c.args.label.now.cost) +ℤ to_z w64 (of_z w64 c.args.arc.now.value))) +ℤ to_z w64 c.charged-charge.result.0))
+    ≡ (c.args.label.now.cost +ℤ c.args.arc.now.value) +ℤ pos c.charged-charge.result.0 =
+    omega (arith, ints, x.low, x.high, x.load, x.held, arc.low, arc.high, c.charged-charge.ensures.low) in
     record {
       same = record {
         last = refl;
         time = omega (arith, c.begins.ensures.is, arc.service_is);
         load = omega (arith, arc.demand_is);
-        cost = omega (arith, ints, cost, arc.value_is, c.charge-charge.ensures.is);
+        cost = omega (arith, ints, cost, arc.value_is, c.charged-charge.ensures.is);
         memory = c.remember.ensures;
-        bits = rw (c.args.leaf.now.same, c.args.leaf.now.listed) at c.after.ensures;
+        bits = c.charged-charge.ensures.bits;
       };
       bounded = record {
         last = omega (arith, arc.customer.0, arc.customer.1);
@@ -28,7 +28,7 @@ returns c =
         load = omega (arith, c.requires.can.load, arc.demand_is);
         held = x.held;
         low = omega (arith, ints, cost, x.low, arc.low, arc.carried);
-        high = omega (arith, ints, cost, x.high, arc.high, arc.carried, c.charge-charge.ensures.low);
+        high = omega (arith, ints, cost, x.high, arc.high, arc.carried, c.charged-charge.ensures.low);
       };
       active = refl;
     }
