@@ -61,6 +61,13 @@ module _ (q : Pricing) (b : Option ℤ) where
   pub step_dear : (bs : List (List Label)) (d : ℕ) (x : Label) (j : ℕ) → IsTable q bs (d + 1) → IsDear q b (step q (state_of q d x) j) → TakesStep q b bs bs d x j
   step_dear bs d x j table dear = record { moved = moved_none q bs (d + 1); table = table; met = λ can. inr dear }
 
+  pub step_no : (bs : List (List Label)) (d : ℕ) (x : Label) (j : ℕ) → IsTable q bs (d + 1) → ¬ CanExtend q d x j → TakesStep q b bs bs d x j
+  step_no bs d x j table cannot = record {
+    moved = moved_none q bs (d + 1);
+    table = table;
+    met = λ can. absurd (cannot (record { load = can.load; due = can.due; fresh = can.fresh }));
+  }
+
   -- the label after a step is one
   pub label_extended : (d : ℕ) (x : Label) (load j : ℕ) (y : Label) → IsLabel q d x → IsCustomer q.problem j → IsAllowed q.region (x.customer, j)
       → CanExtend q d x j → IsExtension q d x load j y → IsLabel q load y
