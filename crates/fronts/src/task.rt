@@ -74,7 +74,13 @@ fn charges_of<'i>(
         return Ok(RowTable::none(alloc, instance, neighbours));
     }
     let rows = Vec::from_slice(alloc, rows)?;
-    RowTable::new(alloc, instance, neighbours, nearness.places.as_slice(), rows)
+    RowTable::new(
+        alloc,
+        instance,
+        neighbours,
+        nearness.places.as_slice(),
+        rows,
+    )
 }
 
 impl<'i> Task<'i> {

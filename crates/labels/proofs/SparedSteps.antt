@@ -1,23 +1,21 @@
 -- What a label whose steps were taken spares another one: where a step forgets all that it has beside what the other remembers, it goes on as well.
-use Rattle.std.proofs.Common.{◌≡◌, refl, ℕ, ◌+◌, ◌<◌, ◌≤◌, ◌^◌, true, false, ◌||◌, ◌&&◌, eqb, List, [], ◌∷◌, length, arith, ap, sym, ◌∙◌, inl, inr}
-use Rattle.std.specs.Prelude.{◌≤ℤ◌, IsTrue}
+use Rattle.std.proofs.Common.{◌≡◌, refl, ℕ, ◌<◌, ◌^◌, true, eqb, List, ◌∷◌, arith, ap, sym, ◌∙◌, inl, inr}
 use Rattle.std.proofs.lemmas.Int.{ints}
 use Rattle.std.proofs.lemmas.Nat.Bits.{bit_at_above}
-use Rattle.std.proofs.lemmas.Bool.{cases_lt, or_cases, or_left, or_right, and_parts, and_from, both_ways, false_from_ne_true, eq-eqb}
+use Rattle.std.proofs.lemmas.Bool.{cases_lt, or_cases, or_left, or_right, and_parts, and_from, both_ways, false_from_ne_true}
 use Rattle.std.proofs.lemmas.List.Sums.{sum_by-cons}
 use Rattle.solomon_reader.specs.Problem.{demand}
 use Rattle.solomon_reader.specs.Distance.{distance}
-use Rattle.solomon_reader.specs.Plan.{load_of}
-use Rattle.solomon_reader.specs.Remembering.{near, remember}
-use Rattle.solomon_reader.specs.Memories.{has_bit, place_of, recalls}
-use Rattle.solomon_reader.specs.States.{Pricing, State, step, arc_value, CanStep, Completes, value_with}
+use Rattle.solomon_reader.specs.Remembering.{near}
+use Rattle.solomon_reader.specs.Memories.{has_bit, place_of}
+use Rattle.solomon_reader.specs.States.{Pricing, step, arc_value, CanStep, Completes}
 use Rattle.solomon_reader.specs.RowLaws.{debt_step}
 use Rattle.solomon_reader.proofs.Places.{place_first, near_at, not_near}
 use Rattle.row_charges.specs.Bits.{bit_of}
 use Rattle.fronts.specs.Memories.{Keeps}
 use Rattle.fronts.specs.declared.memory.Memory.{Memory}
 use Rattle.labels.specs.declared.label.Label.{Label}
-use Rattle.labels.specs.Arena.{label_in, state_at, HasExtended, IsGrown, IsSpared}
+use Rattle.labels.specs.Arena.{label_in, state_at, IsGrown, IsSpared}
 use Rattle.labels.specs.Cover.{IsNoWorse, Carries, CarriesBy}
 use Rattle.labels.specs.Sparing.{IsSparing}
 use Rattle.labels.proofs.Carrying.{carries_light}

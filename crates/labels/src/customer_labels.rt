@@ -99,7 +99,7 @@ impl MemoryGroup {
 
     /// Whether one of its labels dominates a newer one, and how many of them were looked at. Where rows charge, one
     /// that is no later, dearer or heavier may owe too much, and another one not.
-    fn dominates(
+    fn has_dominating(
         &self,
         completions: &Completions<'_, '_>,
         labels: &[Label],
@@ -138,7 +138,7 @@ impl MemoryGroup {
             let index = entry.index;
             if entry.may_dominate(other)
                 && is_extended(labels, index)
-                && is_as_cheap(task, labels, index, label)
+                && is_no_dearer(task, labels, index, label)
             {
                 return Some(index);
             }
@@ -215,7 +215,7 @@ fn is_extended(labels: &[Label], index: usize) -> bool {
 }
 
 /// Whether the label at an index is no dearer than another one, whatever rows charge it alone.
-fn is_as_cheap(task: &Task<'_>, labels: &[Label], index: usize, label: &Label) -> bool {
+fn is_no_dearer(task: &Task<'_>, labels: &[Label], index: usize, label: &Label) -> bool {
     index < labels.len() && labels[index].is_as_cheap(task, label)
 }
 
@@ -311,8 +311,12 @@ impl CustomerLabels {
         ensures { IsTrue result → IsDominatedIn completions.now labels.now label.now }
     {
         for place in 0..self.groups.len() {
-            let (found, labels_met) =
-                self.groups[place].dominates(completions, labels, label, newer);
+            let (found, labels_met) = self.groups[place].has_dominating(
+                completions,
+                labels,
+                label,
+                newer,
+            );
             let work = 1 + labels_met as u64 / LABELS_OF_UNIT;
             self.work = self.work.saturating_add(work);
             if found {

@@ -1,6 +1,6 @@
 -- The least reduced cost: how far it may be from 0, and the route that a step goes by. At a region that allows fewer arcs it stays where its route is allowed there.
-use Rattle.std.proofs.Common.{refl, Bool, true, false, cond, ℕ, zero, suc, ◌+◌, ◌-◌, ◌*◌, ◌≤◌, List, [], ◌∷◌, length, inl, inr, arith, subst, ◌≡◌, ◌∙◌}
-use Rattle.std.specs.Prelude.{ℤ, pos, negsuc, ◌-ℤ◌, ◌≤ℤ◌, nat_abs, Option, Some, None, MatchOption, slice_index_or}
+use Rattle.std.proofs.Common.{refl, Bool, true, false, cond, ℕ, zero, suc, ◌+◌, ◌-◌, ◌*◌, ◌≤◌, List, [], ◌∷◌, length, inl, inr, arith, subst, sym, ◌≡◌, ◌∙◌}
+use Rattle.std.specs.Prelude.{ℤ, pos, negsuc, ◌+ℤ◌, ◌-ℤ◌, ◌≤ℤ◌, nat_abs, Option, Some, None, MatchOption, slice_index_or}
 use Rattle.std.specs.List.{AllByRecursion, sum_by}
 use Rattle.std.proofs.lemmas.Int.{ints}
 use Rattle.std.proofs.lemmas.List.Sums.{sum_by-cons}
@@ -114,18 +114,23 @@ module _ (prices : List ℤ) (priced : AllByRecursion IsPrice prices) where
   near_zero cost n paid sum low high few small bound =
       abs_within ((pos (1000 * cost) -ℤ sum) -ℤ pos paid) 20000000000000000 (omega (arith, ints)) (omega (arith, ints))
 
+  -- no rows charge nothing
+  uncharged : (z : ℤ) (most : ℕ) → nat_abs z ≤ most → nat_abs (z +ℤ pos 0) ≤ most
+  uncharged z most small = abs_within (z +ℤ pos 0) most (omega (arith, ints, abs_low z most small)) (omega (arith, ints, abs_high z most small))
+
   module _ (p : Problem) (sets : List PricedSet) (are : ArePriced p sets) (limits : IsWithinLimits p) where
-    reduced_small : (r : List ℕ) → IsFitting p r → nat_abs (reduced_cost_at p k (without_rows prices sets) r) ≤ 20000000000000000
-    reduced_small r fitting =
-        near_zero (route_cost p r) (length r) (paid_for_entries sets r) (int_sum_by (price_of prices) r) (prices_low r) (prices_high r) (short p limits r fitting) (cheap p limits r fitting)
-        (paid_within (customer_count p) sets r (sets_known p sets are.listed) are.within)
+    reduced_small : (k : ℕ) (r : List ℕ) → IsFitting p r → nat_abs (reduced_cost_at p k (without_rows prices sets) r) ≤ 20000000000000000
+    reduced_small k r fitting =
+        let small = near_zero (route_cost p r) (length r) (paid_for_entries sets r) (int_sum_by (price_of prices) r) (prices_low r) (prices_high r) (short p limits r fitting)
+        (cheap p limits r fitting) (paid_within (customer_count p) sets r (sets_known p sets are.listed) are.within) in
+        uncharged ((pos (1000 * route_cost p r) -ℤ int_sum_by (price_of prices) r) -ℤ pos (paid_for_entries sets r)) 20000000000000000 small
 
     least_small : (g : Region) (k : ℕ) (least : Option ℤ)
         → MatchOption least ((r : List ℕ) → ¬ IsRelaxed p g k r) (λ m. IsLeastAt p g k (without_rows prices sets) m) → nat_abs (or_zero least) ≤ 20000000000000000
     least_small g k None is = omega arith
     least_small g k (Some m) is =
         let P : ℤ → Type 0 = λ z. nat_abs z ≤ 20000000000000000 in
-        subst P is.reached.2 (reduced_small is.reached.0 is.reached.1.fitting)
+        subst P is.reached.2 (reduced_small k is.reached.0 is.reached.1.fitting)
 
 up-le : (z : ℤ) → up z ≤ nat_abs z
 up-le (pos n) = omega arith
@@ -194,6 +199,17 @@ module _ (p : Problem) (g h : Region) (k : ℕ) (prices : List ℤ) (sets : List
       inl (subst (λ (z : ℤ). IsLeastAt p g k (without_rows prices sets) z) (equal_leasts l m below above) still)
   same_least (Some l) m is still (inr nought) = absurd (nought.0 is.reached.0 is.reached.1)
 
+-- a copy of a least reduced cost is one, too
+pub copied_least : (p : Problem) (g : Region) (k : ℕ) (prices : List ℤ) (sets : List PricedSet) (least found : Least) → found.value ≡ least.value → found.route.items ≡ least.route.items
+    → HasLeastValueAt p g k (without_rows prices sets) least → HasItsRouteAt p g k (without_rows prices sets) least
+    → HasLeastValueAt p g k (without_rows prices sets) found × HasItsRouteAt p g k (without_rows prices sets) found
+copied_least p g k prices sets least found same_value same_route is_least has_route =
+    let Route : Option ℤ → List ℕ → Type 0 =
+    λ value route. MatchOption value (route ≡ []) (λ m. IsRelaxed p g k route × (reduced_cost_at p k (without_rows prices sets) route ≡ m)) in (
+      subst (λ (value : Option ℤ). MatchOption value ((r : List ℕ) → ¬ IsRelaxed p g k r) (λ m. IsLeastAt p g k (without_rows prices sets) m)) (sym same_value) is_least,
+      subst (λ (value : Option ℤ). Route value found.route.items) (sym same_value) (subst (λ (route : List ℕ). Route least.value route) (sym same_route) has_route),
+    )
+
 -- so prices at the wider region are prices with the same value at the narrower one
 pub narrowed_pricing : (p : Problem) (g h : Region) (k : ℕ) (prices : List ℤ) (sets : List PricedSet) (v : ℕ) (least found : Least) → IsNarrower g h → StaysLeast g least
     → found.value ≡ least.value → found.route.items ≡ least.route.items
@@ -216,9 +232,4 @@ narrowed_pricing p g h k prices sets v least found narrower allowed same_value s
       };
       bound = is.bound;
     } in
-    (pricing, rw (same_value) still, rw (same_value, same_route) routed)
-
--- a copy of a least reduced cost is one, too
-pub copied_least : (p : Problem) (g : Region) (k : ℕ) (prices : List ℤ) (sets : List PricedSet) (least found : Least) → found.value ≡ least.value → found.route.items ≡ least.route.items
-    → HasLeastValueAt p g k (without_rows prices sets) least → HasItsRouteAt p g k (without_rows prices sets) least → HasLeastValueAt p g k (without_rows prices sets) found × HasItsRouteAt p g k (without_rows prices sets) found
-copied_least p g k prices sets least found same_value same_route is_least has_route = (rw (same_value) is_least, rw (same_value, same_route) has_route)
+    (pricing, copied_least p g k prices sets least found same_value same_route still routed)

@@ -7,6 +7,7 @@ use Rattle.std.proofs.lemmas.Int.{ints}
 use Rattle.priced_sets.specs.Sets.{IsWithin}
 use Rattle.solomon_reader.specs.CertificateText.{IsPrice}
 use Rattle.solomon_reader.specs.SetPrices.{PricedSet}
+use Rattle.solomon_reader.specs.Bound.{IsRoundedUp}
 use Rattle.solomon_reader.specs.SumLaws.{up, down}
 use Rattle.solomon_reader.proofs.Grains.{grains_are}
 
@@ -42,3 +43,7 @@ grains_more fleet routes above below needs whole s m e is = omega (arith, ints, 
 pub within_none : (sets : List PricedSet) (prices : List ℤ) → sets ≡ [] → AllByRecursion IsPrice prices → AllByRecursion (IsWithin sets) prices
 within_none sets [] none all = tt
 within_none sets (z ∷ prices) none all = (rw none (omega (arith, all.0)), within_none sets prices none all.1)
+
+-- a number of grains less nothing
+pub rounded_plain : (z : ℤ) (v : ℕ) → IsRoundedUp z v → IsRoundedUp (z -ℤ pos 0) v
+rounded_plain z v is = record { covers = omega (arith, ints, is.covers); least = λ w h. is.least w (omega (arith, ints, h)) }

@@ -8,7 +8,7 @@ use Rattle.priced_sets.specs.Sets.{ArePriced}
 use Rattle.prices.specs.ValuedPrices.{or_zero}
 use Rattle.prices.proofs.LeastCosts.{least_above, least_below, least_or_zero}
 use Rattle.priced_sets.proofs.Sums.{needs_within}
-use Rattle.prices.proofs.Values.{grains_more}
+use Rattle.prices.proofs.Values.{grains_more, rounded_plain}
 use Rattle.prices.proofs.priced.evaluate.Goals as goal
 
 pub more-requires-clause-more : goal.more-requires-clause-more
@@ -59,7 +59,7 @@ returns-clause-value c =
         priced = c.args.task.now.count;
         least = or_zero c.in_ok-found.found.value;
         is_least = least_or_zero c.args.task.now.instance.now c.args.task.now.region c.args.task.now.neighbours c.args.task.now.prices.items sets c.in_ok-found.found.value c.in_ok-found.ensures.value;
-        rounded = rw (← c.fewest_routes.ensures.value, ← c.fleet.ensures.value) rounded;
+        rounded = rounded_plain _ _ (rw (← c.fewest_routes.ensures.value, ← c.fleet.ensures.value) rounded);
       };
       bound = c.value_of-value.ensures.bound;
     }

@@ -1,5 +1,4 @@
-use Rattle.std.proofs.Common.{refl, sym, ◌∙◌, ◌<◌, ◌≤◌, ◌+◌, inl, inr, arith}
-use Rattle.std.proofs.lemmas.Bool.{cases_lt}
+use Rattle.std.proofs.Common.{refl, sym, ◌∙◌, arith}
 use Rattle.fronts.specs.Tasks.{pricing_of}
 use Rattle.completions.specs.Completions.{IsFrom}
 use Rattle.completions.proofs.Following.{load_fits}
