@@ -232,4 +232,4 @@ narrowed_pricing p g h k prices sets v least found narrower allowed same_value s
       };
       bound = is.bound;
     } in
-    (pricing, copied_least p g k prices sets least found same_value same_route still routed)
+    let copied = copied_least p g k prices sets least found same_value same_route still routed in (pricing, copied.0, copied.1)

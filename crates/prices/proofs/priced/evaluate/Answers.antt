@@ -59,7 +59,7 @@ returns-clause-value c =
         priced = c.args.task.now.count;
         least = or_zero c.in_ok-found.found.value;
         is_least = least_or_zero c.args.task.now.instance.now c.args.task.now.region c.args.task.now.neighbours c.args.task.now.prices.items sets c.in_ok-found.found.value c.in_ok-found.ensures.value;
-        rounded = rounded_plain _ _ (rw (← c.fewest_routes.ensures.value, ← c.fleet.ensures.value) rounded);
+        rounded = rw (← c.fewest_routes.ensures.value, ← c.fleet.ensures.value) (rounded_plain _ _ rounded);
       };
       bound = c.value_of-value.ensures.bound;
     }
