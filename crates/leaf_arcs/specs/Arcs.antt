@@ -1,5 +1,5 @@
 -- The arcs that a leaf allows, with what a step over them needs.
-use Rattle.std.specs.Prelude.{◌≡◌, ◌↔◌, ℕ, ◌+◌, ◌*◌, ◌<◌, ◌≤◌, List, Vec, length, slice_index_or, IsTrue, Bool, true, ◌==◌, ℤ, pos, ◌+ℤ◌, ◌≤ℤ◌, nat_abs}
+use Rattle.std.specs.Prelude.{◌≡◌, ◌↔◌, ℕ, ◌+◌, ◌*◌, ◌<◌, ◌≤◌, List, Vec, length, slice_index_or, IsTrue, Bool, true, ◌==◌, pos, ◌+ℤ◌, ◌≤ℤ◌, nat_abs}
 use Rattle.std.specs.declared.alloc.Global.{Global}
 use Rattle.std.specs.List.{AllByRecursion, list_any}
 use Rattle.solomon_reader.specs.declared.limits.TheConstants.{MOST_TIME, MOST_DISTANCE, MOST_DEMAND, MOST_PRICE}

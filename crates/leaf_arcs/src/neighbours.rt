@@ -86,11 +86,7 @@ impl<'i> Neighbours<'i> {
     }
 
     /// The table of rows that have a price, by the places in these lists.
-    pub fn row_table(
-        &self,
-        alloc: Global,
-        rows: Vec<PricedRow>,
-    ) -> Result<RowTable<'i>, AllocError>
+    pub fn row_table(&self, alloc: Global, rows: Vec<PricedRow>) -> Result<RowTable<'i>, AllocError>
         requires few { length rows.items ≤ MOST_ROW_PRICES }
         requires low { row_price_sum (rows_of rows.items) ≤ MOST_PRICE }
         ensures instance { IfOk result (λ t. t.instance.now ≡ self.now.instance.now) }

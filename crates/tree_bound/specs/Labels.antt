@@ -4,7 +4,6 @@ use Rattle.solomon_reader.specs.declared.limits.TheConstants.{MOST_TIME, MOST_CA
 use Rattle.solomon_reader.specs.Problem.{Problem, ready, service}
 use Rattle.solomon_reader.specs.SubsetRows.{PricedRow, debt}
 use Rattle.solomon_reader.specs.States.{Pricing, State, IsAsGood, most_grains}
-use Rattle.row_charges.specs.declared.bits.RowBits.{RowBits}
 use Rattle.row_charges.specs.Bits.{bit_of}
 use Rattle.tree_bound.specs.declared.label.Label.{Label}
 use Rattle.tree_bound.specs.Cover.{IsReached}

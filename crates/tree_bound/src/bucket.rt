@@ -69,12 +69,7 @@ fn cheaper_count(entries: &[Entry], cost: i64) -> usize
 
 /// Whether one of the entries with the same last customer is that of a label that dominates another one. No label
 /// is looked at that costs more.
-fn dominates_in(
-    rows: &RowTable<'_>,
-    labels: &[Label],
-    entries: &[Entry],
-    label: &Label,
-) -> bool
+fn dominates_in(rows: &RowTable<'_>, labels: &[Label], entries: &[Entry], label: &Label) -> bool
     ensures { IsTrue result → IsDominated (rows_of rows.now.rows.items) labels.now label.now }
 {
     for entry in entries {
