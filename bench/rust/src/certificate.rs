@@ -15,18 +15,39 @@ pub struct SetPrice {
     pub price: u64,
 }
 
+#[derive(Clone, Copy, Debug, PartialEq, Eq)]
+pub struct SubsetRow {
+    pub first: u16,
+    pub second: u16,
+    pub third: u16,
+}
+
+#[derive(Clone, Copy, Debug, PartialEq, Eq)]
+pub struct RowPrice {
+    pub row: u16,
+    pub price: u64,
+}
+
 #[derive(Debug)]
 pub enum Version {
     One,
     Two,
     WithSets(Vec<ListedSet>),
+    WithRows { sets: Vec<ListedSet>, rows: Vec<SubsetRow> },
 }
 
 impl Version {
     pub fn sets(&self) -> &[ListedSet] {
         match self {
             Version::One | Version::Two => &[],
-            Version::WithSets(sets) => sets.as_slice(),
+            Version::WithSets(sets) | Version::WithRows { sets, .. } => sets.as_slice(),
+        }
+    }
+
+    pub fn rows(&self) -> &[SubsetRow] {
+        match self {
+            Version::WithRows { rows, .. } => rows.as_slice(),
+            _ => &[],
         }
     }
 }
@@ -35,7 +56,7 @@ impl Version {
 pub enum CertNode {
     Split { from: u16, to: u16 },
     Leaf(Vec<i64>),
-    SetLeaf { prices: Vec<i64>, set_prices: Vec<SetPrice> },
+    SetLeaf { prices: Vec<i64>, set_prices: Vec<SetPrice>, row_prices: Vec<RowPrice> },
 }
 
 #[derive(Debug)]
@@ -77,15 +98,15 @@ impl Cert {
 
 /// A tree, its prices lent from the nodes that it was made of.
 pub enum CertTree<'a> {
-    Leaf { prices: &'a [i64], set_prices: &'a [SetPrice] },
+    Leaf { prices: &'a [i64], set_prices: &'a [SetPrice], row_prices: &'a [RowPrice] },
     Split { from: u16, to: u16, used: Box<CertTree<'a>>, unused: Box<CertTree<'a>> },
 }
 
 /// The tree whose nodes come next.
 fn tree_of<'a>(nodes: &mut std::slice::Iter<'a, CertNode>) -> CertTree<'a> {
     match nodes.next().expect("a node") {
-        CertNode::Leaf(prices) => CertTree::Leaf { prices, set_prices: &[] },
-        CertNode::SetLeaf { prices, set_prices } => CertTree::Leaf { prices, set_prices },
+        CertNode::Leaf(prices) => CertTree::Leaf { prices, set_prices: &[], row_prices: &[] },
+        CertNode::SetLeaf { prices, set_prices, row_prices } => CertTree::Leaf { prices, set_prices, row_prices },
         CertNode::Split { from, to } => {
             let used = Box::new(tree_of(nodes));
             CertTree::Split { from: *from, to: *to, used, unused: Box::new(tree_of(nodes)) }
@@ -104,8 +125,18 @@ fn version_of(text: &str) -> Version {
     match lines.next() {
         Some("VRPTW-CERT 1") => Version::One,
         Some("VRPTW-CERT 2") => Version::Two,
+        Some("VRPTW-ROWS 1") => {
+            let listed: std::vec::Vec<&str> = lines.skip(4).take_while(|line| *line != "TREE").collect();
+            let is = |word: &'static str| listed.iter().copied().filter(move |line| line.starts_with(word));
+            Version::WithRows { sets: Vec(is("S ").map(set_of).collect()), rows: Vec(is("R ").map(row_of).collect()) }
+        }
         _ => Version::WithSets(Vec(lines.skip(4).take_while(|line| *line != "TREE").map(set_of).collect())),
     }
+}
+
+fn row_of(line: &str) -> SubsetRow {
+    let three: std::vec::Vec<i64> = numbers(line).collect();
+    SubsetRow { first: three[0] as u16, second: three[1] as u16, third: three[2] as u16 }
 }
 
 fn set_of(line: &str) -> ListedSet {
@@ -131,7 +162,15 @@ fn nodes_of(text: &str) -> Vec<CertNode> {
                 };
                 let pairs: std::vec::Vec<i64> = words.collect();
                 let set_prices = pairs.chunks(2).map(|m| SetPrice { set: m[0] as u16, price: m[1] as u64 });
-                nodes.push(CertNode::SetLeaf { prices, set_prices: Vec(set_prices.collect()) });
+                nodes.push(CertNode::SetLeaf { prices, set_prices: Vec(set_prices.collect()), row_prices: Vec(std::vec::Vec::new()) });
+            }
+            Some("Q") => {
+                let Some(CertNode::SetLeaf { prices, set_prices, .. }) = nodes.pop() else {
+                    panic!("Q without M");
+                };
+                let pairs: std::vec::Vec<i64> = words.collect();
+                let row_prices = pairs.chunks(2).map(|m| RowPrice { row: m[0] as u16, price: m[1] as u64 });
+                nodes.push(CertNode::SetLeaf { prices, set_prices, row_prices: Vec(row_prices.collect()) });
             }
             _ => {}
         }

@@ -18,6 +18,7 @@ mod insertion;
 mod labelling;
 mod labels;
 mod leaf_arcs;
+mod row_charges;
 mod leaf_work;
 mod measuring;
 mod moves;

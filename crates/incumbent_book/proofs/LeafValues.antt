@@ -12,6 +12,7 @@ use Rattle.solomon_reader.specs.Region.{Region}
 use Rattle.solomon_reader.specs.Bound.{version_2, with_sets, listed_sets, listed_rows, LeafPrices, IsLeafValueAt, IsValueAt}
 use Rattle.solomon_reader.specs.CertificateText.{AreSetPrices, AreRowPrices, IsPrice, set_prices_sum, row_prices_sum}
 use Rattle.solomon_reader.specs.SetPrices.{ListedSet, PricedSet, SetPrice, IsTrueNeed, paid_for_entries, paid_for_needs, price_sum, priced_sets}
+use Rattle.solomon_reader.specs.SubsetRows.{RowPrice}
 use Rattle.solomon_reader.specs.PricedLeaf.{without_rows, reduced_cost_at}
 use Rattle.solomon_reader.specs.SetDualityLaws.{same_without}
 use Rattle.solomon_reader.specs.AmongLaws.{weaker}
@@ -73,6 +74,9 @@ sum_is listed (m ∷ prices) =
     let head : PricedSet = record { members = s.members; need = s.need; price = m.1 } in
     omega (arith, sum_by-cons (λ (t : PricedSet). t.price) head (priced_sets listed prices), sum_by-cons (λ (n : SetPrice). n.1) m prices, sum_is listed prices)
 
+none_charge : (rows : List RowPrice) → rows ≡ [] → row_prices_sum rows ≡ 0
+none_charge rows none = rw none refl
+
 some_is : (listed : List ListedSet) (prices : List SetPrice) → AllByRecursion (λ s. 1 ≤ s.price) (priced_sets listed prices) → AllByRecursion (λ m. 1 ≤ m.1) prices
 some_is listed [] h = tt
 some_is listed (m ∷ prices) h = (h.0, some_is listed prices h.1)
@@ -84,7 +88,8 @@ named_prices p listed own prices named are within = record {
   some = some_is listed prices.sets (recursion_from_All (λ (s : PricedSet). 1 ≤ s.price) (priced_sets listed prices.sets)
       (All-permutation (λ (s : PricedSet). 1 ≤ s.price) own.sets (priced_sets listed prices.sets) named.sets (All-from_recursion (λ (s : PricedSet). 1 ≤ s.price) own.sets are.some)));
   within = rw named.customers (weaker (IsWithin own.sets) (λ z. (set_prices_sum prices.sets + row_prices_sum prices.rows) + nat_abs z ≤ MOST_PRICE)
-      (λ z h. omega (arith, h, sum_is listed prices.sets, sum_by-IsPermutation (λ (s : PricedSet). s.price) own.sets (priced_sets listed prices.sets) named.sets)) own.customers within);
+      (λ z h. omega (arith, h, none_charge prices.rows named.rows, sum_is listed prices.sets, sum_by-IsPermutation (λ (s : PricedSet). s.price) own.sets (priced_sets listed prices.sets) named.sets))
+      own.customers within);
 }
 
 pub within_price : (sets : List PricedSet) (prices : List ℤ) → AllByRecursion (IsWithin sets) prices → AllByRecursion IsPrice prices
