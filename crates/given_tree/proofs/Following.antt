@@ -28,7 +28,7 @@ region_size n (was_split worker number a i j x y ∷ past) m =
 
 module _ (version : Version) (old : Contents) (number : ℕ) where
   pub leaf_at : (prices : LeafPrices) → IsTreeAt version (region_at old number) (leaf prices) → IsLeafAt version (customer_count old.problem) prices
-  leaf_at prices h = (h.0 ∙ region_size (customer_count old.problem) old.past number, h.1, h.2)
+  leaf_at prices h = (h.0 ∙ region_size (customer_count old.problem) old.past number, h.1, h.2, h.3)
 
   module _ (a : Arc) (low high : Tree) (shaped : IsTreeAt version (region_at old number) (split a low high)) where
     pub undecided_at : IsUndecided (region_at old number) a

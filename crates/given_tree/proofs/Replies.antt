@@ -1,5 +1,5 @@
 -- What replies of a book say of the tree.
-use Rattle.std.proofs.Common.{◌≡◌, refl, ℕ, ◌≤◌, ap, length, List, ◌∷◌, ◌∙◌, arith}
+use Rattle.std.proofs.Common.{◌≡◌, refl, ℕ, ◌≤◌, ap, length, List, [], ◌∷◌, ◌∙◌, arith}
 use Rattle.std.specs.Prelude.{Result, Ok, Err, OnOk, ℤ}
 use Rattle.solomon_reader.specs.Problem.{Problem, customer_count}
 use Rattle.solomon_reader.specs.Plan.{Arc}

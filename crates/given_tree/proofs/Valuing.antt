@@ -1,6 +1,6 @@
 -- Prices have no lower value by the second version, or with sets, than by the version of a text.
-use Rattle.std.proofs.Common.{◌≡◌, refl, ℕ, ◌+◌, ◌-◌, ◌*◌, ◌≤◌, List, [], ◌∷◌, map, length, slice_index_or, arith, inl, inr}
-use Rattle.std.specs.Prelude.{ℤ, pos, ◌+ℤ◌, ◌≤ℤ◌, nat_abs}
+use Rattle.std.proofs.Common.{◌≡◌, refl, true, ℕ, ◌+◌, ◌-◌, ◌*◌, ◌≤◌, List, [], ◌∷◌, map, length, slice_index_or, arith, inl, inr}
+use Rattle.std.specs.Prelude.{ℤ, pos, ◌+ℤ◌, ◌-ℤ◌, ◌≤ℤ◌, nat_abs}
 use Rattle.std.specs.List.{AllByRecursion}
 use Rattle.std.proofs.lemmas.Int.{ints}
 use Rattle.std.proofs.lemmas.List.Sums.{sum_by-cons}
@@ -17,6 +17,11 @@ use Rattle.solomon_reader.specs.SumLaws.{up, times_up}
 use Rattle.solomon_reader.specs.Bound.{Version, version_1, version_2, with_sets, with_rows, listed_sets, routes_counted, grains_of, LeafPrices, IsValueAt, IsLeafValueAt}
 use Rattle.solomon_reader.specs.CertificateText.{AreSetPrices, set_prices_sum, row_prices_sum}
 use Rattle.priced_sets.specs.Sets.{IsWithin}
+use Rattle.certificate.specs.declared.rows.RowPrice.{RowPrice as Written}
+use Rattle.certificate.specs.Tree.{row_price_of}
+use Rattle.std.specs.Prelude.{◌==◌}
+use Rattle.std.proofs.lemmas.Bool.{eqb-true}
+use Rattle.std.proofs.lemmas.List.{nil_from_length}
 
 -- there is one least reduced cost
 one_least : (p : Problem) (g : Region) (k : ℕ) (prices : List ℤ) (sets : List PricedSet) (m n : ℤ) → IsLeastOrZeroAt p g k (without_rows prices sets) m → IsLeastOrZeroAt p g k (without_rows prices sets) n → m ≡ n
@@ -45,7 +50,7 @@ value_low : (version : Version) (p : Problem) (g : Region) (k : ℕ) (prices : L
     → IsLeafValueAt version p g k (without_rows prices sets) v → IsLeafValueAt version_2 p g k (without_rows prices sets) w → v ≤ w
 value_low version p g k prices sets v w a b =
     let e : a.least ≡ b.least = one_least p g k prices sets a.least b.least a.is_least b.is_least in
-    let covers : (grains_of version_2 p prices a.least +ℤ pos (paid_for_needs sets)) ≤ℤ pos (1000 * w) = rw e b.rounded.covers in
+    let covers : ((grains_of version_2 p prices a.least +ℤ pos (paid_for_needs sets)) -ℤ pos 0) ≤ℤ pos (1000 * w) = rw e b.rounded.covers in
     a.rounded.least w (omega (arith, ints, covers, grains_low version p prices a.least))
 
 -- of no sets none has a price
@@ -80,3 +85,7 @@ sum_same listed (m ∷ prices) =
 -- the prices of customers are within range together with those of the sets
 pub all_within : (listed : List ListedSet) (prices : LeafPrices) → AreSetPrices (length listed) prices → AllByRecursion (IsWithin (priced_sets listed prices.sets)) prices.customers
 all_within listed prices are = weaker (λ z. (set_prices_sum prices.sets + row_prices_sum prices.rows) + nat_abs z ≤ MOST_PRICE) (IsWithin (priced_sets listed prices.sets)) (λ z h. omega (arith, h, sum_same listed prices.sets)) prices.customers are.within
+
+-- a list that is empty has no row with a price
+pub none_listed : (prices : List Written) → (length prices == 0) ≡ true → map row_price_of prices ≡ []
+none_listed prices empty = rw (nil_from_length prices (eqb-true (length prices) 0 empty)) refl

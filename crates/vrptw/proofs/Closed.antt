@@ -31,7 +31,7 @@ value_alone p g k prices ms v none is = rw none ((same_without (with_sets []) p 
 -- the bound stays where sets may have prices, but none has one
 bound_alone : (p : Problem) (k : ℕ) (g : Region) (tree : Tree) (b : ℕ) → IsTreeAt version_2 g tree → HasBound version_2 p k g tree b → HasBound (with_sets []) p k g tree b
 bound_alone p k g (leaf prices) b shaped has =
-    (has.0, value_alone p g k prices.customers prices.sets has.0 (no_prices prices.sets shaped.2.0.numbers) has.1, has.2)
+    (has.0, value_alone p g k prices.customers prices.sets has.0 (no_prices prices.sets shaped.2.numbers) has.1, has.2)
 bound_alone p k g (split a used unused) b shaped has = (
   has.0,
   (
