@@ -41,7 +41,9 @@ pub(crate) fn grow_at<'i>(
             set_prices,
             row_prices,
         } => {
-            grow_leaf(given, handed_on, book, number, prices, set_prices, row_prices)?;
+            grow_leaf(
+                given, handed_on, book, number, prices, set_prices, row_prices,
+            )?;
             leaves.push(number)?;
             Ok(())
         }
