@@ -1,4 +1,7 @@
-"""Certificates with rows that were worked out by hand: what recheck says of them, and what the reader does."""
+"""Certificates with rows that were worked out by hand, and one of 25 customers: what recheck says of them, and what the
+reader does."""
+import os
+
 from cases.rows import DEPOT, instance_text
 
 # trio: three customers at one place, 50 tenths from the depot, and vehicles that hold two. Each route costs 100, alone
@@ -46,9 +49,21 @@ R 1 2 3;TREE;P 0 0 0;M;Q 1;END;|BadLine line 10
 """
 
 
+HERE = os.path.dirname(os.path.realpath(__file__))
+
+
+def alone():
+    """A file of 25 customers whose root nine rows close alone, without a set: it comes to 471.5 by no row."""
+    texts = []
+    for path in ("../../bench/instances/rc2_25.txt", "with_rows/rc2_25.certificate", "with_rows/rc2_25.plan"):
+        with open(os.path.join(HERE, path), encoding="ascii") as file:
+            texts.append(file.read())
+    return ("recheck", *texts, "BEST 472.5")
+
+
 def texts():
     """The kind of each row, its texts, and what is said."""
-    found = []
+    found = [alone()]
     for line in TABLE.strip().split("\n"):
         name, bound, body, solution, said = line.split("|")
         found.append(("recheck", BY_HAND[name], text_of(name, bound, body + "END;"), solution.replace(";", "\n"), said))
