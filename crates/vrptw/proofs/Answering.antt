@@ -16,7 +16,7 @@ use Rattle.vrptw.specs.declared.answer.Answer.{Answer}
 use Rattle.vrptw.specs.declared.answer.Answer.TheVariants.{Best, Gap, NoPlan, Open}
 use Rattle.vrptw.specs.declared.answer.SolveFault.{SolveFault}
 use Rattle.vrptw.specs.Answers.{Answers, Breaks, Solves}
-use Rattle.vrptw.specs.Found.{IsOf, WritesFound}
+use Rattle.vrptw.specs.Found.{IsDescended, IsOf, WritesFound}
 use Rattle.vrptw.specs.Starting.{IsPlanAt, IsAtMost}
 use Rattle.vrptw.specs.GoingOn.{IsNoLower}
 use Rattle.search_workers.specs.Running.{IsNoDearer}
@@ -74,6 +74,23 @@ module _ (p : Problem) (k limit : ℕ) (closed : Found) (is : IsClosed p k limit
     closed_text text read within (Err e) (inl (told, first, second)) = rw told (first, second)
     closed_text text read within (Err e) (inr (told, breaks)) =
         rw told (p, read, within, is.small, breaks_why p settings (closed.plan ≡ None) (HasNoPlan p) s s' c c' none_closed breaks)
+
+-- ---- a plan that stands for the one that was found
+
+-- what becomes of a plan that was descended once more is what becomes of the one that was found
+pub stands_for : (p : Problem) (settings : Settings) (found lower : Option Solution) (bound : ℕ) (s s' c c' : Held) → IsDescended found lower
+    → (r : Result Answer SolveFault) → WritesFound p settings lower bound s s' c c' r → WritesFound p settings found bound s s' c c' r
+stands_for p settings None None bound s s' c c' is r writes = writes
+stands_for p settings None (Some g) bound s s' c c' is r writes = absurd is
+stands_for p settings (Some f) None bound s s' c c' is r writes = absurd is
+stands_for p settings (Some f) (Some g) bound s s' c c' is (Ok (Best cost)) writes = writes
+stands_for p settings (Some f) (Some g) bound s s' c c' is (Ok (Gap cost b)) (answers, of) = (answers, (of.0, omega (arith, of.1, is.1)))
+stands_for p settings (Some f) (Some g) bound s s' c c' is (Ok NoPlan) writes = writes
+stands_for p settings (Some f) (Some g) bound s s' c c' is (Ok (Open b)) (answers, of) = let bad : Some g ≡ None = of.1 in cc
+stands_for p settings (Some f) (Some g) bound s s' c c' is (Err e) (inl refused) = inl refused
+stands_for p settings (Some f) (Some g) bound s s' c c' is (Err e) (inr (told, inl first)) = inr (told, inl first)
+stands_for p settings (Some f) (Some g) bound s s' c c' is (Err e) (inr (told, inr (inl took, broke))) = inr (told, inr (inl took, broke))
+stands_for p settings (Some f) (Some g) bound s s' c c' is (Err e) (inr (told, inr (inr (kept, bad), broke))) = let none : Some g ≡ None = bad in cc
 
 -- ---- a plan to start from
 
