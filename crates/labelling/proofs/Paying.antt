@@ -23,29 +23,36 @@ use Rattle.labelling.specs.Pricings.{leaf_of, pricing_at}
 
 -- ---- prices
 
--- a price that is within range together with those of sets is so alone
-pub priced_within : (sets : List PricedSet) (prices : List ℤ) → AllByRecursion (IsWithin sets) prices → AllByRecursion IsPrice prices
-priced_within sets [] within = tt
-priced_within sets (z ∷ prices) within = (omega (arith, within.0), priced_within sets prices within.1)
+-- a price that is within range together with those of sets and rows is so alone
+pub priced_within : (sets : List PricedSet) (rows : List shared.PricedRow) (prices : List ℤ) → AllByRecursion (IsWithinAll sets rows) prices → AllByRecursion IsPrice prices
+priced_within sets rows [] within = tt
+priced_within sets rows (z ∷ prices) within = (omega (arith, within.0), priced_within sets rows prices within.1)
 
--- and so it is together with those of no rows
+within_no_rows : (sets : List PricedSet) (prices : List ℤ) → AllByRecursion (IsWithin sets) prices → AllByRecursion (IsWithinAll sets []) prices
+within_no_rows sets [] within = tt
+within_no_rows sets (z ∷ prices) within = (omega (arith, within.0), within_no_rows sets prices within.1)
+
+-- where there are no rows the range is the same
 pub within_alone : (sets : List PricedSet) (rows : List PricedRow) (prices : List ℤ) → rows ≡ [] → AllByRecursion (IsWithin sets) prices
     → AllByRecursion (IsWithinAll sets (rows_of rows)) prices
-within_alone sets rows [] none within = tt
-within_alone sets rows (z ∷ prices) none within = (rw none (omega (arith, within.0)), within_alone sets rows prices none within.1)
+within_alone sets rows prices none within = rw none (within_no_rows sets prices within)
 
-within_no_sets : (prices : List ℤ) → AllByRecursion IsPrice prices → AllByRecursion (IsWithin []) prices
+within_no_sets : (prices : List ℤ) → AllByRecursion IsPrice prices → AllByRecursion (IsWithinAll [] []) prices
 within_no_sets [] priced = tt
 within_no_sets (z ∷ prices) priced = (omega (arith, priced.0), within_no_sets prices priced.1)
 
--- where there are no sets the range is the same
-pub within_none : (sets : List PricedSet) (prices : List ℤ) → sets ≡ [] → AllByRecursion IsPrice prices → AllByRecursion (IsWithin sets) prices
-within_none sets prices none priced = rw none (within_no_sets prices priced)
+-- so it is where there are no sets either
+pub within_none : (sets : List PricedSet) (rows : List PricedRow) (prices : List ℤ) → sets ≡ [] → rows ≡ [] → AllByRecursion IsPrice prices
+    → AllByRecursion (IsWithinAll sets (rows_of rows)) prices
+within_none sets rows prices no_sets no_rows priced = rw (no_sets, no_rows) (within_no_sets prices priced)
 
--- so is each where the prices and the sets are the same
-pub within_same : (sets others : List PricedSet) (prices copied : List ℤ) → others ≡ sets → copied ≡ prices → AllByRecursion (IsWithin sets) prices → AllByRecursion (IsWithin others) copied
-within_same sets others prices copied same equal within =
-    subst (λ (x : List PricedSet). AllByRecursion (IsWithin x) copied) (sym same) (subst (λ (x : List ℤ). AllByRecursion (IsWithin sets) x) (sym equal) within)
+-- each is within range, too, where the prices, the sets and the rows are the same
+pub within_same : (sets others : List PricedSet) (rows again : List PricedRow) (prices copied : List ℤ) → others ≡ sets → again ≡ rows → copied ≡ prices
+    → AllByRecursion (IsWithinAll sets (rows_of rows)) prices → AllByRecursion (IsWithinAll others (rows_of again)) copied
+within_same sets others rows again prices copied same_sets same_rows equal within =
+    subst (λ (x : List PricedSet). AllByRecursion (IsWithinAll x (rows_of again)) copied) (sym same_sets)
+    (subst (λ (y : List PricedRow). AllByRecursion (IsWithinAll sets (rows_of y)) copied) (sym same_rows)
+    (subst (λ (z : List ℤ). AllByRecursion (IsWithinAll sets (rows_of rows)) z) (sym equal) within))
 
 -- sets that have a price are sets of customers
 pub sets_known : (p : Problem) (sets : List PricedSet) → AllByRecursion (λ s. MayBeListed p (listed_of s)) sets → AllByRecursion (λ s. IsCustomerSet (customer_count p) s.members) sets
@@ -91,8 +98,16 @@ module _ (p : Problem) (g : Region) (k : ℕ) (prices : List ℤ) where
   route_without None route none = none
   route_without (Some z) route is = (is.0, (omega (arith, ints, is.1)))
 
-  pub value_alone : (sets : List PricedSet) (l : Least) → sets ≡ [] → HasLeastValueAt p g k (without_rows prices sets) l → HasLeastValue p g k prices l
-  value_alone sets l none is = value_without l.value (subst (λ (x : List PricedSet). HasLeastValueAt p g k (without_rows prices x) l) none is)
+  -- the leaf of the prices, some sets and some rows
+  abbrev pub leaf_with : List PricedSet → List PricedRow → PricedLeaf
+  leaf_with sets rows = record { customers = prices; sets = sets; rows = rows_of rows }
 
-  pub route_alone : (sets : List PricedSet) (l : Least) → sets ≡ [] → HasItsRouteAt p g k (without_rows prices sets) l → HasItsRoute p g k prices l
-  route_alone sets l none is = route_without l.value l.route.items (subst (λ (x : List PricedSet). HasItsRouteAt p g k (without_rows prices x) l) none is)
+  pub value_alone : (sets : List PricedSet) (rows : List PricedRow) (l : Least) → sets ≡ [] → rows ≡ [] → HasLeastValueAt p g k (leaf_with sets rows) l → HasLeastValue p g k prices l
+  value_alone sets rows l no_sets no_rows is =
+      value_without l.value (subst (λ (x : List PricedSet). HasLeastValueAt p g k (leaf_with x []) l) no_sets
+      (subst (λ (y : List PricedRow). HasLeastValueAt p g k (leaf_with sets y) l) no_rows is))
+
+  pub route_alone : (sets : List PricedSet) (rows : List PricedRow) (l : Least) → sets ≡ [] → rows ≡ [] → HasItsRouteAt p g k (leaf_with sets rows) l → HasItsRoute p g k prices l
+  route_alone sets rows l no_sets no_rows is =
+      route_without l.value l.route.items (subst (λ (x : List PricedSet). HasItsRouteAt p g k (leaf_with x []) l) no_sets
+      (subst (λ (y : List PricedRow). HasItsRouteAt p g k (leaf_with sets y) l) no_rows is))

@@ -101,7 +101,7 @@ fn least_near(
     let payment = Payment {
         prices: task.prices.as_slice(),
         sets: task.sets.as_slice(),
-        rows: &[],
+        rows: task.rows.as_slice(),
     };
     let task = Task::new(alloc, nearness, &task.region, payment)?;
     least_of_task(&task, limit, known, kept)
@@ -138,6 +138,7 @@ pub fn least(
         neighbours,
         prices: prices.to_vec(alloc)?,
         sets: PricedSets::none(alloc, instance),
+        rows: Vec::new(alloc),
     };
     let (hints, mut kept) = (Hints::none(alloc), Kept::nothing(alloc));
     least_by_hints(alloc, &task, limit, &hints, &mut kept)

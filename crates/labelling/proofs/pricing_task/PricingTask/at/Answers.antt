@@ -1,4 +1,4 @@
-use Rattle.std.proofs.Common.{◌≡◌, ap}
+use Rattle.std.proofs.Common.{◌≡◌, ap, ◌∙◌}
 use Rattle.std.specs.List.{each_same}
 use Rattle.priced_sets.specs.Sets.{SetPrices}
 use Rattle.labelling.proofs.Paying.{within_same}
@@ -17,7 +17,10 @@ invariant_of-result-clause-priced c =
 pub invariant_of-result-clause-within : goal.invariant_of-result-clause-within
 invariant_of-result-clause-within c =
     let prices : c.in_ok-clone.field-0.items ≡ c.args.self.now.prices.items = each_same _ _ c.in_ok-clone.ensures.cases.0 in
-    within_same _ _ _ _ (ap (λ (s : SetPrices). s.sets) c.in_ok-try_clone-2.ensures) prices c.args.self.now.within
+    within_same _ _ _ _ _ _ (ap (λ (s : SetPrices). s.sets) c.in_ok-try_clone-2.ensures) (c.in_ok-from_slice.ensures.items ∙ c.as_slice.ensures.value) prices c.args.self.now.within
+
+pub invariant_of-result-clause-low_rows : goal.invariant_of-result-clause-low_rows
+invariant_of-result-clause-low_rows c = rw (c.in_ok-from_slice.ensures.items, c.as_slice.ensures.value) c.args.self.now.low_rows
 
 pub returns-clause-prices : goal.returns-clause-prices
 returns-clause-prices c = each_same _ _ c.in_ok-clone.ensures.cases.0
