@@ -16,6 +16,7 @@ use Rattle.priced_sets.specs.Sets.{IsWithin, MayBeListed, ArePriced}
 use Rattle.row_charges.specs.Rows.{rows_of}
 use Rattle.row_charges.specs.declared.priced_row.PricedRow.{PricedRow}
 use Rattle.fronts.specs.Fronts.{IsWithinAll}
+use Rattle.labelling.specs.PricedRows.{ArePricedRows}
 use Rattle.labelling.specs.declared.least_cost.Least.{Least}
 use Rattle.labelling.specs.declared.pricing_task.PricingTask.{PricingTask}
 use Rattle.labelling.specs.Answer.{HasLeastValue, HasItsRoute, HasLeastValueAt, HasItsRouteAt, IsLeastOf}
@@ -45,6 +46,13 @@ within_no_sets (z ∷ prices) priced = (omega (arith, priced.0), within_no_sets 
 pub within_none : (sets : List PricedSet) (rows : List PricedRow) (prices : List ℤ) → sets ≡ [] → rows ≡ [] → AllByRecursion IsPrice prices
     → AllByRecursion (IsWithinAll sets (rows_of rows)) prices
 within_none sets rows prices no_sets no_rows priced = rw (no_sets, no_rows) (within_no_sets prices priced)
+
+none_priced : (n : ℕ) → ArePricedRows n []
+none_priced n = record { listed = tt; in_order = tt; some = tt }
+
+-- no rows may have prices
+pub no_rows_priced : (n : ℕ) (rows : List PricedRow) → rows ≡ [] → ArePricedRows n (rows_of rows)
+no_rows_priced n rows none = rw none (none_priced n)
 
 -- each is within range, too, where the prices, the sets and the rows are the same
 pub within_same : (sets others : List PricedSet) (rows again : List PricedRow) (prices copied : List ℤ) → others ≡ sets → again ≡ rows → copied ≡ prices

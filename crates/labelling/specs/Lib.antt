@@ -1,3 +1,4 @@
 pub mod Answer
 pub mod Search
 pub mod Pricings
+pub mod PricedRows

@@ -1,7 +1,6 @@
 //! What is to be priced.
 
 ghost use Rattle.std.specs.Prelude.{◌≡◌, ◌≤◌, length, IfOk, []};
-ghost use Rattle.std.proofs.Props.{props};
 ghost use Rattle.std.specs.List.{AllByRecursion};
 ghost use Rattle.solomon_reader.specs.Problem.{customer_count};
 ghost use Rattle.solomon_reader.specs.CertificateText.{IsPrice};
@@ -9,6 +8,7 @@ ghost use Rattle.solomon_reader.specs.SubsetRows.{row_price_sum};
 ghost use Rattle.priced_sets.specs.Sets.{IsWithin};
 ghost use Rattle.row_charges.specs.Rows.{rows_of};
 ghost use Rattle.fronts.specs.Fronts.{IsWithinAll};
+ghost use Rattle.labelling.specs.PricedRows.{ArePricedRows, props};
 ghost use Rattle.solomon_reader.specs.declared.limits.TheConstants.{MOST_NEIGHBOURS, MOST_PRICE, MOST_ROW_PRICES};
 
 use branching::Region;
@@ -30,7 +30,7 @@ pub struct PricingTask<'i> {
     pub prices: Vec<i64>,
     /// The sets that have a price.
     pub sets: PricedSets<'i>,
-    /// The rows of three customers that have a price, at most 256.
+    /// The rows of three customers that have a price, at most 256, in increasing order.
     pub rows: Vec<PricedRow>,
     ghost size: { region.size ≡ customer_count instance.now },
     ghost count: { length prices.items ≡ customer_count instance.now },
@@ -39,6 +39,7 @@ pub struct PricingTask<'i> {
     ghost same: { sets.problem ≡ instance.now },
     ghost few_rows: { length rows.items ≤ MOST_ROW_PRICES },
     ghost low_rows: { row_price_sum (rows_of rows.items) ≤ MOST_PRICE },
+    ghost rows_are: { ArePricedRows (customer_count instance.now) (rows_of rows.items) } by { Prim.hlevel props },
     ghost within: { AllByRecursion (IsWithinAll sets.sets (rows_of rows.items)) prices.items } by { Prim.hlevel props },
 }
 
@@ -64,7 +65,7 @@ impl<'i> PricingTask<'i> {
     }
 
     /// Other prices of customers and sets at the same region, in grains, where no row has one, unless memory runs out.
-    #[tactic(auto, using(crate::proofs::Paying::within_alone))]
+    #[tactic(auto, using(crate::proofs::Paying::within_alone, crate::proofs::Paying::no_rows_priced))]
     pub fn with(
         &self,
         prices: Vec<i64>,
@@ -96,6 +97,7 @@ impl<'i> PricingTask<'i> {
         requires same { sets.problem ≡ self.now.instance.now }
         requires few { length rows.items ≤ MOST_ROW_PRICES }
         requires low { row_price_sum (rows_of rows.items) ≤ MOST_PRICE }
+        requires priced { ArePricedRows (customer_count self.now.instance.now) (rows_of rows.items) }
         requires in_range { AllByRecursion (IsWithinAll sets.sets (rows_of rows.items)) prices.items }
         ensures instance { IfOk result (λ t. t.instance.now ≡ self.now.instance.now) }
         ensures region { IfOk result (λ t. t.region ≡ self.now.region) }

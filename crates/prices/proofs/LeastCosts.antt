@@ -14,15 +14,18 @@ use Rattle.solomon_reader.specs.Region.{Region, IsAllowed}
 use Rattle.solomon_reader.specs.Relaxed.{IsRelaxed, price_of, int_sum_by}
 use Rattle.solomon_reader.specs.CustomerSets.{IsCustomerSet, entries, enters, holds}
 use Rattle.solomon_reader.specs.SetPrices.{PricedSet, paid_for_entries, price_sum, listed_of}
-use Rattle.solomon_reader.specs.PricedLeaf.{without_rows, IsLeastAt, IsLeastOrZeroAt, reduced_cost_at}
+use Rattle.solomon_reader.specs.SubsetRows.{SubsetRow, PricedRow, in_row, charges, visits, paid_for_charges, row_price_sum}
+use Rattle.solomon_reader.specs.PricedLeaf.{PricedLeaf, IsLeastAt, IsLeastOrZeroAt, reduced_cost_at}
 use Rattle.solomon_reader.specs.SetLaws.{depot_outside, entries_from, entries_more, entries_end, entries_is}
+use Rattle.solomon_reader.specs.RowLaws.{charges_are_half}
 use Rattle.solomon_reader.specs.SumLaws.{up, down}
+use Rattle.solomon_reader.specs.declared.limits.TheConstants.{MOST_PRICE}
 use Rattle.solomon_reader.specs.CertificateText.{IsPrice}
 use Rattle.solomon_reader.specs.AmongLaws.{weaker}
 use Rattle.labelling.specs.declared.least_cost.Least.{Least}
 use Rattle.labelling.specs.Answer.{HasLeastValueAt, HasItsRouteAt}
 use Rattle.priced_sets.specs.Sets.{ArePriced, MayBeListed}
-use Rattle.prices.specs.ValuedPrices.{or_zero, IsValued}
+use Rattle.prices.specs.ValuedPrices.{ValuedPrices, or_zero, IsValued}
 use Rattle.prices.specs.Narrowing.{IsNarrower, StaysLeast}
 use Rattle.solomon_reader.proofs.Grains.{price_small}
 use Rattle.prices.proofs.Values.{all_at, abs_low, abs_high, abs_within}
@@ -89,6 +92,35 @@ paid_within : (n : ℕ) (sets : List PricedSet) (r : List ℕ) → AllByRecursio
     → paid_for_entries sets r ≤ 1000000000000 * length r
 paid_within n sets r are within = omega (arith, paid_low n sets r are, mul-le (price_sum sets) (length r) 1000000000000 (length r) within (omega arith))
 
+-- ---- what rows charge
+
+one_visit : (b : Bool) → cond b 1 0 ≤ 1
+one_visit true = omega arith
+one_visit false = omega arith
+
+visits_few : (s : SubsetRow) (r : List ℕ) → visits s r ≤ length r
+visits_few s [] = omega arith
+visits_few s (j ∷ r) = omega (arith, visits_few s r, one_visit (in_row s j), sum_by-cons (λ i. cond (in_row s i) 1 0) j r)
+
+-- twice what a route pays for its charges
+charged_low : (p : Problem) (k : ℕ) (rows : List PricedRow) (r : List ℕ) → 2 * paid_for_charges p k rows r ≤ row_price_sum rows * length r
+charged_low p k [] r = omega arith
+charged_low p k (s ∷ rows) r =
+    let sum : row_price_sum (s ∷ rows) * length r ≡ s.price * length r + row_price_sum rows * length r = rw (sum_by-cons (λ (t : PricedRow). t.price) s rows) (omega arith) in
+    let few : 2 * charges p k s.row r ≤ length r = omega (arith, charges_are_half p k s.row r, visits_few s.row r) in
+    let twice : 2 * (s.price * charges p k s.row r) ≡ s.price * (2 * charges p k s.row r) = omega arith in
+    omega (
+      arith,
+      sum,
+      twice,
+      sum_by-cons (λ (t : PricedRow). t.price * charges p k t.row r) s rows,
+      mul-le s.price (2 * charges p k s.row r) s.price (length r) (omega arith) few,
+      charged_low p k rows r,
+    )
+
+charged_within : (p : Problem) (k : ℕ) (rows : List PricedRow) (r : List ℕ) → row_price_sum rows ≤ 1000000000000 → 2 * paid_for_charges p k rows r ≤ 1000000000000 * length r
+charged_within p k rows r within = omega (arith, charged_low p k rows r, mul-le (row_price_sum rows) (length r) 1000000000000 (length r) within (omega arith))
+
 -- sets that may have a price are sets of customers
 sets_known : (p : Problem) (sets : List PricedSet) → AllByRecursion (λ s. MayBeListed p (listed_of s)) sets → AllByRecursion (λ s. IsCustomerSet (customer_count p) s.members) sets
 sets_known p [] are = tt
@@ -109,28 +141,24 @@ module _ (prices : List ℤ) (priced : AllByRecursion IsPrice prices) where
       let rest = prices_low r in
       omega (arith, ints)
 
-  near_zero : (cost n paid : ℕ) (sum : ℤ) → (pos 0 -ℤ pos (1000000000000 * n)) ≤ℤ sum → sum ≤ℤ pos (1000000000000 * n) → n ≤ 10000 → cost ≤ 10000000
-      → paid ≤ 1000000000000 * n → nat_abs ((pos (1000 * cost) -ℤ sum) -ℤ pos paid) ≤ 20000000000000000
-  near_zero cost n paid sum low high few small bound =
-      abs_within ((pos (1000 * cost) -ℤ sum) -ℤ pos paid) 20000000000000000 (omega (arith, ints)) (omega (arith, ints))
+  near_zero : (cost n paid charged : ℕ) (sum : ℤ) → (pos 0 -ℤ pos (1000000000000 * n)) ≤ℤ sum → sum ≤ℤ pos (1000000000000 * n) → n ≤ 10000 → cost ≤ 10000000
+      → paid ≤ 1000000000000 * n → 2 * charged ≤ 1000000000000 * n → nat_abs (((pos (1000 * cost) -ℤ sum) -ℤ pos paid) +ℤ pos charged) ≤ 20000000000000000
+  near_zero cost n paid charged sum low high few small bound half =
+      abs_within (((pos (1000 * cost) -ℤ sum) -ℤ pos paid) +ℤ pos charged) 20000000000000000 (omega (arith, ints)) (omega (arith, ints))
 
-  -- no rows charge nothing
-  uncharged : (z : ℤ) (most : ℕ) → nat_abs z ≤ most → nat_abs (z +ℤ pos 0) ≤ most
-  uncharged z most small = abs_within (z +ℤ pos 0) most (omega (arith, ints, abs_low z most small)) (omega (arith, ints, abs_high z most small))
+module _ (leaf : PricedLeaf) (priced : AllByRecursion IsPrice leaf.customers) (p : Problem) (are : ArePriced p leaf.sets) (low : row_price_sum leaf.rows ≤ MOST_PRICE) (limits : IsWithinLimits p) where
+  reduced_small : (k : ℕ) (r : List ℕ) → IsFitting p r → nat_abs (reduced_cost_at p k leaf r) ≤ 20000000000000000
+  reduced_small k r fitting =
+      near_zero leaf.customers priced (route_cost p r) (length r) (paid_for_entries leaf.sets r) (paid_for_charges p k leaf.rows r) (int_sum_by (price_of leaf.customers) r)
+      (prices_low leaf.customers priced r) (prices_high leaf.customers priced r) (short p limits r fitting) (cheap p limits r fitting)
+      (paid_within (customer_count p) leaf.sets r (sets_known p leaf.sets are.listed) are.within) (charged_within p k leaf.rows r low)
 
-  module _ (p : Problem) (sets : List PricedSet) (are : ArePriced p sets) (limits : IsWithinLimits p) where
-    reduced_small : (k : ℕ) (r : List ℕ) → IsFitting p r → nat_abs (reduced_cost_at p k (without_rows prices sets) r) ≤ 20000000000000000
-    reduced_small k r fitting =
-        let small = near_zero (route_cost p r) (length r) (paid_for_entries sets r) (int_sum_by (price_of prices) r) (prices_low r) (prices_high r) (short p limits r fitting)
-        (cheap p limits r fitting) (paid_within (customer_count p) sets r (sets_known p sets are.listed) are.within) in
-        uncharged ((pos (1000 * route_cost p r) -ℤ int_sum_by (price_of prices) r) -ℤ pos (paid_for_entries sets r)) 20000000000000000 small
-
-    least_small : (g : Region) (k : ℕ) (least : Option ℤ)
-        → MatchOption least ((r : List ℕ) → ¬ IsRelaxed p g k r) (λ m. IsLeastAt p g k (without_rows prices sets) m) → nat_abs (or_zero least) ≤ 20000000000000000
-    least_small g k None is = omega arith
-    least_small g k (Some m) is =
-        let P : ℤ → Type 0 = λ z. nat_abs z ≤ 20000000000000000 in
-        subst P is.reached.2 (reduced_small k is.reached.0 is.reached.1.fitting)
+  least_small : (g : Region) (k : ℕ) (least : Option ℤ)
+      → MatchOption least ((r : List ℕ) → ¬ IsRelaxed p g k r) (λ m. IsLeastAt p g k leaf m) → nat_abs (or_zero least) ≤ 20000000000000000
+  least_small g k None is = omega arith
+  least_small g k (Some m) is =
+      let P : ℤ → Type 0 = λ z. nat_abs z ≤ 20000000000000000 in
+      subst P is.reached.2 (reduced_small k is.reached.0 is.reached.1.fitting)
 
 up-le : (z : ℤ) → up z ≤ nat_abs z
 up-le (pos n) = omega arith
@@ -140,25 +168,25 @@ down-le : (z : ℤ) → down z ≤ nat_abs z
 down-le (pos n) = omega arith
 down-le (negsuc n) = omega arith
 
-module _ (prices : List ℤ) (priced : AllByRecursion IsPrice prices) (p : Problem) (sets : List PricedSet) (are : ArePriced p sets) (limits : IsWithinLimits p) (g : Region) (k : ℕ)
-    (least : Option ℤ) (is : MatchOption least ((r : List ℕ) → ¬ IsRelaxed p g k r) (λ m. IsLeastAt p g k (without_rows prices sets) m)) where
+module _ (leaf : PricedLeaf) (priced : AllByRecursion IsPrice leaf.customers) (p : Problem) (are : ArePriced p leaf.sets) (low : row_price_sum leaf.rows ≤ MOST_PRICE) (limits : IsWithinLimits p)
+    (g : Region) (k : ℕ) (least : Option ℤ) (is : MatchOption least ((r : List ℕ) → ¬ IsRelaxed p g k r) (λ m. IsLeastAt p g k leaf m)) where
   pub least_above : up (or_zero least) ≤ 20000000000000000
-  least_above = omega (arith, up-le (or_zero least), least_small prices priced p sets are limits g k least is)
+  least_above = omega (arith, up-le (or_zero least), least_small leaf priced p are low limits g k least is)
 
   pub least_below : down (or_zero least) ≤ 20000000000000000
-  least_below = omega (arith, down-le (or_zero least), least_small prices priced p sets are limits g k least is)
+  least_below = omega (arith, down-le (or_zero least), least_small leaf priced p are low limits g k least is)
 
-pub least_or_zero : (p : Problem) (g : Region) (k : ℕ) (prices : List ℤ) (sets : List PricedSet) (least : Option ℤ)
-    → MatchOption least ((r : List ℕ) → ¬ IsRelaxed p g k r) (λ m. IsLeastAt p g k (without_rows prices sets) m) → IsLeastOrZeroAt p g k (without_rows prices sets) (or_zero least)
-least_or_zero p g k prices sets None is = inr (is, refl)
-least_or_zero p g k prices sets (Some m) is = inl is
+pub least_or_zero : (p : Problem) (g : Region) (k : ℕ) (leaf : PricedLeaf) (least : Option ℤ)
+    → MatchOption least ((r : List ℕ) → ¬ IsRelaxed p g k r) (λ m. IsLeastAt p g k leaf m) → IsLeastOrZeroAt p g k leaf (or_zero least)
+least_or_zero p g k leaf None is = inr (is, refl)
+least_or_zero p g k leaf (Some m) is = inl is
 
 -- ---- At a region that allows fewer arcs the least reduced cost stays where its route is allowed there.
 
 equal_leasts : (m n : ℤ) → m ≤ℤ n → n ≤ℤ m → m ≡ n
 equal_leasts m n h k = omega (arith, ints)
 
-module _ (p : Problem) (g h : Region) (k : ℕ) (prices : List ℤ) (sets : List PricedSet) (narrower : IsNarrower g h) where
+module _ (p : Problem) (g h : Region) (k : ℕ) (leaf : PricedLeaf) (narrower : IsNarrower g h) where
   -- a relaxed route of the narrower region is one of the wider
   wider : (r : List ℕ) → IsRelaxed p g k r → IsRelaxed p h k r
   wider r is = record {
@@ -172,9 +200,9 @@ module _ (p : Problem) (g h : Region) (k : ℕ) (prices : List ℤ) (sets : List
   stays r is allowed = record { fitting = is.fitting; allowed = allowed; forgets = is.forgets }
 
   pub least_stays : (value : Option ℤ) (route : List ℕ) → MatchOption value (Unit {0}) (λ m. AllByRecursion (IsAllowed g) (arcs route))
-      → MatchOption value ((r : List ℕ) → ¬ IsRelaxed p h k r) (λ m. IsLeastAt p h k (without_rows prices sets) m)
-      → MatchOption value (route ≡ []) (λ m. IsRelaxed p h k route × (reduced_cost_at p k (without_rows prices sets) route ≡ m))
-      → MatchOption value ((r : List ℕ) → ¬ IsRelaxed p g k r) (λ m. IsLeastAt p g k (without_rows prices sets) m)
+      → MatchOption value ((r : List ℕ) → ¬ IsRelaxed p h k r) (λ m. IsLeastAt p h k leaf m)
+      → MatchOption value (route ≡ []) (λ m. IsRelaxed p h k route × (reduced_cost_at p k leaf route ≡ m))
+      → MatchOption value ((r : List ℕ) → ¬ IsRelaxed p g k r) (λ m. IsLeastAt p g k leaf m)
   least_stays None route allowed none has = λ r is. none r (wider r is)
   least_stays (Some m) route allowed is has = record {
     reached = (route, stays route has.0 allowed, has.1);
@@ -182,54 +210,60 @@ module _ (p : Problem) (g h : Region) (k : ℕ) (prices : List ℤ) (sets : List
   }
 
   pub route_stays : (value : Option ℤ) (route : List ℕ) → MatchOption value (Unit {0}) (λ m. AllByRecursion (IsAllowed g) (arcs route))
-      → MatchOption value (route ≡ []) (λ m. IsRelaxed p h k route × (reduced_cost_at p k (without_rows prices sets) route ≡ m))
-      → MatchOption value (route ≡ []) (λ m. IsRelaxed p g k route × (reduced_cost_at p k (without_rows prices sets) route ≡ m))
+      → MatchOption value (route ≡ []) (λ m. IsRelaxed p h k route × (reduced_cost_at p k leaf route ≡ m))
+      → MatchOption value (route ≡ []) (λ m. IsRelaxed p g k route × (reduced_cost_at p k leaf route ≡ m))
   route_stays None route allowed has = has
   route_stays (Some m) route allowed has = (stays route has.0 allowed, has.1)
 
   same_least : (value : Option ℤ) (m : ℤ)
-      → MatchOption value ((r : List ℕ) → ¬ IsRelaxed p h k r) (λ l. IsLeastAt p h k (without_rows prices sets) l)
-      → MatchOption value ((r : List ℕ) → ¬ IsRelaxed p g k r) (λ l. IsLeastAt p g k (without_rows prices sets) l)
-      → IsLeastOrZeroAt p h k (without_rows prices sets) m → IsLeastOrZeroAt p g k (without_rows prices sets) m
+      → MatchOption value ((r : List ℕ) → ¬ IsRelaxed p h k r) (λ l. IsLeastAt p h k leaf l)
+      → MatchOption value ((r : List ℕ) → ¬ IsRelaxed p g k r) (λ l. IsLeastAt p g k leaf l)
+      → IsLeastOrZeroAt p h k leaf m → IsLeastOrZeroAt p g k leaf m
   same_least None m none still (inl is) = absurd (none is.reached.0 is.reached.1)
   same_least None m none still (inr nought) = inr (still, nought.1)
   same_least (Some l) m is still (inl other) =
       let below : l ≤ℤ m = subst (λ (z : ℤ). l ≤ℤ z) other.reached.2 (is.least other.reached.0 other.reached.1) in
       let above : m ≤ℤ l = subst (λ (z : ℤ). m ≤ℤ z) is.reached.2 (other.least is.reached.0 is.reached.1) in
-      inl (subst (λ (z : ℤ). IsLeastAt p g k (without_rows prices sets) z) (equal_leasts l m below above) still)
+      inl (subst (λ (z : ℤ). IsLeastAt p g k leaf z) (equal_leasts l m below above) still)
   same_least (Some l) m is still (inr nought) = absurd (nought.0 is.reached.0 is.reached.1)
 
 -- a copy of a least reduced cost is one, too
-pub copied_least : (p : Problem) (g : Region) (k : ℕ) (prices : List ℤ) (sets : List PricedSet) (least found : Least) → found.value ≡ least.value → found.route.items ≡ least.route.items
-    → HasLeastValueAt p g k (without_rows prices sets) least → HasItsRouteAt p g k (without_rows prices sets) least
-    → HasLeastValueAt p g k (without_rows prices sets) found × HasItsRouteAt p g k (without_rows prices sets) found
-copied_least p g k prices sets least found same_value same_route is_least has_route =
+pub copied_least : (p : Problem) (g : Region) (k : ℕ) (leaf : PricedLeaf) (least found : Least) → found.value ≡ least.value → found.route.items ≡ least.route.items
+    → HasLeastValueAt p g k leaf least → HasItsRouteAt p g k leaf least
+    → HasLeastValueAt p g k leaf found × HasItsRouteAt p g k leaf found
+copied_least p g k leaf least found same_value same_route is_least has_route =
     let Route : Option ℤ → List ℕ → Type 0 =
-    λ value route. MatchOption value (route ≡ []) (λ m. IsRelaxed p g k route × (reduced_cost_at p k (without_rows prices sets) route ≡ m)) in (
-      subst (λ (value : Option ℤ). MatchOption value ((r : List ℕ) → ¬ IsRelaxed p g k r) (λ m. IsLeastAt p g k (without_rows prices sets) m)) (sym same_value) is_least,
+    λ value route. MatchOption value (route ≡ []) (λ m. IsRelaxed p g k route × (reduced_cost_at p k leaf route ≡ m)) in (
+      subst (λ (value : Option ℤ). MatchOption value ((r : List ℕ) → ¬ IsRelaxed p g k r) (λ m. IsLeastAt p g k leaf m)) (sym same_value) is_least,
       subst (λ (value : Option ℤ). Route value found.route.items) (sym same_value) (subst (λ (route : List ℕ). Route least.value route) (sym same_route) has_route),
     )
 
+-- a leaf with its value
+abbrev pub valued : Problem → Region → ℕ → PricedLeaf → ℕ → ValuedPrices
+valued p g k leaf v = record { problem = p; region = g; neighbours = k; prices = leaf.customers; sets = leaf.sets; rows = leaf.rows; value = v }
+
 -- so prices at the wider region are prices with the same value at the narrower one
-pub narrowed_pricing : (p : Problem) (g h : Region) (k : ℕ) (prices : List ℤ) (sets : List PricedSet) (v : ℕ) (least found : Least) → IsNarrower g h → StaysLeast g least
+pub narrowed_pricing : (p : Problem) (g h : Region) (k : ℕ) (leaf : PricedLeaf) (v : ℕ) (least found : Least) → IsNarrower g h → StaysLeast g least
     → found.value ≡ least.value → found.route.items ≡ least.route.items
-    → IsValued (record { problem = p; region = h; neighbours = k; prices = prices; sets = sets; value = v })
-    → HasLeastValueAt p h k (without_rows prices sets) least → HasItsRouteAt p h k (without_rows prices sets) least
-    → IsValued (record { problem = p; region = g; neighbours = k; prices = prices; sets = sets; value = v }) × HasLeastValueAt p g k (without_rows prices sets) found × HasItsRouteAt p g k (without_rows prices sets) found
-narrowed_pricing p g h k prices sets v least found narrower allowed same_value same_route is is_least has_route =
-    let still = least_stays p g h k prices sets narrower least.value least.route.items allowed is_least has_route in
-    let routed = route_stays p g h k prices sets narrower least.value least.route.items allowed has_route in
-    let pricing : IsValued (record { problem = p; region = g; neighbours = k; prices = prices; sets = sets; value = v }) = record {
+    → IsValued (valued p h k leaf v)
+    → HasLeastValueAt p h k leaf least → HasItsRouteAt p h k leaf least
+    → IsValued (valued p g k leaf v) × HasLeastValueAt p g k leaf found × HasItsRouteAt p g k leaf found
+narrowed_pricing p g h k leaf v least found narrower allowed same_value same_route is is_least has_route =
+    let still = least_stays p g h k leaf narrower least.value least.route.items allowed is_least has_route in
+    let routed = route_stays p g h k leaf narrower least.value least.route.items allowed has_route in
+    let pricing : IsValued (valued p g k leaf v) = record {
       size = narrower.size ∙ is.size;
       few = is.few;
       sets_are = is.sets_are;
+      few_rows = is.few_rows;
+      rows_are = is.rows_are;
       priced = is.priced;
       valued = record {
         priced = is.valued.priced;
         least = is.valued.least;
-        is_least = same_least p g h k prices sets narrower least.value is.valued.least is_least still is.valued.is_least;
+        is_least = same_least p g h k leaf narrower least.value is.valued.least is_least still is.valued.is_least;
         rounded = is.valued.rounded;
       };
       bound = is.bound;
     } in
-    let copied = copied_least p g k prices sets least found same_value same_route still routed in (pricing, copied.0, copied.1)
+    let copied = copied_least p g k leaf least found same_value same_route still routed in (pricing, copied.0, copied.1)

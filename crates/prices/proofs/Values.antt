@@ -4,7 +4,9 @@ use Rattle.std.specs.Prelude.{ℤ, pos, negsuc, ◌+ℤ◌, ◌-ℤ◌, ◌*ℤ�
 use Rattle.std.specs.Int.{int_min, int_max}
 use Rattle.std.specs.List.{AllByRecursion}
 use Rattle.std.proofs.lemmas.Int.{ints}
-use Rattle.priced_sets.specs.Sets.{IsWithin}
+use Rattle.fronts.specs.Fronts.{IsWithinAll}
+use Rattle.row_charges.specs.Rows.{rows_of}
+use Rattle.row_charges.specs.declared.priced_row.PricedRow.{PricedRow}
 use Rattle.solomon_reader.specs.CertificateText.{IsPrice}
 use Rattle.solomon_reader.specs.SetPrices.{PricedSet}
 use Rattle.solomon_reader.specs.Bound.{IsRoundedUp}
@@ -34,16 +36,16 @@ pub abs_within : (z : ℤ) (n : ℕ) → (pos 0 -ℤ pos n) ≤ℤ z → z ≤�
 abs_within (pos k) n low high = omega (arith, ints)
 abs_within (negsuc k) n low high = omega (arith, ints)
 
--- the two parts of the grains, with what needed entries are paid
-pub grains_more : (fleet routes above below needs whole : ℕ) (s m : ℤ) → pos above -ℤ pos below ≡ s → whole ≡ above + needs
-    → pos (whole + routes * up m) -ℤ pos (below + fleet * down m) ≡ ((s +ℤ (pos fleet *ℤ int_min (pos 0) m)) +ℤ (pos routes *ℤ int_max (pos 0) m)) +ℤ pos needs
-grains_more fleet routes above below needs whole s m e is = omega (arith, ints, grains_are fleet routes above below s m e, is)
+-- the two parts of the grains, with what needed entries are paid, and less a charge by each row
+pub grains_more : (fleet routes above below needs charged whole less : ℕ) (s m : ℤ) → pos above -ℤ pos below ≡ s → whole ≡ above + needs → less ≡ below + charged
+    → pos (whole + routes * up m) -ℤ pos (less + fleet * down m) ≡ (((s +ℤ (pos fleet *ℤ int_min (pos 0) m)) +ℤ (pos routes *ℤ int_max (pos 0) m)) +ℤ pos needs) -ℤ pos charged
+grains_more fleet routes above below needs charged whole less s m e is are = omega (arith, ints, grains_are fleet routes above below s m e, is, are)
 
--- where no set has a price each price is in its range
-pub within_none : (sets : List PricedSet) (prices : List ℤ) → sets ≡ [] → AllByRecursion IsPrice prices → AllByRecursion (IsWithin sets) prices
-within_none sets [] none all = tt
-within_none sets (z ∷ prices) none all = (rw none (omega (arith, all.0)), within_none sets prices none all.1)
+within_no_sets : (prices : List ℤ) → AllByRecursion IsPrice prices → AllByRecursion (IsWithinAll [] []) prices
+within_no_sets [] all = tt
+within_no_sets (z ∷ prices) all = (omega (arith, all.0), within_no_sets prices all.1)
 
--- a number of grains less nothing
-pub rounded_plain : (z : ℤ) (v : ℕ) → IsRoundedUp z v → IsRoundedUp (z -ℤ pos 0) v
-rounded_plain z v is = record { covers = omega (arith, ints, is.covers); least = λ w h. is.least w (omega (arith, ints, h)) }
+-- where no set and no row has a price each price is in its range
+pub within_none : (sets : List PricedSet) (rows : List PricedRow) (prices : List ℤ) → sets ≡ [] → rows ≡ [] → AllByRecursion IsPrice prices
+    → AllByRecursion (IsWithinAll sets (rows_of rows)) prices
+within_none sets rows prices no_sets no_rows all = rw (no_sets, no_rows) (within_no_sets prices all)

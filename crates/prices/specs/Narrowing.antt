@@ -28,4 +28,5 @@ pub record IsSameAt (g : Region) (old new : ValuedPrices) : Type 0 where
   pub neighbours : new.neighbours ≡ old.neighbours
   pub prices : new.prices ≡ old.prices
   pub sets : new.sets ≡ old.sets
+  pub rows : new.rows ≡ old.rows
   pub value : new.value ≡ old.value

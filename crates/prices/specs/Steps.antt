@@ -34,13 +34,14 @@ abbrev pub IsStepped : ValuedPrices → ℤ → List ℤ → Type 0
 IsStepped f s new =
     (r : List ℕ) × IsGuide f r × (new ≡ map (λ i. price_after s (count_of i r) (price_of f.prices i)) (customers f.problem))
 
--- the prices after one step, with the value that they give, at the same region of the same instance; no set has a price any more
+-- the prices after one step, with the value that they give, at the same region of the same instance; no set and no row has a price any more
 pub record IsNext (old : ValuedPrices) (s : ℤ) (new : ValuedPrices) : Type 0 where
   pub problem : new.problem ≡ old.problem
   pub region : new.region ≡ old.region
   pub neighbours : new.neighbours ≡ old.neighbours
   pub stepped : IsStepped old s new.prices
   pub sets : new.sets ≡ []
+  pub rows : new.rows ≡ []
   pub valued : IsValued new
 
 -- the prices met on the way, one for each step, each from those that the step before left

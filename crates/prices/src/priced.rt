@@ -5,9 +5,13 @@ ghost use Rattle.std.specs.List.{AllByRecursion};
 ghost use Rattle.solomon_reader.specs.Problem.{customer_count};
 ghost use Rattle.solomon_reader.specs.Region.{root_region};
 ghost use Rattle.solomon_reader.specs.CertificateText.{IsPrice};
-ghost use Rattle.solomon_reader.specs.declared.limits.TheConstants.{MOST_NEIGHBOURS};
+ghost use Rattle.solomon_reader.specs.declared.limits.TheConstants.{MOST_NEIGHBOURS, MOST_ROW_PRICES};
 ghost use Rattle.labelling.specs.declared.fault.LabelFault.TheVariants as label;
-ghost use Rattle.priced_sets.specs.Sets.{sets_of, ArePriced, IsWithin};
+ghost use Rattle.priced_sets.specs.Sets.{sets_of, ArePriced};
+ghost use Rattle.row_charges.specs.Rows.{rows_of};
+ghost use Rattle.fronts.specs.Fronts.{IsWithinAll};
+ghost use Rattle.labelling.specs.PricedRows.{ArePricedRows};
+ghost use Rattle.labelling.specs.Pricings as labelling;
 ghost use Rattle.prices.specs.ValuedPrices.{IsValued, IsPricedBy, leaf_of};
 ghost use Rattle.prices.specs.Tasks.{valued_at};
 ghost use Rattle.prices.specs.Steps.{IsGuide};
@@ -18,17 +22,18 @@ ghost use Rattle.prices.specs.declared.fault.PriceFault.TheVariants.{LabelLimit,
 use crate::fault::PriceFault;
 use crate::narrowing::stays_least;
 use crate::range::are_prices;
-use crate::valuing::{least_of, sum_of, value_of};
+use crate::valuing::{charge_of, least_of, sum_of, value_of};
 use branching::Region;
 use labelling::{Hints, Kept, LabelFault, Least, PricingTask, least_by_hints};
 use priced_sets::{PricedSet, PricedSets};
+use row_charges::PricedRow;
 use solomon_reader::Instance;
 use std::alloc::{AllocError, Global};
 use std::marker::Model;
 
-/// A price for each customer and for some sets at a region of an instance, and the value that they give: every plan
-/// that obeys the region costs at least the value. Contracts see all six. Beside them stands the
-/// least reduced cost over the relaxed routes, with its route.
+/// A price for each customer, for some sets and for some rows at a region of an instance, and the value that they give:
+/// every plan that obeys the region costs at least the value. Contracts see all seven. Beside them stands the least
+/// reduced cost over the relaxed routes, with its route.
 #[derive(Debug, Drop)]
 pub struct Priced<'i> {
     task: PricingTask<'i>,
@@ -78,7 +83,9 @@ fn evaluate(
     let value = value_of(
         instance.fleet(),
         instance.fewest_routes(),
-        sum_of(task.prices.as_slice()).more(task.sets.paid_for_needs()),
+        sum_of(task.prices.as_slice())
+            .more(task.sets.paid_for_needs())
+            .less(charge_of(task.rows.as_slice())),
         least_of(found.value),
     );
     Ok((value, found))
@@ -126,6 +133,7 @@ impl<'i> Priced<'i> {
         ensures neighbours { IfOk result (λ f. f.neighbours ≡ neighbours) }
         ensures prices { IfOk result (λ f. f.prices ≡ prices.items) }
         ensures sets { IfOk result (λ f. f.sets ≡ []) }
+        ensures rows { IfOk result (λ f. f.rows ≡ []) }
         ensures valued { IfOk result (λ f. IsValued f) }
         ensures in_range { IfOk result (λ f. AllByRecursion IsPrice prices.items) }
         ensures out_of_range { IfErr result
@@ -143,6 +151,7 @@ impl<'i> Priced<'i> {
             neighbours,
             prices,
             sets: PricedSets::none(alloc, instance),
+            rows: Vec::new(alloc),
         };
         let (hints, mut kept) = (Hints::none(alloc), Kept::nothing(alloc));
         match Priced::by_hints(alloc, task, limit, &hints, &mut kept) {
@@ -161,7 +170,7 @@ impl<'i> Priced<'i> {
         kept: &mut Kept,
     ) -> Result<Priced<'i>, (PricingTask<'i>, LabelFault)>
         ensures priced { let t = task.entry in
-            IfOk result (IsPricedBy t.instance.now t.region t.neighbours t.prices.items t.sets.sets) }
+            IfOk result (IsPricedBy t.instance.now t.region t.neighbours (labelling.leaf_of t)) }
         ensures unlimited { IfErr result (λ e. e.1 ≡ label.LabelLimit → limit ≢ None) }
         ensures back { IfErr result (λ e. e.0 ≡ task.entry) }
     {
@@ -186,6 +195,7 @@ impl<'i> Priced<'i> {
         ensures neighbours { IfOk result (λ f. f.neighbours ≡ neighbours) }
         ensures prices { IfOk result (λ f. AllByRecursion (λ z. z ≡ pos 0) f.prices) }
         ensures sets { IfOk result (λ f. f.sets ≡ []) }
+        ensures rows { IfOk result (λ f. f.rows ≡ []) }
         ensures valued { IfOk result (λ f. IsValued f) }
         ensures unlimited { IfErr result (λ e. e ≡ label.LabelLimit → limit ≢ None) }
     {
@@ -195,6 +205,7 @@ impl<'i> Priced<'i> {
             neighbours,
             prices: no_prices(alloc, instance)?,
             sets: PricedSets::none(alloc, instance),
+            rows: Vec::new(alloc),
         };
         match Priced::by_hints(alloc, task, limit, hints, &mut Kept::nothing(alloc)) {
             Ok(priced) => Ok(priced),
@@ -209,6 +220,7 @@ impl<'i> Priced<'i> {
         ensures neighbours { result.now.neighbours ≡ self.now.neighbours }
         ensures prices { result.now.prices.items ≡ self.now.prices }
         ensures sets { result.now.sets.sets ≡ self.now.sets }
+        ensures rows { rows_of result.now.rows.items ≡ self.now.rows }
     {
         &self.task
     }
@@ -249,14 +261,23 @@ impl<'i> Priced<'i> {
     pub fn sets(&self) -> &[PricedSet]
         ensures value { sets_of result.now ≡ self.now.sets }
         ensures priced { ArePriced self.now.problem self.now.sets }
-        ensures in_range { AllByRecursion (IsWithin self.now.sets) self.now.prices }
+        ensures in_range { AllByRecursion (IsWithinAll self.now.sets self.now.rows) self.now.prices }
     {
         self.task.sets.as_slice()
     }
 
-    /// The value in tenths: the prices, those of sets as often as these are entered at least, less what each vehicle
-    /// may take back where the least reduced cost is below zero, and where it is above, what it costs each route that
-    /// carries the demands; rounded up, and not below zero.
+    /// The rows of three customers that have a price, in increasing order, with their prices in grains.
+    pub fn rows(&self) -> &[PricedRow]
+        ensures value { rows_of result.now ≡ self.now.rows }
+        ensures few { length self.now.rows ≤ MOST_ROW_PRICES }
+        ensures priced { ArePricedRows (customer_count self.now.problem) self.now.rows }
+    {
+        self.task.rows.as_slice()
+    }
+
+    /// The value in tenths: the prices, those of sets as often as these are entered at least, less those of rows, and less
+    /// what each vehicle may take back where the least reduced cost is below zero, and where it is above, what it costs
+    /// each route that carries the demands; rounded up, and not below zero.
     pub fn value(&self) -> i128
         ensures is { result ≡ pos self.now.value }
         ensures valued { IsValued self.now }

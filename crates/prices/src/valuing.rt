@@ -7,7 +7,11 @@ ghost use Rattle.solomon_reader.specs.Bound.{IsRoundedUp};
 ghost use Rattle.solomon_reader.specs.SumLaws.{up, down};
 ghost use Rattle.solomon_reader.specs.CertificateText.{IsPrice};
 ghost use Rattle.solomon_reader.specs.declared.limits.TheConstants.{MOST_CUSTOMERS, MOST_DEMAND, MOST_FLEET, MOST_PRICE};
+ghost use Rattle.solomon_reader.specs.SubsetRows.{row_price_sum};
+ghost use Rattle.row_charges.specs.Rows.{rows_of};
 ghost use Rattle.prices.specs.ValuedPrices.{or_zero, MOST_LEAST, MOST_NEEDS, MOST_VALUE};
+
+use row_charges::PricedRow;
 
 /// The grains of a tenth.
 pub(crate) const GRAINS_OF_TENTH: u128 = 1_000;
@@ -32,6 +36,31 @@ impl Grains {
             below: self.below,
         }
     }
+
+    /// This much less, in grains.
+    pub(crate) fn less(self, grains: u64) -> Grains
+        requires below { self.below ≤ MOST_CUSTOMERS * MOST_PRICE }
+        requires less { grains ≤ MOST_PRICE }
+        ensures above { result.above ≡ self.above }
+        ensures below { result.below ≡ self.below + grains }
+    {
+        Grains {
+            above: self.above,
+            below: self.below + u128::from(grains),
+        }
+    }
+}
+
+/// What rows charge together, in grains, where each charges once.
+pub(crate) fn charge_of(rows: &[PricedRow]) -> u64
+    requires { row_price_sum (rows_of rows.now) ≤ MOST_PRICE }
+    ensures { result ≡ row_price_sum (rows_of rows.now) }
+{
+    let mut sum: u64 = 0;
+    for row in rows {
+        sum += row.price;
+    }
+    sum
 }
 
 /// The sum of the prices.
@@ -80,7 +109,7 @@ pub(crate) fn value_of(fleet: u16, routes: u32, sum: Grains, least: Grains) -> u
     requires vehicles { fleet ≤ MOST_FLEET }
     requires routes { routes ≤ MOST_CUSTOMERS * MOST_DEMAND }
     requires sum_above { sum.above ≤ MOST_CUSTOMERS * MOST_PRICE + MOST_NEEDS }
-    requires sum_below { sum.below ≤ MOST_CUSTOMERS * MOST_PRICE }
+    requires sum_below { sum.below ≤ MOST_CUSTOMERS * MOST_PRICE + MOST_PRICE }
     requires least_above { least.above ≤ MOST_LEAST }
     requires least_below { least.below ≤ MOST_LEAST }
     ensures value { IsRoundedUp (pos (sum.above + routes * least.above) -ℤ pos

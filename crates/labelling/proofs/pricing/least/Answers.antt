@@ -1,5 +1,5 @@
 use Rattle.std.proofs.Common.{◌≡◌, arith}
-use Rattle.labelling.proofs.Paying.{within_none}
+use Rattle.labelling.proofs.Paying.{within_none, no_rows_priced}
 use Rattle.labelling.proofs.pricing.least.Goals as goal
 
 pub invariant_of-task-clause-priced : goal.invariant_of-task-clause-priced
@@ -9,6 +9,9 @@ invariant_of-task-clause-priced c =
 
 pub invariant_of-task-clause-low_rows : goal.invariant_of-task-clause-low_rows
 invariant_of-task-clause-low_rows c = rw c.new.ensures.items (omega arith)
+
+pub invariant_of-task-clause-rows_are : goal.invariant_of-task-clause-rows_are
+invariant_of-task-clause-rows_are c = no_rows_priced _ _ c.new.ensures.items
 
 pub invariant_of-task-clause-within : goal.invariant_of-task-clause-within
 invariant_of-task-clause-within c =

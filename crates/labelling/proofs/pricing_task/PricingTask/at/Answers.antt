@@ -22,5 +22,8 @@ invariant_of-result-clause-within c =
 pub invariant_of-result-clause-low_rows : goal.invariant_of-result-clause-low_rows
 invariant_of-result-clause-low_rows c = rw (c.in_ok-from_slice.ensures.items, c.as_slice.ensures.value) c.args.self.now.low_rows
 
+pub invariant_of-result-clause-rows_are : goal.invariant_of-result-clause-rows_are
+invariant_of-result-clause-rows_are c = rw (c.in_ok-from_slice.ensures.items, c.as_slice.ensures.value) c.args.self.now.rows_are
+
 pub returns-clause-prices : goal.returns-clause-prices
 returns-clause-prices c = each_same _ _ c.in_ok-clone.ensures.cases.0
