@@ -6,8 +6,7 @@ use Rattle.solomon_reader.specs.Plan.{Arc as Pair}
 use Rattle.solomon_reader.specs.Bound.{Tree, leaf, split}
 use Rattle.solomon_reader.specs.CertificateText as certificate
 use Rattle.solomon_reader.specs.History.{Event, offered, repriced, was_split, split_count, used_number, unused_number, last_number, split_of, IsLegal}
-use Rattle.solomon_reader.specs.SetPrices.{ListedSet}
-use Rattle.incumbent_book.specs.Contents.{OwnPrices}
+use Rattle.incumbent_book.specs.Contents.{Lists, OwnPrices}
 use Rattle.incumbent_book.specs.Trees.{GrowsAt}
 use Rattle.incumbent_book.proofs.Histories.{here, elsewhere, not_yet, which_number}
 use Rattle.incumbent_book.proofs.Trees.{from_some, split_facts}
@@ -228,10 +227,10 @@ root_leaves n v (offered worker cost better ∷ past) legal = root_leaves n v pa
 root_leaves n v (repriced worker l value ∷ past) legal = root_leaves n v past legal.1
 root_leaves n v (was_split worker l b i j x y ∷ past) legal = omega (arith, root_leaves n v past legal.1, below_root n v past l legal.1 legal.0.leaf.made)
 
-tree_leaves : (n v : ℕ) (past : List Event) (listed : List ListedSet) (prices : List OwnPrices) (m : ℕ) (tree : Tree) → IsLegal n v past → GrowsAt past listed prices m tree → certificate.leaf_count tree ≡ below past m
+tree_leaves : (n v : ℕ) (past : List Event) (listed : Lists) (prices : List OwnPrices) (m : ℕ) (tree : Tree) → IsLegal n v past → GrowsAt past listed prices m tree → certificate.leaf_count tree ≡ below past m
 tree_leaves n v past listed prices m (leaf ps) legal g = sym (one_leaf n v past m legal g.0.whole)
 tree_leaves n v past listed prices m (split a x y) legal g =
     omega (arith, tree_leaves n v past listed prices (used_number g.0) x legal g.2, tree_leaves n v past listed prices (unused_number g.0) y legal g.3, both_below n v past m g.0 a legal g.1)
 
-pub all_leaves : (n v : ℕ) (past : List Event) (listed : List ListedSet) (prices : List OwnPrices) (tree : Tree) → IsLegal n v past → GrowsAt past listed prices 0 tree → certificate.leaf_count tree ≡ split_count past + 1
+pub all_leaves : (n v : ℕ) (past : List Event) (listed : Lists) (prices : List OwnPrices) (tree : Tree) → IsLegal n v past → GrowsAt past listed prices 0 tree → certificate.leaf_count tree ≡ split_count past + 1
 all_leaves n v past listed prices tree legal g = tree_leaves n v past listed prices 0 tree legal g ∙ root_leaves n v past legal

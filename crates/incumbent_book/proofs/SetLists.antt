@@ -15,7 +15,7 @@ use Rattle.priced_sets.specs.declared.priced_set.PricedSet.{PricedSet as Priced}
 use Rattle.incumbent_book.specs.Contents.{AreListed, AreDifferent, AreNew, LacksRoom}
 use Rattle.incumbent_book.specs.SetLists.{no_set, IsPlaceOf, IsGrown, IsUnlistedFor, Begins}
 use Rattle.incumbent_book.specs.declared.fault.BookFault.{BookFault}
-use Rattle.incumbent_book.specs.declared.fault.BookFault.TheVariants.{Memory, ForeignInstance, JournalFull, NotALeaf, WrongRegion, NotHigher, Lower, LeavesFull, TooDeep, SetsFull}
+use Rattle.incumbent_book.specs.declared.fault.BookFault.TheVariants.{Memory, ForeignInstance, JournalFull, NotALeaf, WrongRegion, NotHigher, Lower, LeavesFull, TooDeep, SetsFull, RowsFull}
 
 -- ---- places
 
@@ -176,6 +176,7 @@ module _ (most : ℕ) where
   unlisted_later xs ys zs old mid Lower g u = absurd u
   unlisted_later xs ys zs old mid LeavesFull g u = absurd u
   unlisted_later xs ys zs old mid TooDeep g u = absurd u
+  unlisted_later xs ys zs old mid RowsFull g u = absurd u
 
   pub unlisted_after : (xs ys : List PricedSet) (old mid : List ListedSet) → IsGrown most xs old mid → (why : BookFault) → IsUnlistedFor most ys mid why
       → IsUnlistedFor most (xs ++ ys) old why

@@ -4,28 +4,27 @@ use Rattle.std.specs.Prelude.{min, slice_index_or}
 use Rattle.std.proofs.lemmas.Bool.{cases_eq, cases_lt}
 use Rattle.solomon_reader.specs.Problem.{customer_count}
 use Rattle.solomon_reader.specs.Region.{used_child, unused_child, root_region, Obeys}
-use Rattle.solomon_reader.specs.Bound.{version_2, listed_rows, ceiling_of, Tree, leaf, split, HasBound}
+use Rattle.solomon_reader.specs.Bound.{version_2, ceiling_of, Tree, leaf, split, HasBound}
 use Rattle.solomon_reader.specs.CertificateText.{IsTreeAt}
 use Rattle.branching.specs.Arcs.{pair}
 use Rattle.prices.specs.ValuedPrices.{ValuedPrices, leaf_of}
 use Rattle.solomon_reader.specs.History.{Event, offered, repriced, was_split, split_count, used_number, unused_number, last_number, split_of, IsLeaf, region_of, depth_of, value_of, IsBound}
 use Rattle.solomon_reader.specs.History.{IsLegal}
 use Rattle.solomon_reader.specs.Plan.{IsPlan, plan_cost, Arc as Pair}
-use Rattle.solomon_reader.specs.LeafLaws.{no_row_priced}
 use Rattle.solomon_reader.specs.RegionLaws.{obeys_root, obeys_child}
 use Rattle.solomon_reader.specs.SetDualityLaws.{leaf_weak_duality}
-use Rattle.incumbent_book.specs.Contents.{Contents, OwnPrices, own_prices, no_prices, IsBook, pricing_at}
+use Rattle.incumbent_book.specs.Contents.{Contents, OwnPrices, lists_of, own_prices, no_prices, IsBook, pricing_at}
 use Rattle.incumbent_book.specs.Arena.{open_leaf, leaf_at, IsLeastOf}
 use Rattle.incumbent_book.specs.Keeping.{IsConsistent}
 use Rattle.incumbent_book.specs.Trees.{AreNamed, GrowsAt, version_of_book, IsTreeOf}
-use Rattle.incumbent_book.specs.Forward.{IsForward, GrowsIn, HasSetsOf}
+use Rattle.incumbent_book.specs.Forward.{IsForward, GrowsIn, HasListsOf}
 use Rattle.incumbent_book.specs.declared.node.Node.{Node}
 use Rattle.incumbent_book.specs.declared.node.Node.TheVariants.{Split}
 use Rattle.incumbent_book.proofs.Histories.{here, elsewhere, which_number, not_yet, same_region, used_region, unused_region}
 use Rattle.incumbent_book.proofs.Trees.{leaf_is, split_facts, from_some, open_at}
 use Rattle.incumbent_book.proofs.Kept.{leaf_pricing, kept_open}
 use Rattle.incumbent_book.proofs.LeafCounts.{all_leaves}
-use Rattle.incumbent_book.proofs.LeafValues.{named_value, listed_count, named_prices, within_price, true_needs}
+use Rattle.incumbent_book.proofs.LeafValues.{named_value, listed_count, rows_count, named_prices, named_rows, within_price, true_needs}
 use Rattle.solomon_reader.specs.CertificateText as certificate
 
 -- what stands in the nodes stands in the history
@@ -48,10 +47,10 @@ module _ (b : Contents) (nodes : List Node) (is : IsConsistent b nodes) where
         (omega (arith, st.3), omega (arith, st.3)));
   }
 
-  grows_at : (m : ℕ) (tree : Tree) → GrowsIn nodes b.listed m tree → GrowsAt b.past b.listed b.prices m tree
+  grows_at : (m : ℕ) (tree : Tree) → GrowsIn nodes (lists_of b) m tree → GrowsAt b.past (lists_of b) b.prices m tree
   grows_at m (leaf ps) g =
       let at : leaf_at nodes m ≡ Some g.0 = ap open_leaf g.1 in
-      (leaf_is b.problem b.neighbours b.root b.past nodes is.arena m g.0 at, subst (λ (f : ValuedPrices). AreNamed b.listed (own_prices f) ps) (leaf_pricing b nodes is m g.0 at) g.2)
+      (leaf_is b.problem b.neighbours b.root b.past nodes is.arena m g.0 at, subst (λ (f : ValuedPrices). AreNamed (lists_of b) (own_prices f) ps) (leaf_pricing b nodes is m g.0 at) g.2)
   grows_at m (split a x y) g =
       let arc = g.0 in
       let i = g.1.0 in
@@ -60,17 +59,23 @@ module _ (b : Contents) (nodes : List Node) (is : IsConsistent b nodes) where
       let st = is.arena.stand m (Split arc i j) h.0 in (
         st.0,
         st.1 ∙ ap (λ (q : Pair). Some (st.0, q)) (sym h.1),
-        subst (λ (k : ℕ). GrowsAt b.past b.listed b.prices k x) st.2 (grows_at i x h.2),
-        subst (λ (k : ℕ). GrowsAt b.past b.listed b.prices k y) st.3 (grows_at j y h.3),
+        subst (λ (k : ℕ). GrowsAt b.past (lists_of b) b.prices k x) st.2 (grows_at i x h.2),
+        subst (λ (k : ℕ). GrowsAt b.past (lists_of b) b.prices k y) st.3 (grows_at j y h.3),
       )
 
   pub root_inside : 0 < length nodes
   root_inside = omega (arith, is.arena.count)
 
-  pub has_sets : HasSetsOf b.listed nodes
-  has_sets = record { few = omega (arith, is.few.0, is.few.1); known = is.named }
+  pub has_lists : HasListsOf (lists_of b) nodes
+  has_lists = record {
+    few = omega (arith, is.few.0, is.few.1);
+    known = is.named;
+    few_rows = omega (arith, is.few_rows.0, is.few_rows.1);
+    in_order = is.rows_in_order;
+    rows_known = is.rows_named;
+  }
 
-  pub root_grows : (tree : Tree) → GrowsIn nodes b.listed 0 tree → GrowsAt b.past b.listed b.prices 0 tree
+  pub root_grows : (tree : Tree) → GrowsIn nodes (lists_of b) 0 tree → GrowsAt b.past (lists_of b) b.prices 0 tree
   root_grows tree g = grows_at 0 tree g
 
 -- the numbers of the children of a number that was split
@@ -133,7 +138,7 @@ module _ (b : Contents) (book : IsBook b) where
   at m tree = bound_at u b.root b.past m tree
 
   abbrev Grows : ℕ → Tree → Type 0
-  Grows m tree = GrowsAt b.past b.listed b.prices m tree
+  Grows m tree = GrowsAt b.past (lists_of b) b.prices m tree
 
   abbrev own : ℕ → OwnPrices
   own m = slice_index_or b.prices m no_prices
@@ -141,7 +146,8 @@ module _ (b : Contents) (book : IsBook b) where
   has_bound : (m : ℕ) (tree : Tree) → Grows m tree → HasBound (version_of_book b) b.problem b.neighbours (region_of n b.past m) tree (at m tree)
   has_bound m (leaf ps) g = (
     value_of b.root b.past m,
-    named_value b.most_sets b.listed (own m) ps b.problem (region_of n b.past m) b.neighbours (value_of b.root b.past m) book.few.0 g.1 (book.named m g.0) (book.leaves m g.0).valued,
+    named_value b.most_sets b.listed b.most_rows b.rows (own m) ps b.problem (region_of n b.past m) b.neighbours (value_of b.root b.past m) book.few.0 book.few_rows.0 g.1 (book.named m g.0)
+        (book.rows_named m g.0) (book.leaves m g.0).valued,
     refl,
   )
   has_bound m (split a x y) g =
@@ -163,9 +169,9 @@ module _ (b : Contents) (book : IsBook b) where
   shaped_at : (m : ℕ) (tree : Tree) → Grows m tree → IsTreeAt (version_of_book b) (region_of n b.past m) tree
   shaped_at m (leaf ps) g = let f = book.leaves m g.0 in (
     rw g.1.customers (f.valued.priced ∙ sym f.size),
-    rw g.1.customers (within_price (own m).sets (own m).customers f.priced),
-    rw (listed_count b.most_sets b.listed book.few.0) (named_prices b.problem b.listed (own m) ps g.1 f.sets_are f.priced),
-    rw g.1.rows (no_row_priced (length (listed_rows (version_of_book b)))),
+    rw g.1.customers (within_price (own m).sets (own m).rows (own m).customers f.priced),
+    rw (listed_count b.most_sets b.listed b.most_rows b.rows book.few.0) (named_prices b.problem (lists_of b) (own m) ps g.1 f.sets_are f.priced),
+    rw (rows_count b.most_sets b.listed b.most_rows b.rows book.few_rows.0) (named_rows n (lists_of b) (own m) ps g.1 f.rows_are f.few_rows),
   )
   shaped_at m (split a x y) g =
       let f = split_facts n b.root b.past m g.0 a book.legal g.1 in
@@ -258,7 +264,7 @@ module _ (b : Contents) (book : IsBook b) where
         let same : at 0 tree ≡ c = omega (arith, no_higher (at 0 tree) c mine is, no_higher c (at 0 tree) is mine) in
         subst (λ (x : ℕ). HasBound (version_of_book b) b.problem b.neighbours (root_region n) tree x) same (rw (root_same n b.past) at (has_bound 0 tree g)));
     shaped = rw (root_same n b.past) at (shaped_at 0 tree g);
-    leaves = all_leaves n b.root b.past b.listed b.prices tree book.legal g;
+    leaves = all_leaves n b.root b.past (lists_of b) b.prices tree book.legal g;
     depth = omega (arith, deep_at 0 tree g, root_depth b.past);
   }
 

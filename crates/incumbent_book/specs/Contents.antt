@@ -1,10 +1,12 @@
 -- What a book holds.
-use Rattle.std.specs.Prelude.{◌≡◌, ℕ, zero, suc, ◌+◌, ◌<◌, ◌≤◌, List, [], ◌∷◌, ◌++◌, length, ℤ, slice_index_or, Option, MatchOption, option_map, map, reverse}
-use Rattle.solomon_reader.specs.declared.limits.TheConstants.{MOST_EVENTS, MOST_LEAVES, MOST_DEPTH, MOST_SETS}
+use Rattle.std.specs.Prelude.{◌≡◌, ℕ, zero, suc, ◌+◌, ◌<◌, ◌≤◌, List, [], ◌∷◌, ◌++◌, length, ℤ, ◌⊎◌, slice_index_or, Option, MatchOption, option_map, map, reverse}
+use Rattle.solomon_reader.specs.declared.limits.TheConstants.{MOST_EVENTS, MOST_LEAVES, MOST_DEPTH, MOST_SETS, MOST_ROWS}
 use Rattle.std.specs.List.{AllByRecursion}
 use Rattle.solomon_reader.specs.Region.{Among}
-use Rattle.solomon_reader.specs.Bound.{Version, version_2, with_sets}
+use Rattle.solomon_reader.specs.Bound.{Version, version_2, with_sets, with_rows}
 use Rattle.solomon_reader.specs.SetPrices.{ListedSet, PricedSet, listed_of}
+use Rattle.solomon_reader.specs.SubsetRows.{SubsetRow, PricedRow}
+use Rattle.solomon_reader.specs.CertificateText.{IsListedRow, AreInOrder}
 use Rattle.priced_sets.specs.Sets.{MayBeListed}
 use Rattle.solomon_reader.specs.Problem.{Problem, customer_count}
 use Rattle.schedule.specs.Solution.{Solution, IsSolution}
@@ -30,28 +32,46 @@ past_of events = reverse (map event_of events)
 abbrev pub limits_of : Bounds → Limits
 limits_of limits = record { events = limits.events; leaves = limits.leaves; depth = limits.depth }
 
--- the prices of the customers and of some sets
+-- the prices of the customers, of some sets and of some rows
 pub record OwnPrices : Type 0 where
   pub customers : List ℤ
   pub sets : List PricedSet
+  pub rows : List PricedRow
 
 abbrev pub own_prices : ValuedPrices → OwnPrices
-own_prices f = record { customers = f.prices; sets = f.sets }
+own_prices f = record { customers = f.prices; sets = f.sets; rows = f.rows }
 
 abbrev pub no_prices : OwnPrices
-no_prices = record { customers = []; sets = [] }
+no_prices = record { customers = []; sets = []; rows = [] }
 
--- the root's value is that at the opening; prices stand by number, and are none for a number that was split; the list of all sets that had a price grows, up to so many
+-- rows without their prices
+abbrev pub bare : List PricedRow → List SubsetRow
+bare rows = map (λ s. s.row) rows
+
+-- the root's value is that at the opening; prices stand by number, and are none for a number that was split; the lists of all sets and of all rows that had a price grow, up to so many
 pub record Contents : Type 0 where
   pub problem : Problem
   pub neighbours : ℕ
   pub root : ℕ
   pub limits : Limits
   pub most_sets : ℕ
+  pub most_rows : ℕ
   pub incumbent : Option Solution
   pub past : List history.Event
   pub listed : List ListedSet
+  pub rows : List SubsetRow
   pub prices : List OwnPrices
+
+-- the sets and the rows that a book lists
+pub record Lists : Type 0 where
+  pub sets : List ListedSet
+  pub rows : List SubsetRow
+
+abbrev pub listed_by : List ListedSet → List SubsetRow → Lists
+listed_by sets rows = record { sets = sets; rows = rows }
+
+abbrev pub lists_of : Contents → Lists
+lists_of b = listed_by b.listed b.rows
 
 -- a leaf with its prices: its region and its value follow from the history
 abbrev pub pricing_at : Contents → ℕ → ValuedPrices
@@ -61,6 +81,7 @@ pricing_at b m = let own = slice_index_or b.prices m no_prices in record {
   neighbours = b.neighbours;
   prices = own.customers;
   sets = own.sets;
+  rows = own.rows;
   value = value_of b.root b.past m;
 }
 
@@ -99,12 +120,36 @@ pub record LacksRoom (most : ℕ) (listed : List ListedSet) (sets : List PricedS
   pub only : AreNew listed sets more
   pub full : most < length listed + length more
 
--- how the tree of a book is told: where no set may have a price as it is without sets
-abbrev pub version_of : ℕ → List ListedSet → Version
-version_of zero listed = version_2
-version_of (suc n) listed = with_sets listed
+-- each of the rows stands in a list
+abbrev pub AreRowsListed : List SubsetRow → List SubsetRow → Type 0
+AreRowsListed listed rows = AllByRecursion (λ r. Among r listed) rows
 
--- a legal history within the limits, a plan of the best cost offered, and at each leaf prices that give its value, of sets of the list
+-- each of the rows is one of a list, or one of some more
+abbrev pub AreRowsOf : List SubsetRow → List SubsetRow → List SubsetRow → Type 0
+AreRowsOf listed more rows = AllByRecursion (λ r. Among r listed ⊎ Among r more) rows
+
+-- A list of rows with some more: in increasing order, so none stands there twice, the old ones and the further ones, and no others.
+pub record IsRowListing (old more new : List SubsetRow) : Type 0 where
+  pub in_order : AreInOrder new
+  pub stay : AreRowsListed new old
+  pub all : AreRowsListed new more
+  pub only : AreRowsOf old more new
+
+-- the listed rows and some more are so many different ones that there is no room for them
+pub record LacksRowRoom (most : ℕ) (listed more : List SubsetRow) : Type 0 where
+  pub rows : List SubsetRow
+  pub in_order : AreInOrder rows
+  pub only : AreRowsOf listed more rows
+  pub full : most < length rows
+
+-- how the tree of a book is told: where no row may have a price as it is without rows, and where no set may, either, as it is without sets
+abbrev pub version_of : ℕ → List ListedSet → ℕ → List SubsetRow → Version
+version_of zero listed zero rows = version_2
+version_of (suc n) listed zero rows = with_sets listed
+version_of zero listed (suc m) rows = with_rows listed rows
+version_of (suc n) listed (suc m) rows = with_rows listed rows
+
+-- a legal history within the limits, a plan of the best cost offered, and at each leaf prices that give its value, of sets and rows of the lists
 pub record IsBook (b : Contents) : Type 0 where
   pub legal : IsLegal (customer_count b.problem) b.root b.past
   pub limits : AreLimits b.limits
@@ -116,3 +161,7 @@ pub record IsBook (b : Contents) : Type 0 where
   pub few : (length b.listed ≤ b.most_sets) × (b.most_sets ≤ MOST_SETS)
   pub known : AllByRecursion (MayBeListed b.problem) b.listed
   pub named : (m : ℕ) → IsLeaf b.past m → AreListed b.listed (pricing_at b m).sets
+  pub few_rows : (length b.rows ≤ b.most_rows) × (b.most_rows ≤ MOST_ROWS)
+  pub rows_known : AllByRecursion (IsListedRow (customer_count b.problem)) b.rows
+  pub rows_in_order : AreInOrder b.rows
+  pub rows_named : (m : ℕ) → IsLeaf b.past m → AreRowsListed b.rows (bare (pricing_at b m).rows)

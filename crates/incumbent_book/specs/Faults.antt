@@ -1,14 +1,14 @@
 -- What a book demands of a call, and for which fault it refuses one.
-use Rattle.std.specs.Prelude.{◌≡◌, ℕ, ◌+◌, ◌<◌, ◌≤◌, ◌++◌, length, Option, Some, None}
+use Rattle.std.specs.Prelude.{◌≡◌, ℕ, ◌<◌, ◌≤◌, ◌++◌, length, Option, Some, None}
 use Rattle.solomon_reader.specs.Problem.{customer_count}
 use Rattle.solomon_reader.specs.Plan.{Arc}
 use Rattle.solomon_reader.specs.Region.{Region, IsUndecided, used_child, unused_child}
 use Rattle.schedule.specs.Solution.{Solution}
 use Rattle.prices.specs.ValuedPrices.{ValuedPrices}
 use Rattle.solomon_reader.specs.History.{IsLeaf, leaf_count, region_of, depth_of, value_of}
-use Rattle.incumbent_book.specs.Contents.{Contents, LacksRoom}
+use Rattle.incumbent_book.specs.Contents.{Contents, LacksRoom, LacksRowRoom, bare}
 use Rattle.incumbent_book.specs.declared.fault.BookFault.{BookFault}
-use Rattle.incumbent_book.specs.declared.fault.BookFault.TheVariants.{Memory, ForeignInstance, JournalFull, NotALeaf, WrongRegion, NotHigher, Lower, LeavesFull, TooDeep, SetsFull}
+use Rattle.incumbent_book.specs.declared.fault.BookFault.TheVariants.{Memory, ForeignInstance, JournalFull, NotALeaf, WrongRegion, NotHigher, Lower, LeavesFull, TooDeep, SetsFull, RowsFull}
 
 -- a plan; a number with new prices; a number with an arc, and prices where it is used and where it isn't
 pub data Call : Type 0 where
@@ -65,7 +65,7 @@ HasDepthLeft b (offer plan) = Unit {0}
 HasDepthLeft b (reprice m f) = Unit {0}
 HasDepthLeft b (split m a x y) = depth_of b.past m < b.limits.depth
 
--- the demand whose lack is this fault; memory and room for sets stand outside
+-- the demand whose lack is this fault; memory and room for sets and rows stand outside
 abbrev pub Meets : Contents → Call → BookFault → Type 0
 Meets b call Memory = Unit {0}
 Meets b call ForeignInstance = IsOfInstance b call
@@ -77,6 +77,7 @@ Meets b call Lower = IsNotLower b call
 Meets b call LeavesFull = HasLeavesLeft b call
 Meets b call TooDeep = HasDepthLeft b call
 Meets b call SetsFull = Unit {0}
+Meets b call RowsFull = Unit {0}
 
 -- the order in which faults are told
 abbrev pub rank_of : BookFault → ℕ
@@ -90,6 +91,7 @@ rank_of Lower = 7
 rank_of LeavesFull = 8
 rank_of TooDeep = 9
 rank_of SetsFull = 10
+rank_of RowsFull = 11
 
 -- the call meets each demand of a rank below r
 pub record MeetsBelow (b : Contents) (call : Call) (r : ℕ) : Type 0 where
@@ -109,10 +111,17 @@ LacksRoomFor b (offer plan) = ⊥
 LacksRoomFor b (reprice m f) = LacksRoom b.most_sets b.listed f.sets
 LacksRoomFor b (split m a x y) = LacksRoom b.most_sets b.listed (x.sets ++ y.sets)
 
--- want of memory, or of room for sets, is told only where all demands are met
+-- nor have its rows
+abbrev pub LacksRowRoomFor : Contents → Call → Type 0
+LacksRowRoomFor b (offer plan) = ⊥
+LacksRowRoomFor b (reprice m f) = LacksRowRoom b.most_rows b.rows (bare f.rows)
+LacksRowRoomFor b (split m a x y) = LacksRowRoom b.most_rows b.rows (bare x.rows ++ bare y.rows)
+
+-- want of memory, or of room for sets or rows, is told only where all demands are met
 abbrev pub IsRefusedFor : Contents → Call → BookFault → Type 0
 IsRefusedFor b call Memory = IsAccepted b call
 IsRefusedFor b call SetsFull = IsAccepted b call × LacksRoomFor b call
+IsRefusedFor b call RowsFull = IsAccepted b call × LacksRowRoomFor b call
 IsRefusedFor b call f = IsLowestFault b call f
 
 -- the fault that is told, if there is one

@@ -7,4 +7,6 @@ pub mod Laws
 pub mod Trees
 pub mod Forward
 pub mod SetLists
+pub mod RowLists
+pub mod Growing
 pub mod Reaching

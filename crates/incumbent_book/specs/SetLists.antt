@@ -1,5 +1,5 @@
 -- A list of sets that grows.
-use Rattle.std.specs.Prelude.{◌≡◌, ℕ, ◌+◌, ◌-◌, ◌<◌, ◌≤◌, List, [], ◌++◌, length, slice_index_or, Option, MatchOption}
+use Rattle.std.specs.Prelude.{◌≡◌, ℕ, ◌-◌, ◌<◌, ◌≤◌, List, [], ◌++◌, length, slice_index_or, Option, MatchOption}
 use Rattle.std.specs.List.{AllByRecursion}
 use Rattle.solomon_reader.specs.Region.{Among}
 use Rattle.solomon_reader.specs.SetPrices.{ListedSet, PricedSet, SetPrice, priced_sets}

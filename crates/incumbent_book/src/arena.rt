@@ -4,8 +4,10 @@ ghost use Rattle.std.specs.Prelude.{◌≡◌, ◌≢◌, ◌+◌, ◌<◌, ◌�
 ghost use Rattle.std.specs.Vec.{vec_capacity};
 ghost use Rattle.incumbent_book.specs.Arena.{leaf_at, new_leaf, WithLeaf, IsLeastOf};
 ghost use Rattle.branching.specs.Nodes.{node_of};
-ghost use Rattle.incumbent_book.specs.Forward.{IsForward, GrowsIn, HasSetsOf};
+ghost use Rattle.incumbent_book.specs.Forward.{IsForward, GrowsIn, HasListsOf};
 ghost use Rattle.priced_sets.specs.Sets.{listed_set};
+ghost use Rattle.incumbent_book.specs.RowLists.{listed_row};
+ghost use Rattle.incumbent_book.specs.Contents.{listed_by};
 ghost use Rattle.solomon_reader.specs.Bound.{Tree, preorder};
 ghost use Rattle.incumbent_book.specs.declared.node.Node.TheVariants.{Open, Split};
 
@@ -14,6 +16,7 @@ use crate::index::{least, replace, replace_by_two};
 use crate::listing::add_tree;
 use crate::node::{Leaf, Node};
 use crate::room::{make_room, put, put_two};
+use crate::subset_row::SubsetRow;
 use branching::{Arc, TreeNode};
 use priced_sets::ListedSet;
 use prices::Priced;
@@ -86,20 +89,21 @@ impl<'i> Arena<'i> {
         leaf_in(self.nodes.as_slice(), number)
     }
 
-    /// The nodes of the tree at the root, in preorder, with the sets by their places in a list.
+    /// The nodes of the tree at the root, in preorder, with the sets and rows by their places in lists.
     pub(crate) fn list(
         &self,
         alloc: Global,
         listed: &[ListedSet],
+        rows: &[SubsetRow],
     ) -> Result<Vec<TreeNode>, AllocError>
         requires forward { IsForward self.now }
         requires root { 0 < length self.now }
-        requires sets { HasSetsOf (map listed_set listed.now) self.now }
-        ensures { IfOk result (λ v. (tree : Tree) × GrowsIn self.now (map listed_set listed.now) 0 tree
-            × (map node_of v.items ≡ preorder tree)) }
+        requires lists { HasListsOf (listed_by (map listed_set listed.now) (map listed_row rows.now)) self.now }
+        ensures { IfOk result (λ v. (tree : Tree) × GrowsIn self.now
+            (listed_by (map listed_set listed.now) (map listed_row rows.now)) 0 tree × (map node_of v.items ≡ preorder tree)) }
     {
         let mut out = Vec::new(alloc);
-        add_tree(alloc, self.nodes.as_slice(), listed, 0, &mut out)?;
+        add_tree(alloc, self.nodes.as_slice(), listed, rows, 0, &mut out)?;
         Ok(out)
     }
 

@@ -2,8 +2,9 @@
 
 ghost use Rattle.std.specs.Prelude.{◌≡◌, ◌+◌, ◌≤◌, ℕ, List, [], option_map, IfOk, map};
 ghost use Rattle.std.specs.Bool.{Decides};
-ghost use Rattle.priced_sets.specs.Sets.{sets_of, listed_set};
+ghost use Rattle.priced_sets.specs.Sets.{listed_set};
 ghost use Rattle.incumbent_book.specs.SetLists.{IsGrown};
+ghost use Rattle.incumbent_book.specs.RowLists.{listed_row, IsRowGrown};
 ghost use Rattle.branching.specs.Arcs.{pair};
 ghost use Rattle.tenths.specs.declared.value.TheConstants.{MOST_TENTHS};
 ghost use Rattle.branching.specs.Nodes.{node_of};
@@ -11,7 +12,7 @@ ghost use Rattle.incumbent_book.specs.Trees.{IsTreeOf};
 ghost use Rattle.solomon_reader.specs.Bound.{Tree, preorder};
 ghost use Rattle.solomon_reader.specs.Plan.{IsPlan, plan_cost};
 ghost use Rattle.solomon_reader.specs.History.{IsBound};
-ghost use Rattle.incumbent_book.specs.Contents.{limits_of, past_of, IsBook};
+ghost use Rattle.incumbent_book.specs.Contents.{limits_of, past_of, bare, IsBook};
 ghost use Rattle.incumbent_book.specs.Replies.{AreOpen, Opens, Offers, Reprices, Splits, Shows, IsOptimalityGap};
 
 use crate::arena::Arena;
@@ -19,15 +20,17 @@ use crate::bounded::Bounded;
 use crate::event::Event;
 use crate::fault::{BookFault, OpenFault};
 use crate::gap::{Gap, Steps};
+use crate::growing::{Most, list_all};
 use crate::limits::Limits;
 use crate::offered::Offered;
 use crate::outcome::Outcome;
-use crate::set_list::list_sets;
+use crate::subset_row::SubsetRow;
+use crate::wanted::Wanted;
 use branching::{Arc, TreeNode};
-use priced_sets::{ListedSet, PricedSet};
+use priced_sets::ListedSet;
 use prices::Priced;
 use schedule::Feasible;
-use solomon_reader::MOST_SETS;
+use solomon_reader::{MOST_ROWS, MOST_SETS};
 use std::alloc::{AllocError, Global};
 use std::marker::Model;
 use tenths::Tenths;
@@ -36,19 +39,20 @@ use tenths::Tenths;
 const FIRST_ROOM: usize = 16;
 
 /// The book of a search for a cheapest plan: the incumbent, the tree of the splits with prices
-/// at its leaves, the list of all sets that had a price there, and the history of what was accepted.
-/// Contracts see the instance, the number of neighbours, the root's first value, the limits, how many
-/// sets may be listed, the incumbent, the history, the list and the prices.
+/// at its leaves, the lists of all sets and of all rows that had a price there, and the history of what was
+/// accepted. Contracts see the instance, the number of neighbours, the root's first value, the limits, how many
+/// sets and rows may be listed, the incumbent, the history, the lists and the prices.
 #[derive(Drop)]
 pub struct Book<'i> {
     pub(crate) bounded: Bounded<'i>,
     pub(crate) neighbours: u32,
     pub(crate) root: u128,
     pub(crate) limits: Limits,
-    pub(crate) sets: u32,
+    pub(crate) most: Most,
     pub(crate) incumbent: Option<Feasible<'i>>,
     pub(crate) history: Vec<Event>,
     pub(crate) listed: Vec<ListedSet>,
+    pub(crate) rows: Vec<SubsetRow>,
     pub(crate) arena: Arena<'i>,
 }
 
@@ -58,6 +62,7 @@ impl<'i> Model for Book<'i> {
     ghost use Rattle.incumbent_book.specs.Arena.{prices_of};
     ghost use Rattle.incumbent_book.specs.Keeping.{IsConsistent};
     ghost use Rattle.priced_sets.specs.Sets.{listed_set};
+    ghost use Rattle.incumbent_book.specs.RowLists.{listed_row};
 
     ghost Value = { Contents };
 
@@ -66,10 +71,12 @@ impl<'i> Model for Book<'i> {
       neighbours = b.neighbours;
       root = b.root;
       limits = limits_of b.limits;
-      most_sets = b.sets;
+      most_sets = b.most.sets;
+      most_rows = b.most.rows;
       incumbent = b.incumbent;
       past = past_of b.history.items;
       listed = map listed_set b.listed.items;
+      rows = map listed_row b.rows.items;
       prices = map prices_of b.arena;
     } };
 
@@ -79,69 +86,98 @@ impl<'i> Model for Book<'i> {
           neighbours = b.neighbours;
           root = b.root;
           limits = limits_of b.limits;
-          most_sets = b.sets;
+          most_sets = b.most.sets;
+          most_rows = b.most.rows;
           incumbent = b.incumbent;
           past = past_of b.history.items;
           listed = map listed_set b.listed.items;
+          rows = map listed_row b.rows.items;
           prices = map prices_of b.arena;
         }) b.arena };
 }
 
-/// Whether limits, also that of sets, are good, and the sets of the prices have room.
-fn are_open(root: &Priced<'_>, limits: Limits, sets: u32) -> bool
-    ensures { Decides result (AreOpen root.now (limits_of limits) sets) }
+/// Whether limits, also those of sets and rows, are good, and the sets and rows of the prices have room.
+fn are_open(root: &Priced<'_>, limits: Limits, sets: u32, rows: u32) -> bool
+    ensures { Decides result (AreOpen root.now (limits_of limits) sets rows) }
 {
-    limits.are_good() && sets <= MOST_SETS && root.sets().len() <= sets as usize
+    limits.are_good()
+        && sets <= MOST_SETS
+        && root.sets().len() <= sets as usize
+        && rows <= MOST_ROWS
+        && root.rows().len() <= rows as usize
 }
 
-/// A list of these sets.
-fn first_list(alloc: Global, most: u32, sets: &[PricedSet]) -> Result<Vec<ListedSet>, BookFault>
-    ensures { IfOk result (λ list. IsGrown most (sets_of sets.now) [] (map listed_set list.items)) }
+/// The lists of the sets and of the rows that have a price, at most so many of each.
+fn first_lists(
+    alloc: Global,
+    root: &Priced<'_>,
+    sets: u32,
+    rows: u32,
+) -> Result<(Vec<ListedSet>, Vec<SubsetRow>), BookFault>
+    ensures sets { IfOk result (λ r. IsGrown sets root.now.sets [] (map listed_set r.0.items)) }
+    ensures rows { IfOk result (λ r. IsRowGrown rows (bare root.now.rows) [] (map listed_row r.1.items)) }
 {
-    let mut list = Vec::new(alloc);
-    list_sets(&mut list, most, sets, &[])?;
-    Ok(list)
+    let mut listed = Vec::new(alloc);
+    let (most, first) = (Most { sets, rows }, Wanted::of(root));
+    let grown = list_all(&mut listed, &[], most, first, Wanted::none())?;
+    Ok((listed, grown))
 }
 
 impl<'i> Book<'i> {
-    /// A book of these prices at the root, with the greatest limits and no sets. `NotRoot` where an arc is
-    /// decided, `BadLimits` where a set has a price, and `Memory`; a refusal gives the prices back.
+    /// A book of these prices at the root, with the greatest limits, no sets and no rows. `NotRoot` where an arc is
+    /// decided, `BadLimits` where a set or a row has a price, and `Memory`; a refusal gives the prices back.
     pub fn new(alloc: Global, root: Priced<'i>) -> Result<Book<'i>, (Priced<'i>, OpenFault)>
-        ensures opens { Opens root.entry (limits_of Limits.MOST) 0 result }
+        ensures opens { Opens root.entry (limits_of Limits.MOST) 0 0 result }
         ensures book { IfOk result (λ b. IsBook b) }
     {
         Book::with_limits(alloc, root, Limits::MOST)
     }
 
-    /// A book of these prices at the root, with limits of its own and no sets. `NotRoot` where an arc is
-    /// decided, else `BadLimits` where a limit is 0 or above the greatest or a set has a price, and `Memory`.
+    /// A book of these prices at the root, with limits of its own, no sets and no rows. `NotRoot` where an arc is
+    /// decided, else `BadLimits` where a limit is 0 or above the greatest or a set or a row has a price, and `Memory`.
     pub fn with_limits(
         alloc: Global,
         root: Priced<'i>,
         limits: Limits,
     ) -> Result<Book<'i>, (Priced<'i>, OpenFault)>
-        ensures opens { Opens root.entry (limits_of limits) 0 result }
+        ensures opens { Opens root.entry (limits_of limits) 0 0 result }
         ensures book { IfOk result (λ b. IsBook b) }
     {
         Book::with_sets(alloc, root, limits, 0)
     }
 
-    /// A book of these prices at the root, with limits of its own, in which at most so many sets are listed, 0 to 1,000.
-    /// `NotRoot` where an arc is decided, else `BadLimits` where a limit is 0 or above the greatest or the prices have more
-    /// sets, and `Memory`.
+    /// A book of these prices at the root, with limits of its own, in which at most so many sets are listed, 0 to 1,000,
+    /// and no rows. `NotRoot` where an arc is decided, else `BadLimits` where a limit is 0 or above the greatest, the
+    /// prices have more sets or a row has one, and `Memory`.
     pub fn with_sets(
         alloc: Global,
         root: Priced<'i>,
         limits: Limits,
         sets: u32,
     ) -> Result<Book<'i>, (Priced<'i>, OpenFault)>
-        ensures opens { Opens root.entry (limits_of limits) sets result }
+        ensures opens { Opens root.entry (limits_of limits) sets 0 result }
+        ensures book { IfOk result (λ b. IsBook b) }
+    {
+        Book::with_rows(alloc, root, limits, sets, 0)
+    }
+
+    /// A book of these prices at the root, with limits of its own, in which at most so many sets and so many rows are
+    /// listed, 0 to 1,000 each. `NotRoot` where an arc is decided, else `BadLimits` where a limit is 0 or above the
+    /// greatest or the prices have more sets or rows, and `Memory`.
+    pub fn with_rows(
+        alloc: Global,
+        root: Priced<'i>,
+        limits: Limits,
+        sets: u32,
+        rows: u32,
+    ) -> Result<Book<'i>, (Priced<'i>, OpenFault)>
+        ensures opens { Opens root.entry (limits_of limits) sets rows result }
         ensures book { IfOk result (λ b. IsBook b) }
     {
         if !root.region().is_root() {
             return Err((root, OpenFault::NotRoot));
         }
-        if !are_open(&root, limits, sets) {
+        if !are_open(&root, limits, sets, rows) {
             return Err((root, OpenFault::BadLimits));
         }
         let bounded = Bounded::new(root.instance());
@@ -150,7 +186,7 @@ impl<'i> Book<'i> {
         let Ok(history) = Vec::with_capacity(alloc, FIRST_ROOM) else {
             return Err((root, OpenFault::Memory));
         };
-        let Ok(listed) = first_list(alloc, sets, root.sets()) else {
+        let Ok(lists) = first_lists(alloc, &root, sets, rows) else {
             return Err((root, OpenFault::Memory));
         };
         match Arena::new(alloc, root) {
@@ -159,10 +195,11 @@ impl<'i> Book<'i> {
                 neighbours,
                 root: value,
                 limits,
-                sets,
+                most: Most { sets, rows },
                 incumbent: None,
                 history,
-                listed,
+                listed: lists.0,
+                rows: lists.1,
                 arena,
             }),
             Err(root) => Err((root, OpenFault::Memory)),
@@ -187,7 +224,7 @@ impl<'i> Book<'i> {
 
     /// Gives a leaf new prices of a higher value at its region. A refusal changes nothing and gives
     /// the prices back: `ForeignInstance`, `JournalFull`, `NotALeaf`, `WrongRegion`, `NotHigher`,
-    /// `SetsFull`, or `Memory`.
+    /// `SetsFull`, `RowsFull`, or `Memory`.
     pub fn reprice(
         &mut self,
         worker: u16,
@@ -208,7 +245,7 @@ impl<'i> Book<'i> {
     /// Splits a leaf by an arc, with prices of no lower value at both children, and answers their
     /// numbers, that of the child in which the arc is required first. A refusal changes nothing and
     /// gives the prices back: `ForeignInstance`, `JournalFull`, `NotALeaf`, `WrongRegion`, `Lower`,
-    /// `LeavesFull`, `TooDeep`, `SetsFull`, or `Memory`.
+    /// `LeavesFull`, `TooDeep`, `SetsFull`, `RowsFull`, or `Memory`.
     pub fn split(
         &mut self,
         worker: u16,
@@ -296,7 +333,8 @@ impl<'i> Book<'i> {
         ensures { IfOk result (λ v. (tree : Tree) × IsTreeOf self.now tree ×
             (map node_of v.items ≡ preorder tree)) }
     {
-        self.arena.list(alloc, self.listed.as_slice())
+        self.arena
+            .list(alloc, self.listed.as_slice(), self.rows.as_slice())
     }
 
     /// The least of the leaves' values and the ceiling plus one, in tenths.

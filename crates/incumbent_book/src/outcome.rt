@@ -8,10 +8,12 @@ ghost use Rattle.solomon_reader.specs.Bound.{Tree, preorder};
 ghost use Rattle.solomon_reader.specs.Plan.{IsPlan, plan_cost};
 ghost use Rattle.solomon_reader.specs.History.{IsBound};
 ghost use Rattle.priced_sets.specs.Sets.{listed_set};
+ghost use Rattle.incumbent_book.specs.RowLists.{listed_row};
 ghost use Rattle.incumbent_book.specs.Contents.{past_of, IsBook};
 
 use crate::book::Book;
 use crate::event::Event;
+use crate::subset_row::SubsetRow;
 use branching::TreeNode;
 use priced_sets::ListedSet;
 use schedule::Feasible;
@@ -19,6 +21,21 @@ use solomon_reader::Instance;
 use std::alloc::{AllocError, Global};
 use std::marker::Model;
 use tenths::Tenths;
+
+/// What a finished book is taken apart into.
+#[derive(Drop)]
+pub struct OutcomeParts<'i> {
+    /// The incumbent, if there is one.
+    pub plan: Option<Feasible<'i>>,
+    /// The bound, in tenths.
+    pub bound: Tenths,
+    /// The sets that ever had a price at a leaf.
+    pub sets: Vec<ListedSet>,
+    /// The rows that ever had a price at a leaf, in increasing order.
+    pub rows: Vec<SubsetRow>,
+    /// The nodes of the tree in preorder, by the numbers of sets and rows.
+    pub nodes: Vec<TreeNode>,
+}
 
 /// A finished book. Contracts see what the book had.
 #[derive(Drop)]
@@ -87,23 +104,34 @@ impl<'i> Outcome<'i> {
         self.book.listed.as_slice()
     }
 
-    /// The incumbent, if there is one, the bound of `bound`, the sets of `sets` and the nodes of `nodes`. `AllocError`
-    /// where memory is refused.
-    pub fn into_parts(
-        self,
-        alloc: Global,
-    ) -> Result<(Option<Feasible<'i>>, Tenths, Vec<ListedSet>, Vec<TreeNode>), AllocError>
-        ensures plan { IfOk result (λ r. r.0 ≡ self.entry.incumbent) }
+    /// The rows that ever had a price at a leaf, in increasing order, by which `nodes` names them.
+    pub fn rows(&self) -> &[SubsetRow]
+        ensures { map listed_row result.now ≡ self.now.rows }
+    {
+        self.book.rows.as_slice()
+    }
+
+    /// The incumbent, if there is one, the bound of `bound`, the sets of `sets`, the rows of `rows` and the nodes of
+    /// `nodes`. `AllocError` where memory is refused.
+    pub fn into_parts(self, alloc: Global) -> Result<OutcomeParts<'i>, AllocError>
+        ensures plan { IfOk result (λ r. r.plan ≡ self.entry.incumbent) }
         ensures bound { IfOk result (λ r. IsBound self.entry.problem self.entry.root
-            self.entry.past r.1) }
-        ensures sets { IfOk result (λ r. map listed_set r.2.items ≡ self.entry.listed) }
+            self.entry.past r.bound) }
+        ensures sets { IfOk result (λ r. map listed_set r.sets.items ≡ self.entry.listed) }
+        ensures rows { IfOk result (λ r. map listed_row r.rows.items ≡ self.entry.rows) }
         ensures nodes { IfOk result (λ r. (tree : Tree) × IsTreeOf self.entry tree
-            × (map node_of r.3.items ≡ preorder tree)) }
+            × (map node_of r.nodes.items ≡ preorder tree)) }
         ensures book { IsBook self.entry }
     {
         let bound = self.bound();
         let nodes = self.nodes(alloc)?;
-        Ok((self.book.incumbent, bound, self.book.listed, nodes))
+        Ok(OutcomeParts {
+            plan: self.book.incumbent,
+            bound,
+            sets: self.book.listed,
+            rows: self.book.rows,
+            nodes,
+        })
     }
 
     /// The accepted calls, in order.

@@ -11,9 +11,10 @@ ghost use Rattle.incumbent_book.specs.Replies.{Offers, Reprices, Splits, with_of
 use crate::book::Book;
 use crate::event::Event;
 use crate::fault::BookFault;
+use crate::growing::list_all;
 use crate::offered::Offered;
 use crate::room::{make_room, put};
-use crate::set_list::list_sets;
+use crate::wanted::Wanted;
 use branching::Arc;
 use prices::Priced;
 use schedule::Feasible;
@@ -117,7 +118,7 @@ impl<'i> Book<'i> {
         Some(self.incumbent.as_ref()?.cost())
     }
 
-    /// Gives a leaf new prices that are accepted, unless memory or room for sets is refused.
+    /// Gives a leaf new prices that are accepted, unless memory or room for sets or rows is refused.
     pub(crate) fn raise(
         &mut self,
         worker: u16,
@@ -131,9 +132,11 @@ impl<'i> Book<'i> {
             return Err((priced, BookFault::Memory));
         }
         let before = self.listed.len();
-        if let Err(fault) = list_sets(&mut self.listed, self.sets, priced.sets(), &[]) {
-            return Err((priced, fault));
-        }
+        let (rows, wanted) = (self.rows.as_slice(), Wanted::of(&priced));
+        let rows = match list_all(&mut self.listed, rows, self.most, wanted, Wanted::none()) {
+            Ok(rows) => rows,
+            Err(fault) => return Err((priced, fault)),
+        };
         let value = priced.tenths();
         match self.arena.reprice(leaf, priced) {
             Ok(()) => {
@@ -142,6 +145,7 @@ impl<'i> Book<'i> {
                     leaf,
                     value,
                 };
+                self.rows = rows;
                 write(&mut self.history, event);
                 Ok(())
             }
@@ -152,7 +156,7 @@ impl<'i> Book<'i> {
         }
     }
 
-    /// Splits a leaf by an arc where that is accepted, unless memory or room for sets is refused.
+    /// Splits a leaf by an arc where that is accepted, unless memory or room for sets or rows is refused.
     pub(crate) fn take_split(
         &mut self,
         worker: u16,
@@ -168,9 +172,12 @@ impl<'i> Book<'i> {
             return Err((used, unused, BookFault::Memory));
         }
         let before = self.listed.len();
-        if let Err(fault) = list_sets(&mut self.listed, self.sets, used.sets(), unused.sets()) {
-            return Err((used, unused, fault));
-        }
+        let (first, second) = (Wanted::of(&used), Wanted::of(&unused));
+        let rows = self.rows.as_slice();
+        let rows = match list_all(&mut self.listed, rows, self.most, first, second) {
+            Ok(rows) => rows,
+            Err(fault) => return Err((used, unused, fault)),
+        };
         let values = (used.tenths(), unused.tenths());
         match self.arena.split(leaf, arc, used, unused) {
             Ok(made) => {
@@ -182,6 +189,7 @@ impl<'i> Book<'i> {
                     unused: made.1,
                     values,
                 };
+                self.rows = rows;
                 write(&mut self.history, event);
                 Ok(made)
             }
