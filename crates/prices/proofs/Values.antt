@@ -9,7 +9,6 @@ use Rattle.row_charges.specs.Rows.{rows_of}
 use Rattle.row_charges.specs.declared.priced_row.PricedRow.{PricedRow}
 use Rattle.solomon_reader.specs.CertificateText.{IsPrice}
 use Rattle.solomon_reader.specs.SetPrices.{PricedSet}
-use Rattle.solomon_reader.specs.Bound.{IsRoundedUp}
 use Rattle.solomon_reader.specs.SumLaws.{up, down}
 use Rattle.solomon_reader.proofs.Grains.{grains_are}
 
