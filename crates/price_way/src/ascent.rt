@@ -5,6 +5,7 @@
 use crate::centre::Centre;
 use crate::goal::Goal;
 use crate::pricing_state::PricingState;
+use crate::rises::customer_share;
 use crate::route_pool::RoutePool;
 use pooled_routes::{GRAINS_OF_TENTH, Merit, SetPart, Trial, VehiclePrice, scaled};
 use prices::Priced;
@@ -15,6 +16,9 @@ const LEAST_RISE: i64 = 1_000;
 
 /// The greatest rise, in grains.
 const MOST_RISE: i64 = 100_000_000_000;
+
+/// Behind a round of sets the rise is at least this many tenths of a customer's share of the target.
+const TENTHS_BEHIND_ROUND: i64 = 3;
 
 /// The target is near where this many steps more of the last growth lead to it.
 const NEAR_STEPS: i128 = 4;
@@ -35,6 +39,8 @@ pub struct Ascent {
     /// The pool's sets, with the multipliers of their prices.
     sets: Vec<SetPart>,
     rise: i64,
+    /// A customer's share of the target, in grains.
+    share: i64,
     /// The value in tenths at which to stop.
     pub target: i128,
     /// How much merit the last trial promised, in grains.
@@ -74,6 +80,7 @@ impl Ascent {
             vehicle_price: merit.vehicle_price(),
             sets,
             rise,
+            share: customer_share(priced.instance(), goal.value),
             target: goal.value,
             promise: i128::MAX,
             is_trial_quick: false,
@@ -168,6 +175,14 @@ impl Ascent {
         self.scale(pool, rise_in_range(self.rise.saturating_mul(3) / 5));
     }
 
+    /// Goes on with a longer rise, up to a customer's share of the target: after a null step that brought no new route.
+    /// There the pool knows all that binds prices, and the rise is what holds them.
+    fn go_farther(&mut self, pool: &mut RoutePool) {
+        let longer = self.rise.saturating_mul(3) / 2;
+        let rise = longer.min(self.share).max(self.rise);
+        self.scale(pool, rise_in_range(rise));
+    }
+
     /// Goes on from a trial with another centre: a serious step where the merit has grown by more than a tenth
     /// of what the trial promised.
     fn go_on(&mut self, pool: &mut RoutePool, trial: &Trial, next: Centre) -> bool {
@@ -184,8 +199,10 @@ impl Ascent {
         if is_serious {
             self.centre = next;
             self.scale(pool, rise_in_range(self.rise.saturating_mul(3) / 2));
-        } else {
+        } else if pool.has_new() {
             self.draw_back(pool);
+        } else {
+            self.go_farther(pool);
         }
         is_serious
     }
@@ -262,13 +279,16 @@ impl Ascent {
         Ok(())
     }
 
-    /// Takes in the sets that were added to the pool: their prices begin at 0, and the centre stays.
-    pub fn take_sets(&mut self, pool: &RoutePool) -> Result<(), AllocError> {
+    /// Takes in the sets that were added to the pool: their prices begin at 0, and the centre stays. The way to prices
+    /// of sets is long, so the rise isn't a short one.
+    pub fn take_sets(&mut self, pool: &mut RoutePool) -> Result<(), AllocError> {
         let parts = pool.sets.parts()?;
         for place in self.sets.len()..parts.len() {
             self.centre.prices.push(0)?;
             self.sets.push(parts[place])?;
         }
+        let least = self.share.saturating_mul(TENTHS_BEHIND_ROUND) / 10;
+        self.scale(pool, rise_in_range(self.rise.max(least)));
         Ok(())
     }
 

@@ -43,11 +43,16 @@ pub fn rise_at(leaf: &Priced<'_>, cost: Option<Tenths>) -> i64 {
     }
 }
 
-/// The rise of each price in a trial, in grains: six tenths of a customer's share of a cost in tenths,
-/// at most of the way there and back.
-pub(crate) fn trial_rise(instance: &Instance, cost: i128) -> i64 {
+/// A customer's share of a cost in tenths, in grains, at most that of the way there and back.
+pub(crate) fn customer_share(instance: &Instance, cost: i128) -> i64 {
     let most = mean_way(instance);
     let grains = cost.clamp(0, i128::from(i64::MAX)) as i64;
     let share = grains.saturating_mul(GRAINS_OF_TENTH) / i64::from(instance.customer_count());
-    (share.min(most).saturating_mul(CHILD_RISE) / 10).max(1)
+    share.min(most)
+}
+
+/// The rise of each price in a trial, in grains: six tenths of a customer's share of a cost in tenths.
+pub(crate) fn trial_rise(instance: &Instance, cost: i128) -> i64 {
+    let share = customer_share(instance, cost);
+    (share.saturating_mul(CHILD_RISE) / 10).max(1)
 }

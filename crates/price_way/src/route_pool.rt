@@ -46,6 +46,8 @@ pub struct RoutePool {
     rise: i64,
     /// How many pricings it took in: the age at which a route was of use.
     age: u64,
+    /// Whether a route was added since the last projection.
+    has_new: bool,
 }
 
 impl RoutePool {
@@ -58,6 +60,7 @@ impl RoutePool {
             met: 0,
             rise: 1,
             age: 0,
+            has_new: false,
         }
     }
 
@@ -98,7 +101,13 @@ impl RoutePool {
             self.drop_least_used();
         }
         self.routes.push(route)?;
+        self.has_new = true;
         Ok(())
+    }
+
+    /// Whether a route was added since the last projection: one that its prices don't know.
+    pub(crate) fn has_new(&self) -> bool {
+        self.has_new
     }
 
     /// These prices of customers and sets, as trials have them.
@@ -295,6 +304,7 @@ impl RoutePool {
         trial: &mut Trial,
     ) -> Result<(), AllocError> {
         let (multipliers, work) = self.projected(trial)?;
+        self.has_new = false;
         state.count_work(work);
         for (place, multiplier) in &multipliers {
             if let Some(route) = self.routes.get_mut(*place) {
