@@ -8,6 +8,7 @@ pub const MOST_CUSTOMERS: u16 = 400;
 pub const MOST_FLEET: u16 = 1_000;
 pub const MOST_CAPACITY: u16 = 10_000;
 pub const MOST_PRICE: u64 = 1_000_000_000_000;
+pub const MOST_ROW_PRICES: usize = 256;
 pub const MOST_NEED: u32 = 4_000_000;
 pub const MOST_NEIGHBOURS: u32 = 15;
 pub const MOST_SETS: u32 = 1_000;

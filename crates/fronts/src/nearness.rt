@@ -55,6 +55,17 @@ impl<'i> Nearness<'i> {
         })
     }
 
+    /// Whether the neighbour list of a row v holds u. No contract: it serves rules of search.
+    pub fn is_near(&self, v: u16, u: u16) -> bool {
+        let Some(places) = self.places.get(usize::from(v)) else {
+            return false;
+        };
+        match places.get(usize::from(u)) {
+            Some(place) => *place < LIST_SIZE,
+            None => false,
+        }
+    }
+
     /// Whether they are the tables of an instance for this many neighbours.
     pub fn is_for(&self, instance: &Instance, neighbours: u32) -> bool
         ensures instance { IsTrue result → self.now.instance.now ≡ instance.now }

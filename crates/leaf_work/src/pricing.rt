@@ -9,7 +9,7 @@ ghost use Rattle.prices.specs.ValuedPrices.{IsValued};
 
 use fronts::Nearness;
 use labelling::{Hints, Kept, LabelFault, PricingTask};
-use price_way::{PricingState, RoutePool};
+use price_way::{LeafCuts, PricingState, RoutePool};
 use priced_sets::PricedSets;
 use prices::Priced;
 use std::alloc::{AllocError, Global};
@@ -49,9 +49,11 @@ pub(crate) fn price<'i>(
     ensures unlimited { IfErr result (λ e. e ≡ LabelLimit → labels ≢ None) }
 {
     let instance = task.instance;
-    let rows = pool
-        .sets
-        .rows_of(task.prices.as_slice(), task.sets.as_slice())?;
+    let priced = LeafCuts {
+        sets: task.sets.as_slice(),
+        rows: &[],
+    };
+    let rows = pool.cuts.rows_of(task.prices.as_slice(), priced)?;
     let known = pool.cheapest(&task.region, rows.as_slice())?;
     let hints = Hints {
         nearness: Some(state.nearness),

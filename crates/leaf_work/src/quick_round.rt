@@ -9,7 +9,7 @@ use crate::tasks::trial_task;
 use fronts::{Payment, Task};
 use labelling::{LabelFault, PricingTask};
 use pooled_routes::Trial;
-use price_way::{Ascent, Goal, PricingState, QuickWay, RoutePool, WHOLE, WIDEST};
+use price_way::{Ascent, Goal, LeafCuts, PricingState, QuickWay, RoutePool, WHOLE, WIDEST};
 use prices::Priced;
 use quick_routes::{QuickRoutes, Width, quick_routes};
 use std::alloc::AllocError;
@@ -87,8 +87,11 @@ fn search(
 
 /// The prices of a task's customers, and behind them those of the pool's sets.
 fn rows_of(pool: &RoutePool, task: &PricingTask<'_>) -> Result<Vec<i64>, AllocError> {
-    pool.sets
-        .rows_of(task.prices.as_slice(), task.sets.as_slice())
+    let priced = LeafCuts {
+        sets: task.sets.as_slice(),
+        rows: &[],
+    };
+    pool.cuts.rows_of(task.prices.as_slice(), priced)
 }
 
 /// Whether quick searches may pay at a leaf: at the root, where an exact pricing is no small work.

@@ -218,7 +218,10 @@ pub fn raise<'i>(
     if !priced.region().is_root() {
         pool.begin(start.as_ref());
     }
-    if pool.enter_sets(&priced, MOST_IDLE).is_err() || pool.enter(&priced).is_err() {
+    if pool
+        .enter_cuts(state.nearness, &priced, MOST_IDLE)
+        .is_err()
+        || pool.enter(&priced).is_err() {
         return Raised {
             priced,
             ascent: None,

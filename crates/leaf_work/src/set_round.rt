@@ -73,18 +73,18 @@ impl SetRounds {
         ascent: &mut Ascent,
     ) -> Result<(), AllocError> {
         self.since = 0;
-        let left = self.most.saturating_sub(pool.sets.found());
+        let left = self.most.saturating_sub(pool.cuts.found_sets());
         if left == 0 {
             return Ok(());
         }
-        let (arcs, known) = (pool.flows()?, pool.sets.members()?);
+        let (arcs, known) = (pool.flows()?, pool.cuts.members(true)?);
         let search = state.set_search()?;
         let most = left.min(SETS_OF_ROUND);
         let found = search.find(arcs.as_slice(), pool.rise(), known.as_slice(), most)?;
         state.count_work(found.work);
         if !found.sets.is_empty() {
             pool.add_sets(state.nearness.instance, found.sets.as_slice())?;
-            ascent.take_sets(pool)?;
+            ascent.take_cuts(pool)?;
             self.added = self.added.saturating_add(found.sets.len());
         }
         Ok(())

@@ -53,8 +53,8 @@ pub(crate) fn trial_task<'i>(
 ) -> Result<PricingTask<'i>, AllocError>
     ensures { IfOk result (IsTaskAt leaf.now) }
 {
-    let prices = trial.set_prices(state.alloc)?;
-    let wanted = pool.sets.with_prices(prices.as_slice())?;
+    let prices = trial.cut_prices(state.alloc)?;
+    let wanted = pool.cuts.priced_sets(prices.as_slice())?;
     task_at(state, leaf, trial, wanted.as_slice())
 }
 
@@ -68,10 +68,10 @@ pub(crate) fn start_task<'i>(
 ) -> Result<PricingTask<'i>, AllocError>
     ensures { IfOk result (IsTaskAt child.now) }
 {
-    let prices = trial.set_prices(state.alloc)?;
+    let prices = trial.cut_prices(state.alloc)?;
     let prices = pool
-        .sets
-        .by_number(start.sets.as_slice(), prices.as_slice())?;
-    let wanted = pool.sets.with_prices(prices.as_slice())?;
+        .cuts
+        .by_number(start.cuts.as_slice(), prices.as_slice())?;
+    let wanted = pool.cuts.priced_sets(prices.as_slice())?;
     task_at(state, child, trial, wanted.as_slice())
 }

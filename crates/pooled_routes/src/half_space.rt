@@ -15,7 +15,7 @@ pub struct HalfSpace<'r> {
     pub fours: &'r [Four],
     /// In grains.
     pub cost: i64,
-    /// The sum of the squares of how often each customer is visited.
+    /// The sum of the squares of how often each customer is visited and the route counts at each cut.
     pub weight: i64,
     /// How far the prices were moved by this route, in grains.
     pub multiplier: i64,
@@ -25,11 +25,11 @@ pub struct HalfSpace<'r> {
     pub place: usize,
 }
 
-/// The work of a projection onto a route without sets, in units of as long as a bound takes at a customer.
+/// The work of a projection onto a route without cuts, in units of as long as a bound takes at a customer.
 const WORK_OF_ROUTE: u64 = 4;
 
 impl HalfSpace<'_> {
-    /// How much work it is to project prices onto the route: more where it enters sets.
+    /// How much work it is to project prices onto the route: more where it counts at cuts.
     pub fn work(&self) -> u64 {
         let more = self
             .fours

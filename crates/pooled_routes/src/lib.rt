@@ -5,12 +5,13 @@
 
 mod arc_flow;
 mod binding;
+mod cut_part;
 mod fours;
 mod half_space;
 mod merit;
 mod noted;
+mod pooled_cut;
 mod pooled_route;
-mod pooled_set;
 mod projection;
 mod pseudocosts;
 mod step;
@@ -19,11 +20,12 @@ mod trial;
 mod vehicle_price;
 
 pub use arc_flow::{ArcFlow, merge};
+pub use cut_part::{CutPart, Side};
 pub use fours::Four;
 pub use half_space::HalfSpace;
 pub use merit::Merit;
-pub use pooled_route::{GRAINS_OF_TENTH, PooledRoute, RouteShare, arc_cost, cost_of};
-pub use pooled_set::{PooledSet, SetPart};
+pub use pooled_cut::{CutKind, PooledCut};
+pub use pooled_route::{GRAINS_OF_TENTH, PooledRoute, RouteShare, WeightedRoute, arc_cost, cost_of};
 pub use projection::Projection;
 pub use pseudocosts::{Child, Pseudocosts};
 pub use trial::Trial;

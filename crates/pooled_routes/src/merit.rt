@@ -2,7 +2,7 @@
 //!
 //! No contract speaks of it: it is a rule of search, and any prices are sound.
 
-use crate::pooled_set::SetPart;
+use crate::cut_part::CutPart;
 use crate::vehicle_price::VehiclePrice;
 use solomon_reader::Instance;
 
@@ -14,13 +14,13 @@ pub struct Merit {
     fleet: u16,
 }
 
-/// The sum of prices, those of the sets behind the others as often as they need entries, in grains.
-fn sum_of(prices: &[i64], sets: &[SetPart]) -> i128 {
-    let first = prices.len().saturating_sub(sets.len());
+/// The sum of prices, those of the cuts behind the others as often as a plan counts there, in grains.
+fn sum_of(prices: &[i64], cuts: &[CutPart]) -> i128 {
+    let first = prices.len().saturating_sub(cuts.len());
     let mut sum: i128 = 0;
     for (place, price) in prices.iter().enumerate() {
-        let count = match sets.get(place.wrapping_sub(first)) {
-            Some(set) => set.need,
+        let count = match cuts.get(place.wrapping_sub(first)) {
+            Some(cut) => cut.count,
             None => 1,
         };
         sum = sum.saturating_add(i128::from(*price).saturating_mul(i128::from(count)));
@@ -55,21 +55,21 @@ impl Merit {
     }
 
     /// The merit of prices with this least reduced cost, in grains.
-    pub fn of(self, prices: &[i64], sets: &[SetPart], least: i128) -> i128 {
+    pub fn of(self, prices: &[i64], cuts: &[CutPart], least: i128) -> i128 {
         let gain = least.max(0).saturating_mul(i128::from(self.fewest_routes));
         let loss = least.min(0).saturating_mul(i128::from(self.routes));
-        sum_of(prices, sets)
+        sum_of(prices, cuts)
             .saturating_add(gain)
             .saturating_add(loss)
     }
 
     /// The merit that prices would have if no route's reduced cost were below a vehicle's price, in grains.
-    pub fn promised(self, prices: &[i64], sets: &[SetPart], vehicle_price: VehiclePrice) -> i128 {
+    pub fn promised(self, prices: &[i64], cuts: &[CutPart], vehicle_price: VehiclePrice) -> i128 {
         let gain = i128::from(vehicle_price.above.value).saturating_mul(i128::from(
             self.fewest_routes,
         ));
         let loss = i128::from(vehicle_price.below()).saturating_mul(i128::from(self.fleet));
-        sum_of(prices, sets)
+        sum_of(prices, cuts)
             .saturating_add(gain)
             .saturating_sub(loss)
     }

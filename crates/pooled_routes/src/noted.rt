@@ -2,7 +2,7 @@
 //!
 //! No contract speaks of it: it is a rule of search, and any prices are sound.
 
-use crate::step::{Step, slope, square};
+use crate::step::{Step, square};
 use crate::trial::Trial;
 use crate::vehicle_price::VehiclePrice;
 use std::alloc::{AllocError, Global};
@@ -13,8 +13,8 @@ pub(crate) struct Noted {
     /// The multipliers of the routes that bind prices.
     pub(crate) multipliers: Vec<i64>,
     prices: Vec<i64>,
-    /// The multipliers of the sets.
-    sets: Vec<i64>,
+    /// The multipliers of the cuts.
+    cuts: Vec<i64>,
     vehicle_price: VehiclePrice,
 }
 
@@ -25,25 +25,25 @@ impl Noted {
         trial: &Trial,
         multipliers: Vec<i64>,
     ) -> Result<Noted, AllocError> {
-        let mut sets = Vec::with_capacity(alloc, trial.sets.len())?;
-        for set in &trial.sets {
-            sets.push(set.multiplier)?;
+        let mut cuts = Vec::with_capacity(alloc, trial.cuts.len())?;
+        for cut in &trial.cuts {
+            cuts.push(cut.multiplier)?;
         }
         Ok(Noted {
             multipliers,
             prices: trial.prices.clone()?,
-            sets,
+            cuts,
             vehicle_price: trial.vehicle_price,
         })
     }
 
-    /// The slope along the way of a trial since, as far as the prices of sets and of a vehicle have part in it.
+    /// The slope along the way of a trial since, as far as the prices of cuts and of a vehicle have part in it.
     pub(crate) fn slope(&self, trial: &Trial) -> i128 {
-        let first = trial.prices.len().saturating_sub(trial.sets.len());
+        let first = trial.prices.len().saturating_sub(trial.cuts.len());
         let prices = trial.prices.iter().skip(first);
         let mut sum = trial.vehicle_price.slope(self.vehicle_price);
-        for ((set, price), before) in trial.sets.iter().zip(prices).zip(self.sets.iter()) {
-            sum = sum.saturating_add(slope(set.multiplier, *before, *price));
+        for ((cut, price), before) in trial.cuts.iter().zip(prices).zip(self.cuts.iter()) {
+            sum = sum.saturating_add(cut.slope(*price, *before));
         }
         sum
     }
@@ -57,14 +57,12 @@ impl Noted {
         sum
     }
 
-    /// Moves the prices of sets and of a vehicle on by a step.
+    /// Moves the prices of cuts and of a vehicle on by a step.
     pub(crate) fn go_on(&self, trial: &mut Trial, step: Step) {
-        let first = trial.prices.len().saturating_sub(trial.sets.len());
+        let first = trial.prices.len().saturating_sub(trial.cuts.len());
         let prices = trial.prices.iter_mut().skip(first);
-        for ((set, price), before) in trial.sets.iter_mut().zip(prices).zip(self.sets.iter()) {
-            let change = step.change(set.multiplier, *before);
-            set.multiplier = set.multiplier.saturating_add(change);
-            *price = price.saturating_add(change);
+        for ((cut, price), before) in trial.cuts.iter_mut().zip(prices).zip(self.cuts.iter()) {
+            cut.go_on(price, *before, step);
         }
         trial.vehicle_price = trial.vehicle_price.gone_on(self.vehicle_price, step);
     }

@@ -5,7 +5,7 @@
 use crate::arc_flow::ArcFlow;
 use crate::fours::{Four, fours_of};
 use crate::half_space::HalfSpace;
-use crate::pooled_set::PooledSet;
+use crate::pooled_cut::PooledCut;
 use crate::vehicle_price::scaled;
 use branching::Arc;
 use fronts::CustomerSet;
@@ -22,6 +22,13 @@ pub struct RouteShare {
     pub millionths: i64,
 }
 
+/// A route and its multiplier, in grains; the rise stands for one route.
+#[derive(Clone, Copy)]
+pub struct WeightedRoute<'r> {
+    pub stops: &'r [u16],
+    pub weight: i64,
+}
+
 /// The rise in millionths.
 const WHOLE: i64 = 1_000_000;
 
@@ -32,11 +39,11 @@ pub struct PooledRoute {
     number: u64,
     /// The customers, in order.
     pub stops: Vec<u16>,
-    /// The same and the rows of the sets that the route enters, four by four, and behind them the depot.
+    /// The same and the rows of the cuts that the route counts at, four by four, and behind them the depot.
     pub fours: Vec<Four>,
     /// In grains.
     pub cost: i64,
-    /// The sum of the squares of how often each customer is visited and each set is entered.
+    /// The sum of the squares of how often each customer is visited, each set is entered and each row charges.
     weight: i64,
     /// How far the prices were moved by this route, in grains.
     pub multiplier: i64,
@@ -77,18 +84,19 @@ fn weight_of(stops: &[u16]) -> i64 {
     weight
 }
 
-/// The stops, and behind them a row for each entry of a set: the first set's follows on the last customer's.
+/// The stops, and behind them the row of a cut as often as they count at it: the first cut's follows on the last
+/// customer's.
 fn rows_of(
     alloc: Global,
     count: u16,
     stops: &[u16],
-    sets: &[PooledSet],
+    cuts: &[PooledCut],
 ) -> Result<Vec<u16>, AllocError> {
     let mut rows = Vec::from_slice(alloc, stops)?;
     let mut row = count;
-    for set in sets {
+    for cut in cuts {
         row = row.saturating_add(1);
-        for _entry in 0..set.entries(stops) {
+        for _time in 0..cut.count(stops) {
             rows.push(row)?;
         }
     }
@@ -117,11 +125,11 @@ impl PooledRoute {
         alloc: Global,
         instance: &Instance,
         stops: &[u16],
-        sets: &[PooledSet],
+        cuts: &[PooledCut],
         number: u64,
         pricing: u64,
     ) -> Result<PooledRoute, AllocError> {
-        let rows = rows_of(alloc, instance.customer_count(), stops, sets)?;
+        let rows = rows_of(alloc, instance.customer_count(), stops, cuts)?;
         Ok(PooledRoute {
             number,
             stops: Vec::from_slice(alloc, stops)?,
@@ -134,14 +142,14 @@ impl PooledRoute {
         })
     }
 
-    /// Goes by these sets from now on.
-    pub fn take_sets(
+    /// Goes by these cuts from now on.
+    pub fn take_cuts(
         &mut self,
         alloc: Global,
         count: u16,
-        sets: &[PooledSet],
+        cuts: &[PooledCut],
     ) -> Result<(), AllocError> {
-        let rows = rows_of(alloc, count, self.stops.as_slice(), sets)?;
+        let rows = rows_of(alloc, count, self.stops.as_slice(), cuts)?;
         self.fours = fours_of(alloc, rows.as_slice())?;
         self.weight = weight_of(rows.as_slice());
         Ok(())

@@ -73,7 +73,7 @@ impl<'r> Sweeps<'r> {
         }
         trial.vehicle_price = trial.vehicle_price.raised(risen);
         let farthest = trial.vehicle_price.project().max(farthest);
-        trial.project_sets().max(farthest)
+        trial.project_cuts().max(farthest)
     }
 
     /// Multipliers and prices as they stand.

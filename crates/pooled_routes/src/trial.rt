@@ -6,48 +6,49 @@ ghost use Rattle.std.specs.Prelude.{◌≡◌, ◌≤◌, length, nat_abs, IfOk}
 ghost use Rattle.std.specs.List.{AllByRecursion};
 ghost use Rattle.solomon_reader.specs.Problem.{customer_count};
 
+use crate::cut_part::CutPart;
 use crate::fours::{Four, price, raise, reduced};
 use crate::half_space::HalfSpace;
-use crate::pooled_set::SetPart;
 use crate::vehicle_price::VehiclePrice;
 use solomon_reader::{Instance, MOST_PRICE};
 use std::alloc::{AllocError, Global};
 
-/// A set's price is at most this much, in grains: so those of 1,000 sets are half of the greatest price.
-const MOST_SET_PRICE: i64 = MOST_PRICE as i64 / 2_000;
+/// A cut's price is at most this much, in grains: so those of 1,000 sets and 256 rows are less than two thirds of the
+/// greatest price.
+const MOST_CUT_PRICE: i64 = MOST_PRICE as i64 / 2_000;
 
-/// Prices in grains, that of row i at i and 0 for the depot, and behind those of the customers that of each set, also
+/// Prices in grains, that of row i at i and 0 for the depot, and behind those of the customers that of each cut, also
 /// outside their range, and a vehicle's price.
 #[derive(Drop)]
 pub struct Trial {
     pub prices: Vec<i64>,
-    pub sets: Vec<SetPart>,
+    pub cuts: Vec<CutPart>,
     pub vehicle_price: VehiclePrice,
 }
 
 impl Trial {
-    /// These prices, that of customer i at i - 1, and behind them those of sets. Each is this much higher, and a set's is
-    /// as much for each entry that it needs, and moved by its multiplier.
+    /// These prices, that of customer i at i - 1, and behind them those of cuts. Each is this much higher, and a cut's is
+    /// as much as often as a plan counts there, and moved by its multiplier.
     pub fn new(
         alloc: Global,
         prices: &[i64],
-        sets: Vec<SetPart>,
+        cuts: Vec<CutPart>,
         rise: i64,
         vehicle_price: VehiclePrice,
     ) -> Result<Trial, AllocError> {
         let mut raised = Vec::with_capacity(alloc, prices.len().saturating_add(1))?;
         raised.push(0)?;
-        let first = prices.len().saturating_sub(sets.len());
+        let first = prices.len().saturating_sub(cuts.len());
         for (place, price) in prices.iter().enumerate() {
-            let step = match sets.get(place.wrapping_sub(first)) {
-                Some(set) => rise.saturating_mul(set.need).saturating_add(set.multiplier),
-                None => rise,
+            let start = match cuts.get(place.wrapping_sub(first)) {
+                Some(cut) => cut.start(*price, rise),
+                None => price.saturating_add(rise),
             };
-            raised.push(price.saturating_add(step))?;
+            raised.push(start)?;
         }
         Ok(Trial {
             prices: raised,
-            sets,
+            cuts,
             vehicle_price,
         })
     }
@@ -71,28 +72,24 @@ impl Trial {
         raise(self.prices.as_mut_slice(), stops, change);
     }
 
-    /// Projects the price of each set onto the numbers from 0 on, as far as its multiplier allows, and answers the
-    /// farthest.
-    pub(crate) fn project_sets(&mut self) -> u64 {
-        let first = self.prices.len().saturating_sub(self.sets.len());
+    /// Projects the price of each cut onto its side of 0, as far as its multiplier allows, and answers the farthest.
+    pub(crate) fn project_cuts(&mut self) -> u64 {
+        let first = self.prices.len().saturating_sub(self.cuts.len());
+        let prices = self.prices.iter_mut().skip(first);
         let mut farthest = 0;
-        for (place, set) in self.sets.iter_mut().enumerate() {
-            if let Some(price) = self.prices.get_mut(first.saturating_add(place)) {
-                let fall = set.multiplier.min(*price);
-                *price = price.saturating_sub(fall);
-                set.multiplier = set.multiplier.saturating_sub(fall);
-                farthest = fall.unsigned_abs().max(farthest);
-            }
+        for (cut, price) in self.cuts.iter_mut().zip(prices) {
+            farthest = cut.project(price).max(farthest);
         }
         farthest
     }
 
-    /// The prices of the sets, in their range.
-    pub fn set_prices(&self, alloc: Global) -> Result<Vec<u64>, AllocError> {
-        let first = self.prices.len().saturating_sub(self.sets.len());
+    /// The prices of the cuts, in their range: what an entry into a set is worth, and what a charge of a row costs.
+    pub fn cut_prices(&self, alloc: Global) -> Result<Vec<u64>, AllocError> {
+        let first = self.prices.len().saturating_sub(self.cuts.len());
         let mut prices = Vec::new(alloc);
-        for price in self.prices.iter().skip(first) {
-            prices.push((*price).clamp(0, MOST_SET_PRICE).unsigned_abs())?;
+        for (cut, price) in self.cuts.iter().zip(self.prices.iter().skip(first)) {
+            let far = cut.side.distance(*price).clamp(0, MOST_CUT_PRICE);
+            prices.push(far.unsigned_abs())?;
         }
         Ok(prices)
     }

@@ -7,7 +7,7 @@ use crate::goal::Goal;
 use crate::pricing_state::PricingState;
 use crate::rises::customer_share;
 use crate::route_pool::RoutePool;
-use pooled_routes::{GRAINS_OF_TENTH, Merit, SetPart, Trial, VehiclePrice, scaled};
+use pooled_routes::{GRAINS_OF_TENTH, Merit, CutPart, Trial, VehiclePrice, scaled};
 use prices::Priced;
 use std::alloc::{AllocError, Global};
 
@@ -17,7 +17,7 @@ const LEAST_RISE: i64 = 1_000;
 /// The greatest rise, in grains.
 const MOST_RISE: i64 = 100_000_000_000;
 
-/// Behind a round of sets the rise is at least this many tenths of a customer's share of the target.
+/// Behind a round of cuts the rise is at least this many tenths of a customer's share of the target.
 const TENTHS_BEHIND_ROUND: i64 = 3;
 
 /// The target is near where this many steps more of the last growth lead to it.
@@ -36,8 +36,8 @@ pub struct Ascent {
     pub centre: Centre,
     merit: Merit,
     vehicle_price: VehiclePrice,
-    /// The pool's sets, with the multipliers of their prices.
-    sets: Vec<SetPart>,
+    /// The pool's cuts, with the multipliers of their prices.
+    cuts: Vec<CutPart>,
     rise: i64,
     /// A customer's share of the target, in grains.
     share: i64,
@@ -69,8 +69,8 @@ impl Ascent {
         goal: &Goal,
     ) -> Result<Ascent, AllocError> {
         let merit = Merit::new(priced.instance(), goal.routes);
-        let sets = pool.sets.parts()?;
-        let centre = Centre::new(pool, priced, sets.as_slice(), merit)?;
+        let cuts = pool.cuts.parts()?;
+        let centre = Centre::new(pool, priced, cuts.as_slice(), merit)?;
         let rise = rise_in_range(goal.rise);
         pool.scale(rise);
         pool.add(priced.instance(), priced.least().route.as_slice())?;
@@ -78,7 +78,7 @@ impl Ascent {
             centre,
             merit,
             vehicle_price: merit.vehicle_price(),
-            sets,
+            cuts,
             rise,
             share: customer_share(priced.instance(), goal.value),
             target: goal.value,
@@ -121,29 +121,29 @@ impl Ascent {
     pub fn start(&self, alloc: Global, rise: i64) -> Result<Trial, AllocError> {
         let vehicle_price = self.vehicle_price.scaled(self.rise, rise);
         let vehicle_price = self.merit.start(vehicle_price, self.centre.least, rise);
-        let mut sets = Vec::from_slice(alloc, self.sets.as_slice())?;
-        for set in sets.iter_mut() {
-            set.multiplier = scaled(set.multiplier, self.rise, rise);
+        let mut cuts = Vec::from_slice(alloc, self.cuts.as_slice())?;
+        for cut in cuts.iter_mut() {
+            cut.multiplier = scaled(cut.multiplier, self.rise, rise);
         }
         let prices = self.centre.prices.as_slice();
-        Trial::new(alloc, prices, sets, rise, vehicle_price)
+        Trial::new(alloc, prices, cuts, rise, vehicle_price)
     }
 
-    /// These prices of customers and sets as those of a trial.
+    /// These prices of customers and cuts as those of a trial.
     pub fn at(&self, alloc: Global, prices: &[i64]) -> Result<Trial, AllocError> {
-        let mut sets = Vec::from_slice(alloc, self.sets.as_slice())?;
-        for set in sets.iter_mut() {
-            set.multiplier = 0;
+        let mut cuts = Vec::from_slice(alloc, self.cuts.as_slice())?;
+        for cut in cuts.iter_mut() {
+            cut.multiplier = 0;
         }
-        Trial::new(alloc, prices, sets, 0, VehiclePrice::new(false))
+        Trial::new(alloc, prices, cuts, 0, VehiclePrice::new(false))
     }
 
     /// How far the merit rises from the centre to where a trial leads, in grains: what its prices promise, with what
     /// the routes that make them up lack. That is known well after few sweeps; the least reduced cost isn't, and
     /// counts for each vehicle.
     pub fn rise_by_routes(&self, trial: &Trial, lacking: i128) -> i128 {
-        let (prices, sets) = (trial.prices.as_slice(), trial.sets.as_slice());
-        let promised = self.merit.promised(prices, sets, trial.vehicle_price);
+        let (prices, cuts) = (trial.prices.as_slice(), trial.cuts.as_slice());
+        let promised = self.merit.promised(prices, cuts, trial.vehicle_price);
         promised
             .saturating_add(lacking)
             .saturating_sub(self.centre.merit)
@@ -164,8 +164,8 @@ impl Ascent {
     fn scale(&mut self, pool: &mut RoutePool, rise: i64) {
         pool.scale(rise);
         self.vehicle_price = self.vehicle_price.scaled(self.rise, rise);
-        for set in self.sets.iter_mut() {
-            set.multiplier = scaled(set.multiplier, self.rise, rise);
+        for cut in self.cuts.iter_mut() {
+            cut.multiplier = scaled(cut.multiplier, self.rise, rise);
         }
         self.rise = rise;
     }
@@ -190,7 +190,7 @@ impl Ascent {
         let before = self.centre.merit;
         let promised = self.merit.promised(
             next.prices.as_slice(),
-            self.sets.as_slice(),
+            self.cuts.as_slice(),
             self.vehicle_price,
         );
         self.promise = promised.saturating_sub(before);
@@ -209,11 +209,11 @@ impl Ascent {
 
     /// Whether the prices of a trial, of this least reduced cost at most, can only be a null step.
     pub fn is_null(&self, trial: &Trial, prices: &[i64], least: i64) -> bool {
-        let (before, sets) = (self.centre.merit, trial.sets.as_slice());
-        let promised = self.merit.promised(prices, sets, trial.vehicle_price);
+        let (before, cuts) = (self.centre.merit, trial.cuts.as_slice());
+        let promised = self.merit.promised(prices, cuts, trial.vehicle_price);
         let growth = self
             .merit
-            .of(prices, sets, i128::from(least))
+            .of(prices, cuts, i128::from(least))
             .saturating_sub(before);
         growth.saturating_mul(SERIOUS_PARTS) <= promised.saturating_sub(before)
     }
@@ -221,8 +221,8 @@ impl Ascent {
     /// Goes on from the multipliers of a trial, by the same rise: all of a null step that isn't priced.
     pub fn take_multipliers(&mut self, trial: &Trial) {
         self.vehicle_price = trial.vehicle_price;
-        for (set, moved) in self.sets.iter_mut().zip(trial.sets.iter()) {
-            set.multiplier = moved.multiplier;
+        for (cut, moved) in self.cuts.iter_mut().zip(trial.cuts.iter()) {
+            cut.multiplier = moved.multiplier;
         }
     }
 
@@ -233,7 +233,7 @@ impl Ascent {
         trial: &Trial,
         priced: &Priced<'_>,
     ) -> Result<(), AllocError> {
-        let next = Centre::new(pool, priced, self.sets.as_slice(), self.merit)?;
+        let next = Centre::new(pool, priced, self.cuts.as_slice(), self.merit)?;
         if next.least < i128::from(trial.vehicle_price.value()) {
             pool.add(priced.instance(), priced.least().route.as_slice())?;
         }
@@ -250,7 +250,7 @@ impl Ascent {
         prices: Vec<i64>,
         least: i64,
     ) {
-        let next = Centre::at(prices, self.sets.as_slice(), i128::from(least), self.merit);
+        let next = Centre::at(prices, self.cuts.as_slice(), i128::from(least), self.merit);
         self.is_trial_quick = true;
         if self.go_on(pool, trial, next) {
             self.is_centre_quick = true;
@@ -263,7 +263,7 @@ impl Ascent {
         self.centre.least = i128::from(least);
         self.centre.merit = self.merit.of(
             self.centre.prices.as_slice(),
-            self.sets.as_slice(),
+            self.cuts.as_slice(),
             self.centre.least,
         );
         self.is_centre_quick = true;
@@ -273,19 +273,19 @@ impl Ascent {
     /// Goes back to these prices as the centre, unless that was priced exactly.
     pub fn go_back_to(&mut self, pool: &RoutePool, priced: &Priced<'_>) -> Result<(), AllocError> {
         if self.is_centre_quick {
-            self.centre = Centre::new(pool, priced, self.sets.as_slice(), self.merit)?;
+            self.centre = Centre::new(pool, priced, self.cuts.as_slice(), self.merit)?;
             self.is_centre_quick = false;
         }
         Ok(())
     }
 
-    /// Takes in the sets that were added to the pool: their prices begin at 0, and the centre stays. The way to prices
-    /// of sets is long, so the rise isn't a short one.
-    pub fn take_sets(&mut self, pool: &mut RoutePool) -> Result<(), AllocError> {
-        let parts = pool.sets.parts()?;
-        for place in self.sets.len()..parts.len() {
+    /// Takes in the cuts that were added to the pool: their prices begin at 0, and the centre stays. The way to prices
+    /// of cuts is long, so the rise isn't a short one.
+    pub fn take_cuts(&mut self, pool: &mut RoutePool) -> Result<(), AllocError> {
+        let parts = pool.cuts.parts()?;
+        for place in self.cuts.len()..parts.len() {
             self.centre.prices.push(0)?;
-            self.sets.push(parts[place])?;
+            self.cuts.push(parts[place])?;
         }
         let least = self.share.saturating_mul(TENTHS_BEHIND_ROUND) / 10;
         self.scale(pool, rise_in_range(self.rise.max(least)));

@@ -14,8 +14,8 @@ pub struct ChildStart {
     pub merit: i128,
     /// Nothing where the child wasn't tried.
     pub trial: Option<Trial>,
-    /// The numbers of the sets whose prices the trial has, in their order.
-    pub sets: Vec<u64>,
+    /// The numbers of the cuts whose prices the trial has, in their order.
+    pub cuts: Vec<u64>,
     /// What the routes of the leaf had as multipliers.
     pub shares: Vec<RouteShare>,
 }

@@ -4,16 +4,17 @@
 
 use crate::ascent::Ascent;
 use crate::child_start::ChildStart;
+use crate::cut_pool::CutPool;
+use crate::leaf_cuts::LeafCuts;
 use crate::pool_trial::PoolTrial;
 use crate::pricing_state::PricingState;
 use crate::quick_way::WHOLE;
 use crate::rises::trial_rise;
-use crate::set_pool::SetPool;
 use branching::{Arc, Region};
-use fronts::allowed_rows;
+use fronts::{Nearness, allowed_rows};
 use pooled_routes::{
-    ArcFlow, Child, HalfSpace, PooledRoute, Projection, RouteShare, Trial, VehiclePrice, cost_of,
-    merge, scaled,
+    ArcFlow, Child, HalfSpace, PooledRoute, Projection, RouteShare, Trial, VehiclePrice, WeightedRoute,
+    cost_of, merge, scaled,
 };
 use prices::{Priced, allows_route};
 use set_finding::FoundSet;
@@ -38,8 +39,8 @@ const TRIAL_ROUTES: usize = 4;
 pub struct RoutePool {
     alloc: Global,
     routes: Vec<PooledRoute>,
-    /// The sets whose prices stand behind those of the customers.
-    pub sets: SetPool,
+    /// The sets and rows whose prices stand behind those of the customers.
+    pub cuts: CutPool,
     /// How many routes were added.
     met: u64,
     /// The rise by which the multipliers are measured, in grains.
@@ -56,7 +57,7 @@ impl RoutePool {
         RoutePool {
             alloc,
             routes: Vec::new(alloc),
-            sets: SetPool::new(alloc),
+            cuts: CutPool::new(alloc),
             met: 0,
             rise: 1,
             age: 0,
@@ -91,7 +92,7 @@ impl RoutePool {
             self.alloc,
             instance,
             stops,
-            self.sets.sets.as_slice(),
+            self.cuts.cuts.as_slice(),
             self.met,
             self.age,
         )?;
@@ -110,31 +111,45 @@ impl RoutePool {
         self.has_new
     }
 
-    /// These prices of customers and sets, as trials have them.
+    /// These prices of customers and cuts, as trials have them.
     fn trial_at(&self, prices: &[i64]) -> Result<Trial, AllocError> {
         let none = Vec::new(self.alloc);
         Trial::new(self.alloc, prices, none, 0, VehiclePrice::new(false))
     }
 
-    /// Tells the routes of the sets.
+    /// Tells the routes of the cuts.
     fn tell_routes(&mut self, instance: &Instance) -> Result<(), AllocError> {
         let customers = instance.customer_count();
         for route in self.routes.iter_mut() {
-            route.take_sets(self.alloc, customers, self.sets.sets.as_slice())?;
+            route.take_cuts(self.alloc, customers, self.cuts.cuts.as_slice())?;
         }
         Ok(())
     }
 
     /// Adds sets that were found.
     pub fn add_sets(&mut self, instance: &Instance, found: &[FoundSet]) -> Result<(), AllocError> {
-        self.sets.add(instance.customer_count(), found)?;
+        self.cuts.add_sets(instance.customer_count(), found)?;
         self.tell_routes(instance)
     }
 
-    /// Takes in the sets of a leaf, after it dropped those that have had no price for so many ascents.
-    pub fn enter_sets(&mut self, leaf: &Priced<'_>, most_idle: u32) -> Result<(), AllocError> {
-        let customers = leaf.instance().customer_count();
-        if self.sets.enter(customers, leaf.sets(), most_idle)? {
+    /// Adds rows that were found, each three customers in increasing order.
+    pub fn add_rows(
+        &mut self,
+        nearness: &Nearness<'_>,
+        found: &[[u16; 3]],
+    ) -> Result<(), AllocError> {
+        self.cuts.add_rows(nearness, found)?;
+        self.tell_routes(nearness.instance)
+    }
+
+    /// Takes in the cuts of a leaf, after it dropped those that have had no price for so many ascents.
+    pub fn enter_cuts(
+        &mut self,
+        nearness: &Nearness<'_>,
+        leaf: &Priced<'_>,
+        most_idle: u32,
+    ) -> Result<(), AllocError> {
+        if self.cuts.enter(nearness, LeafCuts::of(leaf), most_idle)? {
             self.tell_routes(leaf.instance())?;
         }
         Ok(())
@@ -211,6 +226,18 @@ impl RoutePool {
             route.push_arcs(&mut arcs)?;
         }
         merge(arcs, Vec::new(self.alloc))
+    }
+
+    /// The routes that make up the prices, with their multipliers.
+    pub fn weighted(&self) -> Result<Vec<WeightedRoute<'_>>, AllocError> {
+        let mut weighted = Vec::new(self.alloc);
+        for route in self.routes.iter().filter(|route| route.multiplier > 0) {
+            weighted.push(WeightedRoute {
+                stops: route.stops.as_slice(),
+                weight: route.multiplier,
+            })?;
+        }
+        Ok(weighted)
     }
 
     /// Arcs to split the leaf by whose prices were raised last, best ones first, for `choose` of
@@ -353,7 +380,7 @@ impl RoutePool {
             child,
             merit: ascent.centre.merit,
             trial,
-            sets: self.sets.numbers()?,
+            cuts: self.cuts.numbers()?,
             shares: self.shares()?,
         })
     }
