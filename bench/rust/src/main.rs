@@ -19,6 +19,7 @@ mod labelling;
 mod labels;
 mod leaf_arcs;
 mod row_charges;
+mod row_finding;
 mod leaf_work;
 mod measuring;
 mod moves;
