@@ -7,6 +7,7 @@ mod candidates;
 mod found_rows;
 mod pair_weights;
 mod row_search;
+mod visits;
 
 pub use found_rows::FoundRow;
 pub use row_search::{RowFinds, find_rows};

@@ -3,6 +3,7 @@
 use crate::candidates::{Candidate, Candidates};
 use crate::found_rows::{FoundRow, choose};
 use crate::pair_weights::PairWeights;
+use crate::visits::Visits;
 use fronts::Nearness;
 use pooled_routes::{PooledCut, WeightedRoute};
 use std::alloc::{AllocError, Global};
@@ -10,7 +11,7 @@ use std::alloc::{AllocError, Global};
 /// A row counts where more than this part of a route is lacking.
 const PART_LACKING: i64 = 20;
 
-/// The most threes whose charges are counted route by route.
+/// The most threes whose charges are counted along routes.
 const MOST_CANDIDATES: usize = 1_000;
 
 /// So many stops or pairs that a search goes over are one unit of work, as it is counted of pricings.
@@ -25,37 +26,20 @@ pub struct RowFinds {
     pub work: u64,
 }
 
-/// How much routes weigh, each as often as a row charges it.
-fn charged(routes: &[WeightedRoute<'_>], row: &PooledCut) -> i64 {
-    let mut sum: i64 = 0;
-    for route in routes {
-        let charges = i64::from(row.count(route.stops));
-        sum = sum.saturating_add(route.weight.saturating_mul(charges));
-    }
-    sum
-}
-
-/// How many stops these routes have.
-fn stop_count(routes: &[WeightedRoute<'_>]) -> u64 {
-    let mut count: u64 = 0;
-    for route in routes {
-        count = count.saturating_add(route.stops.len() as u64);
-    }
-    count
-}
-
-/// Of these threes the rows that lack more than a part of a route, where this much is one.
+/// Of these threes the rows that lack more than a part of a route, where this much is one, with the work of counting.
 fn lacking(
     alloc: Global,
     nearness: &Nearness<'_>,
-    routes: &[WeightedRoute<'_>],
+    visits: &Visits<'_>,
     candidates: &[Candidate],
     whole: i64,
-) -> Result<Vec<FoundRow>, AllocError> {
-    let mut found = Vec::new(alloc);
+) -> Result<(Vec<FoundRow>, u64), AllocError> {
+    let (mut found, mut work): (Vec<FoundRow>, u64) = (Vec::new(alloc), 0);
     for three in candidates {
         let row = PooledCut::row(alloc, nearness, three.members, 0)?;
-        let lack = charged(routes, &row).saturating_sub(whole);
+        let (charged, stops) = visits.charged(&row, three.members);
+        work = work.saturating_add(stops);
+        let lack = charged.saturating_sub(whole);
         if lack > whole / PART_LACKING {
             found.push(FoundRow {
                 members: three.members,
@@ -63,7 +47,9 @@ fn lacking(
             })?;
         }
     }
-    Ok(found)
+    let looks = u64::from(nearness.instance.customer_count()).saturating_mul(3);
+    let looks = looks.saturating_mul(candidates.len() as u64);
+    Ok((found, work.saturating_add(looks)))
 }
 
 /// Rows by which these routes are charged more often than a plan can be, by more than a twentieth: of those that are
@@ -87,9 +73,8 @@ pub fn find_rows(
         let mut rows = known.iter();
         !rows.any(|row| row.as_slice() == three.members.as_slice())
     });
-    let stops = stop_count(routes).saturating_add(u64::from(customers).saturating_mul(3));
-    let counted = stops.saturating_mul(threes.len() as u64);
-    let found = lacking(alloc, nearness, routes, threes.as_slice(), whole)?;
+    let visits = Visits::new(alloc, customers, routes)?;
+    let (found, counted) = lacking(alloc, nearness, &visits, threes.as_slice(), whole)?;
     Ok(RowFinds {
         rows: choose(alloc, customers, found, most)?,
         work: looks.saturating_add(counted) / STEPS_OF_UNIT,
