@@ -7,7 +7,7 @@ use crate::goal::Goal;
 use crate::pricing_state::PricingState;
 use crate::rises::customer_share;
 use crate::route_pool::RoutePool;
-use pooled_routes::{GRAINS_OF_TENTH, Merit, CutPart, Trial, VehiclePrice, scaled};
+use pooled_routes::{CutPart, GRAINS_OF_TENTH, Merit, Side, Trial, VehiclePrice, scaled};
 use prices::Priced;
 use std::alloc::{AllocError, Global};
 
@@ -17,7 +17,7 @@ const LEAST_RISE: i64 = 1_000;
 /// The greatest rise, in grains.
 const MOST_RISE: i64 = 100_000_000_000;
 
-/// Behind a round of cuts the rise is at least this many tenths of a customer's share of the target.
+/// Behind a round, where the pool has rows, the rise is at least this many tenths of a customer's share of the target.
 const TENTHS_BEHIND_ROUND: i64 = 3;
 
 /// The target is near where this many steps more of the last growth lead to it.
@@ -175,6 +175,11 @@ impl Ascent {
         self.scale(pool, rise_in_range(self.rise.saturating_mul(3) / 5));
     }
 
+    /// Whether the pool has rows: their prices are held by long rises. Those of sets do as well by short ones.
+    fn has_rows(&self) -> bool {
+        self.cuts.iter().any(|cut| cut.side == Side::Below)
+    }
+
     /// Goes on with a longer rise, up to a customer's share of the target: after a null step that brought no new route.
     /// There the pool knows all that binds prices, and the rise is what holds them.
     fn go_farther(&mut self, pool: &mut RoutePool) {
@@ -199,7 +204,7 @@ impl Ascent {
         if is_serious {
             self.centre = next;
             self.scale(pool, rise_in_range(self.rise.saturating_mul(3) / 2));
-        } else if pool.has_new() {
+        } else if pool.has_new() || !self.has_rows() {
             self.draw_back(pool);
         } else {
             self.go_farther(pool);
@@ -280,15 +285,17 @@ impl Ascent {
     }
 
     /// Takes in the cuts that were added to the pool: their prices begin at 0, and the centre stays. The way to prices
-    /// of cuts is long, so the rise isn't a short one.
+    /// of rows is long, so the rise isn't a short one.
     pub fn take_cuts(&mut self, pool: &mut RoutePool) -> Result<(), AllocError> {
         let parts = pool.cuts.parts()?;
         for place in self.cuts.len()..parts.len() {
             self.centre.prices.push(0)?;
             self.cuts.push(parts[place])?;
         }
-        let least = self.share.saturating_mul(TENTHS_BEHIND_ROUND) / 10;
-        self.scale(pool, rise_in_range(self.rise.max(least)));
+        if self.has_rows() {
+            let least = self.share.saturating_mul(TENTHS_BEHIND_ROUND) / 10;
+            self.scale(pool, rise_in_range(self.rise.max(least)));
+        }
         Ok(())
     }
 

@@ -45,19 +45,14 @@ impl<'r> Visits<'r> {
         Ok(())
     }
 
-    /// The routes that visit a customer.
-    fn of(&self, customer: u16) -> &[WeightedRoute<'r>] {
-        match self.routes.get(usize::from(customer)) {
-            Some(routes) => routes.as_slice(),
-            None => &[],
-        }
-    }
-
     /// How much the routes weigh that visit a customer but none of these, each as often as a row charges it, and how many
     /// stops they have.
     fn charged_at(&self, row: &PooledCut, customer: u16, others: &[u16]) -> (i64, u64) {
         let (mut sum, mut stops): (i64, u64) = (0, 0);
-        for route in self.of(customer) {
+        let Some(routes) = self.routes.get(usize::from(customer)) else {
+            return (0, 0);
+        };
+        for route in routes {
             if others.iter().any(|other| route.stops.contains(other)) {
                 continue;
             }
