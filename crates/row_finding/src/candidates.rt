@@ -54,12 +54,7 @@ impl Candidates {
     }
 
     /// Adds the three that a customer and two of its partners come to.
-    fn add_at(
-        &mut self,
-        pairs: &PairWeights,
-        customer: u16,
-        least: i64,
-    ) -> Result<(), AllocError> {
+    fn add_at(&mut self, pairs: &PairWeights, customer: u16, least: i64) -> Result<(), AllocError> {
         let partners = pairs.partners(customer)?;
         for place in 0..partners.len() {
             self.add_with(pairs, customer, partners.as_slice(), place, least)?;
