@@ -65,12 +65,7 @@ impl CutPool {
     }
 
     /// Takes in a set, unless it is one of the cuts.
-    fn adopt_set(
-        &mut self,
-        customers: u16,
-        members: &[u16],
-        need: u32,
-    ) -> Result<(), AllocError> {
+    fn adopt_set(&mut self, customers: u16, members: &[u16], need: u32) -> Result<(), AllocError> {
         if self.place_of(true, members).is_none() {
             let number = self.next_number();
             let set = PooledCut::set(self.alloc, customers, members, need, number)?;
@@ -80,11 +75,7 @@ impl CutPool {
     }
 
     /// Takes in a row, unless it is one of the cuts.
-    fn adopt_row(
-        &mut self,
-        nearness: &Nearness<'_>,
-        members: [u16; 3],
-    ) -> Result<(), AllocError> {
+    fn adopt_row(&mut self, nearness: &Nearness<'_>, members: [u16; 3]) -> Result<(), AllocError> {
         if self.place_of(false, members.as_slice()).is_none() {
             let number = self.next_number();
             let row = PooledCut::row(self.alloc, nearness, members, number)?;

@@ -13,8 +13,8 @@ use crate::rises::trial_rise;
 use branching::{Arc, Region};
 use fronts::{Nearness, allowed_rows};
 use pooled_routes::{
-    ArcFlow, Child, HalfSpace, PooledRoute, Projection, RouteShare, Trial, VehiclePrice, WeightedRoute,
-    cost_of, merge, scaled,
+    ArcFlow, Child, HalfSpace, PooledRoute, Projection, RouteShare, Trial, VehiclePrice,
+    WeightedRoute, cost_of, merge, scaled,
 };
 use prices::{Priced, allows_route};
 use set_finding::FoundSet;
