@@ -25,6 +25,7 @@ fn goal_at(leaf: &Priced<'_>, growth: &Growth<'_>) -> Goal {
     let effort = Effort {
         root_pricings: ROOT_PRICINGS,
         sets: 0,
+        rows: 0,
         labels: None,
         work: u64::MAX,
     };

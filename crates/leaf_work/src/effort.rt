@@ -17,6 +17,8 @@ pub struct Effort {
     pub root_pricings: u32,
     /// The most sets that a worker finds in all.
     pub sets: usize,
+    /// The most rows that a worker finds in all.
+    pub rows: usize,
     /// The most labels that may be active at once in a pricing, if there is a limit.
     pub labels: Option<usize>,
     /// Prices rise no further where the work of all leaves so far comes to this much.
@@ -46,6 +48,7 @@ pub fn goal_of(
         value: i128::from(target),
         routes,
         sets: effort.sets,
+        rows: effort.rows,
         labels: effort.labels,
         work: effort.work,
     }

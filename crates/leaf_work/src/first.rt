@@ -45,6 +45,7 @@ pub fn first_leaf<'i>(
     ensures region { IfOk result (λ f. f.region ≡ root_region (customer_count instance.now)) }
     ensures neighbours { IfOk result (λ f. f.neighbours ≡ neighbours) }
     ensures few_sets { IfOk result (λ f. length f.sets ≤ limits.sets) }
+    ensures no_rows { IfOk result (λ f. f.rows ≡ []) }
     ensures not_lower { IfOk result (λ f. IsNoLower instance.now neighbours f.value) }
     ensures unlimited { IfErr result (λ e. e ≡ LabelLimit → limits.root_labels ≢ None) }
 {

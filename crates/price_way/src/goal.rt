@@ -35,6 +35,8 @@ pub struct Goal {
     pub routes: u16,
     /// The most sets that may have prices beside those that are known.
     pub sets: usize,
+    /// The most rows that may have prices beside those that are known.
+    pub rows: usize,
     /// The most labels that may be active at once in a pricing.
     pub labels: Option<usize>,
     /// Stops where the pool's work so far comes to this much.

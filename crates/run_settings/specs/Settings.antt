@@ -2,7 +2,7 @@
 use Rattle.std.specs.Prelude.{◌≤◌}
 use Rattle.run_settings.specs.declared.settings.Settings.{Settings}
 use Rattle.run_settings.specs.declared.settings.TheConstants.{MOST_BOUNDERS, MOST_GAP, MOST_LABELS, MOST_SEARCHERS, MOST_TURNS}
-use Rattle.solomon_reader.specs.declared.limits.TheConstants.{MOST_NEIGHBOURS, MOST_SETS}
+use Rattle.solomon_reader.specs.declared.limits.TheConstants.{MOST_NEIGHBOURS, MOST_ROWS, MOST_SETS}
 
 -- each number is within its limits; a seed may be any number
 pub record IsWithin (settings : Settings) : Type 0 where
@@ -17,6 +17,7 @@ pub record IsWithin (settings : Settings) : Type 0 where
   pub most_labels : settings.labels ≤ MOST_LABELS
   pub most_gap : settings.gap ≤ MOST_GAP
   pub most_sets : settings.sets ≤ MOST_SETS
+  pub most_rows : settings.rows ≤ MOST_ROWS
 
 -- the settings of words that name none
 abbrev pub default_settings : Settings
@@ -29,4 +30,5 @@ default_settings = record {
   labels = 1000000;
   gap = 0;
   sets = 0;
+  rows = 0;
 }

@@ -1,7 +1,7 @@
 //! How much work goes into a plan and a bound.
 ghost use Rattle.std.specs.Prelude.{◌≡◌, ◌≤◌, ◌↔◌, IsTrue};
 
-use solomon_reader::{MOST_NEIGHBOURS, MOST_SETS};
+use solomon_reader::{MOST_NEIGHBOURS, MOST_ROWS, MOST_SETS};
 
 /// The most threads that look for a plan.
 pub const MOST_SEARCHERS: u32 = 32;
@@ -36,6 +36,8 @@ pub struct Settings {
     pub gap: u32,
     /// How many sets of customers may have prices in the tree: 0 to `MOST_SETS`, by default 0.
     pub sets: u32,
+    /// How many rows of three customers may have prices in the tree: 0 to `MOST_ROWS`, by default 0.
+    pub rows: u32,
 }
 
 fn is_between(number: u32, least: u32, most: u32) -> bool
@@ -58,6 +60,7 @@ impl Settings {
             && is_between(self.labels, 1, MOST_LABELS)
             && is_between(self.gap, 0, MOST_GAP)
             && is_between(self.sets, 0, MOST_SETS)
+            && is_between(self.rows, 0, MOST_ROWS)
     }
 }
 
@@ -76,6 +79,7 @@ impl Default for Settings {
             labels: 1_000_000,
             gap: 0,
             sets: 0,
+            rows: 0,
         }
     }
 }

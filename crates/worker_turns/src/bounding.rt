@@ -258,17 +258,21 @@ pub(crate) struct Bounding<'p> {
 }
 
 impl<'p> Bounding<'p> {
-    /// These nodes, for a worker of this place among the bound workers, or behind them, where it finds no sets.
+    /// These nodes, for a worker of this place among the bound workers, or behind them, where it finds no sets and no
+    /// rows.
     pub(crate) fn new(settings: &Settings, place: u32, nodes: Nodes<'p>) -> Bounding<'p> {
         let customers = nodes.customers;
-        let sets = if place < settings.bounders {
-            settings.sets / settings.bounders.max(1)
-        } else {
-            0
+        let part = |all: u32| {
+            if place < settings.bounders {
+                (all / settings.bounders.max(1)) as usize
+            } else {
+                0
+            }
         };
         let rules = Rules {
             labels: pricing_labels(settings, customers),
-            sets: sets as usize,
+            sets: part(settings.sets),
+            rows: part(settings.rows),
             place,
             work: turn_work(customers).saturating_mul(u64::from(settings.turns)),
         };

@@ -44,6 +44,8 @@ pub(crate) struct Rules {
     pub(crate) labels: usize,
     /// How many sets it may find in all.
     pub(crate) sets: usize,
+    /// The most rows that the worker may find.
+    pub(crate) rows: usize,
     /// Its place among the bound workers.
     pub(crate) place: u32,
     /// How much work all its turns are worth.
@@ -95,6 +97,7 @@ pub(crate) fn goal_at(
     let effort = Effort {
         root_pricings: ROOT_PRICINGS,
         sets: rules.sets,
+        rows: rules.rows,
         labels: Some(rules.labels),
         work: rules.work,
     };
