@@ -12,7 +12,7 @@ use Rattle.prices.specs.ValuedPrices.{ValuedPrices}
 use Rattle.incumbent_book.specs.Contents.{Contents, IsBook, IsOfProblem}
 use Rattle.incumbent_book.specs.Faults.{Call, offer, reprice, split, IsOfInstance, IsAccepted, IsRefusedFor}
 use Rattle.incumbent_book.specs.declared.fault.BookFault.{BookFault}
-use Rattle.incumbent_book.specs.declared.fault.BookFault.TheVariants.{Memory, ForeignInstance, JournalFull, NotALeaf, WrongRegion, NotHigher, Lower, LeavesFull, TooDeep, SetsFull}
+use Rattle.incumbent_book.specs.declared.fault.BookFault.TheVariants.{Memory, ForeignInstance, JournalFull, NotALeaf, WrongRegion, NotHigher, Lower, LeavesFull, TooDeep, SetsFull, RowsFull}
 use Rattle.incumbent_book.proofs.Histories.{below-cheaper, best-kept}
 use Rattle.incumbent_book.proofs.Reached.{still_reached}
 use Rattle.desk.specs.Tally.{plus, tally_of_event, Tally}
@@ -104,6 +104,7 @@ tells_foreign b call Lower told = told.1.met ForeignInstance (omega arith)
 tells_foreign b call LeavesFull told = told.1.met ForeignInstance (omega arith)
 tells_foreign b call TooDeep told = told.1.met ForeignInstance (omega arith)
 tells_foreign b call SetsFull told = told.0.met ForeignInstance (omega arith)
+tells_foreign b call RowsFull told = told.0.met ForeignInstance (omega arith)
 
 -- an event more takes no offer back
 still_offered : (most : Option ℕ) (event : Event) (past : List Event) → WasOffered most past → WasOffered most (event ∷ past)
@@ -113,17 +114,18 @@ still_offered (Some most) (repriced worker leaf value) past was = was
 still_offered (Some most) (was_split worker leaf a used unused x y) past was = was
 
 -- a book of our instance and number of neighbours, with a plan of at most this cost if one is named
-module _ (p : Problem) (k most : ℕ) (opening_cost : Option ℕ) (opening_bound : ℕ) (b : Contents) (before : Tally) (is : IsCounted p k most opening_cost opening_bound b before) where
+module _ (p : Problem) (k sets rows : ℕ) (opening_cost : Option ℕ) (opening_bound : ℕ) (b : Contents) (before : Tally) (is : IsCounted p k sets rows opening_cost opening_bound b before) where
   -- the totals are those of the history again, where both have the same event more
   pub counted_call : (new : Contents) (event : Event) (after : Tally) → IsBook new → new.past ≡ event ∷ b.past → new.problem ≡ b.problem
-      → new.neighbours ≡ b.neighbours → new.most_sets ≡ b.most_sets → new.root ≡ b.root → after ≡ plus before (tally_of_event event)
-      → IsCounted p k most opening_cost opening_bound new after
-  counted_call new event after book longer problem neighbours listed root more =
+      → new.neighbours ≡ b.neighbours → new.most_sets ≡ b.most_sets → new.most_rows ≡ b.most_rows → new.root ≡ b.root → after ≡ plus before (tally_of_event event)
+      → IsCounted p k sets rows opening_cost opening_bound new after
+  counted_call new event after book longer problem neighbours most_sets most_rows root more =
       record {
         counted = counted_more b.past event before after new.past is.counted longer more;
         problem = problem ∙ is.problem;
         neighbours = neighbours ∙ is.neighbours;
-        sets = listed ∙ is.sets;
+        most_sets = most_sets ∙ is.most_sets;
+        most_rows = most_rows ∙ is.most_rows;
         offered = rw longer (still_offered opening_cost event b.past is.offered);
         reached = still_reached opening_bound b new event is.reached book longer problem root;
       }

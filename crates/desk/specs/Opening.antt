@@ -21,11 +21,12 @@ abbrev pub WasOffered : Option ℕ → List Event → Type 0
 WasOffered None past = Unit {0}
 WasOffered (Some most) past = (cost : ℕ) × Among cost (costs_of past) × (cost ≤ most)
 
--- a book of this instance, number of neighbours and most sets, which was offered a plan of at most this cost if one is named, whose bound is at least this one, and whose history has these counts and sums
-pub record IsCounted (p : Problem) (k most : ℕ) (opening_cost : Option ℕ) (opening_bound : ℕ) (b : Contents) (totals : Tally) : Type 0 where
+-- a book of this instance, number of neighbours, most sets and most rows, which was offered a plan of at most this cost if one is named, whose bound is at least this one, and whose history has these counts and sums
+pub record IsCounted (p : Problem) (k sets rows : ℕ) (opening_cost : Option ℕ) (opening_bound : ℕ) (b : Contents) (totals : Tally) : Type 0 where
   pub counted : tally_of b.past ≡ totals
   pub problem : b.problem ≡ p
   pub neighbours : b.neighbours ≡ k
-  pub sets : b.most_sets ≡ most
+  pub most_sets : b.most_sets ≡ sets
+  pub most_rows : b.most_rows ≡ rows
   pub offered : WasOffered opening_cost b.past
   pub reached : IsReached opening_bound b

@@ -12,7 +12,7 @@ use Rattle.incumbent_book.specs.Contents.{Contents}
 use Rattle.incumbent_book.specs.Replies.{IsOptimalityGap}
 use Rattle.incumbent_book.specs.declared.gap.Gap.{Gap}
 use Rattle.incumbent_book.specs.declared.fault.BookFault.{BookFault}
-use Rattle.incumbent_book.specs.declared.fault.BookFault.TheVariants.{Memory, ForeignInstance, JournalFull, NotALeaf, WrongRegion, NotHigher, Lower, LeavesFull, TooDeep, SetsFull}
+use Rattle.incumbent_book.specs.declared.fault.BookFault.TheVariants.{Memory, ForeignInstance, JournalFull, NotALeaf, WrongRegion, NotHigher, Lower, LeavesFull, TooDeep, SetsFull, RowsFull}
 use Rattle.desk.specs.Tally.{plus, tally_of_event}
 use Rattle.desk.specs.Account.{Account, least_of, IsAtMost, with_event}
 
@@ -28,6 +28,7 @@ TellsForeign ours Lower = ours
 TellsForeign ours LeavesFull = ours
 TellsForeign ours TooDeep = ours
 TellsForeign ours SetsFull = ours
+TellsForeign ours RowsFull = ours
 
 -- prices of this instance and number of neighbours
 pub record IsPricedFor (p : Problem) (k : ℕ) (f : ValuedPrices) : Type 0 where

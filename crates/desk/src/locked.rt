@@ -34,7 +34,7 @@ impl<'i, J: Naming> Model for Locked<'i, J> {
 
     ghost view = { λ l. l.book };
 
-    ghost invariant = { λ l. IsCounted J.problem J.neighbours J.sets J.opening_cost J.opening_bound l.book l.totals };
+    ghost invariant = { λ l. IsCounted J.problem J.neighbours J.sets J.rows J.opening_cost J.opening_bound l.book l.totals };
 }
 
 /// The event of an accepted offer.
@@ -51,7 +51,7 @@ fn offer_of(worker: u16, cost: Tenths, better: bool) -> Event
 impl<'i, J: Naming> Locked<'i, J> {
     /// A book whose history the totals have counted.
     pub(crate) fn new(book: Book<'i>, totals: Totals<J>) -> Locked<'i, J>
-        requires { IsCounted J.problem J.neighbours J.sets J.opening_cost J.opening_bound book totals }
+        requires { IsCounted J.problem J.neighbours J.sets J.rows J.opening_cost J.opening_bound book totals }
     {
         Locked { book, totals }
     }
@@ -59,7 +59,7 @@ impl<'i, J: Naming> Locked<'i, J> {
     /// What the book leaves. The tokens of all shares together have counted its history.
     pub(crate) fn finish(self, mut all: Tokens<J>) -> Outcome<'i>
         requires { all.parts ≡ J.workers }
-        ensures { IsCounted J.problem J.neighbours J.sets J.opening_cost J.opening_bound result all.tally }
+        ensures { IsCounted J.problem J.neighbours J.sets J.rows J.opening_cost J.opening_bound result all.tally }
     {
         let Locked { book, mut totals } = self;
         totals.audit(&mut all);

@@ -2,14 +2,14 @@
 
 use std::marker::Brand;
 
-/// Which instance and which number of neighbours a desk is about, how many sets its book may list, what a plan costs
-/// that was offered before it was opened, if one was, which bound its book had reached then, how many workers it has,
-/// and the names of the ledgers that it counts in.
+/// Which instance and which number of neighbours a desk is about, how many sets and how many rows its book may list,
+/// what a plan costs that was offered before it was opened, if one was, which bound its book had reached then, how many
+/// workers it has, and the names of the ledgers that it counts in.
 ///
-/// A caller names a desk by a function `f<J: Naming>` that opens it, with the eight facts that
+/// A caller names a desk by a function `f<J: Naming>` that opens it, with the nine facts that
 /// `Desk::open` requires as its own. Where it calls `f::<Brand>` with a book and blanks, its
 /// `proofs/` pick what `J` stands for in a definition of `ghosts-f`: the instance and the numbers of
-/// neighbours and of sets of the book, the cost of a plan that it was offered, if it was, a bound that it had
+/// neighbours, of sets and of rows of the book, the cost of a plan that it was offered, if it was, a bound that it had
 /// reached, the number of workers, and `names_of` the blanks.
 pub trait Naming {
     ghost use Rattle.std.specs.Prelude.{ℕ, Option};
@@ -21,6 +21,8 @@ pub trait Naming {
     ghost neighbours: { ℕ };
 
     ghost sets: { ℕ };
+
+    ghost rows: { ℕ };
 
     ghost opening_cost: { Option ℕ };
 
@@ -40,6 +42,8 @@ impl Naming for Brand {
     ghost neighbours = { 0 };
 
     ghost sets = { 0 };
+
+    ghost rows = { 0 };
 
     ghost opening_cost = { None };
 

@@ -56,6 +56,7 @@ impl<'i, J: Naming> Desk<'i, J> {
         requires problem { book.problem ≡ J.problem }
         requires neighbours { book.neighbours ≡ J.neighbours }
         requires sets { book.most_sets ≡ J.sets }
+        requires rows { book.most_rows ≡ J.rows }
         requires offered { WasOffered J.opening_cost book.past }
         requires reached { IsReached J.opening_bound book }
         requires workers { workers ≡ J.workers }
@@ -101,7 +102,7 @@ impl<'i, J: Naming> Desk<'i, J> {
 
     /// Gives a leaf of the book new prices of a higher value at its region. A refusal changes nothing
     /// and gives the prices back: `ForeignInstance`, `JournalFull`, `NotALeaf`, `WrongRegion`,
-    /// `NotHigher`, `SetsFull`, or `Memory`.
+    /// `NotHigher`, `SetsFull`, `RowsFull`, or `Memory`.
     pub fn reprice<R: Wait>(
         &self,
         rt: &R,
@@ -117,7 +118,7 @@ impl<'i, J: Naming> Desk<'i, J> {
     /// Splits a leaf of the book by an arc, with prices of no lower value at both children, and
     /// answers their numbers, that of the used child first. A refusal changes nothing and gives the
     /// prices back: `ForeignInstance`, `JournalFull`, `NotALeaf`, `WrongRegion`, `Lower`,
-    /// `LeavesFull`, `TooDeep`, `SetsFull`, or `Memory`.
+    /// `LeavesFull`, `TooDeep`, `SetsFull`, `RowsFull`, or `Memory`.
     pub fn split<R: Wait>(
         &self,
         rt: &R,
@@ -166,6 +167,7 @@ impl<'i, J: Naming> Desk<'i, J> {
         ensures problem { IfOk result (λ o. o.problem ≡ J.problem) }
         ensures neighbours { IfOk result (λ o. o.neighbours ≡ J.neighbours) }
         ensures sets { IfOk result (λ o. o.most_sets ≡ J.sets) }
+        ensures rows { IfOk result (λ o. o.most_rows ≡ J.rows) }
         ensures offered { IfOk result (λ o. WasOffered J.opening_cost o.past) }
         ensures reached { IfOk result (IsReached J.opening_bound) }
         ensures back { IfErr result (λ e. (e.1 ≡ shares) × (e.2 ≡ missing)) }

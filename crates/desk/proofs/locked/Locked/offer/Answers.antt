@@ -7,19 +7,19 @@ use Rattle.desk.proofs.locked.Locked.offer.Goals as goal
 pub returns-in_err-before : goal.returns-in_err-before
 returns-in_err-before g c =
     let p = err_from_is_err_and c.from_residual.result c.from_residual.ensures.1 in
-    rw (p.1, p.2) (refused_offer _ _ _ _ _ _ _ c.self.invariant c.worker-worker.result c.args.plan c.in_err-before.field-0.0 c.offer.new.self c.args.mine.now c.in_err-before.ensures.offers)
+    rw (p.1, p.2) (refused_offer _ _ _ _ _ _ _ _ c.self.invariant c.worker-worker.result c.args.plan c.in_err-before.field-0.0 c.offer.new.self c.args.mine.now c.in_err-before.ensures.offers)
 
 pub invariant_of-self-in-Better : goal.invariant_of-self-in-Better
 invariant_of-self-in-Better g c =
     let offers = rw c.in-Better.is at c.in_ok-before.ensures.offers in
     let more = rw (c.offer_of.ensures, c.cost-cost.ensures.is) at c.count.ensures.totals in
-    rw offers.1.2 (counted_call _ _ _ _ _ _ _ c.self.invariant _ _ _ (rw offers.1.2 at c.in_ok-before.ensures.book) refl refl refl refl refl more)
+    rw offers.1.2 (counted_call _ _ _ _ _ _ _ _ c.self.invariant _ _ _ (rw offers.1.2 at c.in_ok-before.ensures.book) refl refl refl refl refl refl more)
 
 pub invariant_of-self-in-NotBetter : goal.invariant_of-self-in-NotBetter
 invariant_of-self-in-NotBetter g c =
     let offers = rw c.in-NotBetter.is at c.in_ok-before.ensures.offers in
     let more = rw (c.offer_of-in-NotBetter.ensures, c.cost-cost.ensures.is) at c.count-in-NotBetter.ensures.totals in
-    rw offers.1.3 (counted_call _ _ _ _ _ _ _ c.self.invariant _ _ _ (rw offers.1.3 at c.in_ok-before.ensures.book) refl refl refl refl refl more)
+    rw offers.1.3 (counted_call _ _ _ _ _ _ _ _ c.self.invariant _ _ _ (rw offers.1.3 at c.in_ok-before.ensures.book) refl refl refl refl refl refl more)
 
 pub least_cost-least-requires : goal.least_cost-least-requires
 least_cost-least-requires g c =
