@@ -93,7 +93,7 @@ module _ (old new : Contents) (number worker v : ℕ) (leaf : IsLeaf old.past nu
 -- ---- no change
 
 pub keeps_itself : (old : Contents) → Keeps old old
-keeps_itself old = record { problem = refl; neighbours = refl; root = refl; limits = refl; most_sets = refl; incumbent = refl; costs = refl }
+keeps_itself old = record { problem = refl; neighbours = refl; root = refl; limits = refl; most_sets = refl; most_rows = refl; incumbent = refl; costs = refl }
 
 pub grown_itself : (old : Contents) (number : ℕ) → IsGrownAt old old number
 grown_itself old number = record { keeps = keeps_itself old; made = omega arith; regions = λ m h. refl; others = λ m at apart. at }

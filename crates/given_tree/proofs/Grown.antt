@@ -17,6 +17,7 @@ keeps_on old mid new a b = record {
   root = b.root ∙ a.root;
   limits = b.limits ∙ a.limits;
   most_sets = b.most_sets ∙ a.most_sets;
+  most_rows = b.most_rows ∙ a.most_rows;
   incumbent = b.incumbent ∙ a.incumbent;
   costs = b.costs ∙ a.costs;
 }

@@ -2,6 +2,7 @@ pub mod Valuing
 pub mod Events
 pub mod Grown
 pub mod Sets
+pub mod Rows
 pub mod Replies
 pub mod Listed
 pub mod Following

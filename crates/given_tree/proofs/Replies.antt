@@ -1,13 +1,12 @@
 -- What replies of a book say of the tree.
-use Rattle.std.proofs.Common.{◌≡◌, refl, ℕ, ◌≤◌, ap, length, List, [], ◌∷◌, ◌∙◌, arith}
-use Rattle.std.specs.Prelude.{Result, Ok, Err, OnOk, ℤ}
+use Rattle.std.proofs.Common.{◌≡◌, refl, ℕ, ◌≤◌, ap, length, ◌∷◌, ◌∙◌, arith}
+use Rattle.std.specs.Prelude.{Result, Ok, Err, OnOk}
 use Rattle.solomon_reader.specs.Problem.{Problem, customer_count}
 use Rattle.solomon_reader.specs.Plan.{Arc}
 use Rattle.solomon_reader.specs.Region.{Region, IsUndecided, used_child, unused_child}
 use Rattle.solomon_reader.specs.History.{repriced, was_split, split_count, used_number, unused_number, value_of, IsLegal, IsLeaf}
-use Rattle.solomon_reader.specs.Bound.{Version, listed_sets, LeafPrices, IsValueAt}
-use Rattle.solomon_reader.specs.SetPrices.{PricedSet, priced_sets}
-use Rattle.solomon_reader.specs.CertificateText.{AreSetPrices}
+use Rattle.solomon_reader.specs.Bound.{Version, listed_sets, listed_rows, leaf_at, LeafPrices, IsValueAt}
+use Rattle.solomon_reader.specs.CertificateText.{AreSetPrices, AreRowPrices}
 use Rattle.prices.specs.ValuedPrices.{ValuedPrices, IsPricedBy}
 use Rattle.incumbent_book.specs.Contents.{Contents, IsBook, pricing_at}
 use Rattle.incumbent_book.specs.Faults.{AreChildren, region_at}
@@ -24,12 +23,13 @@ keeps_same old new e = rw e (keeps_itself old)
 module _ (old new : Contents) (number worker : ℕ) (a : Arc) (x y : ValuedPrices) (i j : ℕ) (splits : Splits old worker number a x y (Ok (i, j)) new) where
   pub split_keeps : Keeps old new
   split_keeps =
-      let e = splits.3.2 in record {
+      let e = splits.3.2.2.2 in record {
         problem = ap (λ (b : Contents). b.problem) e;
         neighbours = ap (λ (b : Contents). b.neighbours) e;
         root = ap (λ (b : Contents). b.root) e;
         limits = ap (λ (b : Contents). b.limits) e;
         most_sets = ap (λ (b : Contents). b.most_sets) e;
+        most_rows = ap (λ (b : Contents). b.most_rows) e;
         incumbent = ap (λ (b : Contents). b.incumbent) e;
         costs = rw e refl;
       }
@@ -37,7 +37,7 @@ module _ (old new : Contents) (number worker : ℕ) (a : Arc) (x y : ValuedPrice
   pub split_done : IsBook new → IsSplitAt old new number a i j
   split_done book =
       let past : new.past ≡ was_split worker number a (used_number (split_count old.past)) (unused_number (split_count old.past)) x.value y.value ∷ old.past =
-      ap (λ (b : Contents). b.past) splits.3.2 in
+      ap (λ (b : Contents). b.past) splits.3.2.2.2 in
       let legal : IsLegal (customer_count old.problem) old.root (was_split worker number a (used_number (split_count old.past)) (unused_number (split_count old.past)) x.value y.value ∷ old.past) =
       rw (split_keeps.problem, split_keeps.root, past) at book.legal in
       let i_is = splits.1 in
@@ -47,18 +47,19 @@ module _ (old new : Contents) (number worker : ℕ) (a : Arc) (x y : ValuedPrice
 module _ (old new : Contents) (number worker : ℕ) (f : ValuedPrices) (done : Unit {0}) (reprices : Reprices old worker number f (Ok done) new) where
   pub prices_keep : Keeps old new
   prices_keep =
-      let e = reprices.1.2 in record {
+      let e = reprices.1.2.2.2 in record {
         problem = ap (λ (b : Contents). b.problem) e;
         neighbours = ap (λ (b : Contents). b.neighbours) e;
         root = ap (λ (b : Contents). b.root) e;
         limits = ap (λ (b : Contents). b.limits) e;
         most_sets = ap (λ (b : Contents). b.most_sets) e;
+        most_rows = ap (λ (b : Contents). b.most_rows) e;
         incumbent = ap (λ (b : Contents). b.incumbent) e;
         costs = rw e refl;
       }
 
   past_is : new.past ≡ repriced worker number f.value ∷ old.past
-  past_is = ap (λ (b : Contents). b.past) reprices.1.2
+  past_is = ap (λ (b : Contents). b.past) reprices.1.2.2.2
 
   pub prices_grown : IsLeaf old.past number → IsGrownAt old new number
   prices_grown leaf = grown_by_prices old new number worker f.value leaf prices_keep past_is
@@ -70,10 +71,10 @@ module _ (old new : Contents) (number worker : ℕ) (f : ValuedPrices) (done : U
   prices_raised leaf = raised_by_prices old new number worker f.value leaf prices_keep past_is
 
 -- the value of a leaf of a tree is at most that of its prices in a book
-pub priced_low : (version : Version) (p : Problem) (g : Region) (k : ℕ) (prices : LeafPrices) (f : ValuedPrices) (v : ℕ) → AreSetPrices (length (listed_sets version)) prices → prices.rows ≡ []
-    → IsPricedBy p g k prices.customers (priced_sets (listed_sets version) prices.sets) f → IsValueAt version p g k prices v → v ≤ f.value
-priced_low version p g k prices f v are bare priced is =
-    text_low version p g k prices v f.value are bare is (rw (priced.problem, priced.region, priced.neighbours, priced.prices, priced.sets) at priced.valued.valued)
+pub priced_low : (version : Version) (p : Problem) (g : Region) (k : ℕ) (prices : LeafPrices) (f : ValuedPrices) (v : ℕ) → AreSetPrices (length (listed_sets version)) prices
+    → AreRowPrices (length (listed_rows version)) prices.rows → IsPricedBy p g k (leaf_at (listed_sets version) (listed_rows version) prices) f → IsValueAt version p g k prices v → v ≤ f.value
+priced_low version p g k prices f v are rows_are priced is =
+    text_low version p g k prices v f.value are rows_are is (rw (priced.problem, priced.region, priced.neighbours, priced.prices, priced.sets, priced.rows) at priced.valued.valued)
 
 -- ---- prices at a leaf
 
@@ -82,16 +83,6 @@ pub raised_already : (b : Contents) (number v w : ℕ) (f : ValuedPrices) → f 
 raised_already b number v w f shown e low =
     let h : f.value ≡ value_of b.root b.past number = ap (λ (x : ValuedPrices). x.value) shown in
     raised_itself b number v (omega (arith, h, e, low))
-
-pub same_pricing : (p q : Problem) (g h : Region) (k l : ℕ) (ps qs : List ℤ) (ss ts : List PricedSet) (f : ValuedPrices) → p ≡ q → g ≡ h → k ≡ l → ps ≡ qs → ss ≡ ts → IsPricedBy p g k ps ss f → IsPricedBy q h l qs ts f
-same_pricing p q g h k l ps qs ss ts f e1 e2 e3 e4 e5 x = record {
-  problem = x.problem ∙ e1;
-  region = x.region ∙ e2;
-  neighbours = x.neighbours ∙ e3;
-  prices = x.prices ∙ e4;
-  sets = x.sets ∙ e5;
-  valued = x.valued;
-}
 
 -- the children of a leaf, at its own prices
 pub children_at : (b : Contents) (number : ℕ) (a : Arc) (f x y : ValuedPrices) (g h : Region) → f ≡ pricing_at b number → IsUndecided (region_at b number) a → g ≡ used_child f.region a
@@ -105,9 +96,9 @@ children_at b number a f x y g h shown undecided g_is h_is used unused =
       unused = record { region = unused.region ∙ (h_is ∙ ap (λ (r : Region). unused_child r a) region); neighbours = unused.neighbours ∙ neighbours };
     }
 
-pub raised_low : {E : Type 0} (version : Version) (old new : Contents) (number : ℕ) (prices : LeafPrices) (f : ValuedPrices) (r : Result (Unit {0}) E) → AreSetPrices (length (listed_sets version)) prices → prices.rows ≡ []
-    → IsPricedBy old.problem (region_at old number) old.neighbours prices.customers (priced_sets (listed_sets version) prices.sets) f → OnOk r (IsRaisedTo old new number f.value)
-    → OnOk r ((v : ℕ) → IsValueAt version old.problem (region_at old number) old.neighbours prices v → IsRaisedTo old new number v)
-raised_low version old new number prices f (Err e) are bare priced raised = tt
-raised_low version old new number prices f (Ok done) are bare priced raised =
-    λ v is. lower old new number f.value v (priced_low version old.problem (region_at old number) old.neighbours prices f v are bare priced is) raised
+pub raised_low : {E : Type 0} (version : Version) (old new : Contents) (number : ℕ) (prices : LeafPrices) (f : ValuedPrices) (r : Result (Unit {0}) E) → AreSetPrices (length (listed_sets version)) prices
+    → AreRowPrices (length (listed_rows version)) prices.rows → IsPricedBy old.problem (region_at old number) old.neighbours (leaf_at (listed_sets version) (listed_rows version) prices) f
+    → OnOk r (IsRaisedTo old new number f.value) → OnOk r ((v : ℕ) → IsValueAt version old.problem (region_at old number) old.neighbours prices v → IsRaisedTo old new number v)
+raised_low version old new number prices f (Err e) are rows_are priced raised = tt
+raised_low version old new number prices f (Ok done) are rows_are priced raised =
+    λ v is. lower old new number f.value v (priced_low version old.problem (region_at old number) old.neighbours prices f v are rows_are priced is) raised

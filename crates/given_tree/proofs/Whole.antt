@@ -3,13 +3,22 @@ use Rattle.std.proofs.Common.{◌≡◌, refl, ℕ, List, [], map, ap, sym, ◌�
 use Rattle.solomon_reader.specs.Problem.{Problem, customer_count}
 use Rattle.solomon_reader.specs.Region.{Region, root_region}
 use Rattle.solomon_reader.specs.History.{split_count, IsLeaf}
+use Rattle.solomon_reader.specs.CertificateText.{Content, HasText}
 use Rattle.solomon_reader.specs.Bound.{Version, Tree, HasBound, IsTreeBound}
 use Rattle.incumbent_book.specs.Contents.{Contents}
 use Rattle.incumbent_book.specs.Faults.{region_at}
+use Rattle.given_tree.specs.Nodes.{AreRowsKnown}
 use Rattle.given_tree.specs.Growing.{Keeps, IsTreeGrown, IsLeafBelow, AreAdded, AreLeavesOf, leaf_regions}
 use Rattle.incumbent_book.specs.Reaching.{IsReached}
 use Rattle.given_tree.proofs.Grown.{moved, whole_region, all_reached, never_above}
 use Rattle.given_tree.proofs.Listed.{all_weaker}
+
+-- a text has rows of its customers, in increasing order
+pub rows_known : (x : Content) → HasText x → (n : ℕ) → x.size ≡ n → AreRowsKnown x.version n
+rows_known x text n size =
+    let version = ap (λ (y : Content). y.version) text.is in
+    let same : text.certificate.size ≡ n = sym (ap (λ (y : Content). y.size) text.is) ∙ size in
+    rw version (record { listed = rw same at text.shaped.rows_listed; in_order = text.shaped.in_order })
 
 module _ (old : Contents) (whole : split_count old.past ≡ 0) where
   pub at_root : region_at old 0 ≡ root_region (customer_count old.problem)

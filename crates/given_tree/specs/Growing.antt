@@ -16,6 +16,7 @@ pub record Keeps (old new : Contents) : Type 0 where
   pub root : new.root ≡ old.root
   pub limits : new.limits ≡ old.limits
   pub most_sets : new.most_sets ≡ old.most_sets
+  pub most_rows : new.most_rows ≡ old.most_rows
   pub incumbent : new.incumbent ≡ old.incumbent
   pub costs : costs_of new.past ≡ costs_of old.past
 

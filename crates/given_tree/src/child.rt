@@ -30,8 +30,8 @@ fn price_same<'i>(
     }
 }
 
-/// High prices at a leaf, and none of sets.
-#[tactic(auto, using(prices::proofs::Values::within_none))]
+/// High prices at a leaf, and none of sets or rows.
+#[tactic(auto, using(crate::proofs::Valuing::within_none))]
 fn price_high<'i>(
     tree: &GivenTree<'_>,
     handed_on: &mut HandedOn<'_>,

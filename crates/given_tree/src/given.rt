@@ -10,7 +10,7 @@ pub(crate) struct GivenTree<'a> {
     pub(crate) alloc: Global,
     /// The tables of the instance.
     pub(crate) nearness: &'a Nearness<'a>,
-    /// The rule by which the tree's leaves are valued, with the sets that it lists.
+    /// The rule by which the tree's leaves are valued, with the sets and the rows that it lists.
     pub(crate) version: &'a Version,
     /// How many labels a pricing has at most, if there is a limit.
     pub(crate) labels: Option<usize>,

@@ -1,12 +1,14 @@
 //! The tree of a text grows at a leaf of a book.
 
 ghost use Rattle.std.specs.Prelude.{◌≡◌, ◌≢◌, None, IfErr, OnOk};
+ghost use Rattle.solomon_reader.specs.Problem.{customer_count};
 ghost use Rattle.solomon_reader.specs.CertificateText.{IsTreeAt};
 ghost use Rattle.solomon_reader.specs.History.{IsLeaf};
 ghost use Rattle.certificate.specs.Grown.{tree_of};
 ghost use Rattle.certificate.specs.Text.{version_of};
 ghost use Rattle.incumbent_book.specs.Faults.{region_at};
 ghost use Rattle.given_tree.specs.declared.fault.ReplayFault.TheVariants.{LabelLimit};
+ghost use Rattle.given_tree.specs.Nodes.{AreRowsKnown};
 ghost use Rattle.given_tree.specs.Growing.{Keeps, IsGrownAt, IsTreeGrown, AreAdded};
 
 use crate::fault::ReplayFault;
@@ -28,6 +30,7 @@ pub(crate) fn grow_at<'i>(
     leaves: &mut Vec<u32>,
 ) -> Result<(), ReplayFault>
     requires leaf { IsLeaf book.old.past number }
+    requires rows { AreRowsKnown (version_of given.now.version.now) (customer_count book.old.problem) }
     requires shaped { IsTreeAt (version_of given.now.version.now) (region_at book.old number) (tree_of tree.now) }
     ensures keeps { Keeps book.old book.new }
     ensures grown { OnOk result (IsGrownAt book.old book.new number) }

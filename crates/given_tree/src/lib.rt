@@ -8,6 +8,7 @@ mod given;
 mod growing;
 mod handed_on;
 mod leaf;
+mod leaf_rows;
 mod leaf_sets;
 mod pricing;
 mod replaying;

@@ -2,6 +2,7 @@
 
 ghost use Rattle.std.specs.Prelude.{◌≡◌, ◌≢◌, None, IfOk, IfErr};
 ghost use Rattle.given_tree.specs.declared.fault.ReplayFault.TheVariants.{LabelLimit};
+ghost use Rattle.labelling.specs.Pricings.{leaf_of};
 ghost use Rattle.prices.specs.ValuedPrices.{IsPricedBy};
 
 use crate::fault::ReplayFault;
@@ -17,7 +18,7 @@ pub(crate) fn price<'i>(
     task: PricingTask<'i>,
 ) -> Result<Priced<'i>, ReplayFault>
     ensures priced { let t = task.entry in
-        IfOk result (IsPricedBy t.instance.now t.region t.neighbours t.prices.items t.sets.sets) }
+        IfOk result (IsPricedBy t.instance.now t.region t.neighbours (leaf_of t)) }
     ensures unlimited { IfErr result (λ e. e ≡ LabelLimit → tree.now.labels ≢ None) }
 {
     let hints = Hints::near(tree.alloc, tree.nearness);

@@ -41,6 +41,7 @@ pub fn replay<'i>(
     ensures root { book.new.root ≡ book.old.root }
     ensures limits { book.new.limits ≡ book.old.limits }
     ensures sets { book.new.most_sets ≡ book.old.most_sets }
+    ensures rows { book.new.most_rows ≡ book.old.most_rows }
     ensures incumbent { book.new.incumbent ≡ book.old.incumbent }
     ensures costs { costs_of book.new.past ≡ costs_of book.old.past }
     ensures reached { OnOk result ((tree : Tree) (b : ℕ) → preorder tree ≡ cert.now.nodes

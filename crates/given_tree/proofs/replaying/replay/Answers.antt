@@ -1,12 +1,17 @@
 use Rattle.std.proofs.Common.{ap}
+use Rattle.solomon_reader.specs.Problem.{customer_count}
 use Rattle.solomon_reader.specs.CertificateText.{Content}
 use Rattle.certificate.specs.Grown.{tree_of}
 use Rattle.given_tree.proofs.Grown.{root_leaf}
-use Rattle.given_tree.proofs.Whole.{at_root, whole_reached, whole_leaves}
+use Rattle.given_tree.proofs.Whole.{at_root, rows_known, whole_reached, whole_leaves}
 use Rattle.given_tree.proofs.replaying.replay.Goals as goal
 
 pub unreachable-requires : goal.unreachable-requires
 unreachable-requires c = c.in_default.ensures.shows (root_leaf c.args.book.now.past c.requires.whole)
+
+pub grow_at-requires-clause-rows : goal.grow_at-requires-clause-rows
+grow_at-requires-clause-rows c =
+    rw (ap (λ (x : Content). x.version) c.parts.ensures.value) (rows_known c.args.cert.now c.parts.ensures.has_text (customer_count c.args.book.now.problem) c.requires.size)
 
 pub grow_at-requires-clause-shaped : goal.grow_at-requires-clause-shaped
 grow_at-requires-clause-shaped c =
