@@ -13,6 +13,7 @@ pub record IsOneOn (old new : Contents) : Type 0 where
   pub problem : new.problem ≡ old.problem
   pub neighbours : new.neighbours ≡ old.neighbours
   pub sets : new.most_sets ≡ old.most_sets
+  pub rows : new.most_rows ≡ old.most_rows
   pub limits : new.limits ≡ old.limits
   pub events : length new.past ≤ length old.past + 1
   pub splits : split_count new.past ≡ split_count old.past

@@ -5,7 +5,7 @@ ghost use Rattle.solomon_reader.specs.Problem.{customer_count};
 ghost use Rattle.solomon_reader.specs.History.{costs_of, split_count};
 ghost use Rattle.incumbent_book.specs.Reaching.{IsReached};
 ghost use Rattle.solomon_reader.specs.Region.{root_region, Among};
-ghost use Rattle.solomon_reader.specs.declared.limits.TheConstants.{MOST_EVENTS, MOST_NEIGHBOURS, MOST_SETS};
+ghost use Rattle.solomon_reader.specs.declared.limits.TheConstants.{MOST_EVENTS, MOST_NEIGHBOURS, MOST_ROWS, MOST_SETS};
 ghost use Rattle.insertion.specs.Building.{IsServedAlone};
 ghost use Rattle.desk.specs.Opening.{WasOffered};
 ghost use Rattle.search_workers.specs.Given.{IsTreeFor, bound_of};
@@ -102,20 +102,28 @@ fn first_plans<'i, R: Threads + Sync, G: Gate>(
     Ok(Some(FirstPlans { built, lower }))
 }
 
-/// A book of the root, in which at most so many sets are listed.
-fn open_book<'i>(alloc: Global, root: Priced<'i>, sets: u32) -> Result<Book<'i>, RunFault>
+/// A book of the root, in which at most so many sets and so many rows are listed.
+fn open_book<'i>(
+    alloc: Global,
+    root: Priced<'i>,
+    sets: u32,
+    rows: u32,
+) -> Result<Book<'i>, RunFault>
     requires root { root.region ≡ root_region (customer_count root.problem) }
     requires room { length root.sets ≤ sets }
     requires few { sets ≤ MOST_SETS }
+    requires row_room { length root.rows ≤ rows }
+    requires few_rows { rows ≤ MOST_ROWS }
     ensures problem { IfOk result (λ b. b.problem ≡ root.entry.problem) }
     ensures neighbours { IfOk result (λ b. b.neighbours ≡ root.entry.neighbours) }
     ensures sets { IfOk result (λ b. b.most_sets ≡ sets) }
+    ensures rows { IfOk result (λ b. b.most_rows ≡ rows) }
     ensures limits { IfOk result (λ b. b.limits.events ≡ MOST_EVENTS) }
     ensures events { IfOk result (λ b. length b.past ≡ 0) }
     ensures splits { IfOk result (λ b. split_count b.past ≡ 0) }
     ensures memory { IfErr result (λ e. e ≡ Memory) }
 {
-    match Book::with_sets(alloc, root, Limits::MOST, sets) {
+    match Book::with_rows(alloc, root, Limits::MOST, sets, rows) {
         Ok(book) => Ok(book),
         Err((_, OpenFault::Memory)) => Err(RunFault::Memory),
         Err(_) => unreachable!(),
@@ -145,6 +153,7 @@ fn offer_both<'i>(book: &mut Book<'i>, plans: FirstPlans<'i>) -> Result<HeldPlan
     ensures problem { book.new.problem ≡ book.old.problem }
     ensures neighbours { book.new.neighbours ≡ book.old.neighbours }
     ensures sets { book.new.most_sets ≡ book.old.most_sets }
+    ensures rows { book.new.most_rows ≡ book.old.most_rows }
     ensures splits { split_count book.new.past ≡ split_count book.old.past }
     ensures offered { IfOk result (λ h. WasOffered (Some h.plan.cost) book.new.past) }
     ensures no_dearer { IfOk result (λ h. h.plan.cost ≤ plans.entry.built.cost) }
@@ -175,6 +184,7 @@ fn first_root<'i>(
     ensures region { IfOk result (λ f. f.region ≡ root_region (customer_count instance.now)) }
     ensures neighbours { IfOk result (λ f. f.neighbours ≡ settings.now.neighbours) }
     ensures sets { IfOk result (λ f. length f.sets ≤ settings.now.sets) }
+    ensures rows { IfOk result (λ f. length f.rows ≤ settings.now.rows) }
     ensures refused { IfErr result (λ e. (e ≡ Memory) ⊎ (e ≡ LabelLimit)) }
 {
     let neighbours = settings.neighbours;
@@ -213,11 +223,13 @@ impl<'i> Opening<'i> {
     ) -> Result<Opening<'i>, RunFault>
         requires few { settings.now.neighbours ≤ MOST_NEIGHBOURS }
         requires few_sets { settings.now.sets ≤ MOST_SETS }
+        requires few_rows { settings.now.rows ≤ MOST_ROWS }
         requires start { IfSome begun.start (λ f. f.problem ≡ instance.now) }
         requires tree { IfSome begun.tree (IsTreeFor instance.now settings.now.neighbours) }
         ensures problem { IfOk result (λ o. o.book.problem ≡ instance.now) }
         ensures neighbours { IfOk result (λ o. o.book.neighbours ≡ settings.now.neighbours) }
         ensures sets { IfOk result (λ o. o.book.most_sets ≡ settings.now.sets) }
+        ensures rows { IfOk result (λ o. o.book.most_rows ≡ settings.now.rows) }
         ensures offered { IfOk result (λ o. WasOffered (option_map (λ h. h.plan.cost) o.begin.plan)
             o.book.past) }
         ensures reached { IfOk result (λ o. IsReached o.begin.tree.reached o.book) }
@@ -236,7 +248,7 @@ impl<'i> Opening<'i> {
         };
         let has_tree = tree.is_some();
         let root = first_root(alloc, instance, settings, nearness, built, has_tree)?;
-        let mut book = open_book(alloc, root, settings.sets)?;
+        let mut book = open_book(alloc, root, settings.sets, settings.rows)?;
         let plan = match plans {
             Some(plans) => Some(offer_both(&mut book, plans)?),
             None => None,

@@ -89,6 +89,7 @@ fn grow<'i>(
     ensures problem { book.new.problem ≡ book.old.problem }
     ensures neighbours { book.new.neighbours ≡ book.old.neighbours }
     ensures sets { book.new.most_sets ≡ book.old.most_sets }
+    ensures rows { book.new.most_rows ≡ book.old.most_rows }
     ensures costs { costs_of book.new.past ≡ costs_of book.old.past }
     ensures reached { OnOk result (IsReached certificate.now.bound book.new) }
     ensures refused { IfErr result (λ e. (e ≡ Memory) ⊎ (e ≡ LabelLimit)) }
@@ -127,6 +128,7 @@ pub(crate) fn regrow<'i>(
     ensures problem { book.new.problem ≡ book.old.problem }
     ensures neighbours { book.new.neighbours ≡ book.old.neighbours }
     ensures sets { book.new.most_sets ≡ book.old.most_sets }
+    ensures rows { book.new.most_rows ≡ book.old.most_rows }
     ensures costs { costs_of book.new.past ≡ costs_of book.old.past }
     ensures reached { IfOk result (λ r. IsReached r.reached book.new) }
     ensures least { IfOk result (λ r. r.reached ≡ bound_of tree.entry) }

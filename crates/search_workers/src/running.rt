@@ -255,6 +255,7 @@ fn run_at_desk<'i, R: Threads + Wait + Sync, J: Naming + Send + Sync, G: Gate + 
     requires problem { opening.book.problem ≡ J.problem }
     requires neighbours { opening.book.neighbours ≡ J.neighbours }
     requires sets { opening.book.most_sets ≡ J.sets }
+    requires rows { opening.book.most_rows ≡ J.rows }
     requires offered { WasOffered J.opening_cost opening.book.past }
     requires reached { IsReached J.opening_bound opening.book }
     requires workers { J.workers ≡ input.now.settings.now.searchers +
@@ -264,6 +265,7 @@ fn run_at_desk<'i, R: Threads + Wait + Sync, J: Naming + Send + Sync, G: Gate + 
     ensures problem { IfOk result (λ o. o.problem ≡ J.problem) }
     ensures neighbours { IfOk result (λ o. o.neighbours ≡ J.neighbours) }
     ensures sets { IfOk result (λ o. o.most_sets ≡ J.sets) }
+    ensures rows { IfOk result (λ o. o.most_rows ≡ J.rows) }
     ensures offered { IfOk result (λ o. WasOffered J.opening_cost o.past) }
     ensures reached { IfOk result (IsReached J.opening_bound) }
     ensures refused { IfErr result (λ e. (e ≡ refusal.Memory) ⊎ (e ≡ refusal.NoThread)) }
@@ -294,6 +296,7 @@ fn run_within<'i, R: Threads + Wait + Sync, G: Gate + Sync>(
     ensures problem { IfOk result (λ o. o.problem ≡ input.now.instance.now) }
     ensures neighbours { IfOk result (λ o. o.neighbours ≡ input.now.settings.now.neighbours) }
     ensures sets { IfOk result (λ o. o.most_sets ≡ input.now.settings.now.sets) }
+    ensures rows { IfOk result (λ o. o.most_rows ≡ input.now.settings.now.rows) }
     ensures served { IfOk result
         (λ o. IsServedAlone input.now.instance.now → costs_of o.past ≢ []) }
     ensures no_dearer { IfOk result (λ o. IsNoDearer begun.entry.start o.incumbent) }
@@ -333,6 +336,7 @@ pub fn run<'i, R: Threads + Wait + Sync, G: Gate + Sync>(
     ensures problem { IfOk result (λ o. o.problem ≡ instance.now) }
     ensures neighbours { IfOk result (λ o. o.neighbours ≡ settings.now.neighbours) }
     ensures sets { IfOk result (λ o. o.most_sets ≡ settings.now.sets) }
+    ensures rows { IfOk result (λ o. o.most_rows ≡ settings.now.rows) }
     ensures served { IfOk result (λ o. IsServedAlone instance.now → costs_of o.past ≢ []) }
     ensures within { IfOk result (λ _. IsWithin settings.now) }
     ensures refused { IfErr result (RefusesSettings settings.now) }
@@ -366,6 +370,7 @@ pub fn run_from<'i, R: Threads + Wait + Sync, G: Gate + Sync>(
     ensures problem { IfOk result (λ o. o.problem ≡ instance.now) }
     ensures neighbours { IfOk result (λ o. o.neighbours ≡ settings.now.neighbours) }
     ensures sets { IfOk result (λ o. o.most_sets ≡ settings.now.sets) }
+    ensures rows { IfOk result (λ o. o.most_rows ≡ settings.now.rows) }
     ensures served { IfOk result (λ o. IsServedAlone instance.now → costs_of o.past ≢ []) }
     ensures no_dearer { IfOk result (λ o. IsNoDearer begun.entry.start o.incumbent) }
     ensures reached { IfOk result (IsReached (bound_of begun.entry.tree)) }

@@ -9,6 +9,7 @@ ghosts-run_at_desk g a = record {
   problem = a.input.now.instance.now;
   neighbours = a.input.now.settings.now.neighbours;
   sets = a.input.now.settings.now.sets;
+  rows = a.input.now.settings.now.rows;
   opening_cost = option_map (λ h. h.plan.cost) a.opening.begin.plan;
   opening_bound = a.opening.begin.tree.reached;
   workers = a.input.now.settings.now.searchers + a.input.now.settings.now.bounders;
