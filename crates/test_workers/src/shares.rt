@@ -57,6 +57,7 @@ fn run<'i, J: Naming + Send, R: Abort + Threads + Wait + Sync + AllocGlobal>(
     requires problem { book.problem ≡ J.problem }
     requires neighbours { book.neighbours ≡ J.neighbours }
     requires sets { book.most_sets ≡ J.sets }
+    requires rows { book.most_rows ≡ J.rows }
     requires offered { WasOffered J.opening_cost book.past }
     requires reached { IsReached J.opening_bound book }
     requires workers { J.workers ≡ 2 }
@@ -94,7 +95,7 @@ fn a_second_share_is_told_what_the_first_did(rt: HostRuntime) -> Result<(), Fail
     let tree = format!(in rt.alloc(); "{nodes:?}")?;
     assert_eq!(rt;
         tree.as_str(),
-        "[Split(Arc { from: 1, to: 2 }), Leaf(LeafPrices { customers: [0, 0], sets: [] }), Leaf(LeafPrices { customers: [100000, 100000], sets: [] })]"
+        "[Split(Arc { from: 1, to: 2 }), Leaf(LeafPrices { customers: [0, 0], sets: [], rows: [] }), Leaf(LeafPrices { customers: [100000, 100000], sets: [], rows: [] })]"
     );
     Ok(())
 }
