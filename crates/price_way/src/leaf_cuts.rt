@@ -16,7 +16,7 @@ impl<'p> LeafCuts<'p> {
     pub fn of(leaf: &'p Priced<'_>) -> LeafCuts<'p> {
         LeafCuts {
             sets: leaf.sets(),
-            rows: &[],
+            rows: leaf.rows(),
         }
     }
 

@@ -2,9 +2,10 @@
 use Rattle.std.proofs.Common.{◌≡◌, refl, ℕ, zero, suc, ◌+◌, ◌*◌, ◌-◌, ◌<◌, ◌≤◌, ◌^◌, ◌%◌, ◌/◌, Bool, true, false, not, ◌&&◌, ◌||◌, eqb, min, nat_lt, arith, inl, inr, bit_and, bit_or}
 use mir.Syntax.{w128}
 use Rattle.std.specs.Prelude.{◌==◌}
-use Rattle.std.specs.Int.{bit_at}
+use Rattle.std.specs.Int.{bit_at, trailing_zeros}
 use Rattle.std.specs.Int.Bits.{bit_xor}
-use Rattle.std.proofs.lemmas.Nat.Bits.{bit_at_and, bit_at_or, bit_at_xor, bit_at-zero, bit_at-lt, bit_at_set_same, bit_at_set_other, shr_and_one}
+use Rattle.std.proofs.lemmas.Nat.{shr-shr, div_below, pow_pos}
+use Rattle.std.proofs.lemmas.Nat.Bits.{bit_at-trailing_zeros, bit_at_and, bit_at_or, bit_at_xor, bit_at-zero, bit_at-lt, bit_at_set_same, bit_at_set_other, shr_and_one}
 use Rattle.std.proofs.lemmas.Bool.{cases_Bool, cases_eq, cases_lt, eq-eqb, ne_eqb, lt-ltb, le-ltb}
 use Rattle.solomon_reader.specs.Memories.{has_bit}
 use Rattle.row_charges.specs.declared.bits.RowBits.{RowBits}
@@ -53,28 +54,31 @@ pub differ_and : (a b : Bool) → differ a (a && b) ≡ (a && not b)
 differ_and true b = refl
 differ_and false b = refl
 
--- two numbers of whose bits none is set in either
-left_none : (a b i : ℕ) → bit_or a b ≡ 0 → has_bit a i ≡ false
-left_none a b i none =
-    let whole : bit_at (bit_or a b) i ≡ 0 = rw none (bit_at-zero i) in
-    low (bit_at a i) (omega (arith, bit_at_or a b i, whole))
-  where
-    low : (x : ℕ) → x ≤ 0 → eqb x 1 ≡ false
-    low zero h = refl
-    low (suc x) h = absurd (omega arith)
+-- ---- places between which no bit is set
 
-right_none : (a b i : ℕ) → bit_or a b ≡ 0 → has_bit b i ≡ false
-right_none a b i none =
-    let whole : bit_at (bit_or a b) i ≡ 0 = rw none (bit_at-zero i) in
-    low (bit_at b i) (omega (arith, bit_at_or a b i, whole))
-  where
-    low : (x : ℕ) → x ≤ 0 → eqb x 1 ≡ false
-    low zero h = refl
-    low (suc x) h = absurd (omega arith)
+-- below its last zeros a word has no bit
+below_zeros : (n i : ℕ) → n < 2 ^ 128 → i < trailing_zeros w128 n → has_bit n i ≡ false
+below_zeros n i small low = elim (cases_eq n 0) [
+  | inl none ↦ rw none (has_nothing i)
+  | inr some ↦ rw ((bit_at-trailing_zeros w128 n (omega (arith, some)) small).2 i low) refl
+]
 
-pub or_none : (x : RowBits) → bit_or x.low x.high ≡ 0 → (i : ℕ) → bit_of x i ≡ false
+-- nor has one before its last zeros behind a place
+between : (n from i : ℕ) → n < 2 ^ 128 → from ≤ i → i < from + trailing_zeros w128 (n / 2 ^ from) → has_bit n i ≡ false
+between n from i small low high = shifted (i - from) (omega (arith, low)) (below_zeros (n / 2 ^ from) (i - from) (div_below n (2 ^ from) (2 ^ 128) (pow_pos from) (omega (arith, small, pow_pos from))) (omega (arith, low, high)))
+  where
+    shifted : (k : ℕ) → from + k ≡ i → has_bit (n / 2 ^ from) k ≡ false → has_bit n i ≡ false
+    shifted k same none = rw same at (rw (shr-shr n from k) at none)
+
+pub none_low : (x : RowBits) (from i : ℕ) → x.low < 2 ^ 128 → from ≤ i → i < from + trailing_zeros w128 (x.low / 2 ^ from) → i < 128 → bit_of x i ≡ false
 unfolding bit_of
-or_none x none i = elim (cases_Bool (nat_lt i 128)) [ inl t ↦ rw t (left_none x.low x.high i none) | inr f ↦ rw f (right_none x.low x.high (i - 128) none) ]
+none_low x from i small low high within = rw (lt-ltb i 128 within) (between x.low from i small low high)
+
+pub none_high : (x : RowBits) (from i : ℕ) → x.high < 2 ^ 128 → 128 ≤ from → from ≤ i → i < from + trailing_zeros w128 (x.high / 2 ^ (from - 128))
+    → bit_of x i ≡ false
+unfolding bit_of
+none_high x from i small beyond low high =
+    rw (le-ltb i 128 (omega (arith, beyond, low))) (between x.high (from - 128) (i - 128) small (omega (arith, beyond, low)) (omega (arith, beyond, low, high)))
 
 -- ---- the bit at a place
 

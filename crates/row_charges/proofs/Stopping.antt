@@ -1,8 +1,8 @@
 -- What a stop does, by its bits, is what the definitions say of the rows.
-use Rattle.std.proofs.Common.{◌≡◌, ◌≢◌, refl, ℕ, zero, suc, ◌+◌, ◌≤◌, Bool, true, false, not, cond, ◌&&◌, ◌||◌, List, [], ◌∷◌, ◌++◌, length, arith, ap, sym, ◌∙◌, take, get_or, ◌<◌, nat_lt, ltb, length-append, inl, inr}
+use Rattle.std.proofs.Common.{◌≡◌, ◌≢◌, refl, ℕ, zero, suc, ◌+◌, ◌-◌, ◌≤◌, Bool, true, false, not, cond, ◌&&◌, ◌||◌, List, [], ◌∷◌, ◌++◌, length, arith, ap, sym, ◌∙◌, take, get_or, ◌<◌, nat_lt, ltb, length-append, inl, inr}
 use Rattle.std.specs.Prelude.{◌==◌}
 use Rattle.std.proofs.lemmas.Bool.{cases_lt, cases_eq, eq-eqb, ne_eqb, lt-ltb, ltb-true, le-ltb, false_from_ne_true}
-use Rattle.std.proofs.lemmas.List.{take_more, length-take, map-append, length-map, get_or_default, get_or_append_left, get_or_push}
+use Rattle.std.proofs.lemmas.List.{take_more, length-take, take_all, map-append, length-map, get_or_default, get_or_append_left, get_or_push}
 use Rattle.std.proofs.lemmas.List.Sums.{sum_by-cons}
 use Rattle.solomon_reader.specs.Problem.{Problem}
 use Rattle.solomon_reader.specs.SubsetRows.{SubsetRow, PricedRow, in_row, keeps_row, charged_at, bits_after, debt, row_price_sum}
@@ -78,11 +78,6 @@ price_low (s ∷ rows) f = omega (arith, one (f 0), price_low rows (λ i. f (suc
     one true = omega arith
     one false = omega arith
 
--- where no bit is set nothing is to be paid
-pub price_none : (rows : List PricedRow) (f : ℕ → Bool) → ((i : ℕ) → f i ≡ false) → price_at rows f ≡ 0
-price_none [] f none = refl
-price_none (s ∷ rows) f none = rw (none 0, price_none rows (λ i. f (suc i)) (λ i. none (suc i))) refl
-
 -- a place below 16 is that of what the list holds
 pub near_of : (p : Problem) (k v u place : ℕ) → k ≤ 15 → place ≡ place_of p k v u → nat_lt place 16 ≡ near p k v u
 near_of p k v u place few same = elim (cases_lt place 16) [
@@ -145,6 +140,27 @@ price_set rows f i within set = rw (price_more rows f i within, set) refl
 
 pub price_unset : (rows : List Written) (f : ℕ → Bool) (i : ℕ) → i < length rows → f i ≡ false → price_at (rows_of (take (i + 1) rows)) f ≡ price_at (rows_of (take i rows)) f
 price_unset rows f i within unset = rw (price_more rows f i within, unset) (omega arith)
+
+-- what the first rows cost, and up to a later place, where no bit is set between
+pub price_between : (rows : List Written) (f : ℕ → Bool) (i k : ℕ) → ((m : ℕ) → i ≤ m → m < i + k → f m ≡ false)
+    → price_at (rows_of (take (i + k) rows)) f ≡ price_at (rows_of (take i rows)) f
+price_between rows f i zero none = (let same : i + 0 ≡ i = omega arith in rw same refl)
+price_between rows f i (suc k) none =
+    let before = price_between rows f i k (λ m low high. none m low (omega (arith, high))) in
+    let same : i + suc k ≡ i + k + 1 = omega arith in
+    rw same (one_more rows f (i + k) (none (i + k) (omega arith) (omega arith)) ∙ before)
+  where
+    one_more : (rows : List Written) (f : ℕ → Bool) (i : ℕ) → f i ≡ false → price_at (rows_of (take (i + 1) rows)) f ≡ price_at (rows_of (take i rows)) f
+    one_more rows f i unset = elim (cases_lt i (length rows)) [
+      | inl within ↦ price_unset rows f i within unset
+      | inr behind ↦ rw (take_all (i + 1) rows (omega (arith, behind)), take_all i rows behind) refl
+    ]
+
+pub price_up_to : (rows : List Written) (f : ℕ → Bool) (i k : ℕ) → i ≤ k → ((m : ℕ) → i ≤ m → m < k → f m ≡ false)
+    → price_at (rows_of (take k rows)) f ≡ price_at (rows_of (take i rows)) f
+price_up_to rows f i k later none =
+    let same : i + (k - i) ≡ k = omega (arith, later) in
+    rw same at (price_between rows f i (k - i) (λ m low high. none m low (omega (arith, high, later))))
 
 -- a stop by the first rows, and by one more
 pub stop_more : (p : Problem) (k j : ℕ) (rows : List Written) (i : ℕ) (stop : RowStop) (here kept : RowBits) (b d : Bool) → i < length rows

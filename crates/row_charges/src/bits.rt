@@ -1,6 +1,6 @@
 //! Bits of rows, each at the row's place among those that have a price at a leaf.
 
-ghost use Rattle.std.specs.Prelude.{◌≡◌, ℕ, ◌<◌, ◌==◌, ◌&&◌, ◌||◌, false, not, IsTrue};
+ghost use Rattle.std.specs.Prelude.{◌≡◌, ℕ, ◌<◌, ◌≤◌, ◌==◌, ◌&&◌, ◌||◌, false, not};
 ghost use Rattle.row_charges.specs.Bits.{bit_of, differ};
 
 /// The bits of up to 256 rows.
@@ -23,13 +23,6 @@ impl RowBits {
         RowBits { low: 0, high: 0 }
     }
 
-    /// Whether no bit is set.
-    pub fn is_none(self) -> bool
-        ensures { IsTrue result → (i : ℕ) → bit_of self i ≡ false }
-    {
-        self.low | self.high == 0
-    }
-
     /// Whether the bit at a place is set.
     pub fn has(self, place: usize) -> bool
         requires { place < 256 }
@@ -40,6 +33,22 @@ impl RowBits {
         } else {
             (self.high >> (place - WORD)) & 1 == 1
         }
+    }
+
+    /// The least place from this one on whose bit may be set: that of none between them is.
+    pub(crate) fn next_from(self, from: usize) -> usize
+        ensures not_back { from ≤ result }
+        ensures none_between { (i : ℕ) → from ≤ i → i < result → bit_of self i ≡ false }
+    {
+        if from < WORD {
+            let rest = self.low >> from;
+            return (from + rest.trailing_zeros() as usize).min(WORD);
+        }
+        if from < 2 * WORD {
+            let rest = self.high >> (from - WORD);
+            return from + rest.trailing_zeros() as usize;
+        }
+        from
     }
 
     /// The bits with one more.

@@ -2,6 +2,7 @@
 
 ghost use Rattle.std.specs.Prelude.{◌≡◌};
 ghost use Rattle.solomon_reader.specs.SubsetRows.{in_row};
+ghost use Rattle.solomon_reader.specs.CertificateText.{is_before};
 ghost use Rattle.row_charges.specs.Rows.{row_of};
 
 /// Three customers, and what a route pays at each charge.
@@ -23,5 +24,15 @@ impl PricedRow {
         ensures { result ≡ in_row (row_of self.now).row customer }
     {
         customer == self.first || customer == self.second || customer == self.third
+    }
+
+    /// Whether the row stands before another one: by its first customer, then the second, then the third.
+    pub fn is_before(&self, other: &PricedRow) -> bool
+        ensures { result ≡ is_before (row_of self.now).row (row_of other.now).row }
+    {
+        self.first < other.first
+            || self.first == other.first
+                && (self.second < other.second
+                    || self.second == other.second && self.third < other.third)
     }
 }

@@ -34,14 +34,13 @@ fn price_of(rows: &[PricedRow], bits: RowBits) -> u64
     ensures is { result ≡ price_at (rows_of rows.now) (bit_of bits) }
     ensures low { result ≤ MOST_PRICE }
 {
-    if bits.is_none() {
-        return 0;
-    }
     let mut price: u64 = 0;
-    for place in 0..rows.len() {
+    let mut place = bits.next_from(0);
+    while place < rows.len() {
         if bits.has(place) {
             price += rows[place].price;
         }
+        place = bits.next_from(place + 1);
     }
     price
 }
