@@ -2,3 +2,4 @@ pub mod Gathered
 pub mod Obeying
 pub mod DecidedPrices
 pub mod Within
+pub mod RowPrices

@@ -13,10 +13,11 @@ pub record IsRoot (p : Problem) (k : ℕ) (f : ValuedPrices) : Type 0 where
   pub neighbours : f.neighbours ≡ k
   pub valued : IsValued f
 
--- the value is above the cost of every plan, by prices of at most so many sets
+-- the value is above the cost of every plan, by prices of at most so many sets and of no row
 pub record IsRefutedRoot (p : Problem) (k sets : ℕ) (f : ValuedPrices) : Type 0 where
   pub root : IsRoot p k f
   pub few : length f.sets ≤ sets
+  pub rows : f.rows ≡ []
   pub above : ceiling_of p + 1 ≤ f.value
 
 -- all prices are zero
@@ -24,6 +25,7 @@ pub record IsRootAtZero (p : Problem) (k : ℕ) (f : ValuedPrices) : Type 0 wher
   pub root : IsRoot p k f
   pub prices : AllByRecursion (λ z. z ≡ pos 0) f.prices
   pub sets : f.sets ≡ []
+  pub rows : f.rows ≡ []
 
 -- the value is above the cost of every plan, or at least that of prices of zero
 abbrev pub IsNoLower : Problem → ℕ → ℕ → Type 0

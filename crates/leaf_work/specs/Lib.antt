@@ -3,3 +3,4 @@ pub mod Gathering
 pub mod DecidedPrices
 pub mod Splitting
 pub mod FirstLeaf
+pub mod RowPrices

@@ -15,6 +15,7 @@ pub record IsDecidedLeaf (f decided : ValuedPrices) (plan : Option Solution) : T
   pub closed : IsDecided f.region
   pub priced : IsPricedAt f.region f decided
   pub sets : decided.sets ≡ []
+  pub rows : decided.rows ≡ []
   pub valued : IsValued decided
   pub own : IfSome plan (λ s. s.problem ≡ f.problem)
   pub value : MatchOption plan (ceiling_of f.problem + 1 ≤ decided.value) (λ s. decided.value ≡ s.cost)

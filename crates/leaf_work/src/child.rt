@@ -6,7 +6,7 @@ ghost use Rattle.labelling.specs.declared.fault.LabelFault.TheVariants.{LabelLim
 ghost use Rattle.prices.specs.Narrowing.{IsNarrower, IsPricedAt};
 ghost use Rattle.leaf_work.specs.Children.{AreChildren};
 
-use crate::pricing::{price, task_without_sets};
+use crate::pricing::{price, task_without_cuts};
 use crate::trying::{TriedArc, best_arc};
 use branching::{Arc, Region};
 use labelling::LabelFault;
@@ -60,7 +60,7 @@ fn price_high<'i>(
     ensures unlimited { IfErr result (λ e. e ≡ LabelLimit → labels ≢ None) }
 {
     let prices = high_prices(state.alloc, leaf.instance())?;
-    let task = task_without_sets(state.alloc, leaf, prices)?;
+    let task = task_without_cuts(state.alloc, leaf, prices)?;
     price(pool, state, task, labels)
 }
 

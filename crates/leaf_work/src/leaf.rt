@@ -7,7 +7,7 @@ ghost use Rattle.leaf_work.specs.Splitting.{IsSplitOrDecided};
 
 use crate::child::{Children, children_of};
 use crate::decided_prices::decided_prices;
-use crate::pricing::{price_alone, task_without_sets};
+use crate::pricing::{price_alone, task_without_cuts};
 use crate::raising::Raised;
 use labelling::LabelFault;
 use price_way::{PricingState, RoutePool};
@@ -35,7 +35,7 @@ fn decided_leaf<'i>(
     ensures unlimited { IfErr result (λ e. e ≢ LabelLimit) }
 {
     let (prices, plan) = decided_prices(state.alloc, leaf.instance(), leaf.region())?;
-    let task = task_without_sets(state.alloc, leaf, prices)?;
+    let task = task_without_cuts(state.alloc, leaf, prices)?;
     let decided = price_alone(state.alloc, state.nearness, task, None)?;
     Ok(SplitOrDecided::Decided(decided, plan))
 }

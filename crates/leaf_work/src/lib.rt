@@ -6,6 +6,7 @@
 
 mod chain;
 mod child;
+mod cut_round;
 mod dear;
 mod decided_prices;
 mod effort;
@@ -18,8 +19,8 @@ mod pricing;
 mod quick_round;
 mod raising;
 mod refuting;
+mod row_prices;
 mod serving;
-mod set_round;
 mod starting;
 mod tasks;
 mod trying;

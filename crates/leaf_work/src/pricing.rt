@@ -5,6 +5,7 @@ ghost use Rattle.std.specs.List.{AllByRecursion};
 ghost use Rattle.solomon_reader.specs.Problem.{customer_count};
 ghost use Rattle.solomon_reader.specs.CertificateText.{IsPrice};
 ghost use Rattle.labelling.specs.declared.fault.LabelFault.TheVariants.{LabelLimit};
+ghost use Rattle.row_charges.specs.Rows.{rows_of};
 ghost use Rattle.prices.specs.ValuedPrices.{IsValued};
 
 use fronts::Nearness;
@@ -14,9 +15,9 @@ use priced_sets::PricedSets;
 use prices::Priced;
 use std::alloc::{AllocError, Global};
 
-/// Other prices of customers at a leaf, in grains, that of customer i at i - 1, and none of sets.
+/// Other prices of customers at a leaf, in grains, that of customer i at i - 1, and none of sets and rows.
 #[tactic(auto, using(prices::proofs::Values::within_none))]
-pub(crate) fn task_without_sets<'i>(
+pub(crate) fn task_without_cuts<'i>(
     alloc: Global,
     leaf: &Priced<'i>,
     prices: Vec<i64>,
@@ -28,6 +29,7 @@ pub(crate) fn task_without_sets<'i>(
     ensures neighbours { IfOk result (λ t. t.neighbours ≡ leaf.now.neighbours) }
     ensures prices { IfOk result (λ t. t.prices.items ≡ prices.items) }
     ensures sets { IfOk result (λ t. t.sets.sets ≡ []) }
+    ensures rows { IfOk result (λ t. t.rows.items ≡ []) }
 {
     let none = PricedSets::none(alloc, leaf.instance());
     leaf.task().with(prices, none)
@@ -46,12 +48,13 @@ pub(crate) fn price<'i>(
     ensures neighbours { IfOk result (λ f. f.neighbours ≡ task.entry.neighbours) }
     ensures prices { IfOk result (λ f. f.prices ≡ task.entry.prices.items) }
     ensures sets { IfOk result (λ f. f.sets ≡ task.entry.sets.sets) }
+    ensures rows { IfOk result (λ f. f.rows ≡ rows_of task.entry.rows.items) }
     ensures unlimited { IfErr result (λ e. e ≡ LabelLimit → labels ≢ None) }
 {
     let instance = task.instance;
     let priced = LeafCuts {
         sets: task.sets.as_slice(),
-        rows: &[],
+        rows: task.rows.as_slice(),
     };
     let rows = pool.cuts.rows_of(task.prices.as_slice(), priced)?;
     let known = pool.cheapest(&task.region, rows.as_slice())?;
@@ -80,6 +83,7 @@ pub(crate) fn price_alone<'i>(
     ensures neighbours { IfOk result (λ f. f.neighbours ≡ task.entry.neighbours) }
     ensures prices { IfOk result (λ f. f.prices ≡ task.entry.prices.items) }
     ensures sets { IfOk result (λ f. f.sets ≡ task.entry.sets.sets) }
+    ensures rows { IfOk result (λ f. f.rows ≡ rows_of task.entry.rows.items) }
     ensures valued { IfOk result (λ f. IsValued f) }
     ensures unlimited { IfErr result (λ e. e ≡ LabelLimit → labels ≢ None) }
 {

@@ -89,7 +89,7 @@ fn search(
 fn rows_of(pool: &RoutePool, task: &PricingTask<'_>) -> Result<Vec<i64>, AllocError> {
     let priced = LeafCuts {
         sets: task.sets.as_slice(),
-        rows: &[],
+        rows: task.rows.as_slice(),
     };
     pool.cuts.rows_of(task.prices.as_slice(), priced)
 }

@@ -3,10 +3,10 @@
 ghost use Rattle.std.specs.Prelude.{◌≡◌, ◌≤◌, [], IfOk, IfSome};
 ghost use Rattle.prices.specs.Narrowing.{IsPricedAt};
 
+use crate::cut_round::CutRounds;
 use crate::dear::{is_flat, is_root_flat, polish, pricings_at, trial_beyond_nulls};
 use crate::pricing::price;
 use crate::quick_round::{is_quick_next, quick_round};
-use crate::set_round::SetRounds;
 use crate::tasks::{start_task, trial_task};
 use labelling::LabelFault;
 use pooled_routes::Trial;
@@ -20,7 +20,7 @@ use std::alloc::AllocError;
 pub struct Raised<'i> {
     pub priced: Priced<'i>,
     pub ascent: Option<Ascent>,
-    /// How many sets were added.
+    /// How many sets and rows were added.
     pub added: usize,
 }
 
@@ -38,7 +38,7 @@ impl Raised<'_> {
 /// How many pricings more there may be below the root while the value to stop at is near.
 const MORE_PRICINGS: u32 = 8;
 
-/// A pool's set that had no price at so many leaves in a row is dropped.
+/// A pool's cut that had no price at so many leaves in a row is dropped.
 const MOST_IDLE: u32 = 30;
 
 /// The prices of a trial with their value, at the leaf of other prices.
@@ -66,6 +66,7 @@ pub(crate) fn higher<'i>(first: Priced<'i>, second: Priced<'i>) -> Priced<'i>
     ensures not_below_first { first.entry.value ≤ result.value }
     ensures not_below_second { second.entry.value ≤ result.value }
     ensures no_sets { first.entry.sets ≡ [] → second.entry.sets ≡ [] → result.sets ≡ [] }
+    ensures no_rows { first.entry.rows ≡ [] → second.entry.rows ≡ [] → result.rows ≡ [] }
 {
     if second.value() > first.value() {
         second
@@ -152,7 +153,7 @@ fn climb<'i>(
     pool: &mut RoutePool,
     state: &mut PricingState<'_>,
     ascent: &mut Ascent,
-    rounds: &mut SetRounds,
+    rounds: &mut CutRounds,
     priced: Priced<'i>,
     goal: &Goal,
 ) -> Priced<'i>
@@ -218,10 +219,9 @@ pub fn raise<'i>(
     if !priced.region().is_root() {
         pool.begin(start.as_ref());
     }
-    if pool
-        .enter_cuts(state.nearness, &priced, MOST_IDLE)
-        .is_err()
-        || pool.enter(&priced).is_err() {
+    if pool.enter_cuts(state.nearness, &priced, MOST_IDLE).is_err()
+        || pool.enter(&priced).is_err()
+    {
         return Raised {
             priced,
             ascent: None,
@@ -238,7 +238,7 @@ pub fn raise<'i>(
             added: 0,
         };
     };
-    let mut rounds = SetRounds::new(&priced, goal);
+    let mut rounds = CutRounds::new(&priced, goal);
     let priced = climb(pool, state, &mut ascent, &mut rounds, priced, goal);
     let polished = polish(pool, state, &ascent, &priced, goal);
     let priced = higher_if(priced, polished);

@@ -67,7 +67,7 @@ fn set_of_all<'i>(alloc: Global, instance: &'i Instance) -> Result<PricedSets<'i
 }
 
 /// The root with these prices, where their value is above the cost of every plan. The tables of the instance are lent.
-#[tactic(auto, using(labelling::proofs::Paying::priced_within))]
+#[tactic(auto, using(labelling::proofs::Paying::priced_within, labelling::proofs::Paying::within_alone, labelling::proofs::Paying::no_rows_priced))]
 fn refuted_at<'i>(
     alloc: Global,
     nearness: &Nearness<'_>,
@@ -88,6 +88,7 @@ fn refuted_at<'i>(
         neighbours,
         prices,
         sets,
+        rows: Vec::new(alloc),
     };
     let root = price_alone(alloc, nearness, task, labels).ok()?;
     if root.tenths() > u128::from(instance.ceiling().get()) {
@@ -208,6 +209,7 @@ pub(crate) fn start_by_demands<'i>(
     ensures neighbours { result.neighbours ≡ root.entry.neighbours }
     ensures not_lower { root.entry.value ≤ result.value }
     ensures no_sets { root.entry.sets ≡ [] → result.sets ≡ [] }
+    ensures no_rows { root.entry.rows ≡ [] → result.rows ≡ [] }
 {
     let instance = root.instance();
     if !is_overloaded(instance) {

@@ -5,7 +5,7 @@ ghost use Rattle.std.specs.List.{AllByRecursion};
 ghost use Rattle.solomon_reader.specs.Problem.{customer_count};
 ghost use Rattle.solomon_reader.specs.CertificateText.{IsPrice};
 
-use crate::pricing::{price_alone, task_without_sets};
+use crate::pricing::{price_alone, task_without_cuts};
 use crate::raising::higher;
 use fronts::Nearness;
 use pooled_routes::arc_cost;
@@ -76,8 +76,9 @@ pub(crate) fn higher_at<'i>(
     ensures neighbours { result.neighbours ≡ leaf.entry.neighbours }
     ensures not_lower { leaf.entry.value ≤ result.value }
     ensures no_sets { leaf.entry.sets ≡ [] → result.sets ≡ [] }
+    ensures no_rows { leaf.entry.rows ≡ [] → result.rows ≡ [] }
 {
-    let Ok(task) = task_without_sets(alloc, &leaf, prices) else {
+    let Ok(task) = task_without_cuts(alloc, &leaf, prices) else {
         return leaf;
     };
     match price_alone(alloc, nearness, task, labels) {
@@ -100,6 +101,7 @@ pub(crate) fn start_from<'i>(
     ensures neighbours { result.neighbours ≡ root.entry.neighbours }
     ensures not_lower { root.entry.value ≤ result.value }
     ensures no_sets { root.entry.sets ≡ [] → result.sets ≡ [] }
+    ensures no_rows { root.entry.rows ≡ [] → result.rows ≡ [] }
 {
     match first_prices(alloc, root.instance(), routes) {
         Ok(prices) => higher_at(alloc, nearness, root, prices, labels),

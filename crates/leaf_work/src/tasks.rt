@@ -3,6 +3,7 @@
 ghost use Rattle.std.specs.Prelude.{◌≡◌, IfOk};
 ghost use Rattle.leaf_work.specs.Children.{IsTaskAt};
 
+use crate::row_prices::rows_within;
 use labelling::PricingTask;
 use pooled_routes::Trial;
 use price_way::{ChildStart, PricingState, RoutePool};
@@ -27,24 +28,28 @@ fn sets_at<'i>(
     PricedSets::of(alloc, instance, search.needed(), wanted)
 }
 
-/// The prices of a trial at a leaf, and those of these sets, as far as they may have them. Customers' prices are cut so
-/// that each is in its range together with those of the sets.
+/// The prices of a trial at a leaf, and those of the pool's cuts, which stand in their order, as far as these may have
+/// them. Customers' prices are cut so that each is in its range together with those of the cuts.
 fn task_at<'i>(
+    pool: &RoutePool,
     state: &mut PricingState<'_>,
     leaf: &Priced<'i>,
     trial: &Trial,
-    wanted: &[PricedSet],
+    prices: &[u64],
 ) -> Result<PricingTask<'i>, AllocError>
     ensures { IfOk result (IsTaskAt leaf.now) }
 {
     let instance = leaf.instance();
-    let sets = sets_at(state, instance, wanted)?;
+    let wanted = pool.cuts.priced_sets(prices)?;
+    let sets = sets_at(state, instance, wanted.as_slice())?;
+    let wanted = pool.cuts.priced_rows(prices)?;
     let most = MOST_PRICE - sets.sum();
+    let (rows, most) = rows_within(state.alloc, instance, wanted.as_slice(), most)?;
     let prices = trial.prices_within(state.alloc, instance, most)?;
-    leaf.task().with(prices, sets)
+    leaf.task().with_rows(prices, sets, rows)
 }
 
-/// The prices of a trial at a leaf, those of the pool's sets among them.
+/// The prices of a trial at a leaf, those of the pool's cuts among them.
 pub(crate) fn trial_task<'i>(
     pool: &RoutePool,
     state: &mut PricingState<'_>,
@@ -54,8 +59,7 @@ pub(crate) fn trial_task<'i>(
     ensures { IfOk result (IsTaskAt leaf.now) }
 {
     let prices = trial.cut_prices(state.alloc)?;
-    let wanted = pool.cuts.priced_sets(prices.as_slice())?;
-    task_at(state, leaf, trial, wanted.as_slice())
+    task_at(pool, state, leaf, trial, prices.as_slice())
 }
 
 /// The prices of the trial with which a child starts, at the child.
@@ -72,6 +76,5 @@ pub(crate) fn start_task<'i>(
     let prices = pool
         .cuts
         .by_number(start.cuts.as_slice(), prices.as_slice())?;
-    let wanted = pool.cuts.priced_sets(prices.as_slice())?;
-    task_at(state, child, trial, wanted.as_slice())
+    task_at(pool, state, child, trial, prices.as_slice())
 }

@@ -175,6 +175,19 @@ impl Ascent {
         self.scale(pool, rise_in_range(self.rise.saturating_mul(3) / 5));
     }
 
+    /// How many rows of three customers have a price at the centre.
+    pub fn priced_rows(&self) -> usize {
+        let customers = self.centre.prices.len().saturating_sub(self.cuts.len());
+        let prices = self.centre.prices.iter().skip(customers);
+        let mut count: usize = 0;
+        for (cut, price) in self.cuts.iter().zip(prices) {
+            if cut.side == Side::Below && *price < 0 {
+                count = count.saturating_add(1);
+            }
+        }
+        count
+    }
+
     /// Whether the pool has rows: their prices are held by long rises. Those of sets do as well by short ones.
     fn has_rows(&self) -> bool {
         self.cuts.iter().any(|cut| cut.side == Side::Below)
