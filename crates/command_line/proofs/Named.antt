@@ -1,8 +1,8 @@
 -- Rows that don't give a job, and rows that give one job alone.
-use Rattle.std.proofs.Common.{◌≡◌, ◌∙◌, ℕ, Bool, IsTrue, true, false, List, Option, Some, None, option_map, slice_index, ap, ap₂, arith, codes, refl, subst, sym}
+use Rattle.std.proofs.Common.{◌≡◌, ◌∙◌, ℕ, Bool, IsTrue, true, false, List, Option, Some, None, option_map, slice_index, ap, ap₂, arith, codes, inl, inr, refl, subst, sym}
 use Rattle.std.specs.Str.Parse.{digits_value, without_leading_plus}
 use Rattle.clap.specs.Words.{Row, Text}
-use Rattle.command_line.specs.Commands.{HasFlag, HasNumber, IsNumberIf}
+use Rattle.command_line.specs.Commands.{HasCuts, HasFlag, HasNumber, IsNumberIf}
 use Rattle.command_line.specs.Jobs.{HasClosing, HasSettings, HasTree, IsSameJob, Says, SaysAny}
 use Rattle.command_line.specs.declared.jobs.Job.{Job}
 use Rattle.command_line.specs.declared.jobs.Job.TheVariants.{Solve, Check}
@@ -27,6 +27,12 @@ pub no_number : (id : Text) (number : Settings → ℕ) (rows : List Row)
     → IsNumberIf id rows None → (other : Settings) → HasSettings rows other → ⊥
 no_number id number rows has none other settings = none (number other) (has other settings)
 
+-- the number of sets or rows is not given
+pub no_cuts : (id : Text) (many : ℕ) (number : Settings → ℕ) (rows : List Row)
+    → ((settings : Settings) → HasSettings rows settings → HasCuts id many rows (number settings))
+    → ((n : ℕ) → HasCuts id many rows n → ⊥) → (other : Settings) → HasSettings rows other → ⊥
+no_cuts id many number rows has none other settings = none (number other) (has other settings)
+
 -- no settings are given
 pub no_solve : (rows : List Row) → ((other : Settings) → HasSettings rows other → ⊥) → (other : Job) → Says (codes "solve") rows other → ⊥
 no_solve rows none (Solve instance solution certificate start tree part settings close leaves progress live plans) says = none settings says.1.settings_are
@@ -38,6 +44,12 @@ some_is_one o x y p q = cc
 same_number : (id : Text) (rows : List Row) (m n : ℕ) → HasNumber id rows m → HasNumber id rows n → m ≡ n
 same_number id rows m n p q =
     p.4 ∙ (ap (λ t. digits_value 10 (without_leading_plus t)) (some_is_one _ p.0 q.0 p.1 q.1) ∙ sym q.4)
+
+same_cuts : (id : Text) (many : ℕ) (rows : List Row) (m n : ℕ) → HasCuts id many rows m → HasCuts id many rows n → m ≡ n
+same_cuts id many rows m n (inl p) (inl q) = p.1 ∙ sym q.1
+same_cuts id many rows m n (inr p) (inr q) = same_number id rows m n p.1 q.1
+same_cuts id many rows m n (inl p) (inr q) = absurd (q.0 p.0)
+same_cuts id many rows m n (inr p) (inl q) = absurd (p.0 q.0)
 
 same_flag : (id : Text) (rows : List Row) (a b : Bool) → HasFlag id rows a → HasFlag id rows b → a ≡ b
 same_flag id rows true true p q = refl
@@ -62,8 +74,8 @@ no_tree rows close flag none (Solve instance solution certificate start tree par
 no_tree rows close flag none (Check instance certificate solution states) says = absurd (one_name (codes "solve") refl says.0)
 
 -- settings by their numbers
-abbrev with_numbers : ℕ → ℕ → ℕ → ℕ → ℕ → ℕ → ℕ → ℕ → Settings
-with_numbers searchers bounders turns seed neighbours labels gap sets = record {
+abbrev with_numbers : ℕ → ℕ → ℕ → ℕ → ℕ → ℕ → ℕ → ℕ → ℕ → Settings
+with_numbers searchers bounders turns seed neighbours labels gap sets rows = record {
   searchers = searchers;
   bounders = bounders;
   turns = turns;
@@ -72,18 +84,21 @@ with_numbers searchers bounders turns seed neighbours labels gap sets = record {
   labels = labels;
   gap = gap;
   sets = sets;
+  rows = rows;
 }
 
 same_settings : (rows : List Row) (a b : Settings) → HasSettings rows a → HasSettings rows b → a ≡ b
 same_settings rows a b p q =
-    ap₂ (λ s o. with_numbers s o a.turns a.seed a.neighbours a.labels a.gap a.sets)
+    ap₂ (λ s o. with_numbers s o a.turns a.seed a.neighbours a.labels a.gap a.sets a.rows)
     (same_number _ rows _ _ p.searchers_are q.searchers_are) (same_number _ rows _ _ p.bounders_are q.bounders_are)
-    ∙ (ap₂ (λ t s. with_numbers b.searchers b.bounders t s a.neighbours a.labels a.gap a.sets)
+    ∙ (ap₂ (λ t s. with_numbers b.searchers b.bounders t s a.neighbours a.labels a.gap a.sets a.rows)
     (same_number _ rows _ _ p.turns_are q.turns_are) (same_number _ rows _ _ p.seed_is q.seed_is)
-    ∙ (ap₂ (λ n l. with_numbers b.searchers b.bounders b.turns b.seed n l a.gap a.sets)
+    ∙ (ap₂ (λ n l. with_numbers b.searchers b.bounders b.turns b.seed n l a.gap a.sets a.rows)
     (same_number _ rows _ _ p.neighbours_are q.neighbours_are) (same_number _ rows _ _ p.labels_are q.labels_are)
-    ∙ ap₂ (with_numbers b.searchers b.bounders b.turns b.seed b.neighbours b.labels)
-    (same_number _ rows _ _ p.gap_is q.gap_is) (same_number _ rows _ _ p.sets_are q.sets_are)))
+    ∙ (ap (λ g. with_numbers b.searchers b.bounders b.turns b.seed b.neighbours b.labels g a.sets a.rows)
+    (same_number _ rows _ _ p.gap_is q.gap_is)
+    ∙ ap₂ (with_numbers b.searchers b.bounders b.turns b.seed b.neighbours b.labels b.gap)
+    (same_cuts _ _ rows _ _ p.sets_are q.sets_are) (same_cuts _ _ rows _ _ p.rows_are q.rows_are))))
 
 -- what a command and its rows say is one job
 pub same_job : (named : Option (Text × List Row)) (found other : Job) → SaysAny named found → SaysAny named other → IsSameJob found other

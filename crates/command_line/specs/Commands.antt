@@ -1,5 +1,5 @@
 -- The commands of the program, as clap's contracts see a command.
-use Rattle.std.specs.Prelude.{◌≡◌, ℕ, ◌<◌, ◌^◌, ◌↔◌, Bool, IsTrue, List, [], ◌∷◌, ◌++◌, Option, Some, None, codes, find, option_and_then, pos, true, false}
+use Rattle.std.specs.Prelude.{◌≡◌, ℕ, ◌<◌, ◌^◌, ◌↔◌, Bool, IsTrue, List, [], ◌∷◌, ◌++◌, Option, Some, None, codes, find, option_and_then, pos, true, false, ◌⊎◌}
 use Rattle.std.specs.Str.{bytes_eq}
 use Rattle.std.specs.Str.Parse.{IsNumeral, digits_value, without_leading_plus}
 use Rattle.clap.specs.Words.{App, Row, Rule, Shape, Text, app_of, first_of, new_app, new_rule, one_of, with_rule}
@@ -8,7 +8,7 @@ use Rattle.clap.specs.declared.parser.ValueSource.{ValueSource}
 use Rattle.clap.specs.declared.parser.ValueSource.TheVariants.{CommandLine}
 use Rattle.clap.specs.declared.builder.ValueParser.{ValueParser}
 use Rattle.clap.specs.declared.builder.ValueParser.TheVariants as parser
-use Rattle.solomon_reader.specs.declared.limits.TheConstants.{MOST_LEAVES, MOST_NEIGHBOURS, MOST_SETS}
+use Rattle.solomon_reader.specs.declared.limits.TheConstants.{MOST_LEAVES, MOST_NEIGHBOURS, MOST_ROWS, MOST_SETS}
 use Rattle.run_settings.specs.declared.settings.TheConstants.{MOST_BOUNDERS, MOST_GAP, MOST_LABELS, MOST_SEARCHERS, MOST_TURNS}
 use Rattle.command_line.specs.declared.jobs.TheConstants.{MOST_STATES}
 use Rattle.clap.specs.declared.Command.{Command}
@@ -47,8 +47,12 @@ search_rules = number_option_rule (codes "turns") (between 1 MOST_TURNS) (codes 
 -- how the bound is priced
 abbrev pub pricing_rules : List Rule
 pricing_rules = number_option_rule (codes "neighbours") (between 0 MOST_NEIGHBOURS) (codes "8")
-    ∷ number_option_rule (codes "labels") (between 1 MOST_LABELS) (codes "1000000")
-    ∷ number_option_rule (codes "sets") (between 0 MOST_SETS) (codes "0") ∷ []
+    ∷ number_option_rule (codes "labels") (between 1 MOST_LABELS) (codes "1000000") ∷ []
+
+-- how many sets and rows may have prices, and whether both are left to a flag
+abbrev pub cut_rules : List Rule
+cut_rules = number_option_rule (codes "sets") (between 0 MOST_SETS) (codes "0")
+    ∷ number_option_rule (codes "rows") (between 0 MOST_ROWS) (codes "0") ∷ flag_rule (codes "cuts") ∷ []
 
 -- whether the instance is to be closed, and with how many leaves at most
 abbrev pub closing_rules : List Rule
@@ -72,7 +76,7 @@ shape_with name rules = record (new_app name).top { rules = rules }
 abbrev pub solve_shape : Shape
 solve_shape = shape_with (codes "solve")
     (path_rule (codes "INSTANCE") ∷ path_rule (codes "SOLUTION") ∷ path_rule (codes "CERTIFICATE")
-    ∷ thread_rules ++ (search_rules ++ (pricing_rules ++ (closing_rules ++ (starting_rules ++ (tree_rules ++ telling_rules))))))
+    ∷ thread_rules ++ (search_rules ++ (pricing_rules ++ (cut_rules ++ (closing_rules ++ (starting_rules ++ (tree_rules ++ telling_rules)))))))
 
 abbrev pub check_shape : Shape
 check_shape = shape_with (codes "check")
@@ -107,6 +111,14 @@ source_of id rows = option_and_then (λ r. r.source) (find (λ r. bytes_eq r.id 
 -- the words give the argument: its value is not its default alone
 abbrev pub IsGiven : Text → List Row → Type 0
 IsGiven id rows = source_of id rows ≡ Some CommandLine
+
+-- the words have `--cuts`, and don't give the argument itself
+abbrev pub IsLeftToCuts : Text → List Row → Type 0
+IsLeftToCuts id rows = HasFlag (codes "cuts") rows true × (IsGiven id rows → ⊥)
+
+-- how many sets or rows may have prices: so many where the words leave it to `--cuts`, and else the argument's number
+abbrev pub HasCuts : Text → ℕ → List Row → ℕ → Type 0
+HasCuts id many rows n = (IsLeftToCuts id rows × (n ≡ many)) ⊎ ((IsLeftToCuts id rows → ⊥) × HasNumber id rows n)
 
 abbrev pub IsNumberIf : Text → List Row → Option ℕ → Type 0
 IsNumberIf id rows (Some n) = HasNumber id rows n

@@ -4,8 +4,8 @@ use Rattle.std.specs.Str.Parse.{IsNumeral, digits_value}
 use Rattle.clap.specs.Words.{Row, Text, first_of, fault_of, kind_of, subcommand_of}
 use Rattle.clap.specs.declared.Error.{Error}
 use Rattle.clap.specs.declared.error.ErrorKind.TheVariants.{OutOfMemory}
-use Rattle.command_line.specs.declared.jobs.TheConstants.{MOST_STATES}
-use Rattle.command_line.specs.Commands.{program, HasFlag, HasNumber, IsGiven}
+use Rattle.command_line.specs.declared.jobs.TheConstants.{CUT_ROWS, CUT_SETS, MOST_STATES}
+use Rattle.command_line.specs.Commands.{program, HasCuts, HasFlag, HasNumber, IsGiven}
 use Rattle.solomon_reader.specs.declared.limits.TheConstants.{MOST_LEAVES}
 use Rattle.run_settings.specs.Parts.{IsPart}
 use Rattle.run_settings.specs.Settings.{IsWithin}
@@ -28,7 +28,8 @@ pub record HasSettings (rows : List Row) (settings : Settings) : Type 0 where
   pub neighbours_are : HasNumber (codes "neighbours") rows settings.neighbours
   pub labels_are : HasNumber (codes "labels") rows settings.labels
   pub gap_is : HasNumber (codes "gap") rows settings.gap
-  pub sets_are : HasNumber (codes "sets") rows settings.sets
+  pub sets_are : HasCuts (codes "sets") CUT_SETS rows settings.sets
+  pub rows_are : HasCuts (codes "rows") CUT_ROWS rows settings.rows
   pub within : IsWithin settings
 
 -- the rows of the arguments of `solve` say whether to close the instance, and with how many leaves at most, which is within its range

@@ -1,8 +1,8 @@
 //! What a parse has for an argument.
 
-ghost use Rattle.std.specs.Prelude.{◌≡◌, ◌↔◌, IsTrue, option_map};
+ghost use Rattle.std.specs.Prelude.{◌≡◌, ◌↔◌, IsTrue, MatchOption, option_map};
 ghost use Rattle.clap.specs.Words.{rows_of, found_of, first_of};
-ghost use Rattle.command_line.specs.Commands.{HasFlag, IsGiven, IsNumberIf, source_of};
+ghost use Rattle.command_line.specs.Commands.{HasCuts, HasFlag, IsGiven, IsNumberIf, source_of};
 
 use clap::ArgMatches;
 use clap::parser::ValueSource;
@@ -43,4 +43,16 @@ pub(crate) fn is_given(found: &ArgMatches<'_>, id: &str) -> bool
     ensures { IsTrue result ↔ IsGiven id.now (rows_of (found_of found.now)) }
 {
     matches!(source_of(found, id), Some(ValueSource::CommandLine))
+}
+
+/// How many sets or rows may have prices: so many where the words have `--cuts` and don't give the argument itself, and
+/// else the argument's number.
+pub(crate) fn cuts_of(found: &ArgMatches<'_>, id: &str, many: u32) -> Option<u32>
+    ensures { let has = HasCuts id.now many (rows_of (found_of found.now)) in
+        MatchOption result ((n : _) → has n → ⊥) has }
+{
+    if flag_of(found, "cuts") && !is_given(found, id) {
+        return Some(many);
+    }
+    number_of(found, id)
 }

@@ -3,24 +3,24 @@ ghost use Rattle.std.specs.Prelude.{◌≡◌, [], false, map, codes};
 ghost use Rattle.std.specs.Prelude.{IfOk, IfErr, MatchOption};
 ghost use Rattle.clap.specs.Words.{app_of, rule_of, rows_of, found_of};
 ghost use Rattle.clap.specs.Words.{subcommand_rows_of};
-ghost use Rattle.command_line.specs.Commands.{AddsRules, HasShape, between, check_shape, closing_rules, flag_rule, number_option_rule, path_option_rule, path_rule, pricing_rules, program, search_rules, solve_shape, starting_rules, telling_rules, thread_rules, tree_rules};
+ghost use Rattle.command_line.specs.Commands.{AddsRules, HasShape, between, check_shape, closing_rules, cut_rules, flag_rule, number_option_rule, path_option_rule, path_rule, pricing_rules, program, search_rules, solve_shape, starting_rules, telling_rules, thread_rules, tree_rules};
 ghost use Rattle.command_line.specs.Jobs.{Gives, HasClosing, HasSettings, IsRefused, IsSameJob, Says, SaysAny};
 
-use crate::arguments::{flag_of, number_of, text_of};
-use crate::jobs::{Job, MOST_STATES, UsageFault};
+use crate::arguments::{cuts_of, flag_of, number_of, text_of};
+use crate::jobs::{CUT_ROWS, CUT_SETS, Job, MOST_STATES, UsageFault};
 use crate::trees::tree_of;
 use clap::builder::ValueParser;
 use clap::error::ErrorKind;
 use clap::{Arg, ArgAction, ArgMatches, Command, Error};
 use run_settings::{MOST_BOUNDERS, MOST_GAP, MOST_LABELS, MOST_SEARCHERS, MOST_TURNS, Settings};
-use solomon_reader::{MOST_LEAVES, MOST_NEIGHBOURS, MOST_SETS};
+use solomon_reader::{MOST_LEAVES, MOST_NEIGHBOURS, MOST_ROWS, MOST_SETS};
 use std::alloc::{AllocError, Global};
 
 const PROGRAM: &str = "vrptw";
 
 /// What `--version` prints behind the program's name.
 const VERSION: &str =
-    "1.22.0 (writes certificates of version 2 or with sets, reads 1, 2 and those with sets or rows)";
+    "1.22.0 (writes certificates of version 2 or with sets or rows, reads 1, 2 and those with sets or rows)";
 
 /// A path that has to be given.
 fn path<'a>(alloc: Global, id: &'a str, help: &'a str) -> Arg<'a>
@@ -128,13 +128,32 @@ fn with_pricing_options<'a>(alloc: Global, command: Command<'a>) -> Result<Comma
             (1, MOST_LABELS),
             "1000000",
             "How many labels may be active at once in a pricing, 1 to 100000000",
-        ))?
+        ))
+}
+
+/// Adds the options that say how many sets and rows may have prices, and the flag that stands for both.
+fn with_cut_options<'a>(alloc: Global, command: Command<'a>) -> Result<Command<'a>, AllocError>
+    ensures { IfOk result (AddsRules cut_rules command.entry) }
+{
+    command
         .arg(number_option(
             alloc,
             "sets",
             (0, MOST_SETS),
             "0",
             "How many sets of customers may have prices in the tree, 0 to 1000; from 1 on the certificate is one with sets",
+        ))?
+        .arg(number_option(
+            alloc,
+            "rows",
+            (0, MOST_ROWS),
+            "0",
+            "How many rows of three customers may have prices in the tree, 0 to 1000; from 1 on the certificate is one with rows",
+        ))?
+        .arg(flag(
+            alloc,
+            "cuts",
+            "Stands for --sets 200 --rows 300; a number that is given beside it counts in its place",
         ))
 }
 
@@ -146,7 +165,7 @@ fn with_closing_options<'a>(alloc: Global, command: Command<'a>) -> Result<Comma
         .arg(flag(
             alloc,
             "close",
-            "Closes an instance of at most 24 customers by one thread; of the other options only --neighbours, --sets, --leaves and --start count",
+            "Closes an instance of at most 24 customers by one thread; of the other options only --neighbours, --sets, --rows, --cuts, --leaves and --start count",
         ))?
         .arg(number_option(
             alloc,
@@ -234,6 +253,7 @@ fn solve_command<'a>(alloc: Global) -> Result<Command<'a>, AllocError>
     let command = with_thread_options(alloc, command)?;
     let command = with_search_options(alloc, command)?;
     let command = with_pricing_options(alloc, command)?;
+    let command = with_cut_options(alloc, command)?;
     let command = with_closing_options(alloc, command)?;
     let command = with_starting_options(alloc, command)?;
     let command = with_tree_options(alloc, command)?;
@@ -300,7 +320,8 @@ fn settings_of(found: &ArgMatches<'_>) -> Option<Settings>
     let neighbours = number_of(found, "neighbours")?;
     let labels = number_of(found, "labels")?;
     let gap = number_of(found, "gap")?;
-    let sets = number_of(found, "sets")?;
+    let sets = cuts_of(found, "sets", CUT_SETS)?;
+    let rows = cuts_of(found, "rows", CUT_ROWS)?;
     let settings = Settings {
         searchers,
         bounders,
@@ -310,6 +331,7 @@ fn settings_of(found: &ArgMatches<'_>) -> Option<Settings>
         labels,
         gap,
         sets,
+        rows,
     };
     // clap has refused other numbers; the proof knows it from here.
     if !settings.is_within() {

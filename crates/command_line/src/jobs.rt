@@ -7,6 +7,10 @@ use thiserror::Error;
 
 /// The most pairs of time and cost that the check of one leaf keeps.
 pub const MOST_STATES: u32 = 50_000_000;
+/// How many sets may have prices where the words have `--cuts` and don't say it themselves.
+pub const CUT_SETS: u32 = 200;
+/// How many rows may have prices where the words have `--cuts` and don't say it themselves.
+pub const CUT_ROWS: u32 = 300;
 
 /// What the program is asked to do.
 #[derive(Drop)]
@@ -28,7 +32,8 @@ pub enum Job<'a> {
         part: Part,
         /// How much work to put into it.
         settings: Settings,
-        /// Whether to close the instance, by one thread; of the settings the neighbours alone count then.
+        /// Whether to close the instance, by one thread; of the settings only the neighbours and the numbers of sets and
+        /// rows count then.
         close: bool,
         /// The most leaves of the closing's tree: 1 to 100,000, by default 100,000.
         leaves: u32,

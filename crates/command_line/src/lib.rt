@@ -7,4 +7,4 @@ mod jobs;
 mod trees;
 
 pub use commands::{job, wrong_words};
-pub use jobs::{Job, MOST_STATES, UsageFault};
+pub use jobs::{CUT_ROWS, CUT_SETS, Job, MOST_STATES, UsageFault};

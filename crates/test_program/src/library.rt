@@ -22,6 +22,7 @@ pub(crate) fn tell_library<R: Runtime + AllocGlobal + Threads + Wait + Sync>(
         "neighbours" => settings.neighbours = number,
         "labels" => settings.labels = number,
         "sets" => settings.sets = number,
+        "rows" => settings.rows = number,
         _ => {}
     }
     let (alloc, text) = (rt.alloc(), fs::read(rt, path)?);

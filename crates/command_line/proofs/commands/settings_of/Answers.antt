@@ -1,6 +1,7 @@
 use Rattle.std.proofs.Common.{codes}
 use Rattle.clap.specs.Words.{found_of, rows_of}
-use Rattle.command_line.proofs.Named.{no_number}
+use Rattle.command_line.proofs.Named.{no_cuts, no_number}
+use Rattle.command_line.specs.declared.jobs.TheConstants.{CUT_ROWS, CUT_SETS}
 use Rattle.command_line.proofs.commands.settings_of.Goals as goal
 
 pub returns-in_err-searchers : goal.returns-in_err-searchers
@@ -40,5 +41,10 @@ returns-in_err-gap c =
 
 pub returns-in_err-sets : goal.returns-in_err-sets
 returns-in_err-sets c =
-    rw c.from_residual-in_err-sets.ensures (no_number (codes "sets") (λ s. s.sets) (rows_of (found_of c.args.found.now))
-    (λ settings has. has.sets_are) (rw c.in_err-sets.was at c.number_of-8.ensures))
+    rw c.from_residual-in_err-sets.ensures (no_cuts (codes "sets") CUT_SETS (λ s. s.sets) (rows_of (found_of c.args.found.now))
+    (λ settings has. has.sets_are) (rw c.in_err-sets.was at c.cuts_of.ensures))
+
+pub returns-in_err-rows : goal.returns-in_err-rows
+returns-in_err-rows c =
+    rw c.from_residual-in_err-rows.ensures (no_cuts (codes "rows") CUT_ROWS (λ s. s.rows) (rows_of (found_of c.args.found.now))
+    (λ settings has. has.rows_are) (rw c.in_err-rows.was at c.cuts_of-2.ensures))

@@ -17,7 +17,8 @@ returns c =
     let threads = c.in_ok-command-2.ensures _ paths in
     let turns = c.in_ok-command-3.ensures _ threads in
     let prices = c.in_ok-command-4.ensures _ turns in
-    let closing = c.in_ok-command-5.ensures _ prices in
-    let starting = c.in_ok-command-6.ensures _ closing in
-    let tree = c.in_ok-command-7.ensures _ starting in
+    let cuts = c.in_ok-command-5.ensures _ prices in
+    let closing = c.in_ok-command-6.ensures _ cuts in
+    let starting = c.in_ok-command-7.ensures _ closing in
+    let tree = c.in_ok-command-8.ensures _ starting in
     IfOk-weaker c.with_telling_options.result _ _ (λ made adds. adds _ tree) c.with_telling_options.ensures
