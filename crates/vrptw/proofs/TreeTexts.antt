@@ -4,18 +4,19 @@ use Rattle.std.specs.Prelude.{IfSome}
 use Rattle.std.specs.List.{AllByRecursion}
 use Rattle.tenths.specs.declared.value.TheConstants.{MOST_TENTHS}
 use Rattle.solomon_reader.specs.declared.row.Row.{Row}
-use Rattle.solomon_reader.specs.declared.limits.TheConstants.{MOST_CUSTOMERS, MOST_NEIGHBOURS}
+use Rattle.solomon_reader.specs.declared.limits.TheConstants.{MOST_CUSTOMERS, MOST_NEIGHBOURS, MOST_ROWS}
 use Rattle.solomon_reader.specs.Problem.{Problem, customer_count}
 use Rattle.solomon_reader.specs.Layout.{IsWithinLimits, AreRows}
 use Rattle.solomon_reader.specs.Bound.{Version, listed_sets, listed_rows, Tree, preorder, ceiling_of, leaf, split, IsTreeBound}
 use Rattle.solomon_reader.specs.CustomerSets.{IsNeeded}
 use Rattle.solomon_reader.specs.SetPrices.{ListedSet, AreTrueNeeds}
-use Rattle.solomon_reader.specs.CertificateText.{Certificate, IsCertificate, IsListedSet, Content, leaf_count, certificate_text}
+use Rattle.solomon_reader.specs.SubsetRows.{SubsetRow}
+use Rattle.solomon_reader.specs.CertificateText.{Certificate, IsCertificate, IsListedSet, IsListedRow, AreInOrder, Content, leaf_count, certificate_text}
 use Rattle.branching.specs.Nodes.{IsListedTree, node_of}
 use Rattle.branching.specs.declared.tree_node.TreeNode.{TreeNode}
 use Rattle.solomon_reader.specs.History.{Event, IsLeaf, IsBound, used_number}
 use Rattle.schedule.specs.Solution.{Solution}
-use Rattle.incumbent_book.specs.Contents.{Contents, IsBook, IsOfProblem, OwnPrices, version_of}
+use Rattle.incumbent_book.specs.Contents.{Contents, IsBook, IsOfProblem, OwnPrices, Lists, lists_of, version_of}
 use Rattle.incumbent_book.specs.Trees.{GrowsAt, IsTreeOf, version_of_book}
 use Rattle.solomon_reader.specs.Plan.{IsPlan}
 use Rattle.solomon_reader.specs.DualityLaws.{tree_bound_holds, ceiling_holds}
@@ -31,22 +32,32 @@ sized [] are = absurd are
 sized (depot ∷ rows) are = (omega (arith, are.1), omega (arith, are.2))
 
 -- the sets that a certificate lists are those of the tree, or none
-version_listed : (P : ListedSet → Type 0) (n : ℕ) (sets : List ListedSet) → AllByRecursion P sets → AllByRecursion P (listed_sets (version_of n sets))
-version_listed P zero sets all = tt
-version_listed P (suc n) sets all = all
+version_listed : (P : ListedSet → Type 0) (n : ℕ) (sets : List ListedSet) (m : ℕ) (rows : List SubsetRow) → AllByRecursion P sets
+    → AllByRecursion P (listed_sets (version_of n sets m rows))
+version_listed P zero sets zero rows all = tt
+version_listed P (suc n) sets zero rows all = all
+version_listed P zero sets (suc m) rows all = all
+version_listed P (suc n) sets (suc m) rows all = all
 
-version_few : (n : ℕ) (sets : List ListedSet) → length (listed_sets (version_of n sets)) ≤ length sets
-version_few zero sets = omega arith
-version_few (suc n) sets = omega arith
+version_few : (n : ℕ) (sets : List ListedSet) (m : ℕ) (rows : List SubsetRow) → length (listed_sets (version_of n sets m rows)) ≤ length sets
+version_few zero sets zero rows = omega arith
+version_few (suc n) sets zero rows = omega arith
+version_few zero sets (suc m) rows = omega arith
+version_few (suc n) sets (suc m) rows = omega arith
 
--- it lists no rows
-no_rows : (n : ℕ) (sets : List ListedSet) → listed_rows (version_of n sets) ≡ []
-no_rows zero sets = refl
-no_rows (suc n) sets = refl
+-- and so are the rows
+version_rows : (P : List SubsetRow → Type 0) → P [] → (n : ℕ) (sets : List ListedSet) (m : ℕ) (rows : List SubsetRow) → P rows
+    → P (listed_rows (version_of n sets m rows))
+version_rows P none zero sets zero rows all = none
+version_rows P none (suc n) sets zero rows all = none
+version_rows P none zero sets (suc m) rows all = all
+version_rows P none (suc n) sets (suc m) rows all = all
 
-is_version : (n : ℕ) (sets : List ListedSet) → length sets ≤ n → IsVersionFor n (version_of n sets)
-is_version zero sets few = refl
-is_version (suc n) sets few = (sets, refl, few)
+is_version : (n : ℕ) (sets : List ListedSet) (m : ℕ) (rows : List SubsetRow) → length sets ≤ n → length rows ≤ m → IsVersionFor n m (version_of n sets m rows)
+is_version zero sets zero rows few few_rows = refl
+is_version (suc n) sets zero rows few few_rows = (sets, refl, few)
+is_version zero sets (suc m) rows few few_rows = (sets, (rows, (refl, few, few_rows)))
+is_version (suc n) sets (suc m) rows few few_rows = (sets, (rows, (refl, few, few_rows)))
 
 may_be_listed : (p : Problem) (sets : List ListedSet) → AllByRecursion (MayBeListed p) sets → AllByRecursion (IsListedSet (customer_count p)) sets
 may_be_listed p [] all = tt
@@ -72,11 +83,11 @@ content version p k bound tree = record {
   nodes = preorder tree;
 }
 
-module _ (p : Problem) (settings : Settings) (sets : List ListedSet) (bound : ℕ) (nodes : List TreeNode) (has : HasTree p settings sets nodes bound) (limits : IsWithinLimits p)
+module _ (p : Problem) (settings : Settings) (lists : Lists) (bound : ℕ) (nodes : List TreeNode) (has : HasTree p settings lists nodes bound) (limits : IsWithinLimits p)
     (few : settings.neighbours ≤ MOST_NEIGHBOURS) (within : bound ≤ MOST_TENTHS) (most : bound ≤ ceiling_of p + 1) where
   certificate : Certificate
   certificate = record {
-    version = version_of settings.sets sets;
+    version = version_of settings.sets lists.sets settings.rows lists.rows;
     name = p.name;
     size = customer_count p;
     neighbours = settings.neighbours;
@@ -91,27 +102,27 @@ module _ (p : Problem) (settings : Settings) (sets : List ListedSet) (bound : �
     size = sized p.rows limits.rows;
     neighbours = few;
     bound = within;
-    listed = version_listed (IsListedSet (customer_count p)) settings.sets sets (may_be_listed p sets has.listed);
-    sets = omega (arith, version_few settings.sets sets, has.few.0, has.few.1);
-    rows_listed = rw (no_rows settings.sets sets) tt;
-    in_order = rw (no_rows settings.sets sets) tt;
-    rows = rw (no_rows settings.sets sets) (omega arith);
+    listed = version_listed (IsListedSet (customer_count p)) settings.sets lists.sets settings.rows lists.rows (may_be_listed p lists.sets has.listed);
+    sets = omega (arith, version_few settings.sets lists.sets settings.rows lists.rows, has.few.0, has.few.1);
+    rows_listed = version_rows (AllByRecursion (IsListedRow (customer_count p))) tt settings.sets lists.sets settings.rows lists.rows has.rows_listed;
+    in_order = version_rows AreInOrder tt settings.sets lists.sets settings.rows lists.rows has.in_order;
+    rows = version_rows (λ rows. length rows ≤ MOST_ROWS) (omega arith) settings.sets lists.sets settings.rows lists.rows (omega (arith, has.few_rows.0, has.few_rows.1));
     tree = has.tree.shaped;
     leaves = omega (arith, has.tree.counted, has.tree.few);
     depth = has.tree.depth;
   }
 
-  pub certified : IsCertified p settings (content (version_of settings.sets sets) p settings.neighbours bound has.tree.tree)
+  pub certified : IsCertified p settings (content (version_of settings.sets lists.sets settings.rows lists.rows) p settings.neighbours bound has.tree.tree)
   unfolding certificate
   certified = record {
     certificate = certificate;
     shaped = shaped;
     is = refl;
-    version = is_version settings.sets sets has.few.0;
+    version = is_version settings.sets lists.sets settings.rows lists.rows has.few.0 has.few_rows.0;
     name = refl;
     size = refl;
     neighbours = refl;
-    needed = version_listed (λ s. IsNeeded p s.members s.need) settings.sets sets (are_needed p sets has.listed);
+    needed = version_listed (λ s. IsNeeded p s.members s.need) settings.sets lists.sets settings.rows lists.rows (are_needed p lists.sets has.listed);
     is_bound = has.tree.is_bound;
     most = most;
   }
@@ -123,13 +134,13 @@ own_plan p None is = tt
 own_plan p (Some g) is = is.1
 
 -- a tree has a leaf
-leaf_of : (past : List Event) (listed : List ListedSet) (prices : List OwnPrices) (m : ℕ) (tree : Tree) → GrowsAt past listed prices m tree → (l : ℕ) × IsLeaf past l
+leaf_of : (past : List Event) (listed : Lists) (prices : List OwnPrices) (m : ℕ) (tree : Tree) → GrowsAt past listed prices m tree → (l : ℕ) × IsLeaf past l
 leaf_of past listed prices m (leaf ps) grows = (m, grows.0)
 leaf_of past listed prices m (split a used unused) grows = leaf_of past listed prices (used_number grows.0) used grows.2
 
 module _ (b : Contents) (book : IsBook b) (tree : Tree) (is_tree : IsTreeOf b tree) where
   pub few_neighbours : b.neighbours ≤ MOST_NEIGHBOURS
-  few_neighbours = let l = leaf_of b.past b.listed b.prices 0 tree is_tree.grows in (book.leaves l.0 l.1).few
+  few_neighbours = let l = leaf_of b.past (lists_of b) b.prices 0 tree is_tree.grows in (book.leaves l.0 l.1).few
 
   pub outcome_tree : (bound : ℕ) → IsBound b.problem b.root b.past bound → (nodes : List TreeNode) → map node_of nodes ≡ preorder tree
       → IsListedTree (version_of_book b) b.problem b.neighbours nodes bound (leaf_count tree)

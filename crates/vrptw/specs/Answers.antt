@@ -7,8 +7,9 @@ use Rattle.solomon_reader.specs.Layout.{IsInstance}
 use Rattle.solomon_reader.specs.Reading.{reading}
 use Rattle.solomon_reader.specs.Plan.{IsPlan, plan_cost}
 use Rattle.solomon_reader.specs.Moves.{IsLocalOptimum}
-use Rattle.solomon_reader.specs.Bound.{Version, version_2, with_sets, ceiling_of}
+use Rattle.solomon_reader.specs.Bound.{Version, version_2, with_sets, with_rows, ceiling_of}
 use Rattle.solomon_reader.specs.SetPrices.{ListedSet}
+use Rattle.solomon_reader.specs.SubsetRows.{SubsetRow}
 use Rattle.solomon_reader.specs.SolutionText.{solution_text}
 use Rattle.solomon_reader.specs.CertificateText.{IsAccepted}
 use Rattle.solomon_reader.specs.declared.fault.ReadFault.TheVariants as read
@@ -30,15 +31,21 @@ pub record IsPlanText (p : Problem) (cost : ℕ) (text : List ℕ) : Type 0 wher
   pub exact : plan_cost p routes ≡ cost
   pub spelled : text ≡ solution_text routes cost
 
--- of which version a certificate is where so many sets may have prices: of the second where none may, else of that with a list of sets; the solver lists no rows
-abbrev pub IsVersionFor : ℕ → Version → Type 0
-IsVersionFor zero version = version ≡ version_2
-IsVersionFor (suc n) version = (sets : List ListedSet) × (version ≡ with_sets sets) × (length sets ≤ suc n)
+-- the version with lists of at most so many sets and rows
+abbrev pub IsWithRows : ℕ → ℕ → Version → Type 0
+IsWithRows most_sets most_rows version = (sets : List ListedSet) × ((rows : List SubsetRow) × (version ≡ with_rows sets rows) × (length sets ≤ most_sets) × (length rows ≤ most_rows))
 
--- the instance accepts the text with this bound, which is for so many neighbours and sets as the settings say; every plan costs at least the bound
+-- of which version a certificate is where so many sets and so many rows may have prices: of that with lists of both where rows may, else of that with a list of sets where sets may, and else of the second
+abbrev pub IsVersionFor : ℕ → ℕ → Version → Type 0
+IsVersionFor zero zero version = version ≡ version_2
+IsVersionFor (suc n) zero version = (sets : List ListedSet) × (version ≡ with_sets sets) × (length sets ≤ suc n)
+IsVersionFor zero (suc m) version = IsWithRows zero (suc m) version
+IsVersionFor (suc n) (suc m) version = IsWithRows (suc n) (suc m) version
+
+-- the instance accepts the text with this bound, which is for so many neighbours, sets and rows as the settings say; every plan costs at least the bound
 pub record IsBoundText (p : Problem) (settings : Settings) (bound : ℕ) (text : List ℕ) : Type 0 where
   pub accepted : IsAccepted p text
-  pub version : IsVersionFor settings.sets accepted.certificate.version
+  pub version : IsVersionFor settings.sets settings.rows accepted.certificate.version
   pub neighbours : accepted.certificate.neighbours ≡ settings.neighbours
   pub printed : accepted.certificate.bound ≡ bound
   pub holds : (routes : List (List ℕ)) → IsPlan p routes → bound ≤ plan_cost p routes

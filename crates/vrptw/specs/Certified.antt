@@ -8,12 +8,12 @@ use Rattle.solomon_reader.specs.CertificateText.{Certificate, IsCertificate, Con
 use Rattle.run_settings.specs.declared.settings.Settings.{Settings}
 use Rattle.vrptw.specs.Answers.{IsVersionFor}
 
--- the contents of a certificate for the instance, with so many neighbours and sets as the settings say: its sets need what they are said to, and its bound is that of its tree
+-- the contents of a certificate for the instance, with so many neighbours, sets and rows as the settings say: its sets need what they are said to, and its bound is that of its tree
 pub record IsCertified (p : Problem) (settings : Settings) (x : Content) : Type 0 where
   pub certificate : Certificate
   pub shaped : IsCertificate certificate
   pub is : x ≡ listed certificate
-  pub version : IsVersionFor settings.sets certificate.version
+  pub version : IsVersionFor settings.sets settings.rows certificate.version
   pub name : certificate.name ≡ p.name
   pub size : certificate.size ≡ customer_count p
   pub neighbours : certificate.neighbours ≡ settings.neighbours

@@ -3,7 +3,7 @@ use Rattle.std.specs.Prelude.{◌≡◌, ◌≢◌, ℕ, ◌+◌, ◌≤◌, max
 use Rattle.tenths.specs.Sink.{Held}
 use Rattle.solomon_reader.specs.Problem.{Problem}
 use Rattle.solomon_reader.specs.Layout.{IsInstance}
-use Rattle.solomon_reader.specs.Bound.{listed_sets, ceiling_of}
+use Rattle.solomon_reader.specs.Bound.{listed_sets, listed_rows, ceiling_of}
 use Rattle.solomon_reader.specs.CertificateText.{Content, IsAccepted, listed}
 use Rattle.checker.specs.declared.fault.CheckFault.TheVariants as check
 use Rattle.checker.specs.Checking.{IsRightSolution, RefusesTree}
@@ -23,9 +23,13 @@ pub record GivenTexts : Type 0 where
   pub start : Option (List ℕ)
   pub tree : Option (List ℕ)
 
--- the settings where a tree is gone on from: its number of neighbours, and at least as many sets as it lists
+-- the settings where a tree is gone on from: its number of neighbours, and at least as many sets and rows as it lists
 abbrev pub settings_on : Settings → Content → Settings
-settings_on settings x = record settings { neighbours = x.neighbours; sets = max settings.sets (length (listed_sets x.version)) }
+settings_on settings x = record settings {
+  neighbours = x.neighbours;
+  sets = max settings.sets (length (listed_sets x.version));
+  rows = max settings.rows (length (listed_rows x.version));
+}
 
 -- the text of a tree, if there is one, is that of a certificate with these contents, which the instance accepts
 abbrev pub IsTreeText : Problem → Option (List ℕ) → Option Content → Type 0

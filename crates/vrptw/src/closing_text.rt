@@ -6,6 +6,7 @@ ghost use Rattle.vrptw.specs.Closing.{AreWithin, Closes};
 ghost use Rattle.vrptw.specs.Starting.{IsAtMost, IsPlanAt, TellsFrom};
 
 use crate::answer::{Answer, SolveFault};
+use crate::found::found_closed;
 use crate::solving::read_instance;
 use crate::starting::{StartFault, no_start, read_start};
 use crate::writing::write_found;
@@ -43,16 +44,17 @@ fn close_instance<'i, X: Sink, Y: Sink>(
         return Err(SolveFault::BadSettings);
     }
     let neighbours = settings.neighbours;
-    let found = closing::close_from(alloc, instance, neighbours, leaf_limit, start)?;
+    let closed = closing::close_from(alloc, instance, neighbours, leaf_limit, start)?;
+    let found = found_closed(alloc, closed);
     write_found(alloc, instance, settings, found, solution, certificate)
 }
 
 /// Closes the instance of a text, of at most 24 customers: writes a plan that no plan is cheaper than to
 /// the first sink, and then to the second the certificate whose bound is its cost; or where there is no
 /// plan, the certificate alone. The tree has at most this many leaves, 1 to 100,000. Of the settings only
-/// the neighbours and the number of sets have an effect: where sets may have prices the certificate is one
-/// with sets, though it lists none. It works on the caller's thread and waits for nobody. The answer is
-/// `Best` or `NoPlan`.
+/// the neighbours and the numbers of sets and rows have an effect: where rows may have prices the certificate
+/// is one with rows, and else where sets may one with sets, though it lists none. It works on the caller's
+/// thread and waits for nobody. The answer is `Best` or `NoPlan`.
 ///
 /// The first refusal that holds is told: `Instance` with the text's first fault, `BadSettings` where a
 /// setting or the number of leaves is outside its range, `TooLarge` where there are more customers,

@@ -61,12 +61,13 @@ fn settings_on(settings: &Settings, cert: &Cert) -> Settings
     let mut on = *settings;
     on.neighbours = parts.neighbours;
     on.sets = settings.sets.max(parts.version.sets().len() as u32);
+    on.rows = settings.rows.max(parts.version.rows().len() as u32);
     on
 }
 
 /// What `solve_from` does, where the work also goes on from the tree of a certificate whose text is given. Then the
-/// bound is at least that of the tree, which has the certificate's number of neighbours and at least as many sets as
-/// it lists; bound workers work at its open leaves, those of a part or all.
+/// bound is at least that of the tree, which has the certificate's number of neighbours and at least as many sets and
+/// rows as it lists; bound workers work at its open leaves, those of a part or all.
 ///
 /// `Tree` where that text isn't one of a certificate that the instance accepts, with the first fault that `check`
 /// would tell of it, which is also `StateLimit` where 5,000,000 pairs of time and cost stand at once for one leaf and

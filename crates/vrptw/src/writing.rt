@@ -9,8 +9,8 @@ ghost use Rattle.vrptw.specs.declared.answer.SolveFault.TheVariants.{Memory};
 
 use crate::answer::{Answer, SolveFault};
 use crate::certifying::certify;
+use crate::found::Found;
 use certificate::Cert;
-use closing::Found;
 use run_settings::Settings;
 use schedule::Feasible;
 use search::descended;
@@ -114,9 +114,10 @@ pub(crate) fn write_found<X: Sink, Y: Sink>(
         plan,
         bound,
         sets,
+        rows,
         nodes,
     } = found;
     let plan = descend(alloc, plan)?;
-    let cert = certify(alloc, instance, settings, bound, sets, nodes)?;
+    let cert = certify(alloc, instance, settings, bound, sets, rows, nodes)?;
     write_both(plan, instance, settings, &cert, solution, certificate)
 }
