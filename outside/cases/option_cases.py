@@ -151,7 +151,7 @@ draw i.txt p.txt --names globe.csv --gpx|0|-: <rtept lat="52.5" lon="13.25"><nam
 draw i.txt p.txt --times|0|-: </svg>
 draw i.txt p.txt --tree k.txt|0|-: </svg>
 draw i.txt p.txt --tree sets.txt --names names.csv|0|-: Leaf 1 has the value 20.0,
-fewest i.txt --into f --seconds 30 --searchers 1 --bounders 1 --labels 1000 --neighbours 4 --sets 3 --seed 3|0|-: FEWEST 1 BEST
+fewest i.txt --into f --seconds 30 --searchers 1 --bounders 1 --labels 1000 --neighbours 4 --sets 3 --rows 3 --seed 3|0|-: FEWEST 1 BEST
 fewest i.txt --into f --seconds 30 --program {program} ; fewest i.txt --into f --check|0|-: FEWEST 1 BEST 20.0
 fewest i.txt --into few_held --seconds 30|0|few_held/1.certificate: VRPTW-SETS 1 & -: FEWEST 1 BEST 20.0
 fewest i.txt --into few_held --check|1|-: FEWEST 1 OPEN
@@ -183,7 +183,7 @@ plan waits.txt --into d --depart early --seconds 30|0|d/now/report.html: All veh
 plan german.csv --into d --column due=bis --vehicles 2 --capacity 5 --seconds 30|0|d/now/plan.txt: Cost 10.0
 plan i.txt --into d --names names.csv --fewest --drivers --seconds 30|0|d/now/drivers.html: </html> & d/now/fewest/1.plan & \
 d/now/names.csv: 2,b & -: No plan does without a vehicle.
-plan i.txt --into d --searchers 1 --bounders 1 --labels 1000 --neighbours 4 --sets 3 --seed 3 --gap 5 --seconds 30|0|\
+plan i.txt --into d --searchers 1 --bounders 1 --labels 1000 --neighbours 4 --sets 3 --rows 3 --seed 3 --gap 5 --seconds 30|0|\
 d/now/plan.txt: Cost 20.0
 plan i.txt --into d --seconds 30 --program {program}|0|-: 20.0
 plan i.txt --into held --seconds 30|0|held/now/certificate.txt: VRPTW-SETS 1 & -: 20.0
@@ -201,7 +201,7 @@ d/now/changes.csv: customer 3,new,,3, & d/now/report.html: <section id="changes"
 plan rank.csv --into d --column priority=rank --vehicles 1 --capacity 2 --seconds 30|1|d/now/served/names.csv: 1,C,5
 plan long.txt --into long_days|0|long_days/now/certificate.txt: NEIGHBOURS 12
 prove four.txt --into open --engine here --parts 1 --jobs 1 --round 20 --searchers 1 --bounders 1 --labels 1000 \
---sets 3 --seed 3 --program {program}|0|-: BEST 100.0 & --: outside/prove: round 1: 1 of 1 part, & open/gap.svg: </svg>
+--sets 3 --rows 3 --seed 3 --program {program}|0|-: BEST 100.0 & --: outside/prove: round 1: 1 of 1 part, & open/gap.svg: </svg>
 prove four.txt --into open --engine parallel --sshloginfile machines --parts 1 --program {program}|0|\
 -: BEST 100.0 & --: round 1: 1 of 1 part,
 prove four.txt --into open --engine slurm --slurm-options "--mem=0 --time 1" --parts 1 --program {program}|0|\
@@ -303,6 +303,7 @@ fewest i.txt --into f --searchers 33|--searchers|2|met "33"
 fewest i.txt --into f --bounders 0|--bounders|2|met "0"
 fewest i.txt --into f --labels x|--labels|2|met "x"
 fewest i.txt --into f --sets x|--sets|2|met "x"
+fewest i.txt --into f --rows x|--rows|2|met "x"
 fewest i.txt --into f --neighbours 16|--neighbours|2|met "16"
 fewest i.txt --into f --seed -1|--seed|2|
 fewest i.txt --into f --program nowhere|--program|1|nowhere: met no program
@@ -346,6 +347,7 @@ plan i.txt --into d --searchers 0|--searchers|2|met "0"
 plan i.txt --into d --bounders 33|--bounders|2|met "33"
 plan i.txt --into d --labels 0|--labels|2|met "0"
 plan i.txt --into d --sets 1001|--sets|2|met "1001"
+plan i.txt --into d --rows 1001|--rows|2|met "1001"
 plan i.txt --into d --neighbours x|--neighbours|2|met "x"
 plan i.txt --into d --seed x|--seed|2|met "x"
 plan i.txt --into d --gap 1001|--gap|2|met "1001"
@@ -367,6 +369,7 @@ prove i.txt --into d --bounders 0|--bounders|2|met "0"
 prove i.txt --into d --labels x|--labels|2|met "x"
 prove i.txt --into d --neighbours 16|--neighbours|2|met "16"
 prove i.txt --into d --sets 1001|--sets|2|met "1001"
+prove i.txt --into d --rows 1001|--rows|2|met "1001"
 prove i.txt --into d --seed -1|--seed|2|
 prove i.txt --into d --program nowhere|--program|1|nowhere: met no program
 recheck i.txt k.txt --jobs 0|--jobs|2|met "0"

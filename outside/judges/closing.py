@@ -92,18 +92,21 @@ def judge_same(program, folder, random, text, came, count, neighbours):
                             ["--bounders", "32"]], 2)
     again = solve(program, folder, text, options_of(count, neighbours) + others[0] + others[1])
     demand(again == came, "close: %r, with %d leaves and %r: %r" % (came, count, others, again))
-    *said, priced = solve(program, folder, text, options_of(count, neighbours) + ["--sets", str(random.randint(1, 1000))])
-    demand((*said, without_sets(priced)) == (*came[:-1], without_sets(came[-1])), "close: %r, with sets: %r" % (came, priced))
+    cuts = random.choice([["--sets", str(random.randint(1, 1000))], ["--rows", str(random.randint(1, 1000))], ["--cuts"]])
+    *said, priced = solve(program, folder, text, options_of(count, neighbours) + cuts)
+    demand((*said, without_cuts(priced)) == (*came[:-1], without_cuts(came[-1])), "close: %r, with %r: %r" % (came, cuts, priced))
     if count > 1:
         fewer = solve(program, folder, text, options_of(count - 1, neighbours))
         demand(fewer == ("", "vrptw: limit: LeafLimit\n", 7, b"", b""), "%d leaves, one fewer: %r" % (count, fewer))
 
 
-def without_sets(certificate):
-    """The certificate of version 2 that a certificate without sets' prices is beside its head; one with them stays."""
-    if b"\nM 1 " in certificate:
-        return certificate
-    return certificate.replace(b"VRPTW-SETS 1\n", b"VRPTW-CERT 2\n", 1).replace(b"\nM\n", b"\n")
+def without_cuts(certificate):
+    """The certificate with sets that one with rows is whose rows have no prices, and the one of version 2 where no set
+    has one, either; all beside its head."""
+    found = certificate.replace(b"VRPTW-ROWS 1\n", b"VRPTW-SETS 1\n", 1).replace(b"\nQ\n", b"\n")
+    if b"\nM 1 " in found:
+        return found
+    return found.replace(b"VRPTW-SETS 1\n", b"VRPTW-CERT 2\n", 1).replace(b"\nM\n", b"\n")
 
 
 def judge_more(program, folder, text, most, neighbours):

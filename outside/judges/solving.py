@@ -19,7 +19,7 @@ WORKERS = [1] * 12 + [2] * 8 + [3, 4, 5, 6, 7, 8]
 FEW_LABELS = 100
 # By default; an option that isn't drawn stands here.
 DEFAULTS = {"searchers": 2, "bounders": 2, "turns": 200, "seed": 1, "neighbours": 8, "labels": 1000000,
-            "gap": 0, "sets": 0}
+            "gap": 0, "sets": 0, "rows": 0}
 # How many lists of stops are gone through for one leaf.
 FEW_ROUTES = 10_000
 # A line of `--progress`, or what `--live` writes on one line.
@@ -36,7 +36,8 @@ def drawn_options(random, most_turns):
              "neighbours": random.randint(0, 15),
              "labels": random.choice([random.randint(1, 12), random.randint(10, 60), 1000, 10 ** 5, 10 ** 6, 10 ** 8]),
              "gap": random.choice([0] * 8 + [random.randint(0, 1000), 1000]),
-             "sets": random.choice([0, 0, 0, random.randint(1, 4), random.randint(1, 40), 200, 1000])}
+             "sets": random.choice([0, 0, 0, random.randint(1, 4), random.randint(1, 40), 200, 1000]),
+             "rows": random.choice([0, 0, 0, random.randint(1, 4), random.randint(1, 40), 300, 1000])}
     return {name: value for name, value in drawn.items() if name == "turns" or random.randrange(10)}
 
 
@@ -154,9 +155,10 @@ def judge_texts(text, certificate, solution, told, settings):
     """Both texts by the reference's checker, and what stands in the certificate's head."""
     found = read_either(certificate)
     sets = max(settings["sets"], 1 if is_overloaded(read(text)) else 0)
-    begins = b"VRPTW-SETS 1\n" if sets else b"VRPTW-CERT 2\n"
+    begins = b"VRPTW-ROWS 1\n" if settings["rows"] else b"VRPTW-SETS 1\n" if sets else b"VRPTW-CERT 2\n"
     demand(certificate.startswith(begins) and found.version == 2, "the certificate's version")
     demand(len(found.sets) <= sets, "the certificate's sets")
+    demand(len(found.rows) <= settings["rows"], "the certificate's rows")
     demand(found.neighbours == settings["neighbours"], "the certificate's neighbours")
     checked = checking.check(text, certificate, solution, least)
     demand(checked == told, "solve: %r, reference: %r" % (told, checked))

@@ -25,7 +25,8 @@ PATIENCE = 3
 BOUND = re.compile(rb"^BOUND ([0-9]+\.[0-9])$", re.M)
 # The options of solve that are handed on, with the least number and the greatest.
 HANDED_ON = (("searchers", 1, 32, "threads that look for a plan"), ("bounders", 1, 32, "threads that raise the bound"),
-             ("labels", 1, 10 ** 8, "labels active at once in a pricing"))
+             ("labels", 1, 10 ** 8, "labels active at once in a pricing"),
+             ("rows", 0, 1000, "rows of three customers that may have prices in the proof"))
 
 
 def add_solving(parser, neighbours="in place of 8 and 12 in turn"):

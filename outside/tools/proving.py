@@ -4,7 +4,7 @@ import os
 import resource
 import time
 
-from reference.set_texts import MOST_SETS
+from reference.set_texts import MOST_ROWS, MOST_SETS
 from reference.texts import TextFault, read_solution, shown
 from tools.foreign import content
 from tools.joined import TooMany
@@ -165,14 +165,16 @@ class Prover(Planner):
         return self.given.seed + SEEDS * (self.rounds.last("number") + 1)
 
     def part_options(self, turns, place):
-        """The options of a part. All together list no more sets than a certificate holds."""
-        given, parts = self.given, self.given.parts
-        listed = len(TreeText(self.folder.at(CERTIFICATE)).sets)
+        """The options of a part. All together list no more sets and rows than a certificate holds."""
+        given, parts, tree = self.given, self.given.parts, TreeText(self.folder.at(CERTIFICATE))
+        listed, listed_rows = len(tree.sets), len(tree.rows or ())
         sets = min(given.sets, listed + (MOST_SETS - listed) // parts)
         options = ["--tree", "../" + TREE, "--part", "%d/%d" % (place, parts), "--turns", str(turns),
                    "--sets", str(sets), "--searchers", str(given.searchers or 1), "--bounders", str(given.bounders or 1),
                    "--seed", str((self.seed() + place) % 2 ** 32)]
         options += ["--labels", str(given.labels)] if given.labels else []
+        if given.rows is not None:
+            options += ["--rows", str(min(given.rows, listed_rows + (MOST_ROWS - listed_rows) // parts))]
         return options + (["--start", "../" + START] if self.cost is not None else []) + ["--progress"]
 
     def deal(self, turns):

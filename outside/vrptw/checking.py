@@ -20,8 +20,8 @@ Tree = Union[Text, Answer]
 OF_PLAN = re.compile(r"vrptw: (solution|plan|check: CostDiffers)\b")
 # The options with whole numbers, their least and greatest ones.
 LIMITS = {"turns": (1, 1_000_000), "searchers": (1, 32), "bounders": (1, 32), "seed": (0, 2 ** 32 - 1),
-           "neighbours": (0, 15), "labels": (1, 10 ** 8), "sets": (0, 1000), "gap": (0, 1000), "leaves": (1, 100_000),
-           "states": (1, 50_000_000)}
+           "neighbours": (0, 15), "labels": (1, 10 ** 8), "sets": (0, 1000), "rows": (0, 1000), "gap": (0, 1000),
+           "leaves": (1, 100_000), "states": (1, 50_000_000)}
 
 
 def zero_certificate(instance: bytes) -> bytes:

@@ -47,8 +47,8 @@ class Solving:
     def __init__(self, instance: Given, *, seconds: Optional[float] = None, turns: Optional[int] = None,
                  searchers: Optional[int] = None, bounders: Optional[int] = None, seed: Optional[int] = None,
                  neighbours: Optional[int] = None, labels: Optional[int] = None, sets: Optional[int] = None,
-                 gap: Optional[int] = None, close: bool = False, leaves: Optional[int] = None,
-                 start: Optional[Routes] = None, tree: Optional[Tree] = None,
+                 rows: Optional[int] = None, gap: Optional[int] = None, close: bool = False,
+                 leaves: Optional[int] = None, start: Optional[Routes] = None, tree: Optional[Tree] = None,
                  on_progress: Optional[Callable[[Progress], None]] = None,
                  on_plan: Optional[Callable[[list[list[int]], float], None]] = None,
                  program: Optional[str] = None) -> None:
@@ -56,7 +56,7 @@ class Solving:
             ("turns", turns), ("seed", seed), ("neighbours", neighbours), ("gap", gap)))
         self.options = words_of({name: whole_option(name, value) for name, value in (
             ("searchers", searchers), ("bounders", bounders), ("labels", labels),
-            ("sets", SETS if sets is None else sets), ("gap", gap), ("leaves", leaves))})
+            ("sets", SETS if sets is None else sets), ("rows", rows), ("gap", gap), ("leaves", leaves))})
         self.options += ["--close"] if close else []
         if seconds is not None and not (isinstance(seconds, SupportsFloat) and float(seconds) > 0):
             raise BadOptions("seconds: met %.40r, wanted a number above 0" % seconds)
@@ -212,10 +212,11 @@ class Solving:
 def solve(instance: Given, *, seconds: Optional[float] = None, turns: Optional[int] = None,
           searchers: Optional[int] = None, bounders: Optional[int] = None, seed: Optional[int] = None,
           neighbours: Optional[int] = None, labels: Optional[int] = None, sets: Optional[int] = None,
-          gap: Optional[int] = None, close: bool = False, leaves: Optional[int] = None, start: Optional[Routes] = None,
-          tree: Optional[Tree] = None, on_progress: Optional[Callable[[Progress], None]] = None,
+          rows: Optional[int] = None, gap: Optional[int] = None, close: bool = False, leaves: Optional[int] = None,
+          start: Optional[Routes] = None, tree: Optional[Tree] = None,
+          on_progress: Optional[Callable[[Progress], None]] = None,
           on_plan: Optional[Callable[[list[list[int]], float], None]] = None, program: Optional[str] = None) -> Answer:
     """Solves an instance: what `Solving` with these options comes to."""
     return Solving(instance, seconds=seconds, turns=turns, searchers=searchers, bounders=bounders, seed=seed,
-                   neighbours=neighbours, labels=labels, sets=sets, gap=gap, close=close, leaves=leaves, start=start,
-                   tree=tree, on_progress=on_progress, on_plan=on_plan, program=program).run()
+                   neighbours=neighbours, labels=labels, sets=sets, rows=rows, gap=gap, close=close, leaves=leaves,
+                   start=start, tree=tree, on_progress=on_progress, on_plan=on_plan, program=program).run()
