@@ -1,13 +1,16 @@
 -- Rows that don't give a job, and rows that give one job alone.
 use Rattle.std.proofs.Common.{◌≡◌, ◌∙◌, ℕ, Bool, IsTrue, true, false, List, Option, Some, None, option_map, slice_index, ap, ap₂, arith, codes, inl, inr, refl, subst, sym}
+use Rattle.std.specs.Prelude.{MatchOption}
 use Rattle.std.specs.Str.Parse.{digits_value, without_leading_plus}
 use Rattle.clap.specs.Words.{Row, Text}
-use Rattle.command_line.specs.Commands.{HasCuts, HasFlag, HasNumber, IsNumberIf}
+use Rattle.command_line.specs.Commands.{HasCuts, HasFlag, HasNumber, IsLeftToCuts, IsNumberIf}
 use Rattle.command_line.specs.Jobs.{HasClosing, HasSettings, HasTree, IsSameJob, Says, SaysAny}
+use Rattle.command_line.specs.declared.jobs.TheConstants.{CUT_ROWS, CUT_SETS}
 use Rattle.command_line.specs.declared.jobs.Job.{Job}
 use Rattle.command_line.specs.declared.jobs.Job.TheVariants.{Solve, Check}
 use Rattle.command_line.proofs.Parts.{same_part_if}
 use Rattle.run_settings.specs.declared.part.Part.{Part}
+use Rattle.run_settings.specs.Settings.{IsWithin}
 use Rattle.run_settings.specs.declared.settings.Settings.{Settings}
 
 -- no command has both names
@@ -32,6 +35,16 @@ pub no_cuts : (id : Text) (many : ℕ) (number : Settings → ℕ) (rows : List 
     → ((settings : Settings) → HasSettings rows settings → HasCuts id many rows (number settings))
     → ((n : ℕ) → HasCuts id many rows n → ⊥) → (other : Settings) → HasSettings rows other → ⊥
 no_cuts id many number rows has none other settings = none (number other) (has other settings)
+
+-- no number is another one than the argument's where the words don't leave it to the flag
+not_another : (id : Text) (many : ℕ) (rows : List Row) → (IsLeftToCuts id rows → ⊥) → ((n : ℕ) → HasNumber id rows n → ⊥) → (n : ℕ) → HasCuts id many rows n → ⊥
+not_another id many rows own none n (inl left) = own left.0
+not_another id many rows own none n (inr has) = none n has.1
+
+pub own_number : (id : Text) (many : ℕ) (rows : List Row) → (IsLeftToCuts id rows → ⊥) → (r : Option ℕ) → IsNumberIf id rows r
+    → MatchOption r ((n : ℕ) → HasCuts id many rows n → ⊥) (HasCuts id many rows)
+own_number id many rows own (Some n) is = inr (own, is)
+own_number id many rows own None is = not_another id many rows own is
 
 -- no settings are given
 pub no_solve : (rows : List Row) → ((other : Settings) → HasSettings rows other → ⊥) → (other : Job) → Says (codes "solve") rows other → ⊥
@@ -87,8 +100,33 @@ with_numbers searchers bounders turns seed neighbours labels gap sets rows = rec
   rows = rows;
 }
 
-same_settings : (rows : List Row) (a b : Settings) → HasSettings rows a → HasSettings rows b → a ≡ b
-same_settings rows a b p q =
+-- the rows have these numbers, within their ranges or not
+pub record HasNumbers (rows : List Row) (settings : Settings) : Type 0 where
+  pub searchers_are : HasNumber (codes "searchers") rows settings.searchers
+  pub bounders_are : HasNumber (codes "bounders") rows settings.bounders
+  pub turns_are : HasNumber (codes "turns") rows settings.turns
+  pub seed_is : HasNumber (codes "seed") rows settings.seed
+  pub neighbours_are : HasNumber (codes "neighbours") rows settings.neighbours
+  pub labels_are : HasNumber (codes "labels") rows settings.labels
+  pub gap_is : HasNumber (codes "gap") rows settings.gap
+  pub sets_are : HasCuts (codes "sets") CUT_SETS rows settings.sets
+  pub rows_are : HasCuts (codes "rows") CUT_ROWS rows settings.rows
+
+numbers_of : (rows : List Row) (settings : Settings) → HasSettings rows settings → HasNumbers rows settings
+numbers_of rows settings has = record {
+  searchers_are = has.searchers_are;
+  bounders_are = has.bounders_are;
+  turns_are = has.turns_are;
+  seed_is = has.seed_is;
+  neighbours_are = has.neighbours_are;
+  labels_are = has.labels_are;
+  gap_is = has.gap_is;
+  sets_are = has.sets_are;
+  rows_are = has.rows_are;
+}
+
+same_numbers : (rows : List Row) (a b : Settings) → HasNumbers rows a → HasNumbers rows b → a ≡ b
+same_numbers rows a b p q =
     ap₂ (λ s o. with_numbers s o a.turns a.seed a.neighbours a.labels a.gap a.sets a.rows)
     (same_number _ rows _ _ p.searchers_are q.searchers_are) (same_number _ rows _ _ p.bounders_are q.bounders_are)
     ∙ (ap₂ (λ t s. with_numbers b.searchers b.bounders t s a.neighbours a.labels a.gap a.sets a.rows)
@@ -99,6 +137,13 @@ same_settings rows a b p q =
     (same_number _ rows _ _ p.gap_is q.gap_is)
     ∙ ap₂ (with_numbers b.searchers b.bounders b.turns b.seed b.neighbours b.labels b.gap)
     (same_cuts _ _ rows _ _ p.sets_are q.sets_are) (same_cuts _ _ rows _ _ p.rows_are q.rows_are))))
+
+same_settings : (rows : List Row) (a b : Settings) → HasSettings rows a → HasSettings rows b → a ≡ b
+same_settings rows a b p q = same_numbers rows a b (numbers_of rows a p) (numbers_of rows b q)
+
+-- no settings are given where the numbers aren't within their ranges
+pub not_within : (rows : List Row) (a : Settings) → HasNumbers rows a → (IsWithin a → ⊥) → (other : Settings) → HasSettings rows other → ⊥
+not_within rows a numbers outside other has = outside (subst (λ (s : Settings). IsWithin s) (same_numbers rows other a (numbers_of rows other has) numbers) has.within)
 
 -- what a command and its rows say is one job
 pub same_job : (named : Option (Text × List Row)) (found other : Job) → SaysAny named found → SaysAny named other → IsSameJob found other

@@ -1,6 +1,6 @@
-use Rattle.std.proofs.Common.{codes}
+use Rattle.std.proofs.Common.{IsTrue, codes, false}
 use Rattle.clap.specs.Words.{found_of, rows_of}
-use Rattle.command_line.proofs.Named.{no_cuts, no_number}
+use Rattle.command_line.proofs.Named.{no_cuts, no_number, not_within}
 use Rattle.command_line.specs.declared.jobs.TheConstants.{CUT_ROWS, CUT_SETS}
 use Rattle.command_line.proofs.commands.settings_of.Goals as goal
 
@@ -48,3 +48,17 @@ pub returns-in_err-rows : goal.returns-in_err-rows
 returns-in_err-rows c =
     rw c.from_residual-in_err-rows.ensures (no_cuts (codes "rows") CUT_ROWS (λ s. s.rows) (rows_of (found_of c.args.found.now))
     (λ settings has. has.rows_are) (rw c.in_err-rows.was at c.cuts_of-2.ensures))
+
+pub returns-then-not-is_within : goal.returns-then-not-is_within
+returns-then-not-is_within c =
+    not_within (rows_of (found_of c.args.found.now)) _ (record {
+      searchers_are = c.in_ok-searchers.ensures;
+      bounders_are = c.in_ok-bounders.ensures;
+      turns_are = c.in_ok-turns.ensures;
+      seed_is = c.in_ok-seed.ensures;
+      neighbours_are = c.in_ok-neighbours.ensures;
+      labels_are = c.in_ok-labels.ensures;
+      gap_is = c.in_ok-gap.ensures;
+      sets_are = c.in_ok-sets.ensures;
+      rows_are = c.in_ok-rows.ensures;
+    }) (λ within. let bad : IsTrue false = c.if-not-is_within.ensures.1 within in cc)
