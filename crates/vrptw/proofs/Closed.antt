@@ -13,12 +13,11 @@ use Rattle.solomon_reader.specs.CertificateText.{IsTreeAt}
 use Rattle.branching.specs.Nodes.{IsListedTree}
 use Rattle.branching.specs.declared.tree_node.TreeNode.{TreeNode}
 use Rattle.closing.specs.Closing.{IsClosed}
-use Rattle.closing.specs.declared.found.Found.{Found as Closed}
+use Rattle.closing.specs.declared.found.Found.{Found}
 use Rattle.incumbent_book.specs.Contents.{version_of}
 use Rattle.run_settings.specs.declared.settings.Settings.{Settings}
 use Rattle.run_settings.specs.Settings.{IsWithin}
-use Rattle.vrptw.specs.declared.found.Found.{Found}
-use Rattle.vrptw.specs.Found.{IsFound, IsOfClosing}
+use Rattle.vrptw.specs.Found.{IsFound}
 
 -- of no listed sets or rows none has a price
 no_prices : (ms : List (ℕ × ℕ)) → IsCustomerSet 0 (map (λ m. m.0) ms) → ms ≡ []
@@ -81,13 +80,12 @@ listed_alone (suc n) zero p k nodes bound leaves is = listed_by_it (with_sets []
 listed_alone zero (suc m) p k nodes bound leaves is = listed_by_it (with_rows [] []) refl refl rows_alone p k nodes bound leaves is
 listed_alone (suc n) (suc m) p k nodes bound leaves is = listed_by_it (with_rows [] []) refl refl rows_alone p k nodes bound leaves is
 
-pub closed_found : (p : Problem) (settings : Settings) (limit : ℕ) (closed : Closed) (f : Found) → IsWithin settings → IsClosed p settings.neighbours limit closed
-    → IsOfClosing closed f → IsFound p settings f
-closed_found p settings limit closed f within is of = record {
-  plan = rw of.plan is.plan;
+pub closed_found : (p : Problem) (settings : Settings) (limit : ℕ) (closed : Found) → IsWithin settings → IsClosed p settings.neighbours limit closed → IsFound p settings closed
+closed_found p settings limit closed within is = record {
+  plan = is.plan;
   few = within.most_neighbours;
-  most = rw of.bound is.most;
-  tree = rw (of.sets, is.no_sets, of.no_rows, of.nodes, of.bound) (record {
+  most = is.most;
+  tree = rw (is.no_sets, is.no_rows) (record {
     few = (omega arith, within.most_sets);
     listed = tt;
     few_rows = (omega arith, within.most_rows);

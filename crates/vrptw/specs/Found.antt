@@ -1,5 +1,5 @@
 -- What is found for an instance, and what becomes of it.
-use Rattle.std.specs.Prelude.{◌≡◌, ℕ, ◌+◌, ◌≤◌, List, length, map, Option, Some, None, IfSome, MatchOption, Result, Ok, Err, [], ◌⊎◌}
+use Rattle.std.specs.Prelude.{◌≡◌, ℕ, ◌+◌, ◌≤◌, List, length, map, Option, Some, None, IfSome, MatchOption, Result, Ok, Err, ◌⊎◌}
 use Rattle.tenths.specs.Sink.{Held}
 use Rattle.solomon_reader.specs.Problem.{Problem, customer_count}
 use Rattle.solomon_reader.specs.Moves.{IsLocalOptimum}
@@ -15,8 +15,7 @@ use Rattle.branching.specs.declared.tree_node.TreeNode.{TreeNode}
 use Rattle.incumbent_book.specs.Contents.{Lists, listed_by, version_of}
 use Rattle.incumbent_book.specs.RowLists.{listed_row}
 use Rattle.run_settings.specs.declared.settings.Settings.{Settings}
-use Rattle.closing.specs.declared.found.Found.{Found as Closed}
-use Rattle.vrptw.specs.declared.found.Found.{Found}
+use Rattle.closing.specs.declared.found.Found.{Found}
 use Rattle.vrptw.specs.declared.answer.Answer.{Answer}
 use Rattle.vrptw.specs.declared.answer.Answer.TheVariants.{Best, Gap, NoPlan, Open}
 use Rattle.vrptw.specs.declared.answer.SolveFault.{SolveFault}
@@ -39,14 +38,6 @@ pub record IsFound (p : Problem) (settings : Settings) (f : Found) : Type 0 wher
   pub few : settings.neighbours ≤ MOST_NEIGHBOURS
   pub most : f.bound ≤ ceiling_of p + 1
   pub tree : HasTree p settings (listed_by (map listed_set f.sets.items) (map listed_row f.rows.items)) f.nodes.items f.bound
-
--- what a closing found, with no rows
-pub record IsOfClosing (closed : Closed) (f : Found) : Type 0 where
-  pub plan : f.plan ≡ closed.plan
-  pub bound : f.bound ≡ closed.bound
-  pub sets : f.sets ≡ closed.sets
-  pub no_rows : f.rows.items ≡ []
-  pub nodes : f.nodes ≡ closed.nodes
 
 -- a plan that no single move makes cheaper, at no more than the cost of another one; or none, as before
 abbrev pub IsDescended : Option Solution → Option Solution → Type 0

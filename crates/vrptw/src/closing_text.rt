@@ -6,7 +6,6 @@ ghost use Rattle.vrptw.specs.Closing.{AreWithin, Closes};
 ghost use Rattle.vrptw.specs.Starting.{IsAtMost, IsPlanAt, TellsFrom};
 
 use crate::answer::{Answer, SolveFault};
-use crate::found::found_closed;
 use crate::solving::read_instance;
 use crate::starting::{StartFault, no_start, read_start};
 use crate::writing::write_found;
@@ -44,8 +43,7 @@ fn close_instance<'i, X: Sink, Y: Sink>(
         return Err(SolveFault::BadSettings);
     }
     let neighbours = settings.neighbours;
-    let closed = closing::close_from(alloc, instance, neighbours, leaf_limit, start)?;
-    let found = found_closed(alloc, closed);
+    let found = closing::close_from(alloc, instance, neighbours, leaf_limit, start)?;
     write_found(alloc, instance, settings, found, solution, certificate)
 }
 

@@ -1,46 +1,15 @@
-//! What a run or a closing found.
+//! What a run found.
 
 ghost use Rattle.std.specs.Prelude.{◌≡◌, [], None, IfOk, IfErr};
 ghost use Rattle.solomon_reader.specs.History.{IsBound, costs_of};
-ghost use Rattle.vrptw.specs.Found.{IsFound, IsOfClosing};
+ghost use Rattle.vrptw.specs.Found.{IsFound};
 ghost use Rattle.vrptw.specs.declared.answer.SolveFault.TheVariants.{Memory};
 
 use crate::answer::SolveFault;
-use branching::TreeNode;
-use incumbent_book::{Outcome, SubsetRow};
-use priced_sets::ListedSet;
+use closing::Found;
+use incumbent_book::Outcome;
 use run_settings::Settings;
-use schedule::Feasible;
 use std::alloc::Global;
-use tenths::Tenths;
-
-/// A plan, if there is one, and a lower bound of every plan's cost with its tree.
-#[derive(Drop)]
-pub(crate) struct Found<'i> {
-    /// The plan.
-    pub(crate) plan: Option<Feasible<'i>>,
-    /// The bound, in tenths.
-    pub(crate) bound: Tenths,
-    /// The sets that the tree names.
-    pub(crate) sets: Vec<ListedSet>,
-    /// The rows that the tree names.
-    pub(crate) rows: Vec<SubsetRow>,
-    /// The tree with that bound, in preorder.
-    pub(crate) nodes: Vec<TreeNode>,
-}
-
-/// What a closing found: its tree names no rows.
-pub(crate) fn found_closed<'i>(alloc: Global, closed: closing::Found<'i>) -> Found<'i>
-    ensures { IsOfClosing closed.entry result }
-{
-    Found {
-        plan: closed.plan,
-        bound: closed.bound,
-        sets: closed.sets,
-        rows: Vec::new(alloc),
-        nodes: closed.nodes,
-    }
-}
 
 /// What a run found.
 pub(crate) fn found_by<'i>(

@@ -9,8 +9,8 @@ ghost use Rattle.vrptw.specs.declared.answer.SolveFault.TheVariants.{Memory};
 
 use crate::answer::{Answer, SolveFault};
 use crate::certifying::certify;
-use crate::found::Found;
 use certificate::Cert;
+use closing::Found;
 use run_settings::Settings;
 use schedule::Feasible;
 use search::descended;
