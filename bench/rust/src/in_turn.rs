@@ -60,7 +60,7 @@ impl<'a, 'i> InTurn<'a, 'i> {
         self.moved.notify_all();
     }
 
-    /// Prints the turn, leaves, bound, seconds, sets, the cost, when the root was split, and for each worker its turns as
+    /// Prints the turn, leaves, bound, seconds, sets, rows, the cost, when the root was split, and for each worker its turns as
     /// a searcher and the leaves that it raised.
     fn tell(&self, made: u32, stage: &mut MutexGuard<'_, Stage>) {
         let book = self.book.lock().unwrap();
@@ -78,8 +78,9 @@ impl<'a, 'i> InTurn<'a, 'i> {
         let deeds: Vec<String> =
             stage.deeds.iter().map(|deeds| format!("{}+{}", deeds.searched, deeds.raised)).collect();
         let seconds = self.begin.elapsed().as_secs_f64();
-        let (bound, sets, deeds) = (number(gap.bound.get()), book.listed().len(), deeds.join(" "));
-        println!("{made} {leaves} {bound} {seconds:.1} {sets} {cost} {split} {deeds}");
+        let (sets, rows) = (book.listed().len(), book.listed_rows().len());
+        let (bound, deeds) = (number(gap.bound.get()), deeds.join(" "));
+        println!("{made} {leaves} {bound} {seconds:.1} {sets} {rows} {cost} {split} {deeds}");
     }
 }
 

@@ -2,6 +2,8 @@
 
 use crate::branching::Arc;
 use crate::priced_sets::PricedSet;
+use crate::row_charges::PricedRow;
+use crate::run_settings::Settings;
 use crate::prices::Priced;
 use crate::schedule::Feasible;
 use crate::solomon_reader::Instance;
@@ -33,6 +35,11 @@ pub enum BookFault {
 enum Node<'i> {
     Leaf(Priced<'i>),
     Split { arc: Arc, used: u32, unused: u32 },
+}
+
+/// The customers of a row.
+fn members_of(row: &PricedRow) -> [u16; 3] {
+    [row.first, row.second, row.third]
 }
 
 /// The members of a set, and what it needs.
@@ -122,36 +129,60 @@ impl<'i> Book<'i> {
         listed
     }
 
-    /// The lines of the nodes from a number on, in preorder.
-    fn lines_from(&self, number: u32, listed: &[Listed], has_sets: bool) -> String {
+    /// The rows that have a price at a leaf, each once, in increasing order.
+    pub fn listed_rows(&self) -> Vec<[u16; 3]> {
+        let mut listed: Vec<[u16; 3]> = self.all_leaves().flat_map(|leaf| leaf.rows()).map(members_of).collect();
+        listed.sort();
+        listed.dedup();
+        listed
+    }
+
+    /// The lines of a leaf's prices.
+    fn leaf_lines(&self, leaf: &Priced<'i>, settings: &Settings) -> String {
+        let (listed, rows) = (self.listed(), self.listed_rows());
         let place = |set: &PricedSet| listed.iter().position(|(members, _)| *members == set.members.0).expect("a set") + 1;
+        let mut sets: Vec<(usize, u64)> = leaf.sets().iter().map(|set| (place(set), set.price)).collect();
+        sets.sort();
+        let row_place = |row: &PricedRow| rows.iter().position(|members| *members == members_of(row)).expect("a row") + 1;
+        let rows: Vec<(usize, u64)> = leaf.rows().iter().map(|row| (row_place(row), row.price)).collect();
+        let line = |name: &str, pairs: &[(usize, u64)]| {
+            let pairs: String = pairs.iter().map(|(place, price)| format!(" {place} {price}")).collect();
+            format!("{name}{pairs}\n")
+        };
+        let sets = if settings.sets + settings.rows > 0 { line("M", &sets) } else { String::new() };
+        let rows = if settings.rows > 0 { line("Q", &rows) } else { String::new() };
+        format!("P {}\n{sets}{rows}", words(leaf.prices()))
+    }
+
+    /// The lines of the nodes from a number on, in preorder.
+    fn lines_from(&self, number: u32, settings: &Settings) -> String {
         match &self.nodes[number as usize] {
-            Node::Leaf(leaf) => {
-                let mut sets: Vec<(usize, u64)> = leaf.sets().iter().map(|set| (place(set), set.price)).collect();
-                sets.sort();
-                let pairs = sets.iter().map(|(set, price)| format!(" {set} {price}")).collect::<String>();
-                let sets = if has_sets { format!("M{pairs}\n") } else { String::new() };
-                format!("P {}\n{sets}", words(leaf.prices()))
-            }
+            Node::Leaf(leaf) => self.leaf_lines(leaf, settings),
             Node::Split { arc, used, unused } => {
-                let children = [used, unused].map(|child| self.lines_from(*child, listed, has_sets));
+                let children = [used, unused].map(|child| self.lines_from(*child, settings));
                 format!("S {} {}\n{}", arc.from, arc.to, children.concat())
             }
         }
     }
 
-    /// The text of the certificate of the tree as it stands, with sets or of version 2.
-    pub fn certificate(&self, neighbours: u32, has_sets: bool) -> String {
-        let (bound, listed) = (self.gap().bound.get(), self.listed());
-        let first = if has_sets { "VRPTW-SETS 1" } else { "VRPTW-CERT 2" };
-        let sets: String = listed.iter().map(|(members, need)| format!("S {need} {}\n", words(members))).collect();
+    /// The text of the certificate of the tree as it stands, with rows, with sets or of version 2.
+    pub fn certificate(&self, settings: &Settings) -> String {
+        let bound = self.gap().bound.get();
+        let first = match (settings.sets, settings.rows) {
+            (0, 0) => "VRPTW-CERT 2",
+            (_, 0) => "VRPTW-SETS 1",
+            _ => "VRPTW-ROWS 1",
+        };
+        let sets: String = self.listed().iter().map(|(members, need)| format!("S {need} {}\n", words(members))).collect();
+        let rows: String = self.listed_rows().iter().map(|members| format!("R {}\n", words(members))).collect();
         format!(
-            "{first}\nINSTANCE {}\nCUSTOMERS {}\nNEIGHBOURS {neighbours}\nBOUND {}.{}\n{sets}TREE\n{}END\n",
+            "{first}\nINSTANCE {}\nCUSTOMERS {}\nNEIGHBOURS {}\nBOUND {}.{}\n{sets}{rows}TREE\n{}END\n",
             self.instance.name,
             self.instance.customer_count(),
+            settings.neighbours,
             bound / 10,
             bound % 10,
-            self.lines_from(0, &listed, has_sets)
+            self.lines_from(0, settings)
         )
     }
 }

@@ -1,7 +1,7 @@
 //! Turns of one search worker: `turns` with an instance, a number of turns and a seed. Turns of bound workers: `bound`
-//! with an instance, a number of turns, the cost of the plan to reach, in tenths, the numbers of workers and of sets, and
-//! a path for the certificate, if one is wanted; of both trades: `crew`. Pricings of the root: `ascent` with an instance, `labels` with an instance and a
-//! certificate. The bound of a certificate's tree: `check` with an instance and the certificate.
+//! with an instance, a number of turns, the cost of the plan to reach, in tenths, the numbers of workers, of sets and of
+//! rows, and a path for the certificate, if one is wanted; of both trades: `crew`. Pricings of the root: `ascent` with an
+//! instance, `labels` with an instance and a certificate. The bound of a certificate's tree: `check` with an instance and the certificate.
 #![allow(dead_code, unused)]
 
 mod arrayvec;
@@ -49,9 +49,9 @@ mod worker_turns;
 use run_settings::Settings;
 use solomon_reader::Instance;
 
-fn settings(turns: u64, searchers: u64, bounders: u64, seed: u64, sets: u64) -> Settings {
-    let [turns, searchers, bounders, seed, sets] = [turns, searchers, bounders, seed, sets].map(|number| number as u32);
-    Settings { turns, searchers, bounders, seed, sets, ..Settings::default() }
+fn settings(numbers: [u64; 6]) -> Settings {
+    let [turns, searchers, bounders, seed, sets, rows] = numbers.map(|number| number as u32);
+    Settings { turns, searchers, bounders, seed, sets, rows, ..Settings::default() }
 }
 
 fn main() {
@@ -62,10 +62,10 @@ fn main() {
         "ascent" => measuring::tell_ascent(&instance),
         "labels" => measuring::tell_labels(&instance, &words[3]),
         "check" => checking::tell(&instance, &words[3]),
-        "crew" => running::tell(&instance, &settings(number(3), number(4), number(5), number(6), number(7)), None, None),
+        "crew" => running::tell(&instance, &settings([3, 4, 5, 6, 7, 8].map(number)), None, None),
         "bound" => {
-            let settings = settings(number(3), 0, number(5), 1, number(6));
-            running::tell(&instance, &settings, Some(number(4)), words.get(7));
+            let settings = settings([number(3), 0, number(5), 1, number(6), number(7)]);
+            running::tell(&instance, &settings, Some(number(4)), words.get(8));
         }
         _ => searching::tell(&instance, number(3) as u32, number(4)),
     }

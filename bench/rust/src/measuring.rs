@@ -29,6 +29,7 @@ pub fn tell_ascent(instance: &Instance) {
             value: i128::MAX,
             routes: counted_routes(instance, None),
             sets: 0,
+            rows: 0,
             labels: Some(MOST_LABELS),
             work: u64::MAX,
         };

@@ -141,7 +141,7 @@ pub fn tell(instance: &Instance, settings: &Settings, cost: Option<u64>, path: O
         }
     });
     if let Some(path) = path {
-        let text = book.lock().unwrap().certificate(settings.neighbours, settings.sets > 0);
+        let text = book.lock().unwrap().certificate(settings);
         std::fs::write(path, text).expect("certificate");
     }
 }

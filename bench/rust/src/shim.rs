@@ -22,6 +22,10 @@ impl<T> Vec<T> {
         Vec(std::vec::Vec::new())
     }
 
+    pub fn allocator(&self) -> &Global {
+        &Global
+    }
+
     pub fn of<const N: usize>(_: Global, items: [T; N]) -> Result<Self, AllocError> {
         Ok(Vec(items.into()))
     }

@@ -12,6 +12,7 @@ pub const MOST_ROW_PRICES: usize = 256;
 pub const MOST_NEED: u32 = 4_000_000;
 pub const MOST_NEIGHBOURS: u32 = 15;
 pub const MOST_SETS: u32 = 1_000;
+pub const MOST_ROWS: u32 = 1_000;
 
 /// Why routes are no plan.
 #[derive(Clone, Copy, Debug, PartialEq, Eq)]

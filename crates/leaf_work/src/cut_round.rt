@@ -140,9 +140,9 @@ impl CutRounds {
         if most == 0 {
             return Ok(0);
         }
-        let known = pool.cuts.members(false)?;
+        let (alloc, known) = (state.alloc, pool.cuts.members(false)?);
         let found = find_rows(
-            state.alloc,
+            alloc,
             state.nearness,
             pool.weighted()?.as_slice(),
             pool.rise(),
@@ -151,7 +151,7 @@ impl CutRounds {
         )?;
         state.count_work(found.work);
         let rows = found.rows.iter().map(|row| row.members);
-        let rows: Vec<[u16; 3]> = rows.collect(state.alloc)?;
+        let rows: Vec<[u16; 3]> = rows.collect(alloc)?;
         pool.add_rows(state.nearness, rows.as_slice())?;
         Ok(rows.len())
     }
