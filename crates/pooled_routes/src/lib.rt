@@ -25,7 +25,9 @@ pub use fours::Four;
 pub use half_space::HalfSpace;
 pub use merit::Merit;
 pub use pooled_cut::{CutKind, PooledCut};
-pub use pooled_route::{GRAINS_OF_TENTH, PooledRoute, RouteShare, WeightedRoute, arc_cost, cost_of};
+pub use pooled_route::{
+    GRAINS_OF_TENTH, PooledRoute, RouteShare, WeightedRoute, arc_cost, cost_of,
+};
 pub use projection::Projection;
 pub use pseudocosts::{Child, Pseudocosts};
 pub use trial::Trial;

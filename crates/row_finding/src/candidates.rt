@@ -85,8 +85,7 @@ impl Candidates {
         alloc: Global,
         most: usize,
     ) -> Result<Vec<Candidate>, AllocError> {
-        self.list
-            .sort_by_key(|three| (i64::MAX.saturating_sub(three.weight), three.members))?;
+        self.list.sort_by_key(|three| (i64::MAX.saturating_sub(three.weight), three.members))?;
         let mut heaviest: Vec<Candidate> = Vec::new(alloc);
         for three in &self.list {
             let is_new = heaviest
