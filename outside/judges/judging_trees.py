@@ -46,7 +46,7 @@ def is_grown(tree, other):
 def options_of(random, folder, plan):
     """Options besides: turns, a part of the open leaves, a start."""
     options = ["--turns", str(random.randint(1, 5)), "--searchers", "1", "--bounders", str(random.randint(1, 2)),
-               "--sets", str(random.choice([0, 0, 3, 20]))]
+               "--sets", str(random.choice([0, 0, 3, 20])), "--rows", str(random.choice([0, 0, 3, 20]))]
     if random.randrange(2):
         count = random.choice([1, 2, 3, 10_000])
         options += ["--part", "%d/%d" % (random.randint(1, count), count)]
