@@ -14,7 +14,8 @@ use Rattle.solomon_reader.specs.Region.{Region, used_child, unused_child, root_r
 use Rattle.solomon_reader.specs.Bound.{Version, version_2, of_customers, Tree, leaf, split, leaf_node, split_node, preorder, HasBound, ceiling_of}
 use Rattle.prices.specs.ValuedPrices.{ValuedPrices, IsValued}
 use Rattle.branching.specs.Arcs.{pair}
-use Rattle.branching.specs.Nodes.{node_of, set_price_of, IsListedTree}
+use Rattle.branching.specs.Nodes.{node_of, set_price_of, row_price_of, IsListedTree}
+use Rattle.branching.specs.declared.tree_node.RowPrice.{RowPrice}
 use Rattle.branching.specs.declared.tree_node.SetPrice.{SetPrice}
 use Rattle.branching.specs.declared.tree_node.TreeNode.{TreeNode}
 use Rattle.leaf_work.specs.Children.{AreChildren}
@@ -23,34 +24,35 @@ use Rattle.solomon_reader.specs.Plan.{Arc}
 use Rattle.solomon_reader.specs.CertificateText.{IsTreeAt, IsPrice, depth_of}
 use Rattle.solomon_reader.specs.AmongLaws.{weaker}
 use Rattle.solomon_reader.specs.SetPrices.{PricedSet}
+use Rattle.solomon_reader.specs.SubsetRows.{PricedRow}
 use Rattle.solomon_reader.specs.SetDualityLaws.{same_without}
-use Rattle.priced_sets.specs.Sets.{IsWithin}
+use Rattle.fronts.specs.Fronts.{IsWithinAll}
 use Rattle.solomon_reader.specs.LeafLaws.{priced_alone, no_row_priced}
 use Rattle.solomon_reader.specs.ArcOrder.{holds_new, holds_old}
 use Rattle.closing.specs.Depths.{DepthHolds}
 use Rattle.closing.specs.Growing.{Grows, IsSameTask, IsSameTree, Splits}
 use Rattle.closing.specs.declared.growth.Growth.{Growth}
 
--- prices beside those of sets are in their range
-in_range : (sets : List PricedSet) (prices : List ℤ) → AllByRecursion (IsWithin sets) prices → AllByRecursion IsPrice prices
-in_range sets prices all = weaker (IsWithin sets) IsPrice (λ z h. omega (arith, h)) prices all
+-- prices beside those of sets and rows are in their range
+in_range : (sets : List PricedSet) (rows : List PricedRow) (prices : List ℤ) → AllByRecursion (IsWithinAll sets rows) prices → AllByRecursion IsPrice prices
+in_range sets rows prices all = weaker (IsWithinAll sets rows) IsPrice (λ z h. omega (arith, h)) prices all
 
--- the node of a leaf where no set has a price
-pub bare_node : (prices customers : List ℤ) (sets : List SetPrice) → customers ≡ prices → sets ≡ []
-    → leaf_node (record { customers = customers; sets = map set_price_of sets; rows = [] }) ≡ leaf_node (of_customers prices)
-bare_node prices customers sets same none = rw (same, none) refl
+-- the node of a leaf where no set and no row has a price
+pub bare_node : (prices customers : List ℤ) (sets : List SetPrice) (rows : List RowPrice) → customers ≡ prices → sets ≡ [] → rows ≡ []
+    → leaf_node (record { customers = customers; sets = map set_price_of sets; rows = map row_price_of rows }) ≡ leaf_node (of_customers prices)
+bare_node prices customers sets rows same none free = rw (same, none, free) refl
 
 -- a leaf that was listed has grown
-pub leaf_grows : (f : ValuedPrices) (old new : Growth) (node : TreeNode) → IsValued f → f.sets ≡ [] → f.problem ≡ old.instance.now → IsSameTask old new
+pub leaf_grows : (f : ValuedPrices) (old new : Growth) (node : TreeNode) → IsValued f → f.sets ≡ [] → f.rows ≡ [] → f.problem ≡ old.instance.now → IsSameTask old new
     → node_of node ≡ leaf_node (of_customers f.prices) → new.nodes.items ≡ old.nodes.items ++ (node ∷ [])
     → old.bound ≤ ceiling_of old.instance.now + 1 → new.bound ≡ min old.bound f.value → new.leaves ≡ old.leaves → Grows f.neighbours f.region old new
-leaf_grows f old new node is none own task item e low least leaves = record {
+leaf_grows f old new node is none free own task item e low least leaves = record {
   task = task;
   tree = leaf (of_customers f.prices);
   nodes = ap (λ ns. map node_of ns) e ∙ map-append node_of old.nodes.items (node ∷ []) ∙ ap (λ i. map node_of old.nodes.items ++ (i ∷ [])) item;
   value = min (ceiling_of old.instance.now + 1) f.value;
-  bound = (f.value, (same_without version_2 old.instance.now f.region f.neighbours f.prices f.value).0 (rw (sym own, sym none) is.valued), refl);
-  shaped = (is.valued.priced ∙ sym is.size, in_range f.sets f.prices is.priced, priced_alone 0 f.prices (in_range f.sets f.prices is.priced), no_row_priced 0);
+  bound = (f.value, (same_without version_2 old.instance.now f.region f.neighbours f.prices f.value).0 (rw (own, none, free) at is.valued), refl);
+  shaped = (is.valued.priced ∙ sym is.size, in_range f.sets f.rows f.prices is.priced, priced_alone 0 f.prices (in_range f.sets f.rows f.prices is.priced), no_row_priced 0);
   least = omega (arith, least, low);
   leaves = omega (arith, leaves);
 }

@@ -27,6 +27,7 @@ pub record IsClosed (p : Problem) (k limit : ℕ) (c : Found) : Type 0 where
   pub meets : c.bound ≡ known_or_above p (costs c.plan)
   pub most : c.bound ≤ ceiling_of p + 1
   pub no_sets : c.sets.items ≡ []
+  pub no_rows : c.rows.items ≡ []
   pub leaves : ℕ
   pub tree : IsListedTree version_2 p k c.nodes.items c.bound leaves
   pub within : leaves ≤ limit

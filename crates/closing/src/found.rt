@@ -1,6 +1,7 @@
 //! What is found for an instance.
 
 use branching::TreeNode;
+use incumbent_book::SubsetRow;
 use priced_sets::ListedSet;
 use schedule::Feasible;
 use tenths::Tenths;
@@ -14,6 +15,8 @@ pub struct Found<'i> {
     pub bound: Tenths,
     /// The sets that the tree names; of a closed instance none.
     pub sets: Vec<ListedSet>,
+    /// The rows that the tree names; of a closed instance none.
+    pub rows: Vec<SubsetRow>,
     /// The tree with that bound, in preorder.
     pub nodes: Vec<TreeNode>,
 }

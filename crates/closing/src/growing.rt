@@ -4,7 +4,7 @@ ghost use Rattle.std.specs.Prelude.{◌≡◌, ◌+◌, ◌≤◌, false, [], If
 ghost use Rattle.solomon_reader.specs.Bound.{ceiling_of};
 ghost use Rattle.closing.specs.Growing.{Grows, IsGrowth, IsSameTree, Splits, target_of};
 
-use crate::bare::{raised_without_sets, without_sets};
+use crate::bare::{bare_leaf, bare_raised};
 use crate::growth::Growth;
 use labelling::LabelFault;
 use leaf_work::{
@@ -58,7 +58,8 @@ fn list_decided<'i>(
     requires growth { IsGrowth growth.old }
     requires going { growth.old.is_stopped ≡ false }
     requires own { decided.now.problem ≡ growth.old.instance.now }
-    requires bare { decided.now.sets ≡ [] }
+    requires no_sets { decided.now.sets ≡ [] }
+    requires no_rows { decided.now.rows ≡ [] }
     requires feasible { IfSome plan (λ f. f.problem ≡ growth.old.instance.now) }
     requires value { MatchOption plan (ceiling_of growth.old.instance.now + 1 ≤ decided.now.value)
         (λ f. decided.now.value ≡ f.cost) }
@@ -86,7 +87,8 @@ fn work_at<'i>(
     requires growth { IsGrowth growth.old }
     requires going { growth.old.is_stopped ≡ false }
     requires own { raised.now.priced.problem ≡ growth.old.instance.now }
-    requires bare { raised.now.priced.sets ≡ [] }
+    requires no_sets { raised.now.priced.sets ≡ [] }
+    requires no_rows { raised.now.priced.rows ≡ [] }
     ensures growth { OnOk result (IsGrowth growth.new) }
     ensures listed { IfOk result (λ found. IfNone found
         (Grows raised.now.priced.neighbours raised.now.priced.region growth.old growth.new)) }
@@ -138,7 +140,7 @@ fn raise_and_work<'i>(
 {
     let goal = goal_at(&leaf, growth);
     let raised = raise(pool, state, leaf, start, &goal);
-    let bare = raised_without_sets(growth.alloc, raised)?;
+    let bare = bare_raised(growth.alloc, raised)?;
     work_at(&bare, growth, pool, state)
 }
 
@@ -160,7 +162,7 @@ pub(crate) fn grow<'i>(
     ensures least { target_of growth.new ≤ target_of growth.old }
 {
     if growth.is_stopped {
-        let leaf = without_sets(growth.alloc, leaf)?;
+        let leaf = bare_leaf(growth.alloc, leaf)?;
         return growth.lay_aside(&leaf);
     }
     let Some(children) = raise_and_work(leaf, start, growth, pool, state)? else {

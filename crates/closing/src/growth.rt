@@ -113,10 +113,11 @@ impl<'i> Growth<'i> {
         }
     }
 
-    /// Lists a leaf where no set has a price.
+    /// Lists a leaf where no set and no row has a price.
     fn list(&mut self, leaf: &Priced<'i>) -> Result<(), AllocError>
         requires own { leaf.now.problem ≡ self.old.instance.now }
-        requires bare { leaf.now.sets ≡ [] }
+        requires no_sets { leaf.now.sets ≡ [] }
+        requires no_rows { leaf.now.rows ≡ [] }
         requires low { self.old.bound ≤ ceiling_of self.old.instance.now + 1 }
         ensures grows { OnOk result (Grows leaf.now.neighbours leaf.now.region self.old self.new) }
         ensures least { OnOk result (self.new.bound ≡ min self.old.bound leaf.now.value) }
@@ -127,8 +128,12 @@ impl<'i> Growth<'i> {
     {
         let customers = leaf.prices().to_vec(self.alloc)?;
         let sets = Vec::new(self.alloc);
-        self.nodes
-            .push(TreeNode::Leaf(LeafPrices { customers, sets }))?;
+        let rows = Vec::new(self.alloc);
+        self.nodes.push(TreeNode::Leaf(LeafPrices {
+            customers,
+            sets,
+            rows,
+        }))?;
         self.bound = lesser(self.bound, leaf);
         Ok(())
     }
@@ -138,7 +143,8 @@ impl<'i> Growth<'i> {
     pub(crate) fn lay_aside(&mut self, leaf: &Priced<'i>) -> Result<(), AllocError>
         requires growth { IsGrowth self.old }
         requires own { leaf.now.problem ≡ self.old.instance.now }
-        requires bare { leaf.now.sets ≡ [] }
+        requires no_sets { leaf.now.sets ≡ [] }
+        requires no_rows { leaf.now.rows ≡ [] }
         requires reaches { self.old.is_stopped ≡ false → target_of self.old ≤ leaf.now.value }
         ensures growth { OnOk result (IsGrowth self.new) }
         ensures grows { OnOk result (Grows leaf.now.neighbours leaf.now.region self.old self.new) }
@@ -152,7 +158,8 @@ impl<'i> Growth<'i> {
     pub(crate) fn stop_at(&mut self, leaf: &Priced<'i>) -> Result<(), AllocError>
         requires growth { IsGrowth self.old }
         requires own { leaf.now.problem ≡ self.old.instance.now }
-        requires bare { leaf.now.sets ≡ [] }
+        requires no_sets { leaf.now.sets ≡ [] }
+        requires no_rows { leaf.now.rows ≡ [] }
         requires full { self.old.leaves ≡ self.old.limit }
         requires below { leaf.now.value < target_of self.old }
         ensures growth { OnOk result (IsGrowth self.new) }
@@ -224,6 +231,7 @@ impl<'i> Growth<'i> {
             plan: self.best,
             bound,
             sets: Vec::new(self.alloc),
+            rows: Vec::new(self.alloc),
             nodes: self.nodes,
         })
     }
