@@ -44,7 +44,7 @@ pub(crate) struct Rules {
     pub(crate) labels: usize,
     /// How many sets it may find in all.
     pub(crate) sets: usize,
-    /// The most rows that the worker may find.
+    /// How many rows it may find in all.
     pub(crate) rows: usize,
     /// Its place among the bound workers.
     pub(crate) place: u32,

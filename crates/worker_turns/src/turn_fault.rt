@@ -32,7 +32,8 @@ impl From<BookFault> for TurnFault {
             BookFault::Memory
             | BookFault::JournalFull
             | BookFault::LeavesFull
-            | BookFault::SetsFull => TurnFault::EndsWork,
+            | BookFault::SetsFull
+            | BookFault::RowsFull => TurnFault::EndsWork,
             _ => TurnFault::EndsTurn,
         }
     }
