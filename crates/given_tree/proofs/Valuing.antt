@@ -109,7 +109,7 @@ first_within sum [] some within = absurd (omega arith)
 first_within sum (z ∷ prices) some within = omega (arith, within.0)
 
 -- where there is a customer those of the rows are so together
-pub rows_within : (sets : ℕ) (rows : List SubsetRow) (prices : LeafPrices) → 1 ≤ length prices.customers → AreSetPrices sets prices → row_price_sum (priced_rows rows prices.rows) ≤ MOST_PRICE
+pub rows_within : (sets : List ListedSet) (rows : List SubsetRow) (prices : LeafPrices) → 1 ≤ length prices.customers → AreSetPrices (length sets) prices → row_price_sum (priced_rows rows prices.rows) ≤ MOST_PRICE
 rows_within sets rows prices some are =
     omega (arith, rows_same rows prices.rows, first_within (set_prices_sum prices.sets + row_prices_sum prices.rows) prices.customers some are.within)
 
