@@ -56,8 +56,8 @@ version_rows P none (suc n) sets (suc m) rows all = all
 is_version : (n : ℕ) (sets : List ListedSet) (m : ℕ) (rows : List SubsetRow) → length sets ≤ n → length rows ≤ m → IsVersionFor n m (version_of n sets m rows)
 is_version zero sets zero rows few few_rows = refl
 is_version (suc n) sets zero rows few few_rows = (sets, refl, few)
-is_version zero sets (suc m) rows few few_rows = (sets, (rows, (refl, few, few_rows)))
-is_version (suc n) sets (suc m) rows few few_rows = (sets, (rows, (refl, few, few_rows)))
+is_version zero sets (suc m) rows few few_rows = (sets, (rows, refl, few, few_rows))
+is_version (suc n) sets (suc m) rows few few_rows = (sets, (rows, refl, few, few_rows))
 
 may_be_listed : (p : Problem) (sets : List ListedSet) → AllByRecursion (MayBeListed p) sets → AllByRecursion (IsListedSet (customer_count p)) sets
 may_be_listed p [] all = tt
