@@ -23,7 +23,7 @@ keeps_same old new e = rw e (keeps_itself old)
 module _ (old new : Contents) (number worker : ℕ) (a : Arc) (x y : ValuedPrices) (i j : ℕ) (splits : Splits old worker number a x y (Ok (i, j)) new) where
   pub split_keeps : Keeps old new
   split_keeps =
-      let e = splits.3.2.2.2 in record {
+      let e = splits.3.2.2 in record {
         problem = ap (λ (b : Contents). b.problem) e;
         neighbours = ap (λ (b : Contents). b.neighbours) e;
         root = ap (λ (b : Contents). b.root) e;
@@ -37,7 +37,7 @@ module _ (old new : Contents) (number worker : ℕ) (a : Arc) (x y : ValuedPrice
   pub split_done : IsBook new → IsSplitAt old new number a i j
   split_done book =
       let past : new.past ≡ was_split worker number a (used_number (split_count old.past)) (unused_number (split_count old.past)) x.value y.value ∷ old.past =
-      ap (λ (b : Contents). b.past) splits.3.2.2.2 in
+      ap (λ (b : Contents). b.past) splits.3.2.2 in
       let legal : IsLegal (customer_count old.problem) old.root (was_split worker number a (used_number (split_count old.past)) (unused_number (split_count old.past)) x.value y.value ∷ old.past) =
       rw (split_keeps.problem, split_keeps.root, past) at book.legal in
       let i_is = splits.1 in
@@ -47,7 +47,7 @@ module _ (old new : Contents) (number worker : ℕ) (a : Arc) (x y : ValuedPrice
 module _ (old new : Contents) (number worker : ℕ) (f : ValuedPrices) (done : Unit {0}) (reprices : Reprices old worker number f (Ok done) new) where
   pub prices_keep : Keeps old new
   prices_keep =
-      let e = reprices.1.2.2.2 in record {
+      let e = reprices.1.2.2 in record {
         problem = ap (λ (b : Contents). b.problem) e;
         neighbours = ap (λ (b : Contents). b.neighbours) e;
         root = ap (λ (b : Contents). b.root) e;
@@ -59,7 +59,7 @@ module _ (old new : Contents) (number worker : ℕ) (f : ValuedPrices) (done : U
       }
 
   past_is : new.past ≡ repriced worker number f.value ∷ old.past
-  past_is = ap (λ (b : Contents). b.past) reprices.1.2.2.2
+  past_is = ap (λ (b : Contents). b.past) reprices.1.2.2
 
   pub prices_grown : IsLeaf old.past number → IsGrownAt old new number
   prices_grown leaf = grown_by_prices old new number worker f.value leaf prices_keep past_is

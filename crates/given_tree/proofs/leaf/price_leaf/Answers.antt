@@ -10,7 +10,7 @@ use Rattle.given_tree.proofs.leaf.price_leaf.Goals as goal
 
 pub with_rows-requires-clause-low : goal.with_rows-requires-clause-low
 with_rows-requires-clause-low c =
-    let same : c.instance.result.now ≡ c.args.book.now.problem = c.instance.ensures ∙ ap (λ (f : ValuedPrices). f.problem) c.in-Some.ensures.shows.1 in
+    let same : c.instance-instance.result.now ≡ c.args.book.now.problem = c.instance-instance.ensures ∙ ap (λ (f : ValuedPrices). f.problem) c.in-Some.ensures.shows.1 in
     let some : 1 ≤ customer_count c.args.book.now.problem = rw same at c.law_of_limits.ensures.some in
     rw c.in_ok-rows.ensures (rows_within (listed_sets (version_of c.args.tree.now.version.now)) (listed_rows (version_of c.args.tree.now.version.now))
     (prices_of c.args.prices.now c.args.set_prices.now c.args.row_prices.now) (omega (arith, c.requires.shaped.0, some)) c.requires.shaped.2)
